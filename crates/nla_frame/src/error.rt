@@ -1,0 +1,215 @@
+//! Why bytes were not read: a family, an attribute type and a cause.
+
+ghost use Rattle.std.specs.Prelude.{◌≡◌};
+ghost use Rattle.nla_frame.specs.Error.{family_name, cause_name, error_text, memory_fault};
+
+use std::alloc::{AllocError, AllocFailed};
+use std::error::Error;
+use std::fmt;
+
+/// Whose rules the bytes break: the framing, the link info list, or the attributes of one family.
+#[derive(Clone, Copy, Debug, PartialEq, Eq)]
+pub enum Family {
+    /// The framing of attributes itself.
+    Frame,
+    /// The list that stands inside `IFLA_LINKINFO`.
+    LinkInfo,
+    Amt,
+    BareUdp,
+    BatAdv,
+    Bond,
+    BondPort,
+    Bridge,
+    BridgePort,
+    Can,
+    Dsa,
+    Geneve,
+    Gre,
+    Gre6,
+    Gtp,
+    Hsr,
+    IpTunnel,
+    IpVlan,
+    IpVtap,
+    Ipoib,
+    MacSec,
+    MacVlan,
+    MacVtap,
+    Netkit,
+    RmNet,
+    TeamPort,
+    Tun,
+    Veth,
+    Vlan,
+    Vrf,
+    Vti,
+    Vxcan,
+    Vxlan,
+    Wireguard,
+    Wwan,
+    Xfrm,
+}
+
+impl Family {
+    fn name(self) -> &'static str
+        ensures { result.now ≡ family_name self }
+    {
+        match self {
+            Family::Frame => "frame",
+            Family::LinkInfo => "linkinfo",
+            Family::Amt => "amt",
+            Family::BareUdp => "bareudp",
+            Family::BatAdv => "batadv",
+            Family::Bond => "bond",
+            Family::BondPort => "bondport",
+            Family::Bridge => "bridge",
+            Family::BridgePort => "bridgeport",
+            Family::Can => "can",
+            Family::Dsa => "dsa",
+            Family::Geneve => "geneve",
+            Family::Gre => "gre",
+            Family::Gre6 => "gre6",
+            Family::Gtp => "gtp",
+            Family::Hsr => "hsr",
+            Family::IpTunnel => "iptunnel",
+            Family::IpVlan => "ipvlan",
+            Family::IpVtap => "ipvtap",
+            Family::Ipoib => "ipoib",
+            Family::MacSec => "macsec",
+            Family::MacVlan => "macvlan",
+            Family::MacVtap => "macvtap",
+            Family::Netkit => "netkit",
+            Family::RmNet => "rmnet",
+            Family::TeamPort => "teamport",
+            Family::Tun => "tun",
+            Family::Veth => "veth",
+            Family::Vlan => "vlan",
+            Family::Vrf => "vrf",
+            Family::Vti => "vti",
+            Family::Vxcan => "vxcan",
+            Family::Vxlan => "vxlan",
+            Family::Wireguard => "wireguard",
+            Family::Wwan => "wwan",
+            Family::Xfrm => "xfrm",
+        }
+    }
+}
+
+/// Writes the name in lower case, as `linkinfo` or `bareudp`.
+impl fmt::Display for Family {
+    ghost use Rattle.std.specs.Prelude.{Some};
+
+    ghost output = { λ family. Some (family_name family) };
+
+    fn fmt<W: fmt::Write>(&self, f: &mut fmt::Formatter<W>) -> fmt::Result {
+        f.write_str(self.name())
+    }
+}
+
+/// What is wrong with the bytes, or that memory ran out. `cause as u8` is its number, from 1 to 10.
+#[derive(Clone, Copy, Debug, PartialEq, Eq)]
+pub enum Cause {
+    /// No attribute begins here: fewer than four bytes, a length field below four, or one above the bytes that are there.
+    Header = 1,
+    /// The payload has a length that its type does not take.
+    Length = 2,
+    /// A name is not UTF-8.
+    Utf8 = 3,
+    /// Data or statistics before a kind, or port data without a port kind.
+    Order = 4,
+    /// An address of the other version.
+    AddressKind = 5,
+    /// A text that names no value.
+    Word = 6,
+    /// An attribute of another type than the one that is read.
+    WrongType = 7,
+    /// An attribute that the kind of the link does not have.
+    Kind = 8,
+    /// An address list inside 128 others.
+    Depth = 9,
+    /// An allocation was refused.
+    Memory = 10,
+}
+
+impl Cause {
+    fn name(self) -> &'static str
+        ensures { result.now ≡ cause_name self }
+    {
+        match self {
+            Cause::Header => "header",
+            Cause::Length => "length",
+            Cause::Utf8 => "utf8",
+            Cause::Order => "order",
+            Cause::AddressKind => "addresskind",
+            Cause::Word => "word",
+            Cause::WrongType => "wrongtype",
+            Cause::Kind => "kind",
+            Cause::Depth => "depth",
+            Cause::Memory => "memory",
+        }
+    }
+}
+
+/// Writes the name in lower case, as `header` or `addresskind`.
+impl fmt::Display for Cause {
+    ghost use Rattle.std.specs.Prelude.{Some};
+
+    ghost output = { λ cause. Some (cause_name cause) };
+
+    fn fmt<W: fmt::Write>(&self, f: &mut fmt::Formatter<W>) -> fmt::Result {
+        f.write_str(self.name())
+    }
+}
+
+/// A fault of bytes, or want of memory.
+///
+/// The causes `Header` and `Memory` come with `Family::Frame` and type 0. Every other fault of bytes names the family and the
+/// type (its two flag bits cleared) of the attribute at fault; the cause `Word` comes with type 0.
+#[derive(Clone, Copy, Debug, PartialEq, Eq)]
+pub struct DecodeError {
+    pub family: Family,
+    pub kind: u16,
+    pub cause: Cause,
+}
+
+/// Writes family, type and cause with a space between them, the type in decimal: `linkinfo 2 order`.
+impl fmt::Display for DecodeError {
+    ghost use Rattle.std.specs.Prelude.{Some};
+
+    ghost output = { λ error. Some (error_text error) };
+
+    fn fmt<W: fmt::Write>(&self, f: &mut fmt::Formatter<W>) -> fmt::Result {
+        let family = self.family;
+        let kind = self.kind;
+        let cause = self.cause;
+        write!(f, "{family} {kind} {cause}")
+    }
+}
+
+impl Error for DecodeError {}
+
+/// Want of memory: (Frame, 0, Memory).
+impl From<AllocError> for DecodeError {
+    ghost from_gives = { λ _ error. error ≡ memory_fault };
+
+    fn from(_refused: AllocError) -> DecodeError {
+        DecodeError {
+            family: Family::Frame,
+            kind: 0,
+            cause: Cause::Memory,
+        }
+    }
+}
+
+/// Want of memory: (Frame, 0, Memory). The value that was not stored is dropped.
+impl<T: Drop> From<AllocFailed<T>> for DecodeError {
+    ghost from_gives = { λ _ error. error ≡ memory_fault };
+
+    fn from(_refused: AllocFailed<T>) -> DecodeError {
+        DecodeError {
+            family: Family::Frame,
+            kind: 0,
+            cause: Cause::Memory,
+        }
+    }
+}

@@ -1,0 +1,110 @@
+//! Lists that a value owns.
+
+ghost use Rattle.std.specs.Prelude.{◌≡◌, ◌↔◌, [], IsTrue, length};
+
+use crate::exact_eq::ExactEq;
+use std::alloc::AllocError;
+use std::marker::Model;
+
+/// Attributes one after another, as the list of them. A type may hold a list of itself.
+#[derive(Debug, Drop)]
+pub struct Nlas<T> {
+    items: Vec<T>,
+}
+
+impl<T> Model for Nlas<T> {
+    ghost use Rattle.std.specs.Prelude.{List};
+    ghost use Rattle.std.specs.Coded.{coded_list};
+
+    ghost Value = { List T };
+
+    ghost coded = { coded_list T.code };
+
+    ghost view = { λ n. n.items.items };
+}
+
+impl<T> Nlas<T> {
+    /// The items of a `Vec`, which is taken over as it is.
+    pub fn new(items: Vec<T>) -> Nlas<T>
+        ensures { result ≡ items.items }
+    {
+        Nlas { items }
+    }
+
+    /// The `Vec` that holds the items.
+    pub fn into_vec(self) -> Vec<T>
+        ensures { result.items ≡ self }
+    {
+        self.items
+    }
+
+    /// The items.
+    pub fn as_slice(&self) -> &[T]
+        ensures { result.now ≡ self.now }
+    {
+        self.items.as_slice()
+    }
+
+    /// How many items there are.
+    pub fn len(&self) -> usize
+        ensures { result ≡ length self.now }
+    {
+        self.items.len()
+    }
+
+    /// Whether there are none.
+    pub fn is_empty(&self) -> bool
+        ensures { IsTrue result ↔ (self.now ≡ []) }
+    {
+        self.items.is_empty()
+    }
+}
+
+impl<T> From<Vec<T>> for Nlas<T> {
+    ghost from_gives = { λ items result. result ≡ items.items };
+
+    fn from(items: Vec<T>) -> Nlas<T> {
+        Nlas::new(items)
+    }
+}
+
+impl<T: PartialEq> PartialEq for Nlas<T> {
+    ghost use Rattle.std.proofs.Common.{rules};
+    ghost use Rattle.std.specs.Cmp.Lexicographic.{pointwise};
+    ghost use Rattle.std.specs.Cmp.Rules.{comparing};
+
+    ghost eq = { pointwise T.eq };
+
+    ghost laws = { Prim.search (comparing, rules) };
+
+    fn eq(&self, other: &Nlas<T>) -> bool {
+        self.items.as_slice() == other.items.as_slice()
+    }
+}
+
+impl<T: Eq> Eq for Nlas<T> {
+    ghost use Rattle.std.proofs.Common.{rules};
+    ghost use Rattle.std.specs.Cmp.Rules.{comparing};
+
+    ghost laws = { Prim.search (comparing, rules) };
+}
+
+impl<T: ExactEq> ExactEq for Nlas<T> {
+    ghost use Rattle.std.specs.Cmp.Lexicographic.{pointwise_decides};
+
+    ghost exact = { pointwise_decides T.exact };
+}
+
+/// A clone holds a clone of each item; it fails only where memory runs out.
+impl<T: Clone + Drop> Clone for Nlas<T> {
+    ghost use Rattle.std.specs.Prelude.{◌≡◌};
+    ghost use Rattle.std.specs.List.{AllZip};
+
+    ghost is_clone = { λ source copy. AllZip T.is_clone source copy × (((x y : T) → T.is_clone x y → y ≡ x) → copy ≡ source) };
+
+    fn clone(&self) -> Result<Nlas<T>, AllocError> {
+        Ok(Nlas {
+            items: self.items.clone()?,
+        })
+    }
+}
