@@ -1,3 +1,9 @@
+pub mod Answers
+pub mod Attribute
 pub mod Derived
 pub mod Error
+pub mod Framing
+pub mod Pieces
+pub mod Same
+pub mod Walk
 pub mod formers

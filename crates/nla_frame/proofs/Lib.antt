@@ -1,0 +1,3 @@
+pub mod ByteLists
+pub mod Framing
+pub mod Stepping

@@ -1,0 +1,60 @@
+//! How many headers were looked at.
+
+ghost use Rattle.std.specs.Prelude.{◌≡◌, ◌+◌, ◌<◌, ◌^◌};
+
+use crate::exact_eq::ExactEq;
+use std::marker::Model;
+
+/// How often a header with four present bytes was looked at.
+#[derive(Clone, Copy, Debug, PartialEq, Eq)]
+pub struct HeaderCount {
+    headers: usize,
+}
+
+impl Model for HeaderCount {
+    ghost use Rattle.std.specs.Prelude.{ℕ};
+
+    ghost Value = { ℕ };
+
+    ghost view = { λ c. c.headers };
+
+    ghost inverse = { λ n. record { headers = n } };
+}
+
+impl HeaderCount {
+    /// A count of zero.
+    pub const fn new() -> HeaderCount
+        ensures { result ≡ 0 }
+    {
+        HeaderCount { headers: 0 }
+    }
+
+    /// How many headers were counted.
+    pub const fn get(&self) -> usize
+        ensures { result ≡ self.now }
+    {
+        self.headers
+    }
+
+    /// Counts `headers` more. Asks that the sum is a `usize`.
+    pub fn add(&mut self, headers: usize)
+        requires { self.old + headers < 2 ^ 64 }
+        ensures { self.new ≡ self.old + headers }
+    {
+        self.headers += headers;
+    }
+}
+
+impl Default for HeaderCount {
+    ghost is_default = { λ count. count ≡ 0 };
+
+    fn default() -> HeaderCount {
+        HeaderCount::new()
+    }
+}
+
+impl ExactEq for HeaderCount {
+    ghost use Rattle.std.proofs.Common.{rules};
+
+    ghost exact = { Prim.search rules };
+}
