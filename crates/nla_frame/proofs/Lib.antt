@@ -1,3 +1,5 @@
 pub mod ByteLists
+pub mod Emitting
 pub mod Framing
 pub mod Stepping
+pub mod Walking

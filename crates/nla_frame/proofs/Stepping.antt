@@ -133,6 +133,34 @@ breaks (b ∷ bytes) old new e h some count =
       | inr fine ↦ absurd (refused_not_read _ _ (sym h ∙ cond-false (has_no_header s) _ _ fine))
     ]
 
+-- ---- going over a string, piece by piece
+
+-- a fact of a string holds where it holds at the end, in front of a rest without a header, and in front of what it holds of
+module _ (P : List ℕ → Type 0)
+    (at_end : P [])
+    (at_rest : (s : List ℕ) → 0 < length s → pieces s ≡ Err (seen s) ∷ [] → P s)
+    (at_attribute : (s : List ℕ) (a : Attribute) (rest : List ℕ) → pieces s ≡ Ok a ∷ pieces rest → length rest + (4 + length a.value) ≤ length s → P rest → P s) where
+  by_pieces_up_to : (n : ℕ) (s : List ℕ) → length s ≤ n → P s
+  unfolding pieces
+  by_pieces_up_to n [] le = at_end
+  by_pieces_up_to zero (b ∷ bytes) le = absurd (omega (arith, le))
+  by_pieces_up_to (suc n) (b ∷ bytes) le =
+      let s : List ℕ = b ∷ bytes in
+      let some : 0 < length s = omega arith in
+      elim (cases_Bool (has_no_header s)) [
+        | inl refused ↦ at_rest s some (ap (λ (x : Split). pieces_of x.front x.left) (split_refused s refused))
+        | inr fine ↦
+            let h = accepts s fine in
+            let less = rest_shorter s h in
+            let room : length (after_first s) + (4 + length (first_attribute s).value) ≤ length s =
+            omega (arith, length-drop (aligned (length_field s)) s, length_field_of s h, h.high) in
+            at_attribute s (first_attribute s) (after_first s) (ap (λ (x : Split). pieces_of x.front x.left) (split_accepted s fine)) room
+            (by_pieces_up_to n (after_first s) (omega (arith, less, le)))
+      ]
+
+  pub by_pieces : (s : List ℕ) → P s
+  by_pieces s = by_pieces_up_to (length s) s (omega arith)
+
 -- what is read is an attribute
 pub is_attribute : (s : List ℕ) (r : Result Attribute DecodeError) → IsBytes s → r ≡ attribute_at s → IfOk r IsAttribute
 unfolding attribute_at

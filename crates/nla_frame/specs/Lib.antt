@@ -3,6 +3,7 @@ pub mod Attribute
 pub mod Derived
 pub mod Error
 pub mod Framing
+pub mod Kept
 pub mod Pieces
 pub mod Same
 pub mod Walk

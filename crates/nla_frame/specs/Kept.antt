@@ -1,0 +1,7 @@
+-- Attributes that are kept as they came.
+use Rattle.nla_frame.specs.Attribute.{Attribute}
+use Rattle.nla_frame.specs.declared.default_nla.DefaultNla.{DefaultNla}
+
+-- the whole type and the payload
+abbrev pub kept : Attribute → DefaultNla
+kept a = record { kind = a.kind; value = a.value }

@@ -1,0 +1,78 @@
+//! Attributes that are kept as they came.
+
+ghost use Rattle.std.specs.Prelude.{◌≡◌, Ok, false, true};
+ghost use Rattle.nla_frame.specs.Kept.{kept};
+
+use crate::buffer::NlaBuffer;
+use crate::bytes::Bytes;
+use crate::error::DecodeError;
+use crate::exact_eq::ExactEq;
+use crate::traits::{Nla, Parseable};
+use std::alloc::Global;
+
+/// The longest payload that a 16-bit length field can count beside the four header bytes.
+const VALUE_LEN_MAX: usize = 65531;
+
+/// An attribute of a type that no family names, with its whole 16-bit type, flag bits included, and its payload.
+#[derive(Debug, PartialEq, Eq, Clone, Drop)]
+pub struct DefaultNla {
+    pub kind: u16,
+    pub value: Bytes,
+}
+
+impl DefaultNla {
+    /// An attribute of this type and payload. It fits where the payload has at most 65531 bytes.
+    pub fn new(kind: u16, value: Vec<u8>) -> DefaultNla
+        ensures { result ≡ record { kind = kind; value = value.items } }
+    {
+        DefaultNla {
+            kind,
+            value: Bytes::new(value),
+        }
+    }
+}
+
+impl Nla for DefaultNla {
+    ghost attribute = { λ nla. record { kind = nla.kind; value = nla.value } };
+
+    fn value_len(&self) -> usize {
+        self.value.len()
+    }
+
+    fn kind(&self) -> u16 {
+        self.kind
+    }
+
+    fn emit_value(&self, buffer: &mut [u8]) {
+        buffer.copy_from_slice(self.value.as_slice());
+    }
+
+    fn fit_len(&self) -> Option<usize> {
+        let len = self.value.len();
+        if len <= VALUE_LEN_MAX {
+            Some(len)
+        } else {
+            None
+        }
+    }
+}
+
+/// Copies type and payload. Only want of memory refuses it.
+impl<'a> Parseable<NlaBuffer<'a>> for DefaultNla {
+    ghost meaning = { λ nla. Ok (kept nla) };
+
+    ghost needs_memory = { λ _. true };
+
+    fn parse(alloc: Global, buffer: &NlaBuffer<'a>) -> Result<DefaultNla, DecodeError> {
+        Ok(DefaultNla {
+            kind: buffer.raw_kind(),
+            value: Bytes::copy_of(alloc, buffer.value())?,
+        })
+    }
+}
+
+impl ExactEq for DefaultNla {
+    ghost use Rattle.std.proofs.Common.{rules};
+
+    ghost exact = { Prim.search rules };
+}
