@@ -1,10 +1,10 @@
 -- The computed splitting of a string is the relation, and there is no other.
-use Rattle.std.proofs.Common.{◌≡◌, ℕ, zero, suc, ◌+◌, ◌-◌, ◌*◌, ◌%◌, ◌<◌, ◌≤◌, min, ◌⊎◌, Bool, true, false, cond, ltb, ◌||◌, List, [], ◌∷◌, ◌++◌, length, take, drop, replicate, refl, sym, ap, subst, ◌∙◌, append_assoc, arith, inl, inr}
+use Rattle.std.proofs.Common.{◌≡◌, ℕ, zero, suc, ◌+◌, ◌-◌, ◌%◌, ◌<◌, ◌≤◌, min, Bool, true, false, ltb, ◌||◌, List, [], ◌∷◌, ◌++◌, length, take, drop, replicate, refl, sym, ap, subst, ◌∙◌, append_assoc, arith, inl, inr}
 use Rattle.std.proofs.lemmas.Bool.{ltb-false, ltb-true, le-ltb, lt-ltb, cases_Bool, or_parts, or_cases, cond-false, cond-true}
 use Rattle.std.proofs.lemmas.List.{take_at, drop_at, take-append-drop, length-append, length-take, length-drop, length-replicate, drop-drop, drop_all}
 use Rattle.std.specs.List.{AllByRecursion}
 use Rattle.nla_frame.specs.Attribute.{Attribute, IsAttribute, IsBytes, pad, aligned, header, canonical_string, list_string}
-use Rattle.nla_frame.specs.Framing.{Begins, Frames, length_field, kind_field, HasNoHeader, Broken, Splits}
+use Rattle.nla_frame.specs.Framing.{Begins, length_field, kind_field, HasNoHeader, Splits}
 use Rattle.nla_frame.specs.Pieces.{has_no_header, first_attribute, after_first, Split, with_first, split_up_to, split}
 use Rattle.nla_frame.proofs.ByteLists.{IsBytes-drop, IsBytes-take}
 

@@ -1,15 +1,14 @@
 -- One step over a string, as `next_piece` takes it.
-use Rattle.std.proofs.Common.{◌≡◌, ℕ, zero, suc, ◌+◌, ◌-◌, ◌*◌, ◌<◌, ◌≤◌, Bool, true, false, ltb, List, [], ◌∷◌, length, take, drop, refl, sym, ap, subst, ◌∙◌, arith, inl, inr, Result, Ok, Err}
+use Rattle.std.proofs.Common.{◌≡◌, ℕ, zero, suc, ◌+◌, ◌-◌, ◌*◌, ◌<◌, ◌≤◌, true, false, ltb, List, [], ◌∷◌, length, drop, refl, sym, ap, subst, ◌∙◌, arith, inl, inr, Result, Ok, Err}
 use Rattle.std.specs.Prelude.{IfOk, slice_range}
 use Rattle.std.specs.List.{AllByRecursion}
 use Rattle.std.proofs.lemmas.Bool.{ltb-false, le-ltb, cases_Bool, cond-false, cond-true}
 use Rattle.std.proofs.lemmas.List.{length-take, length-drop}
 use Rattle.nla_frame.specs.Attribute.{Attribute, IsAttribute, IsBytes, aligned, list_string}
 use Rattle.nla_frame.specs.Framing.{length_field, Splits}
-use Rattle.nla_frame.specs.Error.{header_fault}
 use Rattle.nla_frame.specs.Pieces.{has_no_header, first_attribute, after_first, attribute_at, seen, Split, with_first, split_up_to, split, pieces_of, pieces, GoesOn, Breaks, Ended}
 use Rattle.nla_frame.specs.declared.error.DecodeError.{DecodeError}
-use Rattle.nla_frame.proofs.Framing.{Accepts, accepts, begins_first, split_is, split_only, list_string_splits}
+use Rattle.nla_frame.proofs.Framing.{Accepts, accepts, begins_first, split_only, list_string_splits}
 
 abbrev read_as : Attribute → Result Attribute DecodeError
 read_as a = Ok a

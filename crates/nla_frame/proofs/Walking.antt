@@ -1,12 +1,12 @@
 -- What one call of the iterator gives, and how many items it gives.
-use Rattle.std.proofs.Common.{◌≡◌, ℕ, zero, suc, ◌+◌, ◌-◌, ◌*◌, ◌/◌, ◌<◌, ◌≤◌, min, Bool, true, false, List, [], ◌∷◌, length, take, drop, refl, sym, ap, subst, ◌∙◌, arith, Result, Ok, Err, Option, Some, None}
+use Rattle.std.proofs.Common.{◌≡◌, ℕ, suc, ◌+◌, ◌-◌, ◌*◌, ◌/◌, ◌≤◌, min, Bool, true, false, List, [], ◌∷◌, length, take, drop, refl, sym, ap, subst, ◌∙◌, arith, Result, Ok, Err, Some, None}
 use Rattle.std.specs.Prelude.{slice_range}
 use Rattle.std.proofs.lemmas.List.{length-drop, drop-drop, drop_min}
 use Rattle.std.specs.Iterator.{MakesProgress, item_count}
-use Rattle.nla_frame.specs.Attribute.{Attribute, IsAttribute, aligned}
+use Rattle.nla_frame.specs.Attribute.{Attribute, aligned}
 use Rattle.nla_frame.specs.declared.error.DecodeError.{DecodeError}
 use Rattle.nla_frame.specs.Pieces.{pieces, items_of, headers_in, seen, GoesOn, Breaks, Ended}
-use Rattle.nla_frame.specs.Walk.{Walk, unread, items_left, headers_left, Passes, Fails, StepsBy, Moves}
+use Rattle.nla_frame.specs.Walk.{Walk, unread, items_left, headers_left, Moves}
 use Rattle.nla_frame.proofs.Stepping.{pieces_nil, by_pieces}
 
 abbrev walk : List ℕ → ℕ → ℕ → Bool → Walk

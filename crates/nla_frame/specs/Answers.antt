@@ -1,5 +1,5 @@
 -- What a call that reads answers, against what the bytes mean: a value, or the fault that the format names.
-use Rattle.std.specs.Prelude.{◌≡◌, ◌≢◌, Bool, false, List, Option, Some, None, Result, Ok, Err}
+use Rattle.std.specs.Prelude.{◌≡◌, ◌≢◌, Bool, false, Option, Some, None, Result, Ok, Err}
 use Rattle.nla_frame.specs.Error.{memory_fault}
 use Rattle.nla_frame.specs.declared.error.DecodeError.{DecodeError}
 

@@ -4,6 +4,7 @@ pub mod Derived
 pub mod Error
 pub mod Framing
 pub mod Kept
+pub mod Payload
 pub mod Pieces
 pub mod Same
 pub mod Walk

@@ -1,6 +1,6 @@
 //! One attribute in borrowed bytes, and one step from an attribute to the next.
 
-ghost use Rattle.std.specs.Prelude.{◌≡◌, ◌+◌, ◌<◌, ◌≤◌, ◌^◌, length, drop, IfOk};
+ghost use Rattle.std.specs.Prelude.{⊤, ◌≡◌, ◌+◌, ◌<◌, ◌≤◌, ◌^◌, length, drop, IfOk};
 ghost use Rattle.nla_frame.specs.Attribute.{IsAttribute, aligned, masked};
 ghost use Rattle.nla_frame.specs.Error.{header_fault};
 ghost use Rattle.nla_frame.specs.Pieces.{Advances, attribute_at, seen};
@@ -188,6 +188,8 @@ impl ExactEq for NlaBuffer<'_> {
 /// A clone is equal, and takes no memory.
 impl Clone for NlaBuffer<'_> {
     ghost is_clone = { λ source copy. copy ≡ source };
+
+    ghost is_infallible = { λ _. ⊤ };
 
     fn clone(&self) -> Result<Self, AllocError> {
         Ok(NlaBuffer {

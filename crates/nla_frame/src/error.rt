@@ -205,11 +205,7 @@ impl From<AllocError> for DecodeError {
 impl<T: Drop> From<AllocFailed<T>> for DecodeError {
     ghost from_gives = { λ _ error. error ≡ memory_fault };
 
-    fn from(_refused: AllocFailed<T>) -> DecodeError {
-        DecodeError {
-            family: Family::Frame,
-            kind: 0,
-            cause: Cause::Memory,
-        }
+    fn from(refused: AllocFailed<T>) -> DecodeError {
+        DecodeError::from(AllocError::from(refused))
     }
 }

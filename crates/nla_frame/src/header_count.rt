@@ -6,7 +6,7 @@ use crate::exact_eq::ExactEq;
 use std::marker::Model;
 
 /// How often a header with four present bytes was looked at.
-#[derive(Clone, Copy, Debug, PartialEq, Eq)]
+#[derive(Debug, PartialEq, Eq, Clone, Drop)]
 pub struct HeaderCount {
     headers: usize,
 }

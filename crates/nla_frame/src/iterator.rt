@@ -1,6 +1,6 @@
 //! The attributes of a byte string, one after another.
 
-ghost use Rattle.std.specs.Prelude.{◌≡◌, ◌+◌, ◌*◌, ◌/◌, ◌≤◌, false, length};
+ghost use Rattle.std.specs.Prelude.{⊤, ◌≡◌, ◌+◌, ◌*◌, ◌/◌, ◌≤◌, false, length};
 ghost use Rattle.std.specs.Iterator.{item_count};
 ghost use Rattle.nla_frame.specs.Walk.{Moves, items_left};
 
@@ -124,11 +124,13 @@ impl ExactEq for NlasIterator<'_> {
 impl Clone for NlasIterator<'_> {
     ghost is_clone = { λ source copy. copy ≡ source };
 
+    ghost is_infallible = { λ _. ⊤ };
+
     fn clone(&self) -> Result<Self, AllocError> {
         Ok(NlasIterator {
             bytes: self.bytes,
             place: self.place,
-            examined: self.examined,
+            examined: self.examined.clone()?,
             failed: self.failed,
         })
     }

@@ -1,4 +1,3 @@
-use Rattle.std.proofs.Common.{◌≡◌}
 use Rattle.std.proofs.lemmas.List.{take_rest}
 use Rattle.nla_frame.proofs.Walking.{on_failed, on_attribute, on_fault, progress}
 use Rattle.nla_frame.proofs.iterator.NlasIteratorIterator.next.Goals as goal

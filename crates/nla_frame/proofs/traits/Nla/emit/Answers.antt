@@ -1,4 +1,4 @@
-use Rattle.std.proofs.Common.{arith, ◌≡◌, ◌+◌, ◌-◌, ℕ, length, drop, ap, ◌∙◌, replicate}
+use Rattle.std.proofs.Common.{arith, ◌≡◌, ◌+◌, ℕ, length, drop, ap, ◌∙◌, replicate}
 use Rattle.nla_frame.specs.Attribute.{buffer_len_of}
 use Rattle.nla_frame.proofs.Emitting.{emitted, header_bytes, zeros_length}
 use Rattle.nla_frame.proofs.traits.Nla.emit.Goals as goal

@@ -1,0 +1,106 @@
+//! Numbers and addresses read from payloads.
+
+ghost use Rattle.std.specs.Prelude.{◌≡◌, slice_index};
+ghost use Rattle.std.specs.Int.{w16, w32, w64, cast_signed, from_be_bytes, from_le_bytes};
+ghost use Rattle.nla_frame.specs.Payload.{of_length, ip_of, ipv4_of, ipv6_of};
+
+use crate::error::Cause;
+use std::net::{IpAddr, Ipv4Addr, Ipv6Addr};
+
+/// The payload as an array, refused with the cause Length where it has another length.
+fn array_of<const N: usize>(payload: &[u8]) -> Result<[u8; N], Cause>
+    ensures { result ≡ of_length N payload.now payload.now }
+{
+    match <[u8; N]>::try_from(payload) {
+        Ok(bytes) => Ok(bytes),
+        Err(_) => Err(Cause::Length),
+    }
+}
+
+/// The number of one byte. Any other length is refused with the cause Length.
+pub fn parse_u8(payload: &[u8]) -> Result<u8, Cause>
+    ensures { result ≡ of_length 1 payload.now (slice_index payload.now 0) }
+{
+    let [byte] = array_of::<1>(payload)?;
+    Ok(byte)
+}
+
+/// The little-endian number of two bytes. Any other length is refused with the cause Length.
+pub fn parse_u16(payload: &[u8]) -> Result<u16, Cause>
+    ensures { result ≡ of_length 2 payload.now (from_le_bytes w16 payload.now) }
+{
+    Ok(u16::from_le_bytes(array_of(payload)?))
+}
+
+/// The little-endian number of four bytes. Any other length is refused with the cause Length.
+pub fn parse_u32(payload: &[u8]) -> Result<u32, Cause>
+    ensures { result ≡ of_length 4 payload.now (from_le_bytes w32 payload.now) }
+{
+    Ok(u32::from_le_bytes(array_of(payload)?))
+}
+
+/// The little-endian number of eight bytes. Any other length is refused with the cause Length.
+pub fn parse_u64(payload: &[u8]) -> Result<u64, Cause>
+    ensures { result ≡ of_length 8 payload.now (from_le_bytes w64 payload.now) }
+{
+    Ok(u64::from_le_bytes(array_of(payload)?))
+}
+
+/// The little-endian two's complement number of four bytes. Any other length is refused with the cause Length.
+pub fn parse_i32(payload: &[u8]) -> Result<i32, Cause>
+    ensures { result ≡ of_length 4 payload.now (cast_signed w32 (from_le_bytes w32 payload.now)) }
+{
+    Ok(i32::from_le_bytes(array_of(payload)?))
+}
+
+/// The big-endian number of two bytes. Any other length is refused with the cause Length.
+pub fn parse_u16_be(payload: &[u8]) -> Result<u16, Cause>
+    ensures { result ≡ of_length 2 payload.now (from_be_bytes w16 payload.now) }
+{
+    Ok(u16::from_be_bytes(array_of(payload)?))
+}
+
+/// The big-endian number of four bytes. Any other length is refused with the cause Length.
+pub fn parse_u32_be(payload: &[u8]) -> Result<u32, Cause>
+    ensures { result ≡ of_length 4 payload.now (from_be_bytes w32 payload.now) }
+{
+    Ok(u32::from_be_bytes(array_of(payload)?))
+}
+
+/// The big-endian number of eight bytes. Any other length is refused with the cause Length.
+pub fn parse_u64_be(payload: &[u8]) -> Result<u64, Cause>
+    ensures { result ≡ of_length 8 payload.now (from_be_bytes w64 payload.now) }
+{
+    Ok(u64::from_be_bytes(array_of(payload)?))
+}
+
+/// The hardware address of six bytes. Any other length is refused with the cause Length.
+pub fn parse_mac(payload: &[u8]) -> Result<[u8; 6], Cause>
+    ensures { result ≡ of_length 6 payload.now payload.now }
+{
+    array_of(payload)
+}
+
+/// The IPv4 address of four bytes, its octets in network byte order. Any other length is refused with the cause Length.
+pub fn parse_ipv4_addr(payload: &[u8]) -> Result<Ipv4Addr, Cause>
+    ensures { result ≡ of_length 4 payload.now (ipv4_of payload.now) }
+{
+    Ok(Ipv4Addr::from_octets(array_of(payload)?))
+}
+
+/// The IPv6 address of sixteen bytes, its octets in network byte order. Any other length is refused with the cause Length.
+pub fn parse_ipv6_addr(payload: &[u8]) -> Result<Ipv6Addr, Cause>
+    ensures { result ≡ of_length 16 payload.now (ipv6_of payload.now) }
+{
+    Ok(Ipv6Addr::from_octets(array_of(payload)?))
+}
+
+/// The IPv4 address of four bytes, or the IPv6 address of sixteen. Any other length is refused with the cause Length.
+pub fn parse_ip(payload: &[u8]) -> Result<IpAddr, Cause>
+    ensures { result ≡ ip_of payload.now }
+{
+    match payload.len() {
+        4 => Ok(IpAddr::V4(parse_ipv4_addr(payload)?)),
+        _ => Ok(IpAddr::V6(parse_ipv6_addr(payload)?)),
+    }
+}

@@ -1,0 +1,91 @@
+//! Attributes written into buffers.
+
+use crate::{Bytes, DefaultNla, Emitable, Nla, emit_nlas, nlas_buffer_len, nlas_fit_len};
+use std::test::Fail;
+
+/// Bytes without a header, as the layers above write statistics.
+#[derive(Drop)]
+struct Plain(Bytes);
+
+impl Emitable for Plain {
+    ghost bytes = { λ plain. plain.0 };
+
+    fn buffer_len(&self) -> usize {
+        self.0.len()
+    }
+
+    fn emit(&self, buffer: &mut [u8]) {
+        buffer[..self.0.len()].copy_from_slice(self.0.as_slice());
+    }
+}
+
+#[test]
+fn emits_one_attribute(rt: HostRuntime) -> Result<(), Fail> {
+    let alloc = rt.alloc();
+    let nla = DefaultNla::new(0x8009, vec![in alloc; 1u8, 2]?);
+    assert_eq!(rt; nla.kind(), 0x8009);
+    assert_eq!(rt; nla.fit_len(), Some(2));
+    assert!(rt; nla.value.len() == 2);
+    assert_eq!(rt; nla.value_len(), 2);
+    assert_eq!(rt; nla.buffer_len(), 8);
+
+    let mut value = [255; 2];
+    nla.emit_value(&mut value);
+    assert_eq!(rt; value.as_slice(), [1, 2].as_slice());
+
+    // Padding is zero whatever stood in the buffer, and the bytes behind stay.
+    let mut buffer = [255; 11];
+    nla.emit(&mut buffer);
+    assert_eq!(rt;
+        buffer.as_slice(),
+        [6, 0, 9, 0x80, 1, 2, 0, 0, 255, 255, 255].as_slice()
+    );
+
+    let plain = Plain(Bytes::new(vec![in alloc; 5u8, 6]?));
+    assert!(rt; plain.0.len() == 2);
+    assert_eq!(rt; plain.buffer_len(), 2);
+    let mut buffer = [255; 3];
+    plain.emit(&mut buffer);
+    assert_eq!(rt; buffer.as_slice(), [5, 6, 255].as_slice());
+    Ok(())
+}
+
+#[test]
+fn emits_lists(rt: HostRuntime) -> Result<(), Fail> {
+    let alloc = rt.alloc();
+    let none: [DefaultNla; 0] = [];
+    assert_eq!(rt; nlas_fit_len(&none), Some(0));
+
+    let list = [
+        DefaultNla::new(1, vec![in alloc; 7u8]?),
+        DefaultNla::new(2, vec![in alloc]?),
+        DefaultNla::new(3, vec![in alloc; 1u8, 2, 3, 4]?),
+    ];
+    let Some(len) = nlas_fit_len(&list) else {
+        panic!(&rt; "the list fits");
+    };
+    assert_eq!(rt; len, 20);
+    assert_eq!(rt; nlas_buffer_len(&list), 20);
+    let mut buffer = [255; 23];
+    emit_nlas(&list, &mut buffer);
+    let string = [
+        5, 0, 1, 0, 7, 0, 0, 0, 4, 0, 2, 0, 8, 0, 3, 0, 1, 2, 3, 4, 255, 255, 255,
+    ];
+    assert_eq!(rt; buffer.as_slice(), string.as_slice());
+    Ok(())
+}
+
+#[test]
+fn fits_up_to_65531_bytes(rt: HostRuntime) -> Result<(), Fail> {
+    let alloc = rt.alloc();
+    let longest = DefaultNla::new(9, vec![in alloc; 97u8; 65531]?);
+    assert_eq!(rt; longest.fit_len(), Some(65531));
+    assert_eq!(rt; nlas_fit_len(&[longest]), Some(65536));
+    let longer = DefaultNla::new(9, vec![in alloc; 97u8; 65532]?);
+    assert_eq!(rt; longer.fit_len(), None);
+    assert_eq!(rt;
+        nlas_fit_len(&[DefaultNla::new(1, vec![in alloc]?), longer]),
+        None
+    );
+    Ok(())
+}

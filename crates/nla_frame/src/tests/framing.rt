@@ -1,0 +1,235 @@
+//! Strings and the attributes that they frame.
+
+use crate::{
+    Cause, DecodeError, DefaultNla, Family, HeaderCount, NlaBuffer, NlasIterator, Parseable, laws,
+    next_piece,
+};
+use std::alloc::Global;
+use std::process::Abort;
+use std::test::Fail;
+
+const HEADER_FAULT: DecodeError = DecodeError {
+    family: Family::Frame,
+    kind: 0,
+    cause: Cause::Header,
+};
+
+/// What an iterator gives of a string until it ends, and what it says of itself then.
+#[derive(Drop)]
+struct Walked {
+    attributes: Vec<DefaultNla>,
+    fault: Option<DecodeError>,
+    examined: usize,
+    place: usize,
+}
+
+fn walk(alloc: Global, bytes: &[u8]) -> Result<Walked, DecodeError> {
+    let mut iterator = NlasIterator::new(bytes);
+    let mut attributes = Vec::new(alloc);
+    let mut fault = None;
+    for _ in 0..=bytes.len() {
+        match iterator.next() {
+            Some(Ok(nla)) => attributes.push(DefaultNla::parse(alloc, &nla)?)?,
+            Some(Err(error)) => fault = Some(error),
+            None => break,
+        }
+    }
+    Ok(Walked {
+        attributes,
+        fault,
+        examined: iterator.examined(),
+        place: iterator.place(),
+    })
+}
+
+/// The same by single steps, with the count that they leave.
+fn steps(alloc: Global, bytes: &[u8]) -> Result<Walked, DecodeError> {
+    let mut rest = bytes;
+    let mut count = HeaderCount::new();
+    let mut attributes = Vec::new(alloc);
+    let mut fault = None;
+    for _ in 0..=bytes.len() {
+        if count.get() > bytes.len() {
+            break;
+        }
+        match next_piece(rest, &mut count) {
+            Some(Ok((nla, after))) => {
+                attributes.push(DefaultNla::parse(alloc, &nla)?)?;
+                rest = after;
+            }
+            Some(Err(error)) => {
+                fault = Some(error);
+                break;
+            }
+            None => break,
+        }
+    }
+    Ok(Walked {
+        attributes,
+        fault,
+        examined: count.get(),
+        place: bytes.len().saturating_sub(rest.len()),
+    })
+}
+
+/// What a string frames: its attributes, its fault, the headers looked at, and where an iterator stands at the end.
+fn check_walk(
+    rt: &impl Abort,
+    alloc: Global,
+    bytes: &[u8],
+    attributes: &[(u16, &[u8])],
+    ends: (Option<DecodeError>, usize, usize),
+) -> Result<(), DecodeError> {
+    check_walked(rt, &walk(alloc, bytes)?, bytes, attributes, ends);
+    check_walked(rt, &steps(alloc, bytes)?, bytes, attributes, ends);
+    Ok(())
+}
+
+fn check_walked(
+    rt: &impl Abort,
+    walked: &Walked,
+    bytes: &[u8],
+    attributes: &[(u16, &[u8])],
+    ends: (Option<DecodeError>, usize, usize),
+) {
+    assert_eq!(rt;
+        walked.attributes.len(),
+        attributes.len(),
+        "attributes of {bytes:?}"
+    );
+    for (found, wanted) in walked.attributes.iter().zip(attributes) {
+        assert_eq!(rt; found.kind, wanted.0, "a type in {bytes:?}");
+        assert_eq!(rt; found.value.as_slice(), wanted.1, "a value in {bytes:?}");
+    }
+    let (fault, examined, place) = ends;
+    assert_eq!(rt; walked.fault, fault, "the fault of {bytes:?}");
+    assert_eq!(rt; walked.examined, examined, "headers of {bytes:?}");
+    assert_eq!(rt; walked.place, place, "the place in {bytes:?}");
+}
+
+#[test]
+fn frames_strings(rt: HostRuntime) -> Result<(), Fail> {
+    let alloc = rt.alloc();
+    let none = None;
+    let fault = Some(HEADER_FAULT);
+
+    // Nothing is the empty list.
+    check_walk(&rt, alloc, &[], &[], (none, 0, 0))?;
+
+    // Flag bits belong to the type.
+    check_walk(&rt, alloc, &[4, 0, 9, 0x80], &[(0x8009, &[])], (none, 1, 4))?;
+    check_walk(&rt, alloc, &[4, 0, 9, 0], &[(9, &[])], (none, 1, 4))?;
+
+    // Header faults: three bytes, a length field of 3, one above the bytes, and a stray byte after an aligned attribute.
+    check_walk(&rt, alloc, &[8, 0, 1], &[], (fault, 0, 0))?;
+    check_walk(&rt, alloc, &[3, 0, 1, 0], &[], (fault, 1, 0))?;
+    check_walk(
+        &rt,
+        alloc,
+        &[9, 0, 1, 0, 0x78, 0x66, 0x72, 0x6d],
+        &[],
+        (fault, 1, 0),
+    )?;
+    check_walk(&rt, alloc, &[4, 0, 9, 0, 0], &[(9, &[])], (fault, 1, 4))?;
+    check_walk(&rt, alloc, &[4, 0, 9, 0, 0, 0], &[(9, &[])], (fault, 1, 4))?;
+    check_walk(
+        &rt,
+        alloc,
+        &[4, 0, 9, 0, 0, 0, 0],
+        &[(9, &[])],
+        (fault, 1, 4),
+    )?;
+
+    // Length fields 0 to 4.
+    check_walk(&rt, alloc, &[0, 0, 1, 0], &[], (fault, 1, 0))?;
+    check_walk(&rt, alloc, &[1, 0, 1, 0], &[], (fault, 1, 0))?;
+    check_walk(&rt, alloc, &[2, 0, 1, 0], &[], (fault, 1, 0))?;
+    check_walk(&rt, alloc, &[4, 0, 1, 0], &[(1, &[])], (none, 1, 4))?;
+
+    // The last attribute's padding may be absent, cut short, or anything.
+    check_walk(&rt, alloc, &[5, 0, 1, 0, 7], &[(1, &[7])], (none, 1, 5))?;
+    check_walk(&rt, alloc, &[5, 0, 1, 0, 7, 1], &[(1, &[7])], (none, 1, 6))?;
+    check_walk(
+        &rt,
+        alloc,
+        &[5, 0, 1, 0, 7, 1, 2],
+        &[(1, &[7])],
+        (none, 1, 7),
+    )?;
+    check_walk(
+        &rt,
+        alloc,
+        &[5, 0, 1, 0, 7, 1, 2, 3],
+        &[(1, &[7])],
+        (none, 1, 8),
+    )?;
+    check_walk(
+        &rt,
+        alloc,
+        &[5, 0, 1, 0, 7, 1, 2, 3, 4],
+        &[(1, &[7])],
+        (fault, 1, 8),
+    )?;
+
+    // Padding inside the list is passed over whatever it holds; a fault comes after what is in front of it.
+    let two = [6, 0, 1, 0, 7, 8, 255, 255, 4, 0, 2, 0];
+    check_walk(&rt, alloc, &two, &[(1, &[7, 8]), (2, &[])], (none, 2, 12))?;
+    let broken = [6, 0, 1, 0, 7, 8, 255, 255, 4, 0, 2, 0, 3, 0, 0, 0];
+    check_walk(
+        &rt,
+        alloc,
+        &broken,
+        &[(1, &[7, 8]), (2, &[])],
+        (fault, 3, 12),
+    )?;
+    Ok(())
+}
+
+#[test]
+fn frames_the_longest_value(rt: HostRuntime) -> Result<(), Fail> {
+    let alloc = rt.alloc();
+    let mut bytes = vec![in alloc; 0u8; 4]?;
+    for _ in 0..65530 {
+        bytes.push(97)?;
+    }
+    assert!(rt; bytes.len() == 65534);
+    bytes[0] = 255;
+    bytes[1] = 255;
+    bytes[2] = 9;
+    assert_eq!(rt; NlaBuffer::new_checked(&bytes).err(), Some(HEADER_FAULT));
+    bytes.push(97)?;
+    let nla = NlaBuffer::new_checked(&bytes)?;
+    assert_eq!(rt; nla.length(), 65535);
+    assert_eq!(rt; nla.value().len(), 65531);
+    Ok(())
+}
+
+#[test]
+fn reads_one_attribute(rt: HostRuntime) -> Result<(), Fail> {
+    let bytes = [6, 0, 1, 0xc0, 7, 8, 0, 0];
+    let nla = NlaBuffer::new_checked(&bytes)?;
+    assert_eq!(rt; nla.kind(), 1);
+    assert_eq!(rt; nla.raw_kind(), 0xc001);
+    assert_eq!(rt; nla.length(), 6);
+    assert_eq!(rt; nla.value(), [7, 8].as_slice());
+
+    let mut count = HeaderCount::default();
+    count.add(4);
+    let same = NlaBuffer::new_counted(&bytes, &mut count)?;
+    assert_eq!(rt; count.get(), 5);
+    assert!(rt; nla == same);
+    assert!(rt; nla.clone()? == same);
+    assert!(rt; NlaBuffer::new_counted(&bytes[..5], &mut count).is_err());
+    assert_eq!(rt; count.get(), 6);
+    assert!(rt; NlaBuffer::new_counted(&bytes[..3], &mut count).is_err());
+    assert_eq!(rt; count.get(), 6);
+    assert!(rt; nla != NlaBuffer::new_checked(&[6, 0, 1, 0x40, 7, 8])?);
+
+    let iterator = NlasIterator::new(&bytes);
+    let mut moved = iterator.clone()?;
+    assert!(rt; iterator == moved);
+    assert!(rt; moved.next().is_some());
+    assert!(rt; iterator != moved);
+    laws::framing(&bytes);
+    Ok(())
+}
