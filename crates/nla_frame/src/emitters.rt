@@ -32,7 +32,7 @@ pub fn emit_i32(buffer: &mut [u8], value: i32)
     requires { 4 ≤ length buffer.old }
     ensures { buffer.new ≡ to_le_bytes w32 (cast_unsigned w32 value) ++ drop 4 buffer.old }
 {
-    buffer[..4].copy_from_slice(&value.to_le_bytes());
+    emit_u32(buffer, value.cast_unsigned());
 }
 
 /// Writes the number as two bytes, big-endian. Asks for a buffer of at least two bytes.
