@@ -4,7 +4,9 @@ ghost use Rattle.std.specs.Prelude.{◌≡◌, ◌≢◌, ◌↔◌, ℕ, List, 
 ghost use Rattle.nla_frame.specs.Attribute.{IsBytes};
 ghost use Rattle.nla_frame.specs.declared.error.Cause.{Cause};
 ghost use Rattle.nla_frame.specs.declared.error.Cause.TheVariants as cause;
+ghost use Rattle.linkinfo_shapes.specs.Data.{ReadsAs, Suits, Value, unwrap, value_of, wrap, written};
 ghost use Rattle.linkinfo_shapes.specs.Shapes.{Carrier, Holds, canon, means, needs_memory, payload_alike};
+ghost use Rattle.linkinfo_shapes.specs.declared.datum.Datum.{Datum};
 
 use crate::shape::Shape;
 
@@ -17,4 +19,16 @@ pub fn shapes()
     ensures alike { (shape : Shape) (p q : List ℕ) (x y : Carrier shape) → IsBytes p → IsBytes q → means shape p ≡ Ok x → means shape q ≡ Ok y → (payload_alike shape p q ≡ true) ↔ (x ≡ y) }
     ensures memory { (shape : Shape) (payload : List ℕ) → means shape payload ≢ Err cause.Memory }
     ensures fault { (shape : Shape) (payload : List ℕ) (c : Cause) → means shape payload ≡ Err c → needs_memory shape payload ≡ false }
+{}
+
+/// What the words on data say: a reader's answer is the meaning, with a datum that suits the shape, and what is written for a datum is
+/// its canonical payload. A value that suits a shape is one of the shape's data, and each datum of a shape is one such value.
+pub fn data()
+    ensures read { (shape : Shape) (payload : List ℕ) (d : Datum) → ReadsAs shape payload (Ok d) → means shape payload ≡ Ok (unwrap shape (value_of d)) }
+    ensures suits { (shape : Shape) (payload : List ℕ) (d : Datum) → ReadsAs shape payload (Ok d) → Suits shape (value_of d) }
+    ensures fault { (shape : Shape) (payload : List ℕ) (c : Cause) → ReadsAs shape payload (Err c) → means shape payload ≡ Err c }
+    ensures canonical { (shape : Shape) (value : Value) → written shape value ≡ canon shape (unwrap shape value) }
+    ensures one_value { (shape : Shape) (x : Carrier shape) → Holds shape x → Suits shape (wrap shape x) }
+    ensures its_datum { (shape : Shape) (x : Carrier shape) → unwrap shape (wrap shape x) ≡ x }
+    ensures its_value { (shape : Shape) (value : Value) → Suits shape value → wrap shape (unwrap shape value) ≡ value }
 {}

@@ -203,4 +203,3 @@ pub fn write_raw(datum: &Datum<'_>, buffer: &mut [u8])
 {
     buffer.copy_from_slice(datum.bytes_or_empty());
 }
-
