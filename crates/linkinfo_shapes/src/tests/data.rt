@@ -1,6 +1,7 @@
 //! What a family takes out of data.
 
-use crate::{Datum, laws};
+use crate::{Datum, Shape, laws};
+use nla_frame::is_equal;
 use std::net::{IpAddr, Ipv4Addr, Ipv6Addr};
 
 #[test]
@@ -27,6 +28,8 @@ fn takes_data_apart(rt: HostRuntime) {
     assert_eq!(rt; Datum::Number(0).byte_or_none(), Some(0));
     assert_eq!(rt; Datum::Empty.byte_or_none(), None);
     assert_eq!(rt; Datum::Bytes(&[7]).bytes_or_empty(), [7].as_slice());
+    assert!(rt; is_equal(&Shape::Raw, &Shape::Raw));
+    assert!(rt; !is_equal(&Shape::Raw, &Shape::Name));
     laws::shapes();
     laws::data();
 }
