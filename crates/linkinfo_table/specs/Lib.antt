@@ -1,0 +1,5 @@
+pub mod Codecs
+pub mod ListLaws
+pub mod Lists
+pub mod RowLaws
+pub mod Rows
