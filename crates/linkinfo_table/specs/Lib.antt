@@ -3,3 +3,4 @@ pub mod ListLaws
 pub mod Lists
 pub mod RowLaws
 pub mod Rows
+pub mod SelfList
