@@ -1,5 +1,5 @@
 -- The laws of lists, from those of one attribute: what is read is well formed, canonical strings read back, alike lists mean the same.
-use Rattle.std.specs.Prelude.{◌≡◌, ◌≢◌, ◌↔◌, ℕ, ◌+◌, ◌*◌, ◌%◌, ◌≤◌, Bool, true, false, ◌&&◌, List, [], ◌∷◌, ◌++◌, length, map, Result, Ok, Err, refl}
+use Rattle.std.specs.Prelude.{◌≡◌, ◌≢◌, ◌↔◌, ℕ, ◌+◌, ◌*◌, ◌%◌, ◌≤◌, Bool, true, false, ◌&&◌, List, [], ◌∷◌, ◌++◌, length, map, IsOk, IsTrue, Result, Ok, Err, refl}
 use Rattle.std.proofs.Common.{sym, ap, subst, ◌∙◌, arith}
 use Rattle.std.specs.List.{AllByRecursion}
 use Rattle.std.proofs.lemmas.Bool.{and_parts, and_from}
@@ -14,7 +14,7 @@ use Rattle.nla_frame.proofs.ByteLists.{IsBytes-list_string}
 use Rattle.nla_frame.proofs.Framing.{split_is, splits_attributes, splits_append}
 use Rattle.nla_frame.proofs.Stepping.{pieces_split, pieces_only, pieces-list_string, pieces_nil, seen_room, by_pieces}
 use Rattle.nla_frame.proofs.Emitting.{fits_inside}
-use Rattle.linkinfo_table.specs.Lists.{◌>>=◌, if_read, values_under, headers_under, alike_under, well_under, first_meaning, first_headers, first_alike}
+use Rattle.linkinfo_table.specs.Lists.{values, alike_pairs, ◌>>=◌, if_read, values_under, headers_under, alike_under, well_under, first_meaning, first_headers, first_alike}
 
 abbrev good : {A : Type 0} → A → Result A DecodeError
 good x = Ok x
@@ -242,3 +242,23 @@ module _ {T X : Type 0} (m : T → Attribute → Result X DecodeError) (after : 
         ap (λ (z : List ℕ). values_under m after none (pieces z)) e
         ∙ ap (λ (ps : List (Result Attribute ℕ)). values_under m after none ps) (pieces_only (a ++ b) (u.front ++ v.front) [] (splits_append a b u.front v.front four u.frames v.frames))
         ∙ behind_front none none u.front v.front xs ys least u.values_are v.values_are
+
+-- a test that answers whether two accepted lists are alike answers whether they mean the same
+abbrev ok_of : {A : Type 0} → A → Result A DecodeError
+ok_of x = Ok x
+
+ok_same : {A : Type 0} (x y : A) → ok_of x ≡ ok_of y → x ≡ y
+ok_same x y e = cc
+
+pub lists_same : {X : Type 0} (m : Attribute → Result X DecodeError) (f : Attribute → Attribute → Bool)
+    (alike_is : (a b : Attribute) (x y : X) → IsAttribute a → IsAttribute b → m a ≡ Ok x → m b ≡ Ok y → (f a b ≡ true) ↔ (x ≡ y))
+    (p q : List ℕ) → IsBytes p → IsBytes q → IsOk (values m (pieces p)) → IsOk (values m (pieces q)) →
+    (r : Bool) → r ≡ alike_pairs f (pieces p) (pieces q) → IsTrue r ↔ (values m (pieces p) ≡ values m (pieces q))
+lists_same {X = X} m f alike_is p q bp bq u v r e = go (values m (pieces p)) (values m (pieces q)) refl refl u v
+  where
+    go : (s t : Result (List X) DecodeError) → values m (pieces p) ≡ s → values m (pieces q) ≡ t → IsOk s → IsOk t → IsTrue r ↔ (s ≡ t)
+    go (Ok xs) (Ok ys) h k i j =
+        let law = lists_alike (λ (_ : Unit {0}) a. m a) (λ t _. t) (λ _ a b. f a b) (λ _ a b x y. alike_is a b x y) (λ _ a b d. refl) (tt {0}) p q xs ys bp bq h k in
+        (λ d. ap (λ (zs : List X). ok_of zs) (law.0 (sym e ∙ d)), λ d. e ∙ law.1 (ok_same xs ys d))
+    go (Ok xs) (Err d) h k i j = absurd cc
+    go (Err d) t h k i j = absurd cc

@@ -1,6 +1,6 @@
 -- What a list of attributes means, over the pieces of its string, given what one attribute means. A state may go along, as the kind in force
 -- does at top level: `m t a` is the meaning of an attribute under the state, `after t a` the state behind it.
-use Rattle.std.specs.Prelude.{◌≡◌, ℕ, ◌+◌, Bool, true, false, ◌&&◌, ◌||◌, is_ok, List, [], ◌∷◌, Result, Ok, Err}
+use Rattle.std.specs.Prelude.{◌≡◌, ℕ, ◌+◌, Bool, true, false, ◌&&◌, ◌||◌, is_ok, List, [], ◌∷◌, ◌++◌, Result, Ok, Err}
 use Rattle.nla_frame.specs.Attribute.{Attribute}
 use Rattle.nla_frame.specs.Error.{header_fault}
 use Rattle.nla_frame.specs.declared.error.DecodeError.{DecodeError}
@@ -20,6 +20,10 @@ abbrev pub values_under : {T X : Type 0} → (T → Attribute → Result X Decod
 values_under m after t [] = Ok []
 values_under m after t ((Err n) ∷ more) = Err header_fault
 values_under m after t ((Ok a) ∷ more) = m t a >>= λ x. values_under m after (after t a) more >>= λ xs. Ok (x ∷ xs)
+
+-- values that were read before, in front of those that follow
+abbrev pub behind : {X : Type 0} → List X → Result (List X) DecodeError → Result (List X) DecodeError
+behind front r = r >>= λ xs. Ok (front ++ xs)
 
 -- the headers that are looked at, those inside attributes too, up to the first fault
 abbrev pub headers_under : {T X : Type 0} → (T → Attribute → Result X DecodeError) → (T → Attribute → ℕ) → (T → Attribute → T) → T → List (Result Attribute ℕ) → ℕ

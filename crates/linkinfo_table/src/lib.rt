@@ -1,12 +1,13 @@
-//! Families of attributes.
+//! Families of link info attributes: rows, lists and peers.
 #![tactic(auto)]
 
-ghost use Rattle.std.specs.Prelude.{◌≡◌, ℕ};
-ghost use Rattle.linkinfo_table.specs.Codecs.{Codec};
+mod family;
+mod list;
+mod lookup;
+mod peer;
 
-pub trait Toy: Sized {
-    ghost codec: { ℕ → Codec };
-
-    fn value(&self) -> u8
-        ensures { result ≡ result };
-}
+pub use family::LinkFamily;
+pub use linkinfo_shapes::{Datum, Shape, table_shape};
+pub use list::{list_check, list_read, list_same};
+pub use lookup::Lookup;
+pub use peer::{LinkPeer, PeerFault};
