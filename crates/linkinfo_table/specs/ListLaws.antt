@@ -3,7 +3,8 @@ use Rattle.std.specs.Prelude.{◌≡◌, ◌≢◌, ◌↔◌, ℕ, ◌+◌, ◌
 use Rattle.std.proofs.Common.{sym, ap, subst, ◌∙◌, arith}
 use Rattle.std.specs.List.{AllByRecursion}
 use Rattle.std.proofs.lemmas.Bool.{and_parts, and_from}
-use Rattle.nla_frame.specs.Attribute.{Attribute, IsAttribute, IsBytes, Fits, list_string}
+use Rattle.std.proofs.lemmas.List.{append-nil}
+use Rattle.nla_frame.specs.Attribute.{Attribute, IsAttribute, IsBytes, Fits, canonical_string, list_string}
 use Rattle.nla_frame.specs.Error.{header_fault, memory_fault}
 use Rattle.nla_frame.specs.Framing.{Splits}
 use Rattle.nla_frame.specs.Pieces.{pieces, pieces_of, split}
@@ -14,7 +15,7 @@ use Rattle.nla_frame.proofs.ByteLists.{IsBytes-list_string}
 use Rattle.nla_frame.proofs.Framing.{split_is, splits_attributes, splits_append}
 use Rattle.nla_frame.proofs.Stepping.{pieces_split, pieces_only, pieces-list_string, pieces_nil, seen_room, by_pieces}
 use Rattle.nla_frame.proofs.Emitting.{fits_inside}
-use Rattle.linkinfo_table.specs.Lists.{values, alike_pairs, ◌>>=◌, if_read, values_under, headers_under, alike_under, well_under, first_meaning, first_headers, first_alike}
+use Rattle.linkinfo_table.specs.Lists.{values, alike_pairs, AllWell, ◌>>=◌, if_read, values_under, headers_under, alike_under, well_under, first_meaning, first_headers, first_alike}
 
 abbrev good : {A : Type 0} → A → Result A DecodeError
 good x = Ok x
@@ -262,3 +263,40 @@ lists_same {X = X} m f alike_is p q bp bq u v r e = go (values m (pieces p)) (va
         (λ d. ap (λ (zs : List X). ok_of zs) (law.0 (sym e ∙ d)), λ d. e ∙ law.1 (ok_same xs ys d))
     go (Ok xs) (Err d) h k i j = absurd cc
     go (Err d) t h k i j = absurd cc
+
+-- ---- the same of one family: lists, and first attributes
+
+module _ {X : Type 0} (m : Attribute → Result X DecodeError) (attribute : X → Attribute) (well : X → Type 0)
+    (read_well : (a : Attribute) (x : X) → IsAttribute a → m a ≡ Ok x → well x)
+    (well_reads : (x : X) → well x → Fits (attribute x) → m (attribute x) ≡ Ok x)
+    (well_attribute : (x : X) → well x → Fits (attribute x) → IsAttribute (attribute x)) where
+  pub family_read_well : (s : List ℕ) (xs : List X) → IsBytes s → values m (pieces s) ≡ Ok xs → AllWell well xs
+  family_read_well s xs bytes e =
+      read_is_well (λ (_ : Unit {0}) a. m a) (λ t _. t) attribute (λ _ x. well x) (λ t _. t) (λ _ a x. read_well a x) (λ _ a x i e. refl) (λ _ x. well_reads x)
+        (λ _ x. well_attribute x) (tt {0}) s xs bytes e
+
+  pub family_canonical : (s : List ℕ) (xs : List X) → IsBytes s → AllByRecursion Fits (map attribute xs) → s ≡ list_string (map attribute xs) →
+      (values m (pieces s) ≡ Ok xs) ↔ AllWell well xs
+  family_canonical s xs bytes fits e =
+      canonical_law (λ (_ : Unit {0}) a. m a) (λ t _. t) attribute (λ _ x. well x) (λ t _. t) (λ _ a x. read_well a x) (λ _ a x i e. refl) (λ _ x. well_reads x)
+        (λ _ x. well_attribute x) (tt {0}) s xs bytes fits e
+
+  front_first_well : (front : List Attribute) (left : List ℕ) (x : X) → AllByRecursion IsAttribute front → first_meaning m (pieces_of front left) ≡ Ok x → well x
+  front_first_well [] [] x h e = absurd cc
+  front_first_well [] (b ∷ r) x h e = absurd cc
+  front_first_well (a ∷ more) left x h e = read_well a x h.0 e
+
+  pub first_read_well : (s : List ℕ) (x : X) → IsBytes s → first_meaning m (pieces s) ≡ Ok x → well x
+  first_read_well s x bytes e =
+      let is = split_is s bytes in
+      front_first_well (split s).front (split s).left x (splits_attributes s (split s).front (split s).left is)
+        (ap (λ (ps : List (Result Attribute ℕ)). first_meaning m ps) (sym (pieces_split s)) ∙ e)
+
+  one_string : (a : Attribute) → list_string (a ∷ []) ≡ canonical_string a
+  one_string a = append-nil (canonical_string a)
+
+  pub first_well_reads : (s : List ℕ) (x : X) → Fits (attribute x) → s ≡ canonical_string (attribute x) → well x → first_meaning m (pieces s) ≡ Ok x
+  first_well_reads s x fits e w =
+      ap (λ (z : List ℕ). first_meaning m (pieces z)) (e ∙ sym (one_string (attribute x)))
+      ∙ ap (λ (ps : List (Result Attribute ℕ)). first_meaning m ps) (pieces-list_string (attribute x ∷ []) (well_attribute x w fits, tt))
+      ∙ well_reads x w fits
