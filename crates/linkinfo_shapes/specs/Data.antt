@@ -1,5 +1,6 @@
 -- Data as the program holds them: one type for all shapes, in place of the type that a shape gives.
-use Rattle.std.specs.Prelude.{◌≡◌, ℕ, ◌^◌, ◌<◌, ℤ, pos, Bool, true, false, List, [], Option, Some, None, Result, Ok, Err}
+use Rattle.std.specs.Prelude.{◌≡◌, ℕ, ◌+◌, ◌^◌, ◌<◌, ℤ, pos, Bool, false, List, [], length, Option, Some, None, Result, Ok, Err}
+use Rattle.std.specs.Net.Addr.{octets_of}
 use Rattle.std.specs.declared.net.ip_addr.IpAddr.{IpAddr}
 use Rattle.std.specs.declared.net.ip_addr.IpAddr.TheVariants as ip
 use Rattle.std.specs.declared.net.ipv4_addr.Ipv4Addr.{Ipv4Addr}
@@ -243,7 +244,40 @@ unfoldable pub ReadsAs : Shape → List ℕ → Result Datum Cause → Type 0
 ReadsAs shape payload (Ok d) = (reads shape payload ≡ Ok (value_of d)) × Suits shape (value_of d)
 ReadsAs shape payload (Err e) = reads shape payload ≡ Err e
 
--- an answer without its datum
-abbrev pub verdict : Result Value Cause → Result (Unit {0}) Cause
-verdict (Ok x) = Ok tt
-verdict (Err e) = Err e
+-- the length of every payload that is written under the shape, where they have one length
+abbrev pub fixed_length : Shape → Option ℕ
+fixed_length U8 = Some 1
+fixed_length Le16 = Some 2
+fixed_length Le32 = Some 4
+fixed_length Le64 = Some 8
+fixed_length Be16 = Some 2
+fixed_length Be32 = Some 4
+fixed_length Be64 = Some 8
+fixed_length I32 = Some 4
+fixed_length Truth = Some 1
+fixed_length TruthOne = Some 1
+fixed_length Mark = Some 0
+fixed_length Name = None
+fixed_length V4 = None
+fixed_length V6 = None
+fixed_length GeneveV4 = None
+fixed_length GeneveV6 = None
+fixed_length Ip = None
+fixed_length Mac = None
+fixed_length BePair = Some 4
+fixed_length FlagPair = Some 8
+fixed_length EmptyOrByte = None
+fixed_length Scrub = Some 4
+fixed_length Raw = None
+fixed_length SelfList = None
+fixed_length Peer = None
+
+-- the length of the payload that is written for a value under any other shape
+abbrev pub value_length : Value → ℕ
+value_length (number n) = 1
+value_length (text s) = length s + 1
+value_length (v4 a) = length a.octets
+value_length (v6 a) = length (octets_of a.segments)
+value_length (mac s) = length s
+value_length (bytes s) = length s
+value_length _ = 0

@@ -1,3 +1,5 @@
 pub mod Data
+pub mod DataLaws
+pub mod ShapeLaws
 pub mod Shapes
 pub mod Table

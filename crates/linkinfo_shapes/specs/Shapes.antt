@@ -1,5 +1,5 @@
 -- The shapes of payloads: what a payload means, the one payload that is written, which payloads are alike.
-use Rattle.std.specs.Prelude.{◌≡◌, ℕ, ◌-◌, ◌^◌, ◌<◌, ◌==◌, ℤ, Bool, true, false, not, if◌then◌else◌, List, [], ◌∷◌, ◌++◌, length, take, drop, slice_index, Option, Some, None, Result, Ok, Err, FitsSigned}
+use Rattle.std.specs.Prelude.{◌≡◌, ℕ, ◌-◌, ◌^◌, ◌<◌, ◌==◌, ℤ, Bool, true, false, not, if◌then◌else◌, List, [], ◌∷◌, ◌++◌, length, take, drop, slice_index, Option, Some, None, Result, Ok, Err, IsOk, FitsSigned}
 use Rattle.std.specs.Bool.{beq}
 use Rattle.std.specs.Int.{w16, w32, w64, cast_signed, cast_unsigned, from_be_bytes, from_le_bytes, to_be_bytes, to_le_bytes}
 use Rattle.std.specs.Net.Addr.{octets_of}
@@ -88,6 +88,15 @@ means Scrub payload = of_length 4 payload (not (from_le_bytes w32 payload == 0))
 means Raw payload = Ok payload
 means SelfList payload = Err cause.Length
 means Peer payload = Err cause.Length
+
+-- the answer without its datum
+abbrev pub verdict : {X : Type 0} → Result X Cause → Result (Unit {0}) Cause
+verdict (Ok x) = Ok tt
+verdict (Err e) = Err e
+
+-- the payload means a datum
+unfoldable pub IsAccepted : Shape → List ℕ → Type 0
+IsAccepted shape payload = IsOk (means shape payload)
 
 -- 1 for true, 0 for false
 abbrev pub truth_number : Bool → ℕ

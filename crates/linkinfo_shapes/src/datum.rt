@@ -1,8 +1,13 @@
 //! What payloads hold.
+#![tactic(auto, unfolding(crate::specs::Data::Suits))]
 
-use std::net::{Ipv4Addr, Ipv6Addr};
+ghost use Rattle.std.specs.Prelude.{◌≡◌};
+ghost use Rattle.linkinfo_shapes.specs.Data.{Suits, unwrap, value_of};
 
-/// What a payload holds, with texts and bytes borrowed from it. Each shape has data of certain variants: a datum suits its shape.
+use crate::shape::Shape;
+use std::net::{IpAddr, Ipv4Addr, Ipv6Addr};
+
+/// What a payload holds, with texts and bytes borrowed from it. Each shape has data of certain variants: those suit the shape.
 #[derive(Clone, Copy, Debug, PartialEq, Eq)]
 pub enum Datum<'a> {
     /// A number of `Shape::U8`, of the `Le` and `Be` shapes, or the byte of `Shape::EmptyOrByte`.
@@ -15,14 +20,174 @@ pub enum Datum<'a> {
     Empty,
     /// The text of `Shape::Name`, without its closing zero byte.
     Text(&'a str),
-    /// An IPv4 address.
+    /// The address of `Shape::V4`, `Shape::GeneveV4` and `Shape::Ip`.
     V4(Ipv4Addr),
-    /// An IPv6 address.
+    /// The address of `Shape::V6`, `Shape::GeneveV6` and `Shape::Ip`.
     V6(Ipv6Addr),
-    /// A hardware address.
+    /// The hardware address of `Shape::Mac`.
     Mac([u8; 6]),
     /// The two numbers of `Shape::BePair`, or flags and mask of `Shape::FlagPair`.
     Pair(u32, u32),
     /// The payload of `Shape::Raw`.
     Bytes(&'a [u8]),
+}
+
+impl<'a> Datum<'a> {
+    /// The number of a datum that suits `Shape::U8`, and else 0.
+    pub fn u8_or_zero(self) -> u8
+        ensures { Suits Shape.U8 (value_of self.entry) → result ≡ unwrap Shape.U8 (value_of self.entry) }
+    {
+        match self {
+            Datum::Number(n) => u8::try_from(n).unwrap_or(0),
+            _ => 0,
+        }
+    }
+
+    /// The number of a datum that suits `Shape::Le16` or `Shape::Be16`, and else 0.
+    pub fn u16_or_zero(self) -> u16
+        ensures le16 { Suits Shape.Le16 (value_of self.entry) → result ≡ unwrap Shape.Le16 (value_of self.entry) }
+        ensures be16 { Suits Shape.Be16 (value_of self.entry) → result ≡ unwrap Shape.Be16 (value_of self.entry) }
+    {
+        match self {
+            Datum::Number(n) => u16::try_from(n).unwrap_or(0),
+            _ => 0,
+        }
+    }
+
+    /// The number of a datum that suits `Shape::Le32` or `Shape::Be32`, and else 0.
+    pub fn u32_or_zero(self) -> u32
+        ensures le32 { Suits Shape.Le32 (value_of self.entry) → result ≡ unwrap Shape.Le32 (value_of self.entry) }
+        ensures be32 { Suits Shape.Be32 (value_of self.entry) → result ≡ unwrap Shape.Be32 (value_of self.entry) }
+    {
+        match self {
+            Datum::Number(n) => u32::try_from(n).unwrap_or(0),
+            _ => 0,
+        }
+    }
+
+    /// The number of a datum that suits `Shape::Le64` or `Shape::Be64`, and else 0.
+    pub fn u64_or_zero(self) -> u64
+        ensures le64 { Suits Shape.Le64 (value_of self.entry) → result ≡ unwrap Shape.Le64 (value_of self.entry) }
+        ensures be64 { Suits Shape.Be64 (value_of self.entry) → result ≡ unwrap Shape.Be64 (value_of self.entry) }
+    {
+        match self {
+            Datum::Number(n) => n,
+            _ => 0,
+        }
+    }
+
+    /// The number of a datum that suits `Shape::I32`, and else 0.
+    pub fn i32_or_zero(self) -> i32
+        ensures { Suits Shape.I32 (value_of self.entry) → result ≡ unwrap Shape.I32 (value_of self.entry) }
+    {
+        match self {
+            Datum::Signed(n) => n,
+            _ => 0,
+        }
+    }
+
+    /// What a datum says that suits `Shape::Truth`, `Shape::TruthOne` or `Shape::Scrub`, and else false.
+    pub fn bool_or_false(self) -> bool
+        ensures truth { Suits Shape.Truth (value_of self.entry) → result ≡ unwrap Shape.Truth (value_of self.entry) }
+        ensures truth_one { Suits Shape.TruthOne (value_of self.entry) → result ≡ unwrap Shape.TruthOne (value_of self.entry) }
+        ensures scrub { Suits Shape.Scrub (value_of self.entry) → result ≡ unwrap Shape.Scrub (value_of self.entry) }
+    {
+        match self {
+            Datum::Truth(b) => b,
+            _ => false,
+        }
+    }
+
+    /// The text of a datum that suits `Shape::Name`, and else the empty text.
+    pub fn text_or_empty(self) -> &'a str
+        ensures { Suits Shape.Name (value_of self.entry) → result.now ≡ unwrap Shape.Name (value_of self.entry) }
+    {
+        match self {
+            Datum::Text(text) => text,
+            _ => "",
+        }
+    }
+
+    /// The address of a datum that suits `Shape::V4` or `Shape::GeneveV4`, and else 0.0.0.0.
+    pub fn ipv4_or_unspecified(self) -> Ipv4Addr
+        ensures v4 { Suits Shape.V4 (value_of self.entry) → result ≡ unwrap Shape.V4 (value_of self.entry) }
+        ensures geneve_v4 { Suits Shape.GeneveV4 (value_of self.entry) → result ≡ unwrap Shape.GeneveV4 (value_of self.entry) }
+    {
+        match self {
+            Datum::V4(address) => address,
+            _ => Ipv4Addr::UNSPECIFIED,
+        }
+    }
+
+    /// The address of a datum that suits `Shape::V6` or `Shape::GeneveV6`, and else `::`.
+    pub fn ipv6_or_unspecified(self) -> Ipv6Addr
+        ensures v6 { Suits Shape.V6 (value_of self.entry) → result ≡ unwrap Shape.V6 (value_of self.entry) }
+        ensures geneve_v6 { Suits Shape.GeneveV6 (value_of self.entry) → result ≡ unwrap Shape.GeneveV6 (value_of self.entry) }
+    {
+        match self {
+            Datum::V6(address) => address,
+            _ => Ipv6Addr::UNSPECIFIED,
+        }
+    }
+
+    /// The address of a datum that suits `Shape::Ip`, and else `::`.
+    pub fn ip_or_unspecified(self) -> IpAddr
+        ensures { Suits Shape.Ip (value_of self.entry) → result ≡ unwrap Shape.Ip (value_of self.entry) }
+    {
+        match self {
+            Datum::V4(address) => IpAddr::V4(address),
+            Datum::V6(address) => IpAddr::V6(address),
+            _ => IpAddr::V6(Ipv6Addr::UNSPECIFIED),
+        }
+    }
+
+    /// The hardware address of a datum that suits `Shape::Mac`, and else six zeros.
+    pub fn mac_or_zeros(self) -> [u8; 6]
+        ensures { Suits Shape.Mac (value_of self.entry) → result ≡ unwrap Shape.Mac (value_of self.entry) }
+    {
+        match self {
+            Datum::Mac(octets) => octets,
+            _ => [0; 6],
+        }
+    }
+
+    /// The two numbers of a datum that suits `Shape::BePair`, and else two zeros.
+    pub fn u16_pair_or_zeros(self) -> (u16, u16)
+        ensures { Suits Shape.BePair (value_of self.entry) → result ≡ unwrap Shape.BePair (value_of self.entry) }
+    {
+        match self {
+            Datum::Pair(a, b) if a < 65536 && b < 65536 => (a as u16, b as u16),
+            _ => (0, 0),
+        }
+    }
+
+    /// Flags and mask of a datum that suits `Shape::FlagPair`, and else two zeros.
+    pub fn u32_pair_or_zeros(self) -> (u32, u32)
+        ensures { Suits Shape.FlagPair (value_of self.entry) → result ≡ unwrap Shape.FlagPair (value_of self.entry) }
+    {
+        match self {
+            Datum::Pair(a, b) => (a, b),
+            _ => (0, 0),
+        }
+    }
+
+    /// The byte of a datum that suits `Shape::EmptyOrByte`, where there is one, and else `None`.
+    pub fn byte_or_none(self) -> Option<u8>
+        ensures { Suits Shape.EmptyOrByte (value_of self.entry) → result ≡ unwrap Shape.EmptyOrByte (value_of self.entry) }
+    {
+        match self {
+            Datum::Number(n) if n < 256 => Some(n as u8),
+            _ => None,
+        }
+    }
+
+    /// The bytes of a datum that suits `Shape::Raw`, and else no bytes.
+    pub fn bytes_or_empty(self) -> &'a [u8]
+        ensures { Suits Shape.Raw (value_of self.entry) → result.now ≡ unwrap Shape.Raw (value_of self.entry) }
+    {
+        match self {
+            Datum::Bytes(bytes) => bytes,
+            _ => &[],
+        }
+    }
 }

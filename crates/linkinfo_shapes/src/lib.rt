@@ -3,9 +3,14 @@
 #![tactic(auto)]
 
 mod datum;
+pub mod laws;
+mod payload;
+mod readers;
 mod shape;
 mod table;
+mod writers;
 
 pub use datum::Datum;
+pub use payload::{datum_len, read_datum, shape_check, shape_same, write_datum};
 pub use shape::Shape;
 pub use table::table_shape;

@@ -1,0 +1,187 @@
+//! Payloads and data, by shape.
+
+ghost use Rattle.std.specs.Prelude.{◌≡◌, ◌≤◌, ◌↔◌, IsTrue, length, SomeIff, slice_index};
+ghost use Rattle.linkinfo_shapes.specs.Data.{ReadsAs, Suits, fixed_length, value_length, value_of, written};
+ghost use Rattle.linkinfo_shapes.specs.Shapes.{IsAccepted, IsPlain, is_zero as is_zero_number, means, payload_alike, verdict};
+
+use crate::datum::Datum;
+use crate::readers::*;
+use crate::shape::Shape;
+use crate::writers::*;
+use nla_frame::Cause;
+
+/// The most bytes that the length field of an attribute can count.
+const PAYLOAD_LEN_MAX: usize = 65531;
+
+/// Whether the payload is accepted under the shape, or why not. Takes no memory; of a payload that is no name it reads no more than a
+/// fixed number of bytes. Asks for a shape other than `Shape::SelfList` and `Shape::Peer`, whose payloads the family reads itself.
+#[tactic(auto, using(crate::specs::DataLaws::read_verdict))]
+pub fn shape_check(shape: Shape, payload: &[u8]) -> Result<(), Cause>
+    requires { IsPlain shape }
+    ensures { result ≡ verdict (means shape payload.now) }
+{
+    match read_datum(shape, payload) {
+        Ok(_) => Ok(()),
+        Err(cause) => Err(cause),
+    }
+}
+
+/// What the payload holds under the shape, or why it is refused. Takes no memory: a text or bytes are the payload's own. Asks for a
+/// shape other than `Shape::SelfList` and `Shape::Peer`.
+pub fn read_datum(shape: Shape, payload: &[u8]) -> Result<Datum<'_>, Cause>
+    requires { IsPlain shape }
+    ensures { ReadsAs shape payload.now result }
+{
+    match shape {
+        Shape::U8 => read_u8(payload),
+        Shape::Le16 => read_le16(payload),
+        Shape::Le32 => read_le32(payload),
+        Shape::Le64 => read_le64(payload),
+        Shape::Be16 => read_be16(payload),
+        Shape::Be32 => read_be32(payload),
+        Shape::Be64 => read_be64(payload),
+        Shape::I32 => read_i32(payload),
+        Shape::Truth => read_truth(payload),
+        Shape::TruthOne => read_truth_one(payload),
+        Shape::Mark => read_mark(payload),
+        Shape::Name => read_name(payload),
+        Shape::V4 => read_v4(payload),
+        Shape::V6 => read_v6(payload),
+        Shape::GeneveV4 => read_geneve_v4(payload),
+        Shape::GeneveV6 => read_geneve_v6(payload),
+        Shape::Ip => read_ip(payload),
+        Shape::Mac => read_mac(payload),
+        Shape::BePair => read_be_pair(payload),
+        Shape::FlagPair => read_flag_pair(payload),
+        Shape::EmptyOrByte => read_empty_or_byte(payload),
+        Shape::Scrub => read_scrub(payload),
+        Shape::Raw => read_raw(payload),
+        Shape::SelfList | Shape::Peer => unreachable!(),
+    }
+}
+
+/// Whether two payloads mean the same under the shape. Takes no memory. Asks for a shape other than `Shape::SelfList` and
+/// `Shape::Peer`, and for two payloads that are accepted.
+#[tactic(auto, using(crate::specs::ShapeLaws::accepted_alike))]
+pub fn shape_same(shape: Shape, a: &[u8], b: &[u8]) -> bool
+    requires plain { IsPlain shape }
+    requires first { IsAccepted shape a.now }
+    requires second { IsAccepted shape b.now }
+    ensures alike { result ≡ payload_alike shape a.now b.now }
+    ensures equal { IsTrue result ↔ (means shape a.now ≡ means shape b.now) }
+{
+    is_alike(shape, a, b)
+}
+
+fn is_alike(shape: Shape, a: &[u8], b: &[u8]) -> bool
+    ensures { result ≡ payload_alike shape a.now b.now }
+{
+    match shape {
+        Shape::Truth => (first_byte(a) == 0) == (first_byte(b) == 0),
+        Shape::TruthOne => (first_byte(a) == 1) == (first_byte(b) == 1),
+        Shape::Mark => true,
+        Shape::Name => strip(a) == strip(b),
+        Shape::Scrub => is_zero(a) == is_zero(b),
+        _ => a == b,
+    }
+}
+
+/// The first byte, or 0 where there is none.
+fn first_byte(payload: &[u8]) -> u8
+    ensures { result ≡ slice_index payload.now 0 }
+{
+    payload.first().copied().unwrap_or(0)
+}
+
+/// Whether the payload is the four bytes of the number 0.
+fn is_zero(payload: &[u8]) -> bool
+    ensures { result ≡ is_zero_number payload.now }
+{
+    payload == [0, 0, 0, 0].as_slice()
+}
+
+/// The length of the payload that is written for the datum, or `None` above 65531, the most that the length field of an attribute can
+/// count with its header. Asks for a datum that suits the shape.
+pub fn datum_len(shape: Shape, datum: &Datum<'_>) -> Option<usize>
+    requires { Suits shape (value_of datum.now) }
+    ensures { SomeIff result (length (written shape (value_of datum.now)) ≤ 65531) (length (written shape (value_of datum.now))) }
+{
+    let len = written_len(shape, datum);
+    (len <= PAYLOAD_LEN_MAX).then_some(len)
+}
+
+#[tactic(auto, using(crate::specs::DataLaws::length_fixed, crate::specs::DataLaws::length_variable))]
+fn written_len(shape: Shape, datum: &Datum<'_>) -> usize
+    requires { Suits shape (value_of datum.now) }
+    ensures { result ≡ length (written shape (value_of datum.now)) }
+{
+    match fixed_len(shape) {
+        Some(len) => len,
+        None => variable_len(datum),
+    }
+}
+
+/// The length of every payload that is written under the shape, where they have one length.
+fn fixed_len(shape: Shape) -> Option<usize>
+    ensures { result ≡ fixed_length shape }
+{
+    match shape {
+        Shape::Mark => Some(0),
+        Shape::U8 | Shape::Truth | Shape::TruthOne => Some(1),
+        Shape::Le16 | Shape::Be16 => Some(2),
+        Shape::Le32 | Shape::Be32 | Shape::I32 | Shape::BePair | Shape::Scrub => Some(4),
+        Shape::Le64 | Shape::Be64 | Shape::FlagPair => Some(8),
+        _ => None,
+    }
+}
+
+/// The length of the payload that is written for a datum of a shape without a fixed length.
+fn variable_len(datum: &Datum<'_>) -> usize
+    ensures { result ≡ value_length (value_of datum.now) }
+{
+    match datum {
+        Datum::Number(_) => 1,
+        Datum::Text(text) => text.len() + 1,
+        Datum::V4(address) => address.octets().len(),
+        Datum::V6(address) => address.octets().len(),
+        Datum::Mac(octets) => octets.as_slice().len(),
+        Datum::Bytes(bytes) => bytes.len(),
+        _ => 0,
+    }
+}
+
+/// Writes the payload of the datum. Asks for a datum that suits the shape, and for a buffer of exactly that payload's length, which
+/// `datum_len` tells.
+#[tactic(auto, using(crate::specs::DataLaws::suits_plain))]
+pub fn write_datum(shape: Shape, datum: &Datum<'_>, buffer: &mut [u8])
+    requires suits { Suits shape (value_of datum.now) }
+    requires exact { length buffer.old ≡ length (written shape (value_of datum.now)) }
+    ensures { buffer.new ≡ written shape (value_of datum.now) }
+{
+    match shape {
+        Shape::U8 => write_u8(datum, buffer),
+        Shape::Le16 => write_le16(datum, buffer),
+        Shape::Le32 => write_le32(datum, buffer),
+        Shape::Le64 => write_le64(datum, buffer),
+        Shape::Be16 => write_be16(datum, buffer),
+        Shape::Be32 => write_be32(datum, buffer),
+        Shape::Be64 => write_be64(datum, buffer),
+        Shape::I32 => write_i32(datum, buffer),
+        Shape::Truth => write_truth(datum, buffer),
+        Shape::TruthOne => write_truth_one(datum, buffer),
+        Shape::Mark => write_mark(datum, buffer),
+        Shape::Name => write_name(datum, buffer),
+        Shape::V4 => write_v4(datum, buffer),
+        Shape::V6 => write_v6(datum, buffer),
+        Shape::GeneveV4 => write_geneve_v4(datum, buffer),
+        Shape::GeneveV6 => write_geneve_v6(datum, buffer),
+        Shape::Ip => write_ip(datum, buffer),
+        Shape::Mac => write_mac(datum, buffer),
+        Shape::BePair => write_be_pair(datum, buffer),
+        Shape::FlagPair => write_flag_pair(datum, buffer),
+        Shape::EmptyOrByte => write_empty_or_byte(datum, buffer),
+        Shape::Scrub => write_scrub(datum, buffer),
+        Shape::Raw => write_raw(datum, buffer),
+        Shape::SelfList | Shape::Peer => unreachable!(),
+    }
+}

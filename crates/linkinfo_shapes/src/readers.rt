@@ -1,0 +1,193 @@
+//! One reader for each shape: the datum of a payload, or what is wrong with the payload.
+#![tactic(auto, unfolding(crate::specs::Data::ReadsAs, crate::specs::Data::reads, crate::specs::Data::Suits))]
+
+ghost use Rattle.std.specs.Prelude.{◌≡◌};
+ghost use Rattle.linkinfo_shapes.specs.Data.{ReadsAs};
+ghost use Rattle.linkinfo_shapes.specs.Shapes.{stripped};
+
+use crate::datum::Datum;
+use crate::shape::Shape;
+use nla_frame::{
+    Cause, parse_i32, parse_ip, parse_ipv4_addr, parse_ipv6_addr, parse_mac, parse_u8, parse_u16,
+    parse_u16_be, parse_u32, parse_u32_be, parse_u64, parse_u64_be,
+};
+use std::net::IpAddr;
+use std::str;
+
+/// The bytes without one closing zero, where there is one.
+#[tactic(auto, unfolding(crate::specs::Shapes::stripped))]
+pub fn strip(payload: &[u8]) -> &[u8]
+    ensures { result.now ≡ stripped payload.now }
+{
+    match payload {
+        [text @ .., 0] => text,
+        _ => payload,
+    }
+}
+
+pub fn read_u8(payload: &[u8]) -> Result<Datum<'_>, Cause>
+    ensures { ReadsAs Shape.U8 payload.now result }
+{
+    Ok(Datum::Number(u64::from(parse_u8(payload)?)))
+}
+
+pub fn read_le16(payload: &[u8]) -> Result<Datum<'_>, Cause>
+    ensures { ReadsAs Shape.Le16 payload.now result }
+{
+    Ok(Datum::Number(u64::from(parse_u16(payload)?)))
+}
+
+pub fn read_le32(payload: &[u8]) -> Result<Datum<'_>, Cause>
+    ensures { ReadsAs Shape.Le32 payload.now result }
+{
+    Ok(Datum::Number(u64::from(parse_u32(payload)?)))
+}
+
+pub fn read_le64(payload: &[u8]) -> Result<Datum<'_>, Cause>
+    ensures { ReadsAs Shape.Le64 payload.now result }
+{
+    Ok(Datum::Number(parse_u64(payload)?))
+}
+
+pub fn read_be16(payload: &[u8]) -> Result<Datum<'_>, Cause>
+    ensures { ReadsAs Shape.Be16 payload.now result }
+{
+    Ok(Datum::Number(u64::from(parse_u16_be(payload)?)))
+}
+
+pub fn read_be32(payload: &[u8]) -> Result<Datum<'_>, Cause>
+    ensures { ReadsAs Shape.Be32 payload.now result }
+{
+    Ok(Datum::Number(u64::from(parse_u32_be(payload)?)))
+}
+
+pub fn read_be64(payload: &[u8]) -> Result<Datum<'_>, Cause>
+    ensures { ReadsAs Shape.Be64 payload.now result }
+{
+    Ok(Datum::Number(parse_u64_be(payload)?))
+}
+
+pub fn read_i32(payload: &[u8]) -> Result<Datum<'_>, Cause>
+    ensures { ReadsAs Shape.I32 payload.now result }
+{
+    Ok(Datum::Signed(parse_i32(payload)?))
+}
+
+pub fn read_truth(payload: &[u8]) -> Result<Datum<'_>, Cause>
+    ensures { ReadsAs Shape.Truth payload.now result }
+{
+    Ok(Datum::Truth(parse_u8(payload)? != 0))
+}
+
+pub fn read_truth_one(payload: &[u8]) -> Result<Datum<'_>, Cause>
+    ensures { ReadsAs Shape.TruthOne payload.now result }
+{
+    Ok(Datum::Truth(parse_u8(payload)? == 1))
+}
+
+pub fn read_mark(payload: &[u8]) -> Result<Datum<'_>, Cause>
+    ensures { ReadsAs Shape.Mark payload.now result }
+{
+    Ok(Datum::Empty)
+}
+
+pub fn read_name(payload: &[u8]) -> Result<Datum<'_>, Cause>
+    ensures { ReadsAs Shape.Name payload.now result }
+{
+    match str::from_utf8(strip(payload)) {
+        Ok(text) => Ok(Datum::Text(text)),
+        Err(_) => Err(Cause::Utf8),
+    }
+}
+
+pub fn read_v4(payload: &[u8]) -> Result<Datum<'_>, Cause>
+    ensures { ReadsAs Shape.V4 payload.now result }
+{
+    Ok(Datum::V4(parse_ipv4_addr(payload)?))
+}
+
+pub fn read_v6(payload: &[u8]) -> Result<Datum<'_>, Cause>
+    ensures { ReadsAs Shape.V6 payload.now result }
+{
+    Ok(Datum::V6(parse_ipv6_addr(payload)?))
+}
+
+pub fn read_geneve_v4(payload: &[u8]) -> Result<Datum<'_>, Cause>
+    ensures { ReadsAs Shape.GeneveV4 payload.now result }
+{
+    match payload.len() {
+        16 => Err(Cause::AddressKind),
+        _ => Ok(Datum::V4(parse_ipv4_addr(payload)?)),
+    }
+}
+
+pub fn read_geneve_v6(payload: &[u8]) -> Result<Datum<'_>, Cause>
+    ensures { ReadsAs Shape.GeneveV6 payload.now result }
+{
+    match payload.len() {
+        4 => Err(Cause::AddressKind),
+        _ => Ok(Datum::V6(parse_ipv6_addr(payload)?)),
+    }
+}
+
+pub fn read_ip(payload: &[u8]) -> Result<Datum<'_>, Cause>
+    ensures { ReadsAs Shape.Ip payload.now result }
+{
+    match parse_ip(payload)? {
+        IpAddr::V4(address) => Ok(Datum::V4(address)),
+        IpAddr::V6(address) => Ok(Datum::V6(address)),
+    }
+}
+
+pub fn read_mac(payload: &[u8]) -> Result<Datum<'_>, Cause>
+    ensures { ReadsAs Shape.Mac payload.now result }
+{
+    Ok(Datum::Mac(parse_mac(payload)?))
+}
+
+pub fn read_be_pair(payload: &[u8]) -> Result<Datum<'_>, Cause>
+    ensures { ReadsAs Shape.BePair payload.now result }
+{
+    match payload {
+        [a, b, c, d] => Ok(Datum::Pair(
+            u32::from(u16::from_be_bytes([*a, *b])),
+            u32::from(u16::from_be_bytes([*c, *d])),
+        )),
+        _ => Err(Cause::Length),
+    }
+}
+
+pub fn read_flag_pair(payload: &[u8]) -> Result<Datum<'_>, Cause>
+    ensures { ReadsAs Shape.FlagPair payload.now result }
+{
+    match payload {
+        [a, b, c, d, e, f, g, h] => Ok(Datum::Pair(
+            u32::from_le_bytes([*a, *b, *c, *d]),
+            u32::from_le_bytes([*e, *f, *g, *h]),
+        )),
+        _ => Err(Cause::Length),
+    }
+}
+
+pub fn read_empty_or_byte(payload: &[u8]) -> Result<Datum<'_>, Cause>
+    ensures { ReadsAs Shape.EmptyOrByte payload.now result }
+{
+    match payload {
+        [] => Ok(Datum::Empty),
+        [byte] => Ok(Datum::Number(u64::from(*byte))),
+        _ => Err(Cause::Length),
+    }
+}
+
+pub fn read_scrub(payload: &[u8]) -> Result<Datum<'_>, Cause>
+    ensures { ReadsAs Shape.Scrub payload.now result }
+{
+    Ok(Datum::Truth(parse_u32(payload)? != 0))
+}
+
+pub fn read_raw(payload: &[u8]) -> Result<Datum<'_>, Cause>
+    ensures { ReadsAs Shape.Raw payload.now result }
+{
+    Ok(Datum::Bytes(payload))
+}
+

@@ -1,0 +1,206 @@
+//! One writer for each shape: the canonical payload of a datum.
+#![tactic(auto, unfolding(crate::specs::Data::Suits, crate::specs::Data::written))]
+
+ghost use Rattle.std.specs.Prelude.{◌≡◌, length};
+ghost use Rattle.linkinfo_shapes.specs.Data.{Suits, value_of, written};
+
+use crate::datum::Datum;
+use crate::shape::Shape;
+use std::net::IpAddr;
+
+pub fn write_u8(datum: &Datum<'_>, buffer: &mut [u8])
+    requires suits { Suits Shape.U8 (value_of datum.now) }
+    requires exact { length buffer.old ≡ length (written Shape.U8 (value_of datum.now)) }
+    ensures { buffer.new ≡ written Shape.U8 (value_of datum.now) }
+{
+    buffer.copy_from_slice(&[datum.u8_or_zero()]);
+}
+
+pub fn write_le16(datum: &Datum<'_>, buffer: &mut [u8])
+    requires suits { Suits Shape.Le16 (value_of datum.now) }
+    requires exact { length buffer.old ≡ length (written Shape.Le16 (value_of datum.now)) }
+    ensures { buffer.new ≡ written Shape.Le16 (value_of datum.now) }
+{
+    buffer.copy_from_slice(&datum.u16_or_zero().to_le_bytes());
+}
+
+pub fn write_le32(datum: &Datum<'_>, buffer: &mut [u8])
+    requires suits { Suits Shape.Le32 (value_of datum.now) }
+    requires exact { length buffer.old ≡ length (written Shape.Le32 (value_of datum.now)) }
+    ensures { buffer.new ≡ written Shape.Le32 (value_of datum.now) }
+{
+    buffer.copy_from_slice(&datum.u32_or_zero().to_le_bytes());
+}
+
+pub fn write_le64(datum: &Datum<'_>, buffer: &mut [u8])
+    requires suits { Suits Shape.Le64 (value_of datum.now) }
+    requires exact { length buffer.old ≡ length (written Shape.Le64 (value_of datum.now)) }
+    ensures { buffer.new ≡ written Shape.Le64 (value_of datum.now) }
+{
+    buffer.copy_from_slice(&datum.u64_or_zero().to_le_bytes());
+}
+
+pub fn write_be16(datum: &Datum<'_>, buffer: &mut [u8])
+    requires suits { Suits Shape.Be16 (value_of datum.now) }
+    requires exact { length buffer.old ≡ length (written Shape.Be16 (value_of datum.now)) }
+    ensures { buffer.new ≡ written Shape.Be16 (value_of datum.now) }
+{
+    buffer.copy_from_slice(&datum.u16_or_zero().to_be_bytes());
+}
+
+pub fn write_be32(datum: &Datum<'_>, buffer: &mut [u8])
+    requires suits { Suits Shape.Be32 (value_of datum.now) }
+    requires exact { length buffer.old ≡ length (written Shape.Be32 (value_of datum.now)) }
+    ensures { buffer.new ≡ written Shape.Be32 (value_of datum.now) }
+{
+    buffer.copy_from_slice(&datum.u32_or_zero().to_be_bytes());
+}
+
+pub fn write_be64(datum: &Datum<'_>, buffer: &mut [u8])
+    requires suits { Suits Shape.Be64 (value_of datum.now) }
+    requires exact { length buffer.old ≡ length (written Shape.Be64 (value_of datum.now)) }
+    ensures { buffer.new ≡ written Shape.Be64 (value_of datum.now) }
+{
+    buffer.copy_from_slice(&datum.u64_or_zero().to_be_bytes());
+}
+
+pub fn write_i32(datum: &Datum<'_>, buffer: &mut [u8])
+    requires suits { Suits Shape.I32 (value_of datum.now) }
+    requires exact { length buffer.old ≡ length (written Shape.I32 (value_of datum.now)) }
+    ensures { buffer.new ≡ written Shape.I32 (value_of datum.now) }
+{
+    buffer.copy_from_slice(&datum.i32_or_zero().to_le_bytes());
+}
+
+pub fn write_truth(datum: &Datum<'_>, buffer: &mut [u8])
+    requires suits { Suits Shape.Truth (value_of datum.now) }
+    requires exact { length buffer.old ≡ length (written Shape.Truth (value_of datum.now)) }
+    ensures { buffer.new ≡ written Shape.Truth (value_of datum.now) }
+{
+    buffer.copy_from_slice(&[u8::from(datum.bool_or_false())]);
+}
+
+pub fn write_truth_one(datum: &Datum<'_>, buffer: &mut [u8])
+    requires suits { Suits Shape.TruthOne (value_of datum.now) }
+    requires exact { length buffer.old ≡ length (written Shape.TruthOne (value_of datum.now)) }
+    ensures { buffer.new ≡ written Shape.TruthOne (value_of datum.now) }
+{
+    buffer.copy_from_slice(&[u8::from(datum.bool_or_false())]);
+}
+
+pub fn write_mark(_datum: &Datum<'_>, buffer: &mut [u8])
+    requires suits { Suits Shape.Mark (value_of _datum.now) }
+    requires exact { length buffer.old ≡ length (written Shape.Mark (value_of _datum.now)) }
+    ensures { buffer.new ≡ written Shape.Mark (value_of _datum.now) }
+{
+    buffer.copy_from_slice(&[]);
+}
+
+pub fn write_name(datum: &Datum<'_>, buffer: &mut [u8])
+    requires suits { Suits Shape.Name (value_of datum.now) }
+    requires exact { length buffer.old ≡ length (written Shape.Name (value_of datum.now)) }
+    ensures { buffer.new ≡ written Shape.Name (value_of datum.now) }
+{
+    let text = datum.text_or_empty().as_bytes();
+    let end = text.len();
+    buffer[..end].copy_from_slice(text);
+    buffer[end..].copy_from_slice(&[0]);
+}
+
+pub fn write_v4(datum: &Datum<'_>, buffer: &mut [u8])
+    requires suits { Suits Shape.V4 (value_of datum.now) }
+    requires exact { length buffer.old ≡ length (written Shape.V4 (value_of datum.now)) }
+    ensures { buffer.new ≡ written Shape.V4 (value_of datum.now) }
+{
+    buffer.copy_from_slice(&datum.ipv4_or_unspecified().octets());
+}
+
+pub fn write_v6(datum: &Datum<'_>, buffer: &mut [u8])
+    requires suits { Suits Shape.V6 (value_of datum.now) }
+    requires exact { length buffer.old ≡ length (written Shape.V6 (value_of datum.now)) }
+    ensures { buffer.new ≡ written Shape.V6 (value_of datum.now) }
+{
+    buffer.copy_from_slice(&datum.ipv6_or_unspecified().octets());
+}
+
+pub fn write_geneve_v4(datum: &Datum<'_>, buffer: &mut [u8])
+    requires suits { Suits Shape.GeneveV4 (value_of datum.now) }
+    requires exact { length buffer.old ≡ length (written Shape.GeneveV4 (value_of datum.now)) }
+    ensures { buffer.new ≡ written Shape.GeneveV4 (value_of datum.now) }
+{
+    buffer.copy_from_slice(&datum.ipv4_or_unspecified().octets());
+}
+
+pub fn write_geneve_v6(datum: &Datum<'_>, buffer: &mut [u8])
+    requires suits { Suits Shape.GeneveV6 (value_of datum.now) }
+    requires exact { length buffer.old ≡ length (written Shape.GeneveV6 (value_of datum.now)) }
+    ensures { buffer.new ≡ written Shape.GeneveV6 (value_of datum.now) }
+{
+    buffer.copy_from_slice(&datum.ipv6_or_unspecified().octets());
+}
+
+pub fn write_ip(datum: &Datum<'_>, buffer: &mut [u8])
+    requires suits { Suits Shape.Ip (value_of datum.now) }
+    requires exact { length buffer.old ≡ length (written Shape.Ip (value_of datum.now)) }
+    ensures { buffer.new ≡ written Shape.Ip (value_of datum.now) }
+{
+    match datum.ip_or_unspecified() {
+        IpAddr::V4(address) => buffer.copy_from_slice(&address.octets()),
+        IpAddr::V6(address) => buffer.copy_from_slice(&address.octets()),
+    }
+}
+
+pub fn write_mac(datum: &Datum<'_>, buffer: &mut [u8])
+    requires suits { Suits Shape.Mac (value_of datum.now) }
+    requires exact { length buffer.old ≡ length (written Shape.Mac (value_of datum.now)) }
+    ensures { buffer.new ≡ written Shape.Mac (value_of datum.now) }
+{
+    buffer.copy_from_slice(&datum.mac_or_zeros());
+}
+
+pub fn write_be_pair(datum: &Datum<'_>, buffer: &mut [u8])
+    requires suits { Suits Shape.BePair (value_of datum.now) }
+    requires exact { length buffer.old ≡ length (written Shape.BePair (value_of datum.now)) }
+    ensures { buffer.new ≡ written Shape.BePair (value_of datum.now) }
+{
+    let (first, second) = datum.u16_pair_or_zeros();
+    buffer[..2].copy_from_slice(&first.to_be_bytes());
+    buffer[2..].copy_from_slice(&second.to_be_bytes());
+}
+
+pub fn write_flag_pair(datum: &Datum<'_>, buffer: &mut [u8])
+    requires suits { Suits Shape.FlagPair (value_of datum.now) }
+    requires exact { length buffer.old ≡ length (written Shape.FlagPair (value_of datum.now)) }
+    ensures { buffer.new ≡ written Shape.FlagPair (value_of datum.now) }
+{
+    let (flags, mask) = datum.u32_pair_or_zeros();
+    buffer[..4].copy_from_slice(&flags.to_le_bytes());
+    buffer[4..].copy_from_slice(&mask.to_le_bytes());
+}
+
+pub fn write_empty_or_byte(datum: &Datum<'_>, buffer: &mut [u8])
+    requires suits { Suits Shape.EmptyOrByte (value_of datum.now) }
+    requires exact { length buffer.old ≡ length (written Shape.EmptyOrByte (value_of datum.now)) }
+    ensures { buffer.new ≡ written Shape.EmptyOrByte (value_of datum.now) }
+{
+    if let Some(byte) = datum.byte_or_none() {
+        buffer.copy_from_slice(&[byte]);
+    }
+}
+
+pub fn write_scrub(datum: &Datum<'_>, buffer: &mut [u8])
+    requires suits { Suits Shape.Scrub (value_of datum.now) }
+    requires exact { length buffer.old ≡ length (written Shape.Scrub (value_of datum.now)) }
+    ensures { buffer.new ≡ written Shape.Scrub (value_of datum.now) }
+{
+    buffer.copy_from_slice(&u32::from(datum.bool_or_false()).to_le_bytes());
+}
+
+pub fn write_raw(datum: &Datum<'_>, buffer: &mut [u8])
+    requires suits { Suits Shape.Raw (value_of datum.now) }
+    requires exact { length buffer.old ≡ length (written Shape.Raw (value_of datum.now)) }
+    ensures { buffer.new ≡ written Shape.Raw (value_of datum.now) }
+{
+    buffer.copy_from_slice(datum.bytes_or_empty());
+}
+
