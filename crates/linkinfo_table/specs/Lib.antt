@@ -1,4 +1,6 @@
 pub mod Codecs
+pub mod FamilyRowLaws
+pub mod FamilyRows
 pub mod ListLaws
 pub mod Lists
 pub mod Peers
