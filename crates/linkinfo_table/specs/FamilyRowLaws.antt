@@ -68,12 +68,13 @@ table_owes {F = F} attribute (r ∷ rows) k n =
           subst (λ (x : Option (PlainRow F)). RowOwes attribute n (row_of (plain_or_absent x))) (sym (cond-false (n == r.number) _ _ other)) (table_owes attribute rows k.1 n)
     ]
 
-plain_flat : {F : Type 0} (o : Option (PlainRow F)) → IsFlat (plain_or_absent o)
-plain_flat (Some r) = tt
-plain_flat None = tt
-
-pub table_flat : {F : Type 0} (rows : List (PlainRow F)) (n : ℕ) → IsFlat (table_row rows n)
-table_flat rows n = plain_flat (find rows n)
+pub table_flat : {F : Type 0} (attribute : F → Attribute) (rows : List (PlainRow F)) → EachKeeps attribute rows → (n : ℕ) → IsFlat (table_row rows n)
+table_flat attribute [] k n = tt
+table_flat {F = F} attribute (r ∷ rows) k n =
+    elim (cases_Bool (n == r.number)) [
+      | inl same ↦ subst (λ (x : Option (PlainRow F)). IsFlat (plain_or_absent x)) (sym (cond-true (n == r.number) _ _ same)) k.0.plain
+      | inr other ↦ subst (λ (x : Option (PlainRow F)). IsFlat (plain_or_absent x)) (sym (cond-false (n == r.number) _ _ other)) (table_flat attribute rows k.1 n)
+    ]
 
 -- the table says what the table of all families says, where its rows without their labels are that one's
 pub table_lookup : {F : Type 0} (rows : List (PlainRow F)) (n : ℕ) → lookup_of (table_row rows n) ≡ lookup_in (found (without_labels rows) n)

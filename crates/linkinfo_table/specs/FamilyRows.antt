@@ -7,7 +7,7 @@ use Rattle.nla_frame.specs.declared.error.Family.{Family}
 use Rattle.nla_frame.specs.declared.default_nla.DefaultNla.{DefaultNla}
 use Rattle.linkinfo_shapes.specs.declared.shape.Shape.{Shape}
 use Rattle.linkinfo_shapes.specs.declared.shape.Shape.TheVariants.{Name, Raw}
-use Rattle.linkinfo_shapes.specs.Shapes.{Carrier, means, canon, Holds, payload_alike, needs_memory}
+use Rattle.linkinfo_shapes.specs.Shapes.{IsPlain, Carrier, means, canon, Holds, payload_alike, needs_memory}
 use Rattle.linkinfo_shapes.specs.Data.{Value, value_of, unwrap, written, Suits}
 use Rattle.linkinfo_shapes.specs.Table.{found, shape_of}
 use Rattle.linkinfo_table.specs.declared.lookup.Lookup.{Lookup}
@@ -56,6 +56,7 @@ lookup_of Absent = lookup.Unknown
 
 -- a row that the table of shapes reads
 abbrev pub IsFlat : {F : Type 0} → FamilyRow F → Type 0
+IsFlat (Plain shape label) = IsPlain shape
 IsFlat (Custom shape codec label) = ⊥
 IsFlat _ = Unit {0}
 
@@ -104,6 +105,7 @@ lookup_in None = lookup.Unknown
 -- a label keeps the number and the datum of its row
 pub record Keeps {F : Type 0} (attribute : F → Attribute) (r : PlainRow F) : Type 0 where
   pub low : r.number < 16384
+  pub plain : IsPlain r.shape
   pub keeps : (x : Carrier r.shape) → attribute (r.label x) ≡ record { kind = r.number; value = canon r.shape x }
 
 abbrev pub EachKeeps : {F : Type 0} → (F → Attribute) → List (PlainRow F) → Type 0
