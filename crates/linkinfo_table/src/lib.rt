@@ -3,6 +3,7 @@
 
 mod family;
 mod first;
+mod flat;
 pub mod laws;
 mod list;
 mod lookup;
