@@ -102,6 +102,10 @@ abbrev pub lookup_in : Option Shape → Lookup
 lookup_in (Some shape) = lookup.Is shape
 lookup_in None = lookup.Unknown
 
+-- the canonical attribute of a row's datum
+abbrev pub typed : (number : ℕ) (shape : Shape) → Carrier shape → Attribute
+typed number shape x = record { kind = number; value = canon shape x }
+
 -- a label keeps the number and the datum of its row
 pub record Keeps {F : Type 0} (attribute : F → Attribute) (r : PlainRow F) : Type 0 where
   pub low : r.number < 16384

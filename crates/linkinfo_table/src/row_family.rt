@@ -9,7 +9,7 @@ ghost use Rattle.linkinfo_table.specs.FamilyRows.{FamilyRow, IsFlat, IsLabelled,
 
 use crate::lookup::Lookup;
 use crate::part::Part;
-use linkinfo_shapes::{Datum, table_shape};
+use linkinfo_shapes::Datum;
 use nla_frame::{DefaultNla, Family, Nla};
 use std::alloc::{AllocError, Global};
 

@@ -5,13 +5,14 @@ ghost use Rattle.std.specs.Str.{bytes_eq};
 ghost use Rattle.nla_frame.specs.Answers.{CertainUnless, Gives, verdict};
 ghost use Rattle.nla_frame.specs.Attribute.{Fits, masked};
 ghost use Rattle.linkinfo_shapes.specs.Shapes.{IsAccepted, IsPlain, payload_alike};
-ghost use Rattle.linkinfo_table.specs.FamilyRows.{IsFlat, row_of};
+ghost use Rattle.linkinfo_shapes.specs.Table.{shape_of};
+ghost use Rattle.linkinfo_table.specs.FamilyRows.{IsFlat, lookup_in, row_of};
 ghost use Rattle.linkinfo_table.specs.Rows.{alike_in, meaning_in, memory_in};
 
 use crate::lookup::Lookup;
 use crate::part::Part;
 use crate::row_family::RowFamily;
-use linkinfo_shapes::{Shape, datum_len, read_datum, shape_check, shape_same, write_datum};
+use linkinfo_shapes::{Shape, datum_len, read_datum, shape_check, shape_same, table_shape, write_datum};
 use nla_frame::{Cause, DecodeError, DefaultNla, Family, Nla, NlaBuffer, Parseable};
 use std::alloc::Global;
 
@@ -22,6 +23,16 @@ fn fault(family: Family, kind: u16, cause: Cause) -> DecodeError
         family,
         kind,
         cause,
+    }
+}
+
+/// What the table of all families says of a masked type: its shape, or that it has none.
+pub fn table_lookup(family: Family, kind: u16) -> Lookup
+    ensures { result ≡ lookup_in (shape_of family kind) }
+{
+    match table_shape(family, kind) {
+        Some(shape) => Lookup::Is(shape),
+        None => Lookup::Unknown,
     }
 }
 

@@ -1,0 +1,8 @@
+//! Attributes of xfrm and vrf links.
+#![tactic(auto)]
+
+mod vrf;
+mod xfrm;
+
+pub use vrf::{InfoVrf, InfoVrfPort};
+pub use xfrm::InfoXfrm;
