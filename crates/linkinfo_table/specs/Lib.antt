@@ -2,6 +2,7 @@ pub mod Codecs
 pub mod FamilyRowLaws
 pub mod FamilyRows
 pub mod FlatLaws
+pub mod Levels
 pub mod ListLaws
 pub mod Lists
 pub mod Peers
