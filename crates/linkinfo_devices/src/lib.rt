@@ -1,6 +1,8 @@
 //! Attributes of xfrm and vrf links.
 #![tactic(auto)]
 
+#[cfg(test)]
+mod tests;
 mod vrf;
 mod xfrm;
 
