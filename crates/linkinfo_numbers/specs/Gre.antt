@@ -1,0 +1,64 @@
+-- The numbers and texts of GRE tunnels.
+use Rattle.std.specs.Prelude.{ℕ, [], ◌∷◌, refl, List, codes, ◌++◌}
+use Rattle.std.specs.Fmt.{decimal}
+use Rattle.std.proofs.Common.{inl, inr}
+use Rattle.linkinfo_numbers.specs.declared.gre.GreEncapType.{GreEncapType}
+use Rattle.linkinfo_numbers.specs.declared.gre.GreEncapType.TheVariants as encapsulation
+use Rattle.linkinfo_numbers.specs.declared.gre.ErSpanDir.{ErSpanDir}
+use Rattle.linkinfo_numbers.specs.declared.gre.ErSpanDir.TheVariants as direction
+use Rattle.linkinfo_numbers.specs.Number.{Numbering, IsNumbering, value_of}
+
+
+-- the number of each value
+abbrev pub gre_encap_type_number : GreEncapType → ℕ
+gre_encap_type_number encapsulation.None = 0
+gre_encap_type_number encapsulation.Fou = 1
+gre_encap_type_number encapsulation.Gue = 2
+gre_encap_type_number (encapsulation.Other n) = n
+
+abbrev pub gre_encap_type_numbering : Numbering GreEncapType
+gre_encap_type_numbering = record { number = gre_encap_type_number; other = encapsulation.Other; named = encapsulation.None ∷ encapsulation.Fou ∷ encapsulation.Gue ∷ [] }
+
+-- the value of each number
+abbrev pub gre_encap_type : ℕ → GreEncapType
+gre_encap_type n = value_of gre_encap_type_numbering n
+
+pub gre_encap_type_numbering_holds : IsNumbering gre_encap_type_numbering
+gre_encap_type_numbering_holds = record {
+  other_number = λ n. refl;
+  reads_back = elim [ encapsulation.None ↦ inr refl | encapsulation.Fou ↦ inr refl | encapsulation.Gue ↦ inr refl | encapsulation.Other n ↦ inl refl ];
+  apart = (λ p. cc, (λ p. cc, (λ p. cc, tt)));
+}
+
+-- the text of each value
+abbrev pub gre_encap_type_text : GreEncapType → List ℕ
+gre_encap_type_text encapsulation.None = codes "none"
+gre_encap_type_text encapsulation.Fou = codes "fou"
+gre_encap_type_text encapsulation.Gue = codes "gue"
+gre_encap_type_text (encapsulation.Other n) = codes "other(" ++ decimal n ++ codes ")"
+
+-- the number of each value
+abbrev pub er_span_dir_number : ErSpanDir → ℕ
+er_span_dir_number direction.Ingress = 0
+er_span_dir_number direction.Egress = 1
+er_span_dir_number (direction.Other n) = n
+
+abbrev pub er_span_dir_numbering : Numbering ErSpanDir
+er_span_dir_numbering = record { number = er_span_dir_number; other = direction.Other; named = direction.Ingress ∷ direction.Egress ∷ [] }
+
+-- the value of each number
+abbrev pub er_span_dir : ℕ → ErSpanDir
+er_span_dir n = value_of er_span_dir_numbering n
+
+pub er_span_dir_numbering_holds : IsNumbering er_span_dir_numbering
+er_span_dir_numbering_holds = record {
+  other_number = λ n. refl;
+  reads_back = elim [ direction.Ingress ↦ inr refl | direction.Egress ↦ inr refl | direction.Other n ↦ inl refl ];
+  apart = (λ p. cc, (λ p. cc, tt));
+}
+
+-- the text of each value
+abbrev pub er_span_dir_text : ErSpanDir → List ℕ
+er_span_dir_text direction.Ingress = codes "ingress"
+er_span_dir_text direction.Egress = codes "egress"
+er_span_dir_text (direction.Other n) = codes "other(" ++ decimal n ++ codes ")"

@@ -1,0 +1,34 @@
+-- The numbers and texts of GTP tunnels.
+use Rattle.std.specs.Prelude.{ℕ, [], ◌∷◌, refl, List, codes, ◌++◌}
+use Rattle.std.specs.Fmt.{decimal}
+use Rattle.std.proofs.Common.{inl, inr}
+use Rattle.linkinfo_numbers.specs.declared.gtp.GtpRole.{GtpRole}
+use Rattle.linkinfo_numbers.specs.declared.gtp.GtpRole.TheVariants as role
+use Rattle.linkinfo_numbers.specs.Number.{Numbering, IsNumbering, value_of}
+
+
+-- the number of each value
+abbrev pub gtp_role_number : GtpRole → ℕ
+gtp_role_number role.Ggsn = 0
+gtp_role_number role.Sgsn = 1
+gtp_role_number (role.Other n) = n
+
+abbrev pub gtp_role_numbering : Numbering GtpRole
+gtp_role_numbering = record { number = gtp_role_number; other = role.Other; named = role.Ggsn ∷ role.Sgsn ∷ [] }
+
+-- the value of each number
+abbrev pub gtp_role : ℕ → GtpRole
+gtp_role n = value_of gtp_role_numbering n
+
+pub gtp_role_numbering_holds : IsNumbering gtp_role_numbering
+gtp_role_numbering_holds = record {
+  other_number = λ n. refl;
+  reads_back = elim [ role.Ggsn ↦ inr refl | role.Sgsn ↦ inr refl | role.Other n ↦ inl refl ];
+  apart = (λ p. cc, (λ p. cc, tt));
+}
+
+-- the text of each value
+abbrev pub gtp_role_text : GtpRole → List ℕ
+gtp_role_text role.Ggsn = codes "ggsn"
+gtp_role_text role.Sgsn = codes "sgsn"
+gtp_role_text (role.Other n) = codes "unknown(" ++ decimal n ++ codes ")"

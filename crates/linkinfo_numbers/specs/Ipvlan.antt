@@ -1,0 +1,46 @@
+-- The numbers and words of ipvlan and ipvtap links.
+use Rattle.std.specs.Prelude.{ℕ, [], ◌∷◌, refl, List, codes, Result}
+use Rattle.std.specs.Fmt.{decimal}
+use Rattle.std.proofs.Common.{inl, inr}
+use Rattle.nla_frame.specs.declared.error.Family.TheVariants as family
+use Rattle.nla_frame.specs.declared.error.DecodeError.{DecodeError}
+use Rattle.linkinfo_numbers.specs.declared.ipvlan.IpVlanMode.{IpVlanMode}
+use Rattle.linkinfo_numbers.specs.declared.ipvlan.IpVlanMode.TheVariants as mode
+use Rattle.linkinfo_numbers.specs.Number.{Numbering, IsNumbering, value_of}
+use Rattle.linkinfo_numbers.specs.Word.{value_of_word, ReadsWords, reads_words}
+
+
+-- the number of each value
+abbrev pub ip_vlan_mode_number : IpVlanMode → ℕ
+ip_vlan_mode_number mode.L2 = 0
+ip_vlan_mode_number mode.L3 = 1
+ip_vlan_mode_number mode.L3S = 2
+ip_vlan_mode_number (mode.Other n) = n
+
+abbrev pub ip_vlan_mode_numbering : Numbering IpVlanMode
+ip_vlan_mode_numbering = record { number = ip_vlan_mode_number; other = mode.Other; named = mode.L2 ∷ mode.L3 ∷ mode.L3S ∷ [] }
+
+-- the value of each number
+abbrev pub ip_vlan_mode : ℕ → IpVlanMode
+ip_vlan_mode n = value_of ip_vlan_mode_numbering n
+
+pub ip_vlan_mode_numbering_holds : IsNumbering ip_vlan_mode_numbering
+ip_vlan_mode_numbering_holds = record {
+  other_number = λ n. refl;
+  reads_back = elim [ mode.L2 ↦ inr refl | mode.L3 ↦ inr refl | mode.L3S ↦ inr refl | mode.Other n ↦ inl refl ];
+  apart = (λ p. cc, (λ p. cc, (λ p. cc, tt)));
+}
+
+-- the text of each value
+abbrev pub ip_vlan_mode_text : IpVlanMode → List ℕ
+ip_vlan_mode_text mode.L2 = codes "l2"
+ip_vlan_mode_text mode.L3 = codes "l3"
+ip_vlan_mode_text mode.L3S = codes "l3s"
+ip_vlan_mode_text (mode.Other n) = decimal n
+
+-- the value of a word, or its fault
+abbrev pub ip_vlan_mode_of_word : List ℕ → Result IpVlanMode DecodeError
+ip_vlan_mode_of_word word = value_of_word family.IpVlan ip_vlan_mode_text ip_vlan_mode_numbering.named word
+
+pub ip_vlan_mode_words_hold : ReadsWords family.IpVlan ip_vlan_mode_text ip_vlan_mode_numbering.named
+ip_vlan_mode_words_hold = reads_words family.IpVlan ip_vlan_mode_text ip_vlan_mode_numbering.named (refl, (refl, (refl, tt)))

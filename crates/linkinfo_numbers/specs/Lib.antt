@@ -1,0 +1,15 @@
+pub mod Amt
+pub mod Ethernet
+pub mod Geneve
+pub mod Gre
+pub mod Gtp
+pub mod Ip
+pub mod Ipoib
+pub mod Ipvlan
+pub mod Macsec
+pub mod Macvlan
+pub mod Netkit
+pub mod Number
+pub mod Tunnel
+pub mod Vxlan
+pub mod Word
