@@ -5,7 +5,6 @@ use Rattle.linkinfo_numbers.specs.declared.ethernet.EthernetProtocol.{EthernetPr
 use Rattle.linkinfo_numbers.specs.declared.ethernet.EthernetProtocol.TheVariants as protocol
 use Rattle.linkinfo_numbers.specs.Number.{Numbering, IsNumbering, value_of}
 
-
 -- the number of each value
 abbrev pub ethernet_protocol_number : EthernetProtocol → ℕ
 ethernet_protocol_number protocol.MplsUc = 0x8847

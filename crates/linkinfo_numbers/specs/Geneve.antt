@@ -1,5 +1,5 @@
 -- The numbers and words of Geneve tunnels.
-use Rattle.std.specs.Prelude.{ℕ, [], ◌∷◌, refl, List, codes, Result}
+use Rattle.std.specs.Prelude.{ℕ, List, [], ◌∷◌, codes, Result, refl}
 use Rattle.std.specs.Fmt.{decimal}
 use Rattle.std.proofs.Common.{inl, inr}
 use Rattle.nla_frame.specs.declared.error.Family.TheVariants as family
@@ -8,7 +8,6 @@ use Rattle.linkinfo_numbers.specs.declared.geneve.GeneveDf.{GeneveDf}
 use Rattle.linkinfo_numbers.specs.declared.geneve.GeneveDf.TheVariants as df
 use Rattle.linkinfo_numbers.specs.Number.{Numbering, IsNumbering, value_of}
 use Rattle.linkinfo_numbers.specs.Word.{value_of_word, ReadsWords, reads_words}
-
 
 -- the number of each value
 abbrev pub geneve_df_number : GeneveDf → ℕ

@@ -1,11 +1,10 @@
 -- The numbers and texts of GTP tunnels.
-use Rattle.std.specs.Prelude.{ℕ, [], ◌∷◌, refl, List, codes, ◌++◌}
+use Rattle.std.specs.Prelude.{ℕ, List, [], ◌∷◌, ◌++◌, codes, refl}
 use Rattle.std.specs.Fmt.{decimal}
 use Rattle.std.proofs.Common.{inl, inr}
 use Rattle.linkinfo_numbers.specs.declared.gtp.GtpRole.{GtpRole}
 use Rattle.linkinfo_numbers.specs.declared.gtp.GtpRole.TheVariants as role
 use Rattle.linkinfo_numbers.specs.Number.{Numbering, IsNumbering, value_of}
-
 
 -- the number of each value
 abbrev pub gtp_role_number : GtpRole → ℕ

@@ -5,7 +5,6 @@ use Rattle.linkinfo_numbers.specs.declared.ip.IpProtocol.{IpProtocol}
 use Rattle.linkinfo_numbers.specs.declared.ip.IpProtocol.TheVariants as protocol
 use Rattle.linkinfo_numbers.specs.Number.{Numbering, IsNumbering, value_of}
 
-
 -- the number of each value
 abbrev pub ip_protocol_number : IpProtocol → ℕ
 ip_protocol_number protocol.Ipip = 4

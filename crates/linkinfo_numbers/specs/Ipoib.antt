@@ -5,7 +5,6 @@ use Rattle.linkinfo_numbers.specs.declared.ipoib.IpoibMode.{IpoibMode}
 use Rattle.linkinfo_numbers.specs.declared.ipoib.IpoibMode.TheVariants as mode
 use Rattle.linkinfo_numbers.specs.Number.{Numbering, IsNumbering, value_of}
 
-
 -- the number of each value
 abbrev pub ipoib_mode_number : IpoibMode → ℕ
 ipoib_mode_number mode.Datagram = 0

@@ -1,14 +1,15 @@
 -- The numbers and words of ipvlan and ipvtap links.
-use Rattle.std.specs.Prelude.{ℕ, [], ◌∷◌, refl, List, codes, Result}
+use Rattle.std.specs.Prelude.{◌≡◌, ℕ, List, [], ◌∷◌, codes, Result, refl}
 use Rattle.std.specs.Fmt.{decimal}
 use Rattle.std.proofs.Common.{inl, inr}
+use Rattle.bitflags.specs.Sets.{known_bits, known_from}
 use Rattle.nla_frame.specs.declared.error.Family.TheVariants as family
 use Rattle.nla_frame.specs.declared.error.DecodeError.{DecodeError}
 use Rattle.linkinfo_numbers.specs.declared.ipvlan.IpVlanMode.{IpVlanMode}
 use Rattle.linkinfo_numbers.specs.declared.ipvlan.IpVlanMode.TheVariants as mode
+use Rattle.linkinfo_numbers.specs.declared.ipvlan.IpVlanFlags.{IpVlanFlags}
 use Rattle.linkinfo_numbers.specs.Number.{Numbering, IsNumbering, value_of}
 use Rattle.linkinfo_numbers.specs.Word.{value_of_word, ReadsWords, reads_words}
-
 
 -- the number of each value
 abbrev pub ip_vlan_mode_number : IpVlanMode → ℕ
@@ -44,3 +45,18 @@ ip_vlan_mode_of_word word = value_of_word family.IpVlan ip_vlan_mode_text ip_vla
 
 pub ip_vlan_mode_words_hold : ReadsWords family.IpVlan ip_vlan_mode_text ip_vlan_mode_numbering.named
 ip_vlan_mode_words_hold = reads_words family.IpVlan ip_vlan_mode_text ip_vlan_mode_numbering.named (refl, (refl, (refl, tt)))
+
+-- the flags by their names, and at last one without a name that has every bit
+abbrev pub ip_vlan_flags_table : List (List ℕ × ℕ)
+ip_vlan_flags_table =
+    (codes "Private", 1) ∷
+    (codes "Vepa", 2) ∷
+    (codes "", 0xffff) ∷ []
+
+pub ip_vlan_flags_known : known_bits ip_vlan_flags_table ≡ 0xffff
+unfolding known_from
+ip_vlan_flags_known = refl
+
+-- the set of these bits
+abbrev pub ip_vlan_flags : ℕ → IpVlanFlags
+ip_vlan_flags bits = record { 0 = bits }

@@ -1,5 +1,6 @@
 pub mod Amt
 pub mod Ethernet
+pub mod Flags
 pub mod Geneve
 pub mod Gre
 pub mod Gtp
@@ -10,6 +11,7 @@ pub mod Macsec
 pub mod Macvlan
 pub mod Netkit
 pub mod Number
+pub mod Rmnet
 pub mod Tunnel
 pub mod Vxlan
 pub mod Word

@@ -9,7 +9,6 @@ use Rattle.linkinfo_numbers.specs.declared.macsec.MacSecOffload.{MacSecOffload}
 use Rattle.linkinfo_numbers.specs.declared.macsec.MacSecOffload.TheVariants as offload
 use Rattle.linkinfo_numbers.specs.Number.{Numbering, IsNumbering, value_of}
 
-
 -- the number of each value
 abbrev pub mac_sec_cipher_id_number : MacSecCipherId → ℕ
 mac_sec_cipher_id_number cipher.DefaultGcmAes128 = 0x0080020001000001

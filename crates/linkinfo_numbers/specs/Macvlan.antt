@@ -1,16 +1,17 @@
 -- The numbers and words of macvlan and macvtap links.
-use Rattle.std.specs.Prelude.{ℕ, [], ◌∷◌, refl, List, codes, Result}
+use Rattle.std.specs.Prelude.{◌≡◌, ℕ, List, [], ◌∷◌, codes, Result, refl}
 use Rattle.std.specs.Fmt.{decimal}
 use Rattle.std.proofs.Common.{inl, inr}
+use Rattle.bitflags.specs.Sets.{known_bits, known_from}
 use Rattle.nla_frame.specs.declared.error.Family.TheVariants as family
 use Rattle.nla_frame.specs.declared.error.DecodeError.{DecodeError}
 use Rattle.linkinfo_numbers.specs.declared.macvlan.MacVlanMode.{MacVlanMode}
 use Rattle.linkinfo_numbers.specs.declared.macvlan.MacVlanMode.TheVariants as mode
 use Rattle.linkinfo_numbers.specs.declared.macvlan.MacVlanMacAddressMode.{MacVlanMacAddressMode}
 use Rattle.linkinfo_numbers.specs.declared.macvlan.MacVlanMacAddressMode.TheVariants as address_mode
+use Rattle.linkinfo_numbers.specs.declared.macvlan.MacVlanFlags.{MacVlanFlags}
 use Rattle.linkinfo_numbers.specs.Number.{Numbering, IsNumbering, value_of}
 use Rattle.linkinfo_numbers.specs.Word.{value_of_word, ReadsWords, reads_words}
-
 
 -- the number of each value
 abbrev pub mac_vlan_mode_number : MacVlanMode → ℕ
@@ -72,3 +73,18 @@ mac_vlan_mac_address_mode_numbering_holds = record {
   reads_back = elim [ address_mode.Add ↦ inr refl | address_mode.Del ↦ inr refl | address_mode.Flush ↦ inr refl | address_mode.Set ↦ inr refl | address_mode.Other n ↦ inl refl ];
   apart = (λ p. cc, (λ p. cc, (λ p. cc, (λ p. cc, tt))));
 }
+
+-- the flags by their names, and at last one without a name that has every bit
+abbrev pub mac_vlan_flags_table : List (List ℕ × ℕ)
+mac_vlan_flags_table =
+    (codes "NoPromisc", 1) ∷
+    (codes "NoDst", 2) ∷
+    (codes "", 0xffff) ∷ []
+
+pub mac_vlan_flags_known : known_bits mac_vlan_flags_table ≡ 0xffff
+unfolding known_from
+mac_vlan_flags_known = refl
+
+-- the set of these bits
+abbrev pub mac_vlan_flags : ℕ → MacVlanFlags
+mac_vlan_flags bits = record { 0 = bits }

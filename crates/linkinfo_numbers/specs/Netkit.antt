@@ -13,7 +13,6 @@ use Rattle.linkinfo_numbers.specs.declared.netkit.NetkitScrub.TheVariants as scr
 use Rattle.linkinfo_numbers.specs.Number.{Numbering, IsNumbering, value_of}
 use Rattle.linkinfo_numbers.specs.Word.{value_of_word, ReadsWords, reads_words}
 
-
 -- the number of each value
 abbrev pub netkit_mode_number : NetkitMode → ℕ
 netkit_mode_number mode.L2 = 0
@@ -81,6 +80,7 @@ netkit_policy_of_word word = value_of_word family.Netkit netkit_policy_text netk
 
 pub netkit_policy_words_hold : ReadsWords family.Netkit netkit_policy_text netkit_policy_numbering.named
 netkit_policy_words_hold = reads_words family.Netkit netkit_policy_text netkit_policy_numbering.named (refl, (refl, (refl, tt)))
+
 -- the number of each value
 abbrev pub netkit_scrub_number : NetkitScrub → ℕ
 netkit_scrub_number scrub.None = 0

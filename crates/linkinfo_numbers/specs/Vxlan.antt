@@ -1,11 +1,10 @@
 -- The numbers and texts of VXLAN tunnels.
-use Rattle.std.specs.Prelude.{ℕ, [], ◌∷◌, refl, List, codes}
+use Rattle.std.specs.Prelude.{ℕ, List, [], ◌∷◌, codes, refl}
 use Rattle.std.specs.Fmt.{decimal}
 use Rattle.std.proofs.Common.{inl, inr}
 use Rattle.linkinfo_numbers.specs.declared.vxlan.VxlanDf.{VxlanDf}
 use Rattle.linkinfo_numbers.specs.declared.vxlan.VxlanDf.TheVariants as df
 use Rattle.linkinfo_numbers.specs.Number.{Numbering, IsNumbering, value_of}
-
 
 -- the number of each value
 abbrev pub vxlan_df_number : VxlanDf → ℕ

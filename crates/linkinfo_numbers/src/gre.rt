@@ -2,6 +2,8 @@
 
 ghost use Rattle.std.specs.Prelude.{◌≡◌};
 
+use crate::flags::KeepsEveryBit;
+use bitflags::{Flag, Flags};
 use nla_frame::ExactEq;
 use std::fmt;
 
@@ -145,6 +147,214 @@ impl Default for ErSpanDir {
 }
 
 impl ExactEq for ErSpanDir {
+    ghost use Rattle.std.proofs.Common.{rules};
+
+    ghost exact = { Prim.search rules };
+}
+
+/// What a GRE header holds: `IFLA_GRE_IFLAGS` and `IFLA_GRE_OFLAGS`, a big-endian 16-bit number (include/uapi/linux/if_tunnel.h). Every number of that width is a set.
+#[derive(Clone, Copy, Debug, PartialEq, Eq)]
+pub struct GreIOFlags(u16);
+
+impl GreIOFlags {
+    /// `GRE_CSUM`.
+    pub const Checksum: GreIOFlags = GreIOFlags(0x8000);
+
+    /// `GRE_ROUTING`.
+    pub const Routing: GreIOFlags = GreIOFlags(0x4000);
+
+    /// `GRE_KEY`.
+    pub const Key: GreIOFlags = GreIOFlags(0x2000);
+
+    /// `GRE_SEQ`.
+    pub const Seq: GreIOFlags = GreIOFlags(0x1000);
+
+    /// `GRE_STRICT`.
+    pub const Strict0: GreIOFlags = GreIOFlags(0x0800);
+
+    /// `GRE_REC`, three bits.
+    pub const Rec: GreIOFlags = GreIOFlags(0x0700);
+
+    /// `GRE_ACK`.
+    pub const Ack: GreIOFlags = GreIOFlags(0x0080);
+
+    /// `GRE_FLAGS`, four bits.
+    pub const Flags: GreIOFlags = GreIOFlags(0x0078);
+
+    /// `GRE_VERSION`, three bits.
+    pub const Version: GreIOFlags = GreIOFlags(0x0007);
+
+    const TABLE: &'static [Flag<GreIOFlags>] = &[
+        Flag {
+            name: "Checksum",
+            value: GreIOFlags::Checksum,
+        },
+        Flag {
+            name: "Routing",
+            value: GreIOFlags::Routing,
+        },
+        Flag {
+            name: "Key",
+            value: GreIOFlags::Key,
+        },
+        Flag {
+            name: "Seq",
+            value: GreIOFlags::Seq,
+        },
+        Flag {
+            name: "Strict0",
+            value: GreIOFlags::Strict0,
+        },
+        Flag {
+            name: "Rec",
+            value: GreIOFlags::Rec,
+        },
+        Flag {
+            name: "Ack",
+            value: GreIOFlags::Ack,
+        },
+        Flag {
+            name: "Flags",
+            value: GreIOFlags::Flags,
+        },
+        Flag {
+            name: "Version",
+            value: GreIOFlags::Version,
+        },
+        Flag {
+            name: "",
+            value: GreIOFlags(u16::MAX),
+        },
+    ];
+}
+
+impl Flags for GreIOFlags {
+    type Bits = u16;
+
+    ghost use Rattle.std.specs.Prelude.{⊤};
+    ghost use Rattle.linkinfo_numbers.specs.Gre.{gre_io_flags_table};
+
+    ghost exact = { ⊤ };
+
+    ghost table = { gre_io_flags_table };
+
+    ghost set_of = { λ set. set.0 };
+
+    fn flags<'a>() -> &'a [Flag<GreIOFlags>] {
+        GreIOFlags::TABLE
+    }
+
+    fn bits(&self) -> u16 {
+        self.0
+    }
+
+    fn from_bits_retain(bits: u16) -> GreIOFlags {
+        GreIOFlags(bits)
+    }
+}
+
+impl KeepsEveryBit for GreIOFlags {
+    ghost use Rattle.linkinfo_numbers.specs.Flags.{every_bit_16};
+    ghost use Rattle.linkinfo_numbers.specs.Gre.{gre_io_flags_table, gre_io_flags_known};
+
+    ghost has_contracts = { tt };
+
+    ghost every_bit = { every_bit_16 gre_io_flags_table gre_io_flags_known };
+}
+
+/// No flag.
+impl Default for GreIOFlags {
+    ghost is_default = { λ set. set.0 ≡ 0 };
+
+    fn default() -> GreIOFlags {
+        GreIOFlags(0)
+    }
+}
+
+impl ExactEq for GreIOFlags {
+    ghost use Rattle.std.proofs.Common.{rules};
+
+    ghost exact = { Prim.search rules };
+}
+
+/// How a GRE tunnel is wrapped: `IFLA_GRE_ENCAP_FLAGS`, a native 16-bit number (include/uapi/linux/if_tunnel.h). Every number of that width is a set.
+#[derive(Clone, Copy, Debug, PartialEq, Eq)]
+pub struct GreEncapFlags(u16);
+
+impl GreEncapFlags {
+    /// `TUNNEL_ENCAP_FLAG_CSUM`.
+    pub const Checksum: GreEncapFlags = GreEncapFlags(1);
+
+    /// `TUNNEL_ENCAP_FLAG_CSUM6`.
+    pub const Checksum6: GreEncapFlags = GreEncapFlags(2);
+
+    /// `TUNNEL_ENCAP_FLAG_REMCSUM`.
+    pub const RemoteChecksum: GreEncapFlags = GreEncapFlags(4);
+
+    const TABLE: &'static [Flag<GreEncapFlags>] = &[
+        Flag {
+            name: "Checksum",
+            value: GreEncapFlags::Checksum,
+        },
+        Flag {
+            name: "Checksum6",
+            value: GreEncapFlags::Checksum6,
+        },
+        Flag {
+            name: "RemoteChecksum",
+            value: GreEncapFlags::RemoteChecksum,
+        },
+        Flag {
+            name: "",
+            value: GreEncapFlags(u16::MAX),
+        },
+    ];
+}
+
+impl Flags for GreEncapFlags {
+    type Bits = u16;
+
+    ghost use Rattle.std.specs.Prelude.{⊤};
+    ghost use Rattle.linkinfo_numbers.specs.Gre.{gre_encap_flags_table};
+
+    ghost exact = { ⊤ };
+
+    ghost table = { gre_encap_flags_table };
+
+    ghost set_of = { λ set. set.0 };
+
+    fn flags<'a>() -> &'a [Flag<GreEncapFlags>] {
+        GreEncapFlags::TABLE
+    }
+
+    fn bits(&self) -> u16 {
+        self.0
+    }
+
+    fn from_bits_retain(bits: u16) -> GreEncapFlags {
+        GreEncapFlags(bits)
+    }
+}
+
+impl KeepsEveryBit for GreEncapFlags {
+    ghost use Rattle.linkinfo_numbers.specs.Flags.{every_bit_16};
+    ghost use Rattle.linkinfo_numbers.specs.Gre.{gre_encap_flags_table, gre_encap_flags_known};
+
+    ghost has_contracts = { tt };
+
+    ghost every_bit = { every_bit_16 gre_encap_flags_table gre_encap_flags_known };
+}
+
+/// No flag.
+impl Default for GreEncapFlags {
+    ghost is_default = { λ set. set.0 ≡ 0 };
+
+    fn default() -> GreEncapFlags {
+        GreEncapFlags(0)
+    }
+}
+
+impl ExactEq for GreEncapFlags {
     ghost use Rattle.std.proofs.Common.{rules};
 
     ghost exact = { Prim.search rules };

@@ -2,7 +2,9 @@
 
 ghost use Rattle.std.specs.Prelude.{◌≡◌};
 
+use crate::flags::KeepsEveryBit;
 use crate::word::word_fault;
+use bitflags::{Flag, Flags};
 use nla_frame::{DecodeError, ExactEq, Family};
 use std::fmt;
 use std::str::FromStr;
@@ -89,3 +91,85 @@ impl ExactEq for IpVlanMode {
 
     ghost exact = { Prim.search rules };
 }
+
+/// What an ipvlan or ipvtap link keeps apart: `IFLA_IPVLAN_FLAGS`, a native 16-bit number (include/uapi/linux/if_link.h). Every number of that width is a set.
+#[derive(Clone, Copy, Debug, PartialEq, Eq)]
+pub struct IpVlanFlags(u16);
+
+impl IpVlanFlags {
+    /// `IPVLAN_F_PRIVATE`.
+    pub const Private: IpVlanFlags = IpVlanFlags(1);
+
+    /// `IPVLAN_F_VEPA`.
+    pub const Vepa: IpVlanFlags = IpVlanFlags(2);
+
+    const TABLE: &'static [Flag<IpVlanFlags>] = &[
+        Flag {
+            name: "Private",
+            value: IpVlanFlags::Private,
+        },
+        Flag {
+            name: "Vepa",
+            value: IpVlanFlags::Vepa,
+        },
+        Flag {
+            name: "",
+            value: IpVlanFlags(u16::MAX),
+        },
+    ];
+}
+
+impl Flags for IpVlanFlags {
+    type Bits = u16;
+
+    ghost use Rattle.std.specs.Prelude.{⊤};
+    ghost use Rattle.linkinfo_numbers.specs.Ipvlan.{ip_vlan_flags_table};
+
+    ghost exact = { ⊤ };
+
+    ghost table = { ip_vlan_flags_table };
+
+    ghost set_of = { λ set. set.0 };
+
+    fn flags<'a>() -> &'a [Flag<IpVlanFlags>] {
+        IpVlanFlags::TABLE
+    }
+
+    fn bits(&self) -> u16 {
+        self.0
+    }
+
+    fn from_bits_retain(bits: u16) -> IpVlanFlags {
+        IpVlanFlags(bits)
+    }
+}
+
+impl KeepsEveryBit for IpVlanFlags {
+    ghost use Rattle.linkinfo_numbers.specs.Flags.{every_bit_16};
+    ghost use Rattle.linkinfo_numbers.specs.Ipvlan.{ip_vlan_flags_table, ip_vlan_flags_known};
+
+    ghost has_contracts = { tt };
+
+    ghost every_bit = { every_bit_16 ip_vlan_flags_table ip_vlan_flags_known };
+}
+
+/// No flag.
+impl Default for IpVlanFlags {
+    ghost is_default = { λ set. set.0 ≡ 0 };
+
+    fn default() -> IpVlanFlags {
+        IpVlanFlags(0)
+    }
+}
+
+impl ExactEq for IpVlanFlags {
+    ghost use Rattle.std.proofs.Common.{rules};
+
+    ghost exact = { Prim.search rules };
+}
+
+/// The mode of an ipvtap link, which is that of an ipvlan link.
+pub type IpVtapMode = IpVlanMode;
+
+/// The flags of an ipvtap link, which are those of an ipvlan link.
+pub type IpVtapFlags = IpVlanFlags;

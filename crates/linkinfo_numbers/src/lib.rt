@@ -3,6 +3,7 @@
 
 mod amt;
 mod ethernet;
+mod flags;
 mod geneve;
 mod gre;
 mod gtp;
@@ -12,20 +13,23 @@ mod ipvlan;
 mod macsec;
 mod macvlan;
 mod netkit;
+mod rmnet;
 mod tunnel;
 mod vxlan;
 mod word;
 
 pub use amt::AmtMode;
 pub use ethernet::EthernetProtocol;
+pub use flags::{KeepsEveryBit, bits_again};
 pub use geneve::GeneveDf;
-pub use gre::{ErSpanDir, GreEncapType};
+pub use gre::{ErSpanDir, GreEncapFlags, GreEncapType, GreIOFlags};
 pub use gtp::GtpRole;
 pub use ip::IpProtocol;
 pub use ipoib::IpoibMode;
-pub use ipvlan::IpVlanMode;
+pub use ipvlan::{IpVlanFlags, IpVlanMode, IpVtapFlags, IpVtapMode};
 pub use macsec::{MacSecCipherId, MacSecOffload, MacSecValidate};
-pub use macvlan::{MacVlanMacAddressMode, MacVlanMode};
+pub use macvlan::{MacVlanFlags, MacVlanMacAddressMode, MacVlanMode, MacVtapFlags, MacVtapMacAddressMode, MacVtapMode};
 pub use netkit::{NetkitMode, NetkitPolicy, NetkitScrub};
-pub use tunnel::TunnelEncapType;
+pub use rmnet::{InfoRmNetFlags, RmNetFlags};
+pub use tunnel::{Ip6TunnelFlags, TunnelEncapFlags, TunnelEncapType};
 pub use vxlan::VxlanDf;

@@ -2,7 +2,9 @@
 
 ghost use Rattle.std.specs.Prelude.{◌≡◌};
 
+use crate::flags::KeepsEveryBit;
 use crate::word::word_fault;
+use bitflags::{Flag, Flags};
 use nla_frame::{DecodeError, ExactEq, Family};
 use std::fmt;
 use std::str::FromStr;
@@ -154,3 +156,79 @@ impl ExactEq for MacVlanMacAddressMode {
 
     ghost exact = { Prim.search rules };
 }
+
+/// What a macvlan or macvtap link leaves out: `IFLA_MACVLAN_FLAGS`, a native 16-bit number (include/uapi/linux/if_link.h). Every number of that width is a set.
+#[derive(Clone, Copy, Debug, PartialEq, Eq)]
+pub struct MacVlanFlags(u16);
+
+impl MacVlanFlags {
+    /// `MACVLAN_FLAG_NOPROMISC`.
+    pub const NoPromisc: MacVlanFlags = MacVlanFlags(1);
+
+    /// `MACVLAN_FLAG_NODST`.
+    pub const NoDst: MacVlanFlags = MacVlanFlags(2);
+
+    const TABLE: &'static [Flag<MacVlanFlags>] = &[
+        Flag {
+            name: "NoPromisc",
+            value: MacVlanFlags::NoPromisc,
+        },
+        Flag {
+            name: "NoDst",
+            value: MacVlanFlags::NoDst,
+        },
+        Flag {
+            name: "",
+            value: MacVlanFlags(u16::MAX),
+        },
+    ];
+}
+
+impl Flags for MacVlanFlags {
+    type Bits = u16;
+
+    ghost use Rattle.std.specs.Prelude.{⊤};
+    ghost use Rattle.linkinfo_numbers.specs.Macvlan.{mac_vlan_flags_table};
+
+    ghost exact = { ⊤ };
+
+    ghost table = { mac_vlan_flags_table };
+
+    ghost set_of = { λ set. set.0 };
+
+    fn flags<'a>() -> &'a [Flag<MacVlanFlags>] {
+        MacVlanFlags::TABLE
+    }
+
+    fn bits(&self) -> u16 {
+        self.0
+    }
+
+    fn from_bits_retain(bits: u16) -> MacVlanFlags {
+        MacVlanFlags(bits)
+    }
+}
+
+impl KeepsEveryBit for MacVlanFlags {
+    ghost use Rattle.linkinfo_numbers.specs.Flags.{every_bit_16};
+    ghost use Rattle.linkinfo_numbers.specs.Macvlan.{mac_vlan_flags_table, mac_vlan_flags_known};
+
+    ghost has_contracts = { tt };
+
+    ghost every_bit = { every_bit_16 mac_vlan_flags_table mac_vlan_flags_known };
+}
+
+impl ExactEq for MacVlanFlags {
+    ghost use Rattle.std.proofs.Common.{rules};
+
+    ghost exact = { Prim.search rules };
+}
+
+/// The mode of a macvtap link, which is that of a macvlan link.
+pub type MacVtapMode = MacVlanMode;
+
+/// The flags of a macvtap link, which are those of a macvlan link.
+pub type MacVtapFlags = MacVlanFlags;
+
+/// What to do with the source addresses of a macvtap link, which is what a macvlan link does with them.
+pub type MacVtapMacAddressMode = MacVlanMacAddressMode;

@@ -171,6 +171,7 @@ impl ExactEq for NetkitPolicy {
 
     ghost exact = { Prim.search rules };
 }
+
 /// How much a packet keeps of its past when it goes through a netkit link: `IFLA_NETKIT_SCRUB`, a native 32-bit number
 /// (include/uapi/linux/if_link.h). Every number but 0 is `Default`.
 #[derive(Clone, Copy, Debug, PartialEq, Eq)]
