@@ -7,10 +7,13 @@ pub mod Gtp
 pub mod Ip
 pub mod Ipoib
 pub mod Ipvlan
+pub mod Kind
 pub mod Macsec
 pub mod Macvlan
+pub mod Names
 pub mod Netkit
 pub mod Number
+pub mod PortKind
 pub mod Rmnet
 pub mod Tunnel
 pub mod Vxlan
