@@ -2,11 +2,12 @@
 use Rattle.std.specs.Prelude.{ℕ, List, [], ◌∷◌, codes, Result, refl}
 use Rattle.std.specs.Fmt.{decimal}
 use Rattle.std.proofs.Common.{inl, inr}
+use Rattle.std.proofs.lemmas.Bool.Decides.{Decides-eqb}
 use Rattle.nla_frame.specs.declared.error.Family.TheVariants as family
 use Rattle.nla_frame.specs.declared.error.DecodeError.{DecodeError}
 use Rattle.linkinfo_numbers.specs.declared.geneve.GeneveDf.{GeneveDf}
 use Rattle.linkinfo_numbers.specs.declared.geneve.GeneveDf.TheVariants as df
-use Rattle.linkinfo_numbers.specs.Number.{Numbering, IsNumbering, value_of}
+use Rattle.linkinfo_numbers.specs.Table.{Table, IsTable, by_number, value_of}
 use Rattle.linkinfo_numbers.specs.Word.{value_of_word, ReadsWords, reads_words}
 
 -- the number of each value
@@ -16,17 +17,18 @@ geneve_df_number df.Set = 1
 geneve_df_number df.Inherit = 2
 geneve_df_number (df.Other n) = n
 
-abbrev pub geneve_df_numbering : Numbering GeneveDf
-geneve_df_numbering = record { number = geneve_df_number; other = df.Other; named = df.Unset ∷ df.Set ∷ df.Inherit ∷ [] }
+abbrev pub geneve_df_table : Table ℕ GeneveDf
+geneve_df_table = by_number geneve_df_number df.Other (df.Unset ∷ df.Set ∷ df.Inherit ∷ [])
 
 -- the value of each number
 abbrev pub geneve_df : ℕ → GeneveDf
-geneve_df n = value_of geneve_df_numbering n
+geneve_df n = value_of geneve_df_table n
 
-pub geneve_df_numbering_holds : IsNumbering geneve_df_numbering
-geneve_df_numbering_holds = record {
-  other_number = λ n. refl;
-  reads_back = elim [ df.Unset ↦ inr refl | df.Set ↦ inr refl | df.Inherit ↦ inr refl | df.Other n ↦ inl refl ];
+pub geneve_df_table_holds : IsTable geneve_df_table
+geneve_df_table_holds = record {
+  same_decides = Decides-eqb;
+  other_key = λ n. refl;
+  found = elim [ df.Unset ↦ inr refl | df.Set ↦ inr refl | df.Inherit ↦ inr refl | df.Other n ↦ inl refl ];
   apart = (λ p. cc, (λ p. cc, (λ p. cc, tt)));
 }
 
@@ -39,7 +41,7 @@ geneve_df_text (df.Other n) = decimal n
 
 -- the value of a word, or its fault
 abbrev pub geneve_df_of_word : List ℕ → Result GeneveDf DecodeError
-geneve_df_of_word word = value_of_word family.Geneve geneve_df_text geneve_df_numbering.named word
+geneve_df_of_word word = value_of_word family.Geneve geneve_df_text geneve_df_table.named word
 
-pub geneve_df_words_hold : ReadsWords family.Geneve geneve_df_text geneve_df_numbering.named
-geneve_df_words_hold = reads_words family.Geneve geneve_df_text geneve_df_numbering.named (refl, (refl, (refl, tt)))
+pub geneve_df_words_hold : ReadsWords family.Geneve geneve_df_text geneve_df_table.named
+geneve_df_words_hold = reads_words family.Geneve geneve_df_text geneve_df_table.named (refl, (refl, (refl, tt)))

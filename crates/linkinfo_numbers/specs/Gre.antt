@@ -2,6 +2,7 @@
 use Rattle.std.specs.Prelude.{◌≡◌, ℕ, List, [], ◌∷◌, ◌++◌, codes, refl}
 use Rattle.std.specs.Fmt.{decimal}
 use Rattle.std.proofs.Common.{inl, inr}
+use Rattle.std.proofs.lemmas.Bool.Decides.{Decides-eqb}
 use Rattle.bitflags.specs.Sets.{known_bits, known_from}
 use Rattle.linkinfo_numbers.specs.declared.gre.GreEncapType.{GreEncapType}
 use Rattle.linkinfo_numbers.specs.declared.gre.GreEncapType.TheVariants as encapsulation
@@ -9,7 +10,7 @@ use Rattle.linkinfo_numbers.specs.declared.gre.ErSpanDir.{ErSpanDir}
 use Rattle.linkinfo_numbers.specs.declared.gre.ErSpanDir.TheVariants as direction
 use Rattle.linkinfo_numbers.specs.declared.gre.GreIOFlags.{GreIOFlags}
 use Rattle.linkinfo_numbers.specs.declared.gre.GreEncapFlags.{GreEncapFlags}
-use Rattle.linkinfo_numbers.specs.Number.{Numbering, IsNumbering, value_of}
+use Rattle.linkinfo_numbers.specs.Table.{Table, IsTable, by_number, value_of}
 
 -- the number of each value
 abbrev pub gre_encap_type_number : GreEncapType → ℕ
@@ -18,17 +19,18 @@ gre_encap_type_number encapsulation.Fou = 1
 gre_encap_type_number encapsulation.Gue = 2
 gre_encap_type_number (encapsulation.Other n) = n
 
-abbrev pub gre_encap_type_numbering : Numbering GreEncapType
-gre_encap_type_numbering = record { number = gre_encap_type_number; other = encapsulation.Other; named = encapsulation.None ∷ encapsulation.Fou ∷ encapsulation.Gue ∷ [] }
+abbrev pub gre_encap_type_table : Table ℕ GreEncapType
+gre_encap_type_table = by_number gre_encap_type_number encapsulation.Other (encapsulation.None ∷ encapsulation.Fou ∷ encapsulation.Gue ∷ [])
 
 -- the value of each number
 abbrev pub gre_encap_type : ℕ → GreEncapType
-gre_encap_type n = value_of gre_encap_type_numbering n
+gre_encap_type n = value_of gre_encap_type_table n
 
-pub gre_encap_type_numbering_holds : IsNumbering gre_encap_type_numbering
-gre_encap_type_numbering_holds = record {
-  other_number = λ n. refl;
-  reads_back = elim [ encapsulation.None ↦ inr refl | encapsulation.Fou ↦ inr refl | encapsulation.Gue ↦ inr refl | encapsulation.Other n ↦ inl refl ];
+pub gre_encap_type_table_holds : IsTable gre_encap_type_table
+gre_encap_type_table_holds = record {
+  same_decides = Decides-eqb;
+  other_key = λ n. refl;
+  found = elim [ encapsulation.None ↦ inr refl | encapsulation.Fou ↦ inr refl | encapsulation.Gue ↦ inr refl | encapsulation.Other n ↦ inl refl ];
   apart = (λ p. cc, (λ p. cc, (λ p. cc, tt)));
 }
 
@@ -45,17 +47,18 @@ er_span_dir_number direction.Ingress = 0
 er_span_dir_number direction.Egress = 1
 er_span_dir_number (direction.Other n) = n
 
-abbrev pub er_span_dir_numbering : Numbering ErSpanDir
-er_span_dir_numbering = record { number = er_span_dir_number; other = direction.Other; named = direction.Ingress ∷ direction.Egress ∷ [] }
+abbrev pub er_span_dir_table : Table ℕ ErSpanDir
+er_span_dir_table = by_number er_span_dir_number direction.Other (direction.Ingress ∷ direction.Egress ∷ [])
 
 -- the value of each number
 abbrev pub er_span_dir : ℕ → ErSpanDir
-er_span_dir n = value_of er_span_dir_numbering n
+er_span_dir n = value_of er_span_dir_table n
 
-pub er_span_dir_numbering_holds : IsNumbering er_span_dir_numbering
-er_span_dir_numbering_holds = record {
-  other_number = λ n. refl;
-  reads_back = elim [ direction.Ingress ↦ inr refl | direction.Egress ↦ inr refl | direction.Other n ↦ inl refl ];
+pub er_span_dir_table_holds : IsTable er_span_dir_table
+er_span_dir_table_holds = record {
+  same_decides = Decides-eqb;
+  other_key = λ n. refl;
+  found = elim [ direction.Ingress ↦ inr refl | direction.Egress ↦ inr refl | direction.Other n ↦ inl refl ];
   apart = (λ p. cc, (λ p. cc, tt));
 }
 

@@ -12,9 +12,9 @@ pub mod Macsec
 pub mod Macvlan
 pub mod Names
 pub mod Netkit
-pub mod Number
 pub mod PortKind
 pub mod Rmnet
+pub mod Table
 pub mod Tunnel
 pub mod Vxlan
 pub mod Word

@@ -1,13 +1,14 @@
 -- The numbers of MACsec links.
 use Rattle.std.specs.Prelude.{ℕ, [], ◌∷◌, refl}
 use Rattle.std.proofs.Common.{inl, inr}
+use Rattle.std.proofs.lemmas.Bool.Decides.{Decides-eqb}
 use Rattle.linkinfo_numbers.specs.declared.macsec.MacSecCipherId.{MacSecCipherId}
 use Rattle.linkinfo_numbers.specs.declared.macsec.MacSecCipherId.TheVariants as cipher
 use Rattle.linkinfo_numbers.specs.declared.macsec.MacSecValidate.{MacSecValidate}
 use Rattle.linkinfo_numbers.specs.declared.macsec.MacSecValidate.TheVariants as validation
 use Rattle.linkinfo_numbers.specs.declared.macsec.MacSecOffload.{MacSecOffload}
 use Rattle.linkinfo_numbers.specs.declared.macsec.MacSecOffload.TheVariants as offload
-use Rattle.linkinfo_numbers.specs.Number.{Numbering, IsNumbering, value_of}
+use Rattle.linkinfo_numbers.specs.Table.{Table, IsTable, by_number, value_of}
 
 -- the number of each value
 abbrev pub mac_sec_cipher_id_number : MacSecCipherId → ℕ
@@ -18,17 +19,18 @@ mac_sec_cipher_id_number cipher.GcmAesXpn128 = 0x0080C20001000003
 mac_sec_cipher_id_number cipher.GcmAesXpn256 = 0x0080C20001000004
 mac_sec_cipher_id_number (cipher.Other n) = n
 
-abbrev pub mac_sec_cipher_id_numbering : Numbering MacSecCipherId
-mac_sec_cipher_id_numbering = record { number = mac_sec_cipher_id_number; other = cipher.Other; named = cipher.DefaultGcmAes128 ∷ cipher.GcmAes128 ∷ cipher.GcmAes256 ∷ cipher.GcmAesXpn128 ∷ cipher.GcmAesXpn256 ∷ [] }
+abbrev pub mac_sec_cipher_id_table : Table ℕ MacSecCipherId
+mac_sec_cipher_id_table = by_number mac_sec_cipher_id_number cipher.Other (cipher.DefaultGcmAes128 ∷ cipher.GcmAes128 ∷ cipher.GcmAes256 ∷ cipher.GcmAesXpn128 ∷ cipher.GcmAesXpn256 ∷ [])
 
 -- the value of each number
 abbrev pub mac_sec_cipher_id : ℕ → MacSecCipherId
-mac_sec_cipher_id n = value_of mac_sec_cipher_id_numbering n
+mac_sec_cipher_id n = value_of mac_sec_cipher_id_table n
 
-pub mac_sec_cipher_id_numbering_holds : IsNumbering mac_sec_cipher_id_numbering
-mac_sec_cipher_id_numbering_holds = record {
-  other_number = λ n. refl;
-  reads_back = elim [ cipher.DefaultGcmAes128 ↦ inr refl | cipher.GcmAes128 ↦ inr refl | cipher.GcmAes256 ↦ inr refl | cipher.GcmAesXpn128 ↦ inr refl | cipher.GcmAesXpn256 ↦ inr refl | cipher.Other n ↦ inl refl ];
+pub mac_sec_cipher_id_table_holds : IsTable mac_sec_cipher_id_table
+mac_sec_cipher_id_table_holds = record {
+  same_decides = Decides-eqb;
+  other_key = λ n. refl;
+  found = elim [ cipher.DefaultGcmAes128 ↦ inr refl | cipher.GcmAes128 ↦ inr refl | cipher.GcmAes256 ↦ inr refl | cipher.GcmAesXpn128 ↦ inr refl | cipher.GcmAesXpn256 ↦ inr refl | cipher.Other n ↦ inl refl ];
   apart = (λ p. cc, (λ p. cc, (λ p. cc, (λ p. cc, (λ p. cc, tt)))));
 }
 
@@ -39,17 +41,18 @@ mac_sec_validate_number validation.Check = 1
 mac_sec_validate_number validation.Strict = 2
 mac_sec_validate_number (validation.Other n) = n
 
-abbrev pub mac_sec_validate_numbering : Numbering MacSecValidate
-mac_sec_validate_numbering = record { number = mac_sec_validate_number; other = validation.Other; named = validation.Disabled ∷ validation.Check ∷ validation.Strict ∷ [] }
+abbrev pub mac_sec_validate_table : Table ℕ MacSecValidate
+mac_sec_validate_table = by_number mac_sec_validate_number validation.Other (validation.Disabled ∷ validation.Check ∷ validation.Strict ∷ [])
 
 -- the value of each number
 abbrev pub mac_sec_validate : ℕ → MacSecValidate
-mac_sec_validate n = value_of mac_sec_validate_numbering n
+mac_sec_validate n = value_of mac_sec_validate_table n
 
-pub mac_sec_validate_numbering_holds : IsNumbering mac_sec_validate_numbering
-mac_sec_validate_numbering_holds = record {
-  other_number = λ n. refl;
-  reads_back = elim [ validation.Disabled ↦ inr refl | validation.Check ↦ inr refl | validation.Strict ↦ inr refl | validation.Other n ↦ inl refl ];
+pub mac_sec_validate_table_holds : IsTable mac_sec_validate_table
+mac_sec_validate_table_holds = record {
+  same_decides = Decides-eqb;
+  other_key = λ n. refl;
+  found = elim [ validation.Disabled ↦ inr refl | validation.Check ↦ inr refl | validation.Strict ↦ inr refl | validation.Other n ↦ inl refl ];
   apart = (λ p. cc, (λ p. cc, (λ p. cc, tt)));
 }
 
@@ -60,16 +63,17 @@ mac_sec_offload_number offload.Phy = 1
 mac_sec_offload_number offload.Mac = 2
 mac_sec_offload_number (offload.Other n) = n
 
-abbrev pub mac_sec_offload_numbering : Numbering MacSecOffload
-mac_sec_offload_numbering = record { number = mac_sec_offload_number; other = offload.Other; named = offload.Off ∷ offload.Phy ∷ offload.Mac ∷ [] }
+abbrev pub mac_sec_offload_table : Table ℕ MacSecOffload
+mac_sec_offload_table = by_number mac_sec_offload_number offload.Other (offload.Off ∷ offload.Phy ∷ offload.Mac ∷ [])
 
 -- the value of each number
 abbrev pub mac_sec_offload : ℕ → MacSecOffload
-mac_sec_offload n = value_of mac_sec_offload_numbering n
+mac_sec_offload n = value_of mac_sec_offload_table n
 
-pub mac_sec_offload_numbering_holds : IsNumbering mac_sec_offload_numbering
-mac_sec_offload_numbering_holds = record {
-  other_number = λ n. refl;
-  reads_back = elim [ offload.Off ↦ inr refl | offload.Phy ↦ inr refl | offload.Mac ↦ inr refl | offload.Other n ↦ inl refl ];
+pub mac_sec_offload_table_holds : IsTable mac_sec_offload_table
+mac_sec_offload_table_holds = record {
+  same_decides = Decides-eqb;
+  other_key = λ n. refl;
+  found = elim [ offload.Off ↦ inr refl | offload.Phy ↦ inr refl | offload.Mac ↦ inr refl | offload.Other n ↦ inl refl ];
   apart = (λ p. cc, (λ p. cc, (λ p. cc, tt)));
 }

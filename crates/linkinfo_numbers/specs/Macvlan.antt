@@ -2,6 +2,7 @@
 use Rattle.std.specs.Prelude.{◌≡◌, ℕ, List, [], ◌∷◌, codes, Result, refl}
 use Rattle.std.specs.Fmt.{decimal}
 use Rattle.std.proofs.Common.{inl, inr}
+use Rattle.std.proofs.lemmas.Bool.Decides.{Decides-eqb}
 use Rattle.bitflags.specs.Sets.{known_bits, known_from}
 use Rattle.nla_frame.specs.declared.error.Family.TheVariants as family
 use Rattle.nla_frame.specs.declared.error.DecodeError.{DecodeError}
@@ -10,7 +11,7 @@ use Rattle.linkinfo_numbers.specs.declared.macvlan.MacVlanMode.TheVariants as mo
 use Rattle.linkinfo_numbers.specs.declared.macvlan.MacVlanMacAddressMode.{MacVlanMacAddressMode}
 use Rattle.linkinfo_numbers.specs.declared.macvlan.MacVlanMacAddressMode.TheVariants as address_mode
 use Rattle.linkinfo_numbers.specs.declared.macvlan.MacVlanFlags.{MacVlanFlags}
-use Rattle.linkinfo_numbers.specs.Number.{Numbering, IsNumbering, value_of}
+use Rattle.linkinfo_numbers.specs.Table.{Table, IsTable, by_number, value_of}
 use Rattle.linkinfo_numbers.specs.Word.{value_of_word, ReadsWords, reads_words}
 
 -- the number of each value
@@ -22,17 +23,18 @@ mac_vlan_mode_number mode.Passthrough = 8
 mac_vlan_mode_number mode.Source = 16
 mac_vlan_mode_number (mode.Other n) = n
 
-abbrev pub mac_vlan_mode_numbering : Numbering MacVlanMode
-mac_vlan_mode_numbering = record { number = mac_vlan_mode_number; other = mode.Other; named = mode.Private ∷ mode.Vepa ∷ mode.Bridge ∷ mode.Passthrough ∷ mode.Source ∷ [] }
+abbrev pub mac_vlan_mode_table : Table ℕ MacVlanMode
+mac_vlan_mode_table = by_number mac_vlan_mode_number mode.Other (mode.Private ∷ mode.Vepa ∷ mode.Bridge ∷ mode.Passthrough ∷ mode.Source ∷ [])
 
 -- the value of each number
 abbrev pub mac_vlan_mode : ℕ → MacVlanMode
-mac_vlan_mode n = value_of mac_vlan_mode_numbering n
+mac_vlan_mode n = value_of mac_vlan_mode_table n
 
-pub mac_vlan_mode_numbering_holds : IsNumbering mac_vlan_mode_numbering
-mac_vlan_mode_numbering_holds = record {
-  other_number = λ n. refl;
-  reads_back = elim [ mode.Private ↦ inr refl | mode.Vepa ↦ inr refl | mode.Bridge ↦ inr refl | mode.Passthrough ↦ inr refl | mode.Source ↦ inr refl | mode.Other n ↦ inl refl ];
+pub mac_vlan_mode_table_holds : IsTable mac_vlan_mode_table
+mac_vlan_mode_table_holds = record {
+  same_decides = Decides-eqb;
+  other_key = λ n. refl;
+  found = elim [ mode.Private ↦ inr refl | mode.Vepa ↦ inr refl | mode.Bridge ↦ inr refl | mode.Passthrough ↦ inr refl | mode.Source ↦ inr refl | mode.Other n ↦ inl refl ];
   apart = (λ p. cc, (λ p. cc, (λ p. cc, (λ p. cc, (λ p. cc, tt)))));
 }
 
@@ -47,10 +49,10 @@ mac_vlan_mode_text (mode.Other n) = decimal n
 
 -- the value of a word, or its fault
 abbrev pub mac_vlan_mode_of_word : List ℕ → Result MacVlanMode DecodeError
-mac_vlan_mode_of_word word = value_of_word family.MacVlan mac_vlan_mode_text mac_vlan_mode_numbering.named word
+mac_vlan_mode_of_word word = value_of_word family.MacVlan mac_vlan_mode_text mac_vlan_mode_table.named word
 
-pub mac_vlan_mode_words_hold : ReadsWords family.MacVlan mac_vlan_mode_text mac_vlan_mode_numbering.named
-mac_vlan_mode_words_hold = reads_words family.MacVlan mac_vlan_mode_text mac_vlan_mode_numbering.named (refl, (refl, (refl, (refl, (refl, tt)))))
+pub mac_vlan_mode_words_hold : ReadsWords family.MacVlan mac_vlan_mode_text mac_vlan_mode_table.named
+mac_vlan_mode_words_hold = reads_words family.MacVlan mac_vlan_mode_text mac_vlan_mode_table.named (refl, (refl, (refl, (refl, (refl, tt)))))
 
 -- the number of each value
 abbrev pub mac_vlan_mac_address_mode_number : MacVlanMacAddressMode → ℕ
@@ -60,17 +62,18 @@ mac_vlan_mac_address_mode_number address_mode.Flush = 2
 mac_vlan_mac_address_mode_number address_mode.Set = 3
 mac_vlan_mac_address_mode_number (address_mode.Other n) = n
 
-abbrev pub mac_vlan_mac_address_mode_numbering : Numbering MacVlanMacAddressMode
-mac_vlan_mac_address_mode_numbering = record { number = mac_vlan_mac_address_mode_number; other = address_mode.Other; named = address_mode.Add ∷ address_mode.Del ∷ address_mode.Flush ∷ address_mode.Set ∷ [] }
+abbrev pub mac_vlan_mac_address_mode_table : Table ℕ MacVlanMacAddressMode
+mac_vlan_mac_address_mode_table = by_number mac_vlan_mac_address_mode_number address_mode.Other (address_mode.Add ∷ address_mode.Del ∷ address_mode.Flush ∷ address_mode.Set ∷ [])
 
 -- the value of each number
 abbrev pub mac_vlan_mac_address_mode : ℕ → MacVlanMacAddressMode
-mac_vlan_mac_address_mode n = value_of mac_vlan_mac_address_mode_numbering n
+mac_vlan_mac_address_mode n = value_of mac_vlan_mac_address_mode_table n
 
-pub mac_vlan_mac_address_mode_numbering_holds : IsNumbering mac_vlan_mac_address_mode_numbering
-mac_vlan_mac_address_mode_numbering_holds = record {
-  other_number = λ n. refl;
-  reads_back = elim [ address_mode.Add ↦ inr refl | address_mode.Del ↦ inr refl | address_mode.Flush ↦ inr refl | address_mode.Set ↦ inr refl | address_mode.Other n ↦ inl refl ];
+pub mac_vlan_mac_address_mode_table_holds : IsTable mac_vlan_mac_address_mode_table
+mac_vlan_mac_address_mode_table_holds = record {
+  same_decides = Decides-eqb;
+  other_key = λ n. refl;
+  found = elim [ address_mode.Add ↦ inr refl | address_mode.Del ↦ inr refl | address_mode.Flush ↦ inr refl | address_mode.Set ↦ inr refl | address_mode.Other n ↦ inl refl ];
   apart = (λ p. cc, (λ p. cc, (λ p. cc, (λ p. cc, tt))));
 }
 

@@ -1,55 +1,91 @@
--- Tables of names: each row has a name, the tag of it and the kind of it.
-use Rattle.std.specs.Prelude.{◌≡◌, ℕ, ◌==◌, Bool, true, false, if◌then◌else◌, List, [], ◌∷◌, length, refl}
+-- Tables of kinds by their names, and the tags of kinds.
+use Rattle.std.specs.Prelude.{◌≡◌, ◌≢◌, ℕ, ◌==◌, Bool, true, false, if◌then◌else◌, List, [], ◌∷◌, length, filter, Option, Some, None, unwrap_or, refl}
+use Rattle.std.specs.Bool.{Decides}
 use Rattle.std.specs.Cmp.{first_so, second_so}
-use Rattle.std.specs.List.{list_all, list_any}
-use Rattle.std.specs.Str.{bytes_eq}
+use Rattle.std.specs.List.{list_all, list_any, AllByRecursion}
 use Rattle.std.proofs.Common.{sym, ap, ◌∙◌}
-use Rattle.std.proofs.lemmas.Slice.Eq.{bytes_eq-Decides}
 use Rattle.std.proofs.lemmas.Bool.Decides.{Decides-eqb}
+use Rattle.linkinfo_numbers.specs.Table.{Table, IsTable, IsProper, value_of, value_of-key, part_of_first, part_of_first-then, part_of_first-missed, all_along}
 
--- what `part` gives of the first row of this name, or `other` where there is none
-abbrev pub part_at : {T K A : Type 0} → (List ℕ × T × K → A) → A → List (List ℕ × T × K) → List ℕ → A
-part_at part other [] name = other
-part_at part other (row ∷ rows) name = if bytes_eq row.0 name then part row else part_at part other rows name
+-- the tag of each kind, and the kind of each tag, which the tag of `Other` alone does not have
+pub record Tags (T K : Type 0) : Type 0 where
+  pub tag : K → T
+  pub kind : T → Option K
 
--- the rows whose names have this length
-abbrev pub names_of_length : {T K : Type 0} → ℕ → List (List ℕ × T × K) → List (List ℕ × T × K)
-names_of_length n [] = []
-names_of_length n (row ∷ rows) = if length row.0 == n then row ∷ names_of_length n rows else names_of_length n rows
+-- the tag of the first of these kinds that has this name
+abbrev pub tag_among : {T K : Type 0} → Table (List ℕ) K → Tags T K → List K → List ℕ → T
+tag_among N G ks name = part_of_first (λ k. N.same (N.key k) name) G.tag (G.tag (N.other name)) ks
 
-same_choice : {T K A : Type 0} (part : List ℕ × T × K → A) (other : A) (row : List ℕ × T × K) (kept rows : List (List ℕ × T × K)) (name : List ℕ) (right found : Bool) →
-    (found ≡ true → right ≡ true) → part_at part other rows name ≡ part_at part other kept name → found ≡ bytes_eq row.0 name →
-    part_at part other (row ∷ rows) name ≡ part_at part other (if right then row ∷ kept else kept) name
-same_choice part other row kept rows name true true only same is = rw (← is) refl
-same_choice part other row kept rows name true false only same is = rw (← is) same
-same_choice part other row kept rows name false true only same is = let no : false ≡ true = only refl in cc
-same_choice part other row kept rows name false false only same is = rw (← is) same
+-- the tag of a name
+abbrev pub tag_at : {T K : Type 0} → Table (List ℕ) K → Tags T K → List ℕ → T
+tag_at N G name = tag_among N G N.named name
 
-right_length : (a name : List ℕ) → bytes_eq a name ≡ true → (length a == length name) ≡ true
-right_length a name h = (Decides-eqb (length a) (length name)).1 (ap length ((bytes_eq-Decides a name).0 h))
+-- the named kinds are those of their tags, and `Other` is that of none
+pub record IsTagged {T K : Type 0} (N : Table (List ℕ) K) (G : Tags T K) : Type 0 where
+  pub named_tagged : AllByRecursion (λ k. G.kind (G.tag k) ≡ Some k) N.named
+  pub other_untagged : (name : List ℕ) → G.kind (G.tag (N.other name)) ≡ None
+
+all_so : {T : Type 0} (Q : T → Type 0) → ((x : T) → Q x) → (xs : List T) → AllByRecursion Q xs
+all_so Q f [] = tt
+all_so Q f (x ∷ xs) = (f x, all_so Q f xs)
+
+-- the tag of the kind of a name is the tag of that name
+pub tag-value_of : {T K : Type 0} (N : Table (List ℕ) K) (G : Tags T K) (name : List ℕ) → G.tag (value_of N name) ≡ tag_at N G name
+tag-value_of N G name =
+    part_of_first-then G.tag (λ k. N.same (N.key k) name) (λ k. k) G.tag (N.other name) (G.tag (N.other name)) N.named
+    (all_so (λ k. G.tag k ≡ G.tag k) (λ k. refl) N.named) refl
+
+-- the kind of a name is that of its tag, or else `Other` of the name
+pub kind-tag_at : {T K : Type 0} {N : Table (List ℕ) K} {G : Tags T K} → IsTagged N G → (name : List ℕ) →
+    unwrap_or (G.kind (tag_at N G name)) (N.other name) ≡ value_of N name
+kind-tag_at {N = N} {G = G} h name =
+    part_of_first-then (λ t. unwrap_or (G.kind t) (N.other name)) (λ k. N.same (N.key k) name) G.tag (λ k. k) (G.tag (N.other name)) (N.other name) N.named
+    (all_along (λ k. G.kind (G.tag k) ≡ Some k) (λ k. unwrap_or (G.kind (G.tag k)) (N.other name) ≡ k) (λ k e. ap (λ o. unwrap_or o (N.other name)) e) N.named h.named_tagged)
+    (ap (λ o. unwrap_or o (N.other name)) (h.other_untagged name))
+
+-- the tag of the text of a kind that is not `Other` of a known name is the tag of the kind
+pub tag_at-key : {T K : Type 0} {N : Table (List ℕ) K} → IsTable N → (G : Tags T K) (k : K) → IsProper N k → tag_at N G (N.key k) ≡ G.tag k
+tag_at-key {N = N} h G k proper = sym (tag-value_of N G (N.key k)) ∙ ap G.tag ((value_of-key h k).1 proper)
+
+-- ---- looking for a name among those of its length
+
+kept_choice : {K A : Type 0} (passes : K → Bool) (part : K → A) (other : A) (k : K) (kept ks : List K) (right found : Bool) →
+    (found ≡ true → right ≡ true) → part_of_first passes part other ks ≡ part_of_first passes part other kept → found ≡ passes k →
+    part_of_first passes part other (k ∷ ks) ≡ part_of_first passes part other (if right then k ∷ kept else kept)
+kept_choice passes part other k kept ks true true only same is = rw (← is) refl
+kept_choice passes part other k kept ks true false only same is = rw (← is) same
+kept_choice passes part other k kept ks false true only same is = let no : false ≡ true = only refl in cc
+kept_choice passes part other k kept ks false false only same is = rw (← is) same
+
+-- where only kept values pass, the first of the kept ones is the first of all
+pub part_of_first-filter : {K A : Type 0} (passes keeps : K → Bool) (part : K → A) (other : A) → ((k : K) → passes k ≡ true → keeps k ≡ true) → (ks : List K) →
+    part_of_first passes part other ks ≡ part_of_first passes part other (filter keeps ks)
+part_of_first-filter passes keeps part other only [] = refl
+part_of_first-filter passes keeps part other only (k ∷ ks) =
+    kept_choice passes part other k (filter keeps ks) ks (keeps k) (passes k) (only k) (part_of_first-filter passes keeps part other only ks) refl
 
 -- a name is looked for among those of its length alone
-pub part_at-names_of_length : {T K A : Type 0} (part : List ℕ × T × K → A) (other : A) (rows : List (List ℕ × T × K)) (name : List ℕ) →
-    part_at part other rows name ≡ part_at part other (names_of_length (length name) rows) name
-part_at-names_of_length part other [] name = refl
-part_at-names_of_length part other (row ∷ rows) name =
-    same_choice part other row (names_of_length (length name) rows) rows name (length row.0 == length name) (bytes_eq row.0 name) (right_length row.0 name)
-    (part_at-names_of_length part other rows name) refl
+pub tag_among-of_length : {T K : Type 0} (N : Table (List ℕ) K) (G : Tags T K) → ((a b : List ℕ) → Decides (N.same a b) (a ≡ b)) → (ks : List K) (name : List ℕ) →
+    tag_among N G ks name ≡ tag_among N G (filter (λ k. length (N.key k) == length name) ks) name
+tag_among-of_length N G decides ks name =
+    part_of_first-filter (λ k. N.same (N.key k) name) (λ k. length (N.key k) == length name) G.tag (G.tag (N.other name))
+    (λ k found. (Decides-eqb (length (N.key k)) (length name)).1 (ap length ((decides (N.key k) name).0 found))) ks
 
-other_choice : {T K A : Type 0} (part : List ℕ × T × K → A) (other : A) (row : List ℕ × T × K) (rows : List (List ℕ × T × K)) (name : List ℕ) (found : Bool) →
-    ¬ (found ≡ true) → part_at part other rows name ≡ other → (if found then part row else part_at part other rows name) ≡ other
-other_choice part other row rows name true apart same = absurd (apart refl)
-other_choice part other row rows name false apart same = same
+none_of_length : {K : Type 0} (N : Table (List ℕ) K) → ((a b : List ℕ) → Decides (N.same a b) (a ≡ b)) → (lengths : List ℕ) (ks : List K) (name : List ℕ) →
+    list_all (λ k. list_any (λ n. n == length (N.key k)) lengths) ks ≡ true → list_any (λ n. n == length name) lengths ≡ false →
+    AllByRecursion (λ k. ¬ (N.same (N.key k) name ≡ true)) ks
+none_of_length N decides lengths [] name known unknown = tt
+none_of_length N decides lengths (k ∷ ks) name known unknown =
+    let has : ℕ → Bool = λ m. list_any (λ n. n == m) lengths in
+    let here : has (length (N.key k)) ≡ true = first_so (has (length (N.key k))) (list_all (λ r. has (length (N.key r))) ks) known in
+    let rest : list_all (λ r. has (length (N.key r))) ks ≡ true = second_so (has (length (N.key k))) (list_all (λ r. has (length (N.key r))) ks) known in
+    (λ found. let same : has (length (N.key k)) ≡ has (length name) = ap (λ s. has (length s)) ((decides (N.key k) name).0 found) in cc,
+     none_of_length N decides lengths ks name rest unknown)
 
--- a name of a length that no row has is not found
-pub part_at-other_length : {T K A : Type 0} (part : List ℕ × T × K → A) (other : A) (lengths : List ℕ) (rows : List (List ℕ × T × K)) (name : List ℕ) →
-    list_all (λ row. list_any (λ n. n == length row.0) lengths) rows ≡ true → list_any (λ n. n == length name) lengths ≡ false →
-    part_at part other rows name ≡ other
-part_at-other_length part other lengths [] name known unknown = refl
-part_at-other_length part other lengths (row ∷ rows) name known unknown =
-    let has : ℕ → Bool = λ k. list_any (λ n. n == k) lengths in
-    let here : has (length row.0) ≡ true = first_so (has (length row.0)) (list_all (λ r. has (length r.0)) rows) known in
-    let rest : list_all (λ r. has (length r.0)) rows ≡ true = second_so (has (length row.0)) (list_all (λ r. has (length r.0)) rows) known in
-    other_choice part other row rows name (bytes_eq row.0 name)
-    (λ found. let same : has (length row.0) ≡ has (length name) = ap (λ s. has (length s)) ((bytes_eq-Decides row.0 name).0 found) in cc)
-    (part_at-other_length part other lengths rows name rest unknown)
+-- a name of a length that no known name has is not found
+pub tag_among-other_length : {T K : Type 0} (N : Table (List ℕ) K) (G : Tags T K) → ((a b : List ℕ) → Decides (N.same a b) (a ≡ b)) →
+    (lengths : List ℕ) (ks : List K) (name : List ℕ) →
+    list_all (λ k. list_any (λ n. n == length (N.key k)) lengths) ks ≡ true → list_any (λ n. n == length name) lengths ≡ false →
+    tag_among N G ks name ≡ G.tag (N.other name)
+tag_among-other_length N G decides lengths ks name known unknown =
+    part_of_first-missed (λ k. N.same (N.key k) name) G.tag (G.tag (N.other name)) ks (none_of_length N decides lengths ks name known unknown)

@@ -2,6 +2,7 @@
 use Rattle.std.specs.Prelude.{◌≡◌, ◌==◌, ℕ, if◌then◌else◌, List, [], ◌∷◌, codes, Result, refl}
 use Rattle.std.specs.Fmt.{decimal}
 use Rattle.std.proofs.Common.{inl, inr}
+use Rattle.std.proofs.lemmas.Bool.Decides.{Decides-eqb}
 use Rattle.nla_frame.specs.declared.error.Family.TheVariants as family
 use Rattle.nla_frame.specs.declared.error.DecodeError.{DecodeError}
 use Rattle.linkinfo_numbers.specs.declared.netkit.NetkitMode.{NetkitMode}
@@ -10,7 +11,7 @@ use Rattle.linkinfo_numbers.specs.declared.netkit.NetkitPolicy.{NetkitPolicy}
 use Rattle.linkinfo_numbers.specs.declared.netkit.NetkitPolicy.TheVariants as policy
 use Rattle.linkinfo_numbers.specs.declared.netkit.NetkitScrub.{NetkitScrub}
 use Rattle.linkinfo_numbers.specs.declared.netkit.NetkitScrub.TheVariants as scrub
-use Rattle.linkinfo_numbers.specs.Number.{Numbering, IsNumbering, value_of}
+use Rattle.linkinfo_numbers.specs.Table.{Table, IsTable, by_number, value_of}
 use Rattle.linkinfo_numbers.specs.Word.{value_of_word, ReadsWords, reads_words}
 
 -- the number of each value
@@ -19,17 +20,18 @@ netkit_mode_number mode.L2 = 0
 netkit_mode_number mode.L3 = 1
 netkit_mode_number (mode.Other n) = n
 
-abbrev pub netkit_mode_numbering : Numbering NetkitMode
-netkit_mode_numbering = record { number = netkit_mode_number; other = mode.Other; named = mode.L2 ∷ mode.L3 ∷ [] }
+abbrev pub netkit_mode_table : Table ℕ NetkitMode
+netkit_mode_table = by_number netkit_mode_number mode.Other (mode.L2 ∷ mode.L3 ∷ [])
 
 -- the value of each number
 abbrev pub netkit_mode : ℕ → NetkitMode
-netkit_mode n = value_of netkit_mode_numbering n
+netkit_mode n = value_of netkit_mode_table n
 
-pub netkit_mode_numbering_holds : IsNumbering netkit_mode_numbering
-netkit_mode_numbering_holds = record {
-  other_number = λ n. refl;
-  reads_back = elim [ mode.L2 ↦ inr refl | mode.L3 ↦ inr refl | mode.Other n ↦ inl refl ];
+pub netkit_mode_table_holds : IsTable netkit_mode_table
+netkit_mode_table_holds = record {
+  same_decides = Decides-eqb;
+  other_key = λ n. refl;
+  found = elim [ mode.L2 ↦ inr refl | mode.L3 ↦ inr refl | mode.Other n ↦ inl refl ];
   apart = (λ p. cc, (λ p. cc, tt));
 }
 
@@ -41,10 +43,10 @@ netkit_mode_text (mode.Other n) = decimal n
 
 -- the value of a word, or its fault
 abbrev pub netkit_mode_of_word : List ℕ → Result NetkitMode DecodeError
-netkit_mode_of_word word = value_of_word family.Netkit netkit_mode_text netkit_mode_numbering.named word
+netkit_mode_of_word word = value_of_word family.Netkit netkit_mode_text netkit_mode_table.named word
 
-pub netkit_mode_words_hold : ReadsWords family.Netkit netkit_mode_text netkit_mode_numbering.named
-netkit_mode_words_hold = reads_words family.Netkit netkit_mode_text netkit_mode_numbering.named (refl, (refl, tt))
+pub netkit_mode_words_hold : ReadsWords family.Netkit netkit_mode_text netkit_mode_table.named
+netkit_mode_words_hold = reads_words family.Netkit netkit_mode_text netkit_mode_table.named (refl, (refl, tt))
 
 -- the number of each value
 abbrev pub netkit_policy_number : NetkitPolicy → ℕ
@@ -53,17 +55,18 @@ netkit_policy_number policy.Drop = 2
 netkit_policy_number policy.Redirect = 7
 netkit_policy_number (policy.Other n) = n
 
-abbrev pub netkit_policy_numbering : Numbering NetkitPolicy
-netkit_policy_numbering = record { number = netkit_policy_number; other = policy.Other; named = policy.Pass ∷ policy.Drop ∷ policy.Redirect ∷ [] }
+abbrev pub netkit_policy_table : Table ℕ NetkitPolicy
+netkit_policy_table = by_number netkit_policy_number policy.Other (policy.Pass ∷ policy.Drop ∷ policy.Redirect ∷ [])
 
 -- the value of each number
 abbrev pub netkit_policy : ℕ → NetkitPolicy
-netkit_policy n = value_of netkit_policy_numbering n
+netkit_policy n = value_of netkit_policy_table n
 
-pub netkit_policy_numbering_holds : IsNumbering netkit_policy_numbering
-netkit_policy_numbering_holds = record {
-  other_number = λ n. refl;
-  reads_back = elim [ policy.Pass ↦ inr refl | policy.Drop ↦ inr refl | policy.Redirect ↦ inr refl | policy.Other n ↦ inl refl ];
+pub netkit_policy_table_holds : IsTable netkit_policy_table
+netkit_policy_table_holds = record {
+  same_decides = Decides-eqb;
+  other_key = λ n. refl;
+  found = elim [ policy.Pass ↦ inr refl | policy.Drop ↦ inr refl | policy.Redirect ↦ inr refl | policy.Other n ↦ inl refl ];
   apart = (λ p. cc, (λ p. cc, (λ p. cc, tt)));
 }
 
@@ -76,10 +79,10 @@ netkit_policy_text (policy.Other n) = decimal n
 
 -- the value of a word, or its fault
 abbrev pub netkit_policy_of_word : List ℕ → Result NetkitPolicy DecodeError
-netkit_policy_of_word word = value_of_word family.Netkit netkit_policy_text netkit_policy_numbering.named word
+netkit_policy_of_word word = value_of_word family.Netkit netkit_policy_text netkit_policy_table.named word
 
-pub netkit_policy_words_hold : ReadsWords family.Netkit netkit_policy_text netkit_policy_numbering.named
-netkit_policy_words_hold = reads_words family.Netkit netkit_policy_text netkit_policy_numbering.named (refl, (refl, (refl, tt)))
+pub netkit_policy_words_hold : ReadsWords family.Netkit netkit_policy_text netkit_policy_table.named
+netkit_policy_words_hold = reads_words family.Netkit netkit_policy_text netkit_policy_table.named (refl, (refl, (refl, tt)))
 
 -- the number of each value
 abbrev pub netkit_scrub_number : NetkitScrub → ℕ

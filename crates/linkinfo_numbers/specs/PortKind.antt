@@ -1,20 +1,111 @@
 -- The names of port kinds.
-use Rattle.std.specs.Prelude.{ℕ, List, [], ◌∷◌, codes}
+use Rattle.std.specs.Prelude.{◌≡◌, ◌≢◌, ◌==◌, ℕ, true, false, List, [], ◌∷◌, filter, length, codes, Option, Some, None, unwrap_or, ◌↔◌, refl}
+use Rattle.std.specs.List.{list_all, list_any}
+use Rattle.std.specs.Str.{bytes_eq}
+use Rattle.std.proofs.Common.{inl, inr, sym, ap, ◌∙◌}
+use Rattle.std.proofs.lemmas.Slice.Eq.{bytes_eq-Decides}
 use Rattle.linkinfo_numbers.specs.declared.names.PortTag.{PortTag}
 use Rattle.linkinfo_numbers.specs.declared.names.PortTag.TheVariants as tag
 use Rattle.linkinfo_numbers.specs.declared.port_kind.InfoPortKind.{InfoPortKind}
 use Rattle.linkinfo_numbers.specs.declared.port_kind.InfoPortKind.TheVariants as kind
-use Rattle.linkinfo_numbers.specs.Names.{part_at}
+use Rattle.linkinfo_numbers.specs.Table.{Table, IsTable, by_name, value_of, IsProper, key-value_of, value_of-key}
+use Rattle.linkinfo_numbers.specs.Names.{Tags, IsTagged, tag_among, tag_at, tag-value_of, kind-tag_at, tag_at-key}
 
--- each known name, its tag and its kind
-abbrev pub port_kind_names : List (List ℕ × PortTag × InfoPortKind)
-port_kind_names =
-    (codes "bond", tag.Bond, kind.Bond) ∷
-    (codes "bridge", tag.Bridge, kind.Bridge) ∷
-    (codes "vrf", tag.Vrf, kind.Vrf) ∷
-    (codes "team", tag.Team, kind.Team) ∷
-    []
+-- the text of each kind
+abbrev pub text_of_port_kind : InfoPortKind → List ℕ
+text_of_port_kind kind.Bond = codes "bond"
+text_of_port_kind kind.Bridge = codes "bridge"
+text_of_port_kind kind.Vrf = codes "vrf"
+text_of_port_kind kind.Team = codes "team"
+text_of_port_kind (kind.Other text) = text
+
+-- the tag of each kind, by its variant
+abbrev pub tag_of_port_kind : InfoPortKind → PortTag
+tag_of_port_kind kind.Bond = tag.Bond
+tag_of_port_kind kind.Bridge = tag.Bridge
+tag_of_port_kind kind.Vrf = tag.Vrf
+tag_of_port_kind kind.Team = tag.Team
+tag_of_port_kind (kind.Other text) = tag.Other
+
+-- the kind of each tag, which `Other` alone does not have
+abbrev pub port_kind_of_tag : PortTag → Option InfoPortKind
+port_kind_of_tag tag.Bond = Some kind.Bond
+port_kind_of_tag tag.Bridge = Some kind.Bridge
+port_kind_of_tag tag.Vrf = Some kind.Vrf
+port_kind_of_tag tag.Team = Some kind.Team
+port_kind_of_tag tag.Other = None
+
+-- the kinds that have a name of their own
+unfoldable pub known_port_kinds : List InfoPortKind
+known_port_kinds =
+    kind.Bond ∷ kind.Bridge ∷ kind.Vrf ∷ kind.Team ∷ []
+
+abbrev pub port_kind_table : Table (List ℕ) InfoPortKind
+port_kind_table = by_name text_of_port_kind kind.Other known_port_kinds
+
+abbrev pub port_kind_tags : Tags PortTag InfoPortKind
+port_kind_tags = record { tag = tag_of_port_kind; kind = port_kind_of_tag }
+
+-- the kind of a name
+unfoldable pub port_kind_of_name : List ℕ → InfoPortKind
+port_kind_of_name name = value_of port_kind_table name
 
 -- the tag of a name
-abbrev pub port_tag_of_name : List ℕ → PortTag
-port_tag_of_name name = part_at (λ row. row.1) tag.Other port_kind_names name
+unfoldable pub port_tag_of_name : List ℕ → PortTag
+port_tag_of_name name = tag_at port_kind_table port_kind_tags name
+
+pub port_kind_table_holds : IsTable port_kind_table
+unfolding known_port_kinds
+port_kind_table_holds = record {
+  same_decides = bytes_eq-Decides;
+  other_key = λ name. refl;
+  found = elim [
+      kind.Bond ↦ inr refl
+    | kind.Bridge ↦ inr refl
+    | kind.Vrf ↦ inr refl
+    | kind.Team ↦ inr refl
+    | kind.Other name ↦ inl refl
+  ];
+  apart =
+    (λ p. cc, (λ p. cc, (λ p. cc, (λ p. cc,
+    tt))));
+}
+
+pub port_kind_tags_hold : IsTagged port_kind_table port_kind_tags
+unfolding known_port_kinds
+port_kind_tags_hold = record {
+  named_tagged =
+    (refl, (refl, (refl, (refl,
+    tt))));
+  other_untagged = λ name. refl;
+}
+
+-- the tag of the kind of a name is the tag of that name
+pub tag_of_port_kind-port_kind_of_name : (name : List ℕ) → tag_of_port_kind (port_kind_of_name name) ≡ port_tag_of_name name
+unfolding port_kind_of_name port_tag_of_name
+tag_of_port_kind-port_kind_of_name name = tag-value_of port_kind_table port_kind_tags name
+
+-- the text of the kind of a name is that name
+pub text_of_port_kind-port_kind_of_name : (name : List ℕ) → text_of_port_kind (port_kind_of_name name) ≡ name
+unfolding port_kind_of_name
+text_of_port_kind-port_kind_of_name name = key-value_of port_kind_table_holds name
+
+-- the kind of the text of a kind is that kind exactly where it is not `Other` of a known name
+pub port_kind_of_name-text_of_port_kind : (k : InfoPortKind) → (port_kind_of_name (text_of_port_kind k) ≡ k) ↔ IsProper port_kind_table k
+unfolding port_kind_of_name
+port_kind_of_name-text_of_port_kind k = value_of-key port_kind_table_holds k
+
+-- the tag of the text of a kind is the tag of that kind where it is not `Other` of a known name
+pub port_tag_of_name-text_of_port_kind : (k : InfoPortKind) → IsProper port_kind_table k → port_tag_of_name (text_of_port_kind k) ≡ tag_of_port_kind k
+unfolding port_tag_of_name
+port_tag_of_name-text_of_port_kind k proper = tag_at-key port_kind_table_holds port_kind_tags k proper
+
+-- the kind of a name that has a tag is that of the tag
+pub port_kind_of_name-tagged : (name : List ℕ) (k : InfoPortKind) → port_kind_of_tag (port_tag_of_name name) ≡ Some k → port_kind_of_name name ≡ k
+unfolding port_kind_of_name port_tag_of_name
+port_kind_of_name-tagged name k e = sym (kind-tag_at port_kind_tags_hold name) ∙ ap (λ o. unwrap_or o (kind.Other name)) e
+
+-- the kind of every other name is `Other` of it
+pub port_kind_of_name-untagged : (name : List ℕ) → port_kind_of_tag (port_tag_of_name name) ≡ None → port_kind_of_name name ≡ kind.Other name
+unfolding port_kind_of_name port_tag_of_name
+port_kind_of_name-untagged name e = sym (kind-tag_at port_kind_tags_hold name) ∙ ap (λ o. unwrap_or o (kind.Other name)) e

@@ -2,12 +2,13 @@
 use Rattle.std.specs.Prelude.{◌≡◌, ℕ, List, [], ◌∷◌, codes, refl}
 use Rattle.std.specs.Fmt.{decimal}
 use Rattle.std.proofs.Common.{inl, inr}
+use Rattle.std.proofs.lemmas.Bool.Decides.{Decides-eqb}
 use Rattle.bitflags.specs.Sets.{known_bits, known_from}
 use Rattle.linkinfo_numbers.specs.declared.tunnel.TunnelEncapType.{TunnelEncapType}
 use Rattle.linkinfo_numbers.specs.declared.tunnel.TunnelEncapType.TheVariants as encapsulation
 use Rattle.linkinfo_numbers.specs.declared.tunnel.TunnelEncapFlags.{TunnelEncapFlags}
 use Rattle.linkinfo_numbers.specs.declared.tunnel.Ip6TunnelFlags.{Ip6TunnelFlags}
-use Rattle.linkinfo_numbers.specs.Number.{Numbering, IsNumbering, value_of}
+use Rattle.linkinfo_numbers.specs.Table.{Table, IsTable, by_number, value_of}
 
 -- the number of each value
 abbrev pub tunnel_encap_type_number : TunnelEncapType → ℕ
@@ -17,17 +18,18 @@ tunnel_encap_type_number encapsulation.Gue = 2
 tunnel_encap_type_number encapsulation.Mpls = 3
 tunnel_encap_type_number (encapsulation.Other n) = n
 
-abbrev pub tunnel_encap_type_numbering : Numbering TunnelEncapType
-tunnel_encap_type_numbering = record { number = tunnel_encap_type_number; other = encapsulation.Other; named = encapsulation.None ∷ encapsulation.Fou ∷ encapsulation.Gue ∷ encapsulation.Mpls ∷ [] }
+abbrev pub tunnel_encap_type_table : Table ℕ TunnelEncapType
+tunnel_encap_type_table = by_number tunnel_encap_type_number encapsulation.Other (encapsulation.None ∷ encapsulation.Fou ∷ encapsulation.Gue ∷ encapsulation.Mpls ∷ [])
 
 -- the value of each number
 abbrev pub tunnel_encap_type : ℕ → TunnelEncapType
-tunnel_encap_type n = value_of tunnel_encap_type_numbering n
+tunnel_encap_type n = value_of tunnel_encap_type_table n
 
-pub tunnel_encap_type_numbering_holds : IsNumbering tunnel_encap_type_numbering
-tunnel_encap_type_numbering_holds = record {
-  other_number = λ n. refl;
-  reads_back = elim [ encapsulation.None ↦ inr refl | encapsulation.Fou ↦ inr refl | encapsulation.Gue ↦ inr refl | encapsulation.Mpls ↦ inr refl | encapsulation.Other n ↦ inl refl ];
+pub tunnel_encap_type_table_holds : IsTable tunnel_encap_type_table
+tunnel_encap_type_table_holds = record {
+  same_decides = Decides-eqb;
+  other_key = λ n. refl;
+  found = elim [ encapsulation.None ↦ inr refl | encapsulation.Fou ↦ inr refl | encapsulation.Gue ↦ inr refl | encapsulation.Mpls ↦ inr refl | encapsulation.Other n ↦ inl refl ];
   apart = (λ p. cc, (λ p. cc, (λ p. cc, (λ p. cc, tt))));
 }
 

@@ -2,9 +2,10 @@
 use Rattle.std.specs.Prelude.{ℕ, List, [], ◌∷◌, codes, refl}
 use Rattle.std.specs.Fmt.{decimal}
 use Rattle.std.proofs.Common.{inl, inr}
+use Rattle.std.proofs.lemmas.Bool.Decides.{Decides-eqb}
 use Rattle.linkinfo_numbers.specs.declared.vxlan.VxlanDf.{VxlanDf}
 use Rattle.linkinfo_numbers.specs.declared.vxlan.VxlanDf.TheVariants as df
-use Rattle.linkinfo_numbers.specs.Number.{Numbering, IsNumbering, value_of}
+use Rattle.linkinfo_numbers.specs.Table.{Table, IsTable, by_number, value_of}
 
 -- the number of each value
 abbrev pub vxlan_df_number : VxlanDf → ℕ
@@ -13,17 +14,18 @@ vxlan_df_number df.Set = 1
 vxlan_df_number df.Inherit = 2
 vxlan_df_number (df.Other n) = n
 
-abbrev pub vxlan_df_numbering : Numbering VxlanDf
-vxlan_df_numbering = record { number = vxlan_df_number; other = df.Other; named = df.Unset ∷ df.Set ∷ df.Inherit ∷ [] }
+abbrev pub vxlan_df_table : Table ℕ VxlanDf
+vxlan_df_table = by_number vxlan_df_number df.Other (df.Unset ∷ df.Set ∷ df.Inherit ∷ [])
 
 -- the value of each number
 abbrev pub vxlan_df : ℕ → VxlanDf
-vxlan_df n = value_of vxlan_df_numbering n
+vxlan_df n = value_of vxlan_df_table n
 
-pub vxlan_df_numbering_holds : IsNumbering vxlan_df_numbering
-vxlan_df_numbering_holds = record {
-  other_number = λ n. refl;
-  reads_back = elim [ df.Unset ↦ inr refl | df.Set ↦ inr refl | df.Inherit ↦ inr refl | df.Other n ↦ inl refl ];
+pub vxlan_df_table_holds : IsTable vxlan_df_table
+vxlan_df_table_holds = record {
+  same_decides = Decides-eqb;
+  other_key = λ n. refl;
+  found = elim [ df.Unset ↦ inr refl | df.Set ↦ inr refl | df.Inherit ↦ inr refl | df.Other n ↦ inl refl ];
   apart = (λ p. cc, (λ p. cc, (λ p. cc, tt)));
 }
 

@@ -1,9 +1,9 @@
 //! The names of link kinds and port kinds, and their tags.
 
 ghost use Rattle.std.specs.Prelude.{◌≡◌, length};
-ghost use Rattle.linkinfo_numbers.specs.Kind.{kind_names, tag_among, tag_of_name};
+ghost use Rattle.linkinfo_numbers.specs.Kind.{kind_table, kind_tags, kinds_of_length, tag_of_name};
 ghost use Rattle.linkinfo_numbers.specs.PortKind.{port_tag_of_name};
-ghost use Rattle.linkinfo_numbers.specs.Names.{names_of_length};
+ghost use Rattle.linkinfo_numbers.specs.Names.{tag_among};
 
 use nla_frame::ExactEq;
 
@@ -149,10 +149,10 @@ pub fn tag_of_name(name: &[u8]) -> KindTag
 }
 
 /// The tag of a name of three bytes.
-#[tactic(auto, unfolding(crate::specs::Kind::kind_names))]
+#[tactic(auto, unfolding(crate::specs::Kind::known_kinds))]
 fn tag_of_three(name: &[u8]) -> KindTag
     requires { length name.now ≡ 3 }
-    ensures { result ≡ tag_among (names_of_length 3 kind_names) name.now }
+    ensures { result ≡ tag_among kind_table kind_tags (kinds_of_length 3) name.now }
 {
     match name {
         [b'i', b'f', b'b'] => KindTag::Ifb,
@@ -171,10 +171,10 @@ fn tag_of_three(name: &[u8]) -> KindTag
 }
 
 /// The tag of a name of four bytes.
-#[tactic(auto, unfolding(crate::specs::Kind::kind_names))]
+#[tactic(auto, unfolding(crate::specs::Kind::known_kinds))]
 fn tag_of_four(name: &[u8]) -> KindTag
     requires { length name.now ≡ 4 }
-    ensures { result ≡ tag_among (names_of_length 4 kind_names) name.now }
+    ensures { result ≡ tag_among kind_table kind_tags (kinds_of_length 4) name.now }
 {
     match name {
         [b'v', b'l', b'a', b'n'] => KindTag::Vlan,
@@ -192,10 +192,10 @@ fn tag_of_four(name: &[u8]) -> KindTag
 }
 
 /// The tag of a name of five bytes.
-#[tactic(auto, unfolding(crate::specs::Kind::kind_names))]
+#[tactic(auto, unfolding(crate::specs::Kind::known_kinds))]
 fn tag_of_five(name: &[u8]) -> KindTag
     requires { length name.now ≡ 5 }
-    ensures { result ≡ tag_among (names_of_length 5 kind_names) name.now }
+    ensures { result ≡ tag_among kind_table kind_tags (kinds_of_length 5) name.now }
 {
     match name {
         [b'd', b'u', b'm', b'm', b'y'] => KindTag::Dummy,
@@ -209,10 +209,10 @@ fn tag_of_five(name: &[u8]) -> KindTag
 }
 
 /// The tag of a name of six bytes.
-#[tactic(auto, unfolding(crate::specs::Kind::kind_names))]
+#[tactic(auto, unfolding(crate::specs::Kind::known_kinds))]
 fn tag_of_six(name: &[u8]) -> KindTag
     requires { length name.now ≡ 6 }
-    ensures { result ≡ tag_among (names_of_length 6 kind_names) name.now }
+    ensures { result ≡ tag_among kind_table kind_tags (kinds_of_length 6) name.now }
 {
     match name {
         [b'b', b'r', b'i', b'd', b'g', b'e'] => KindTag::Bridge,
@@ -231,10 +231,10 @@ fn tag_of_six(name: &[u8]) -> KindTag
 }
 
 /// The tag of a name of seven bytes.
-#[tactic(auto, unfolding(crate::specs::Kind::kind_names))]
+#[tactic(auto, unfolding(crate::specs::Kind::known_kinds))]
 fn tag_of_seven(name: &[u8]) -> KindTag
     requires { length name.now ≡ 7 }
-    ensures { result ≡ tag_among (names_of_length 7 kind_names) name.now }
+    ensures { result ≡ tag_among kind_table kind_tags (kinds_of_length 7) name.now }
 {
     match name {
         [b'm', b'a', b'c', b'v', b'l', b'a', b'n'] => KindTag::MacVlan,
@@ -245,10 +245,10 @@ fn tag_of_seven(name: &[u8]) -> KindTag
 }
 
 /// The tag of a name of nine bytes.
-#[tactic(auto, unfolding(crate::specs::Kind::kind_names))]
+#[tactic(auto, unfolding(crate::specs::Kind::known_kinds))]
 fn tag_of_nine(name: &[u8]) -> KindTag
     requires { length name.now ≡ 9 }
-    ensures { result ≡ tag_among (names_of_length 9 kind_names) name.now }
+    ensures { result ≡ tag_among kind_table kind_tags (kinds_of_length 9) name.now }
 {
     match name {
         [b'i', b'p', b'6', b'g', b'r', b'e', b't', b'a', b'p'] => KindTag::GreTap6,
@@ -261,6 +261,7 @@ fn tag_of_nine(name: &[u8]) -> KindTag
 }
 
 /// The tag of the port kind of this name, given without a closing NUL; `Other` for every name that is not known.
+#[tactic(auto, unfolding(crate::specs::PortKind::port_tag_of_name, crate::specs::PortKind::known_port_kinds))]
 pub fn port_tag_of_name(name: &[u8]) -> PortTag
     ensures { result ≡ port_tag_of_name name.now }
 {
