@@ -1,14 +1,17 @@
 -- The names of link kinds.
-use Rattle.std.specs.Prelude.{◌≡◌, ◌≢◌, ◌==◌, ℕ, true, false, List, [], ◌∷◌, filter, length, codes, Option, Some, None, unwrap_or, ◌↔◌, refl}
+use Rattle.std.specs.Prelude.{◌≡◌, ◌≢◌, ◌==◌, ℕ, true, false, List, [], ◌∷◌, filter, length, codes, Option, Some, None, unwrap_or, is_none, ◌↔◌, Bool, Result, Ok, Err, refl}
 use Rattle.std.specs.List.{list_all, list_any}
 use Rattle.std.specs.Str.{bytes_eq}
 use Rattle.std.proofs.Common.{inl, inr, sym, ap, ◌∙◌}
 use Rattle.std.proofs.lemmas.Slice.Eq.{bytes_eq-Decides}
+use Rattle.nla_frame.specs.Attribute.{Attribute}
+use Rattle.nla_frame.specs.declared.error.DecodeError.{DecodeError}
 use Rattle.linkinfo_numbers.specs.declared.names.KindTag.{KindTag}
 use Rattle.linkinfo_numbers.specs.declared.names.KindTag.TheVariants as tag
 use Rattle.linkinfo_numbers.specs.declared.kind.InfoKind.{InfoKind}
 use Rattle.linkinfo_numbers.specs.declared.kind.InfoKind.TheVariants as kind
 use Rattle.linkinfo_numbers.specs.Table.{Table, IsTable, by_name, value_of, IsProper, key-value_of, value_of-key}
+use Rattle.linkinfo_numbers.specs.Name.{name_of, name_attribute}
 use Rattle.linkinfo_numbers.specs.Names.{Tags, IsTagged, tag_among, tag_at, tag-value_of, kind-tag_at, tag_at-key, tag_among-of_length, tag_among-other_length}
 
 -- the text of each kind
@@ -312,3 +315,23 @@ known_lengths = refl
 pub tag_of_name-other_length : (name : List ℕ) → list_any (λ n. n == length name) name_lengths ≡ false → tag_of_name name ≡ tag.Other
 unfolding tag_of_name
 tag_of_name-other_length name h = tag_among-other_length kind_table kind_tags bytes_eq-Decides name_lengths known_kinds name known_lengths h
+
+-- what an attribute means as a kind: the kind of its name, or its fault
+abbrev pub kind_meaning_of_name : Result (List ℕ) DecodeError → Result InfoKind DecodeError
+kind_meaning_of_name (Ok name) = Ok (kind_of_name name)
+kind_meaning_of_name (Err fault) = Err fault
+
+abbrev pub kind_meaning : Attribute → Result InfoKind DecodeError
+kind_meaning a = kind_meaning_of_name (name_of 1 a)
+
+-- memory is needed for a name that is not known
+abbrev pub kind_needs_memory_for_name : Result (List ℕ) DecodeError → Bool
+kind_needs_memory_for_name (Ok name) = is_none (kind_of_tag (tag_of_name name))
+kind_needs_memory_for_name (Err fault) = false
+
+abbrev pub kind_needs_memory : Attribute → Bool
+kind_needs_memory a = kind_needs_memory_for_name (name_of 1 a)
+
+-- the attribute of a kind
+abbrev pub kind_attribute : InfoKind → Attribute
+kind_attribute k = name_attribute 1 (text_of_kind k)

@@ -10,6 +10,7 @@ pub mod Ipvlan
 pub mod Kind
 pub mod Macsec
 pub mod Macvlan
+pub mod Name
 pub mod Names
 pub mod Netkit
 pub mod PortKind

@@ -1,14 +1,17 @@
 -- The names of port kinds.
-use Rattle.std.specs.Prelude.{◌≡◌, ◌≢◌, ◌==◌, ℕ, true, false, List, [], ◌∷◌, filter, length, codes, Option, Some, None, unwrap_or, ◌↔◌, refl}
+use Rattle.std.specs.Prelude.{◌≡◌, ◌≢◌, ◌==◌, ℕ, true, false, List, [], ◌∷◌, filter, length, codes, Option, Some, None, unwrap_or, is_none, ◌↔◌, Bool, Result, Ok, Err, refl}
 use Rattle.std.specs.List.{list_all, list_any}
 use Rattle.std.specs.Str.{bytes_eq}
 use Rattle.std.proofs.Common.{inl, inr, sym, ap, ◌∙◌}
 use Rattle.std.proofs.lemmas.Slice.Eq.{bytes_eq-Decides}
+use Rattle.nla_frame.specs.Attribute.{Attribute}
+use Rattle.nla_frame.specs.declared.error.DecodeError.{DecodeError}
 use Rattle.linkinfo_numbers.specs.declared.names.PortTag.{PortTag}
 use Rattle.linkinfo_numbers.specs.declared.names.PortTag.TheVariants as tag
 use Rattle.linkinfo_numbers.specs.declared.port_kind.InfoPortKind.{InfoPortKind}
 use Rattle.linkinfo_numbers.specs.declared.port_kind.InfoPortKind.TheVariants as kind
 use Rattle.linkinfo_numbers.specs.Table.{Table, IsTable, by_name, value_of, IsProper, key-value_of, value_of-key}
+use Rattle.linkinfo_numbers.specs.Name.{name_of, name_attribute}
 use Rattle.linkinfo_numbers.specs.Names.{Tags, IsTagged, tag_among, tag_at, tag-value_of, kind-tag_at, tag_at-key}
 
 -- the text of each kind
@@ -109,3 +112,23 @@ port_kind_of_name-tagged name k e = sym (kind-tag_at port_kind_tags_hold name) �
 pub port_kind_of_name-untagged : (name : List ℕ) → port_kind_of_tag (port_tag_of_name name) ≡ None → port_kind_of_name name ≡ kind.Other name
 unfolding port_kind_of_name port_tag_of_name
 port_kind_of_name-untagged name e = sym (kind-tag_at port_kind_tags_hold name) ∙ ap (λ o. unwrap_or o (kind.Other name)) e
+
+-- what an attribute means as a port kind: the kind of its name, or its fault
+abbrev pub port_kind_meaning_of_name : Result (List ℕ) DecodeError → Result InfoPortKind DecodeError
+port_kind_meaning_of_name (Ok name) = Ok (port_kind_of_name name)
+port_kind_meaning_of_name (Err fault) = Err fault
+
+abbrev pub port_kind_meaning : Attribute → Result InfoPortKind DecodeError
+port_kind_meaning a = port_kind_meaning_of_name (name_of 4 a)
+
+-- memory is needed for a name that is not known
+abbrev pub port_kind_needs_memory_for_name : Result (List ℕ) DecodeError → Bool
+port_kind_needs_memory_for_name (Ok name) = is_none (port_kind_of_tag (port_tag_of_name name))
+port_kind_needs_memory_for_name (Err fault) = false
+
+abbrev pub port_kind_needs_memory : Attribute → Bool
+port_kind_needs_memory a = port_kind_needs_memory_for_name (name_of 4 a)
+
+-- the attribute of a port kind
+abbrev pub port_kind_attribute : InfoPortKind → Attribute
+port_kind_attribute k = name_attribute 4 (text_of_port_kind k)

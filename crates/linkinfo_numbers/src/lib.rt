@@ -13,6 +13,7 @@ mod ipvlan;
 mod kind;
 mod macsec;
 mod macvlan;
+mod name;
 mod names;
 mod netkit;
 mod port_kind;

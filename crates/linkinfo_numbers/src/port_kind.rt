@@ -3,10 +3,14 @@
 ghost use Rattle.std.specs.Prelude.{◌≡◌, ◌≢◌, IfOk, IsOk};
 ghost use Rattle.linkinfo_numbers.specs.PortKind.{port_kind_of_name, port_kind_of_tag, tag_of_port_kind, port_tag_of_name, text_of_port_kind};
 
+use crate::name::{emit_name, name_fit_len, name_of};
 use crate::names::{PortTag, port_tag_of_name};
-use nla_frame::{ExactEq, Text};
+use nla_frame::{DecodeError, ExactEq, Nla, NlaBuffer, Parseable, Text};
 use std::alloc::{AllocError, Global};
 use std::fmt;
+
+/// `IFLA_INFO_SLAVE_KIND`.
+const IFLA_INFO_SLAVE_KIND: u16 = 4;
 
 /// The kind of the link that a port belongs to: `IFLA_INFO_SLAVE_KIND`, the name of its driver (include/uapi/linux/if_link.h).
 #[derive(Clone, Debug, PartialEq, Eq, Drop)]
@@ -86,6 +90,46 @@ impl fmt::Display for InfoPortKind {
 
     fn fmt<W: fmt::Write>(&self, f: &mut fmt::Formatter<W>) -> fmt::Result {
         f.write_str(self.name())
+    }
+}
+
+/// Written as the name and a NUL, with the type 4. It fits where the name has at most 65530 bytes.
+impl Nla for InfoPortKind {
+    ghost use Rattle.linkinfo_numbers.specs.PortKind.{port_kind_attribute};
+
+    ghost attribute = { port_kind_attribute };
+
+    fn value_len(&self) -> usize {
+        self.name().len() + 1
+    }
+
+    fn kind(&self) -> u16 {
+        IFLA_INFO_SLAVE_KIND
+    }
+
+    fn emit_value(&self, buffer: &mut [u8]) {
+        emit_name(self.name(), buffer);
+    }
+
+    fn fit_len(&self) -> Option<usize> {
+        name_fit_len(self.name())
+    }
+}
+
+/// The kind of the attribute's name.
+///
+/// Refused as (LinkInfo, the attribute's type, WrongType) where it has another type, and as (LinkInfo, 4, Utf8) where the name is not
+/// UTF-8. A name that is not known takes memory.
+impl<'a> Parseable<NlaBuffer<'a>> for InfoPortKind {
+    ghost use Rattle.linkinfo_numbers.specs.PortKind.{port_kind_meaning, port_kind_needs_memory};
+
+    ghost meaning = { port_kind_meaning };
+
+    ghost needs_memory = { port_kind_needs_memory };
+
+    fn parse(alloc: Global, buffer: &NlaBuffer<'a>) -> Result<InfoPortKind, DecodeError> {
+        let name = name_of(buffer, IFLA_INFO_SLAVE_KIND)?;
+        Ok(InfoPortKind::from_text(alloc, name)?)
     }
 }
 
