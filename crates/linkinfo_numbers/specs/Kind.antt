@@ -1,8 +1,8 @@
 -- The names of link kinds.
 use Rattle.std.specs.Prelude.{◌≡◌, ◌≢◌, ◌==◌, ℕ, true, false, List, [], ◌∷◌, filter, length, codes, Option, Some, None, unwrap_or, is_none, ◌↔◌, Bool, Result, Ok, Err, refl}
 use Rattle.std.specs.List.{list_all, list_any}
-use Rattle.std.specs.Str.{bytes_eq}
-use Rattle.std.proofs.Common.{inl, inr, sym, ap, ◌∙◌}
+use Rattle.std.specs.Str.{bytes_eq, is_utf8}
+use Rattle.std.proofs.Common.{inl, inr, sym, ap, ◌∙◌, lit<}
 use Rattle.std.proofs.lemmas.Slice.Eq.{bytes_eq-Decides}
 use Rattle.nla_frame.specs.Attribute.{Attribute}
 use Rattle.nla_frame.specs.declared.error.DecodeError.{DecodeError}
@@ -11,7 +11,7 @@ use Rattle.linkinfo_numbers.specs.declared.names.KindTag.TheVariants as tag
 use Rattle.linkinfo_numbers.specs.declared.kind.InfoKind.{InfoKind}
 use Rattle.linkinfo_numbers.specs.declared.kind.InfoKind.TheVariants as kind
 use Rattle.linkinfo_numbers.specs.Table.{Table, IsTable, by_name, value_of, IsProper, key-value_of, value_of-key}
-use Rattle.linkinfo_numbers.specs.Name.{name_of, name_attribute}
+use Rattle.linkinfo_numbers.specs.Name.{name_of, name_attribute, name_of-name_attribute}
 use Rattle.linkinfo_numbers.specs.Names.{Tags, IsTagged, tag_among, tag_at, tag-value_of, kind-tag_at, tag_at-key, tag_among-of_length, tag_among-other_length}
 
 -- the text of each kind
@@ -335,3 +335,16 @@ kind_needs_memory a = kind_needs_memory_for_name (name_of 1 a)
 -- the attribute of a kind
 abbrev pub kind_attribute : InfoKind → Attribute
 kind_attribute k = name_attribute 1 (text_of_kind k)
+
+-- the attribute of a kind means the kind of its text
+pub kind_meaning-kind_attribute : (k : InfoKind) → is_utf8 (text_of_kind k) ≡ true → kind_meaning (kind_attribute k) ≡ Ok (kind_of_name (text_of_kind k))
+kind_meaning-kind_attribute k utf8 = ap kind_meaning_of_name (name_of-name_attribute 1 (text_of_kind k) (lit< tt) utf8)
+
+-- that is the kind itself exactly where it is not `Other` of a known name
+pub kind_attribute_reads_back : (k : InfoKind) → is_utf8 (text_of_kind k) ≡ true → (kind_meaning (kind_attribute k) ≡ Ok k) ↔ IsProper kind_table k
+kind_attribute_reads_back k utf8 =
+    let read = kind_meaning-kind_attribute k utf8 in
+    (
+      λ p. let same : kind_of_name (text_of_kind k) ≡ k = cc in (kind_of_name-text_of_kind k).0 same,
+      λ proper. read ∙ ap (λ x. Ok x) ((kind_of_name-text_of_kind k).1 proper),
+    )

@@ -1,6 +1,8 @@
 -- Names in attributes: a text, and one zero byte behind it.
-use Rattle.std.specs.Prelude.{◌≡◌, ◌+◌, ◌-◌, ◌==◌, ℕ, true, if◌then◌else◌, List, [], ◌∷◌, ◌++◌, length, take, drop, Result, Ok, Err, refl}
+use Rattle.std.specs.Prelude.{◌≡◌, ◌-◌, ◌<◌, ◌==◌, ℕ, true, if◌then◌else◌, List, [], ◌∷◌, ◌++◌, length, take, drop, Result, Ok, Err, refl}
 use Rattle.std.specs.Str.{bytes_eq, is_utf8}
+use Rattle.std.proofs.Common.{arith, ap, ◌∙◌, eq-eqb, length-append}
+use Rattle.std.proofs.Math.Seq.{take-append_seam, drop-append_seam}
 use Rattle.nla_frame.specs.Attribute.{Attribute, masked}
 use Rattle.nla_frame.specs.declared.error.Family.TheVariants as family
 use Rattle.nla_frame.specs.declared.error.Cause.TheVariants as cause
@@ -26,3 +28,20 @@ name_of kind a =
 -- the attribute of this type that holds a name
 abbrev pub name_attribute : ℕ → List ℕ → Attribute
 name_attribute kind name = record { kind = kind; value = name ++ 0 ∷ [] }
+
+last_of : (name : List ℕ) → length (name ++ 0 ∷ []) - 1 ≡ length name
+last_of name = simp length-append (omega arith)
+
+-- a name reads back from the payload that holds it
+pub name_in-zero : (name : List ℕ) → name_in (name ++ 0 ∷ []) ≡ name
+name_in-zero name =
+    let cut : ℕ → List ℕ = λ n. if bytes_eq (drop n (name ++ 0 ∷ [])) (0 ∷ []) then take n (name ++ 0 ∷ []) else name ++ 0 ∷ [] in
+    let whole : cut (length name) ≡ name = rw (drop-append_seam name (0 ∷ [])) (take-append_seam name (0 ∷ [])) in
+    ap cut (last_of name) ∙ whole
+
+-- a name of UTF-8 reads back from its attribute
+pub name_of-name_attribute : (kind : ℕ) (name : List ℕ) → kind < 16384 → is_utf8 name ≡ true → name_of kind (name_attribute kind name) ≡ Ok name
+name_of-name_attribute kind name small utf8 =
+    let same : masked kind ≡ kind = omega arith in
+    let here : (masked kind == kind) ≡ true = eq-eqb (masked kind) kind same in
+    rw (here, name_in-zero name, utf8) refl

@@ -1,8 +1,8 @@
 -- The names of port kinds.
 use Rattle.std.specs.Prelude.{◌≡◌, ◌≢◌, ◌==◌, ℕ, true, false, List, [], ◌∷◌, filter, length, codes, Option, Some, None, unwrap_or, is_none, ◌↔◌, Bool, Result, Ok, Err, refl}
 use Rattle.std.specs.List.{list_all, list_any}
-use Rattle.std.specs.Str.{bytes_eq}
-use Rattle.std.proofs.Common.{inl, inr, sym, ap, ◌∙◌}
+use Rattle.std.specs.Str.{bytes_eq, is_utf8}
+use Rattle.std.proofs.Common.{inl, inr, sym, ap, ◌∙◌, lit<}
 use Rattle.std.proofs.lemmas.Slice.Eq.{bytes_eq-Decides}
 use Rattle.nla_frame.specs.Attribute.{Attribute}
 use Rattle.nla_frame.specs.declared.error.DecodeError.{DecodeError}
@@ -11,7 +11,7 @@ use Rattle.linkinfo_numbers.specs.declared.names.PortTag.TheVariants as tag
 use Rattle.linkinfo_numbers.specs.declared.port_kind.InfoPortKind.{InfoPortKind}
 use Rattle.linkinfo_numbers.specs.declared.port_kind.InfoPortKind.TheVariants as kind
 use Rattle.linkinfo_numbers.specs.Table.{Table, IsTable, by_name, value_of, IsProper, key-value_of, value_of-key}
-use Rattle.linkinfo_numbers.specs.Name.{name_of, name_attribute}
+use Rattle.linkinfo_numbers.specs.Name.{name_of, name_attribute, name_of-name_attribute}
 use Rattle.linkinfo_numbers.specs.Names.{Tags, IsTagged, tag_among, tag_at, tag-value_of, kind-tag_at, tag_at-key}
 
 -- the text of each kind
@@ -132,3 +132,16 @@ port_kind_needs_memory a = port_kind_needs_memory_for_name (name_of 4 a)
 -- the attribute of a port kind
 abbrev pub port_kind_attribute : InfoPortKind → Attribute
 port_kind_attribute k = name_attribute 4 (text_of_port_kind k)
+
+-- the attribute of a kind means the kind of its text
+pub port_kind_meaning-port_kind_attribute : (k : InfoPortKind) → is_utf8 (text_of_port_kind k) ≡ true → port_kind_meaning (port_kind_attribute k) ≡ Ok (port_kind_of_name (text_of_port_kind k))
+port_kind_meaning-port_kind_attribute k utf8 = ap port_kind_meaning_of_name (name_of-name_attribute 4 (text_of_port_kind k) (lit< tt) utf8)
+
+-- that is the kind itself exactly where it is not `Other` of a known name
+pub port_kind_attribute_reads_back : (k : InfoPortKind) → is_utf8 (text_of_port_kind k) ≡ true → (port_kind_meaning (port_kind_attribute k) ≡ Ok k) ↔ IsProper port_kind_table k
+port_kind_attribute_reads_back k utf8 =
+    let read = port_kind_meaning-port_kind_attribute k utf8 in
+    (
+      λ p. let same : port_kind_of_name (text_of_port_kind k) ≡ k = cc in (port_kind_of_name-text_of_port_kind k).0 same,
+      λ proper. read ∙ ap (λ x. Ok x) ((port_kind_of_name-text_of_port_kind k).1 proper),
+    )

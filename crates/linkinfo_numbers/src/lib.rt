@@ -11,6 +11,7 @@ mod ip;
 mod ipoib;
 mod ipvlan;
 mod kind;
+pub mod laws;
 mod macsec;
 mod macvlan;
 mod name;
@@ -18,6 +19,8 @@ mod names;
 mod netkit;
 mod port_kind;
 mod rmnet;
+#[cfg(test)]
+mod tests;
 mod tunnel;
 mod vxlan;
 mod word;
