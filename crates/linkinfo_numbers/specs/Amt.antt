@@ -27,7 +27,7 @@ pub amt_mode_table_holds : IsTable amt_mode_table
 amt_mode_table_holds = record {
   same_decides = Decides-eqb;
   other_key = λ n. refl;
-  found = elim [ mode.Gateway ↦ inr refl | mode.Relay ↦ inr refl | mode.Other n ↦ inl refl ];
+  found = elim [ mode.Other n ↦ inl refl | _ ↦ inr refl ];
   apart = (λ p. cc, (λ p. cc, tt));
 }
 

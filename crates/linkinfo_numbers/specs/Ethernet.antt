@@ -22,6 +22,6 @@ pub ethernet_protocol_table_holds : IsTable ethernet_protocol_table
 ethernet_protocol_table_holds = record {
   same_decides = Decides-eqb;
   other_key = λ n. refl;
-  found = elim [ protocol.MplsUc ↦ inr refl | protocol.Other n ↦ inl refl ];
+  found = elim [ protocol.Other n ↦ inl refl | _ ↦ inr refl ];
   apart = (λ p. cc, tt);
 }

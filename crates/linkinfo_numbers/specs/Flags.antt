@@ -1,7 +1,7 @@
 -- Sets of flags whose last row holds every bit.
 use Rattle.std.specs.Prelude.{◌≡◌, ◌<◌, ◌^◌, ℕ, List}
 use Rattle.std.specs.Int.RustNames.{bit_and}
-use Rattle.std.proofs.Common.{◌%◌, ◌∙◌, ap, arith}
+use Rattle.std.proofs.Common.{◌∙◌, ap, arith}
 use Rattle.std.proofs.lemmas.Nat.{and_mask}
 use Rattle.bitflags.specs.Sets.{known_bits}
 

@@ -28,7 +28,7 @@ pub geneve_df_table_holds : IsTable geneve_df_table
 geneve_df_table_holds = record {
   same_decides = Decides-eqb;
   other_key = λ n. refl;
-  found = elim [ df.Unset ↦ inr refl | df.Set ↦ inr refl | df.Inherit ↦ inr refl | df.Other n ↦ inl refl ];
+  found = elim [ df.Other n ↦ inl refl | _ ↦ inr refl ];
   apart = (λ p. cc, (λ p. cc, (λ p. cc, tt)));
 }
 

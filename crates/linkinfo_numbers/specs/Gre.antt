@@ -30,7 +30,7 @@ pub gre_encap_type_table_holds : IsTable gre_encap_type_table
 gre_encap_type_table_holds = record {
   same_decides = Decides-eqb;
   other_key = λ n. refl;
-  found = elim [ encapsulation.None ↦ inr refl | encapsulation.Fou ↦ inr refl | encapsulation.Gue ↦ inr refl | encapsulation.Other n ↦ inl refl ];
+  found = elim [ encapsulation.Other n ↦ inl refl | _ ↦ inr refl ];
   apart = (λ p. cc, (λ p. cc, (λ p. cc, tt)));
 }
 
@@ -58,7 +58,7 @@ pub er_span_dir_table_holds : IsTable er_span_dir_table
 er_span_dir_table_holds = record {
   same_decides = Decides-eqb;
   other_key = λ n. refl;
-  found = elim [ direction.Ingress ↦ inr refl | direction.Egress ↦ inr refl | direction.Other n ↦ inl refl ];
+  found = elim [ direction.Other n ↦ inl refl | _ ↦ inr refl ];
   apart = (λ p. cc, (λ p. cc, tt));
 }
 

@@ -24,7 +24,7 @@ pub gtp_role_table_holds : IsTable gtp_role_table
 gtp_role_table_holds = record {
   same_decides = Decides-eqb;
   other_key = λ n. refl;
-  found = elim [ role.Ggsn ↦ inr refl | role.Sgsn ↦ inr refl | role.Other n ↦ inl refl ];
+  found = elim [ role.Other n ↦ inl refl | _ ↦ inr refl ];
   apart = (λ p. cc, (λ p. cc, tt));
 }
 

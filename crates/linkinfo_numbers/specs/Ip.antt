@@ -24,6 +24,6 @@ pub ip_protocol_table_holds : IsTable ip_protocol_table
 ip_protocol_table_holds = record {
   same_decides = Decides-eqb;
   other_key = λ n. refl;
-  found = elim [ protocol.Ipip ↦ inr refl | protocol.Ipv6 ↦ inr refl | protocol.Mpls ↦ inr refl | protocol.Other n ↦ inl refl ];
+  found = elim [ protocol.Other n ↦ inl refl | _ ↦ inr refl ];
   apart = (λ p. cc, (λ p. cc, (λ p. cc, tt)));
 }

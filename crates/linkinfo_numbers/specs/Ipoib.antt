@@ -23,6 +23,6 @@ pub ipoib_mode_table_holds : IsTable ipoib_mode_table
 ipoib_mode_table_holds = record {
   same_decides = Decides-eqb;
   other_key = λ n. refl;
-  found = elim [ mode.Datagram ↦ inr refl | mode.Connected ↦ inr refl | mode.Other n ↦ inl refl ];
+  found = elim [ mode.Other n ↦ inl refl | _ ↦ inr refl ];
   apart = (λ p. cc, (λ p. cc, tt));
 }

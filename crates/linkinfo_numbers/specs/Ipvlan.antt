@@ -30,7 +30,7 @@ pub ip_vlan_mode_table_holds : IsTable ip_vlan_mode_table
 ip_vlan_mode_table_holds = record {
   same_decides = Decides-eqb;
   other_key = λ n. refl;
-  found = elim [ mode.L2 ↦ inr refl | mode.L3 ↦ inr refl | mode.L3S ↦ inr refl | mode.Other n ↦ inl refl ];
+  found = elim [ mode.Other n ↦ inl refl | _ ↦ inr refl ];
   apart = (λ p. cc, (λ p. cc, (λ p. cc, tt)));
 }
 

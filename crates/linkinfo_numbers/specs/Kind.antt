@@ -1,7 +1,7 @@
 -- The names of link kinds.
-use Rattle.std.specs.Prelude.{◌≡◌, ◌≢◌, ◌==◌, ℕ, true, false, List, [], ◌∷◌, filter, length, codes, Option, Some, None, unwrap_or, is_none, ◌↔◌, Bool, Result, Ok, Err, refl}
+use Rattle.std.specs.Prelude.{◌≡◌, ◌==◌, ℕ, true, false, List, [], ◌∷◌, filter, length, codes, Option, Some, None, unwrap_or, is_none, ◌↔◌, Bool, Result, Ok, Err, refl}
 use Rattle.std.specs.List.{list_all, list_any}
-use Rattle.std.specs.Str.{bytes_eq, is_utf8}
+use Rattle.std.specs.Str.{is_utf8}
 use Rattle.std.proofs.Common.{inl, inr, sym, ap, ◌∙◌, lit<}
 use Rattle.std.proofs.lemmas.Slice.Eq.{bytes_eq-Decides}
 use Rattle.nla_frame.specs.Attribute.{Attribute}
@@ -10,7 +10,7 @@ use Rattle.linkinfo_numbers.specs.declared.names.KindTag.{KindTag}
 use Rattle.linkinfo_numbers.specs.declared.names.KindTag.TheVariants as tag
 use Rattle.linkinfo_numbers.specs.declared.kind.InfoKind.{InfoKind}
 use Rattle.linkinfo_numbers.specs.declared.kind.InfoKind.TheVariants as kind
-use Rattle.linkinfo_numbers.specs.Table.{Table, IsTable, by_name, value_of, IsProper, key-value_of, value_of-key}
+use Rattle.linkinfo_numbers.specs.Table.{Table, IsTable, by_name, value_of, IsProper, apart_by, key-value_of, value_of-key}
 use Rattle.linkinfo_numbers.specs.Name.{name_of, name_attribute, name_of-name_attribute}
 use Rattle.linkinfo_numbers.specs.Names.{Tags, IsTagged, tag_among, tag_at, tag-value_of, kind-tag_at, tag_at-key, tag_among-of_length, tag_among-other_length}
 
@@ -193,75 +193,12 @@ unfolding known_kinds
 kind_table_holds = record {
   same_decides = bytes_eq-Decides;
   other_key = λ name. refl;
-  found = elim [
-      kind.Dummy ↦ inr refl
-    | kind.Ifb ↦ inr refl
-    | kind.Bridge ↦ inr refl
-    | kind.Tun ↦ inr refl
-    | kind.Nlmon ↦ inr refl
-    | kind.Vlan ↦ inr refl
-    | kind.Veth ↦ inr refl
-    | kind.Vxlan ↦ inr refl
-    | kind.Bond ↦ inr refl
-    | kind.IpVlan ↦ inr refl
-    | kind.IpVtap ↦ inr refl
-    | kind.MacVlan ↦ inr refl
-    | kind.MacVtap ↦ inr refl
-    | kind.GreTap ↦ inr refl
-    | kind.GreTap6 ↦ inr refl
-    | kind.IpIp ↦ inr refl
-    | kind.Ip6Tnl ↦ inr refl
-    | kind.SitTun ↦ inr refl
-    | kind.GreTun ↦ inr refl
-    | kind.GreTun6 ↦ inr refl
-    | kind.Vti ↦ inr refl
-    | kind.Vti6 ↦ inr refl
-    | kind.Vrf ↦ inr refl
-    | kind.Gtp ↦ inr refl
-    | kind.Ipoib ↦ inr refl
-    | kind.Wireguard ↦ inr refl
-    | kind.Xfrm ↦ inr refl
-    | kind.MacSec ↦ inr refl
-    | kind.Hsr ↦ inr refl
-    | kind.Geneve ↦ inr refl
-    | kind.Netkit ↦ inr refl
-    | kind.Vcan ↦ inr refl
-    | kind.Vxcan ↦ inr refl
-    | kind.Amt ↦ inr refl
-    | kind.BatAdv ↦ inr refl
-    | kind.BareUdp ↦ inr refl
-    | kind.Netdevsim ↦ inr refl
-    | kind.VirtWifi ↦ inr refl
-    | kind.Wwan ↦ inr refl
-    | kind.Can ↦ inr refl
-    | kind.Dsa ↦ inr refl
-    | kind.Team ↦ inr refl
-    | kind.ErSpan ↦ inr refl
-    | kind.Ip6ErSpan ↦ inr refl
-    | kind.Pfcp ↦ inr refl
-    | kind.RmNet ↦ inr refl
-    | kind.Other name ↦ inl refl
-  ];
-  apart =
-    (λ p. cc, (λ p. cc, (λ p. cc, (λ p. cc, (λ p. cc, (λ p. cc, (λ p. cc, (λ p. cc, (λ p. cc, (λ p. cc,
-    (λ p. cc, (λ p. cc, (λ p. cc, (λ p. cc, (λ p. cc, (λ p. cc, (λ p. cc, (λ p. cc, (λ p. cc, (λ p. cc,
-    (λ p. cc, (λ p. cc, (λ p. cc, (λ p. cc, (λ p. cc, (λ p. cc, (λ p. cc, (λ p. cc, (λ p. cc, (λ p. cc,
-    (λ p. cc, (λ p. cc, (λ p. cc, (λ p. cc, (λ p. cc, (λ p. cc, (λ p. cc, (λ p. cc, (λ p. cc, (λ p. cc,
-    (λ p. cc, (λ p. cc, (λ p. cc, (λ p. cc, (λ p. cc, (λ p. cc,
-    tt))))))))))))))))))))))))))))))))))))))))))))));
+  found = elim [ kind.Other name ↦ inl refl | _ ↦ inr refl ];
+  apart = apart_by kind_table (λ k. is_none (kind_of_tag (tag_of_kind k))) (λ name. refl) known_kinds refl;
 }
 
 pub kind_tags_hold : IsTagged kind_table kind_tags
-unfolding known_kinds
-kind_tags_hold = record {
-  named_tagged =
-    (refl, (refl, (refl, (refl, (refl, (refl, (refl, (refl, (refl, (refl, (refl, (refl, (refl, (refl,
-    (refl, (refl, (refl, (refl, (refl, (refl, (refl, (refl, (refl, (refl, (refl, (refl, (refl, (refl,
-    (refl, (refl, (refl, (refl, (refl, (refl, (refl, (refl, (refl, (refl, (refl, (refl, (refl, (refl,
-    (refl, (refl, (refl, (refl,
-    tt))))))))))))))))))))))))))))))))))))))))))))));
-  other_untagged = λ name. refl;
-}
+kind_tags_hold = record { tagged = elim [ kind.Other name ↦ inl refl | _ ↦ inr refl ]; other_untagged = λ name. refl }
 
 -- the tag of the kind of a name is the tag of that name
 pub tag_of_kind-kind_of_name : (name : List ℕ) → tag_of_kind (kind_of_name name) ≡ tag_of_name name
@@ -286,12 +223,12 @@ tag_of_name-text_of_kind k proper = tag_at-key kind_table_holds kind_tags k prop
 -- the kind of a name that has a tag is that of the tag
 pub kind_of_name-tagged : (name : List ℕ) (k : InfoKind) → kind_of_tag (tag_of_name name) ≡ Some k → kind_of_name name ≡ k
 unfolding kind_of_name tag_of_name
-kind_of_name-tagged name k e = sym (kind-tag_at kind_tags_hold name) ∙ ap (λ o. unwrap_or o (kind.Other name)) e
+kind_of_name-tagged name k e = sym (kind-tag_at kind_table_holds kind_tags_hold name) ∙ ap (λ o. unwrap_or o (kind.Other name)) e
 
 -- the kind of every other name is `Other` of it
 pub kind_of_name-untagged : (name : List ℕ) → kind_of_tag (tag_of_name name) ≡ None → kind_of_name name ≡ kind.Other name
 unfolding kind_of_name tag_of_name
-kind_of_name-untagged name e = sym (kind-tag_at kind_tags_hold name) ∙ ap (λ o. unwrap_or o (kind.Other name)) e
+kind_of_name-untagged name e = sym (kind-tag_at kind_table_holds kind_tags_hold name) ∙ ap (λ o. unwrap_or o (kind.Other name)) e
 
 -- the known kinds whose names have this length
 abbrev pub kinds_of_length : ℕ → List InfoKind
@@ -343,8 +280,7 @@ kind_meaning-kind_attribute k utf8 = ap kind_meaning_of_name (name_of-name_attri
 -- that is the kind itself exactly where it is not `Other` of a known name
 pub kind_attribute_reads_back : (k : InfoKind) → is_utf8 (text_of_kind k) ≡ true → (kind_meaning (kind_attribute k) ≡ Ok k) ↔ IsProper kind_table k
 kind_attribute_reads_back k utf8 =
-    let read = kind_meaning-kind_attribute k utf8 in
-    (
+    let read = kind_meaning-kind_attribute k utf8 in (
       λ p. let same : kind_of_name (text_of_kind k) ≡ k = cc in (kind_of_name-text_of_kind k).0 same,
       λ proper. read ∙ ap (λ x. Ok x) ((kind_of_name-text_of_kind k).1 proper),
     )

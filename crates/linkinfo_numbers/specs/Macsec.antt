@@ -30,7 +30,7 @@ pub mac_sec_cipher_id_table_holds : IsTable mac_sec_cipher_id_table
 mac_sec_cipher_id_table_holds = record {
   same_decides = Decides-eqb;
   other_key = λ n. refl;
-  found = elim [ cipher.DefaultGcmAes128 ↦ inr refl | cipher.GcmAes128 ↦ inr refl | cipher.GcmAes256 ↦ inr refl | cipher.GcmAesXpn128 ↦ inr refl | cipher.GcmAesXpn256 ↦ inr refl | cipher.Other n ↦ inl refl ];
+  found = elim [ cipher.Other n ↦ inl refl | _ ↦ inr refl ];
   apart = (λ p. cc, (λ p. cc, (λ p. cc, (λ p. cc, (λ p. cc, tt)))));
 }
 
@@ -52,7 +52,7 @@ pub mac_sec_validate_table_holds : IsTable mac_sec_validate_table
 mac_sec_validate_table_holds = record {
   same_decides = Decides-eqb;
   other_key = λ n. refl;
-  found = elim [ validation.Disabled ↦ inr refl | validation.Check ↦ inr refl | validation.Strict ↦ inr refl | validation.Other n ↦ inl refl ];
+  found = elim [ validation.Other n ↦ inl refl | _ ↦ inr refl ];
   apart = (λ p. cc, (λ p. cc, (λ p. cc, tt)));
 }
 
@@ -74,6 +74,6 @@ pub mac_sec_offload_table_holds : IsTable mac_sec_offload_table
 mac_sec_offload_table_holds = record {
   same_decides = Decides-eqb;
   other_key = λ n. refl;
-  found = elim [ offload.Off ↦ inr refl | offload.Phy ↦ inr refl | offload.Mac ↦ inr refl | offload.Other n ↦ inl refl ];
+  found = elim [ offload.Other n ↦ inl refl | _ ↦ inr refl ];
   apart = (λ p. cc, (λ p. cc, (λ p. cc, tt)));
 }

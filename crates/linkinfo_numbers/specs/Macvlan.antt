@@ -34,7 +34,7 @@ pub mac_vlan_mode_table_holds : IsTable mac_vlan_mode_table
 mac_vlan_mode_table_holds = record {
   same_decides = Decides-eqb;
   other_key = λ n. refl;
-  found = elim [ mode.Private ↦ inr refl | mode.Vepa ↦ inr refl | mode.Bridge ↦ inr refl | mode.Passthrough ↦ inr refl | mode.Source ↦ inr refl | mode.Other n ↦ inl refl ];
+  found = elim [ mode.Other n ↦ inl refl | _ ↦ inr refl ];
   apart = (λ p. cc, (λ p. cc, (λ p. cc, (λ p. cc, (λ p. cc, tt)))));
 }
 
@@ -73,7 +73,7 @@ pub mac_vlan_mac_address_mode_table_holds : IsTable mac_vlan_mac_address_mode_ta
 mac_vlan_mac_address_mode_table_holds = record {
   same_decides = Decides-eqb;
   other_key = λ n. refl;
-  found = elim [ address_mode.Add ↦ inr refl | address_mode.Del ↦ inr refl | address_mode.Flush ↦ inr refl | address_mode.Set ↦ inr refl | address_mode.Other n ↦ inl refl ];
+  found = elim [ address_mode.Other n ↦ inl refl | _ ↦ inr refl ];
   apart = (λ p. cc, (λ p. cc, (λ p. cc, (λ p. cc, tt))));
 }
 

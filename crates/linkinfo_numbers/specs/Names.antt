@@ -3,7 +3,7 @@ use Rattle.std.specs.Prelude.{◌≡◌, ◌≢◌, ℕ, ◌==◌, Bool, true, f
 use Rattle.std.specs.Bool.{Decides}
 use Rattle.std.specs.Cmp.{first_so, second_so}
 use Rattle.std.specs.List.{list_all, list_any, AllByRecursion}
-use Rattle.std.proofs.Common.{sym, ap, ◌∙◌}
+use Rattle.std.proofs.Common.{◌⊎◌, inl, inr, sym, ap, ◌∙◌}
 use Rattle.std.proofs.lemmas.Bool.Decides.{Decides-eqb}
 use Rattle.linkinfo_numbers.specs.Table.{Table, IsTable, IsProper, value_of, value_of-key, part_of_first, part_of_first-then, part_of_first-missed, all_along}
 
@@ -20,9 +20,13 @@ tag_among N G ks name = part_of_first (λ k. N.same (N.key k) name) G.tag (G.tag
 abbrev pub tag_at : {T K : Type 0} → Table (List ℕ) K → Tags T K → List ℕ → T
 tag_at N G name = tag_among N G N.named name
 
--- the named kinds are those of their tags, and `Other` is that of none
+-- the kind is `Other`, or that of its tag
+abbrev pub IsOtherOrTagged : {T K : Type 0} → Table (List ℕ) K → Tags T K → K → Type 0
+IsOtherOrTagged N G k = (k ≡ N.other (N.key k)) ⊎ (G.kind (G.tag k) ≡ Some k)
+
+-- every kind but `Other` is that of its tag, and `Other` is that of none
 pub record IsTagged {T K : Type 0} (N : Table (List ℕ) K) (G : Tags T K) : Type 0 where
-  pub named_tagged : AllByRecursion (λ k. G.kind (G.tag k) ≡ Some k) N.named
+  pub tagged : (k : K) → IsOtherOrTagged N G k
   pub other_untagged : (name : List ℕ) → G.kind (G.tag (N.other name)) ≡ None
 
 all_so : {T : Type 0} (Q : T → Type 0) → ((x : T) → Q x) → (xs : List T) → AllByRecursion Q xs
@@ -35,12 +39,17 @@ tag-value_of N G name =
     part_of_first-then G.tag (λ k. N.same (N.key k) name) (λ k. k) G.tag (N.other name) (G.tag (N.other name)) N.named
     (all_so (λ k. G.tag k ≡ G.tag k) (λ k. refl) N.named) refl
 
+named_tagged : {T K : Type 0} (N : Table (List ℕ) K) (G : Tags T K) (name : List ℕ) (k : K) → IsOtherOrTagged N G k → k ≢ N.other (N.key k) →
+    unwrap_or (G.kind (G.tag k)) (N.other name) ≡ k
+named_tagged N G name k (inl q) apart = absurd (apart q)
+named_tagged N G name k (inr e) apart = ap (λ o. unwrap_or o (N.other name)) e
+
 -- the kind of a name is that of its tag, or else `Other` of the name
-pub kind-tag_at : {T K : Type 0} {N : Table (List ℕ) K} {G : Tags T K} → IsTagged N G → (name : List ℕ) →
+pub kind-tag_at : {T K : Type 0} {N : Table (List ℕ) K} {G : Tags T K} → IsTable N → IsTagged N G → (name : List ℕ) →
     unwrap_or (G.kind (tag_at N G name)) (N.other name) ≡ value_of N name
-kind-tag_at {N = N} {G = G} h name =
+kind-tag_at {N = N} {G = G} table h name =
     part_of_first-then (λ t. unwrap_or (G.kind t) (N.other name)) (λ k. N.same (N.key k) name) G.tag (λ k. k) (G.tag (N.other name)) (N.other name) N.named
-    (all_along (λ k. G.kind (G.tag k) ≡ Some k) (λ k. unwrap_or (G.kind (G.tag k)) (N.other name) ≡ k) (λ k e. ap (λ o. unwrap_or o (N.other name)) e) N.named h.named_tagged)
+    (all_along (λ k. k ≢ N.other (N.key k)) (λ k. unwrap_or (G.kind (G.tag k)) (N.other name) ≡ k) (λ k apart. named_tagged N G name k (h.tagged k) apart) N.named table.apart)
     (ap (λ o. unwrap_or o (N.other name)) (h.other_untagged name))
 
 -- the tag of the text of a kind that is not `Other` of a known name is the tag of the kind
@@ -78,9 +87,10 @@ none_of_length N decides lengths [] name known unknown = tt
 none_of_length N decides lengths (k ∷ ks) name known unknown =
     let has : ℕ → Bool = λ m. list_any (λ n. n == m) lengths in
     let here : has (length (N.key k)) ≡ true = first_so (has (length (N.key k))) (list_all (λ r. has (length (N.key r))) ks) known in
-    let rest : list_all (λ r. has (length (N.key r))) ks ≡ true = second_so (has (length (N.key k))) (list_all (λ r. has (length (N.key r))) ks) known in
-    (λ found. let same : has (length (N.key k)) ≡ has (length name) = ap (λ s. has (length s)) ((decides (N.key k) name).0 found) in cc,
-     none_of_length N decides lengths ks name rest unknown)
+    let rest : list_all (λ r. has (length (N.key r))) ks ≡ true = second_so (has (length (N.key k))) (list_all (λ r. has (length (N.key r))) ks) known in (
+      λ found. let same : has (length (N.key k)) ≡ has (length name) = ap (λ s. has (length s)) ((decides (N.key k) name).0 found) in cc,
+      none_of_length N decides lengths ks name rest unknown,
+    )
 
 -- a name of a length that no known name has is not found
 pub tag_among-other_length : {T K : Type 0} (N : Table (List ℕ) K) (G : Tags T K) → ((a b : List ℕ) → Decides (N.same a b) (a ≡ b)) →

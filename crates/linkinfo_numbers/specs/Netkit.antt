@@ -31,7 +31,7 @@ pub netkit_mode_table_holds : IsTable netkit_mode_table
 netkit_mode_table_holds = record {
   same_decides = Decides-eqb;
   other_key = λ n. refl;
-  found = elim [ mode.L2 ↦ inr refl | mode.L3 ↦ inr refl | mode.Other n ↦ inl refl ];
+  found = elim [ mode.Other n ↦ inl refl | _ ↦ inr refl ];
   apart = (λ p. cc, (λ p. cc, tt));
 }
 
@@ -66,7 +66,7 @@ pub netkit_policy_table_holds : IsTable netkit_policy_table
 netkit_policy_table_holds = record {
   same_decides = Decides-eqb;
   other_key = λ n. refl;
-  found = elim [ policy.Pass ↦ inr refl | policy.Drop ↦ inr refl | policy.Redirect ↦ inr refl | policy.Other n ↦ inl refl ];
+  found = elim [ policy.Other n ↦ inl refl | _ ↦ inr refl ];
   apart = (λ p. cc, (λ p. cc, (λ p. cc, tt)));
 }
 

@@ -1,7 +1,6 @@
 -- The names of port kinds.
-use Rattle.std.specs.Prelude.{◌≡◌, ◌≢◌, ◌==◌, ℕ, true, false, List, [], ◌∷◌, filter, length, codes, Option, Some, None, unwrap_or, is_none, ◌↔◌, Bool, Result, Ok, Err, refl}
-use Rattle.std.specs.List.{list_all, list_any}
-use Rattle.std.specs.Str.{bytes_eq, is_utf8}
+use Rattle.std.specs.Prelude.{◌≡◌, ℕ, true, false, List, [], ◌∷◌, codes, Option, Some, None, unwrap_or, is_none, ◌↔◌, Bool, Result, Ok, Err, refl}
+use Rattle.std.specs.Str.{is_utf8}
 use Rattle.std.proofs.Common.{inl, inr, sym, ap, ◌∙◌, lit<}
 use Rattle.std.proofs.lemmas.Slice.Eq.{bytes_eq-Decides}
 use Rattle.nla_frame.specs.Attribute.{Attribute}
@@ -10,9 +9,9 @@ use Rattle.linkinfo_numbers.specs.declared.names.PortTag.{PortTag}
 use Rattle.linkinfo_numbers.specs.declared.names.PortTag.TheVariants as tag
 use Rattle.linkinfo_numbers.specs.declared.port_kind.InfoPortKind.{InfoPortKind}
 use Rattle.linkinfo_numbers.specs.declared.port_kind.InfoPortKind.TheVariants as kind
-use Rattle.linkinfo_numbers.specs.Table.{Table, IsTable, by_name, value_of, IsProper, key-value_of, value_of-key}
+use Rattle.linkinfo_numbers.specs.Table.{Table, IsTable, by_name, value_of, IsProper, apart_by, key-value_of, value_of-key}
 use Rattle.linkinfo_numbers.specs.Name.{name_of, name_attribute, name_of-name_attribute}
-use Rattle.linkinfo_numbers.specs.Names.{Tags, IsTagged, tag_among, tag_at, tag-value_of, kind-tag_at, tag_at-key}
+use Rattle.linkinfo_numbers.specs.Names.{Tags, IsTagged, tag_at, tag-value_of, kind-tag_at, tag_at-key}
 
 -- the text of each kind
 abbrev pub text_of_port_kind : InfoPortKind → List ℕ
@@ -62,26 +61,12 @@ unfolding known_port_kinds
 port_kind_table_holds = record {
   same_decides = bytes_eq-Decides;
   other_key = λ name. refl;
-  found = elim [
-      kind.Bond ↦ inr refl
-    | kind.Bridge ↦ inr refl
-    | kind.Vrf ↦ inr refl
-    | kind.Team ↦ inr refl
-    | kind.Other name ↦ inl refl
-  ];
-  apart =
-    (λ p. cc, (λ p. cc, (λ p. cc, (λ p. cc,
-    tt))));
+  found = elim [ kind.Other name ↦ inl refl | _ ↦ inr refl ];
+  apart = apart_by port_kind_table (λ k. is_none (port_kind_of_tag (tag_of_port_kind k))) (λ name. refl) known_port_kinds refl;
 }
 
 pub port_kind_tags_hold : IsTagged port_kind_table port_kind_tags
-unfolding known_port_kinds
-port_kind_tags_hold = record {
-  named_tagged =
-    (refl, (refl, (refl, (refl,
-    tt))));
-  other_untagged = λ name. refl;
-}
+port_kind_tags_hold = record { tagged = elim [ kind.Other name ↦ inl refl | _ ↦ inr refl ]; other_untagged = λ name. refl }
 
 -- the tag of the kind of a name is the tag of that name
 pub tag_of_port_kind-port_kind_of_name : (name : List ℕ) → tag_of_port_kind (port_kind_of_name name) ≡ port_tag_of_name name
@@ -106,12 +91,12 @@ port_tag_of_name-text_of_port_kind k proper = tag_at-key port_kind_table_holds p
 -- the kind of a name that has a tag is that of the tag
 pub port_kind_of_name-tagged : (name : List ℕ) (k : InfoPortKind) → port_kind_of_tag (port_tag_of_name name) ≡ Some k → port_kind_of_name name ≡ k
 unfolding port_kind_of_name port_tag_of_name
-port_kind_of_name-tagged name k e = sym (kind-tag_at port_kind_tags_hold name) ∙ ap (λ o. unwrap_or o (kind.Other name)) e
+port_kind_of_name-tagged name k e = sym (kind-tag_at port_kind_table_holds port_kind_tags_hold name) ∙ ap (λ o. unwrap_or o (kind.Other name)) e
 
 -- the kind of every other name is `Other` of it
 pub port_kind_of_name-untagged : (name : List ℕ) → port_kind_of_tag (port_tag_of_name name) ≡ None → port_kind_of_name name ≡ kind.Other name
 unfolding port_kind_of_name port_tag_of_name
-port_kind_of_name-untagged name e = sym (kind-tag_at port_kind_tags_hold name) ∙ ap (λ o. unwrap_or o (kind.Other name)) e
+port_kind_of_name-untagged name e = sym (kind-tag_at port_kind_table_holds port_kind_tags_hold name) ∙ ap (λ o. unwrap_or o (kind.Other name)) e
 
 -- what an attribute means as a port kind: the kind of its name, or its fault
 abbrev pub port_kind_meaning_of_name : Result (List ℕ) DecodeError → Result InfoPortKind DecodeError
@@ -140,8 +125,7 @@ port_kind_meaning-port_kind_attribute k utf8 = ap port_kind_meaning_of_name (nam
 -- that is the kind itself exactly where it is not `Other` of a known name
 pub port_kind_attribute_reads_back : (k : InfoPortKind) → is_utf8 (text_of_port_kind k) ≡ true → (port_kind_meaning (port_kind_attribute k) ≡ Ok k) ↔ IsProper port_kind_table k
 port_kind_attribute_reads_back k utf8 =
-    let read = port_kind_meaning-port_kind_attribute k utf8 in
-    (
+    let read = port_kind_meaning-port_kind_attribute k utf8 in (
       λ p. let same : port_kind_of_name (text_of_port_kind k) ≡ k = cc in (port_kind_of_name-text_of_port_kind k).0 same,
       λ proper. read ∙ ap (λ x. Ok x) ((port_kind_of_name-text_of_port_kind k).1 proper),
     )

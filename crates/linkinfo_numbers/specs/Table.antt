@@ -1,11 +1,10 @@
 -- Tables: values that are found by a key, as by a number or a name. One value stands for each key that the table does not have.
-use Rattle.std.specs.Prelude.{◌≡◌, ◌≢◌, ℕ, ◌==◌, Bool, true, false, if◌then◌else◌, List, [], ◌∷◌, ◌↔◌, refl}
+use Rattle.std.specs.Prelude.{◌≡◌, ◌≢◌, ℕ, ◌==◌, Bool, true, false, if◌then◌else◌, not, List, [], ◌∷◌, ◌↔◌, refl}
 use Rattle.std.specs.Bool.{Decides}
-use Rattle.std.specs.List.{AllByRecursion}
+use Rattle.std.specs.Cmp.{first_so, second_so}
+use Rattle.std.specs.List.{AllByRecursion, list_all}
 use Rattle.std.specs.Str.{bytes_eq}
 use Rattle.std.proofs.Common.{◌⊎◌, inl, inr, sym, ap, ◌∙◌}
-use Rattle.std.proofs.lemmas.Bool.Decides.{Decides-eqb}
-use Rattle.std.proofs.lemmas.Slice.Eq.{bytes_eq-Decides}
 
 -- what `part` gives of the first value that passes, or `other` where none does
 abbrev pub part_of_first : {T A : Type 0} → (T → Bool) → (T → A) → A → List T → A
@@ -39,12 +38,12 @@ IsProper N x = AllByRecursion (λ v. x ≢ N.other (N.key v)) N.named
 abbrev pub IsOtherOrFound : {Key T : Type 0} → Table Key T → T → Type 0
 IsOtherOrFound N x = (x ≡ N.other (N.key x)) ⊎ (value_of N (N.key x) ≡ x)
 
--- `Other` keeps its key, every other value is found by its key, and no named value is found as `Other`
+-- `Other` keeps its key, every other value is found by its key, and no named value is `Other`
 pub record IsTable {Key T : Type 0} (N : Table Key T) : Type 0 where
   pub same_decides : (a b : Key) → Decides (N.same a b) (a ≡ b)
   pub other_key : (k : Key) → N.key (N.other k) ≡ k
   pub found : (x : T) → IsOtherOrFound N x
-  pub apart : AllByRecursion (λ v. value_of N (N.key v) ≢ N.other (N.key v)) N.named
+  pub apart : AllByRecursion (λ v. v ≢ N.other (N.key v)) N.named
 
 -- ---- the first value that passes
 
@@ -97,18 +96,35 @@ proper_is_found : {Key T : Type 0} (N : Table Key T) → IsTable N → (x : T) �
 proper_is_found N h x (inl q) proper =
     part_of_first-missed (λ v. N.same (N.key v) (N.key x)) (λ v. v) (N.other (N.key x)) N.named
     (all_along (λ v. x ≢ N.other (N.key v)) (λ v. ¬ (N.same (N.key v) (N.key x) ≡ true))
-        (λ v apart e. apart (q ∙ ap N.other (sym ((h.same_decides (N.key v) (N.key x)).0 e)))) N.named proper)
+    (λ v apart e. apart (q ∙ ap N.other (sym ((h.same_decides (N.key v) (N.key x)).0 e)))) N.named proper)
     ∙ sym q
 proper_is_found N h x (inr p) proper = p
 
+found_apart : {Key T : Type 0} (N : Table Key T) (v : T) → IsOtherOrFound N v → v ≢ N.other (N.key v) → value_of N (N.key v) ≢ N.other (N.key v)
+found_apart N v (inl q) apart e = apart q
+found_apart N v (inr p) apart e = apart (sym p ∙ e)
+
 found_is_proper : {Key T : Type 0} (N : Table Key T) → IsTable N → (x : T) → value_of N (N.key x) ≡ x → IsProper N x
 found_is_proper N h x p =
-    all_along (λ v. value_of N (N.key v) ≢ N.other (N.key v)) (λ v. x ≢ N.other (N.key v))
+    all_along (λ v. v ≢ N.other (N.key v)) (λ v. x ≢ N.other (N.key v))
     (λ v apart q.
-        let same : N.key x ≡ N.key v = ap N.key q ∙ h.other_key (N.key v) in
-        apart (ap (value_of N) (sym same) ∙ (p ∙ q)))
+    let same : N.key x ≡ N.key v = ap N.key q ∙ h.other_key (N.key v) in
+    found_apart N v (h.found v) apart (ap (value_of N) (sym same) ∙ (p ∙ q)))
     N.named h.apart
 
 -- a value is that of its key exactly where it is not `Other` of a named key
 pub value_of-key : {Key T : Type 0} {N : Table Key T} → IsTable N → (x : T) → (value_of N (N.key x) ≡ x) ↔ IsProper N x
 value_of-key {N = N} h x = (found_is_proper N h x, proper_is_found N h x (h.found x))
+
+-- no value of a list is `Other`, by a test that `Other` passes and each of them fails
+pub apart_by : {Key T : Type 0} (N : Table Key T) (is_other : T → Bool) → ((k : Key) → is_other (N.other k) ≡ true) → (xs : List T) →
+    list_all (λ v. not (is_other v)) xs ≡ true → AllByRecursion (λ v. v ≢ N.other (N.key v)) xs
+apart_by N is_other others [] h = tt
+apart_by N is_other others (x ∷ xs) h =
+    let here : not (is_other x) ≡ true = first_so (not (is_other x)) (list_all (λ v. not (is_other v)) xs) h in
+    let rest : list_all (λ v. not (is_other v)) xs ≡ true = second_so (not (is_other x)) (list_all (λ v. not (is_other v)) xs) h in (
+      λ q.
+          let other : is_other x ≡ true = ap is_other q ∙ others (N.key x) in
+          let never : not true ≡ true = ap not (sym other) ∙ here in cc,
+      apart_by N is_other others xs rest,
+    )

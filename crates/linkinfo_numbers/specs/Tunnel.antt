@@ -29,7 +29,7 @@ pub tunnel_encap_type_table_holds : IsTable tunnel_encap_type_table
 tunnel_encap_type_table_holds = record {
   same_decides = Decides-eqb;
   other_key = λ n. refl;
-  found = elim [ encapsulation.None ↦ inr refl | encapsulation.Fou ↦ inr refl | encapsulation.Gue ↦ inr refl | encapsulation.Mpls ↦ inr refl | encapsulation.Other n ↦ inl refl ];
+  found = elim [ encapsulation.Other n ↦ inl refl | _ ↦ inr refl ];
   apart = (λ p. cc, (λ p. cc, (λ p. cc, (λ p. cc, tt))));
 }
 

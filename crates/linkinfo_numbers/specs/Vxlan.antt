@@ -25,7 +25,7 @@ pub vxlan_df_table_holds : IsTable vxlan_df_table
 vxlan_df_table_holds = record {
   same_decides = Decides-eqb;
   other_key = λ n. refl;
-  found = elim [ df.Unset ↦ inr refl | df.Set ↦ inr refl | df.Inherit ↦ inr refl | df.Other n ↦ inl refl ];
+  found = elim [ df.Other n ↦ inl refl | _ ↦ inr refl ];
   apart = (λ p. cc, (λ p. cc, (λ p. cc, tt)));
 }
 

@@ -36,7 +36,10 @@ pub use ipoib::IpoibMode;
 pub use ipvlan::{IpVlanFlags, IpVlanMode, IpVtapFlags, IpVtapMode};
 pub use kind::InfoKind;
 pub use macsec::{MacSecCipherId, MacSecOffload, MacSecValidate};
-pub use macvlan::{MacVlanFlags, MacVlanMacAddressMode, MacVlanMode, MacVtapFlags, MacVtapMacAddressMode, MacVtapMode};
+pub use macvlan::{
+    MacVlanFlags, MacVlanMacAddressMode, MacVlanMode, MacVtapFlags, MacVtapMacAddressMode,
+    MacVtapMode,
+};
 pub use names::{KindTag, PortTag, port_tag_of_name, tag_of_name};
 pub use netkit::{NetkitMode, NetkitPolicy, NetkitScrub};
 pub use port_kind::InfoPortKind;

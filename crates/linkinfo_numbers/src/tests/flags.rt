@@ -113,9 +113,15 @@ fn hash_of<T: Hash>(value: &T) -> u64 {
 #[test]
 fn equal_sets_hash_alike(rt: HostRuntime) {
     let made = TunnelEncapFlags::CSum.union(TunnelEncapFlags::RemCSum);
-    assert_eq!(rt; hash_of(&made), hash_of(&TunnelEncapFlags::from_bits_retain(5)));
+    assert_eq!(rt;
+        hash_of(&made),
+        hash_of(&TunnelEncapFlags::from_bits_retain(5))
+    );
     assert!(rt; hash_of(&made) != hash_of(&TunnelEncapFlags::CSum));
     let made = Ip6TunnelFlags::Mip6Dev.union(Ip6TunnelFlags::CapRcv);
-    assert_eq!(rt; hash_of(&made), hash_of(&Ip6TunnelFlags::from_bits_retain(0x20008)));
+    assert_eq!(rt;
+        hash_of(&made),
+        hash_of(&Ip6TunnelFlags::from_bits_retain(0x20008))
+    );
     assert!(rt; hash_of(&made) != hash_of(&Ip6TunnelFlags::Mip6Dev));
 }

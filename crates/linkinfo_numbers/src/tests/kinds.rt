@@ -70,7 +70,22 @@ fn known_kinds(rt: HostRuntime) -> Result<(), Fail> {
 #[test]
 fn other_kinds(rt: HostRuntime) -> Result<(), Fail> {
     let alloc = rt.alloc();
-    for name in ["", "a", "si", "siu", "sit\0", "Sit", "vlax", "bonds", "netkiu", "batad", "macvlao", "wireguare", "virt-wifi", "ip6gretap2"] {
+    for name in [
+        "",
+        "a",
+        "si",
+        "siu",
+        "sit\0",
+        "Sit",
+        "vlax",
+        "bonds",
+        "netkiu",
+        "batad",
+        "macvlao",
+        "wireguare",
+        "virt-wifi",
+        "ip6gretap2",
+    ] {
         let kind = InfoKind::from_text(alloc, name)?;
         assert_eq!(rt; tag_of_name(name.as_bytes()), KindTag::Other);
         assert!(rt; is_equal(&kind, &InfoKind::Other(Text::copy_of(alloc, name)?)));
@@ -108,7 +123,12 @@ fn port_kinds(rt: HostRuntime) -> Result<(), Fail> {
         assert_eq!(rt; kind.fit_len(), Some(name.len() + 1));
         assert!(rt; kind == kind.clone()?);
     }
-    assert!(rt; is_equal(&InfoPortKind::from_text(alloc, "team")?, &InfoPortKind::Team));
+    assert!(rt;
+        is_equal(
+            &InfoPortKind::from_text(alloc, "team")?,
+            &InfoPortKind::Team
+        )
+    );
     assert_eq!(rt;
         InfoPortKind::Other(Text::copy_of(alloc, "vrf")?).tag(),
         PortTag::Other
@@ -180,7 +200,10 @@ fn kinds_as_attributes(rt: HostRuntime) -> Result<(), Fail> {
     kind.emit(&mut buffer);
     assert_eq!(rt;
         buffer.as_slice(),
-        [9, 0, 1, 0, b'p', b'f', b'c', b'p', 0, 0, 0, 0, 255, 255, 255].as_slice()
+        [
+            9, 0, 1, 0, b'p', b'f', b'c', b'p', 0, 0, 0, 0, 255, 255, 255
+        ]
+        .as_slice()
     );
 
     let port_kind = InfoPortKind::Other(Text::copy_of(alloc, "x")?);
@@ -193,7 +216,10 @@ fn kinds_as_attributes(rt: HostRuntime) -> Result<(), Fail> {
     assert_eq!(rt; value.as_slice(), b"x\0".as_slice());
     let mut buffer = [255; 9];
     port_kind.emit(&mut buffer);
-    assert_eq!(rt; buffer.as_slice(), [6, 0, 4, 0, b'x', 0, 0, 0, 255].as_slice());
+    assert_eq!(rt;
+        buffer.as_slice(),
+        [6, 0, 4, 0, b'x', 0, 0, 0, 255].as_slice()
+    );
     Ok(())
 }
 

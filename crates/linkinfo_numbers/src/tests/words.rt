@@ -107,7 +107,10 @@ fn words(rt: HostRuntime) -> Result<(), Fail> {
         &rt,
         alloc,
         Family::Netkit,
-        &[(NetkitScrub::None, "none"), (NetkitScrub::Default, "default")],
+        &[
+            (NetkitScrub::None, "none"),
+            (NetkitScrub::Default, "default"),
+        ],
     )?;
     assert_eq!(rt;
         NetkitMode::from_str("l3s"),
@@ -123,7 +126,14 @@ fn words(rt: HostRuntime) -> Result<(), Fail> {
 #[test]
 fn texts(rt: HostRuntime) -> Result<(), Fail> {
     let alloc = rt.alloc();
-    check_texts(&rt, alloc, &[(AmtMode::Other(2), "2"), (AmtMode::Other(u32::MAX), "4294967295")])?;
+    check_texts(
+        &rt,
+        alloc,
+        &[
+            (AmtMode::Other(2), "2"),
+            (AmtMode::Other(u32::MAX), "4294967295"),
+        ],
+    )?;
     check_texts(&rt, alloc, &[(GeneveDf::Other(255), "255")])?;
     check_texts(
         &rt,
@@ -147,7 +157,14 @@ fn texts(rt: HostRuntime) -> Result<(), Fail> {
     check_texts(&rt, alloc, &[(IpVlanMode::Other(3), "3")])?;
     check_texts(&rt, alloc, &[(MacVlanMode::Other(3), "3")])?;
     check_texts(&rt, alloc, &[(NetkitMode::Other(2), "2")])?;
-    check_texts(&rt, alloc, &[(NetkitPolicy::Forward, "forward"), (NetkitPolicy::Other(1), "1")])?;
+    check_texts(
+        &rt,
+        alloc,
+        &[
+            (NetkitPolicy::Forward, "forward"),
+            (NetkitPolicy::Other(1), "1"),
+        ],
+    )?;
     check_texts(
         &rt,
         alloc,
