@@ -20,7 +20,8 @@ gre_encap_type_number encapsulation.Gue = 2
 gre_encap_type_number (encapsulation.Other n) = n
 
 abbrev pub gre_encap_type_table : Table ℕ GreEncapType
-gre_encap_type_table = by_number gre_encap_type_number encapsulation.Other (encapsulation.None ∷ encapsulation.Fou ∷ encapsulation.Gue ∷ [])
+gre_encap_type_table = by_number gre_encap_type_number encapsulation.Other
+    (encapsulation.None ∷ encapsulation.Fou ∷ encapsulation.Gue ∷ [])
 
 -- the value of each number
 abbrev pub gre_encap_type : ℕ → GreEncapType

@@ -1,5 +1,6 @@
 -- The names of link kinds.
-use Rattle.std.specs.Prelude.{◌≡◌, ◌==◌, ℕ, true, false, List, [], ◌∷◌, filter, length, codes, Option, Some, None, unwrap_or, is_none, ◌↔◌, Bool, Result, Ok, Err, refl}
+use Rattle.std.specs.Prelude.{◌≡◌, ◌==◌, ℕ, true, false, List, [], ◌∷◌, filter, length, codes, Option, Some, None, unwrap_or}
+use Rattle.std.specs.Prelude.{is_none, ◌↔◌, Bool, Result, Ok, Err, refl}
 use Rattle.std.specs.List.{list_all, list_any}
 use Rattle.std.specs.Str.{is_utf8}
 use Rattle.std.proofs.Common.{inl, inr, sym, ap, ◌∙◌, lit<}
@@ -12,7 +13,8 @@ use Rattle.linkinfo_numbers.specs.declared.kind.InfoKind.{InfoKind}
 use Rattle.linkinfo_numbers.specs.declared.kind.InfoKind.TheVariants as kind
 use Rattle.linkinfo_numbers.specs.Table.{Table, IsTable, by_name, value_of, IsProper, apart_by, key-value_of, value_of-key}
 use Rattle.linkinfo_numbers.specs.Name.{name_of, name_attribute, name_of-name_attribute}
-use Rattle.linkinfo_numbers.specs.Names.{Tags, IsTagged, tag_among, tag_at, tag-value_of, kind-tag_at, tag_at-key, tag_among-of_length, tag_among-other_length}
+use Rattle.linkinfo_numbers.specs.Names.{Tags, IsTagged, tag_among, tag_at, tag-value_of, kind-tag_at, tag_at-key}
+use Rattle.linkinfo_numbers.specs.Names.{tag_among-of_length, tag_among-other_length}
 
 -- the text of each kind
 abbrev pub text_of_kind : InfoKind → List ℕ
@@ -235,10 +237,12 @@ abbrev pub kinds_of_length : ℕ → List InfoKind
 kinds_of_length n = filter (λ k. length (text_of_kind k) == n) known_kinds
 
 -- a name is looked for among those of its length alone
-pub tag_of_name-length : (n : ℕ) (name : List ℕ) → length name ≡ n → tag_of_name name ≡ tag_among kind_table kind_tags (kinds_of_length n) name
+pub tag_of_name-length : (n : ℕ) (name : List ℕ) → length name ≡ n →
+    tag_of_name name ≡ tag_among kind_table kind_tags (kinds_of_length n) name
 unfolding tag_of_name
 tag_of_name-length n name h =
-    tag_among-of_length kind_table kind_tags bytes_eq-Decides known_kinds name ∙ ap (λ k. tag_among kind_table kind_tags (kinds_of_length k) name) h
+    tag_among-of_length kind_table kind_tags bytes_eq-Decides known_kinds name
+    ∙ ap (λ k. tag_among kind_table kind_tags (kinds_of_length k) name) h
 
 -- the lengths of the known names
 abbrev pub name_lengths : List ℕ
@@ -249,7 +253,8 @@ unfolding known_kinds
 known_lengths = refl
 
 -- a name of another length is not known
-pub tag_of_name-other_length : (name : List ℕ) → list_any (λ n. n == length name) name_lengths ≡ false → tag_of_name name ≡ tag.Other
+pub tag_of_name-other_length : (name : List ℕ) → list_any (λ n. n == length name) name_lengths ≡ false →
+    tag_of_name name ≡ tag.Other
 unfolding tag_of_name
 tag_of_name-other_length name h = tag_among-other_length kind_table kind_tags bytes_eq-Decides name_lengths known_kinds name known_lengths h
 
@@ -274,11 +279,13 @@ abbrev pub kind_attribute : InfoKind → Attribute
 kind_attribute k = name_attribute 1 (text_of_kind k)
 
 -- the attribute of a kind means the kind of its text
-pub kind_meaning-kind_attribute : (k : InfoKind) → is_utf8 (text_of_kind k) ≡ true → kind_meaning (kind_attribute k) ≡ Ok (kind_of_name (text_of_kind k))
+pub kind_meaning-kind_attribute : (k : InfoKind) → is_utf8 (text_of_kind k) ≡ true →
+    kind_meaning (kind_attribute k) ≡ Ok (kind_of_name (text_of_kind k))
 kind_meaning-kind_attribute k utf8 = ap kind_meaning_of_name (name_of-name_attribute 1 (text_of_kind k) (lit< tt) utf8)
 
 -- that is the kind itself exactly where it is not `Other` of a known name
-pub kind_attribute_reads_back : (k : InfoKind) → is_utf8 (text_of_kind k) ≡ true → (kind_meaning (kind_attribute k) ≡ Ok k) ↔ IsProper kind_table k
+pub kind_attribute_reads_back : (k : InfoKind) → is_utf8 (text_of_kind k) ≡ true →
+    (kind_meaning (kind_attribute k) ≡ Ok k) ↔ IsProper kind_table k
 kind_attribute_reads_back k utf8 =
     let read = kind_meaning-kind_attribute k utf8 in (
       λ p. let same : kind_of_name (text_of_kind k) ≡ k = cc in (kind_of_name-text_of_kind k).0 same,

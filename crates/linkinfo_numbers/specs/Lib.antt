@@ -17,5 +17,6 @@ pub mod PortKind
 pub mod Rmnet
 pub mod Table
 pub mod Tunnel
+pub mod Variants
 pub mod Vxlan
 pub mod Word

@@ -20,7 +20,8 @@ mac_sec_cipher_id_number cipher.GcmAesXpn256 = 0x0080C20001000004
 mac_sec_cipher_id_number (cipher.Other n) = n
 
 abbrev pub mac_sec_cipher_id_table : Table ℕ MacSecCipherId
-mac_sec_cipher_id_table = by_number mac_sec_cipher_id_number cipher.Other (cipher.DefaultGcmAes128 ∷ cipher.GcmAes128 ∷ cipher.GcmAes256 ∷ cipher.GcmAesXpn128 ∷ cipher.GcmAesXpn256 ∷ [])
+mac_sec_cipher_id_table = by_number mac_sec_cipher_id_number cipher.Other
+    (cipher.DefaultGcmAes128 ∷ cipher.GcmAes128 ∷ cipher.GcmAes256 ∷ cipher.GcmAesXpn128 ∷ cipher.GcmAesXpn256 ∷ [])
 
 -- the value of each number
 abbrev pub mac_sec_cipher_id : ℕ → MacSecCipherId
@@ -42,7 +43,8 @@ mac_sec_validate_number validation.Strict = 2
 mac_sec_validate_number (validation.Other n) = n
 
 abbrev pub mac_sec_validate_table : Table ℕ MacSecValidate
-mac_sec_validate_table = by_number mac_sec_validate_number validation.Other (validation.Disabled ∷ validation.Check ∷ validation.Strict ∷ [])
+mac_sec_validate_table = by_number mac_sec_validate_number validation.Other
+    (validation.Disabled ∷ validation.Check ∷ validation.Strict ∷ [])
 
 -- the value of each number
 abbrev pub mac_sec_validate : ℕ → MacSecValidate

@@ -24,7 +24,8 @@ mac_vlan_mode_number mode.Source = 16
 mac_vlan_mode_number (mode.Other n) = n
 
 abbrev pub mac_vlan_mode_table : Table ℕ MacVlanMode
-mac_vlan_mode_table = by_number mac_vlan_mode_number mode.Other (mode.Private ∷ mode.Vepa ∷ mode.Bridge ∷ mode.Passthrough ∷ mode.Source ∷ [])
+mac_vlan_mode_table = by_number mac_vlan_mode_number mode.Other
+    (mode.Private ∷ mode.Vepa ∷ mode.Bridge ∷ mode.Passthrough ∷ mode.Source ∷ [])
 
 -- the value of each number
 abbrev pub mac_vlan_mode : ℕ → MacVlanMode
@@ -52,7 +53,8 @@ abbrev pub mac_vlan_mode_of_word : List ℕ → Result MacVlanMode DecodeError
 mac_vlan_mode_of_word word = value_of_word family.MacVlan mac_vlan_mode_text mac_vlan_mode_table.named word
 
 pub mac_vlan_mode_words_hold : ReadsWords family.MacVlan mac_vlan_mode_text mac_vlan_mode_table.named
-mac_vlan_mode_words_hold = reads_words family.MacVlan mac_vlan_mode_text mac_vlan_mode_table.named (refl, (refl, (refl, (refl, (refl, tt)))))
+mac_vlan_mode_words_hold = reads_words family.MacVlan mac_vlan_mode_text mac_vlan_mode_table.named
+    (refl, (refl, (refl, (refl, (refl, tt)))))
 
 -- the number of each value
 abbrev pub mac_vlan_mac_address_mode_number : MacVlanMacAddressMode → ℕ
@@ -63,7 +65,8 @@ mac_vlan_mac_address_mode_number address_mode.Set = 3
 mac_vlan_mac_address_mode_number (address_mode.Other n) = n
 
 abbrev pub mac_vlan_mac_address_mode_table : Table ℕ MacVlanMacAddressMode
-mac_vlan_mac_address_mode_table = by_number mac_vlan_mac_address_mode_number address_mode.Other (address_mode.Add ∷ address_mode.Del ∷ address_mode.Flush ∷ address_mode.Set ∷ [])
+mac_vlan_mac_address_mode_table = by_number mac_vlan_mac_address_mode_number address_mode.Other
+    (address_mode.Add ∷ address_mode.Del ∷ address_mode.Flush ∷ address_mode.Set ∷ [])
 
 -- the value of each number
 abbrev pub mac_vlan_mac_address_mode : ℕ → MacVlanMacAddressMode

@@ -1,5 +1,6 @@
 -- Names in attributes: a text, and one zero byte behind it.
-use Rattle.std.specs.Prelude.{◌≡◌, ◌-◌, ◌<◌, ◌==◌, ℕ, true, if◌then◌else◌, List, [], ◌∷◌, ◌++◌, length, take, drop, Result, Ok, Err, refl}
+use Rattle.std.specs.Prelude.{◌≡◌, ◌-◌, ◌<◌, ◌==◌, ℕ, true, if◌then◌else◌, List, [], ◌∷◌, ◌++◌, length, take, drop, Result, Ok, Err}
+use Rattle.std.specs.Prelude.{refl}
 use Rattle.std.specs.Str.{bytes_eq, is_utf8}
 use Rattle.std.proofs.Common.{arith, ap, ◌∙◌, eq-eqb, length-append}
 use Rattle.std.proofs.Math.Seq.{take-append_seam, drop-append_seam}
@@ -23,7 +24,9 @@ bad_name kind = record { family = family.LinkInfo; kind = kind; cause = cause.Ut
 -- the name that an attribute of this type holds, or its fault
 abbrev pub name_of : ℕ → Attribute → Result (List ℕ) DecodeError
 name_of kind a =
-    if masked a.kind == kind then (if is_utf8 (name_in a.value) then Ok (name_in a.value) else Err (bad_name kind)) else Err (wrong_type (masked a.kind))
+    if masked a.kind == kind
+    then (if is_utf8 (name_in a.value) then Ok (name_in a.value) else Err (bad_name kind))
+    else Err (wrong_type (masked a.kind))
 
 -- the attribute of this type that holds a name
 abbrev pub name_attribute : ℕ → List ℕ → Attribute
@@ -40,7 +43,8 @@ name_in-zero name =
     ap cut (last_of name) ∙ whole
 
 -- a name of UTF-8 reads back from its attribute
-pub name_of-name_attribute : (kind : ℕ) (name : List ℕ) → kind < 16384 → is_utf8 name ≡ true → name_of kind (name_attribute kind name) ≡ Ok name
+pub name_of-name_attribute : (kind : ℕ) (name : List ℕ) → kind < 16384 → is_utf8 name ≡ true →
+    name_of kind (name_attribute kind name) ≡ Ok name
 name_of-name_attribute kind name small utf8 =
     let same : masked kind ≡ kind = omega arith in
     let here : (masked kind == kind) ≡ true = eq-eqb (masked kind) kind same in

@@ -1,5 +1,6 @@
 -- The names of port kinds.
-use Rattle.std.specs.Prelude.{◌≡◌, ℕ, true, false, List, [], ◌∷◌, codes, Option, Some, None, unwrap_or, is_none, ◌↔◌, Bool, Result, Ok, Err, refl}
+use Rattle.std.specs.Prelude.{◌≡◌, ℕ, true, false, List, [], ◌∷◌, codes, Option, Some, None, unwrap_or, is_none, ◌↔◌, Bool, Result}
+use Rattle.std.specs.Prelude.{Ok, Err, refl}
 use Rattle.std.specs.Str.{is_utf8}
 use Rattle.std.proofs.Common.{inl, inr, sym, ap, ◌∙◌, lit<}
 use Rattle.std.proofs.lemmas.Slice.Eq.{bytes_eq-Decides}
@@ -79,24 +80,30 @@ unfolding port_kind_of_name
 text_of_port_kind-port_kind_of_name name = key-value_of port_kind_table_holds name
 
 -- the kind of the text of a kind is that kind exactly where it is not `Other` of a known name
-pub port_kind_of_name-text_of_port_kind : (k : InfoPortKind) → (port_kind_of_name (text_of_port_kind k) ≡ k) ↔ IsProper port_kind_table k
+pub port_kind_of_name-text_of_port_kind : (k : InfoPortKind) →
+    (port_kind_of_name (text_of_port_kind k) ≡ k) ↔ IsProper port_kind_table k
 unfolding port_kind_of_name
 port_kind_of_name-text_of_port_kind k = value_of-key port_kind_table_holds k
 
 -- the tag of the text of a kind is the tag of that kind where it is not `Other` of a known name
-pub port_tag_of_name-text_of_port_kind : (k : InfoPortKind) → IsProper port_kind_table k → port_tag_of_name (text_of_port_kind k) ≡ tag_of_port_kind k
+pub port_tag_of_name-text_of_port_kind : (k : InfoPortKind) → IsProper port_kind_table k →
+    port_tag_of_name (text_of_port_kind k) ≡ tag_of_port_kind k
 unfolding port_tag_of_name
 port_tag_of_name-text_of_port_kind k proper = tag_at-key port_kind_table_holds port_kind_tags k proper
 
 -- the kind of a name that has a tag is that of the tag
-pub port_kind_of_name-tagged : (name : List ℕ) (k : InfoPortKind) → port_kind_of_tag (port_tag_of_name name) ≡ Some k → port_kind_of_name name ≡ k
+pub port_kind_of_name-tagged : (name : List ℕ) (k : InfoPortKind) → port_kind_of_tag (port_tag_of_name name) ≡ Some k →
+    port_kind_of_name name ≡ k
 unfolding port_kind_of_name port_tag_of_name
-port_kind_of_name-tagged name k e = sym (kind-tag_at port_kind_table_holds port_kind_tags_hold name) ∙ ap (λ o. unwrap_or o (kind.Other name)) e
+port_kind_of_name-tagged name k e =
+    sym (kind-tag_at port_kind_table_holds port_kind_tags_hold name) ∙ ap (λ o. unwrap_or o (kind.Other name)) e
 
 -- the kind of every other name is `Other` of it
-pub port_kind_of_name-untagged : (name : List ℕ) → port_kind_of_tag (port_tag_of_name name) ≡ None → port_kind_of_name name ≡ kind.Other name
+pub port_kind_of_name-untagged : (name : List ℕ) → port_kind_of_tag (port_tag_of_name name) ≡ None →
+    port_kind_of_name name ≡ kind.Other name
 unfolding port_kind_of_name port_tag_of_name
-port_kind_of_name-untagged name e = sym (kind-tag_at port_kind_table_holds port_kind_tags_hold name) ∙ ap (λ o. unwrap_or o (kind.Other name)) e
+port_kind_of_name-untagged name e =
+    sym (kind-tag_at port_kind_table_holds port_kind_tags_hold name) ∙ ap (λ o. unwrap_or o (kind.Other name)) e
 
 -- what an attribute means as a port kind: the kind of its name, or its fault
 abbrev pub port_kind_meaning_of_name : Result (List ℕ) DecodeError → Result InfoPortKind DecodeError
@@ -119,11 +126,14 @@ abbrev pub port_kind_attribute : InfoPortKind → Attribute
 port_kind_attribute k = name_attribute 4 (text_of_port_kind k)
 
 -- the attribute of a kind means the kind of its text
-pub port_kind_meaning-port_kind_attribute : (k : InfoPortKind) → is_utf8 (text_of_port_kind k) ≡ true → port_kind_meaning (port_kind_attribute k) ≡ Ok (port_kind_of_name (text_of_port_kind k))
-port_kind_meaning-port_kind_attribute k utf8 = ap port_kind_meaning_of_name (name_of-name_attribute 4 (text_of_port_kind k) (lit< tt) utf8)
+pub port_kind_meaning-port_kind_attribute : (k : InfoPortKind) → is_utf8 (text_of_port_kind k) ≡ true →
+    port_kind_meaning (port_kind_attribute k) ≡ Ok (port_kind_of_name (text_of_port_kind k))
+port_kind_meaning-port_kind_attribute k utf8 =
+    ap port_kind_meaning_of_name (name_of-name_attribute 4 (text_of_port_kind k) (lit< tt) utf8)
 
 -- that is the kind itself exactly where it is not `Other` of a known name
-pub port_kind_attribute_reads_back : (k : InfoPortKind) → is_utf8 (text_of_port_kind k) ≡ true → (port_kind_meaning (port_kind_attribute k) ≡ Ok k) ↔ IsProper port_kind_table k
+pub port_kind_attribute_reads_back : (k : InfoPortKind) → is_utf8 (text_of_port_kind k) ≡ true →
+    (port_kind_meaning (port_kind_attribute k) ≡ Ok k) ↔ IsProper port_kind_table k
 port_kind_attribute_reads_back k utf8 =
     let read = port_kind_meaning-port_kind_attribute k utf8 in (
       λ p. let same : port_kind_of_name (text_of_port_kind k) ≡ k = cc in (port_kind_of_name-text_of_port_kind k).0 same,

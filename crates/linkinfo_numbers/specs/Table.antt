@@ -34,6 +34,10 @@ value_of N k = part_of_first (λ x. N.same (N.key x) k) (λ x. x) (N.other k) N.
 abbrev pub IsProper : {Key T : Type 0} → Table Key T → T → Type 0
 IsProper N x = AllByRecursion (λ v. x ≢ N.other (N.key v)) N.named
 
+-- a value is that of its key exactly where it is not `Other` of a key that a named value has
+abbrev pub ReadsBackWhereProper : {Key T : Type 0} → Table Key T → Type 0
+ReadsBackWhereProper {T = T} N = (x : T) → (value_of N (N.key x) ≡ x) ↔ IsProper N x
+
 -- the value is `Other`, or is found by its key
 abbrev pub IsOtherOrFound : {Key T : Type 0} → Table Key T → T → Type 0
 IsOtherOrFound N x = (x ≡ N.other (N.key x)) ⊎ (value_of N (N.key x) ≡ x)
@@ -51,12 +55,14 @@ pub all_along : {T : Type 0} (P Q : T → Type 0) → ((x : T) → P x → Q x) 
 all_along P Q f [] h = tt
 all_along P Q f (x ∷ xs) h = (f x h.0, all_along P Q f xs h.1)
 
-chosen : {A B : Type 0} (f : A → B) (x y : A) (z w : B) (b : Bool) → f x ≡ z → f y ≡ w → f (if b then x else y) ≡ (if b then z else w)
+chosen : {A B : Type 0} (f : A → B) (x y : A) (z w : B) (b : Bool) → f x ≡ z → f y ≡ w →
+    f (if b then x else y) ≡ (if b then z else w)
 chosen f x y z w true p q = p
 chosen f x y z w false p q = q
 
 -- a function of what is found is found, where it is so of each value
-pub part_of_first-then : {T A B : Type 0} (f : A → B) (passes : T → Bool) (part : T → A) (part' : T → B) (other : A) (other' : B) (xs : List T) →
+pub part_of_first-then : {T A B : Type 0} (f : A → B) (passes : T → Bool) (part : T → A) (part' : T → B) (other : A) (other' : B)
+    (xs : List T) →
     AllByRecursion (λ x. f (part x) ≡ part' x) xs → f other ≡ other' →
     f (part_of_first passes part other xs) ≡ part_of_first passes part' other' xs
 part_of_first-then f passes part part' other other' [] h k = k
@@ -69,7 +75,8 @@ missed_choice x y z true apart same = absurd (apart refl)
 missed_choice x y z false apart same = same
 
 -- where none passes, there is `other`
-pub part_of_first-missed : {T A : Type 0} (passes : T → Bool) (part : T → A) (other : A) (xs : List T) → AllByRecursion (λ x. ¬ (passes x ≡ true)) xs →
+pub part_of_first-missed : {T A : Type 0} (passes : T → Bool) (part : T → A) (other : A) (xs : List T) →
+    AllByRecursion (λ x. ¬ (passes x ≡ true)) xs →
     part_of_first passes part other xs ≡ other
 part_of_first-missed passes part other [] h = refl
 part_of_first-missed passes part other (x ∷ xs) h =
@@ -77,7 +84,8 @@ part_of_first-missed passes part other (x ∷ xs) h =
 
 -- ---- keys and values
 
-key_of_choice : {Key T : Type 0} (N : Table Key T) (x y : T) (k : Key) (b : Bool) → (b ≡ true → N.key x ≡ k) → N.key y ≡ k → N.key (if b then x else y) ≡ k
+key_of_choice : {Key T : Type 0} (N : Table Key T) (x y : T) (k : Key) (b : Bool) → (b ≡ true → N.key x ≡ k) → N.key y ≡ k →
+    N.key (if b then x else y) ≡ k
 key_of_choice N x y k true same h = same refl
 key_of_choice N x y k false same h = h
 
@@ -85,14 +93,16 @@ key-among : {Key T : Type 0} (N : Table Key T) → IsTable N → (xs : List T) (
     N.key (part_of_first (λ x. N.same (N.key x) k) (λ x. x) (N.other k) xs) ≡ k
 key-among N h [] k = h.other_key k
 key-among N h (x ∷ xs) k =
-    key_of_choice N x (part_of_first (λ y. N.same (N.key y) k) (λ y. y) (N.other k) xs) k (N.same (N.key x) k) (h.same_decides (N.key x) k).0
+    key_of_choice N x (part_of_first (λ y. N.same (N.key y) k) (λ y. y) (N.other k) xs) k (N.same (N.key x) k)
+    (h.same_decides (N.key x) k).0
     (key-among N h xs k)
 
 -- the key of the value of a key is that key
 pub key-value_of : {Key T : Type 0} {N : Table Key T} → IsTable N → (k : Key) → N.key (value_of N k) ≡ k
 key-value_of {N = N} h k = key-among N h N.named k
 
-proper_is_found : {Key T : Type 0} (N : Table Key T) → IsTable N → (x : T) → IsOtherOrFound N x → IsProper N x → value_of N (N.key x) ≡ x
+proper_is_found : {Key T : Type 0} (N : Table Key T) → IsTable N → (x : T) → IsOtherOrFound N x → IsProper N x →
+    value_of N (N.key x) ≡ x
 proper_is_found N h x (inl q) proper =
     part_of_first-missed (λ v. N.same (N.key v) (N.key x)) (λ v. v) (N.other (N.key x)) N.named
     (all_along (λ v. x ≢ N.other (N.key v)) (λ v. ¬ (N.same (N.key v) (N.key x) ≡ true))
@@ -100,7 +110,8 @@ proper_is_found N h x (inl q) proper =
     ∙ sym q
 proper_is_found N h x (inr p) proper = p
 
-found_apart : {Key T : Type 0} (N : Table Key T) (v : T) → IsOtherOrFound N v → v ≢ N.other (N.key v) → value_of N (N.key v) ≢ N.other (N.key v)
+found_apart : {Key T : Type 0} (N : Table Key T) (v : T) → IsOtherOrFound N v → v ≢ N.other (N.key v) →
+    value_of N (N.key v) ≢ N.other (N.key v)
 found_apart N v (inl q) apart e = apart q
 found_apart N v (inr p) apart e = apart (sym p ∙ e)
 
@@ -113,16 +124,18 @@ found_is_proper N h x p =
     N.named h.apart
 
 -- a value is that of its key exactly where it is not `Other` of a named key
-pub value_of-key : {Key T : Type 0} {N : Table Key T} → IsTable N → (x : T) → (value_of N (N.key x) ≡ x) ↔ IsProper N x
+pub value_of-key : {Key T : Type 0} {N : Table Key T} → IsTable N → ReadsBackWhereProper N
 value_of-key {N = N} h x = (found_is_proper N h x, proper_is_found N h x (h.found x))
 
 -- no value of a list is `Other`, by a test that `Other` passes and each of them fails
-pub apart_by : {Key T : Type 0} (N : Table Key T) (is_other : T → Bool) → ((k : Key) → is_other (N.other k) ≡ true) → (xs : List T) →
+pub apart_by : {Key T : Type 0} (N : Table Key T) (is_other : T → Bool) → ((k : Key) → is_other (N.other k) ≡ true) →
+    (xs : List T) →
     list_all (λ v. not (is_other v)) xs ≡ true → AllByRecursion (λ v. v ≢ N.other (N.key v)) xs
 apart_by N is_other others [] h = tt
 apart_by N is_other others (x ∷ xs) h =
     let here : not (is_other x) ≡ true = first_so (not (is_other x)) (list_all (λ v. not (is_other v)) xs) h in
-    let rest : list_all (λ v. not (is_other v)) xs ≡ true = second_so (not (is_other x)) (list_all (λ v. not (is_other v)) xs) h in (
+    let rest : list_all (λ v. not (is_other v)) xs ≡ true =
+    second_so (not (is_other x)) (list_all (λ v. not (is_other v)) xs) h in (
       λ q.
           let other : is_other x ≡ true = ap is_other q ∙ others (N.key x) in
           let never : not true ≡ true = ap not (sym other) ∙ here in cc,

@@ -19,7 +19,8 @@ tunnel_encap_type_number encapsulation.Mpls = 3
 tunnel_encap_type_number (encapsulation.Other n) = n
 
 abbrev pub tunnel_encap_type_table : Table ℕ TunnelEncapType
-tunnel_encap_type_table = by_number tunnel_encap_type_number encapsulation.Other (encapsulation.None ∷ encapsulation.Fou ∷ encapsulation.Gue ∷ encapsulation.Mpls ∷ [])
+tunnel_encap_type_table = by_number tunnel_encap_type_number encapsulation.Other
+    (encapsulation.None ∷ encapsulation.Fou ∷ encapsulation.Gue ∷ encapsulation.Mpls ∷ [])
 
 -- the value of each number
 abbrev pub tunnel_encap_type : ℕ → TunnelEncapType

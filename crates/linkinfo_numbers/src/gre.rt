@@ -152,7 +152,8 @@ impl ExactEq for ErSpanDir {
     ghost exact = { Prim.search rules };
 }
 
-/// What a GRE header holds: `IFLA_GRE_IFLAGS` and `IFLA_GRE_OFLAGS`, a big-endian 16-bit number (include/uapi/linux/if_tunnel.h). Every number of that width is a set.
+/// What a GRE header holds: `IFLA_GRE_IFLAGS` and `IFLA_GRE_OFLAGS`, a big-endian 16-bit number (include/uapi/linux/if_tunnel.h).
+/// Every number of that width is a set.
 #[derive(Clone, Copy, Debug, PartialEq, Eq)]
 pub struct GreIOFlags(u16);
 
@@ -277,7 +278,8 @@ impl ExactEq for GreIOFlags {
     ghost exact = { Prim.search rules };
 }
 
-/// How a GRE tunnel is wrapped: `IFLA_GRE_ENCAP_FLAGS`, a native 16-bit number (include/uapi/linux/if_tunnel.h). Every number of that width is a set.
+/// How a GRE tunnel is wrapped: `IFLA_GRE_ENCAP_FLAGS`, a native 16-bit number (include/uapi/linux/if_tunnel.h). Every number of
+/// that width is a set.
 #[derive(Clone, Copy, Debug, PartialEq, Eq)]
 pub struct GreEncapFlags(u16);
 

@@ -92,7 +92,8 @@ impl ExactEq for IpVlanMode {
     ghost exact = { Prim.search rules };
 }
 
-/// What an ipvlan or ipvtap link keeps apart: `IFLA_IPVLAN_FLAGS`, a native 16-bit number (include/uapi/linux/if_link.h). Every number of that width is a set.
+/// What an ipvlan or ipvtap link keeps apart: `IFLA_IPVLAN_FLAGS`, a native 16-bit number (include/uapi/linux/if_link.h). Every
+/// number of that width is a set.
 #[derive(Clone, Copy, Debug, PartialEq, Eq)]
 pub struct IpVlanFlags(u16);
 

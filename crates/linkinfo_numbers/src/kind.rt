@@ -328,8 +328,8 @@ impl Nla for InfoKind {
 
 /// The kind of the attribute's name.
 ///
-/// Refused as (LinkInfo, the attribute's type, WrongType) where it has another type, and as (LinkInfo, 1, Utf8) where the name is not
-/// UTF-8. A name that is not known takes memory.
+/// Refused as (LinkInfo, the attribute's type, WrongType) where it has another type, and as (LinkInfo, 1, Utf8) where the name is
+/// not UTF-8. A name that is not known takes memory.
 impl<'a> Parseable<NlaBuffer<'a>> for InfoKind {
     ghost use Rattle.linkinfo_numbers.specs.Kind.{kind_meaning, kind_needs_memory};
 
@@ -344,9 +344,11 @@ impl<'a> Parseable<NlaBuffer<'a>> for InfoKind {
 }
 
 impl ExactEq for InfoKind {
+    ghost use Rattle.std.specs.Prelude.{refl};
     ghost use Rattle.std.specs.Cmp.Lexicographic.{bytes_decides};
-    ghost use Rattle.nla_frame.specs.Derived.{derived_decides, no_field, one_field};
+    ghost use Rattle.nla_frame.specs.Derived.{one_field};
+    ghost use Rattle.linkinfo_numbers.specs.Variants.{variants_decide};
     ghost use Rattle.linkinfo_numbers.specs.contracts.kind.InfoKind.{enum};
 
-    ghost exact = { derived_decides enum _ (no_field, (no_field, (no_field, (no_field, (no_field, (no_field, (no_field, (no_field, (no_field, (no_field, (no_field, (no_field, (no_field, (no_field, (no_field, (no_field, (no_field, (no_field, (no_field, (no_field, (no_field, (no_field, (no_field, (no_field, (no_field, (no_field, (no_field, (no_field, (no_field, (no_field, (no_field, (no_field, (no_field, (no_field, (no_field, (no_field, (no_field, (no_field, (no_field, (no_field, (no_field, (no_field, (no_field, (no_field, (no_field, (no_field, (one_field bytes_decides, tt))))))))))))))))))))))))))))))))))))))))))))))) };
+    ghost exact = { variants_decide enum _ refl (one_field bytes_decides, tt) };
 }

@@ -7,17 +7,26 @@ ghost use Rattle.linkinfo_numbers.specs.Vxlan.{vxlan_df, vxlan_df_number, vxlan_
 ghost use Rattle.linkinfo_numbers.specs.Gtp.{gtp_role, gtp_role_number, gtp_role_table};
 ghost use Rattle.linkinfo_numbers.specs.Ipoib.{ipoib_mode, ipoib_mode_number, ipoib_mode_table};
 ghost use Rattle.linkinfo_numbers.specs.Ipvlan.{ip_vlan_mode, ip_vlan_mode_number, ip_vlan_mode_table, ip_vlan_mode_text};
-ghost use Rattle.linkinfo_numbers.specs.Macvlan.{mac_vlan_mode, mac_vlan_mode_number, mac_vlan_mode_table, mac_vlan_mode_text, mac_vlan_mac_address_mode, mac_vlan_mac_address_mode_number, mac_vlan_mac_address_mode_table};
-ghost use Rattle.linkinfo_numbers.specs.Macsec.{mac_sec_cipher_id, mac_sec_cipher_id_number, mac_sec_cipher_id_table, mac_sec_validate, mac_sec_validate_number, mac_sec_validate_table, mac_sec_offload, mac_sec_offload_number, mac_sec_offload_table};
-ghost use Rattle.linkinfo_numbers.specs.Netkit.{netkit_mode, netkit_mode_number, netkit_mode_table, netkit_mode_text, netkit_policy, netkit_policy_number, netkit_policy_table, netkit_policy_text, netkit_scrub, netkit_scrub_number, netkit_scrub_text, netkit_scrubs};
-ghost use Rattle.linkinfo_numbers.specs.Gre.{gre_encap_type, gre_encap_type_number, gre_encap_type_table, er_span_dir, er_span_dir_number, er_span_dir_table};
+ghost use Rattle.linkinfo_numbers.specs.Macvlan.{mac_vlan_mode, mac_vlan_mode_number, mac_vlan_mode_table, mac_vlan_mode_text};
+ghost use Rattle.linkinfo_numbers.specs.Macvlan.{mac_vlan_mac_address_mode, mac_vlan_mac_address_mode_number};
+ghost use Rattle.linkinfo_numbers.specs.Macvlan.{mac_vlan_mac_address_mode_table};
+ghost use Rattle.linkinfo_numbers.specs.Macsec.{mac_sec_cipher_id, mac_sec_cipher_id_number, mac_sec_cipher_id_table};
+ghost use Rattle.linkinfo_numbers.specs.Macsec.{mac_sec_validate, mac_sec_validate_number, mac_sec_validate_table, mac_sec_offload};
+ghost use Rattle.linkinfo_numbers.specs.Macsec.{mac_sec_offload_number, mac_sec_offload_table};
+ghost use Rattle.linkinfo_numbers.specs.Netkit.{netkit_mode, netkit_mode_number, netkit_mode_table, netkit_mode_text};
+ghost use Rattle.linkinfo_numbers.specs.Netkit.{netkit_policy, netkit_policy_number, netkit_policy_table, netkit_policy_text};
+ghost use Rattle.linkinfo_numbers.specs.Netkit.{netkit_scrub, netkit_scrub_number, netkit_scrub_text, netkit_scrubs};
+ghost use Rattle.linkinfo_numbers.specs.Gre.{gre_encap_type, gre_encap_type_number, gre_encap_type_table, er_span_dir};
+ghost use Rattle.linkinfo_numbers.specs.Gre.{er_span_dir_number, er_span_dir_table};
 ghost use Rattle.linkinfo_numbers.specs.Tunnel.{tunnel_encap_type, tunnel_encap_type_number, tunnel_encap_type_table};
 ghost use Rattle.linkinfo_numbers.specs.Ethernet.{ethernet_protocol, ethernet_protocol_number, ethernet_protocol_table};
 ghost use Rattle.linkinfo_numbers.specs.Ip.{ip_protocol, ip_protocol_number, ip_protocol_table};
 ghost use Rattle.std.specs.Str.{is_utf8};
-ghost use Rattle.linkinfo_numbers.specs.Kind.{kind_attribute, kind_meaning, kind_of_name, kind_table, tag_of_kind, tag_of_name, text_of_kind};
-ghost use Rattle.linkinfo_numbers.specs.PortKind.{port_kind_attribute, port_kind_meaning, port_kind_of_name, port_kind_table, port_tag_of_name, tag_of_port_kind, text_of_port_kind};
-ghost use Rattle.linkinfo_numbers.specs.Table.{IsProper};
+ghost use Rattle.linkinfo_numbers.specs.Kind.{kind_attribute, kind_meaning, kind_of_name, kind_table, tag_of_kind, tag_of_name};
+ghost use Rattle.linkinfo_numbers.specs.Kind.{text_of_kind};
+ghost use Rattle.linkinfo_numbers.specs.PortKind.{port_kind_attribute, port_kind_meaning, port_kind_of_name, port_kind_table};
+ghost use Rattle.linkinfo_numbers.specs.PortKind.{port_tag_of_name, tag_of_port_kind, text_of_port_kind};
+ghost use Rattle.linkinfo_numbers.specs.Table.{IsProper, ReadsBackWhereProper};
 ghost use Rattle.linkinfo_numbers.specs.Word.{ReadsWords};
 
 use crate::amt::AmtMode;
@@ -61,26 +70,27 @@ pub fn number_round_trip(number: u64)
     ensures netkit_scrub { netkit_scrub_number (netkit_scrub number) ≡ (if number == 0 then 0 else 1) }
 {}
 
-/// The value of the number of a value is that value exactly where it is not `Other` of a named number. `NetkitScrub` has no `Other`.
+/// The value of the number of a value is that value exactly where it is not `Other` of a named number. `NetkitScrub` has no
+/// `Other`.
 pub fn value_round_trip()
-    ensures amt_mode { (mode : AmtMode) → (amt_mode (amt_mode_number mode) ≡ mode) ↔ IsProper amt_mode_table mode }
-    ensures geneve_df { (df : GeneveDf) → (geneve_df (geneve_df_number df) ≡ df) ↔ IsProper geneve_df_table df }
-    ensures vxlan_df { (df : VxlanDf) → (vxlan_df (vxlan_df_number df) ≡ df) ↔ IsProper vxlan_df_table df }
-    ensures gtp_role { (role : GtpRole) → (gtp_role (gtp_role_number role) ≡ role) ↔ IsProper gtp_role_table role }
-    ensures ipoib_mode { (mode : IpoibMode) → (ipoib_mode (ipoib_mode_number mode) ≡ mode) ↔ IsProper ipoib_mode_table mode }
-    ensures ip_vlan_mode { (mode : IpVlanMode) → (ip_vlan_mode (ip_vlan_mode_number mode) ≡ mode) ↔ IsProper ip_vlan_mode_table mode }
-    ensures mac_vlan_mode { (mode : MacVlanMode) → (mac_vlan_mode (mac_vlan_mode_number mode) ≡ mode) ↔ IsProper mac_vlan_mode_table mode }
-    ensures mac_vlan_mac_address_mode { (mode : MacVlanMacAddressMode) → (mac_vlan_mac_address_mode (mac_vlan_mac_address_mode_number mode) ≡ mode) ↔ IsProper mac_vlan_mac_address_mode_table mode }
-    ensures mac_sec_cipher_id { (cipher : MacSecCipherId) → (mac_sec_cipher_id (mac_sec_cipher_id_number cipher) ≡ cipher) ↔ IsProper mac_sec_cipher_id_table cipher }
-    ensures mac_sec_validate { (validation : MacSecValidate) → (mac_sec_validate (mac_sec_validate_number validation) ≡ validation) ↔ IsProper mac_sec_validate_table validation }
-    ensures mac_sec_offload { (offload : MacSecOffload) → (mac_sec_offload (mac_sec_offload_number offload) ≡ offload) ↔ IsProper mac_sec_offload_table offload }
-    ensures netkit_mode { (mode : NetkitMode) → (netkit_mode (netkit_mode_number mode) ≡ mode) ↔ IsProper netkit_mode_table mode }
-    ensures netkit_policy { (policy : NetkitPolicy) → (netkit_policy (netkit_policy_number policy) ≡ policy) ↔ IsProper netkit_policy_table policy }
-    ensures gre_encap_type { (encapsulation : GreEncapType) → (gre_encap_type (gre_encap_type_number encapsulation) ≡ encapsulation) ↔ IsProper gre_encap_type_table encapsulation }
-    ensures er_span_dir { (direction : ErSpanDir) → (er_span_dir (er_span_dir_number direction) ≡ direction) ↔ IsProper er_span_dir_table direction }
-    ensures tunnel_encap_type { (encapsulation : TunnelEncapType) → (tunnel_encap_type (tunnel_encap_type_number encapsulation) ≡ encapsulation) ↔ IsProper tunnel_encap_type_table encapsulation }
-    ensures ethernet_protocol { (protocol : EthernetProtocol) → (ethernet_protocol (ethernet_protocol_number protocol) ≡ protocol) ↔ IsProper ethernet_protocol_table protocol }
-    ensures ip_protocol { (protocol : IpProtocol) → (ip_protocol (ip_protocol_number protocol) ≡ protocol) ↔ IsProper ip_protocol_table protocol }
+    ensures amt_mode { ReadsBackWhereProper amt_mode_table }
+    ensures geneve_df { ReadsBackWhereProper geneve_df_table }
+    ensures vxlan_df { ReadsBackWhereProper vxlan_df_table }
+    ensures gtp_role { ReadsBackWhereProper gtp_role_table }
+    ensures ipoib_mode { ReadsBackWhereProper ipoib_mode_table }
+    ensures ip_vlan_mode { ReadsBackWhereProper ip_vlan_mode_table }
+    ensures mac_vlan_mode { ReadsBackWhereProper mac_vlan_mode_table }
+    ensures mac_vlan_mac_address_mode { ReadsBackWhereProper mac_vlan_mac_address_mode_table }
+    ensures mac_sec_cipher_id { ReadsBackWhereProper mac_sec_cipher_id_table }
+    ensures mac_sec_validate { ReadsBackWhereProper mac_sec_validate_table }
+    ensures mac_sec_offload { ReadsBackWhereProper mac_sec_offload_table }
+    ensures netkit_mode { ReadsBackWhereProper netkit_mode_table }
+    ensures netkit_policy { ReadsBackWhereProper netkit_policy_table }
+    ensures gre_encap_type { ReadsBackWhereProper gre_encap_type_table }
+    ensures er_span_dir { ReadsBackWhereProper er_span_dir_table }
+    ensures tunnel_encap_type { ReadsBackWhereProper tunnel_encap_type_table }
+    ensures ethernet_protocol { ReadsBackWhereProper ethernet_protocol_table }
+    ensures ip_protocol { ReadsBackWhereProper ip_protocol_table }
     ensures netkit_scrub { (scrub : NetkitScrub) → netkit_scrub (netkit_scrub_number scrub) ≡ scrub }
     ensures forward { NetkitPolicy.Forward ≡ NetkitPolicy.Pass }
 {}
@@ -102,17 +112,22 @@ pub fn kind_texts()
     ensures text { (name : List ℕ) → text_of_kind (kind_of_name name) ≡ name }
     ensures tag { (name : List ℕ) → tag_of_kind (kind_of_name name) ≡ tag_of_name name }
     ensures again { (kind : InfoKind) → (kind_of_name (text_of_kind kind) ≡ kind) ↔ IsProper kind_table kind }
-    ensures reads_back { (kind : InfoKind) → IsTrue (is_utf8 (text_of_kind kind)) → (kind_meaning (kind_attribute kind) ≡ Ok kind) ↔ IsProper kind_table kind }
+    ensures reads_back { (kind : InfoKind) → IsTrue (is_utf8 (text_of_kind kind))
+        → (kind_meaning (kind_attribute kind) ≡ Ok kind) ↔ IsProper kind_table kind }
     ensures same_tag { (kind : InfoKind) → IsProper kind_table kind → tag_of_name (text_of_kind kind) ≡ tag_of_kind kind }
     ensures port_text { (name : List ℕ) → text_of_port_kind (port_kind_of_name name) ≡ name }
     ensures port_tag { (name : List ℕ) → tag_of_port_kind (port_kind_of_name name) ≡ port_tag_of_name name }
     ensures port_again { (kind : InfoPortKind) → (port_kind_of_name (text_of_port_kind kind) ≡ kind) ↔ IsProper port_kind_table kind }
-    ensures port_reads_back { (kind : InfoPortKind) → IsTrue (is_utf8 (text_of_port_kind kind)) → (port_kind_meaning (port_kind_attribute kind) ≡ Ok kind) ↔ IsProper port_kind_table kind }
-    ensures port_same_tag { (kind : InfoPortKind) → IsProper port_kind_table kind → port_tag_of_name (text_of_port_kind kind) ≡ tag_of_port_kind kind }
+    ensures port_reads_back { (kind : InfoPortKind) → IsTrue (is_utf8 (text_of_port_kind kind))
+        → (port_kind_meaning (port_kind_attribute kind) ≡ Ok kind) ↔ IsProper port_kind_table kind }
+    ensures port_same_tag { (kind : InfoPortKind) → IsProper port_kind_table kind
+        → port_tag_of_name (text_of_port_kind kind) ≡ tag_of_port_kind kind }
 {}
 
 /// Equal sets make the same writes to a hasher.
 pub fn equal_sets_hash_alike()
-    ensures tunnel_encap_flags { (x y : TunnelEncapFlags) → IsTrue (⟦<TunnelEncapFlags as PartialEq>⟧.eq x y) → ⟦<TunnelEncapFlags as Hash>⟧.hash_input x ≡ ⟦<TunnelEncapFlags as Hash>⟧.hash_input y }
-    ensures ip6_tunnel_flags { (x y : Ip6TunnelFlags) → IsTrue (⟦<Ip6TunnelFlags as PartialEq>⟧.eq x y) → ⟦<Ip6TunnelFlags as Hash>⟧.hash_input x ≡ ⟦<Ip6TunnelFlags as Hash>⟧.hash_input y }
+    ensures tunnel_encap_flags { (x y : TunnelEncapFlags) → IsTrue (⟦<TunnelEncapFlags as PartialEq>⟧.eq x y)
+        → ⟦<TunnelEncapFlags as Hash>⟧.hash_input x ≡ ⟦<TunnelEncapFlags as Hash>⟧.hash_input y }
+    ensures ip6_tunnel_flags { (x y : Ip6TunnelFlags) → IsTrue (⟦<Ip6TunnelFlags as PartialEq>⟧.eq x y)
+        → ⟦<Ip6TunnelFlags as Hash>⟧.hash_input x ≡ ⟦<Ip6TunnelFlags as Hash>⟧.hash_input y }
 {}

@@ -104,7 +104,8 @@ impl ExactEq for MacVlanMode {
     ghost exact = { Prim.search rules };
 }
 
-/// What to do with the source addresses of a macvlan or macvtap link: `IFLA_MACVLAN_MACADDR_MODE`, a native 32-bit number (include/uapi/linux/if_link.h).
+/// What to do with the source addresses of a macvlan or macvtap link: `IFLA_MACVLAN_MACADDR_MODE`, a native 32-bit number
+/// (include/uapi/linux/if_link.h).
 #[derive(Clone, Copy, Debug, PartialEq, Eq)]
 pub enum MacVlanMacAddressMode {
     /// `MACVLAN_MACADDR_ADD`.
@@ -157,7 +158,8 @@ impl ExactEq for MacVlanMacAddressMode {
     ghost exact = { Prim.search rules };
 }
 
-/// What a macvlan or macvtap link leaves out: `IFLA_MACVLAN_FLAGS`, a native 16-bit number (include/uapi/linux/if_link.h). Every number of that width is a set.
+/// What a macvlan or macvtap link leaves out: `IFLA_MACVLAN_FLAGS`, a native 16-bit number (include/uapi/linux/if_link.h). Every
+/// number of that width is a set.
 #[derive(Clone, Copy, Debug, PartialEq, Eq)]
 pub struct MacVlanFlags(u16);
 

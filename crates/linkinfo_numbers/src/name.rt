@@ -18,7 +18,8 @@ fn without_nul(payload: &[u8]) -> &[u8]
 
 /// The name that an attribute of this type holds.
 ///
-/// Refused as (LinkInfo, the attribute's type, WrongType) where it has another type, and as (LinkInfo, type, Utf8) where the name is
+/// Refused as (LinkInfo, the attribute's type, WrongType) where it has another type, and as (LinkInfo, type, Utf8) where the name
+/// is
 /// not UTF-8.
 pub(crate) fn name_of<'a>(nla: &NlaBuffer<'a>, kind: u16) -> Result<&'a str, DecodeError>
     ensures { MatchResult result (λ name. name_of kind nla.now ≡ Ok name.now) (λ fault. name_of kind nla.now ≡ Err fault) }

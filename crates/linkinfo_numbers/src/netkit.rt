@@ -84,7 +84,8 @@ impl ExactEq for NetkitMode {
     ghost exact = { Prim.search rules };
 }
 
-/// What a netkit link does with packets that no program judges: `IFLA_NETKIT_POLICY`, a native 32-bit number (include/uapi/linux/if_link.h).
+/// What a netkit link does with packets that no program judges: `IFLA_NETKIT_POLICY`, a native 32-bit number
+/// (include/uapi/linux/if_link.h).
 #[derive(Clone, Copy, Debug, PartialEq, Eq)]
 pub enum NetkitPolicy {
     /// `NETKIT_PASS`.

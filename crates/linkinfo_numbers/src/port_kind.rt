@@ -1,7 +1,8 @@
 //! Kinds of ports.
 
 ghost use Rattle.std.specs.Prelude.{◌≡◌, ◌≢◌, IfOk, IsOk};
-ghost use Rattle.linkinfo_numbers.specs.PortKind.{port_kind_of_name, port_kind_of_tag, tag_of_port_kind, port_tag_of_name, text_of_port_kind};
+ghost use Rattle.linkinfo_numbers.specs.PortKind.{port_kind_of_name, port_kind_of_tag, tag_of_port_kind, port_tag_of_name};
+ghost use Rattle.linkinfo_numbers.specs.PortKind.{text_of_port_kind};
 
 use crate::name::{emit_name, name_fit_len, name_of};
 use crate::names::{PortTag, port_tag_of_name};
@@ -118,7 +119,8 @@ impl Nla for InfoPortKind {
 
 /// The kind of the attribute's name.
 ///
-/// Refused as (LinkInfo, the attribute's type, WrongType) where it has another type, and as (LinkInfo, 4, Utf8) where the name is not
+/// Refused as (LinkInfo, the attribute's type, WrongType) where it has another type, and as (LinkInfo, 4, Utf8) where the name is
+/// not
 /// UTF-8. A name that is not known takes memory.
 impl<'a> Parseable<NlaBuffer<'a>> for InfoPortKind {
     ghost use Rattle.linkinfo_numbers.specs.PortKind.{port_kind_meaning, port_kind_needs_memory};
@@ -134,9 +136,11 @@ impl<'a> Parseable<NlaBuffer<'a>> for InfoPortKind {
 }
 
 impl ExactEq for InfoPortKind {
+    ghost use Rattle.std.specs.Prelude.{refl};
     ghost use Rattle.std.specs.Cmp.Lexicographic.{bytes_decides};
-    ghost use Rattle.nla_frame.specs.Derived.{derived_decides, no_field, one_field};
+    ghost use Rattle.nla_frame.specs.Derived.{one_field};
+    ghost use Rattle.linkinfo_numbers.specs.Variants.{variants_decide};
     ghost use Rattle.linkinfo_numbers.specs.contracts.port_kind.InfoPortKind.{enum};
 
-    ghost exact = { derived_decides enum _ (no_field, (no_field, (no_field, (no_field, (one_field bytes_decides, tt))))) };
+    ghost exact = { variants_decide enum _ refl (one_field bytes_decides, tt) };
 }

@@ -6,7 +6,8 @@ use crate::flags::KeepsEveryBit;
 use bitflags::{Flag, Flags};
 use nla_frame::ExactEq;
 
-/// What an rmnet link does with the frames of its modem: `flags` and `mask` of `struct ifla_rmnet_flags`, native 32-bit numbers (include/uapi/linux/if_link.h). Every number of that width is a set.
+/// What an rmnet link does with the frames of its modem: `flags` and `mask` of `struct ifla_rmnet_flags`, native 32-bit numbers
+/// (include/uapi/linux/if_link.h). Every number of that width is a set.
 #[derive(Clone, Copy, Debug, PartialEq, Eq)]
 pub struct RmNetFlags(u32);
 

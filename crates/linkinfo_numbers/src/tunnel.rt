@@ -77,7 +77,8 @@ impl ExactEq for TunnelEncapType {
     ghost exact = { Prim.search rules };
 }
 
-/// How an IP tunnel is wrapped: `IFLA_IPTUN_ENCAP_FLAGS`, a native 16-bit number (include/uapi/linux/if_tunnel.h). Every number of that width is a set.
+/// How an IP tunnel is wrapped: `IFLA_IPTUN_ENCAP_FLAGS`, a native 16-bit number (include/uapi/linux/if_tunnel.h). Every number of
+/// that width is a set.
 #[derive(Clone, Copy, Debug, PartialEq, Eq, Hash)]
 pub struct TunnelEncapFlags(u16);
 
@@ -151,7 +152,8 @@ impl ExactEq for TunnelEncapFlags {
     ghost exact = { Prim.search rules };
 }
 
-/// What an IPv6 tunnel does: `IFLA_IPTUN_FLAGS` under the kind ip6tnl, a native 32-bit number (include/uapi/linux/ip6_tunnel.h; the last three in include/net/ip6_tunnel.h). Every number of that width is a set.
+/// What an IPv6 tunnel does: `IFLA_IPTUN_FLAGS` under the kind ip6tnl, a native 32-bit number (include/uapi/linux/ip6_tunnel.h; the
+/// last three in include/net/ip6_tunnel.h). Every number of that width is a set.
 #[derive(Clone, Copy, Debug, PartialEq, Eq, Hash)]
 pub struct Ip6TunnelFlags(u32);
 

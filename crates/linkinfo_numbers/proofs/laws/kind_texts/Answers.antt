@@ -1,5 +1,8 @@
-use Rattle.linkinfo_numbers.specs.Kind.{text_of_kind-kind_of_name, tag_of_kind-kind_of_name, kind_of_name-text_of_kind, tag_of_name-text_of_kind, kind_attribute_reads_back}
-use Rattle.linkinfo_numbers.specs.PortKind.{text_of_port_kind-port_kind_of_name, tag_of_port_kind-port_kind_of_name, port_kind_of_name-text_of_port_kind, port_tag_of_name-text_of_port_kind, port_kind_attribute_reads_back}
+use Rattle.linkinfo_numbers.specs.Kind.{text_of_kind-kind_of_name, tag_of_kind-kind_of_name, kind_of_name-text_of_kind}
+use Rattle.linkinfo_numbers.specs.Kind.{tag_of_name-text_of_kind, kind_attribute_reads_back}
+use Rattle.linkinfo_numbers.specs.PortKind.{text_of_port_kind-port_kind_of_name, tag_of_port_kind-port_kind_of_name}
+use Rattle.linkinfo_numbers.specs.PortKind.{port_kind_of_name-text_of_port_kind, port_tag_of_name-text_of_port_kind}
+use Rattle.linkinfo_numbers.specs.PortKind.{port_kind_attribute_reads_back}
 use Rattle.linkinfo_numbers.proofs.laws.kind_texts.Goals as goal
 
 pub returns-clause-text : goal.returns-clause-text

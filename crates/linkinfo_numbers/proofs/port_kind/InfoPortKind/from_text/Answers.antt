@@ -1,6 +1,7 @@
 -- The kind of a name is that of its tag, or else `Other` of the name.
 use Rattle.std.proofs.Common.{◌≡◌, Some, None, sym, ap, ◌∙◌}
-use Rattle.linkinfo_numbers.specs.PortKind.{port_kind_of_tag, port_tag_of_name, text_of_port_kind, port_kind_of_name-tagged, port_kind_of_name-untagged, text_of_port_kind-port_kind_of_name}
+use Rattle.linkinfo_numbers.specs.PortKind.{port_kind_of_tag, port_tag_of_name, text_of_port_kind, port_kind_of_name-tagged}
+use Rattle.linkinfo_numbers.specs.PortKind.{port_kind_of_name-untagged, text_of_port_kind-port_kind_of_name}
 use Rattle.linkinfo_numbers.proofs.port_kind.InfoPortKind.from_text.Goals as goal
 
 pub returns-in-Some-clause-kind : goal.returns-in-Some-clause-kind
