@@ -3,7 +3,7 @@ use Rattle.std.specs.Prelude.{◌≡◌, ◌==◌, ℕ, true, false, List, [], �
 use Rattle.std.specs.Prelude.{is_none, ◌↔◌, Bool, Result, Ok, Err, refl}
 use Rattle.std.specs.List.{list_all, list_any}
 use Rattle.std.specs.Str.{is_utf8}
-use Rattle.std.proofs.Common.{inl, inr, sym, ap, ◌∙◌, lit<}
+use Rattle.std.proofs.Common.{inl, inr, sym, ap, subst, ◌∙◌, lit<}
 use Rattle.std.proofs.lemmas.Slice.Eq.{bytes_eq-Decides}
 use Rattle.nla_frame.specs.Attribute.{Attribute}
 use Rattle.nla_frame.specs.declared.error.DecodeError.{DecodeError}
@@ -11,8 +11,8 @@ use Rattle.linkinfo_numbers.specs.declared.names.KindTag.{KindTag}
 use Rattle.linkinfo_numbers.specs.declared.names.KindTag.TheVariants as tag
 use Rattle.linkinfo_numbers.specs.declared.kind.InfoKind.{InfoKind}
 use Rattle.linkinfo_numbers.specs.declared.kind.InfoKind.TheVariants as kind
-use Rattle.linkinfo_numbers.specs.Table.{Table, IsTable, by_name, value_of, IsProper, apart_by, key-value_of, value_of-key}
-use Rattle.linkinfo_numbers.specs.Name.{name_of, name_attribute, name_of-name_attribute}
+use Rattle.linkinfo_numbers.specs.Table.{Table, IsTable, by_name, value_of, IsProper, apart_by, key-value_of, value_of-key, value_of_is_proper}
+use Rattle.linkinfo_numbers.specs.Name.{name_of, name_attribute, name_of-name_attribute, name_of_is_utf8}
 use Rattle.linkinfo_numbers.specs.Names.{Tags, IsTagged, tag_among, tag_at, tag-value_of, kind-tag_at, tag_at-key}
 use Rattle.linkinfo_numbers.specs.Names.{tag_among-of_length, tag_among-other_length}
 
@@ -291,3 +291,21 @@ kind_attribute_reads_back k utf8 =
       λ p. let same : kind_of_name (text_of_kind k) ≡ k = cc in (kind_of_name-text_of_kind k).0 same,
       λ proper. read ∙ ap (λ x. Ok x) ((kind_of_name-text_of_kind k).1 proper),
     )
+
+-- the kind of a name is not `Other` of a known name
+pub kind_of_name_is_proper : (name : List ℕ) → IsProper kind_table (kind_of_name name)
+unfolding kind_of_name
+kind_of_name_is_proper name = value_of_is_proper kind_table_holds name
+
+read_from_name : (name : Result (List ℕ) DecodeError) → ((got : List ℕ) → name ≡ Ok got → is_utf8 got ≡ true) → (k : InfoKind) →
+    kind_meaning_of_name name ≡ Ok k → IsProper kind_table k × (is_utf8 (text_of_kind k) ≡ true)
+read_from_name (Ok name) utf8 k e =
+    let same : kind_of_name name ≡ k = cc in
+    let P : InfoKind → Type 0 = λ x. IsProper kind_table x in
+    let text : name ≡ text_of_kind k = sym (text_of_kind-kind_of_name name) ∙ ap text_of_kind same in
+    (subst P same (kind_of_name_is_proper name), ap is_utf8 (sym text) ∙ utf8 name refl)
+read_from_name (Err fault) utf8 k e = cc
+
+-- a kind that is read is not `Other` of a known name, and its text is UTF-8
+pub kind_meaning_is_proper : (a : Attribute) (k : InfoKind) → kind_meaning a ≡ Ok k → IsProper kind_table k × (is_utf8 (text_of_kind k) ≡ true)
+kind_meaning_is_proper a k e = read_from_name (name_of 1 a) (name_of_is_utf8 1 a) k e

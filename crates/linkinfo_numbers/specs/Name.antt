@@ -1,8 +1,8 @@
 -- Names in attributes: a text, and one zero byte behind it.
-use Rattle.std.specs.Prelude.{◌≡◌, ◌-◌, ◌<◌, ◌==◌, ℕ, true, if◌then◌else◌, List, [], ◌∷◌, ◌++◌, length, take, drop, Result, Ok, Err}
+use Rattle.std.specs.Prelude.{◌≡◌, ◌-◌, ◌<◌, ◌==◌, ℕ, Bool, true, false, if◌then◌else◌, List, [], ◌∷◌, ◌++◌, length, take, drop, Result, Ok, Err}
 use Rattle.std.specs.Prelude.{refl}
 use Rattle.std.specs.Str.{bytes_eq, is_utf8}
-use Rattle.std.proofs.Common.{arith, ap, ◌∙◌, eq-eqb, length-append}
+use Rattle.std.proofs.Common.{arith, sym, ap, ◌∙◌, eq-eqb, length-append}
 use Rattle.std.proofs.Math.Seq.{take-append_seam, drop-append_seam}
 use Rattle.nla_frame.specs.Attribute.{Attribute, masked}
 use Rattle.nla_frame.specs.declared.error.Family.TheVariants as family
@@ -49,3 +49,19 @@ name_of-name_attribute kind name small utf8 =
     let same : masked kind ≡ kind = omega arith in
     let here : (masked kind == kind) ≡ true = eq-eqb (masked kind) kind same in
     rw (here, name_in-zero name, utf8) refl
+
+utf8_choice : (name got : List ℕ) (fault : DecodeError) (b : Bool) → b ≡ is_utf8 name → (if b then Ok name else Err fault) ≡ Ok got →
+    is_utf8 got ≡ true
+utf8_choice name got fault true is e = let same : name ≡ got = cc in ap is_utf8 (sym same) ∙ sym is
+utf8_choice name got fault false is e = cc
+
+type_choice : (name : Result (List ℕ) DecodeError) (got : List ℕ) (fault : DecodeError) (b : Bool) → (if b then name else Err fault) ≡ Ok got →
+    name ≡ Ok got
+type_choice name got fault true e = e
+type_choice name got fault false e = cc
+
+-- a name that an attribute holds is UTF-8
+pub name_of_is_utf8 : (kind : ℕ) (a : Attribute) (name : List ℕ) → name_of kind a ≡ Ok name → is_utf8 name ≡ true
+name_of_is_utf8 kind a name e =
+    utf8_choice (name_in a.value) name (bad_name kind) (is_utf8 (name_in a.value)) refl
+    (type_choice (if is_utf8 (name_in a.value) then Ok (name_in a.value) else Err (bad_name kind)) name (wrong_type (masked a.kind)) (masked a.kind == kind) e)

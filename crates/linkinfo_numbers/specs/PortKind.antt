@@ -2,7 +2,7 @@
 use Rattle.std.specs.Prelude.{◌≡◌, ℕ, true, false, List, [], ◌∷◌, codes, Option, Some, None, unwrap_or, is_none, ◌↔◌, Bool, Result}
 use Rattle.std.specs.Prelude.{Ok, Err, refl}
 use Rattle.std.specs.Str.{is_utf8}
-use Rattle.std.proofs.Common.{inl, inr, sym, ap, ◌∙◌, lit<}
+use Rattle.std.proofs.Common.{inl, inr, sym, ap, subst, ◌∙◌, lit<}
 use Rattle.std.proofs.lemmas.Slice.Eq.{bytes_eq-Decides}
 use Rattle.nla_frame.specs.Attribute.{Attribute}
 use Rattle.nla_frame.specs.declared.error.DecodeError.{DecodeError}
@@ -10,8 +10,8 @@ use Rattle.linkinfo_numbers.specs.declared.names.PortTag.{PortTag}
 use Rattle.linkinfo_numbers.specs.declared.names.PortTag.TheVariants as tag
 use Rattle.linkinfo_numbers.specs.declared.port_kind.InfoPortKind.{InfoPortKind}
 use Rattle.linkinfo_numbers.specs.declared.port_kind.InfoPortKind.TheVariants as kind
-use Rattle.linkinfo_numbers.specs.Table.{Table, IsTable, by_name, value_of, IsProper, apart_by, key-value_of, value_of-key}
-use Rattle.linkinfo_numbers.specs.Name.{name_of, name_attribute, name_of-name_attribute}
+use Rattle.linkinfo_numbers.specs.Table.{Table, IsTable, by_name, value_of, IsProper, apart_by, key-value_of, value_of-key, value_of_is_proper}
+use Rattle.linkinfo_numbers.specs.Name.{name_of, name_attribute, name_of-name_attribute, name_of_is_utf8}
 use Rattle.linkinfo_numbers.specs.Names.{Tags, IsTagged, tag_at, tag-value_of, kind-tag_at, tag_at-key}
 
 -- the text of each kind
@@ -139,3 +139,21 @@ port_kind_attribute_reads_back k utf8 =
       λ p. let same : port_kind_of_name (text_of_port_kind k) ≡ k = cc in (port_kind_of_name-text_of_port_kind k).0 same,
       λ proper. read ∙ ap (λ x. Ok x) ((port_kind_of_name-text_of_port_kind k).1 proper),
     )
+
+-- the kind of a name is not `Other` of a known name
+pub port_kind_of_name_is_proper : (name : List ℕ) → IsProper port_kind_table (port_kind_of_name name)
+unfolding port_kind_of_name
+port_kind_of_name_is_proper name = value_of_is_proper port_kind_table_holds name
+
+read_from_name : (name : Result (List ℕ) DecodeError) → ((got : List ℕ) → name ≡ Ok got → is_utf8 got ≡ true) → (k : InfoPortKind) →
+    port_kind_meaning_of_name name ≡ Ok k → IsProper port_kind_table k × (is_utf8 (text_of_port_kind k) ≡ true)
+read_from_name (Ok name) utf8 k e =
+    let same : port_kind_of_name name ≡ k = cc in
+    let P : InfoPortKind → Type 0 = λ x. IsProper port_kind_table x in
+    let text : name ≡ text_of_port_kind k = sym (text_of_port_kind-port_kind_of_name name) ∙ ap text_of_port_kind same in
+    (subst P same (port_kind_of_name_is_proper name), ap is_utf8 (sym text) ∙ utf8 name refl)
+read_from_name (Err fault) utf8 k e = cc
+
+-- a kind that is read is not `Other` of a known name, and its text is UTF-8
+pub port_kind_meaning_is_proper : (a : Attribute) (k : InfoPortKind) → port_kind_meaning a ≡ Ok k → IsProper port_kind_table k × (is_utf8 (text_of_port_kind k) ≡ true)
+port_kind_meaning_is_proper a k e = read_from_name (name_of 4 a) (name_of_is_utf8 4 a) k e

@@ -127,6 +127,10 @@ found_is_proper N h x p =
 pub value_of-key : {Key T : Type 0} {N : Table Key T} → IsTable N → ReadsBackWhereProper N
 value_of-key {N = N} h x = (found_is_proper N h x, proper_is_found N h x (h.found x))
 
+-- the value of a key is not `Other` of a named key
+pub value_of_is_proper : {Key T : Type 0} {N : Table Key T} → IsTable N → (k : Key) → IsProper N (value_of N k)
+value_of_is_proper {N = N} h k = (value_of-key h (value_of N k)).0 (ap (value_of N) (key-value_of h k))
+
 -- no value of a list is `Other`, by a test that `Other` passes and each of them fails
 pub apart_by : {Key T : Type 0} (N : Table Key T) (is_other : T → Bool) → ((k : Key) → is_other (N.other k) ≡ true) →
     (xs : List T) →

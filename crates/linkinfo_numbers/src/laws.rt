@@ -1,6 +1,7 @@
 //! Laws of the tables, each the contract of a function without code.
 
 ghost use Rattle.std.specs.Prelude.{◌≡◌, ◌↔◌, ◌==◌, ℕ, List, Ok, IsTrue, if◌then◌else◌};
+ghost use Rattle.nla_frame.specs.Attribute.{Attribute};
 ghost use Rattle.linkinfo_numbers.specs.Amt.{amt_mode, amt_mode_number, amt_mode_table, amt_mode_text};
 ghost use Rattle.linkinfo_numbers.specs.Geneve.{geneve_df, geneve_df_number, geneve_df_table, geneve_df_text};
 ghost use Rattle.linkinfo_numbers.specs.Vxlan.{vxlan_df, vxlan_df_number, vxlan_df_table};
@@ -107,19 +108,24 @@ pub fn word_round_trip()
 {}
 
 /// A kind made from a text has that text and its tag. Made from a kind's text it is that kind exactly where the kind is not `Other`
-/// of a known name, and then its attribute reads as it, and its text has its tag.
+/// of a known name, and then its attribute reads as it, and its text has its tag. A kind that is read from an attribute is so, and its
+/// text is UTF-8.
 pub fn kind_texts()
     ensures text { (name : List ℕ) → text_of_kind (kind_of_name name) ≡ name }
     ensures tag { (name : List ℕ) → tag_of_kind (kind_of_name name) ≡ tag_of_name name }
     ensures again { (kind : InfoKind) → (kind_of_name (text_of_kind kind) ≡ kind) ↔ IsProper kind_table kind }
     ensures reads_back { (kind : InfoKind) → IsTrue (is_utf8 (text_of_kind kind))
         → (kind_meaning (kind_attribute kind) ≡ Ok kind) ↔ IsProper kind_table kind }
+    ensures read { (attribute : Attribute) (kind : InfoKind) → kind_meaning attribute ≡ Ok kind
+        → IsProper kind_table kind × IsTrue (is_utf8 (text_of_kind kind)) }
     ensures same_tag { (kind : InfoKind) → IsProper kind_table kind → tag_of_name (text_of_kind kind) ≡ tag_of_kind kind }
     ensures port_text { (name : List ℕ) → text_of_port_kind (port_kind_of_name name) ≡ name }
     ensures port_tag { (name : List ℕ) → tag_of_port_kind (port_kind_of_name name) ≡ port_tag_of_name name }
     ensures port_again { (kind : InfoPortKind) → (port_kind_of_name (text_of_port_kind kind) ≡ kind) ↔ IsProper port_kind_table kind }
     ensures port_reads_back { (kind : InfoPortKind) → IsTrue (is_utf8 (text_of_port_kind kind))
         → (port_kind_meaning (port_kind_attribute kind) ≡ Ok kind) ↔ IsProper port_kind_table kind }
+    ensures port_read { (attribute : Attribute) (kind : InfoPortKind) → port_kind_meaning attribute ≡ Ok kind
+        → IsProper port_kind_table kind × IsTrue (is_utf8 (text_of_port_kind kind)) }
     ensures port_same_tag { (kind : InfoPortKind) → IsProper port_kind_table kind
         → port_tag_of_name (text_of_port_kind kind) ≡ tag_of_port_kind kind }
 {}

@@ -3,6 +3,8 @@ use Rattle.linkinfo_numbers.specs.Kind.{tag_of_name-text_of_kind, kind_attribute
 use Rattle.linkinfo_numbers.specs.PortKind.{text_of_port_kind-port_kind_of_name, tag_of_port_kind-port_kind_of_name}
 use Rattle.linkinfo_numbers.specs.PortKind.{port_kind_of_name-text_of_port_kind, port_tag_of_name-text_of_port_kind}
 use Rattle.linkinfo_numbers.specs.PortKind.{port_kind_attribute_reads_back}
+use Rattle.linkinfo_numbers.specs.Kind.{kind_meaning_is_proper}
+use Rattle.linkinfo_numbers.specs.PortKind.{port_kind_meaning_is_proper}
 use Rattle.linkinfo_numbers.proofs.laws.kind_texts.Goals as goal
 
 pub returns-clause-text : goal.returns-clause-text
@@ -34,3 +36,9 @@ returns-clause-reads_back c = kind_attribute_reads_back
 
 pub returns-clause-port_reads_back : goal.returns-clause-port_reads_back
 returns-clause-port_reads_back c = port_kind_attribute_reads_back
+
+pub returns-clause-read : goal.returns-clause-read
+returns-clause-read c = kind_meaning_is_proper
+
+pub returns-clause-port_read : goal.returns-clause-port_read
+returns-clause-port_read c = port_kind_meaning_is_proper
