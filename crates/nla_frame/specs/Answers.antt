@@ -3,7 +3,12 @@ use Rattle.std.specs.Prelude.{◌≡◌, ◌≢◌, Bool, false, Option, Some, N
 use Rattle.nla_frame.specs.Error.{memory_fault}
 use Rattle.nla_frame.specs.declared.error.DecodeError.{DecodeError}
 
--- The answer, seen by `view`, is the meaning; only want of memory may stand in its place.
+-- The answer, seen by `view`, is the meaning.
+abbrev pub Answers : {X Y : Type 0} → (X → Y) → Result X DecodeError → Result Y DecodeError → Type 0
+Answers view (Ok x) meaning = meaning ≡ Ok (view x)
+Answers view (Err e) meaning = meaning ≡ Err e
+
+-- The same, but that want of memory may stand in the place of the meaning.
 abbrev pub Gives : {X Y : Type 0} → (X → Y) → Result X DecodeError → Result Y DecodeError → Type 0
 Gives view (Ok x) meaning = meaning ≡ Ok (view x)
 Gives view (Err e) meaning = e ≢ memory_fault → meaning ≡ Err e
@@ -14,8 +19,8 @@ OnAnswer (Ok x) P = P
 OnAnswer (Err e) P = e ≢ memory_fault → P
 
 -- the answer is the meaning for certain where no memory is needed for it
-abbrev pub CertainUnless : {X : Type 0} → Bool → Result X DecodeError → Result X DecodeError → Type 0
-CertainUnless needs_memory result meaning = needs_memory ≡ false → result ≡ meaning
+abbrev pub CertainUnless : {X Y : Type 0} → Bool → (X → Y) → Result X DecodeError → Result Y DecodeError → Type 0
+CertainUnless needs_memory view result meaning = needs_memory ≡ false → Answers view result meaning
 
 -- the answer without its value
 abbrev pub verdict : {X : Type 0} → Result X DecodeError → Result (Unit {0}) DecodeError

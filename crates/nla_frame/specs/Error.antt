@@ -58,6 +58,7 @@ cause_name cause.WrongType = codes "wrongtype"
 cause_name cause.Kind = codes "kind"
 cause_name cause.Depth = codes "depth"
 cause_name cause.Memory = codes "memory"
+cause_name cause.Peer = codes "peer"
 
 -- family, type in decimal, cause
 abbrev pub error_text : DecodeError → List ℕ

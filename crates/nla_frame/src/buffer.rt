@@ -25,14 +25,13 @@ pub struct NlaBuffer<'a> {
 }
 
 impl<'a> Model for NlaBuffer<'a> {
-    ghost use Rattle.std.specs.Prelude.{◌≤◌, length};
-    ghost use Rattle.nla_frame.specs.Attribute.{Attribute};
+    ghost use Rattle.nla_frame.specs.Attribute.{Attribute, IsAttribute};
 
     ghost Value = { Attribute };
 
     ghost view = { λ n. record { kind = n.kind; value = n.value.now } };
 
-    ghost invariant = { λ n. length n.value.now ≤ 65531 };
+    ghost invariant = { λ n. IsAttribute (record { kind = n.kind; value = n.value.now }) };
 }
 
 fn header_error() -> DecodeError
@@ -131,7 +130,7 @@ impl<'a> NlaBuffer<'a> {
     /// The bytes of the value, those of the source itself.
     pub fn value(&self) -> &'a [u8]
         ensures value { result.now ≡ self.now.value }
-        ensures short { length result.now ≤ 65531 }
+        ensures attribute { IsAttribute self.now }
     {
         self.value
     }

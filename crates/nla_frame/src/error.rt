@@ -106,7 +106,7 @@ impl fmt::Display for Family {
     }
 }
 
-/// What is wrong with the bytes, or that memory ran out. `cause as u8` is its number, from 1 to 10.
+/// What is wrong with the bytes, or that memory ran out. `cause as u8` is its number, from 1 to 11.
 #[derive(Clone, Copy, Debug, PartialEq, Eq)]
 pub enum Cause {
     /// No attribute begins here: fewer than four bytes, a length field below four, or one above the bytes that are there.
@@ -129,6 +129,8 @@ pub enum Cause {
     Depth = 9,
     /// An allocation was refused.
     Memory = 10,
+    /// A peer's payload that the type of peer refuses.
+    Peer = 11,
 }
 
 impl Cause {
@@ -146,6 +148,7 @@ impl Cause {
             Cause::Kind => "kind",
             Cause::Depth => "depth",
             Cause::Memory => "memory",
+            Cause::Peer => "peer",
         }
     }
 }

@@ -94,7 +94,7 @@ pub trait Parseable<B>: Sized {
     /// Reads the value. An answer other than (Frame, 0, Memory) is what the buffer means.
     fn parse(alloc: Global, buffer: &B) -> Result<Self, DecodeError>
         ensures answer { Gives (λ value. value) result (meaning buffer.now) }
-        ensures certain { CertainUnless (needs_memory buffer.now) result (meaning buffer.now) };
+        ensures certain { CertainUnless (needs_memory buffer.now) (λ value. value) result (meaning buffer.now) };
 }
 
 /// A value that is read from a `B` under a parameter.
@@ -108,5 +108,5 @@ pub trait ParseableParametrized<B, P>: Sized {
     /// Reads the value. An answer other than (Frame, 0, Memory) is what the buffer means.
     fn parse_with_param(alloc: Global, buffer: &B, param: P) -> Result<Self, DecodeError>
         ensures answer { Gives (λ value. value) result (meaning buffer.now param) }
-        ensures certain { CertainUnless (needs_memory buffer.now param) result (meaning buffer.now param) };
+        ensures certain { CertainUnless (needs_memory buffer.now param) (λ value. value) result (meaning buffer.now param) };
 }

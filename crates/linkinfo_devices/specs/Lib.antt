@@ -1,0 +1,2 @@
+pub mod Vrf
+pub mod Xfrm

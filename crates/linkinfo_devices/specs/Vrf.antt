@@ -1,0 +1,26 @@
+-- The rows of a vrf, and of its ports.
+use Rattle.std.specs.Prelude.{◌≡◌, ℕ, List, [], ◌∷◌, refl}
+use Rattle.std.proofs.Common.{lit<}
+use Rattle.nla_frame.specs.Attribute.{Attribute}
+use Rattle.nla_frame.specs.Kept.{attribute_of}
+use Rattle.nla_frame.specs.declared.error.Family.TheVariants as family
+use Rattle.linkinfo_table.specs.FamilyRows.{PlainRow, row, typed, Keeps, EachKeeps, without_labels}
+use Rattle.linkinfo_shapes.specs.Table.{rows_of}
+use Rattle.linkinfo_shapes.specs.declared.shape.Shape.TheVariants.{Le32}
+use Rattle.linkinfo_devices.specs.declared.vrf.InfoVrf.{InfoVrf}
+use Rattle.linkinfo_devices.specs.declared.vrf.InfoVrf.TheVariants.{TableId, Other}
+
+abbrev pub vrf_rows : List (PlainRow InfoVrf)
+vrf_rows =
+    row 1 Le32 (λ n. TableId n) ∷
+    []
+
+abbrev pub vrf_attribute : InfoVrf → Attribute
+vrf_attribute (TableId n) = typed 1 Le32 n
+vrf_attribute (Other nla) = attribute_of nla
+
+pub vrf_keeps : EachKeeps vrf_attribute vrf_rows
+vrf_keeps = (record { low = lit< tt; plain = tt; keeps = λ n. refl }, tt)
+
+pub vrf_table : without_labels vrf_rows ≡ rows_of family.Vrf
+vrf_table = refl

@@ -1,0 +1,28 @@
+-- The rows of xfrm links.
+use Rattle.std.specs.Prelude.{◌≡◌, ℕ, List, [], ◌∷◌, refl}
+use Rattle.std.proofs.Common.{lit<}
+use Rattle.nla_frame.specs.Attribute.{Attribute}
+use Rattle.nla_frame.specs.Kept.{attribute_of}
+use Rattle.nla_frame.specs.declared.error.Family.TheVariants as family
+use Rattle.linkinfo_table.specs.FamilyRows.{PlainRow, row, typed, Keeps, EachKeeps, without_labels}
+use Rattle.linkinfo_shapes.specs.Table.{rows_of}
+use Rattle.linkinfo_shapes.specs.declared.shape.Shape.TheVariants.{Le32}
+use Rattle.linkinfo_devices.specs.declared.xfrm.InfoXfrm.{InfoXfrm}
+use Rattle.linkinfo_devices.specs.declared.xfrm.InfoXfrm.TheVariants.{Link, IfId, Other}
+
+abbrev pub xfrm_rows : List (PlainRow InfoXfrm)
+xfrm_rows =
+    row 1 Le32 (λ n. Link n) ∷
+    row 2 Le32 (λ n. IfId n) ∷
+    []
+
+abbrev pub xfrm_attribute : InfoXfrm → Attribute
+xfrm_attribute (Link n) = typed 1 Le32 n
+xfrm_attribute (IfId n) = typed 2 Le32 n
+xfrm_attribute (Other nla) = attribute_of nla
+
+pub xfrm_keeps : EachKeeps xfrm_attribute xfrm_rows
+xfrm_keeps = (record { low = lit< tt; plain = tt; keeps = λ n. refl }, (record { low = lit< tt; plain = tt; keeps = λ n. refl }, tt))
+
+pub xfrm_table : without_labels xfrm_rows ≡ rows_of family.Xfrm
+xfrm_table = refl

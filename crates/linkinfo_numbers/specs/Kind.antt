@@ -1,0 +1,311 @@
+-- The names of link kinds.
+use Rattle.std.specs.Prelude.{◌≡◌, ◌==◌, ℕ, true, false, List, [], ◌∷◌, filter, length, codes, Option, Some, None, unwrap_or}
+use Rattle.std.specs.Prelude.{is_none, ◌↔◌, Bool, Result, Ok, Err, refl}
+use Rattle.std.specs.List.{list_all, list_any}
+use Rattle.std.specs.Str.{is_utf8}
+use Rattle.std.proofs.Common.{inl, inr, sym, ap, subst, ◌∙◌, lit<}
+use Rattle.std.proofs.lemmas.Slice.Eq.{bytes_eq-Decides}
+use Rattle.nla_frame.specs.Attribute.{Attribute}
+use Rattle.nla_frame.specs.declared.error.DecodeError.{DecodeError}
+use Rattle.linkinfo_numbers.specs.declared.names.KindTag.{KindTag}
+use Rattle.linkinfo_numbers.specs.declared.names.KindTag.TheVariants as tag
+use Rattle.linkinfo_numbers.specs.declared.kind.InfoKind.{InfoKind}
+use Rattle.linkinfo_numbers.specs.declared.kind.InfoKind.TheVariants as kind
+use Rattle.linkinfo_numbers.specs.Table.{Table, IsTable, by_name, value_of, IsProper, apart_by, key-value_of, value_of-key, value_of_is_proper}
+use Rattle.linkinfo_numbers.specs.Name.{name_of, name_attribute, name_of-name_attribute, name_of_is_utf8}
+use Rattle.linkinfo_numbers.specs.Names.{Tags, IsTagged, tag_among, tag_at, tag-value_of, kind-tag_at, tag_at-key}
+use Rattle.linkinfo_numbers.specs.Names.{tag_among-of_length, tag_among-other_length}
+
+-- the text of each kind
+abbrev pub text_of_kind : InfoKind → List ℕ
+text_of_kind kind.Dummy = codes "dummy"
+text_of_kind kind.Ifb = codes "ifb"
+text_of_kind kind.Bridge = codes "bridge"
+text_of_kind kind.Tun = codes "tun"
+text_of_kind kind.Nlmon = codes "nlmon"
+text_of_kind kind.Vlan = codes "vlan"
+text_of_kind kind.Veth = codes "veth"
+text_of_kind kind.Vxlan = codes "vxlan"
+text_of_kind kind.Bond = codes "bond"
+text_of_kind kind.IpVlan = codes "ipvlan"
+text_of_kind kind.IpVtap = codes "ipvtap"
+text_of_kind kind.MacVlan = codes "macvlan"
+text_of_kind kind.MacVtap = codes "macvtap"
+text_of_kind kind.GreTap = codes "gretap"
+text_of_kind kind.GreTap6 = codes "ip6gretap"
+text_of_kind kind.IpIp = codes "ipip"
+text_of_kind kind.Ip6Tnl = codes "ip6tnl"
+text_of_kind kind.SitTun = codes "sit"
+text_of_kind kind.GreTun = codes "gre"
+text_of_kind kind.GreTun6 = codes "ip6gre"
+text_of_kind kind.Vti = codes "vti"
+text_of_kind kind.Vti6 = codes "vti6"
+text_of_kind kind.Vrf = codes "vrf"
+text_of_kind kind.Gtp = codes "gtp"
+text_of_kind kind.Ipoib = codes "ipoib"
+text_of_kind kind.Wireguard = codes "wireguard"
+text_of_kind kind.Xfrm = codes "xfrm"
+text_of_kind kind.MacSec = codes "macsec"
+text_of_kind kind.Hsr = codes "hsr"
+text_of_kind kind.Geneve = codes "geneve"
+text_of_kind kind.Netkit = codes "netkit"
+text_of_kind kind.Vcan = codes "vcan"
+text_of_kind kind.Vxcan = codes "vxcan"
+text_of_kind kind.Amt = codes "amt"
+text_of_kind kind.BatAdv = codes "batadv"
+text_of_kind kind.BareUdp = codes "bareudp"
+text_of_kind kind.Netdevsim = codes "netdevsim"
+text_of_kind kind.VirtWifi = codes "virt_wifi"
+text_of_kind kind.Wwan = codes "wwan"
+text_of_kind kind.Can = codes "can"
+text_of_kind kind.Dsa = codes "dsa"
+text_of_kind kind.Team = codes "team"
+text_of_kind kind.ErSpan = codes "erspan"
+text_of_kind kind.Ip6ErSpan = codes "ip6erspan"
+text_of_kind kind.Pfcp = codes "pfcp"
+text_of_kind kind.RmNet = codes "rmnet"
+text_of_kind (kind.Other text) = text
+
+-- the tag of each kind, by its variant
+abbrev pub tag_of_kind : InfoKind → KindTag
+tag_of_kind kind.Dummy = tag.Dummy
+tag_of_kind kind.Ifb = tag.Ifb
+tag_of_kind kind.Bridge = tag.Bridge
+tag_of_kind kind.Tun = tag.Tun
+tag_of_kind kind.Nlmon = tag.Nlmon
+tag_of_kind kind.Vlan = tag.Vlan
+tag_of_kind kind.Veth = tag.Veth
+tag_of_kind kind.Vxlan = tag.Vxlan
+tag_of_kind kind.Bond = tag.Bond
+tag_of_kind kind.IpVlan = tag.IpVlan
+tag_of_kind kind.IpVtap = tag.IpVtap
+tag_of_kind kind.MacVlan = tag.MacVlan
+tag_of_kind kind.MacVtap = tag.MacVtap
+tag_of_kind kind.GreTap = tag.GreTap
+tag_of_kind kind.GreTap6 = tag.GreTap6
+tag_of_kind kind.IpIp = tag.IpIp
+tag_of_kind kind.Ip6Tnl = tag.Ip6Tnl
+tag_of_kind kind.SitTun = tag.SitTun
+tag_of_kind kind.GreTun = tag.GreTun
+tag_of_kind kind.GreTun6 = tag.GreTun6
+tag_of_kind kind.Vti = tag.Vti
+tag_of_kind kind.Vti6 = tag.Vti6
+tag_of_kind kind.Vrf = tag.Vrf
+tag_of_kind kind.Gtp = tag.Gtp
+tag_of_kind kind.Ipoib = tag.Ipoib
+tag_of_kind kind.Wireguard = tag.Wireguard
+tag_of_kind kind.Xfrm = tag.Xfrm
+tag_of_kind kind.MacSec = tag.MacSec
+tag_of_kind kind.Hsr = tag.Hsr
+tag_of_kind kind.Geneve = tag.Geneve
+tag_of_kind kind.Netkit = tag.Netkit
+tag_of_kind kind.Vcan = tag.Vcan
+tag_of_kind kind.Vxcan = tag.Vxcan
+tag_of_kind kind.Amt = tag.Amt
+tag_of_kind kind.BatAdv = tag.BatAdv
+tag_of_kind kind.BareUdp = tag.BareUdp
+tag_of_kind kind.Netdevsim = tag.Netdevsim
+tag_of_kind kind.VirtWifi = tag.VirtWifi
+tag_of_kind kind.Wwan = tag.Wwan
+tag_of_kind kind.Can = tag.Can
+tag_of_kind kind.Dsa = tag.Dsa
+tag_of_kind kind.Team = tag.Team
+tag_of_kind kind.ErSpan = tag.ErSpan
+tag_of_kind kind.Ip6ErSpan = tag.Ip6ErSpan
+tag_of_kind kind.Pfcp = tag.Pfcp
+tag_of_kind kind.RmNet = tag.RmNet
+tag_of_kind (kind.Other text) = tag.Other
+
+-- the kind of each tag, which `Other` alone does not have
+abbrev pub kind_of_tag : KindTag → Option InfoKind
+kind_of_tag tag.Dummy = Some kind.Dummy
+kind_of_tag tag.Ifb = Some kind.Ifb
+kind_of_tag tag.Bridge = Some kind.Bridge
+kind_of_tag tag.Tun = Some kind.Tun
+kind_of_tag tag.Nlmon = Some kind.Nlmon
+kind_of_tag tag.Vlan = Some kind.Vlan
+kind_of_tag tag.Veth = Some kind.Veth
+kind_of_tag tag.Vxlan = Some kind.Vxlan
+kind_of_tag tag.Bond = Some kind.Bond
+kind_of_tag tag.IpVlan = Some kind.IpVlan
+kind_of_tag tag.IpVtap = Some kind.IpVtap
+kind_of_tag tag.MacVlan = Some kind.MacVlan
+kind_of_tag tag.MacVtap = Some kind.MacVtap
+kind_of_tag tag.GreTap = Some kind.GreTap
+kind_of_tag tag.GreTap6 = Some kind.GreTap6
+kind_of_tag tag.IpIp = Some kind.IpIp
+kind_of_tag tag.Ip6Tnl = Some kind.Ip6Tnl
+kind_of_tag tag.SitTun = Some kind.SitTun
+kind_of_tag tag.GreTun = Some kind.GreTun
+kind_of_tag tag.GreTun6 = Some kind.GreTun6
+kind_of_tag tag.Vti = Some kind.Vti
+kind_of_tag tag.Vti6 = Some kind.Vti6
+kind_of_tag tag.Vrf = Some kind.Vrf
+kind_of_tag tag.Gtp = Some kind.Gtp
+kind_of_tag tag.Ipoib = Some kind.Ipoib
+kind_of_tag tag.Wireguard = Some kind.Wireguard
+kind_of_tag tag.Xfrm = Some kind.Xfrm
+kind_of_tag tag.MacSec = Some kind.MacSec
+kind_of_tag tag.Hsr = Some kind.Hsr
+kind_of_tag tag.Geneve = Some kind.Geneve
+kind_of_tag tag.Netkit = Some kind.Netkit
+kind_of_tag tag.Vcan = Some kind.Vcan
+kind_of_tag tag.Vxcan = Some kind.Vxcan
+kind_of_tag tag.Amt = Some kind.Amt
+kind_of_tag tag.BatAdv = Some kind.BatAdv
+kind_of_tag tag.BareUdp = Some kind.BareUdp
+kind_of_tag tag.Netdevsim = Some kind.Netdevsim
+kind_of_tag tag.VirtWifi = Some kind.VirtWifi
+kind_of_tag tag.Wwan = Some kind.Wwan
+kind_of_tag tag.Can = Some kind.Can
+kind_of_tag tag.Dsa = Some kind.Dsa
+kind_of_tag tag.Team = Some kind.Team
+kind_of_tag tag.ErSpan = Some kind.ErSpan
+kind_of_tag tag.Ip6ErSpan = Some kind.Ip6ErSpan
+kind_of_tag tag.Pfcp = Some kind.Pfcp
+kind_of_tag tag.RmNet = Some kind.RmNet
+kind_of_tag tag.Other = None
+
+-- the kinds that have a name of their own
+unfoldable pub known_kinds : List InfoKind
+known_kinds =
+    kind.Dummy ∷ kind.Ifb ∷ kind.Bridge ∷ kind.Tun ∷ kind.Nlmon ∷ kind.Vlan ∷ kind.Veth ∷ kind.Vxlan ∷ kind.Bond ∷
+    kind.IpVlan ∷ kind.IpVtap ∷ kind.MacVlan ∷ kind.MacVtap ∷ kind.GreTap ∷ kind.GreTap6 ∷ kind.IpIp ∷ kind.Ip6Tnl ∷
+    kind.SitTun ∷ kind.GreTun ∷ kind.GreTun6 ∷ kind.Vti ∷ kind.Vti6 ∷ kind.Vrf ∷ kind.Gtp ∷ kind.Ipoib ∷
+    kind.Wireguard ∷ kind.Xfrm ∷ kind.MacSec ∷ kind.Hsr ∷ kind.Geneve ∷ kind.Netkit ∷ kind.Vcan ∷ kind.Vxcan ∷
+    kind.Amt ∷ kind.BatAdv ∷ kind.BareUdp ∷ kind.Netdevsim ∷ kind.VirtWifi ∷ kind.Wwan ∷ kind.Can ∷ kind.Dsa ∷
+    kind.Team ∷ kind.ErSpan ∷ kind.Ip6ErSpan ∷ kind.Pfcp ∷ kind.RmNet ∷ []
+
+abbrev pub kind_table : Table (List ℕ) InfoKind
+kind_table = by_name text_of_kind kind.Other known_kinds
+
+abbrev pub kind_tags : Tags KindTag InfoKind
+kind_tags = record { tag = tag_of_kind; kind = kind_of_tag }
+
+-- the kind of a name
+unfoldable pub kind_of_name : List ℕ → InfoKind
+kind_of_name name = value_of kind_table name
+
+-- the tag of a name
+unfoldable pub tag_of_name : List ℕ → KindTag
+tag_of_name name = tag_at kind_table kind_tags name
+
+pub kind_table_holds : IsTable kind_table
+unfolding known_kinds
+kind_table_holds = record {
+  same_decides = bytes_eq-Decides;
+  other_key = λ name. refl;
+  found = elim [ kind.Other name ↦ inl refl | _ ↦ inr refl ];
+  apart = apart_by kind_table (λ k. is_none (kind_of_tag (tag_of_kind k))) (λ name. refl) known_kinds refl;
+}
+
+pub kind_tags_hold : IsTagged kind_table kind_tags
+kind_tags_hold = record { tagged = elim [ kind.Other name ↦ inl refl | _ ↦ inr refl ]; other_untagged = λ name. refl }
+
+-- the tag of the kind of a name is the tag of that name
+pub tag_of_kind-kind_of_name : (name : List ℕ) → tag_of_kind (kind_of_name name) ≡ tag_of_name name
+unfolding kind_of_name tag_of_name
+tag_of_kind-kind_of_name name = tag-value_of kind_table kind_tags name
+
+-- the text of the kind of a name is that name
+pub text_of_kind-kind_of_name : (name : List ℕ) → text_of_kind (kind_of_name name) ≡ name
+unfolding kind_of_name
+text_of_kind-kind_of_name name = key-value_of kind_table_holds name
+
+-- the kind of the text of a kind is that kind exactly where it is not `Other` of a known name
+pub kind_of_name-text_of_kind : (k : InfoKind) → (kind_of_name (text_of_kind k) ≡ k) ↔ IsProper kind_table k
+unfolding kind_of_name
+kind_of_name-text_of_kind k = value_of-key kind_table_holds k
+
+-- the tag of the text of a kind is the tag of that kind where it is not `Other` of a known name
+pub tag_of_name-text_of_kind : (k : InfoKind) → IsProper kind_table k → tag_of_name (text_of_kind k) ≡ tag_of_kind k
+unfolding tag_of_name
+tag_of_name-text_of_kind k proper = tag_at-key kind_table_holds kind_tags k proper
+
+-- the kind of a name that has a tag is that of the tag
+pub kind_of_name-tagged : (name : List ℕ) (k : InfoKind) → kind_of_tag (tag_of_name name) ≡ Some k → kind_of_name name ≡ k
+unfolding kind_of_name tag_of_name
+kind_of_name-tagged name k e = sym (kind-tag_at kind_table_holds kind_tags_hold name) ∙ ap (λ o. unwrap_or o (kind.Other name)) e
+
+-- the kind of every other name is `Other` of it
+pub kind_of_name-untagged : (name : List ℕ) → kind_of_tag (tag_of_name name) ≡ None → kind_of_name name ≡ kind.Other name
+unfolding kind_of_name tag_of_name
+kind_of_name-untagged name e = sym (kind-tag_at kind_table_holds kind_tags_hold name) ∙ ap (λ o. unwrap_or o (kind.Other name)) e
+
+-- the known kinds whose names have this length
+abbrev pub kinds_of_length : ℕ → List InfoKind
+kinds_of_length n = filter (λ k. length (text_of_kind k) == n) known_kinds
+
+-- a name is looked for among those of its length alone
+pub tag_of_name-length : (n : ℕ) (name : List ℕ) → length name ≡ n →
+    tag_of_name name ≡ tag_among kind_table kind_tags (kinds_of_length n) name
+unfolding tag_of_name
+tag_of_name-length n name h =
+    tag_among-of_length kind_table kind_tags bytes_eq-Decides known_kinds name
+    ∙ ap (λ k. tag_among kind_table kind_tags (kinds_of_length k) name) h
+
+-- the lengths of the known names
+abbrev pub name_lengths : List ℕ
+name_lengths = 3 ∷ 4 ∷ 5 ∷ 6 ∷ 7 ∷ 9 ∷ []
+
+known_lengths : list_all (λ k. list_any (λ n. n == length (text_of_kind k)) name_lengths) known_kinds ≡ true
+unfolding known_kinds
+known_lengths = refl
+
+-- a name of another length is not known
+pub tag_of_name-other_length : (name : List ℕ) → list_any (λ n. n == length name) name_lengths ≡ false →
+    tag_of_name name ≡ tag.Other
+unfolding tag_of_name
+tag_of_name-other_length name h = tag_among-other_length kind_table kind_tags bytes_eq-Decides name_lengths known_kinds name known_lengths h
+
+-- what an attribute means as a kind: the kind of its name, or its fault
+abbrev pub kind_meaning_of_name : Result (List ℕ) DecodeError → Result InfoKind DecodeError
+kind_meaning_of_name (Ok name) = Ok (kind_of_name name)
+kind_meaning_of_name (Err fault) = Err fault
+
+abbrev pub kind_meaning : Attribute → Result InfoKind DecodeError
+kind_meaning a = kind_meaning_of_name (name_of 1 a)
+
+-- memory is needed for a name that is not known
+abbrev pub kind_needs_memory_for_name : Result (List ℕ) DecodeError → Bool
+kind_needs_memory_for_name (Ok name) = is_none (kind_of_tag (tag_of_name name))
+kind_needs_memory_for_name (Err fault) = false
+
+abbrev pub kind_needs_memory : Attribute → Bool
+kind_needs_memory a = kind_needs_memory_for_name (name_of 1 a)
+
+-- the attribute of a kind
+abbrev pub kind_attribute : InfoKind → Attribute
+kind_attribute k = name_attribute 1 (text_of_kind k)
+
+-- the attribute of a kind means the kind of its text
+pub kind_meaning-kind_attribute : (k : InfoKind) → is_utf8 (text_of_kind k) ≡ true →
+    kind_meaning (kind_attribute k) ≡ Ok (kind_of_name (text_of_kind k))
+kind_meaning-kind_attribute k utf8 = ap kind_meaning_of_name (name_of-name_attribute 1 (text_of_kind k) (lit< tt) utf8)
+
+-- that is the kind itself exactly where it is not `Other` of a known name
+pub kind_attribute_reads_back : (k : InfoKind) → is_utf8 (text_of_kind k) ≡ true →
+    (kind_meaning (kind_attribute k) ≡ Ok k) ↔ IsProper kind_table k
+kind_attribute_reads_back k utf8 =
+    let read = kind_meaning-kind_attribute k utf8 in (
+      λ p. let same : kind_of_name (text_of_kind k) ≡ k = cc in (kind_of_name-text_of_kind k).0 same,
+      λ proper. read ∙ ap (λ x. Ok x) ((kind_of_name-text_of_kind k).1 proper),
+    )
+
+-- the kind of a name is not `Other` of a known name
+pub kind_of_name_is_proper : (name : List ℕ) → IsProper kind_table (kind_of_name name)
+unfolding kind_of_name
+kind_of_name_is_proper name = value_of_is_proper kind_table_holds name
+
+read_from_name : (name : Result (List ℕ) DecodeError) → ((got : List ℕ) → name ≡ Ok got → is_utf8 got ≡ true) → (k : InfoKind) →
+    kind_meaning_of_name name ≡ Ok k → IsProper kind_table k × (is_utf8 (text_of_kind k) ≡ true)
+read_from_name (Ok name) utf8 k e =
+    let same : kind_of_name name ≡ k = cc in
+    let P : InfoKind → Type 0 = λ x. IsProper kind_table x in
+    let text : name ≡ text_of_kind k = sym (text_of_kind-kind_of_name name) ∙ ap text_of_kind same in
+    (subst P same (kind_of_name_is_proper name), ap is_utf8 (sym text) ∙ utf8 name refl)
+read_from_name (Err fault) utf8 k e = cc
+
+-- a kind that is read is not `Other` of a known name, and its text is UTF-8
+pub kind_meaning_is_proper : (a : Attribute) (k : InfoKind) → kind_meaning a ≡ Ok k → IsProper kind_table k × (is_utf8 (text_of_kind k) ≡ true)
+kind_meaning_is_proper a k e = read_from_name (name_of 1 a) (name_of_is_utf8 1 a) k e

@@ -1,0 +1,159 @@
+-- The names of port kinds.
+use Rattle.std.specs.Prelude.{◌≡◌, ℕ, true, false, List, [], ◌∷◌, codes, Option, Some, None, unwrap_or, is_none, ◌↔◌, Bool, Result}
+use Rattle.std.specs.Prelude.{Ok, Err, refl}
+use Rattle.std.specs.Str.{is_utf8}
+use Rattle.std.proofs.Common.{inl, inr, sym, ap, subst, ◌∙◌, lit<}
+use Rattle.std.proofs.lemmas.Slice.Eq.{bytes_eq-Decides}
+use Rattle.nla_frame.specs.Attribute.{Attribute}
+use Rattle.nla_frame.specs.declared.error.DecodeError.{DecodeError}
+use Rattle.linkinfo_numbers.specs.declared.names.PortTag.{PortTag}
+use Rattle.linkinfo_numbers.specs.declared.names.PortTag.TheVariants as tag
+use Rattle.linkinfo_numbers.specs.declared.port_kind.InfoPortKind.{InfoPortKind}
+use Rattle.linkinfo_numbers.specs.declared.port_kind.InfoPortKind.TheVariants as kind
+use Rattle.linkinfo_numbers.specs.Table.{Table, IsTable, by_name, value_of, IsProper, apart_by, key-value_of, value_of-key, value_of_is_proper}
+use Rattle.linkinfo_numbers.specs.Name.{name_of, name_attribute, name_of-name_attribute, name_of_is_utf8}
+use Rattle.linkinfo_numbers.specs.Names.{Tags, IsTagged, tag_at, tag-value_of, kind-tag_at, tag_at-key}
+
+-- the text of each kind
+abbrev pub text_of_port_kind : InfoPortKind → List ℕ
+text_of_port_kind kind.Bond = codes "bond"
+text_of_port_kind kind.Bridge = codes "bridge"
+text_of_port_kind kind.Vrf = codes "vrf"
+text_of_port_kind kind.Team = codes "team"
+text_of_port_kind (kind.Other text) = text
+
+-- the tag of each kind, by its variant
+abbrev pub tag_of_port_kind : InfoPortKind → PortTag
+tag_of_port_kind kind.Bond = tag.Bond
+tag_of_port_kind kind.Bridge = tag.Bridge
+tag_of_port_kind kind.Vrf = tag.Vrf
+tag_of_port_kind kind.Team = tag.Team
+tag_of_port_kind (kind.Other text) = tag.Other
+
+-- the kind of each tag, which `Other` alone does not have
+abbrev pub port_kind_of_tag : PortTag → Option InfoPortKind
+port_kind_of_tag tag.Bond = Some kind.Bond
+port_kind_of_tag tag.Bridge = Some kind.Bridge
+port_kind_of_tag tag.Vrf = Some kind.Vrf
+port_kind_of_tag tag.Team = Some kind.Team
+port_kind_of_tag tag.Other = None
+
+-- the kinds that have a name of their own
+unfoldable pub known_port_kinds : List InfoPortKind
+known_port_kinds =
+    kind.Bond ∷ kind.Bridge ∷ kind.Vrf ∷ kind.Team ∷ []
+
+abbrev pub port_kind_table : Table (List ℕ) InfoPortKind
+port_kind_table = by_name text_of_port_kind kind.Other known_port_kinds
+
+abbrev pub port_kind_tags : Tags PortTag InfoPortKind
+port_kind_tags = record { tag = tag_of_port_kind; kind = port_kind_of_tag }
+
+-- the kind of a name
+unfoldable pub port_kind_of_name : List ℕ → InfoPortKind
+port_kind_of_name name = value_of port_kind_table name
+
+-- the tag of a name
+unfoldable pub port_tag_of_name : List ℕ → PortTag
+port_tag_of_name name = tag_at port_kind_table port_kind_tags name
+
+pub port_kind_table_holds : IsTable port_kind_table
+unfolding known_port_kinds
+port_kind_table_holds = record {
+  same_decides = bytes_eq-Decides;
+  other_key = λ name. refl;
+  found = elim [ kind.Other name ↦ inl refl | _ ↦ inr refl ];
+  apart = apart_by port_kind_table (λ k. is_none (port_kind_of_tag (tag_of_port_kind k))) (λ name. refl) known_port_kinds refl;
+}
+
+pub port_kind_tags_hold : IsTagged port_kind_table port_kind_tags
+port_kind_tags_hold = record { tagged = elim [ kind.Other name ↦ inl refl | _ ↦ inr refl ]; other_untagged = λ name. refl }
+
+-- the tag of the kind of a name is the tag of that name
+pub tag_of_port_kind-port_kind_of_name : (name : List ℕ) → tag_of_port_kind (port_kind_of_name name) ≡ port_tag_of_name name
+unfolding port_kind_of_name port_tag_of_name
+tag_of_port_kind-port_kind_of_name name = tag-value_of port_kind_table port_kind_tags name
+
+-- the text of the kind of a name is that name
+pub text_of_port_kind-port_kind_of_name : (name : List ℕ) → text_of_port_kind (port_kind_of_name name) ≡ name
+unfolding port_kind_of_name
+text_of_port_kind-port_kind_of_name name = key-value_of port_kind_table_holds name
+
+-- the kind of the text of a kind is that kind exactly where it is not `Other` of a known name
+pub port_kind_of_name-text_of_port_kind : (k : InfoPortKind) →
+    (port_kind_of_name (text_of_port_kind k) ≡ k) ↔ IsProper port_kind_table k
+unfolding port_kind_of_name
+port_kind_of_name-text_of_port_kind k = value_of-key port_kind_table_holds k
+
+-- the tag of the text of a kind is the tag of that kind where it is not `Other` of a known name
+pub port_tag_of_name-text_of_port_kind : (k : InfoPortKind) → IsProper port_kind_table k →
+    port_tag_of_name (text_of_port_kind k) ≡ tag_of_port_kind k
+unfolding port_tag_of_name
+port_tag_of_name-text_of_port_kind k proper = tag_at-key port_kind_table_holds port_kind_tags k proper
+
+-- the kind of a name that has a tag is that of the tag
+pub port_kind_of_name-tagged : (name : List ℕ) (k : InfoPortKind) → port_kind_of_tag (port_tag_of_name name) ≡ Some k →
+    port_kind_of_name name ≡ k
+unfolding port_kind_of_name port_tag_of_name
+port_kind_of_name-tagged name k e =
+    sym (kind-tag_at port_kind_table_holds port_kind_tags_hold name) ∙ ap (λ o. unwrap_or o (kind.Other name)) e
+
+-- the kind of every other name is `Other` of it
+pub port_kind_of_name-untagged : (name : List ℕ) → port_kind_of_tag (port_tag_of_name name) ≡ None →
+    port_kind_of_name name ≡ kind.Other name
+unfolding port_kind_of_name port_tag_of_name
+port_kind_of_name-untagged name e =
+    sym (kind-tag_at port_kind_table_holds port_kind_tags_hold name) ∙ ap (λ o. unwrap_or o (kind.Other name)) e
+
+-- what an attribute means as a port kind: the kind of its name, or its fault
+abbrev pub port_kind_meaning_of_name : Result (List ℕ) DecodeError → Result InfoPortKind DecodeError
+port_kind_meaning_of_name (Ok name) = Ok (port_kind_of_name name)
+port_kind_meaning_of_name (Err fault) = Err fault
+
+abbrev pub port_kind_meaning : Attribute → Result InfoPortKind DecodeError
+port_kind_meaning a = port_kind_meaning_of_name (name_of 4 a)
+
+-- memory is needed for a name that is not known
+abbrev pub port_kind_needs_memory_for_name : Result (List ℕ) DecodeError → Bool
+port_kind_needs_memory_for_name (Ok name) = is_none (port_kind_of_tag (port_tag_of_name name))
+port_kind_needs_memory_for_name (Err fault) = false
+
+abbrev pub port_kind_needs_memory : Attribute → Bool
+port_kind_needs_memory a = port_kind_needs_memory_for_name (name_of 4 a)
+
+-- the attribute of a port kind
+abbrev pub port_kind_attribute : InfoPortKind → Attribute
+port_kind_attribute k = name_attribute 4 (text_of_port_kind k)
+
+-- the attribute of a kind means the kind of its text
+pub port_kind_meaning-port_kind_attribute : (k : InfoPortKind) → is_utf8 (text_of_port_kind k) ≡ true →
+    port_kind_meaning (port_kind_attribute k) ≡ Ok (port_kind_of_name (text_of_port_kind k))
+port_kind_meaning-port_kind_attribute k utf8 =
+    ap port_kind_meaning_of_name (name_of-name_attribute 4 (text_of_port_kind k) (lit< tt) utf8)
+
+-- that is the kind itself exactly where it is not `Other` of a known name
+pub port_kind_attribute_reads_back : (k : InfoPortKind) → is_utf8 (text_of_port_kind k) ≡ true →
+    (port_kind_meaning (port_kind_attribute k) ≡ Ok k) ↔ IsProper port_kind_table k
+port_kind_attribute_reads_back k utf8 =
+    let read = port_kind_meaning-port_kind_attribute k utf8 in (
+      λ p. let same : port_kind_of_name (text_of_port_kind k) ≡ k = cc in (port_kind_of_name-text_of_port_kind k).0 same,
+      λ proper. read ∙ ap (λ x. Ok x) ((port_kind_of_name-text_of_port_kind k).1 proper),
+    )
+
+-- the kind of a name is not `Other` of a known name
+pub port_kind_of_name_is_proper : (name : List ℕ) → IsProper port_kind_table (port_kind_of_name name)
+unfolding port_kind_of_name
+port_kind_of_name_is_proper name = value_of_is_proper port_kind_table_holds name
+
+read_from_name : (name : Result (List ℕ) DecodeError) → ((got : List ℕ) → name ≡ Ok got → is_utf8 got ≡ true) → (k : InfoPortKind) →
+    port_kind_meaning_of_name name ≡ Ok k → IsProper port_kind_table k × (is_utf8 (text_of_port_kind k) ≡ true)
+read_from_name (Ok name) utf8 k e =
+    let same : port_kind_of_name name ≡ k = cc in
+    let P : InfoPortKind → Type 0 = λ x. IsProper port_kind_table x in
+    let text : name ≡ text_of_port_kind k = sym (text_of_port_kind-port_kind_of_name name) ∙ ap text_of_port_kind same in
+    (subst P same (port_kind_of_name_is_proper name), ap is_utf8 (sym text) ∙ utf8 name refl)
+read_from_name (Err fault) utf8 k e = cc
+
+-- a kind that is read is not `Other` of a known name, and its text is UTF-8
+pub port_kind_meaning_is_proper : (a : Attribute) (k : InfoPortKind) → port_kind_meaning a ≡ Ok k → IsProper port_kind_table k × (is_utf8 (text_of_port_kind k) ≡ true)
+port_kind_meaning_is_proper a k e = read_from_name (name_of 4 a) (name_of_is_utf8 4 a) k e

@@ -1,0 +1,363 @@
+//! GRE tunnels.
+
+ghost use Rattle.std.specs.Prelude.{◌≡◌};
+
+use crate::flags::KeepsEveryBit;
+use bitflags::{Flag, Flags};
+use nla_frame::ExactEq;
+use std::fmt;
+
+/// What a GRE tunnel is wrapped in: `IFLA_GRE_ENCAP_TYPE`, a native 16-bit number (include/uapi/linux/if_tunnel.h).
+#[derive(Clone, Copy, Debug, PartialEq, Eq)]
+pub enum GreEncapType {
+    /// `TUNNEL_ENCAP_NONE`.
+    None,
+    /// `TUNNEL_ENCAP_FOU`.
+    Fou,
+    /// `TUNNEL_ENCAP_GUE`.
+    Gue,
+    /// Any other number.
+    Other(u16),
+}
+
+impl From<u16> for GreEncapType {
+    ghost use Rattle.linkinfo_numbers.specs.Gre.{gre_encap_type};
+
+    ghost from_gives = { λ number encapsulation. encapsulation ≡ gre_encap_type number };
+
+    fn from(number: u16) -> GreEncapType {
+        match number {
+            0 => GreEncapType::None,
+            1 => GreEncapType::Fou,
+            2 => GreEncapType::Gue,
+            _ => GreEncapType::Other(number),
+        }
+    }
+}
+
+impl From<&GreEncapType> for u16 {
+    ghost use Rattle.linkinfo_numbers.specs.Gre.{gre_encap_type_number};
+
+    ghost from_gives = { λ encapsulation number. number ≡ gre_encap_type_number encapsulation.now };
+
+    fn from(encapsulation: &GreEncapType) -> u16 {
+        match encapsulation {
+            GreEncapType::None => 0,
+            GreEncapType::Fou => 1,
+            GreEncapType::Gue => 2,
+            GreEncapType::Other(number) => *number,
+        }
+    }
+}
+
+impl fmt::Display for GreEncapType {
+    ghost use Rattle.std.specs.Prelude.{Some};
+    ghost use Rattle.linkinfo_numbers.specs.Gre.{gre_encap_type_text};
+
+    ghost output = { λ encapsulation. Some (gre_encap_type_text encapsulation) };
+
+    fn fmt<W: fmt::Write>(&self, f: &mut fmt::Formatter<W>) -> fmt::Result {
+        match self {
+            GreEncapType::None => f.write_str("none"),
+            GreEncapType::Fou => f.write_str("fou"),
+            GreEncapType::Gue => f.write_str("gue"),
+            GreEncapType::Other(number) => write!(f, "other({number})"),
+        }
+    }
+}
+
+impl Default for GreEncapType {
+    ghost use Rattle.linkinfo_numbers.specs.declared.gre.GreEncapType.TheVariants.{None};
+
+    ghost is_default = { λ encapsulation. encapsulation ≡ None };
+
+    fn default() -> GreEncapType {
+        GreEncapType::None
+    }
+}
+
+impl ExactEq for GreEncapType {
+    ghost use Rattle.std.proofs.Common.{rules};
+
+    ghost exact = { Prim.search rules };
+}
+
+/// Which traffic an ERSPAN tunnel mirrors: `IFLA_GRE_ERSPAN_DIR`, one byte (include/uapi/linux/if_tunnel.h).
+#[derive(Clone, Copy, Debug, PartialEq, Eq)]
+pub enum ErSpanDir {
+    /// What comes in.
+    Ingress,
+    /// What goes out.
+    Egress,
+    /// Any other number.
+    Other(u8),
+}
+
+impl From<u8> for ErSpanDir {
+    ghost use Rattle.linkinfo_numbers.specs.Gre.{er_span_dir};
+
+    ghost from_gives = { λ number direction. direction ≡ er_span_dir number };
+
+    fn from(number: u8) -> ErSpanDir {
+        match number {
+            0 => ErSpanDir::Ingress,
+            1 => ErSpanDir::Egress,
+            _ => ErSpanDir::Other(number),
+        }
+    }
+}
+
+impl From<&ErSpanDir> for u8 {
+    ghost use Rattle.linkinfo_numbers.specs.Gre.{er_span_dir_number};
+
+    ghost from_gives = { λ direction number. number ≡ er_span_dir_number direction.now };
+
+    fn from(direction: &ErSpanDir) -> u8 {
+        match direction {
+            ErSpanDir::Ingress => 0,
+            ErSpanDir::Egress => 1,
+            ErSpanDir::Other(number) => *number,
+        }
+    }
+}
+
+impl fmt::Display for ErSpanDir {
+    ghost use Rattle.std.specs.Prelude.{Some};
+    ghost use Rattle.linkinfo_numbers.specs.Gre.{er_span_dir_text};
+
+    ghost output = { λ direction. Some (er_span_dir_text direction) };
+
+    fn fmt<W: fmt::Write>(&self, f: &mut fmt::Formatter<W>) -> fmt::Result {
+        match self {
+            ErSpanDir::Ingress => f.write_str("ingress"),
+            ErSpanDir::Egress => f.write_str("egress"),
+            ErSpanDir::Other(number) => write!(f, "other({number})"),
+        }
+    }
+}
+
+impl Default for ErSpanDir {
+    ghost use Rattle.linkinfo_numbers.specs.declared.gre.ErSpanDir.TheVariants.{Ingress};
+
+    ghost is_default = { λ direction. direction ≡ Ingress };
+
+    fn default() -> ErSpanDir {
+        ErSpanDir::Ingress
+    }
+}
+
+impl ExactEq for ErSpanDir {
+    ghost use Rattle.std.proofs.Common.{rules};
+
+    ghost exact = { Prim.search rules };
+}
+
+/// What a GRE header holds: `IFLA_GRE_IFLAGS` and `IFLA_GRE_OFLAGS`, a big-endian 16-bit number (include/uapi/linux/if_tunnel.h).
+/// Every number of that width is a set.
+#[derive(Clone, Copy, Debug, PartialEq, Eq)]
+pub struct GreIOFlags(u16);
+
+impl GreIOFlags {
+    /// `GRE_CSUM`.
+    pub const Checksum: GreIOFlags = GreIOFlags(0x8000);
+
+    /// `GRE_ROUTING`.
+    pub const Routing: GreIOFlags = GreIOFlags(0x4000);
+
+    /// `GRE_KEY`.
+    pub const Key: GreIOFlags = GreIOFlags(0x2000);
+
+    /// `GRE_SEQ`.
+    pub const Seq: GreIOFlags = GreIOFlags(0x1000);
+
+    /// `GRE_STRICT`.
+    pub const Strict0: GreIOFlags = GreIOFlags(0x0800);
+
+    /// `GRE_REC`, three bits.
+    pub const Rec: GreIOFlags = GreIOFlags(0x0700);
+
+    /// `GRE_ACK`.
+    pub const Ack: GreIOFlags = GreIOFlags(0x0080);
+
+    /// `GRE_FLAGS`, four bits.
+    pub const Flags: GreIOFlags = GreIOFlags(0x0078);
+
+    /// `GRE_VERSION`, three bits.
+    pub const Version: GreIOFlags = GreIOFlags(0x0007);
+
+    const TABLE: &'static [Flag<GreIOFlags>] = &[
+        Flag {
+            name: "Checksum",
+            value: GreIOFlags::Checksum,
+        },
+        Flag {
+            name: "Routing",
+            value: GreIOFlags::Routing,
+        },
+        Flag {
+            name: "Key",
+            value: GreIOFlags::Key,
+        },
+        Flag {
+            name: "Seq",
+            value: GreIOFlags::Seq,
+        },
+        Flag {
+            name: "Strict0",
+            value: GreIOFlags::Strict0,
+        },
+        Flag {
+            name: "Rec",
+            value: GreIOFlags::Rec,
+        },
+        Flag {
+            name: "Ack",
+            value: GreIOFlags::Ack,
+        },
+        Flag {
+            name: "Flags",
+            value: GreIOFlags::Flags,
+        },
+        Flag {
+            name: "Version",
+            value: GreIOFlags::Version,
+        },
+        Flag {
+            name: "",
+            value: GreIOFlags(u16::MAX),
+        },
+    ];
+}
+
+impl Flags for GreIOFlags {
+    type Bits = u16;
+
+    ghost use Rattle.std.specs.Prelude.{⊤};
+    ghost use Rattle.linkinfo_numbers.specs.Gre.{gre_io_flags_table};
+
+    ghost exact = { ⊤ };
+
+    ghost table = { gre_io_flags_table };
+
+    ghost set_of = { λ set. set.0 };
+
+    fn flags<'a>() -> &'a [Flag<GreIOFlags>] {
+        GreIOFlags::TABLE
+    }
+
+    fn bits(&self) -> u16 {
+        self.0
+    }
+
+    fn from_bits_retain(bits: u16) -> GreIOFlags {
+        GreIOFlags(bits)
+    }
+}
+
+impl KeepsEveryBit for GreIOFlags {
+    ghost use Rattle.linkinfo_numbers.specs.Flags.{every_bit_16};
+    ghost use Rattle.linkinfo_numbers.specs.Gre.{gre_io_flags_table, gre_io_flags_known};
+
+    ghost has_contracts = { tt };
+
+    ghost every_bit = { every_bit_16 gre_io_flags_table gre_io_flags_known };
+}
+
+/// No flag.
+impl Default for GreIOFlags {
+    ghost is_default = { λ set. set.0 ≡ 0 };
+
+    fn default() -> GreIOFlags {
+        GreIOFlags(0)
+    }
+}
+
+impl ExactEq for GreIOFlags {
+    ghost use Rattle.std.proofs.Common.{rules};
+
+    ghost exact = { Prim.search rules };
+}
+
+/// How a GRE tunnel is wrapped: `IFLA_GRE_ENCAP_FLAGS`, a native 16-bit number (include/uapi/linux/if_tunnel.h). Every number of
+/// that width is a set.
+#[derive(Clone, Copy, Debug, PartialEq, Eq)]
+pub struct GreEncapFlags(u16);
+
+impl GreEncapFlags {
+    /// `TUNNEL_ENCAP_FLAG_CSUM`.
+    pub const Checksum: GreEncapFlags = GreEncapFlags(1);
+
+    /// `TUNNEL_ENCAP_FLAG_CSUM6`.
+    pub const Checksum6: GreEncapFlags = GreEncapFlags(2);
+
+    /// `TUNNEL_ENCAP_FLAG_REMCSUM`.
+    pub const RemoteChecksum: GreEncapFlags = GreEncapFlags(4);
+
+    const TABLE: &'static [Flag<GreEncapFlags>] = &[
+        Flag {
+            name: "Checksum",
+            value: GreEncapFlags::Checksum,
+        },
+        Flag {
+            name: "Checksum6",
+            value: GreEncapFlags::Checksum6,
+        },
+        Flag {
+            name: "RemoteChecksum",
+            value: GreEncapFlags::RemoteChecksum,
+        },
+        Flag {
+            name: "",
+            value: GreEncapFlags(u16::MAX),
+        },
+    ];
+}
+
+impl Flags for GreEncapFlags {
+    type Bits = u16;
+
+    ghost use Rattle.std.specs.Prelude.{⊤};
+    ghost use Rattle.linkinfo_numbers.specs.Gre.{gre_encap_flags_table};
+
+    ghost exact = { ⊤ };
+
+    ghost table = { gre_encap_flags_table };
+
+    ghost set_of = { λ set. set.0 };
+
+    fn flags<'a>() -> &'a [Flag<GreEncapFlags>] {
+        GreEncapFlags::TABLE
+    }
+
+    fn bits(&self) -> u16 {
+        self.0
+    }
+
+    fn from_bits_retain(bits: u16) -> GreEncapFlags {
+        GreEncapFlags(bits)
+    }
+}
+
+impl KeepsEveryBit for GreEncapFlags {
+    ghost use Rattle.linkinfo_numbers.specs.Flags.{every_bit_16};
+    ghost use Rattle.linkinfo_numbers.specs.Gre.{gre_encap_flags_table, gre_encap_flags_known};
+
+    ghost has_contracts = { tt };
+
+    ghost every_bit = { every_bit_16 gre_encap_flags_table gre_encap_flags_known };
+}
+
+/// No flag.
+impl Default for GreEncapFlags {
+    ghost is_default = { λ set. set.0 ≡ 0 };
+
+    fn default() -> GreEncapFlags {
+        GreEncapFlags(0)
+    }
+}
+
+impl ExactEq for GreEncapFlags {
+    ghost use Rattle.std.proofs.Common.{rules};
+
+    ghost exact = { Prim.search rules };
+}

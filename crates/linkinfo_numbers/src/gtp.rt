@@ -1,0 +1,76 @@
+//! GTP tunnels.
+
+ghost use Rattle.std.specs.Prelude.{◌≡◌};
+
+use nla_frame::ExactEq;
+use std::fmt;
+
+/// The role of one end of a GTP tunnel: `IFLA_GTP_ROLE`, a native 32-bit number (include/uapi/linux/if_link.h).
+#[derive(Clone, Copy, Debug, PartialEq, Eq)]
+pub enum GtpRole {
+    /// `GTP_ROLE_GGSN`.
+    Ggsn,
+    /// `GTP_ROLE_SGSN`.
+    Sgsn,
+    /// Any other number.
+    Other(u32),
+}
+
+impl From<u32> for GtpRole {
+    ghost use Rattle.linkinfo_numbers.specs.Gtp.{gtp_role};
+
+    ghost from_gives = { λ number role. role ≡ gtp_role number };
+
+    fn from(number: u32) -> GtpRole {
+        match number {
+            0 => GtpRole::Ggsn,
+            1 => GtpRole::Sgsn,
+            _ => GtpRole::Other(number),
+        }
+    }
+}
+
+impl From<GtpRole> for u32 {
+    ghost use Rattle.linkinfo_numbers.specs.Gtp.{gtp_role_number};
+
+    ghost from_gives = { λ role number. number ≡ gtp_role_number role };
+
+    fn from(role: GtpRole) -> u32 {
+        match role {
+            GtpRole::Ggsn => 0,
+            GtpRole::Sgsn => 1,
+            GtpRole::Other(number) => number,
+        }
+    }
+}
+
+impl fmt::Display for GtpRole {
+    ghost use Rattle.std.specs.Prelude.{Some};
+    ghost use Rattle.linkinfo_numbers.specs.Gtp.{gtp_role_text};
+
+    ghost output = { λ role. Some (gtp_role_text role) };
+
+    fn fmt<W: fmt::Write>(&self, f: &mut fmt::Formatter<W>) -> fmt::Result {
+        match self {
+            GtpRole::Ggsn => f.write_str("ggsn"),
+            GtpRole::Sgsn => f.write_str("sgsn"),
+            GtpRole::Other(number) => write!(f, "unknown({number})"),
+        }
+    }
+}
+
+impl Default for GtpRole {
+    ghost use Rattle.linkinfo_numbers.specs.declared.gtp.GtpRole.TheVariants.{Ggsn};
+
+    ghost is_default = { λ role. role ≡ Ggsn };
+
+    fn default() -> GtpRole {
+        GtpRole::Ggsn
+    }
+}
+
+impl ExactEq for GtpRole {
+    ghost use Rattle.std.proofs.Common.{rules};
+
+    ghost exact = { Prim.search rules };
+}

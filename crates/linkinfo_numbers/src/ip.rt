@@ -1,0 +1,54 @@
+//! Protocols inside IP.
+
+ghost use Rattle.std.specs.Prelude.{◌≡◌};
+
+use nla_frame::ExactEq;
+
+/// The protocol inside an IP packet, one byte (include/uapi/linux/in.h).
+#[derive(Clone, Copy, Debug, PartialEq, Eq)]
+pub enum IpProtocol {
+    /// `IPPROTO_IPIP`, IPv4 inside IP.
+    Ipip,
+    /// `IPPROTO_IPV6`, IPv6 inside IP.
+    Ipv6,
+    /// `IPPROTO_MPLS`, MPLS inside IP.
+    Mpls,
+    /// Any other number.
+    Other(u8),
+}
+
+impl From<u8> for IpProtocol {
+    ghost use Rattle.linkinfo_numbers.specs.Ip.{ip_protocol};
+
+    ghost from_gives = { λ number protocol. protocol ≡ ip_protocol number };
+
+    fn from(number: u8) -> IpProtocol {
+        match number {
+            4 => IpProtocol::Ipip,
+            41 => IpProtocol::Ipv6,
+            137 => IpProtocol::Mpls,
+            _ => IpProtocol::Other(number),
+        }
+    }
+}
+
+impl From<IpProtocol> for u8 {
+    ghost use Rattle.linkinfo_numbers.specs.Ip.{ip_protocol_number};
+
+    ghost from_gives = { λ protocol number. number ≡ ip_protocol_number protocol };
+
+    fn from(protocol: IpProtocol) -> u8 {
+        match protocol {
+            IpProtocol::Ipip => 4,
+            IpProtocol::Ipv6 => 41,
+            IpProtocol::Mpls => 137,
+            IpProtocol::Other(number) => number,
+        }
+    }
+}
+
+impl ExactEq for IpProtocol {
+    ghost use Rattle.std.proofs.Common.{rules};
+
+    ghost exact = { Prim.search rules };
+}

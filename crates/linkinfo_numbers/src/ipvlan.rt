@@ -1,0 +1,176 @@
+//! ipvlan and ipvtap links.
+
+ghost use Rattle.std.specs.Prelude.{◌≡◌};
+
+use crate::flags::KeepsEveryBit;
+use crate::word::word_fault;
+use bitflags::{Flag, Flags};
+use nla_frame::{DecodeError, ExactEq, Family};
+use std::fmt;
+use std::str::FromStr;
+
+/// The mode of an ipvlan or ipvtap link: `IFLA_IPVLAN_MODE`, a native 16-bit number (include/uapi/linux/if_link.h).
+#[derive(Clone, Copy, Debug, PartialEq, Eq)]
+pub enum IpVlanMode {
+    /// `IPVLAN_MODE_L2`.
+    L2,
+    /// `IPVLAN_MODE_L3`.
+    L3,
+    /// `IPVLAN_MODE_L3S`.
+    L3S,
+    /// Any other number.
+    Other(u16),
+}
+
+impl From<u16> for IpVlanMode {
+    ghost use Rattle.linkinfo_numbers.specs.Ipvlan.{ip_vlan_mode};
+
+    ghost from_gives = { λ number mode. mode ≡ ip_vlan_mode number };
+
+    fn from(number: u16) -> IpVlanMode {
+        match number {
+            0 => IpVlanMode::L2,
+            1 => IpVlanMode::L3,
+            2 => IpVlanMode::L3S,
+            _ => IpVlanMode::Other(number),
+        }
+    }
+}
+
+impl From<IpVlanMode> for u16 {
+    ghost use Rattle.linkinfo_numbers.specs.Ipvlan.{ip_vlan_mode_number};
+
+    ghost from_gives = { λ mode number. number ≡ ip_vlan_mode_number mode };
+
+    fn from(mode: IpVlanMode) -> u16 {
+        match mode {
+            IpVlanMode::L2 => 0,
+            IpVlanMode::L3 => 1,
+            IpVlanMode::L3S => 2,
+            IpVlanMode::Other(number) => number,
+        }
+    }
+}
+
+impl fmt::Display for IpVlanMode {
+    ghost use Rattle.std.specs.Prelude.{Some};
+    ghost use Rattle.linkinfo_numbers.specs.Ipvlan.{ip_vlan_mode_text};
+
+    ghost output = { λ mode. Some (ip_vlan_mode_text mode) };
+
+    fn fmt<W: fmt::Write>(&self, f: &mut fmt::Formatter<W>) -> fmt::Result {
+        match self {
+            IpVlanMode::L2 => f.write_str("l2"),
+            IpVlanMode::L3 => f.write_str("l3"),
+            IpVlanMode::L3S => f.write_str("l3s"),
+            IpVlanMode::Other(number) => write!(f, "{number}"),
+        }
+    }
+}
+
+/// Every text but the words of `Display` is refused as (IpVlan, 0, Word).
+impl FromStr for IpVlanMode {
+    type Err = DecodeError;
+
+    ghost use Rattle.linkinfo_numbers.specs.Ipvlan.{ip_vlan_mode_of_word};
+
+    ghost from_str_gives = { λ word result. result ≡ ip_vlan_mode_of_word word };
+
+    fn from_str(word: &str) -> Result<IpVlanMode, DecodeError> {
+        match word {
+            "l2" => Ok(IpVlanMode::L2),
+            "l3" => Ok(IpVlanMode::L3),
+            "l3s" => Ok(IpVlanMode::L3S),
+            _ => Err(word_fault(Family::IpVlan)),
+        }
+    }
+}
+
+impl ExactEq for IpVlanMode {
+    ghost use Rattle.std.proofs.Common.{rules};
+
+    ghost exact = { Prim.search rules };
+}
+
+/// What an ipvlan or ipvtap link keeps apart: `IFLA_IPVLAN_FLAGS`, a native 16-bit number (include/uapi/linux/if_link.h). Every
+/// number of that width is a set.
+#[derive(Clone, Copy, Debug, PartialEq, Eq)]
+pub struct IpVlanFlags(u16);
+
+impl IpVlanFlags {
+    /// `IPVLAN_F_PRIVATE`.
+    pub const Private: IpVlanFlags = IpVlanFlags(1);
+
+    /// `IPVLAN_F_VEPA`.
+    pub const Vepa: IpVlanFlags = IpVlanFlags(2);
+
+    const TABLE: &'static [Flag<IpVlanFlags>] = &[
+        Flag {
+            name: "Private",
+            value: IpVlanFlags::Private,
+        },
+        Flag {
+            name: "Vepa",
+            value: IpVlanFlags::Vepa,
+        },
+        Flag {
+            name: "",
+            value: IpVlanFlags(u16::MAX),
+        },
+    ];
+}
+
+impl Flags for IpVlanFlags {
+    type Bits = u16;
+
+    ghost use Rattle.std.specs.Prelude.{⊤};
+    ghost use Rattle.linkinfo_numbers.specs.Ipvlan.{ip_vlan_flags_table};
+
+    ghost exact = { ⊤ };
+
+    ghost table = { ip_vlan_flags_table };
+
+    ghost set_of = { λ set. set.0 };
+
+    fn flags<'a>() -> &'a [Flag<IpVlanFlags>] {
+        IpVlanFlags::TABLE
+    }
+
+    fn bits(&self) -> u16 {
+        self.0
+    }
+
+    fn from_bits_retain(bits: u16) -> IpVlanFlags {
+        IpVlanFlags(bits)
+    }
+}
+
+impl KeepsEveryBit for IpVlanFlags {
+    ghost use Rattle.linkinfo_numbers.specs.Flags.{every_bit_16};
+    ghost use Rattle.linkinfo_numbers.specs.Ipvlan.{ip_vlan_flags_table, ip_vlan_flags_known};
+
+    ghost has_contracts = { tt };
+
+    ghost every_bit = { every_bit_16 ip_vlan_flags_table ip_vlan_flags_known };
+}
+
+/// No flag.
+impl Default for IpVlanFlags {
+    ghost is_default = { λ set. set.0 ≡ 0 };
+
+    fn default() -> IpVlanFlags {
+        IpVlanFlags(0)
+    }
+}
+
+impl ExactEq for IpVlanFlags {
+    ghost use Rattle.std.proofs.Common.{rules};
+
+    ghost exact = { Prim.search rules };
+}
+
+/// The mode of an ipvtap link, which is that of an ipvlan link.
+pub type IpVtapMode = IpVlanMode;
+
+/// The flags of an ipvtap link, which are those of an ipvlan link.
+pub type IpVtapFlags = IpVlanFlags;

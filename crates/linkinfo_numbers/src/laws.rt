@@ -1,0 +1,139 @@
+//! Laws of the tables, each the contract of a function without code.
+
+ghost use Rattle.std.specs.Prelude.{◌≡◌, ◌↔◌, ◌==◌, ℕ, List, Ok, IsTrue, if◌then◌else◌};
+ghost use Rattle.nla_frame.specs.Attribute.{Attribute};
+ghost use Rattle.linkinfo_numbers.specs.Amt.{amt_mode, amt_mode_number, amt_mode_table, amt_mode_text};
+ghost use Rattle.linkinfo_numbers.specs.Geneve.{geneve_df, geneve_df_number, geneve_df_table, geneve_df_text};
+ghost use Rattle.linkinfo_numbers.specs.Vxlan.{vxlan_df, vxlan_df_number, vxlan_df_table};
+ghost use Rattle.linkinfo_numbers.specs.Gtp.{gtp_role, gtp_role_number, gtp_role_table};
+ghost use Rattle.linkinfo_numbers.specs.Ipoib.{ipoib_mode, ipoib_mode_number, ipoib_mode_table};
+ghost use Rattle.linkinfo_numbers.specs.Ipvlan.{ip_vlan_mode, ip_vlan_mode_number, ip_vlan_mode_table, ip_vlan_mode_text};
+ghost use Rattle.linkinfo_numbers.specs.Macvlan.{mac_vlan_mode, mac_vlan_mode_number, mac_vlan_mode_table, mac_vlan_mode_text};
+ghost use Rattle.linkinfo_numbers.specs.Macvlan.{mac_vlan_mac_address_mode, mac_vlan_mac_address_mode_number};
+ghost use Rattle.linkinfo_numbers.specs.Macvlan.{mac_vlan_mac_address_mode_table};
+ghost use Rattle.linkinfo_numbers.specs.Macsec.{mac_sec_cipher_id, mac_sec_cipher_id_number, mac_sec_cipher_id_table};
+ghost use Rattle.linkinfo_numbers.specs.Macsec.{mac_sec_validate, mac_sec_validate_number, mac_sec_validate_table, mac_sec_offload};
+ghost use Rattle.linkinfo_numbers.specs.Macsec.{mac_sec_offload_number, mac_sec_offload_table};
+ghost use Rattle.linkinfo_numbers.specs.Netkit.{netkit_mode, netkit_mode_number, netkit_mode_table, netkit_mode_text};
+ghost use Rattle.linkinfo_numbers.specs.Netkit.{netkit_policy, netkit_policy_number, netkit_policy_table, netkit_policy_text};
+ghost use Rattle.linkinfo_numbers.specs.Netkit.{netkit_scrub, netkit_scrub_number, netkit_scrub_text, netkit_scrubs};
+ghost use Rattle.linkinfo_numbers.specs.Gre.{gre_encap_type, gre_encap_type_number, gre_encap_type_table, er_span_dir};
+ghost use Rattle.linkinfo_numbers.specs.Gre.{er_span_dir_number, er_span_dir_table};
+ghost use Rattle.linkinfo_numbers.specs.Tunnel.{tunnel_encap_type, tunnel_encap_type_number, tunnel_encap_type_table};
+ghost use Rattle.linkinfo_numbers.specs.Ethernet.{ethernet_protocol, ethernet_protocol_number, ethernet_protocol_table};
+ghost use Rattle.linkinfo_numbers.specs.Ip.{ip_protocol, ip_protocol_number, ip_protocol_table};
+ghost use Rattle.std.specs.Str.{is_utf8};
+ghost use Rattle.linkinfo_numbers.specs.Kind.{kind_attribute, kind_meaning, kind_of_name, kind_table, tag_of_kind, tag_of_name};
+ghost use Rattle.linkinfo_numbers.specs.Kind.{text_of_kind};
+ghost use Rattle.linkinfo_numbers.specs.PortKind.{port_kind_attribute, port_kind_meaning, port_kind_of_name, port_kind_table};
+ghost use Rattle.linkinfo_numbers.specs.PortKind.{port_tag_of_name, tag_of_port_kind, text_of_port_kind};
+ghost use Rattle.linkinfo_numbers.specs.Table.{IsProper, ReadsBackWhereProper};
+ghost use Rattle.linkinfo_numbers.specs.Word.{ReadsWords};
+
+use crate::amt::AmtMode;
+use crate::ethernet::EthernetProtocol;
+use crate::geneve::GeneveDf;
+use crate::gre::{ErSpanDir, GreEncapType};
+use crate::gtp::GtpRole;
+use crate::ip::IpProtocol;
+use crate::ipoib::IpoibMode;
+use crate::ipvlan::IpVlanMode;
+use crate::kind::InfoKind;
+use crate::macsec::{MacSecCipherId, MacSecOffload, MacSecValidate};
+use crate::macvlan::{MacVlanMacAddressMode, MacVlanMode};
+use crate::netkit::{NetkitMode, NetkitPolicy, NetkitScrub};
+use crate::port_kind::InfoPortKind;
+use crate::tunnel::{Ip6TunnelFlags, TunnelEncapFlags, TunnelEncapType};
+use crate::vxlan::VxlanDf;
+use nla_frame::Family;
+use std::hash::Hash;
+
+/// The number of the value of a number is that number. Only `NetkitScrub` gives 1 for every number but 0.
+pub fn number_round_trip(number: u64)
+    ensures amt_mode { amt_mode_number (amt_mode number) ≡ number }
+    ensures geneve_df { geneve_df_number (geneve_df number) ≡ number }
+    ensures vxlan_df { vxlan_df_number (vxlan_df number) ≡ number }
+    ensures gtp_role { gtp_role_number (gtp_role number) ≡ number }
+    ensures ipoib_mode { ipoib_mode_number (ipoib_mode number) ≡ number }
+    ensures ip_vlan_mode { ip_vlan_mode_number (ip_vlan_mode number) ≡ number }
+    ensures mac_vlan_mode { mac_vlan_mode_number (mac_vlan_mode number) ≡ number }
+    ensures mac_vlan_mac_address_mode { mac_vlan_mac_address_mode_number (mac_vlan_mac_address_mode number) ≡ number }
+    ensures mac_sec_cipher_id { mac_sec_cipher_id_number (mac_sec_cipher_id number) ≡ number }
+    ensures mac_sec_validate { mac_sec_validate_number (mac_sec_validate number) ≡ number }
+    ensures mac_sec_offload { mac_sec_offload_number (mac_sec_offload number) ≡ number }
+    ensures netkit_mode { netkit_mode_number (netkit_mode number) ≡ number }
+    ensures netkit_policy { netkit_policy_number (netkit_policy number) ≡ number }
+    ensures gre_encap_type { gre_encap_type_number (gre_encap_type number) ≡ number }
+    ensures er_span_dir { er_span_dir_number (er_span_dir number) ≡ number }
+    ensures tunnel_encap_type { tunnel_encap_type_number (tunnel_encap_type number) ≡ number }
+    ensures ethernet_protocol { ethernet_protocol_number (ethernet_protocol number) ≡ number }
+    ensures ip_protocol { ip_protocol_number (ip_protocol number) ≡ number }
+    ensures netkit_scrub { netkit_scrub_number (netkit_scrub number) ≡ (if number == 0 then 0 else 1) }
+{}
+
+/// The value of the number of a value is that value exactly where it is not `Other` of a named number. `NetkitScrub` has no
+/// `Other`.
+pub fn value_round_trip()
+    ensures amt_mode { ReadsBackWhereProper amt_mode_table }
+    ensures geneve_df { ReadsBackWhereProper geneve_df_table }
+    ensures vxlan_df { ReadsBackWhereProper vxlan_df_table }
+    ensures gtp_role { ReadsBackWhereProper gtp_role_table }
+    ensures ipoib_mode { ReadsBackWhereProper ipoib_mode_table }
+    ensures ip_vlan_mode { ReadsBackWhereProper ip_vlan_mode_table }
+    ensures mac_vlan_mode { ReadsBackWhereProper mac_vlan_mode_table }
+    ensures mac_vlan_mac_address_mode { ReadsBackWhereProper mac_vlan_mac_address_mode_table }
+    ensures mac_sec_cipher_id { ReadsBackWhereProper mac_sec_cipher_id_table }
+    ensures mac_sec_validate { ReadsBackWhereProper mac_sec_validate_table }
+    ensures mac_sec_offload { ReadsBackWhereProper mac_sec_offload_table }
+    ensures netkit_mode { ReadsBackWhereProper netkit_mode_table }
+    ensures netkit_policy { ReadsBackWhereProper netkit_policy_table }
+    ensures gre_encap_type { ReadsBackWhereProper gre_encap_type_table }
+    ensures er_span_dir { ReadsBackWhereProper er_span_dir_table }
+    ensures tunnel_encap_type { ReadsBackWhereProper tunnel_encap_type_table }
+    ensures ethernet_protocol { ReadsBackWhereProper ethernet_protocol_table }
+    ensures ip_protocol { ReadsBackWhereProper ip_protocol_table }
+    ensures netkit_scrub { (scrub : NetkitScrub) → netkit_scrub (netkit_scrub_number scrub) ≡ scrub }
+    ensures forward { NetkitPolicy.Forward ≡ NetkitPolicy.Pass }
+{}
+
+/// The displayed text of a named value reads back as it, and every other text is refused.
+pub fn word_round_trip()
+    ensures amt_mode { ReadsWords Family.Amt amt_mode_text amt_mode_table.named }
+    ensures geneve_df { ReadsWords Family.Geneve geneve_df_text geneve_df_table.named }
+    ensures ip_vlan_mode { ReadsWords Family.IpVlan ip_vlan_mode_text ip_vlan_mode_table.named }
+    ensures mac_vlan_mode { ReadsWords Family.MacVlan mac_vlan_mode_text mac_vlan_mode_table.named }
+    ensures netkit_mode { ReadsWords Family.Netkit netkit_mode_text netkit_mode_table.named }
+    ensures netkit_policy { ReadsWords Family.Netkit netkit_policy_text netkit_policy_table.named }
+    ensures netkit_scrub { ReadsWords Family.Netkit netkit_scrub_text netkit_scrubs }
+{}
+
+/// A kind made from a text has that text and its tag. Made from a kind's text it is that kind exactly where the kind is not `Other`
+/// of a known name, and then its attribute reads as it, and its text has its tag. A kind that is read from an attribute is so, and its
+/// text is UTF-8.
+pub fn kind_texts()
+    ensures text { (name : List ℕ) → text_of_kind (kind_of_name name) ≡ name }
+    ensures tag { (name : List ℕ) → tag_of_kind (kind_of_name name) ≡ tag_of_name name }
+    ensures again { (kind : InfoKind) → (kind_of_name (text_of_kind kind) ≡ kind) ↔ IsProper kind_table kind }
+    ensures reads_back { (kind : InfoKind) → IsTrue (is_utf8 (text_of_kind kind))
+        → (kind_meaning (kind_attribute kind) ≡ Ok kind) ↔ IsProper kind_table kind }
+    ensures read { (attribute : Attribute) (kind : InfoKind) → kind_meaning attribute ≡ Ok kind
+        → IsProper kind_table kind × IsTrue (is_utf8 (text_of_kind kind)) }
+    ensures same_tag { (kind : InfoKind) → IsProper kind_table kind → tag_of_name (text_of_kind kind) ≡ tag_of_kind kind }
+    ensures port_text { (name : List ℕ) → text_of_port_kind (port_kind_of_name name) ≡ name }
+    ensures port_tag { (name : List ℕ) → tag_of_port_kind (port_kind_of_name name) ≡ port_tag_of_name name }
+    ensures port_again { (kind : InfoPortKind) → (port_kind_of_name (text_of_port_kind kind) ≡ kind) ↔ IsProper port_kind_table kind }
+    ensures port_reads_back { (kind : InfoPortKind) → IsTrue (is_utf8 (text_of_port_kind kind))
+        → (port_kind_meaning (port_kind_attribute kind) ≡ Ok kind) ↔ IsProper port_kind_table kind }
+    ensures port_read { (attribute : Attribute) (kind : InfoPortKind) → port_kind_meaning attribute ≡ Ok kind
+        → IsProper port_kind_table kind × IsTrue (is_utf8 (text_of_port_kind kind)) }
+    ensures port_same_tag { (kind : InfoPortKind) → IsProper port_kind_table kind
+        → port_tag_of_name (text_of_port_kind kind) ≡ tag_of_port_kind kind }
+{}
+
+/// Equal sets make the same writes to a hasher.
+pub fn equal_sets_hash_alike()
+    ensures tunnel_encap_flags { (x y : TunnelEncapFlags) → IsTrue (⟦<TunnelEncapFlags as PartialEq>⟧.eq x y)
+        → ⟦<TunnelEncapFlags as Hash>⟧.hash_input x ≡ ⟦<TunnelEncapFlags as Hash>⟧.hash_input y }
+    ensures ip6_tunnel_flags { (x y : Ip6TunnelFlags) → IsTrue (⟦<Ip6TunnelFlags as PartialEq>⟧.eq x y)
+        → ⟦<Ip6TunnelFlags as Hash>⟧.hash_input x ≡ ⟦<Ip6TunnelFlags as Hash>⟧.hash_input y }
+{}

@@ -1,0 +1,48 @@
+//! The numbers, flag sets and names that stand inside `IFLA_LINKINFO`.
+#![tactic(auto)]
+
+mod amt;
+mod ethernet;
+mod flags;
+mod geneve;
+mod gre;
+mod gtp;
+mod ip;
+mod ipoib;
+mod ipvlan;
+mod kind;
+pub mod laws;
+mod macsec;
+mod macvlan;
+mod name;
+mod names;
+mod netkit;
+mod port_kind;
+mod rmnet;
+#[cfg(test)]
+mod tests;
+mod tunnel;
+mod vxlan;
+mod word;
+
+pub use amt::AmtMode;
+pub use ethernet::EthernetProtocol;
+pub use flags::{KeepsEveryBit, bits_again};
+pub use geneve::GeneveDf;
+pub use gre::{ErSpanDir, GreEncapFlags, GreEncapType, GreIOFlags};
+pub use gtp::GtpRole;
+pub use ip::IpProtocol;
+pub use ipoib::IpoibMode;
+pub use ipvlan::{IpVlanFlags, IpVlanMode, IpVtapFlags, IpVtapMode};
+pub use kind::InfoKind;
+pub use macsec::{MacSecCipherId, MacSecOffload, MacSecValidate};
+pub use macvlan::{
+    MacVlanFlags, MacVlanMacAddressMode, MacVlanMode, MacVtapFlags, MacVtapMacAddressMode,
+    MacVtapMode,
+};
+pub use names::{KindTag, PortTag, port_tag_of_name, tag_of_name};
+pub use netkit::{NetkitMode, NetkitPolicy, NetkitScrub};
+pub use port_kind::InfoPortKind;
+pub use rmnet::{InfoRmNetFlags, RmNetFlags};
+pub use tunnel::{Ip6TunnelFlags, TunnelEncapFlags, TunnelEncapType};
+pub use vxlan::VxlanDf;

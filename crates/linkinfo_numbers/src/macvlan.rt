@@ -1,0 +1,236 @@
+//! macvlan and macvtap links.
+
+ghost use Rattle.std.specs.Prelude.{◌≡◌};
+
+use crate::flags::KeepsEveryBit;
+use crate::word::word_fault;
+use bitflags::{Flag, Flags};
+use nla_frame::{DecodeError, ExactEq, Family};
+use std::fmt;
+use std::str::FromStr;
+
+/// The mode of a macvlan or macvtap link: `IFLA_MACVLAN_MODE`, a native 32-bit number (include/uapi/linux/if_link.h).
+#[derive(Clone, Copy, Debug, PartialEq, Eq)]
+pub enum MacVlanMode {
+    /// `MACVLAN_MODE_PRIVATE`.
+    Private,
+    /// `MACVLAN_MODE_VEPA`.
+    Vepa,
+    /// `MACVLAN_MODE_BRIDGE`.
+    Bridge,
+    /// `MACVLAN_MODE_PASSTHRU`.
+    Passthrough,
+    /// `MACVLAN_MODE_SOURCE`.
+    Source,
+    /// Any other number.
+    Other(u32),
+}
+
+impl From<u32> for MacVlanMode {
+    ghost use Rattle.linkinfo_numbers.specs.Macvlan.{mac_vlan_mode};
+
+    ghost from_gives = { λ number mode. mode ≡ mac_vlan_mode number };
+
+    fn from(number: u32) -> MacVlanMode {
+        match number {
+            1 => MacVlanMode::Private,
+            2 => MacVlanMode::Vepa,
+            4 => MacVlanMode::Bridge,
+            8 => MacVlanMode::Passthrough,
+            16 => MacVlanMode::Source,
+            _ => MacVlanMode::Other(number),
+        }
+    }
+}
+
+impl From<MacVlanMode> for u32 {
+    ghost use Rattle.linkinfo_numbers.specs.Macvlan.{mac_vlan_mode_number};
+
+    ghost from_gives = { λ mode number. number ≡ mac_vlan_mode_number mode };
+
+    fn from(mode: MacVlanMode) -> u32 {
+        match mode {
+            MacVlanMode::Private => 1,
+            MacVlanMode::Vepa => 2,
+            MacVlanMode::Bridge => 4,
+            MacVlanMode::Passthrough => 8,
+            MacVlanMode::Source => 16,
+            MacVlanMode::Other(number) => number,
+        }
+    }
+}
+
+impl fmt::Display for MacVlanMode {
+    ghost use Rattle.std.specs.Prelude.{Some};
+    ghost use Rattle.linkinfo_numbers.specs.Macvlan.{mac_vlan_mode_text};
+
+    ghost output = { λ mode. Some (mac_vlan_mode_text mode) };
+
+    fn fmt<W: fmt::Write>(&self, f: &mut fmt::Formatter<W>) -> fmt::Result {
+        match self {
+            MacVlanMode::Private => f.write_str("private"),
+            MacVlanMode::Vepa => f.write_str("vepa"),
+            MacVlanMode::Bridge => f.write_str("bridge"),
+            MacVlanMode::Passthrough => f.write_str("passthru"),
+            MacVlanMode::Source => f.write_str("source"),
+            MacVlanMode::Other(number) => write!(f, "{number}"),
+        }
+    }
+}
+
+/// Every text but the words of `Display` is refused as (MacVlan, 0, Word).
+impl FromStr for MacVlanMode {
+    type Err = DecodeError;
+
+    ghost use Rattle.linkinfo_numbers.specs.Macvlan.{mac_vlan_mode_of_word};
+
+    ghost from_str_gives = { λ word result. result ≡ mac_vlan_mode_of_word word };
+
+    fn from_str(word: &str) -> Result<MacVlanMode, DecodeError> {
+        match word {
+            "private" => Ok(MacVlanMode::Private),
+            "vepa" => Ok(MacVlanMode::Vepa),
+            "bridge" => Ok(MacVlanMode::Bridge),
+            "passthru" => Ok(MacVlanMode::Passthrough),
+            "source" => Ok(MacVlanMode::Source),
+            _ => Err(word_fault(Family::MacVlan)),
+        }
+    }
+}
+
+impl ExactEq for MacVlanMode {
+    ghost use Rattle.std.proofs.Common.{rules};
+
+    ghost exact = { Prim.search rules };
+}
+
+/// What to do with the source addresses of a macvlan or macvtap link: `IFLA_MACVLAN_MACADDR_MODE`, a native 32-bit number
+/// (include/uapi/linux/if_link.h).
+#[derive(Clone, Copy, Debug, PartialEq, Eq)]
+pub enum MacVlanMacAddressMode {
+    /// `MACVLAN_MACADDR_ADD`.
+    Add,
+    /// `MACVLAN_MACADDR_DEL`.
+    Del,
+    /// `MACVLAN_MACADDR_FLUSH`.
+    Flush,
+    /// `MACVLAN_MACADDR_SET`.
+    Set,
+    /// Any other number.
+    Other(u32),
+}
+
+impl From<u32> for MacVlanMacAddressMode {
+    ghost use Rattle.linkinfo_numbers.specs.Macvlan.{mac_vlan_mac_address_mode};
+
+    ghost from_gives = { λ number mode. mode ≡ mac_vlan_mac_address_mode number };
+
+    fn from(number: u32) -> MacVlanMacAddressMode {
+        match number {
+            0 => MacVlanMacAddressMode::Add,
+            1 => MacVlanMacAddressMode::Del,
+            2 => MacVlanMacAddressMode::Flush,
+            3 => MacVlanMacAddressMode::Set,
+            _ => MacVlanMacAddressMode::Other(number),
+        }
+    }
+}
+
+impl From<MacVlanMacAddressMode> for u32 {
+    ghost use Rattle.linkinfo_numbers.specs.Macvlan.{mac_vlan_mac_address_mode_number};
+
+    ghost from_gives = { λ mode number. number ≡ mac_vlan_mac_address_mode_number mode };
+
+    fn from(mode: MacVlanMacAddressMode) -> u32 {
+        match mode {
+            MacVlanMacAddressMode::Add => 0,
+            MacVlanMacAddressMode::Del => 1,
+            MacVlanMacAddressMode::Flush => 2,
+            MacVlanMacAddressMode::Set => 3,
+            MacVlanMacAddressMode::Other(number) => number,
+        }
+    }
+}
+
+impl ExactEq for MacVlanMacAddressMode {
+    ghost use Rattle.std.proofs.Common.{rules};
+
+    ghost exact = { Prim.search rules };
+}
+
+/// What a macvlan or macvtap link leaves out: `IFLA_MACVLAN_FLAGS`, a native 16-bit number (include/uapi/linux/if_link.h). Every
+/// number of that width is a set.
+#[derive(Clone, Copy, Debug, PartialEq, Eq)]
+pub struct MacVlanFlags(u16);
+
+impl MacVlanFlags {
+    /// `MACVLAN_FLAG_NOPROMISC`.
+    pub const NoPromisc: MacVlanFlags = MacVlanFlags(1);
+
+    /// `MACVLAN_FLAG_NODST`.
+    pub const NoDst: MacVlanFlags = MacVlanFlags(2);
+
+    const TABLE: &'static [Flag<MacVlanFlags>] = &[
+        Flag {
+            name: "NoPromisc",
+            value: MacVlanFlags::NoPromisc,
+        },
+        Flag {
+            name: "NoDst",
+            value: MacVlanFlags::NoDst,
+        },
+        Flag {
+            name: "",
+            value: MacVlanFlags(u16::MAX),
+        },
+    ];
+}
+
+impl Flags for MacVlanFlags {
+    type Bits = u16;
+
+    ghost use Rattle.std.specs.Prelude.{⊤};
+    ghost use Rattle.linkinfo_numbers.specs.Macvlan.{mac_vlan_flags_table};
+
+    ghost exact = { ⊤ };
+
+    ghost table = { mac_vlan_flags_table };
+
+    ghost set_of = { λ set. set.0 };
+
+    fn flags<'a>() -> &'a [Flag<MacVlanFlags>] {
+        MacVlanFlags::TABLE
+    }
+
+    fn bits(&self) -> u16 {
+        self.0
+    }
+
+    fn from_bits_retain(bits: u16) -> MacVlanFlags {
+        MacVlanFlags(bits)
+    }
+}
+
+impl KeepsEveryBit for MacVlanFlags {
+    ghost use Rattle.linkinfo_numbers.specs.Flags.{every_bit_16};
+    ghost use Rattle.linkinfo_numbers.specs.Macvlan.{mac_vlan_flags_table, mac_vlan_flags_known};
+
+    ghost has_contracts = { tt };
+
+    ghost every_bit = { every_bit_16 mac_vlan_flags_table mac_vlan_flags_known };
+}
+
+impl ExactEq for MacVlanFlags {
+    ghost use Rattle.std.proofs.Common.{rules};
+
+    ghost exact = { Prim.search rules };
+}
+
+/// The mode of a macvtap link, which is that of a macvlan link.
+pub type MacVtapMode = MacVlanMode;
+
+/// The flags of a macvtap link, which are those of a macvlan link.
+pub type MacVtapFlags = MacVlanFlags;
+
+/// What to do with the source addresses of a macvtap link, which is what a macvlan link does with them.
+pub type MacVtapMacAddressMode = MacVlanMacAddressMode;

@@ -1,0 +1,64 @@
+//! Names in attributes: a text, and one NUL behind it.
+
+ghost use Rattle.std.specs.Prelude.{◌≡◌, ◌+◌, ◌≤◌, [], ◌∷◌, ◌++◌, Ok, Err, SomeIff, MatchResult, length};
+ghost use Rattle.nla_frame.specs.Attribute.{Fits};
+ghost use Rattle.linkinfo_numbers.specs.Name.{name_in, name_of, name_attribute};
+
+use nla_frame::{Cause, DecodeError, Family, NlaBuffer};
+
+/// The longest name that an attribute holds: its payload has a NUL more, and at most 65531 bytes.
+const NAME_LEN_MAX: usize = 65530;
+
+/// The payload without one closing NUL, where there is one.
+fn without_nul(payload: &[u8]) -> &[u8]
+    ensures { result.now ≡ name_in payload.now }
+{
+    payload.strip_suffix(&[0]).unwrap_or(payload)
+}
+
+/// The name that an attribute of this type holds.
+///
+/// Refused as (LinkInfo, the attribute's type, WrongType) where it has another type, and as (LinkInfo, type, Utf8) where the name
+/// is
+/// not UTF-8.
+pub(crate) fn name_of<'a>(nla: &NlaBuffer<'a>, kind: u16) -> Result<&'a str, DecodeError>
+    ensures { MatchResult result (λ name. name_of kind nla.now ≡ Ok name.now) (λ fault. name_of kind nla.now ≡ Err fault) }
+{
+    let found = nla.kind();
+    if found != kind {
+        return Err(DecodeError {
+            family: Family::LinkInfo,
+            kind: found,
+            cause: Cause::WrongType,
+        });
+    }
+    match std::str::from_utf8(without_nul(nla.value())) {
+        Ok(name) => Ok(name),
+        Err(_) => Err(DecodeError {
+            family: Family::LinkInfo,
+            kind,
+            cause: Cause::Utf8,
+        }),
+    }
+}
+
+/// How many bytes the payload of a name has, where the name fits.
+pub(crate) fn name_fit_len(name: &str) -> Option<usize>
+    ensures { SomeIff result (length name.now + 1 ≤ 65531) (length name.now + 1) }
+{
+    if name.len() <= NAME_LEN_MAX {
+        Some(name.len() + 1)
+    } else {
+        None
+    }
+}
+
+/// Writes a name and its NUL. Asks for a buffer of exactly that length.
+pub(crate) fn emit_name(name: &str, buffer: &mut [u8])
+    requires { length buffer.old ≡ length name.now + 1 }
+    ensures { buffer.new ≡ name.now ++ 0 ∷ [] }
+{
+    let end = name.len();
+    buffer[..end].copy_from_slice(name.as_bytes());
+    buffer[end] = 0;
+}

@@ -1,0 +1,71 @@
+//! VXLAN tunnels.
+
+ghost use Rattle.std.specs.Prelude.{◌≡◌};
+
+use nla_frame::ExactEq;
+use std::fmt;
+
+/// What a VXLAN tunnel does with the do-not-fragment bit: `IFLA_VXLAN_DF`, one byte (include/uapi/linux/if_link.h).
+#[derive(Clone, Copy, Debug, PartialEq, Eq)]
+pub enum VxlanDf {
+    /// `VXLAN_DF_UNSET`.
+    Unset,
+    /// `VXLAN_DF_SET`.
+    Set,
+    /// `VXLAN_DF_INHERIT`.
+    Inherit,
+    /// Any other number.
+    Other(u8),
+}
+
+impl From<u8> for VxlanDf {
+    ghost use Rattle.linkinfo_numbers.specs.Vxlan.{vxlan_df};
+
+    ghost from_gives = { λ number df. df ≡ vxlan_df number };
+
+    fn from(number: u8) -> VxlanDf {
+        match number {
+            0 => VxlanDf::Unset,
+            1 => VxlanDf::Set,
+            2 => VxlanDf::Inherit,
+            _ => VxlanDf::Other(number),
+        }
+    }
+}
+
+impl From<VxlanDf> for u8 {
+    ghost use Rattle.linkinfo_numbers.specs.Vxlan.{vxlan_df_number};
+
+    ghost from_gives = { λ df number. number ≡ vxlan_df_number df };
+
+    fn from(df: VxlanDf) -> u8 {
+        match df {
+            VxlanDf::Unset => 0,
+            VxlanDf::Set => 1,
+            VxlanDf::Inherit => 2,
+            VxlanDf::Other(number) => number,
+        }
+    }
+}
+
+impl fmt::Display for VxlanDf {
+    ghost use Rattle.std.specs.Prelude.{Some};
+    ghost use Rattle.linkinfo_numbers.specs.Vxlan.{vxlan_df_text};
+
+    ghost output = { λ df. Some (vxlan_df_text df) };
+
+    fn fmt<W: fmt::Write>(&self, f: &mut fmt::Formatter<W>) -> fmt::Result {
+        match self {
+            VxlanDf::Unset => f.write_str("unset"),
+            VxlanDf::Set => f.write_str("set"),
+            VxlanDf::Inherit => f.write_str("inherit"),
+            VxlanDf::Other(number) => write!(f, "{number}"),
+        }
+    }
+}
+
+impl ExactEq for VxlanDf {
+    ghost use Rattle.std.proofs.Common.{rules};
+
+    ghost exact = { Prim.search rules };
+}

@@ -1,0 +1,96 @@
+-- Tables of plain rows are lawful: shapes are codecs, and what a table's rows keep is what each row owes.
+use Rattle.std.specs.Prelude.{◌≡◌, ◌≢◌, ◌↔◌, ℕ, ◌*◌, ◌<◌, ◌≤◌, ◌==◌, Bool, true, false, List, [], ◌∷◌, length, Option, Some, None, Result, Ok, Err, refl}
+use Rattle.std.proofs.Common.{sym, ap, subst, ◌∙◌, arith, inl, inr}
+use Rattle.std.proofs.lemmas.Bool.{eqb-true, cases_Bool, cond-true, cond-false}
+use Rattle.nla_frame.specs.Attribute.{Attribute, IsBytes}
+use Rattle.nla_frame.specs.Error.{memory_fault}
+use Rattle.nla_frame.specs.declared.error.Cause.{Cause}
+use Rattle.nla_frame.specs.declared.error.Cause.TheVariants as cause
+use Rattle.linkinfo_shapes.specs.declared.shape.Shape.{Shape}
+use Rattle.linkinfo_shapes.specs.Shapes.{Carrier, means, canon, Holds, payload_alike}
+use Rattle.linkinfo_shapes.specs.ShapeLaws.{means_holds, means-canon, IsBytes-canon, means_alike, means_memory}
+use Rattle.linkinfo_shapes.specs.Table.{found}
+use Rattle.linkinfo_table.specs.Codecs.{Codec, Fault, Own, Inside, IsCodec}
+use Rattle.linkinfo_table.specs.Rows.{Entry, Row, Is, Refused, Unknown, IsRow}
+use Rattle.linkinfo_table.specs.FamilyRows.{own, shape_codec, FamilyRow, Plain, Custom, Refuses, Absent, row_of, lookup_of, RowOwes, PlainRow, find, plain_or_absent, table_row, without_labels, lookup_in, Keeps, EachKeeps, IsFlat}
+
+abbrev done : {A E : Type 0} → A → Result A E
+done x = Ok x
+
+owned : {X : Type 0} (r : Result X Cause) (x : X) → own r ≡ Ok x → r ≡ Ok x
+owned (Ok y) x h = cc
+owned (Err c) x h = absurd cc
+
+not_memory : {X : Type 0} (r : Result X Cause) → r ≢ Err cause.Memory → own r ≢ Err (Own cause.Memory)
+not_memory (Ok x) never h = absurd cc
+not_memory (Err c) never h = let same : c ≡ cause.Memory = cc in never (ap (λ (d : Cause). Err d) same)
+
+not_inside : {X : Type 0} (r : Result X Cause) → own r ≢ Err (Inside memory_fault)
+not_inside (Ok x) h = absurd cc
+not_inside (Err c) h = absurd cc
+
+pub shape_is_codec : (shape : Shape) → IsCodec (shape_codec shape)
+shape_is_codec shape = record {
+  holds = λ p x bytes e. means_holds shape p x bytes (owned (means shape p) x e);
+  again = λ x h fits. ap own (means-canon shape x h);
+  bytes = λ x h fits. IsBytes-canon shape x h;
+  alike_is = λ p q x y bp bq e g. means_alike shape p q x y bp bq (owned (means shape p) x e) (owned (means shape q) y g);
+  quarter = λ p. omega arith;
+  no_own_memory = λ p. not_memory (means shape p) (means_memory shape p);
+  no_inner_memory = λ p. not_inside (means shape p);
+}
+
+-- a row of a shape is lawful where its label keeps number and datum
+pub plain_is_row : {F : Type 0} (attribute : F → Attribute) (r : PlainRow F) → Keeps attribute r →
+    IsRow attribute r.number (record { codec = shape_codec r.shape; label = r.label })
+plain_is_row {F = F} attribute r k = record {
+  low = k.low;
+  codec = shape_is_codec r.shape;
+  keeps = k.keeps;
+  same = λ x y h g e.
+    let values : canon r.shape x ≡ canon r.shape y = ap (λ (a : Attribute). a.value) (sym (k.keeps x) ∙ ap attribute e ∙ k.keeps y) in
+    let read : done x ≡ done y = sym (means-canon r.shape x h) ∙ ap (means r.shape) values ∙ means-canon r.shape y g in
+    done_same x y read;
+}
+  where
+    done_same : (x y : Carrier r.shape) → done {E = Cause} x ≡ done y → x ≡ y
+    done_same x y e = cc
+
+-- a table's rows owe what they keep
+pub table_owes : {F : Type 0} (attribute : F → Attribute) (rows : List (PlainRow F)) → EachKeeps attribute rows → (n : ℕ) → RowOwes attribute n (row_of (table_row rows n))
+table_owes attribute [] k n = tt
+table_owes {F = F} attribute (r ∷ rows) k n =
+    elim (cases_Bool (n == r.number)) [
+      | inl same ↦
+          subst (λ (x : Option (PlainRow F)). RowOwes attribute n (row_of (plain_or_absent x))) (sym (cond-true (n == r.number) _ _ same))
+            (subst (λ (m : ℕ). IsRow attribute m (record { codec = shape_codec r.shape; label = r.label })) (sym (eqb-true n r.number same)) (plain_is_row attribute r k.0))
+      | inr other ↦
+          subst (λ (x : Option (PlainRow F)). RowOwes attribute n (row_of (plain_or_absent x))) (sym (cond-false (n == r.number) _ _ other)) (table_owes attribute rows k.1 n)
+    ]
+
+pub table_flat : {F : Type 0} (attribute : F → Attribute) (rows : List (PlainRow F)) → EachKeeps attribute rows → (n : ℕ) → IsFlat (table_row rows n)
+table_flat attribute [] k n = tt
+table_flat {F = F} attribute (r ∷ rows) k n =
+    elim (cases_Bool (n == r.number)) [
+      | inl same ↦ subst (λ (x : Option (PlainRow F)). IsFlat (plain_or_absent x)) (sym (cond-true (n == r.number) _ _ same)) k.0.plain
+      | inr other ↦ subst (λ (x : Option (PlainRow F)). IsFlat (plain_or_absent x)) (sym (cond-false (n == r.number) _ _ other)) (table_flat attribute rows k.1 n)
+    ]
+
+-- the table says what the table of all families says, where its rows without their labels are that one's
+pub table_lookup : {F : Type 0} (rows : List (PlainRow F)) (n : ℕ) → lookup_of (table_row rows n) ≡ lookup_in (found (without_labels rows) n)
+table_lookup [] n = refl
+table_lookup {F = F} (r ∷ rows) n =
+    elim (cases_Bool (n == r.number)) [
+      | inl same ↦
+          ap (λ (x : Option (PlainRow F)). lookup_of (plain_or_absent x)) (cond-true (n == r.number) _ _ same)
+          ∙ ap lookup_in (sym (cond-true (n == r.number) (Some r.shape) (found (without_labels rows) n) same))
+      | inr other ↦
+          ap (λ (x : Option (PlainRow F)). lookup_of (plain_or_absent x)) (cond-false (n == r.number) _ _ other)
+          ∙ table_lookup rows n
+          ∙ ap lookup_in (sym (cond-false (n == r.number) (Some r.shape) (found (without_labels rows) n) other))
+    ]
+
+-- what a family's rows owe, row by row
+pub owed : {F : Type 0} (attribute : F → Attribute) (rows : ℕ → Row F) → ((n : ℕ) → RowOwes attribute n (rows n)) →
+    (n : ℕ) (e : Entry F) → rows n ≡ Is e → IsRow attribute n e
+owed {F = F} attribute rows owes n e h = subst (λ (r : Row F). RowOwes attribute n r) h (owes n)

@@ -1,0 +1,146 @@
+-- The rows of a family, as its table gives them: by shape, or by a codec of the family's own.
+use Rattle.std.specs.Prelude.{◌≡◌, ◌≢◌, ℕ, ◌<◌, ◌==◌, Bool, true, false, if◌then◌else◌, List, [], ◌∷◌, map, Option, Some, None, Result, Ok, Err}
+use Rattle.nla_frame.specs.Attribute.{Attribute}
+use Rattle.nla_frame.specs.declared.error.Cause.{Cause}
+use Rattle.nla_frame.specs.declared.error.Cause.TheVariants as cause
+use Rattle.nla_frame.specs.declared.error.Family.{Family}
+use Rattle.nla_frame.specs.declared.default_nla.DefaultNla.{DefaultNla}
+use Rattle.linkinfo_shapes.specs.declared.shape.Shape.{Shape}
+use Rattle.linkinfo_shapes.specs.declared.shape.Shape.TheVariants.{Name, Raw}
+use Rattle.linkinfo_shapes.specs.Shapes.{IsPlain, Carrier, means, canon, Holds, payload_alike, needs_memory}
+use Rattle.linkinfo_shapes.specs.Data.{Value, value_of, unwrap, written, Suits}
+use Rattle.linkinfo_shapes.specs.Table.{found, shape_of}
+use Rattle.linkinfo_table.specs.declared.lookup.Lookup.{Lookup}
+use Rattle.linkinfo_table.specs.declared.lookup.Lookup.TheVariants as lookup
+use Rattle.linkinfo_table.specs.declared.part.Part.{Part}
+use Rattle.linkinfo_table.specs.declared.part.Part.TheVariants as part
+use Rattle.linkinfo_table.specs.Codecs.{Codec, Fault, Own, Inside}
+use Rattle.linkinfo_table.specs.Rows.{Row, Is, Refused, Unknown, IsRow}
+
+abbrev pub own : {X : Type 0} → Result X Cause → Result X Fault
+own (Ok x) = Ok x
+own (Err cause) = Err (Own cause)
+
+-- a shape as a codec
+abbrev pub shape_codec : Shape → Codec
+shape_codec shape = record {
+  Carrier = Carrier shape;
+  means = λ p. own (means shape p);
+  canon = canon shape;
+  Holds = Holds shape;
+  alike = payload_alike shape;
+  headers = λ _. 0;
+  needs_memory = needs_memory shape;
+}
+
+pub data FamilyRow (F : Type 0) : Type 1 where
+  -- a payload of this shape, and the label of its datum
+  Plain : (shape : Shape) → (Carrier shape → F) → FamilyRow F
+  -- a payload that the family reads itself, a peer or a list of its own attributes
+  Custom : Shape → (codec : Codec) → (codec.Carrier → F) → FamilyRow F
+  Refuses : Cause → FamilyRow F
+  Absent : FamilyRow F
+
+abbrev pub row_of : {F : Type 0} → FamilyRow F → Row F
+row_of (Plain shape label) = Is (record { codec = shape_codec shape; label = label })
+row_of (Custom shape codec label) = Is (record { codec = codec; label = label })
+row_of (Refuses cause) = Refused cause
+row_of Absent = Unknown
+
+-- what `LinkFamily::shape` answers
+abbrev pub lookup_of : {F : Type 0} → FamilyRow F → Lookup
+lookup_of (Plain shape label) = lookup.Is shape
+lookup_of (Custom shape codec label) = lookup.Is shape
+lookup_of (Refuses cause) = lookup.Refused cause
+lookup_of Absent = lookup.Unknown
+
+-- a row that the table of shapes reads
+abbrev pub IsFlat : {F : Type 0} → FamilyRow F → Type 0
+IsFlat (Plain shape label) = IsPlain shape
+IsFlat (Custom shape codec label) = ⊥
+IsFlat _ = Unit {0}
+
+-- what a row owes
+abbrev pub RowOwes : {F : Type 0} → (F → Attribute) → ℕ → Row F → Type 0
+RowOwes attribute number (Is e) = IsRow attribute number e
+RowOwes attribute number (Refused c) = c ≢ cause.Memory
+RowOwes attribute number Unknown = Unit {0}
+
+-- ---- a table: its rows by number
+
+pub record PlainRow (F : Type 0) : Type 0 where
+  pub number : ℕ
+  pub shape : Shape
+  pub label : Carrier shape → F
+
+abbrev pub row : {F : Type 0} (number : ℕ) (shape : Shape) → (Carrier shape → F) → PlainRow F
+row number shape label = record { number = number; shape = shape; label = label }
+
+abbrev pub find : {F : Type 0} → List (PlainRow F) → ℕ → Option (PlainRow F)
+find [] number = None
+find (r ∷ rows) number = if number == r.number then Some r else find rows number
+
+abbrev pub plain_or_absent : {F : Type 0} → Option (PlainRow F) → FamilyRow F
+plain_or_absent (Some r) = Plain r.shape r.label
+plain_or_absent None = Absent
+
+-- the row of a number in a table of shapes
+abbrev pub table_row : {F : Type 0} → List (PlainRow F) → ℕ → FamilyRow F
+table_row rows number = plain_or_absent (find rows number)
+
+-- one row or another
+abbrev pub row_if : {F : Type 0} → Bool → FamilyRow F → FamilyRow F → FamilyRow F
+row_if true x y = x
+row_if false x y = y
+
+-- the rows without their labels
+abbrev pub without_labels : {F : Type 0} → List (PlainRow F) → List (ℕ × Shape)
+without_labels rows = map (λ r. (r.number, r.shape)) rows
+
+-- what the table of all families says
+abbrev pub lookup_in : Option Shape → Lookup
+lookup_in (Some shape) = lookup.Is shape
+lookup_in None = lookup.Unknown
+
+-- the canonical attribute of a row's datum
+abbrev pub typed : (number : ℕ) (shape : Shape) → Carrier shape → Attribute
+typed number shape x = record { kind = number; value = canon shape x }
+
+-- a label keeps the number and the datum of its row
+pub record Keeps {F : Type 0} (attribute : F → Attribute) (r : PlainRow F) : Type 0 where
+  pub low : r.number < 16384
+  pub plain : IsPlain r.shape
+  pub keeps : (x : Carrier r.shape) → attribute (r.label x) ≡ record { kind = r.number; value = canon r.shape x }
+
+abbrev pub EachKeeps : {F : Type 0} → (F → Attribute) → List (PlainRow F) → Type 0
+EachKeeps attribute [] = Unit {0}
+EachKeeps attribute (r ∷ rows) = Keeps attribute r × EachKeeps attribute rows
+
+-- ---- data of rows, as the program holds them
+
+-- the datum belongs to the row's shape
+abbrev pub SuitsRow : {F : Type 0} → FamilyRow F → Value → Type 0
+SuitsRow (Plain shape label) value = Suits shape value
+SuitsRow _ value = ⊥
+
+-- a value is the row's label of a datum
+abbrev pub IsLabelled : {F : Type 0} → FamilyRow F → Value → F → Type 0
+IsLabelled (Plain shape label) value x = x ≡ label (unwrap shape value)
+IsLabelled _ value x = ⊥
+
+-- a value of this row may own memory
+abbrev pub owns_memory : Shape → Bool
+owns_memory Name = true
+owns_memory Raw = true
+owns_memory _ = false
+
+abbrev pub row_owns_memory : {F : Type 0} → FamilyRow F → Bool
+row_owns_memory (Plain shape label) = owns_memory shape
+row_owns_memory _ = true
+
+-- what a value shows of its canonical attribute: type, shape and datum, or that it is kept as it came
+abbrev pub Shows : Part → Attribute → Bool → Type 0
+Shows (part.Typed number shape datum) a is_custom =
+    (a ≡ record { kind = number; value = written shape (value_of datum) }) × Suits shape (value_of datum) × (is_custom ≡ false)
+Shows (part.Kept nla) a is_custom = (a ≡ record { kind = nla.now.kind; value = nla.now.value }) × (is_custom ≡ false)
+Shows part.Custom a is_custom = is_custom ≡ true

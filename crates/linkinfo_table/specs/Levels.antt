@@ -1,0 +1,60 @@
+-- Rows of a family that holds lists of itself, by how many lists more may stand inside: a list is a row like any other, and without a level
+-- left it is refused.
+use Rattle.std.specs.Prelude.{◌≡◌, ◌≢◌, ◌↔◌, ℕ, zero, suc, ◌*◌, ◌<◌, ◌==◌, Bool, true, false, List, Result, Ok, Err, refl}
+use Rattle.std.proofs.Common.{sym, ap, subst, ◌∙◌, inl, inr}
+use Rattle.std.proofs.lemmas.Bool.{eqb-true, cases_Bool}
+use Rattle.nla_frame.specs.Attribute.{Attribute, IsAttribute, Fits, list_string, masked}
+use Rattle.nla_frame.specs.declared.error.Cause.{Cause}
+use Rattle.nla_frame.specs.declared.error.Cause.TheVariants as cause
+use Rattle.nla_frame.specs.declared.error.Family.{Family}
+use Rattle.nla_frame.specs.declared.error.DecodeError.{DecodeError}
+use Rattle.nla_frame.specs.declared.default_nla.DefaultNla.{DefaultNla}
+use Rattle.linkinfo_shapes.specs.declared.shape.Shape.TheVariants as shape
+use Rattle.linkinfo_table.specs.Codecs.{Codec, IsCodec}
+use Rattle.linkinfo_table.specs.Rows.{Entry, Row, Is, Refused, Unknown, meaning_in, alike_in, headers_inside, memory_in, WellFormed, IsRow}
+use Rattle.linkinfo_table.specs.RowLaws.{rows_alike_is, rows_read_well, rows_well_reads, rows_well_attribute, rows_quarter}
+use Rattle.linkinfo_table.specs.FamilyRows.{FamilyRow, Custom, Refuses, row_of, row_if, RowOwes}
+use Rattle.linkinfo_table.specs.FamilyRowLaws.{owed}
+use Rattle.linkinfo_table.specs.FlatLaws.{flat_no_memory}
+use Rattle.linkinfo_table.specs.SelfList.{list_codec, list_is_codec}
+use Rattle.std.specs.Prelude.{map}
+
+module _ {X : Type 0} (f : Family) (other : DefaultNla → X) (attribute : X → Attribute) (number : ℕ) (label : List X → X) (flat : ℕ → FamilyRow X) where
+  -- the codec of a list whose attributes are read by these rows
+  abbrev pub inner_codec : (ℕ → Row X) → Codec
+  inner_codec rows = list_codec (meaning_in f other rows) (headers_inside rows) (alike_in rows) (memory_in rows) attribute (WellFormed other attribute rows)
+
+  abbrev pub level_rows : ℕ → ℕ → FamilyRow X
+  level_rows zero n = row_if (n == number) (Refuses cause.Depth) (flat n)
+  level_rows (suc levels) n = row_if (n == number) (Custom shape.SelfList (inner_codec (λ k. row_of (level_rows levels k))) label) (flat n)
+
+  module _ (low : number < 16384)
+      (keeps : (xs : List X) → attribute (label xs) ≡ record { kind = number; value = list_string (map attribute xs) })
+      (same : (xs ys : List X) → label xs ≡ label ys → xs ≡ ys)
+      (keeps_other : (d : DefaultNla) → attribute (other d) ≡ record { kind = d.kind; value = d.value })
+      (flat_owes : (n : ℕ) → RowOwes attribute n (row_of (flat n))) where
+    inner_is_codec : (rows : ℕ → FamilyRow X) → ((n : ℕ) → RowOwes attribute n (row_of (rows n))) → IsCodec (inner_codec (λ k. row_of (rows k)))
+    inner_is_codec rows owes =
+        let at : ℕ → Row X = λ k. row_of (rows k) in
+        let is_row : (n : ℕ) (e : Entry X) → at n ≡ Is e → IsRow attribute n e = λ n e h. owed attribute at owes n e h in
+        list_is_codec (meaning_in f other at) (headers_inside at) (alike_in at) (memory_in at) attribute (WellFormed other attribute at)
+          (λ a b x y i j h k. rows_alike_is f other attribute at is_row keeps_other a b x y i j h k)
+          (λ a. rows_quarter f other attribute at is_row keeps_other a)
+          (λ a. flat_no_memory f other attribute rows owes keeps_other a)
+          (λ a x i h. rows_read_well f other attribute at is_row keeps_other a x i h)
+          (λ x w fits. rows_well_reads f other attribute at is_row keeps_other x w fits)
+          (λ x w fits. rows_well_attribute f other attribute at is_row keeps_other x w fits)
+
+    -- what is owed at a number where a list row stands, and where another does
+    chosen : (b : Bool) (n : ℕ) (list : FamilyRow X) → n == number ≡ b → RowOwes attribute number (row_of list) → RowOwes attribute n (row_of (row_if b list (flat n)))
+    chosen true n list e owes = subst (λ (m : ℕ). RowOwes attribute m (row_of list)) (sym (eqb-true n number e)) owes
+    chosen false n list e owes = flat_owes n
+
+    no_memory : cause.Depth ≢ cause.Memory
+    no_memory e = absurd cc
+
+    pub level_owes : (levels n : ℕ) → RowOwes attribute n (row_of (level_rows levels n))
+    level_owes zero n = chosen (n == number) n (Refuses cause.Depth) refl no_memory
+    level_owes (suc levels) n =
+        chosen (n == number) n (Custom shape.SelfList (inner_codec (λ k. row_of (level_rows levels k))) label) refl
+          (record { low = low; codec = inner_is_codec (level_rows levels) (level_owes levels); keeps = keeps; same = λ xs ys h g e. same xs ys e })

@@ -1,0 +1,11 @@
+pub mod Codecs
+pub mod FamilyRowLaws
+pub mod FamilyRows
+pub mod FlatLaws
+pub mod Levels
+pub mod ListLaws
+pub mod Lists
+pub mod Peers
+pub mod RowLaws
+pub mod Rows
+pub mod SelfList

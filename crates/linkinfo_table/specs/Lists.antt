@@ -1,0 +1,88 @@
+-- What a list of attributes means, over the pieces of its string, given what one attribute means. A state may go along, as the kind in force
+-- does at top level: `m t a` is the meaning of an attribute under the state, `after t a` the state behind it.
+use Rattle.std.specs.Prelude.{◌≡◌, ℕ, ◌+◌, Bool, true, false, ◌&&◌, ◌||◌, is_ok, List, [], ◌∷◌, ◌++◌, Result, Ok, Err}
+use Rattle.nla_frame.specs.Attribute.{Attribute}
+use Rattle.nla_frame.specs.Error.{header_fault}
+use Rattle.nla_frame.specs.declared.error.DecodeError.{DecodeError}
+
+infixl 10 ◌>>=◌
+abbrev pub ◌>>=◌ : {A B : Type 0} → Result A DecodeError → (A → Result B DecodeError) → Result B DecodeError
+(Ok x) >>= f = f x
+(Err e) >>= f = Err e
+
+-- what comes only behind an item that was read
+abbrev pub if_read : {X : Type 0} → Result X DecodeError → ℕ → ℕ
+if_read (Ok x) n = n
+if_read (Err e) n = 0
+
+-- the values in order, or the first fault in byte order; a rest without a header is the header fault
+abbrev pub values_under : {T X : Type 0} → (T → Attribute → Result X DecodeError) → (T → Attribute → T) → T → List (Result Attribute ℕ) → Result (List X) DecodeError
+values_under m after t [] = Ok []
+values_under m after t ((Err n) ∷ more) = Err header_fault
+values_under m after t ((Ok a) ∷ more) = m t a >>= λ x. values_under m after (after t a) more >>= λ xs. Ok (x ∷ xs)
+
+-- values that were read before, in front of those that follow
+abbrev pub behind : {X : Type 0} → List X → Result (List X) DecodeError → Result (List X) DecodeError
+behind front r = r >>= λ xs. Ok (front ++ xs)
+
+-- the headers that are looked at, those inside attributes too, up to the first fault
+abbrev pub headers_under : {T X : Type 0} → (T → Attribute → Result X DecodeError) → (T → Attribute → ℕ) → (T → Attribute → T) → T → List (Result Attribute ℕ) → ℕ
+headers_under m h after t [] = 0
+headers_under m h after t ((Err n) ∷ more) = n
+headers_under m h after t ((Ok a) ∷ more) = 1 + (h t a + if_read (m t a) (headers_under m h after (after t a) more))
+
+-- as many attributes, alike in pairs, each pair under the first list's state
+abbrev pub alike_under : {T : Type 0} → (T → Attribute → Attribute → Bool) → (T → Attribute → T) → T → List (Result Attribute ℕ) → List (Result Attribute ℕ) → Bool
+alike_under f after t [] [] = true
+alike_under f after t [] (y ∷ ys) = false
+alike_under f after t (x ∷ xs) [] = false
+alike_under f after t ((Ok a) ∷ xs) ((Ok b) ∷ ys) = f t a b && alike_under f after (after t a) xs ys
+alike_under f after t ((Ok a) ∷ xs) ((Err n) ∷ ys) = false
+alike_under f after t ((Err n) ∷ xs) (y ∷ ys) = false
+
+-- each value is well formed under the state that those before it leave
+abbrev pub well_under : {T X : Type 0} → (T → X → Type 0) → (T → X → T) → T → List X → Type 0
+well_under well next t [] = Unit {0}
+well_under well next t (x ∷ xs) = well t x × well_under well next (next t x) xs
+
+-- Whether reading a list may need memory: not for the empty list, and not where the first attribute has no header or a fault that needs none.
+abbrev pub memory_under : {T X : Type 0} → (T → Attribute → Result X DecodeError) → (T → Attribute → Bool) → T → List (Result Attribute ℕ) → Bool
+memory_under m needs t [] = false
+memory_under m needs t ((Err n) ∷ more) = false
+memory_under m needs t ((Ok a) ∷ more) = needs t a || is_ok (m t a)
+
+-- the same of lists without a state
+abbrev pub values : {X : Type 0} → (Attribute → Result X DecodeError) → List (Result Attribute ℕ) → Result (List X) DecodeError
+values m ps = values_under (λ _ a. m a) (λ t _. t) (tt {0}) ps
+
+abbrev pub headers_of : {X : Type 0} → (Attribute → Result X DecodeError) → (Attribute → ℕ) → List (Result Attribute ℕ) → ℕ
+headers_of m h ps = headers_under (λ _ a. m a) (λ _ a. h a) (λ t _. t) (tt {0}) ps
+
+abbrev pub alike_pairs : (Attribute → Attribute → Bool) → List (Result Attribute ℕ) → List (Result Attribute ℕ) → Bool
+alike_pairs f ps qs = alike_under (λ _ a b. f a b) (λ t _. t) (tt {0}) ps qs
+
+abbrev pub memory_of : {X : Type 0} → (Attribute → Result X DecodeError) → (Attribute → Bool) → List (Result Attribute ℕ) → Bool
+memory_of m needs ps = memory_under (λ _ a. m a) (λ _ a. needs a) (tt {0}) ps
+
+abbrev pub AllWell : {X : Type 0} → (X → Type 0) → List X → Type 0
+AllWell well xs = well_under (λ _ x. well x) (λ t _. t) (tt {0}) xs
+
+-- The first attribute alone: what follows it is not looked at.
+abbrev pub first_meaning : {X : Type 0} → (Attribute → Result X DecodeError) → List (Result Attribute ℕ) → Result X DecodeError
+first_meaning m [] = Err header_fault
+first_meaning m ((Err n) ∷ more) = Err header_fault
+first_meaning m ((Ok a) ∷ more) = m a
+
+abbrev pub first_headers : (Attribute → ℕ) → List (Result Attribute ℕ) → ℕ
+first_headers h [] = 0
+first_headers h ((Err n) ∷ more) = n
+first_headers h ((Ok a) ∷ more) = 1 + h a
+
+abbrev pub first_alike : (Attribute → Attribute → Bool) → List (Result Attribute ℕ) → List (Result Attribute ℕ) → Bool
+first_alike f ((Ok a) ∷ ps) ((Ok b) ∷ qs) = f a b
+first_alike f ps qs = false
+
+abbrev pub first_memory : (Attribute → Bool) → List (Result Attribute ℕ) → Bool
+first_memory needs [] = false
+first_memory needs ((Err n) ∷ more) = false
+first_memory needs ((Ok a) ∷ more) = needs a

@@ -1,0 +1,99 @@
+//! Families of attributes: what a family's types are read, checked, compared and written as.
+
+ghost use Rattle.std.specs.Prelude.{◌≡◌, ◌≢◌, ◌↔◌, ℕ, ◌+◌, ◌*◌, ◌/◌, ◌<◌, ◌≤◌, ◌^◌, Bool, true, Err, Ok, IsOk, IsTrue, Result, length};
+ghost use Rattle.std.specs.Bool.{OnTrue};
+ghost use Rattle.nla_frame.specs.Answers.{CertainUnless, Gives, OnAnswer, verdict};
+ghost use Rattle.nla_frame.specs.Attribute.{Attribute, Fits, IsAttribute, masked};
+ghost use Rattle.nla_frame.specs.Error.{memory_fault};
+ghost use Rattle.nla_frame.specs.declared.error.DecodeError.{DecodeError};
+ghost use Rattle.nla_frame.specs.declared.error.Family.{Family};
+ghost use Rattle.linkinfo_table.specs.declared.lookup.Lookup.{Lookup};
+
+use crate::lookup::Lookup;
+use nla_frame::{DecodeError, Family, HeaderCount, Nla, NlaBuffer};
+use std::alloc::Global;
+
+/// The attributes that may stand in one kind of data, as `IFLA_VXLAN_ID` and its like in that of a vxlan.
+///
+/// A context says what the meaning of an attribute depends on beside its bytes: the kind of the link, the number of lists round the
+/// attribute, or nothing.
+pub trait LinkFamily: Nla + Sized + Drop {
+    type Context: Copy;
+
+    const FAMILY: Family;
+
+    ghost FAMILY: { Family };
+
+    /// What the family says of a masked type.
+    ghost lookup: { Self.Context → ℕ → Lookup };
+
+    /// What an attribute means: a value, or its fault.
+    ghost meaning: { Self.Context → Attribute → Result Self DecodeError };
+
+    /// Whether reading an attribute may need memory.
+    ghost needs_memory: { Self.Context → Attribute → Bool };
+
+    /// How many headers are looked at inside an attribute, up to its fault.
+    ghost headers: { Self.Context → Attribute → ℕ };
+
+    /// Whether two accepted attributes mean the same.
+    ghost alike: { Self.Context → Attribute → Attribute → Bool };
+
+    /// Whether a value is one that an attribute can mean.
+    ghost well: { Self.Context → Self → Type 0 };
+
+    /// The shape of a masked type, or why it is refused, or that it is unknown and kept.
+    fn shape(ctx: Self::Context, kind: u16) -> Lookup
+        ensures { result ≡ lookup ctx kind };
+
+    /// Reads an attribute. An answer other than (Frame, 0, Memory) is what it means.
+    fn read(
+        alloc: Global,
+        nla: &NlaBuffer<'_>,
+        ctx: Self::Context,
+        count: &mut HeaderCount,
+    ) -> Result<Self, DecodeError>
+        requires { count.old + length nla.now.value / 4 < 2 ^ 64 }
+        ensures answer { Gives (λ value. value) result (meaning ctx nla.now) }
+        ensures certain { CertainUnless (needs_memory ctx nla.now) (λ value. value) result (meaning ctx nla.now) }
+        ensures counted { OnAnswer result (count.new ≡ count.old + headers ctx nla.now) }
+        ensures rises { count.old ≤ count.new }
+        ensures quarter { 4 * count.new ≤ 4 * count.old + length nla.now.value };
+
+    /// Whether `read` would succeed, or the attribute's fault. Takes no memory.
+    fn check_value(
+        nla: &NlaBuffer<'_>,
+        ctx: Self::Context,
+        count: &mut HeaderCount,
+    ) -> Result<(), DecodeError>
+        requires { count.old + length nla.now.value / 4 < 2 ^ 64 }
+        ensures answer { result ≡ verdict (meaning ctx nla.now) }
+        ensures counted { count.new ≡ count.old + headers ctx nla.now };
+
+    /// Whether two attributes mean the same value. Asks that each means one, and takes no memory.
+    fn same_value(
+        a: &NlaBuffer<'_>,
+        b: &NlaBuffer<'_>,
+        ctx: Self::Context,
+        count: &mut HeaderCount,
+    ) -> bool
+        requires first { IsOk (meaning ctx a.now) }
+        requires second { IsOk (meaning ctx b.now) }
+        requires room { count.old + (length a.now.value + length b.now.value) / 4 < 2 ^ 64 }
+        ensures same { result ≡ alike ctx a.now b.now }
+        ensures counted { OnTrue result (count.new ≡ count.old + (headers ctx a.now + headers ctx b.now)) }
+        ensures rises { count.old ≤ count.new }
+        ensures quarter { 4 * count.new ≤ 4 * count.old + (length a.now.value + length b.now.value) };
+
+    ghost alike_is: { (c : Self.Context) (a b : Attribute) (x y : Self) → IsAttribute a → IsAttribute b → meaning c a ≡ Ok x → meaning c b ≡ Ok y → (alike c a b ≡ true) ↔ (x ≡ y) };
+
+    ghost headers_quarter: { (c : Self.Context) (a : Attribute) → 4 * headers c a ≤ length a.value };
+
+    ghost no_memory: { (c : Self.Context) (a : Attribute) → meaning c a ≢ Err memory_fault };
+
+    ghost read_well: { (c : Self.Context) (a : Attribute) (x : Self) → IsAttribute a → meaning c a ≡ Ok x → well c x };
+
+    ghost well_reads: { (c : Self.Context) (x : Self) → well c x → Fits (Self.attribute x) → meaning c (Self.attribute x) ≡ Ok x };
+
+    ghost well_attribute: { (c : Self.Context) (x : Self) → well c x → Fits (Self.attribute x) → IsAttribute (Self.attribute x) };
+}

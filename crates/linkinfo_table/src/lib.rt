@@ -1,0 +1,23 @@
+//! Families of link info attributes: rows, lists and peers.
+#![tactic(auto)]
+
+mod family;
+mod first;
+mod flat;
+pub mod laws;
+mod list;
+mod lookup;
+mod part;
+mod peer;
+mod row_family;
+mod rows;
+
+pub use family::LinkFamily;
+pub use first::{first_check, first_read, first_same};
+pub use linkinfo_shapes::{Datum, Shape, table_shape};
+pub use list::{list_check, list_read, list_same};
+pub use lookup::Lookup;
+pub use part::Part;
+pub use peer::{LinkPeer, PeerFault};
+pub use row_family::{FlatFamily, RowFamily};
+pub use rows::{row_check, row_emit_value, row_fit_len, row_kind, row_read, row_same, row_value_len, table_lookup};

@@ -1,0 +1,64 @@
+//! Peers of a type that the layer above hands in.
+
+ghost use Rattle.std.specs.Prelude.{◌≡◌, ◌↔◌, ◌≤◌, ℕ, Bool, true, List, Option, Some, IsSome, IsTrue, SomeIff, length};
+ghost use Rattle.nla_frame.specs.Attribute.{IsBytes};
+ghost use Rattle.linkinfo_table.specs.Peers.{PeerGives};
+
+use nla_frame::ExactEq;
+use std::alloc::Global;
+
+/// Why a peer was not read.
+#[derive(Clone, Copy, Debug, PartialEq, Eq)]
+pub enum PeerFault {
+    /// The payload has no meaning.
+    Refused,
+    /// An allocation was refused.
+    Memory,
+}
+
+/// The other end of a link that comes in pairs: what stands in `VETH_INFO_PEER` (include/uapi/linux/veth.h), `VXCAN_INFO_PEER`
+/// (include/uapi/linux/can/vxcan.h) and `IFLA_NETKIT_PEER_INFO`.
+pub trait LinkPeer: Sized + Eq + ExactEq + Drop {
+    /// What a payload means: a peer, or nothing.
+    ghost meaning: { List ℕ → Option Self };
+
+    /// Whether two accepted payloads mean the same peer.
+    ghost alike: { List ℕ → List ℕ → Bool };
+
+    /// The canonical payload of a peer.
+    ghost canonical: { Self → List ℕ };
+
+    /// What holds of the peers that payloads mean.
+    ghost well: { Self → Type 0 };
+
+    /// Reads a payload: the peer that it means, `Refused` only where it means none, or `Memory`.
+    fn read(alloc: Global, payload: &[u8]) -> Result<Self, PeerFault>
+        ensures { PeerGives result (meaning payload.now) };
+
+    /// Whether the payload means a peer. Takes no memory.
+    fn check(payload: &[u8]) -> bool
+        ensures { IsTrue result ↔ IsSome (meaning payload.now) };
+
+    /// Whether two payloads mean the same peer. Asks that each means one, and takes no memory.
+    fn same(a: &[u8], b: &[u8]) -> bool
+        requires first { IsSome (meaning a.now) }
+        requires second { IsSome (meaning b.now) }
+        ensures { result ≡ alike a.now b.now };
+
+    /// The length of the canonical payload where it is at most 65531, and else `None`. Takes no memory.
+    fn fit_len(&self) -> Option<usize>
+        ensures { SomeIff result (length (canonical self.now) ≤ 65531) (length (canonical self.now)) };
+
+    /// Writes the canonical payload. Asks for a buffer of exactly its length, and takes no memory.
+    fn emit(&self, buffer: &mut [u8])
+        requires { length buffer.old ≡ length (canonical self.now) }
+        ensures { buffer.new ≡ canonical self.now };
+
+    ghost alike_is: { (p q : List ℕ) (x y : Self) → IsBytes p → IsBytes q → meaning p ≡ Some x → meaning q ≡ Some y → (alike p q ≡ true) ↔ (x ≡ y) };
+
+    ghost meaning_well: { (p : List ℕ) (x : Self) → IsBytes p → meaning p ≡ Some x → well x };
+
+    ghost well_means: { (x : Self) → well x → meaning (canonical x) ≡ Some x };
+
+    ghost well_bytes: { (x : Self) → well x → IsBytes (canonical x) };
+}

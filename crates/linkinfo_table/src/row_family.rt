@@ -1,0 +1,75 @@
+//! Families that are given by rows.
+
+ghost use Rattle.std.specs.Prelude.{◌≡◌, ℕ, Bool, false, IfOk, IsOk};
+ghost use Rattle.nla_frame.specs.Attribute.{Attribute};
+ghost use Rattle.nla_frame.specs.declared.error.Family.{Family};
+ghost use Rattle.nla_frame.specs.declared.default_nla.DefaultNla.{DefaultNla};
+ghost use Rattle.linkinfo_shapes.specs.Data.{value_of};
+ghost use Rattle.linkinfo_table.specs.FamilyRows.{FamilyRow, IsFlat, IsLabelled, RowOwes, Shows, SuitsRow, lookup_of, row_of, row_owns_memory};
+
+use crate::lookup::Lookup;
+use crate::part::Part;
+use linkinfo_shapes::Datum;
+use nla_frame::{DefaultNla, Family, Nla};
+use std::alloc::{AllocError, Global};
+
+/// A family whose types are rows: a number, a shape, and the variant that holds its datum.
+///
+/// A family writes its rows, and these small functions between data and variants. Reading, checking, comparing, measuring and emitting
+/// follow.
+pub trait RowFamily: Sized + Drop {
+    type Context: Copy;
+
+    const FAMILY: Family;
+
+    ghost FAMILY: { Family };
+
+    /// The row of a masked type.
+    ghost rows: { Self.Context → ℕ → FamilyRow Self };
+
+    /// The variant of an attribute that is kept as it came.
+    ghost other: { DefaultNla → Self };
+
+    /// The canonical attribute of a value.
+    ghost canonical: { Self → Attribute };
+
+    /// Whether the family writes a value's payload itself.
+    ghost is_custom: { Self → Bool };
+
+    /// What the row of a masked type says.
+    fn shape(ctx: Self::Context, kind: u16) -> Lookup
+        ensures { result ≡ lookup_of (rows ctx kind) };
+
+    /// The variant of a row that holds a datum. Asks that the datum belongs to the row's shape; only a text or bytes, which are copied,
+    /// may want memory.
+    fn from_datum(
+        alloc: Global,
+        ctx: Self::Context,
+        kind: u16,
+        datum: Datum<'_>,
+    ) -> Result<Self, AllocError>
+        requires { SuitsRow (rows ctx kind) (value_of datum) }
+        ensures value { IfOk result (IsLabelled (rows ctx kind) (value_of datum.entry)) }
+        ensures certain { row_owns_memory (rows ctx kind) ≡ false → IsOk result };
+
+    /// The variant of an attribute that is kept as it came.
+    fn from_other(nla: DefaultNla) -> Self
+        ensures { result ≡ other nla };
+
+    /// The type number, shape and datum of a value, or the attribute that it keeps.
+    fn to_part(&self) -> Part<'_>
+        ensures { Shows result (canonical self.now) (is_custom self.now) };
+
+    ghost owes: { (c : Self.Context) (n : ℕ) → RowOwes canonical n (row_of (rows c n)) };
+
+    ghost keeps_other: { (d : DefaultNla) → canonical (other d) ≡ record { kind = d.kind; value = d.value } };
+}
+
+/// A family of which each row has a shape of the table. It is a `LinkFamily` by its rows.
+pub trait FlatFamily: RowFamily + Nla {
+    ghost flat: { (c : Self.Context) (n : ℕ) → IsFlat (Self.rows c n) };
+
+    ghost never_custom: { (x : Self) → Self.is_custom x ≡ false };
+
+    ghost written: { (x : Self) → Self.attribute x ≡ Self.canonical x };
+}

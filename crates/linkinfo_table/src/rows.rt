@@ -1,0 +1,153 @@
+//! What each family that is given by rows does.
+
+ghost use Rattle.std.specs.Prelude.{◌≡◌, ◌==◌, ◌&&◌, ◌≤◌, false, length, IsOk, SomeIff};
+ghost use Rattle.std.specs.Str.{bytes_eq};
+ghost use Rattle.nla_frame.specs.Answers.{CertainUnless, Gives, verdict};
+ghost use Rattle.nla_frame.specs.Attribute.{Fits, masked};
+ghost use Rattle.linkinfo_shapes.specs.Shapes.{IsAccepted, IsPlain, payload_alike};
+ghost use Rattle.linkinfo_shapes.specs.Table.{shape_of};
+ghost use Rattle.linkinfo_table.specs.FamilyRows.{IsFlat, lookup_in, row_of};
+ghost use Rattle.linkinfo_table.specs.Rows.{alike_in, meaning_in, memory_in};
+
+use crate::lookup::Lookup;
+use crate::part::Part;
+use crate::row_family::RowFamily;
+use linkinfo_shapes::{Shape, datum_len, read_datum, shape_check, shape_same, table_shape, write_datum};
+use nla_frame::{Cause, DecodeError, DefaultNla, Family, Nla, NlaBuffer, Parseable};
+use std::alloc::Global;
+
+fn fault(family: Family, kind: u16, cause: Cause) -> DecodeError
+    ensures { result ≡ record { family = family; kind = kind; cause = cause } }
+{
+    DecodeError {
+        family,
+        kind,
+        cause,
+    }
+}
+
+/// What the table of all families says of a masked type: its shape, or that it has none.
+pub fn table_lookup(family: Family, kind: u16) -> Lookup
+    ensures { result ≡ lookup_in (shape_of family kind) }
+{
+    match table_shape(family, kind) {
+        Some(shape) => Lookup::Is(shape),
+        None => Lookup::Unknown,
+    }
+}
+
+/// Reads an attribute by its row. Asks for one whose row has a shape of the table, or none.
+pub fn row_read<F: RowFamily>(
+    alloc: Global,
+    nla: &NlaBuffer<'_>,
+    ctx: F::Context,
+) -> Result<F, DecodeError>
+    requires { IsFlat (F.rows ctx (masked nla.now.kind)) }
+    ensures answer { Gives (λ value. value) result (meaning_in F.FAMILY F.other (λ n. row_of (F.rows ctx n)) nla.now) }
+    ensures certain { CertainUnless (memory_in (λ n. row_of (F.rows ctx n)) nla.now) (λ value. value) result (meaning_in F.FAMILY F.other (λ n. row_of (F.rows ctx n)) nla.now) }
+{
+    let kind = nla.kind();
+    match F::shape(ctx, kind) {
+        Lookup::Is(shape) => match read_datum(shape, nla.value()) {
+            Ok(datum) => Ok(F::from_datum(alloc, ctx, kind, datum)?),
+            Err(cause) => Err(fault(F::FAMILY, kind, cause)),
+        },
+        Lookup::Refused(cause) => Err(fault(F::FAMILY, kind, cause)),
+        Lookup::Unknown => Ok(F::from_other(DefaultNla::parse(alloc, nla)?)),
+    }
+}
+
+/// Whether `row_read` would succeed, or the attribute's fault. Takes no memory. Asks the same.
+pub fn row_check<F: RowFamily>(nla: &NlaBuffer<'_>, ctx: F::Context) -> Result<(), DecodeError>
+    requires { IsFlat (F.rows ctx (masked nla.now.kind)) }
+    ensures { result ≡ verdict (meaning_in F.FAMILY F.other (λ n. row_of (F.rows ctx n)) nla.now) }
+{
+    let kind = nla.kind();
+    match F::shape(ctx, kind) {
+        Lookup::Is(shape) => match shape_check(shape, nla.value()) {
+            Ok(()) => Ok(()),
+            Err(cause) => Err(fault(F::FAMILY, kind, cause)),
+        },
+        Lookup::Refused(cause) => Err(fault(F::FAMILY, kind, cause)),
+        Lookup::Unknown => Ok(()),
+    }
+}
+
+/// Whether two attributes mean the same value. Asks the same of the first, and that both are accepted. Takes no memory.
+pub fn row_same<F: RowFamily>(a: &NlaBuffer<'_>, b: &NlaBuffer<'_>, ctx: F::Context) -> bool
+    requires flat { IsFlat (F.rows ctx (masked a.now.kind)) }
+    requires first { IsOk (meaning_in F.FAMILY F.other (λ n. row_of (F.rows ctx n)) a.now) }
+    requires second { IsOk (meaning_in F.FAMILY F.other (λ n. row_of (F.rows ctx n)) b.now) }
+    ensures { result ≡ alike_in (λ n. row_of (F.rows ctx n)) a.now b.now }
+{
+    match F::shape(ctx, a.kind()) {
+        Lookup::Is(shape) => typed_same(shape, a, b),
+        Lookup::Refused(_) => false,
+        Lookup::Unknown => kept_same(a, b),
+    }
+}
+
+fn typed_same(shape: Shape, a: &NlaBuffer<'_>, b: &NlaBuffer<'_>) -> bool
+    requires plain { IsPlain shape }
+    requires first { IsAccepted shape a.now.value }
+    requires second { masked b.now.kind ≡ masked a.now.kind → IsAccepted shape b.now.value }
+    ensures { result ≡ ((masked b.now.kind == masked a.now.kind) && payload_alike shape a.now.value b.now.value) }
+{
+    b.kind() == a.kind() && shape_same(shape, a.value(), b.value())
+}
+
+fn kept_same(a: &NlaBuffer<'_>, b: &NlaBuffer<'_>) -> bool
+    ensures { result ≡ ((b.now.kind == a.now.kind) && bytes_eq a.now.value b.now.value) }
+{
+    b.raw_kind() == a.raw_kind() && a.value() == b.value()
+}
+
+/// The type number of a value. Asks for one whose payload the family does not write itself.
+pub fn row_kind<F: RowFamily>(value: &F) -> u16
+    requires { F.is_custom value.now ≡ false }
+    ensures { result ≡ (F.canonical value.now).kind }
+{
+    match value.to_part() {
+        Part::Typed(kind, _, _) => kind,
+        Part::Kept(nla) => nla.kind(),
+        Part::Custom => unreachable!(),
+    }
+}
+
+/// The length of a value's payload where it fits, and else `None`. Asks the same.
+pub fn row_fit_len<F: RowFamily>(value: &F) -> Option<usize>
+    requires { F.is_custom value.now ≡ false }
+    ensures { SomeIff result (Fits (F.canonical value.now)) (length (F.canonical value.now).value) }
+{
+    match value.to_part() {
+        Part::Typed(_, shape, datum) => datum_len(shape, &datum),
+        Part::Kept(nla) => nla.fit_len(),
+        Part::Custom => unreachable!(),
+    }
+}
+
+/// The length of a value's payload. Asks the same, and that the value fits.
+pub fn row_value_len<F: RowFamily>(value: &F) -> usize
+    requires custom { F.is_custom value.now ≡ false }
+    requires fits { Fits (F.canonical value.now) }
+    ensures { result ≡ length (F.canonical value.now).value }
+{
+    match row_fit_len(value) {
+        Some(len) => len,
+        None => unreachable!(),
+    }
+}
+
+/// Writes a value's payload. Asks the same, and for a buffer of exactly its length.
+pub fn row_emit_value<F: RowFamily>(value: &F, buffer: &mut [u8])
+    requires custom { F.is_custom value.now ≡ false }
+    requires fits { Fits (F.canonical value.now) }
+    requires exact { length buffer.old ≡ length (F.canonical value.now).value }
+    ensures { buffer.new ≡ (F.canonical value.now).value }
+{
+    match value.to_part() {
+        Part::Typed(_, shape, datum) => write_datum(shape, &datum, buffer),
+        Part::Kept(nla) => nla.emit_value(buffer),
+        Part::Custom => unreachable!(),
+    }
+}
