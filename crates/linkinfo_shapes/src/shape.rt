@@ -27,9 +27,9 @@ pub enum Shape {
     Be64,
     /// Four bytes, a little-endian two's complement number (`nla_get_s32`).
     I32,
-    /// One byte, true where it is not zero, written as 1 or 0.
+    /// One byte, true where it is not zero, written as 1 or 0 (`IFLA_VXLAN_LEARNING` and its like).
     Truth,
-    /// One byte, true where it is 1, written as 1 or 0.
+    /// One byte, true where it is 1, written as 1 or 0 (`IFLA_GRE_PMTUDISC`).
     TruthOne,
     /// A presence flag: the attribute alone tells, whatever its payload, and it is written empty (`NLA_FLAG`, `nla_put_flag`).
     Mark,
