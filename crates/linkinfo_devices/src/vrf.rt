@@ -1,7 +1,7 @@
 //! Virtual routing and forwarding: `IFLA_VRF_UNSPEC` and on, and the same of its ports, include/uapi/linux/if_link.h.
 
 ghost use Rattle.linkinfo_devices.specs.declared.vrf.InfoVrf.TheVariants.{Other};
-ghost use Rattle.linkinfo_devices.specs.Vrf.{vrf_attribute, vrf_keeps, vrf_rows, vrf_table};
+ghost use Rattle.linkinfo_devices.specs.Vrf.{vrf_attribute, vrf_keeps, vrf_rows};
 ghost use Rattle.linkinfo_table.specs.FamilyRows.{row_of, table_row};
 ghost use Rattle.linkinfo_table.specs.Rows.{meaning_in, memory_in};
 ghost use Rattle.linkinfo_table.specs.FamilyRowLaws.{table_flat, table_owes};
@@ -46,6 +46,7 @@ impl RowFamily for InfoVrf {
 
     ghost keeps_other = { λ _. refl };
 
+    #[tactic(auto, using(crate::specs::Vrf::vrf_lookup))]
     fn shape(_ctx: (), kind: u16) -> Lookup {
         table_lookup(Family::Vrf, kind)
     }

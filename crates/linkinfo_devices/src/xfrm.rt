@@ -1,7 +1,7 @@
 //! Xfrm interfaces: `IFLA_XFRM_UNSPEC` and on, include/uapi/linux/if_link.h.
 
 ghost use Rattle.linkinfo_devices.specs.declared.xfrm.InfoXfrm.TheVariants.{Other};
-ghost use Rattle.linkinfo_devices.specs.Xfrm.{xfrm_attribute, xfrm_keeps, xfrm_rows, xfrm_table};
+ghost use Rattle.linkinfo_devices.specs.Xfrm.{xfrm_attribute, xfrm_keeps, xfrm_rows};
 ghost use Rattle.linkinfo_table.specs.FamilyRows.{row_of, table_row};
 ghost use Rattle.linkinfo_table.specs.Rows.{meaning_in, memory_in};
 ghost use Rattle.linkinfo_table.specs.FamilyRowLaws.{table_flat, table_owes};
@@ -46,6 +46,7 @@ impl RowFamily for InfoXfrm {
 
     ghost keeps_other = { λ _. refl };
 
+    #[tactic(auto, using(crate::specs::Xfrm::xfrm_lookup))]
     fn shape(_ctx: (), kind: u16) -> Lookup {
         table_lookup(Family::Xfrm, kind)
     }
