@@ -227,6 +227,10 @@ Suits Raw value = IsBytesValue value
 Suits SelfList value = ⊥
 Suits Peer value = ⊥
 
+-- `x` is the shape's datum in `d`, where `d` suits the shape, and else the value `other`
+abbrev pub IsDatumOr : (shape : Shape) → Carrier shape → Datum → Carrier shape → Type 0
+IsDatumOr shape other d x = (Suits shape (value_of d) → x ≡ unwrap shape (value_of d)) × ((Suits shape (value_of d) → ⊥) → x ≡ other)
+
 -- what a payload means, as a value
 abbrev pub wrapped : (shape : Shape) → Result (Carrier shape) Cause → Result Value Cause
 wrapped shape (Ok x) = Ok (wrap shape x)

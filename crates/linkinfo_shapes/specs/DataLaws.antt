@@ -1,5 +1,5 @@
 -- What the words on data say of what shapes mean.
-use Rattle.std.proofs.Common.{◌≡◌, ℕ, ◌+◌, Bool, List, [], ◌∷◌, ◌++◌, length, refl, sym, ap, subst, ◌∙◌, arith, Option, Some, None, Result, Ok, Err, length-append}
+use Rattle.std.proofs.Common.{◌≡◌, ℕ, List, [], ◌∷◌, length, refl, sym, ap, ◌∙◌, Option, Some, None, Result, Ok, Err, length-append}
 use Rattle.nla_frame.specs.declared.error.Cause.{Cause}
 use Rattle.std.specs.declared.net.ip_addr.IpAddr.TheVariants as ip
 use Rattle.linkinfo_shapes.specs.Shapes.{IsPlain, Carrier, means, canon, Holds, verdict}

@@ -1,5 +1,5 @@
 -- What holds of every shape: what is read is a datum, what is written is read again, alike payloads are those of one datum.
-use Rattle.std.proofs.Common.{◌≡◌, ◌≢◌, ℕ, zero, suc, ◌+◌, ◌-◌, ◌*◌, ◌/◌, ◌%◌, ◌^◌, ◌<◌, ◌↔◌, ◌⊎◌, inl, inr, ℤ, Bool, true, false, not, cond, eqb, List, [], ◌∷◌, ◌++◌, length, take, drop, refl, sym, ap, subst, ◌∙◌, arith, Option, Some, None, Result, Ok, Err}
+use Rattle.std.proofs.Common.{◌≡◌, ◌≢◌, ℕ, zero, suc, ◌+◌, ◌-◌, ◌*◌, ◌/◌, ◌%◌, ◌^◌, ◌<◌, ◌↔◌, ◌⊎◌, inl, inr, Bool, true, false, not, cond, eqb, List, [], ◌∷◌, ◌++◌, length, take, drop, refl, sym, ap, subst, ◌∙◌, arith, Option, Some, None, Result, Ok, Err}
 use Rattle.std.specs.Prelude.{slice_index, IsOk}
 use Rattle.std.specs.Bool.{beq}
 use Rattle.std.specs.Int.{w16, w32, w64, cast_signed, cast_unsigned, from_be_bytes, from_le_bytes, to_be_bytes, to_le_bytes}
@@ -20,7 +20,7 @@ use Rattle.nla_frame.specs.Payload.{of_length, ip_of, ipv4_of, ipv6_of}
 use Rattle.nla_frame.proofs.ByteLists.{IsBytes-drop, IsBytes-take, IsBytes-nil, IsBytes-cons, IsBytes-append}
 use Rattle.nla_frame.specs.declared.error.Cause.{Cause}
 use Rattle.nla_frame.specs.declared.error.Cause.TheVariants as cause
-use Rattle.linkinfo_shapes.specs.Shapes.{Carrier, stripped, text_of, of_version, means, IsAccepted, truth_number, canon, IsIpv4, IsIpv6, IsIp, Holds, is_zero, payload_alike, needs_memory}
+use Rattle.linkinfo_shapes.specs.Shapes.{Carrier, stripped, text_of, of_version, means, verdict, IsAccepted, truth_number, canon, IsIpv4, IsIpv6, IsIp, Holds, is_zero, payload_alike, needs_memory}
 use Rattle.linkinfo_shapes.specs.declared.shape.Shape.{Shape}
 use Rattle.linkinfo_shapes.specs.declared.shape.Shape.TheVariants.{U8, Le16, Le32, Le64, Be16, Be32, Be64, I32, Truth, TruthOne, Mark, Name, V4, V6, GeneveV4, GeneveV6, Ip, Mac, BePair, FlagPair, EmptyOrByte, Scrub, Raw, SelfList, Peer}
 
@@ -50,9 +50,9 @@ record Exactly {X : Type 0} (size : ℕ) (payload : List ℕ) (value x : X) : Ty
 
 of_length_ok : {X : Type 0} (size : ℕ) (p : List ℕ) (v x : X) → of_length size p v ≡ Ok x → Exactly size p v x
 of_length_ok size p v x e = elim (cases_Bool (eqb (length p) size)) [
-    | inl h ↦ record { long = eqb-true _ _ h; is = ok_same v x (sym (cond-true (eqb (length p) size) _ _ h) ∙ e) }
-    | inr h ↦ absurd (err_ok _ _ (sym (cond-false (eqb (length p) size) _ _ h) ∙ e))
-  ]
+  | inl h ↦ record { long = eqb-true _ _ h; is = ok_same v x (sym (cond-true (eqb (length p) size) _ _ h) ∙ e) }
+  | inr h ↦ absurd (err_ok _ _ (sym (cond-false (eqb (length p) size) _ _ h) ∙ e))
+]
 
 of_length_made : {X : Type 0} (size : ℕ) (p : List ℕ) (v x : X) → length p ≡ size → v ≡ x → of_length size p v ≡ Ok x
 of_length_made size p v x e h = cond-true (eqb (length p) size) _ _ (eq-eqb _ _ e) ∙ ap done h
@@ -62,9 +62,9 @@ length_memory e = cc
 
 of_length_memory : {X : Type 0} (size : ℕ) (p : List ℕ) (v : X) → of_length size p v ≢ Err cause.Memory
 of_length_memory size p v e = elim (cases_Bool (eqb (length p) size)) [
-    | inl h ↦ err_ok _ _ (sym e ∙ cond-true (eqb (length p) size) _ _ h)
-    | inr h ↦ length_memory (err_same _ _ (sym (cond-false (eqb (length p) size) _ _ h) ∙ e))
-  ]
+  | inl h ↦ err_ok _ _ (sym e ∙ cond-true (eqb (length p) size) _ _ h)
+  | inr h ↦ length_memory (err_same _ _ (sym (cond-false (eqb (length p) size) _ _ h) ∙ e))
+]
 
 -- ---- payloads of two lengths
 
@@ -73,21 +73,21 @@ of_either size other p v w = cond (eqb (length p) size) (Ok v) (of_length other 
 
 of_either_ok : {X : Type 0} (size other : ℕ) (p : List ℕ) (v w x : X) → of_either size other p v w ≡ Ok x → Exactly size p v x ⊎ Exactly other p w x
 of_either_ok size other p v w x e = elim (cases_Bool (eqb (length p) size)) [
-    | inl h ↦ inl (record { long = eqb-true _ _ h; is = ok_same v x (sym (cond-true (eqb (length p) size) _ _ h) ∙ e) })
-    | inr h ↦ inr (of_length_ok other p w x (sym (cond-false (eqb (length p) size) _ _ h) ∙ e))
-  ]
+  | inl h ↦ inl (record { long = eqb-true _ _ h; is = ok_same v x (sym (cond-true (eqb (length p) size) _ _ h) ∙ e) })
+  | inr h ↦ inr (of_length_ok other p w x (sym (cond-false (eqb (length p) size) _ _ h) ∙ e))
+]
 
 of_either_memory : {X : Type 0} (size other : ℕ) (p : List ℕ) (v w : X) → of_either size other p v w ≢ Err cause.Memory
 of_either_memory size other p v w e = elim (cases_Bool (eqb (length p) size)) [
-    | inl h ↦ err_ok _ _ (sym e ∙ cond-true (eqb (length p) size) _ _ h)
-    | inr h ↦ of_length_memory other p w (sym (cond-false (eqb (length p) size) _ _ h) ∙ e)
-  ]
+  | inl h ↦ err_ok _ _ (sym e ∙ cond-true (eqb (length p) size) _ _ h)
+  | inr h ↦ of_length_memory other p w (sym (cond-false (eqb (length p) size) _ _ h) ∙ e)
+]
 
 of_version_ok : {X : Type 0} (size other : ℕ) (p : List ℕ) (v x : X) → of_version size other p v ≡ Ok x → Exactly size p v x
 of_version_ok size other p v x e = elim (cases_Bool (eqb (length p) other)) [
-    | inl h ↦ absurd (err_ok _ _ (sym (cond-true (eqb (length p) other) _ _ h) ∙ e))
-    | inr h ↦ of_length_ok size p v x (sym (cond-false (eqb (length p) other) _ _ h) ∙ e)
-  ]
+  | inl h ↦ absurd (err_ok _ _ (sym (cond-true (eqb (length p) other) _ _ h) ∙ e))
+  | inr h ↦ of_length_ok size p v x (sym (cond-false (eqb (length p) other) _ _ h) ∙ e)
+]
 
 of_version_made : {X : Type 0} (size other : ℕ) (p : List ℕ) (v x : X) → length p ≡ size → size ≢ other → v ≡ x → of_version size other p v ≡ Ok x
 of_version_made size other p v x e n h = cond-false (eqb (length p) other) _ _ (ne_eqb _ _ (λ k. n (sym e ∙ k))) ∙ of_length_made size p v x e h
@@ -97,23 +97,23 @@ kind_memory e = cc
 
 of_version_memory : {X : Type 0} (size other : ℕ) (p : List ℕ) (v : X) → of_version size other p v ≢ Err cause.Memory
 of_version_memory size other p v e = elim (cases_Bool (eqb (length p) other)) [
-    | inl h ↦ kind_memory (err_same _ _ (sym (cond-true (eqb (length p) other) _ _ h) ∙ e))
-    | inr h ↦ of_length_memory size p v (sym (cond-false (eqb (length p) other) _ _ h) ∙ e)
-  ]
+  | inl h ↦ kind_memory (err_same _ _ (sym (cond-true (eqb (length p) other) _ _ h) ∙ e))
+  | inr h ↦ of_length_memory size p v (sym (cond-false (eqb (length p) other) _ _ h) ∙ e)
+]
 
 -- ---- texts
 
 text_of_ok : (s x : List ℕ) → text_of s ≡ Ok x → (s ≡ x) × (is_utf8 x ≡ true)
 text_of_ok s x e = elim (cases_Bool (is_utf8 s)) [
-    | inl h ↦ let same : s ≡ x = ok_same s x (sym (cond-true (is_utf8 s) _ _ h) ∙ e) in (same, ap is_utf8 (sym same) ∙ h)
-    | inr h ↦ absurd (err_ok _ _ (sym (cond-false (is_utf8 s) _ _ h) ∙ e))
-  ]
+  | inl h ↦ let same : s ≡ x = ok_same s x (sym (cond-true (is_utf8 s) _ _ h) ∙ e) in (same, ap is_utf8 (sym same) ∙ h)
+  | inr h ↦ absurd (err_ok _ _ (sym (cond-false (is_utf8 s) _ _ h) ∙ e))
+]
 
 text_of_err : (s : List ℕ) (c : Cause) → text_of s ≡ Err c → (is_utf8 s ≡ false) × (cause.Utf8 ≡ c)
 text_of_err s c e = elim (cases_Bool (is_utf8 s)) [
-    | inl h ↦ absurd (err_ok _ _ (sym e ∙ cond-true (is_utf8 s) _ _ h))
-    | inr h ↦ (h, err_same {X = List ℕ} _ _ (sym (cond-false (is_utf8 s) _ _ h) ∙ e))
-  ]
+  | inl h ↦ absurd (err_ok _ _ (sym e ∙ cond-true (is_utf8 s) _ _ h))
+  | inr h ↦ (h, err_same {X = List ℕ} _ _ (sym (cond-false (is_utf8 s) _ _ h) ∙ e))
+]
 
 utf8_memory : cause.Utf8 ≡ cause.Memory → ⊥
 utf8_memory e = cc
@@ -129,9 +129,9 @@ stripped-closed s =
 IsBytes-stripped : (p : List ℕ) → IsBytes p → IsBytes (stripped p)
 unfolding stripped
 IsBytes-stripped p h = elim (cases_Bool (eqb (slice_index p (length p - 1)) 0)) [
-    | inl t ↦ subst IsBytes (sym (cond-true (eqb (slice_index p (length p - 1)) 0) _ _ t)) (IsBytes-take (length p - 1) p h)
-    | inr f ↦ subst IsBytes (sym (cond-false (eqb (slice_index p (length p - 1)) 0) _ _ f)) h
-  ]
+  | inl t ↦ subst IsBytes (sym (cond-true (eqb (slice_index p (length p - 1)) 0) _ _ t)) (IsBytes-take (length p - 1) p h)
+  | inr f ↦ subst IsBytes (sym (cond-false (eqb (slice_index p (length p - 1)) 0) _ _ f)) h
+]
 
 -- ---- addresses
 
@@ -276,9 +276,9 @@ byte_back p x (inr w) = one_byte p w.long ∙ ap (canon EmptyOrByte) w.is
 
 scrub_test : (p : List ℕ) → IsBytes p → length p ≡ 4 → eqb (from_le_bytes w32 p) 0 ≡ is_zero p
 scrub_test p h size = elim (cases_Bool (is_zero p)) [
-    | inl t ↦ eq-eqb _ _ (ap (from_le_bytes w32) ((bytes_eq-Decides p (0 ∷ 0 ∷ 0 ∷ 0 ∷ [])).0 t)) ∙ sym t
-    | inr f ↦ ne_eqb _ _ (λ z. false≢true (sym f ∙ (bytes_eq-Decides p (0 ∷ 0 ∷ 0 ∷ 0 ∷ [])).1 (sym (le_bytes_4 p 0 size h (sym z))))) ∙ sym f
-  ]
+  | inl t ↦ eq-eqb _ _ (ap (from_le_bytes w32) ((bytes_eq-Decides p (0 ∷ 0 ∷ 0 ∷ 0 ∷ [])).0 t)) ∙ sym t
+  | inr f ↦ ne_eqb _ _ (λ z. false≢true (sym f ∙ (bytes_eq-Decides p (0 ∷ 0 ∷ 0 ∷ 0 ∷ [])).1 (sym (le_bytes_4 p 0 size h (sym z))))) ∙ sym f
+]
 
 -- ---- what is read is a datum
 
@@ -460,9 +460,10 @@ canon-means Name p x h e s = absurd (false≢true s)
 canon-means Scrub p x h e s = absurd (false≢true s)
 
 exact_alike : (shape : Shape) (p q : List ℕ) (x y : Carrier shape) → IsBytes p → IsBytes q → means shape p ≡ Ok x → means shape q ≡ Ok y → is_exact shape ≡ true → (bytes_eq p q ≡ true) ↔ (x ≡ y)
-exact_alike shape p q x y h k e f s =
-    (λ t. ok_same x y (sym e ∙ ap (means shape) ((bytes_eq-Decides p q).0 t) ∙ f),
-     λ t. (bytes_eq-Decides p q).1 (canon-means shape p x h e s ∙ ap (canon shape) t ∙ sym (canon-means shape q y k f s)))
+exact_alike shape p q x y h k e f s = (
+  λ t. ok_same x y (sym e ∙ ap (means shape) ((bytes_eq-Decides p q).0 t) ∙ f),
+  λ t. (bytes_eq-Decides p q).1 (canon-means shape p x h e s ∙ ap (canon shape) t ∙ sym (canon-means shape q y k f s)),
+)
 
 beq_is : (a b : Bool) → (beq a b ≡ true) ↔ (a ≡ b)
 beq_is true true = (λ e. refl, λ e. refl)
@@ -529,6 +530,15 @@ datum_of shape p h = by (means shape p) refl h
 pub accepted : (shape : Shape) (p : List ℕ) (x : Carrier shape) → means shape p ≡ Ok x → IsAccepted shape p
 unfolding IsAccepted
 accepted shape p x e = subst IsOk (sym e) refl
+
+-- a test that answers Ok was given an accepted payload
+pub checked : (shape : Shape) (p : List ℕ) → Ok tt ≡ verdict (means shape p) → IsAccepted shape p
+unfolding IsAccepted
+checked shape p e = by (means shape p) refl
+  where
+    by : (m : Result (Carrier shape) Cause) → means shape p ≡ m → IsOk (means shape p)
+    by (Ok x) f = subst IsOk (sym f) refl
+    by (Err c) f = absurd (err_ok c tt (sym (e ∙ ap verdict f)))
 
 pub accepted_alike : (shape : Shape) (p q : List ℕ) → IsBytes p → IsBytes q → IsAccepted shape p → IsAccepted shape q → (payload_alike shape p q ≡ true) ↔ (means shape p ≡ means shape q)
 accepted_alike shape p q h k a b =

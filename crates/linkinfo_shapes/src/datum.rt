@@ -1,8 +1,8 @@
 //! What payloads hold.
 #![tactic(auto, unfolding(crate::specs::Data::Suits))]
 
-ghost use Rattle.std.specs.Prelude.{◌≡◌};
-ghost use Rattle.linkinfo_shapes.specs.Data.{Suits, unwrap, value_of};
+ghost use Rattle.std.specs.Prelude.{[], false, pos, replicate};
+ghost use Rattle.linkinfo_shapes.specs.Data.{IsDatumOr};
 
 use crate::shape::Shape;
 use std::net::{IpAddr, Ipv4Addr, Ipv6Addr};
@@ -35,7 +35,7 @@ pub enum Datum<'a> {
 impl<'a> Datum<'a> {
     /// The number of a datum that suits `Shape::U8`, and else 0.
     pub fn u8_or_zero(self) -> u8
-        ensures { Suits Shape.U8 (value_of self.entry) → result ≡ unwrap Shape.U8 (value_of self.entry) }
+        ensures { IsDatumOr Shape.U8 0 self.entry result }
     {
         match self {
             Datum::Number(n) => u8::try_from(n).unwrap_or(0),
@@ -45,8 +45,8 @@ impl<'a> Datum<'a> {
 
     /// The number of a datum that suits `Shape::Le16` or `Shape::Be16`, and else 0.
     pub fn u16_or_zero(self) -> u16
-        ensures le16 { Suits Shape.Le16 (value_of self.entry) → result ≡ unwrap Shape.Le16 (value_of self.entry) }
-        ensures be16 { Suits Shape.Be16 (value_of self.entry) → result ≡ unwrap Shape.Be16 (value_of self.entry) }
+        ensures le16 { IsDatumOr Shape.Le16 0 self.entry result }
+        ensures be16 { IsDatumOr Shape.Be16 0 self.entry result }
     {
         match self {
             Datum::Number(n) => u16::try_from(n).unwrap_or(0),
@@ -56,8 +56,8 @@ impl<'a> Datum<'a> {
 
     /// The number of a datum that suits `Shape::Le32` or `Shape::Be32`, and else 0.
     pub fn u32_or_zero(self) -> u32
-        ensures le32 { Suits Shape.Le32 (value_of self.entry) → result ≡ unwrap Shape.Le32 (value_of self.entry) }
-        ensures be32 { Suits Shape.Be32 (value_of self.entry) → result ≡ unwrap Shape.Be32 (value_of self.entry) }
+        ensures le32 { IsDatumOr Shape.Le32 0 self.entry result }
+        ensures be32 { IsDatumOr Shape.Be32 0 self.entry result }
     {
         match self {
             Datum::Number(n) => u32::try_from(n).unwrap_or(0),
@@ -67,8 +67,8 @@ impl<'a> Datum<'a> {
 
     /// The number of a datum that suits `Shape::Le64` or `Shape::Be64`, and else 0.
     pub fn u64_or_zero(self) -> u64
-        ensures le64 { Suits Shape.Le64 (value_of self.entry) → result ≡ unwrap Shape.Le64 (value_of self.entry) }
-        ensures be64 { Suits Shape.Be64 (value_of self.entry) → result ≡ unwrap Shape.Be64 (value_of self.entry) }
+        ensures le64 { IsDatumOr Shape.Le64 0 self.entry result }
+        ensures be64 { IsDatumOr Shape.Be64 0 self.entry result }
     {
         match self {
             Datum::Number(n) => n,
@@ -78,7 +78,7 @@ impl<'a> Datum<'a> {
 
     /// The number of a datum that suits `Shape::I32`, and else 0.
     pub fn i32_or_zero(self) -> i32
-        ensures { Suits Shape.I32 (value_of self.entry) → result ≡ unwrap Shape.I32 (value_of self.entry) }
+        ensures { IsDatumOr Shape.I32 (pos 0) self.entry result }
     {
         match self {
             Datum::Signed(n) => n,
@@ -88,9 +88,9 @@ impl<'a> Datum<'a> {
 
     /// What a datum says that suits `Shape::Truth`, `Shape::TruthOne` or `Shape::Scrub`, and else false.
     pub fn bool_or_false(self) -> bool
-        ensures truth { Suits Shape.Truth (value_of self.entry) → result ≡ unwrap Shape.Truth (value_of self.entry) }
-        ensures truth_one { Suits Shape.TruthOne (value_of self.entry) → result ≡ unwrap Shape.TruthOne (value_of self.entry) }
-        ensures scrub { Suits Shape.Scrub (value_of self.entry) → result ≡ unwrap Shape.Scrub (value_of self.entry) }
+        ensures truth { IsDatumOr Shape.Truth false self.entry result }
+        ensures truth_one { IsDatumOr Shape.TruthOne false self.entry result }
+        ensures scrub { IsDatumOr Shape.Scrub false self.entry result }
     {
         match self {
             Datum::Truth(b) => b,
@@ -100,7 +100,7 @@ impl<'a> Datum<'a> {
 
     /// The text of a datum that suits `Shape::Name`, and else the empty text.
     pub fn text_or_empty(self) -> &'a str
-        ensures { Suits Shape.Name (value_of self.entry) → result.now ≡ unwrap Shape.Name (value_of self.entry) }
+        ensures { IsDatumOr Shape.Name [] self.entry result.now }
     {
         match self {
             Datum::Text(text) => text,
@@ -110,8 +110,8 @@ impl<'a> Datum<'a> {
 
     /// The address of a datum that suits `Shape::V4` or `Shape::GeneveV4`, and else 0.0.0.0.
     pub fn ipv4_or_unspecified(self) -> Ipv4Addr
-        ensures v4 { Suits Shape.V4 (value_of self.entry) → result ≡ unwrap Shape.V4 (value_of self.entry) }
-        ensures geneve_v4 { Suits Shape.GeneveV4 (value_of self.entry) → result ≡ unwrap Shape.GeneveV4 (value_of self.entry) }
+        ensures v4 { IsDatumOr Shape.V4 Ipv4Addr.UNSPECIFIED self.entry result }
+        ensures geneve_v4 { IsDatumOr Shape.GeneveV4 Ipv4Addr.UNSPECIFIED self.entry result }
     {
         match self {
             Datum::V4(address) => address,
@@ -121,8 +121,8 @@ impl<'a> Datum<'a> {
 
     /// The address of a datum that suits `Shape::V6` or `Shape::GeneveV6`, and else `::`.
     pub fn ipv6_or_unspecified(self) -> Ipv6Addr
-        ensures v6 { Suits Shape.V6 (value_of self.entry) → result ≡ unwrap Shape.V6 (value_of self.entry) }
-        ensures geneve_v6 { Suits Shape.GeneveV6 (value_of self.entry) → result ≡ unwrap Shape.GeneveV6 (value_of self.entry) }
+        ensures v6 { IsDatumOr Shape.V6 Ipv6Addr.UNSPECIFIED self.entry result }
+        ensures geneve_v6 { IsDatumOr Shape.GeneveV6 Ipv6Addr.UNSPECIFIED self.entry result }
     {
         match self {
             Datum::V6(address) => address,
@@ -132,7 +132,7 @@ impl<'a> Datum<'a> {
 
     /// The address of a datum that suits `Shape::Ip`, and else `::`.
     pub fn ip_or_unspecified(self) -> IpAddr
-        ensures { Suits Shape.Ip (value_of self.entry) → result ≡ unwrap Shape.Ip (value_of self.entry) }
+        ensures { IsDatumOr Shape.Ip (IpAddr.V6 Ipv6Addr.UNSPECIFIED) self.entry result }
     {
         match self {
             Datum::V4(address) => IpAddr::V4(address),
@@ -143,7 +143,7 @@ impl<'a> Datum<'a> {
 
     /// The hardware address of a datum that suits `Shape::Mac`, and else six zeros.
     pub fn mac_or_zeros(self) -> [u8; 6]
-        ensures { Suits Shape.Mac (value_of self.entry) → result ≡ unwrap Shape.Mac (value_of self.entry) }
+        ensures { IsDatumOr Shape.Mac (replicate 6 0) self.entry result }
     {
         match self {
             Datum::Mac(octets) => octets,
@@ -153,7 +153,7 @@ impl<'a> Datum<'a> {
 
     /// The two numbers of a datum that suits `Shape::BePair`, and else two zeros.
     pub fn u16_pair_or_zeros(self) -> (u16, u16)
-        ensures { Suits Shape.BePair (value_of self.entry) → result ≡ unwrap Shape.BePair (value_of self.entry) }
+        ensures { IsDatumOr Shape.BePair (0, 0) self.entry result }
     {
         match self {
             Datum::Pair(a, b) if a < 65536 && b < 65536 => (a as u16, b as u16),
@@ -163,7 +163,7 @@ impl<'a> Datum<'a> {
 
     /// Flags and mask of a datum that suits `Shape::FlagPair`, and else two zeros.
     pub fn u32_pair_or_zeros(self) -> (u32, u32)
-        ensures { Suits Shape.FlagPair (value_of self.entry) → result ≡ unwrap Shape.FlagPair (value_of self.entry) }
+        ensures { IsDatumOr Shape.FlagPair (0, 0) self.entry result }
     {
         match self {
             Datum::Pair(a, b) => (a, b),
@@ -173,7 +173,7 @@ impl<'a> Datum<'a> {
 
     /// The byte of a datum that suits `Shape::EmptyOrByte`, where there is one, and else `None`.
     pub fn byte_or_none(self) -> Option<u8>
-        ensures { Suits Shape.EmptyOrByte (value_of self.entry) → result ≡ unwrap Shape.EmptyOrByte (value_of self.entry) }
+        ensures { IsDatumOr Shape.EmptyOrByte None self.entry result }
     {
         match self {
             Datum::Number(n) if n < 256 => Some(n as u8),
@@ -183,7 +183,7 @@ impl<'a> Datum<'a> {
 
     /// The bytes of a datum that suits `Shape::Raw`, and else no bytes.
     pub fn bytes_or_empty(self) -> &'a [u8]
-        ensures { Suits Shape.Raw (value_of self.entry) → result.now ≡ unwrap Shape.Raw (value_of self.entry) }
+        ensures { IsDatumOr Shape.Raw [] self.entry result.now }
     {
         match self {
             Datum::Bytes(bytes) => bytes,

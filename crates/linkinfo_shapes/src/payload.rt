@@ -104,7 +104,7 @@ fn is_zero(payload: &[u8]) -> bool
 /// count with its header. Asks for a datum that suits the shape.
 pub fn datum_len(shape: Shape, datum: &Datum<'_>) -> Option<usize>
     requires { Suits shape (value_of datum.now) }
-    ensures { SomeIff result (length (written shape (value_of datum.now)) ≤ 65531) (length (written shape (value_of datum.now))) }
+    ensures { let len = length (written shape (value_of datum.now)) in SomeIff result (len ≤ 65531) len }
 {
     let len = written_len(shape, datum);
     (len <= PAYLOAD_LEN_MAX).then_some(len)

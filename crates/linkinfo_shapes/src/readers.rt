@@ -190,4 +190,3 @@ pub fn read_raw(payload: &[u8]) -> Result<Datum<'_>, Cause>
 {
     Ok(Datum::Bytes(payload))
 }
-

@@ -1,5 +1,8 @@
 //! How payloads are laid out.
 
+ghost use Rattle.std.specs.Prelude.{◌↔◌, IsTrue};
+ghost use Rattle.linkinfo_shapes.specs.Shapes.{IsPlain};
+
 use nla_frame::ExactEq;
 
 /// The layout of an attribute's payload: which payloads are accepted, and what each holds.
@@ -61,6 +64,15 @@ pub enum Shape {
     /// The other end of a pair of links, which the family reads by its peer type (`VETH_INFO_PEER`, `VXCAN_INFO_PEER`,
     /// `IFLA_NETKIT_PEER_INFO`).
     Peer,
+}
+
+impl Shape {
+    /// Whether payloads of the shape are read here: of every shape but `SelfList` and `Peer`, whose payloads the family reads itself.
+    pub fn is_plain(self) -> bool
+        ensures { IsTrue result ↔ IsPlain self }
+    {
+        !matches!(self, Shape::SelfList | Shape::Peer)
+    }
 }
 
 impl ExactEq for Shape {

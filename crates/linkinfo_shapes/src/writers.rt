@@ -88,13 +88,11 @@ pub fn write_truth_one(datum: &Datum<'_>, buffer: &mut [u8])
     buffer.copy_from_slice(&[u8::from(datum.bool_or_false())]);
 }
 
-pub fn write_mark(_datum: &Datum<'_>, buffer: &mut [u8])
+pub fn write_mark(_datum: &Datum<'_>, _buffer: &mut [u8])
     requires suits { Suits Shape.Mark (value_of _datum.now) }
-    requires exact { length buffer.old ≡ length (written Shape.Mark (value_of _datum.now)) }
-    ensures { buffer.new ≡ written Shape.Mark (value_of _datum.now) }
-{
-    buffer.copy_from_slice(&[]);
-}
+    requires exact { length _buffer.old ≡ length (written Shape.Mark (value_of _datum.now)) }
+    ensures { _buffer.new ≡ written Shape.Mark (value_of _datum.now) }
+{}
 
 pub fn write_name(datum: &Datum<'_>, buffer: &mut [u8])
     requires suits { Suits Shape.Name (value_of datum.now) }
@@ -203,4 +201,3 @@ pub fn write_raw(datum: &Datum<'_>, buffer: &mut [u8])
 {
     buffer.copy_from_slice(datum.bytes_or_empty());
 }
-
