@@ -8,8 +8,10 @@ ghost use Rattle.linkinfo_table.specs.FamilyRowLaws.{table_flat, table_owes};
 ghost use Rattle.nla_frame.specs.declared.error.Family.TheVariants as family;
 ghost use Rattle.std.specs.Prelude.{false, refl};
 
-use linkinfo_table::{Datum, FlatFamily, Lookup, Part, RowFamily, Shape, table_lookup};
-use linkinfo_table::{row_emit_value, row_fit_len, row_kind, row_read, row_value_len};
+use linkinfo_table::{
+    Datum, FlatFamily, Lookup, Part, RowFamily, Shape, row_emit_value, row_fit_len, row_kind,
+    row_read, row_value_len, table_lookup,
+};
 use nla_frame::{DecodeError, DefaultNla, ExactEq, Family, Nla, NlaBuffer, Parseable};
 use std::alloc::{AllocError, Global};
 
@@ -71,7 +73,11 @@ impl RowFamily for InfoVrf {
     fn to_part(&self) -> Part<'_> {
         match self {
             InfoVrf::TableId(table) => {
-                Part::Typed(IFLA_VRF_TABLE, Shape::Le32, Datum::Number(u64::from(*table)))
+                Part::Typed(
+                    IFLA_VRF_TABLE,
+                    Shape::Le32,
+                    Datum::Number(u64::from(*table)),
+                )
             }
             InfoVrf::Other(nla) => Part::Kept(nla),
         }

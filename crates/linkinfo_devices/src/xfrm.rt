@@ -8,12 +8,15 @@ ghost use Rattle.linkinfo_table.specs.FamilyRowLaws.{table_flat, table_owes};
 ghost use Rattle.nla_frame.specs.declared.error.Family.TheVariants as family;
 ghost use Rattle.std.specs.Prelude.{false, refl};
 
-use linkinfo_table::{Datum, FlatFamily, Lookup, Part, RowFamily, Shape, table_lookup};
-use linkinfo_table::{row_emit_value, row_fit_len, row_kind, row_read, row_value_len};
+use linkinfo_table::{
+    Datum, FlatFamily, Lookup, Part, RowFamily, Shape, row_emit_value, row_fit_len, row_kind,
+    row_read, row_value_len, table_lookup,
+};
 use nla_frame::{DecodeError, DefaultNla, ExactEq, Family, Nla, NlaBuffer, Parseable};
 use std::alloc::{AllocError, Global};
 
 const IFLA_XFRM_LINK: u16 = 1;
+
 const IFLA_XFRM_IF_ID: u16 = 2;
 
 /// An attribute of an xfrm interface.
@@ -72,7 +75,11 @@ impl RowFamily for InfoXfrm {
     fn to_part(&self) -> Part<'_> {
         match self {
             InfoXfrm::Link(index) => {
-                Part::Typed(IFLA_XFRM_LINK, Shape::Le32, Datum::Number(u64::from(*index)))
+                Part::Typed(
+                    IFLA_XFRM_LINK,
+                    Shape::Le32,
+                    Datum::Number(u64::from(*index)),
+                )
             }
             InfoXfrm::IfId(id) => {
                 Part::Typed(IFLA_XFRM_IF_ID, Shape::Le32, Datum::Number(u64::from(*id)))

@@ -20,4 +20,7 @@ pub use lookup::Lookup;
 pub use part::Part;
 pub use peer::{LinkPeer, PeerFault};
 pub use row_family::{FlatFamily, RowFamily};
-pub use rows::{row_check, row_emit_value, row_fit_len, row_kind, row_read, row_same, row_value_len, table_lookup};
+pub use rows::{
+    row_check, row_emit_value, row_fit_len, row_kind, row_read, row_same, row_value_len,
+    table_lookup,
+};
