@@ -11,6 +11,8 @@ mod part;
 mod peer;
 mod row_family;
 mod rows;
+#[cfg(test)]
+mod tests;
 
 pub use family::LinkFamily;
 pub use first::{first_check, first_read, first_same};
