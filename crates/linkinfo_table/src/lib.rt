@@ -16,7 +16,9 @@ mod tests;
 
 pub use family::LinkFamily;
 pub use first::{first_check, first_read, first_same};
-pub use linkinfo_shapes::{Datum, Shape, table_shape};
+pub use linkinfo_shapes::{
+    Datum, Shape, datum_len, read_datum, shape_check, shape_same, table_shape, write_datum,
+};
 pub use list::{list_check, list_read, list_same};
 pub use lookup::Lookup;
 pub use part::Part;
