@@ -4,8 +4,9 @@ use Rattle.std.proofs.Common.{lit<}
 use Rattle.nla_frame.specs.Attribute.{Attribute}
 use Rattle.nla_frame.specs.Kept.{attribute_of}
 use Rattle.nla_frame.specs.declared.error.Family.TheVariants as family
-use Rattle.linkinfo_table.specs.FamilyRows.{PlainRow, row, typed, Keeps, EachKeeps, without_labels}
-use Rattle.linkinfo_shapes.specs.Table.{rows_of}
+use Rattle.linkinfo_table.specs.FamilyRows.{PlainRow, row, typed, table_row, lookup_of, lookup_in, EachKeeps}
+use Rattle.linkinfo_table.specs.FamilyRowLaws.{table_lookup}
+use Rattle.linkinfo_shapes.specs.Table.{shape_of}
 use Rattle.linkinfo_shapes.specs.declared.shape.Shape.TheVariants.{Le32}
 use Rattle.linkinfo_devices.specs.declared.vrf.InfoVrf.{InfoVrf}
 use Rattle.linkinfo_devices.specs.declared.vrf.InfoVrf.TheVariants.{TableId, Other}
@@ -22,5 +23,6 @@ vrf_attribute (Other nla) = attribute_of nla
 pub vrf_keeps : EachKeeps vrf_attribute vrf_rows
 vrf_keeps = (record { low = lit< tt; plain = tt; keeps = λ n. refl }, tt)
 
-pub vrf_table : without_labels vrf_rows ≡ rows_of family.Vrf
-vrf_table = refl
+-- these are the rows of the table of all families
+pub vrf_lookup : (number : ℕ) → lookup_of (table_row vrf_rows number) ≡ lookup_in (shape_of family.Vrf number)
+vrf_lookup number = table_lookup vrf_rows number

@@ -4,8 +4,9 @@ use Rattle.std.proofs.Common.{lit<}
 use Rattle.nla_frame.specs.Attribute.{Attribute}
 use Rattle.nla_frame.specs.Kept.{attribute_of}
 use Rattle.nla_frame.specs.declared.error.Family.TheVariants as family
-use Rattle.linkinfo_table.specs.FamilyRows.{PlainRow, row, typed, Keeps, EachKeeps, without_labels}
-use Rattle.linkinfo_shapes.specs.Table.{rows_of}
+use Rattle.linkinfo_table.specs.FamilyRows.{PlainRow, row, typed, table_row, lookup_of, lookup_in, EachKeeps}
+use Rattle.linkinfo_table.specs.FamilyRowLaws.{table_lookup}
+use Rattle.linkinfo_shapes.specs.Table.{shape_of}
 use Rattle.linkinfo_shapes.specs.declared.shape.Shape.TheVariants.{Le32}
 use Rattle.linkinfo_devices.specs.declared.xfrm.InfoXfrm.{InfoXfrm}
 use Rattle.linkinfo_devices.specs.declared.xfrm.InfoXfrm.TheVariants.{Link, IfId, Other}
@@ -24,5 +25,6 @@ xfrm_attribute (Other nla) = attribute_of nla
 pub xfrm_keeps : EachKeeps xfrm_attribute xfrm_rows
 xfrm_keeps = (record { low = lit< tt; plain = tt; keeps = λ n. refl }, (record { low = lit< tt; plain = tt; keeps = λ n. refl }, tt))
 
-pub xfrm_table : without_labels xfrm_rows ≡ rows_of family.Xfrm
-xfrm_table = refl
+-- these are the rows of the table of all families
+pub xfrm_lookup : (number : ℕ) → lookup_of (table_row xfrm_rows number) ≡ lookup_in (shape_of family.Xfrm number)
+xfrm_lookup number = table_lookup xfrm_rows number

@@ -1,11 +1,14 @@
 //! Tests over worked strings of one family.
 
 use crate::{InfoVrf, InfoXfrm};
-use linkinfo_table::{LinkFamily, Lookup, Shape};
-use linkinfo_table::{first_check, first_read, first_same, laws};
-use linkinfo_table::{list_check, list_read, list_same};
-use nla_frame::{Cause, DecodeError, DefaultNla, Family, HeaderCount, Nla, NlaBuffer, Parseable};
-use nla_frame::{emit_nlas, is_equal, nlas_buffer_len, nlas_fit_len};
+use linkinfo_table::{
+    LinkFamily, Lookup, Shape, first_check, first_read, first_same, laws, list_check, list_read,
+    list_same,
+};
+use nla_frame::{
+    Cause, DecodeError, DefaultNla, Family, HeaderCount, Nla, NlaBuffer, Parseable, emit_nlas,
+    is_equal, nlas_buffer_len, nlas_fit_len,
+};
 use std::alloc::Global;
 use std::process::Abort;
 use std::test::Fail;
@@ -55,7 +58,10 @@ fn lists_are_checked(rt: HostRuntime) -> Result<(), Fail> {
     let header = error(Family::Frame, 0, Cause::Header);
     let length = error(Family::Vrf, 1, Cause::Length);
     let mut count = HeaderCount::new();
-    assert_eq!(rt; list_check::<InfoXfrm>(&[4, 0, 9, 0, 0], (), &mut count), Err(header));
+    assert_eq!(rt;
+        list_check::<InfoXfrm>(&[4, 0, 9, 0, 0], (), &mut count),
+        Err(header)
+    );
     assert_eq!(rt; count.get(), 1);
     let mut count = HeaderCount::new();
     assert_eq!(rt; list_check::<InfoXfrm>(&[], (), &mut count), Ok(()));
@@ -80,7 +86,10 @@ fn lists_are_compared(rt: HostRuntime) {
     let plain = [8, 0, 1, 0, 5, 0, 0, 0];
     assert_eq!(rt; lists_same::<InfoXfrm>(&rt, &marked, &plain), (true, 2));
     assert!(rt; !lists_same::<InfoXfrm>(&rt, &[4, 0, 3, 0x80], &[4, 0, 3, 0]).0);
-    assert_eq!(rt; lists_same::<InfoXfrm>(&rt, &[5, 0, 3, 0, 7], &[5, 0, 3, 0, 7, 1, 2, 3]), (true, 2));
+    assert_eq!(rt;
+        lists_same::<InfoXfrm>(&rt, &[5, 0, 3, 0, 7], &[5, 0, 3, 0, 7, 1, 2, 3]),
+        (true, 2)
+    );
     assert!(rt; !lists_same::<InfoXfrm>(&rt, &plain, &[8, 0, 2, 0, 5, 0, 0, 0]).0);
     assert!(rt; !lists_same::<InfoXfrm>(&rt, &[], &plain).0);
     assert!(rt; !lists_same::<InfoXfrm>(&rt, &plain, &[]).0);
@@ -110,7 +119,10 @@ fn first_attributes_stand_alone(rt: HostRuntime) -> Result<(), Fail> {
     assert_eq!(rt; first_check::<InfoVrf>(&[], (), &mut count), Err(header));
     assert_eq!(rt; count.get(), 0);
     let mut count = HeaderCount::new();
-    assert_eq!(rt; first_check::<InfoVrf>(&[3, 0, 1, 0], (), &mut count), Err(header));
+    assert_eq!(rt;
+        first_check::<InfoVrf>(&[3, 0, 1, 0], (), &mut count),
+        Err(header)
+    );
     assert_eq!(rt; count.get(), 1);
     laws::reading_back::<InfoVrf>(&one, ());
     Ok(())
@@ -121,9 +133,17 @@ fn rows_of_both_families(rt: HostRuntime) -> Result<(), Fail> {
     let alloc = rt.alloc();
     for kind in 0..40 {
         let xfrm = kind == 1 || kind == 2;
-        let wanted = if xfrm { Lookup::Is(Shape::Le32) } else { Lookup::Unknown };
+        let wanted = if xfrm {
+            Lookup::Is(Shape::Le32)
+        } else {
+            Lookup::Unknown
+        };
         assert!(rt; <InfoXfrm as LinkFamily>::shape((), kind) == wanted);
-        let wanted = if kind == 1 { Lookup::Is(Shape::Le32) } else { Lookup::Unknown };
+        let wanted = if kind == 1 {
+            Lookup::Is(Shape::Le32)
+        } else {
+            Lookup::Unknown
+        };
         assert!(rt; is_equal(&<InfoVrf as LinkFamily>::shape((), kind), &wanted));
     }
     let link = [8, 0, 1, 0, 4, 3, 2, 1];
@@ -136,7 +156,10 @@ fn rows_of_both_families(rt: HostRuntime) -> Result<(), Fail> {
     assert!(rt; is_equal(&read, &InfoVrf::TableId(0x0102_0304)));
     assert!(rt; read == read.clone()?);
 
-    for value in [InfoXfrm::Link(0x0102_0304).fit_len(), InfoXfrm::IfId(1).fit_len()] {
+    for value in [
+        InfoXfrm::Link(0x0102_0304).fit_len(),
+        InfoXfrm::IfId(1).fit_len(),
+    ] {
         assert_eq!(rt; value, Some(4));
     }
     let value = InfoXfrm::Link(0x0102_0304);
@@ -171,14 +194,26 @@ fn other_lengths_and_other_types(rt: HostRuntime) -> Result<(), Fail> {
         attribute[0] = len;
         let nla = NlaBuffer::new_checked(&attribute)?;
         let wanted = error(Family::Xfrm, 1, Cause::Length);
-        assert_eq!(rt; InfoXfrm::parse(alloc, &nla).err(), Some(wanted), "xfrm link of {len}");
+        assert_eq!(rt;
+            InfoXfrm::parse(alloc, &nla).err(),
+            Some(wanted),
+            "xfrm link of {len}"
+        );
         let wanted = error(Family::Vrf, 1, Cause::Length);
-        assert_eq!(rt; InfoVrf::parse(alloc, &nla).err(), Some(wanted), "vrf table of {len}");
+        assert_eq!(rt;
+            InfoVrf::parse(alloc, &nla).err(),
+            Some(wanted),
+            "vrf table of {len}"
+        );
         let mut attribute = id;
         attribute[0] = len;
         let nla = NlaBuffer::new_checked(&attribute)?;
         let wanted = error(Family::Xfrm, 2, Cause::Length);
-        assert_eq!(rt; InfoXfrm::parse(alloc, &nla).err(), Some(wanted), "xfrm identifier of {len}");
+        assert_eq!(rt;
+            InfoXfrm::parse(alloc, &nla).err(),
+            Some(wanted),
+            "xfrm identifier of {len}"
+        );
     }
 
     // An attribute without a row is kept whole, flag bits included.

@@ -1,15 +1,17 @@
 //! Virtual routing and forwarding: `IFLA_VRF_UNSPEC` and on, and the same of its ports, include/uapi/linux/if_link.h.
 
 ghost use Rattle.linkinfo_devices.specs.declared.vrf.InfoVrf.TheVariants.{Other};
-ghost use Rattle.linkinfo_devices.specs.Vrf.{vrf_attribute, vrf_keeps, vrf_rows, vrf_table};
+ghost use Rattle.linkinfo_devices.specs.Vrf.{vrf_attribute, vrf_keeps, vrf_rows};
 ghost use Rattle.linkinfo_table.specs.FamilyRows.{row_of, table_row};
 ghost use Rattle.linkinfo_table.specs.Rows.{meaning_in, memory_in};
 ghost use Rattle.linkinfo_table.specs.FamilyRowLaws.{table_flat, table_owes};
 ghost use Rattle.nla_frame.specs.declared.error.Family.TheVariants as family;
 ghost use Rattle.std.specs.Prelude.{false, refl};
 
-use linkinfo_table::{Datum, FlatFamily, Lookup, Part, RowFamily, Shape, table_lookup};
-use linkinfo_table::{row_emit_value, row_fit_len, row_kind, row_read, row_value_len};
+use linkinfo_table::{
+    Datum, FlatFamily, Lookup, Part, RowFamily, Shape, row_emit_value, row_fit_len, row_kind,
+    row_read, row_value_len, table_lookup,
+};
 use nla_frame::{DecodeError, DefaultNla, ExactEq, Family, Nla, NlaBuffer, Parseable};
 use std::alloc::{AllocError, Global};
 
@@ -46,6 +48,7 @@ impl RowFamily for InfoVrf {
 
     ghost keeps_other = { λ _. refl };
 
+    #[tactic(auto, using(crate::specs::Vrf::vrf_lookup))]
     fn shape(_ctx: (), kind: u16) -> Lookup {
         table_lookup(Family::Vrf, kind)
     }
@@ -70,7 +73,11 @@ impl RowFamily for InfoVrf {
     fn to_part(&self) -> Part<'_> {
         match self {
             InfoVrf::TableId(table) => {
-                Part::Typed(IFLA_VRF_TABLE, Shape::Le32, Datum::Number(u64::from(*table)))
+                Part::Typed(
+                    IFLA_VRF_TABLE,
+                    Shape::Le32,
+                    Datum::Number(u64::from(*table)),
+                )
             }
             InfoVrf::Other(nla) => Part::Kept(nla),
         }

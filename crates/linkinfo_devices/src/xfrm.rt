@@ -1,19 +1,22 @@
 //! Xfrm interfaces: `IFLA_XFRM_UNSPEC` and on, include/uapi/linux/if_link.h.
 
 ghost use Rattle.linkinfo_devices.specs.declared.xfrm.InfoXfrm.TheVariants.{Other};
-ghost use Rattle.linkinfo_devices.specs.Xfrm.{xfrm_attribute, xfrm_keeps, xfrm_rows, xfrm_table};
+ghost use Rattle.linkinfo_devices.specs.Xfrm.{xfrm_attribute, xfrm_keeps, xfrm_rows};
 ghost use Rattle.linkinfo_table.specs.FamilyRows.{row_of, table_row};
 ghost use Rattle.linkinfo_table.specs.Rows.{meaning_in, memory_in};
 ghost use Rattle.linkinfo_table.specs.FamilyRowLaws.{table_flat, table_owes};
 ghost use Rattle.nla_frame.specs.declared.error.Family.TheVariants as family;
 ghost use Rattle.std.specs.Prelude.{false, refl};
 
-use linkinfo_table::{Datum, FlatFamily, Lookup, Part, RowFamily, Shape, table_lookup};
-use linkinfo_table::{row_emit_value, row_fit_len, row_kind, row_read, row_value_len};
+use linkinfo_table::{
+    Datum, FlatFamily, Lookup, Part, RowFamily, Shape, row_emit_value, row_fit_len, row_kind,
+    row_read, row_value_len, table_lookup,
+};
 use nla_frame::{DecodeError, DefaultNla, ExactEq, Family, Nla, NlaBuffer, Parseable};
 use std::alloc::{AllocError, Global};
 
 const IFLA_XFRM_LINK: u16 = 1;
+
 const IFLA_XFRM_IF_ID: u16 = 2;
 
 /// An attribute of an xfrm interface.
@@ -46,6 +49,7 @@ impl RowFamily for InfoXfrm {
 
     ghost keeps_other = { λ _. refl };
 
+    #[tactic(auto, using(crate::specs::Xfrm::xfrm_lookup))]
     fn shape(_ctx: (), kind: u16) -> Lookup {
         table_lookup(Family::Xfrm, kind)
     }
@@ -71,7 +75,11 @@ impl RowFamily for InfoXfrm {
     fn to_part(&self) -> Part<'_> {
         match self {
             InfoXfrm::Link(index) => {
-                Part::Typed(IFLA_XFRM_LINK, Shape::Le32, Datum::Number(u64::from(*index)))
+                Part::Typed(
+                    IFLA_XFRM_LINK,
+                    Shape::Le32,
+                    Datum::Number(u64::from(*index)),
+                )
             }
             InfoXfrm::IfId(id) => {
                 Part::Typed(IFLA_XFRM_IF_ID, Shape::Le32, Datum::Number(u64::from(*id)))

@@ -48,9 +48,9 @@ plain_is_row {F = F} attribute r k = record {
   codec = shape_is_codec r.shape;
   keeps = k.keeps;
   same = λ x y h g e.
-    let values : canon r.shape x ≡ canon r.shape y = ap (λ (a : Attribute). a.value) (sym (k.keeps x) ∙ ap attribute e ∙ k.keeps y) in
-    let read : done x ≡ done y = sym (means-canon r.shape x h) ∙ ap (means r.shape) values ∙ means-canon r.shape y g in
-    done_same x y read;
+      let values : canon r.shape x ≡ canon r.shape y = ap (λ (a : Attribute). a.value) (sym (k.keeps x) ∙ ap attribute e ∙ k.keeps y) in
+      let read : done x ≡ done y = sym (means-canon r.shape x h) ∙ ap (means r.shape) values ∙ means-canon r.shape y g in
+      done_same x y read;
 }
   where
     done_same : (x y : Carrier r.shape) → done {E = Cause} x ≡ done y → x ≡ y
@@ -63,7 +63,7 @@ table_owes {F = F} attribute (r ∷ rows) k n =
     elim (cases_Bool (n == r.number)) [
       | inl same ↦
           subst (λ (x : Option (PlainRow F)). RowOwes attribute n (row_of (plain_or_absent x))) (sym (cond-true (n == r.number) _ _ same))
-            (subst (λ (m : ℕ). IsRow attribute m (record { codec = shape_codec r.shape; label = r.label })) (sym (eqb-true n r.number same)) (plain_is_row attribute r k.0))
+          (subst (λ (m : ℕ). IsRow attribute m (record { codec = shape_codec r.shape; label = r.label })) (sym (eqb-true n r.number same)) (plain_is_row attribute r k.0))
       | inr other ↦
           subst (λ (x : Option (PlainRow F)). RowOwes attribute n (row_of (plain_or_absent x))) (sym (cond-false (n == r.number) _ _ other)) (table_owes attribute rows k.1 n)
     ]

@@ -38,12 +38,12 @@ module _ {X : Type 0} (f : Family) (other : DefaultNla → X) (attribute : X →
         let at : ℕ → Row X = λ k. row_of (rows k) in
         let is_row : (n : ℕ) (e : Entry X) → at n ≡ Is e → IsRow attribute n e = λ n e h. owed attribute at owes n e h in
         list_is_codec (meaning_in f other at) (headers_inside at) (alike_in at) (memory_in at) attribute (WellFormed other attribute at)
-          (λ a b x y i j h k. rows_alike_is f other attribute at is_row keeps_other a b x y i j h k)
-          (λ a. rows_quarter f other attribute at is_row keeps_other a)
-          (λ a. flat_no_memory f other attribute rows owes keeps_other a)
-          (λ a x i h. rows_read_well f other attribute at is_row keeps_other a x i h)
-          (λ x w fits. rows_well_reads f other attribute at is_row keeps_other x w fits)
-          (λ x w fits. rows_well_attribute f other attribute at is_row keeps_other x w fits)
+        (λ a b x y i j h k. rows_alike_is f other attribute at is_row keeps_other a b x y i j h k)
+        (λ a. rows_quarter f other attribute at is_row keeps_other a)
+        (λ a. flat_no_memory f other attribute rows owes keeps_other a)
+        (λ a x i h. rows_read_well f other attribute at is_row keeps_other a x i h)
+        (λ x w fits. rows_well_reads f other attribute at is_row keeps_other x w fits)
+        (λ x w fits. rows_well_attribute f other attribute at is_row keeps_other x w fits)
 
     -- what is owed at a number where a list row stands, and where another does
     chosen : (b : Bool) (n : ℕ) (list : FamilyRow X) → n == number ≡ b → RowOwes attribute number (row_of list) → RowOwes attribute n (row_of (row_if b list (flat n)))
@@ -57,4 +57,4 @@ module _ {X : Type 0} (f : Family) (other : DefaultNla → X) (attribute : X →
     level_owes zero n = chosen (n == number) n (Refuses cause.Depth) refl no_memory
     level_owes (suc levels) n =
         chosen (n == number) n (Custom shape.SelfList (inner_codec (λ k. row_of (level_rows levels k))) label) refl
-          (record { low = low; codec = inner_is_codec (level_rows levels) (level_owes levels); keeps = keeps; same = λ xs ys h g e. same xs ys e })
+        (record { low = low; codec = inner_is_codec (level_rows levels) (level_owes levels); keeps = keeps; same = λ xs ys h g e. same xs ys e })

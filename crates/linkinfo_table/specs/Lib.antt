@@ -1,3 +1,4 @@
+pub mod BytesPeer
 pub mod Codecs
 pub mod FamilyRowLaws
 pub mod FamilyRows

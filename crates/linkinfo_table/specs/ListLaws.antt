@@ -43,6 +43,7 @@ module _ {T X : Type 0} (m : T → Attribute → Result X DecodeError) (after : 
     where
       same : (x : X) (xs : List X) → good (x ∷ xs) ≡ good zs → zs ≡ x ∷ xs
       same x xs h = cc
+
       go : (r : Result X DecodeError) (s : Result (List X) DecodeError) → m t a ≡ r → values_under m after (after t a) more ≡ s →
           (r >>= λ x. s >>= λ xs. Ok (x ∷ xs)) ≡ Ok zs → Reads t a more zs
       go (Ok x) (Ok xs) f g h = record { x = x; xs = xs; first = f; others = g; whole = same x xs h }
@@ -95,6 +96,7 @@ module _ {T X : Type 0} (m : T → Attribute → Result X DecodeError) (after : 
     where
       same : (d f : DecodeError) → bad {A = List X} d ≡ bad f → d ≡ f
       same d f h = cc
+
       go : (r : Result X DecodeError) (s : Result (List X) DecodeError) → m t a ≡ r → s ≢ Err memory_fault → (r >>= λ x. s >>= λ xs. Ok (x ∷ xs)) ≢ Err memory_fault
       go (Ok x) (Ok xs) f n h = absurd cc
       go (Ok x) (Err d) f n h = n (ap (λ (d : DecodeError). bad d) (same d memory_fault h))
@@ -108,7 +110,7 @@ module _ {T X : Type 0} (m : T → Attribute → Result X DecodeError) (after : 
       (λ t. omega (arith, ap (λ (ps : List (Result Attribute ℕ)). headers_under m h after t ps) pieces_nil))
       (λ z some e t. omega (arith, ap (λ (ps : List (Result Attribute ℕ)). headers_under m h after t ps) e, seen_room z))
       (λ z a rest e room more t.
-        omega (arith, ap (λ (ps : List (Result Attribute ℕ)). headers_under m h after t ps) e, room, small t a, one_more t a rest (m t a), more (after t a)))
+      omega (arith, ap (λ (ps : List (Result Attribute ℕ)). headers_under m h after t ps) e, room, small t a, one_more t a rest (m t a), more (after t a)))
       s
     where
       one_more : (t : T) (a : Attribute) (rest : List ℕ) (r : Result X DecodeError) →
@@ -134,6 +136,7 @@ module _ {T X : Type 0} (m : T → Attribute → Result X DecodeError) (after : 
       where
         nothing : (zs : List X) → good {A = List X} [] ≡ good zs → zs ≡ []
         nothing zs d = cc
+
         nil_cons : (z : X) (zs : List X) → [] ≡ (z ∷ zs) → ⊥
         nil_cons z zs d = cc
     fronts_alike t (a ∷ front) [] xs ys h k e g =
@@ -143,6 +146,7 @@ module _ {T X : Type 0} (m : T → Attribute → Result X DecodeError) (after : 
       where
         nothing : (zs : List X) → good {A = List X} [] ≡ good zs → zs ≡ []
         nothing zs d = cc
+
         nil_cons : (z : X) (zs : List X) → [] ≡ (z ∷ zs) → ⊥
         nil_cons z zs d = cc
     fronts_alike t (a ∷ front) (b ∷ other) xs ys h k e g =
@@ -150,16 +154,17 @@ module _ {T X : Type 0} (m : T → Attribute → Result X DecodeError) (after : 
         let q = reads t b (pieces_of other []) ys g in
         let law = alike_is t a b p.x q.x h.0 k.0 p.first q.first in
         let under : f t a b ≡ true → values_under m after (after t a) (pieces_of other []) ≡ Ok q.xs =
-            λ d. ap (λ (u : T). values_under m after u (pieces_of other [])) (alike_after t a b d) ∙ q.others in
+        λ d. ap (λ (u : T). values_under m after u (pieces_of other [])) (alike_after t a b d) ∙ q.others in
         let tails : f t a b ≡ true → (alike_under f after (after t a) (pieces_of front []) (pieces_of other []) ≡ true) ↔ (p.xs ≡ q.xs) =
-            λ d. fronts_alike (after t a) front other p.xs q.xs h.1 k.1 p.others (under d) in
-        (λ d.
-          let parts = and_parts (f t a b) (alike_under f after (after t a) (pieces_of front []) (pieces_of other [])) d in
-          p.whole ∙ (λ i. law.0 parts.0 i ∷ (tails parts.0).0 parts.1 i) ∙ sym q.whole,
-         λ d.
-          let equal = heads p.x q.x p.xs q.xs (sym p.whole ∙ d ∙ q.whole) in
-          let first = law.1 equal.0 in
-          and_from (f t a b) (alike_under f after (after t a) (pieces_of front []) (pieces_of other [])) first ((tails first).1 equal.1))
+        λ d. fronts_alike (after t a) front other p.xs q.xs h.1 k.1 p.others (under d) in (
+          λ d.
+              let parts = and_parts (f t a b) (alike_under f after (after t a) (pieces_of front []) (pieces_of other [])) d in
+              p.whole ∙ (λ i. law.0 parts.0 i ∷ (tails parts.0).0 parts.1 i) ∙ sym q.whole,
+          λ d.
+              let equal = heads p.x q.x p.xs q.xs (sym p.whole ∙ d ∙ q.whole) in
+              let first = law.1 equal.0 in
+              and_from (f t a b) (alike_under f after (after t a) (pieces_of front []) (pieces_of other [])) first ((tails first).1 equal.1),
+        )
 
     pub lists_alike : (t : T) (p q : List ℕ) (xs ys : List X) → IsBytes p → IsBytes q → values_under m after t (pieces p) ≡ Ok xs →
         values_under m after t (pieces q) ≡ Ok ys → (alike_under f after t (pieces p) (pieces q) ≡ true) ↔ (xs ≡ ys)
@@ -167,8 +172,8 @@ module _ {T X : Type 0} (m : T → Attribute → Result X DecodeError) (after : 
         let u = accepted t p xs fp e in
         let v = accepted t q ys fq g in
         let same : alike_under f after t (pieces p) (pieces q) ≡ alike_under f after t (pieces_of u.front []) (pieces_of v.front []) =
-            ap (λ (ps : List (Result Attribute ℕ)). alike_under f after t ps (pieces q)) u.pieces_are
-            ∙ ap (λ (qs : List (Result Attribute ℕ)). alike_under f after t (pieces_of u.front []) qs) v.pieces_are in
+        ap (λ (ps : List (Result Attribute ℕ)). alike_under f after t ps (pieces q)) u.pieces_are
+        ∙ ap (λ (qs : List (Result Attribute ℕ)). alike_under f after t (pieces_of u.front []) qs) v.pieces_are in
         let law = fronts_alike t u.front v.front xs ys u.attributes v.attributes u.values_are v.values_are in
         (λ d. law.0 (sym same ∙ d), λ d. same ∙ law.1 d)
 
@@ -186,7 +191,7 @@ module _ {T X : Type 0} (m : T → Attribute → Result X DecodeError) (after : 
         let p = reads t a (pieces_of more []) zs e in
         let rest = front_well (after t a) more p.xs h.1 p.others in
         subst (λ (ys : List X). well_under well next t ys) (sym p.whole)
-          (read_well t a p.x h.0 p.first, subst (λ (u : T). well_under well next u p.xs) (read_next t a p.x h.0 p.first) rest)
+        (read_well t a p.x h.0 p.first, subst (λ (u : T). well_under well next u p.xs) (read_next t a p.x h.0 p.first) rest)
 
     pub read_is_well : (t : T) (s : List ℕ) (zs : List X) → IsBytes s → values_under m after t (pieces s) ≡ Ok zs → well_under well next t zs
     read_is_well t s zs fits e = let u = accepted t s zs fits e in front_well t u.front zs u.attributes u.values_are
@@ -201,7 +206,7 @@ module _ {T X : Type 0} (m : T → Attribute → Result X DecodeError) (after : 
         let first = well_reads t x h.0 fits.0 in
         let on = read_next t (attribute x) x (well_attribute t x h.0 fits.0) first in
         together t (attribute x) (pieces_of (map attribute xs) []) x xs first
-          (ap (λ (u : T). values_under m after u (pieces_of (map attribute xs) [])) on ∙ reads_back (next t x) xs h.1 fits.1)
+        (ap (λ (u : T). values_under m after u (pieces_of (map attribute xs) [])) on ∙ reads_back (next t x) xs h.1 fits.1)
 
     pub well_is_read : (t : T) (xs : List X) → well_under well next t xs → AllByRecursion Fits (map attribute xs) → values_under m after t (pieces (list_string (map attribute xs))) ≡ Ok xs
     well_is_read t xs h fits =
@@ -273,13 +278,13 @@ module _ {X : Type 0} (m : Attribute → Result X DecodeError) (attribute : X �
   pub family_read_well : (s : List ℕ) (xs : List X) → IsBytes s → values m (pieces s) ≡ Ok xs → AllWell well xs
   family_read_well s xs bytes e =
       read_is_well (λ (_ : Unit {0}) a. m a) (λ t _. t) attribute (λ _ x. well x) (λ t _. t) (λ _ a x. read_well a x) (λ _ a x i e. refl) (λ _ x. well_reads x)
-        (λ _ x. well_attribute x) (tt {0}) s xs bytes e
+      (λ _ x. well_attribute x) (tt {0}) s xs bytes e
 
   pub family_canonical : (s : List ℕ) (xs : List X) → IsBytes s → AllByRecursion Fits (map attribute xs) → s ≡ list_string (map attribute xs) →
       (values m (pieces s) ≡ Ok xs) ↔ AllWell well xs
   family_canonical s xs bytes fits e =
       canonical_law (λ (_ : Unit {0}) a. m a) (λ t _. t) attribute (λ _ x. well x) (λ t _. t) (λ _ a x. read_well a x) (λ _ a x i e. refl) (λ _ x. well_reads x)
-        (λ _ x. well_attribute x) (tt {0}) s xs bytes fits e
+      (λ _ x. well_attribute x) (tt {0}) s xs bytes fits e
 
   front_first_well : (front : List Attribute) (left : List ℕ) (x : X) → AllByRecursion IsAttribute front → first_meaning m (pieces_of front left) ≡ Ok x → well x
   front_first_well [] [] x h e = absurd cc
@@ -290,7 +295,7 @@ module _ {X : Type 0} (m : Attribute → Result X DecodeError) (attribute : X �
   first_read_well s x bytes e =
       let is = split_is s bytes in
       front_first_well (split s).front (split s).left x (splits_attributes s (split s).front (split s).left is)
-        (ap (λ (ps : List (Result Attribute ℕ)). first_meaning m ps) (sym (pieces_split s)) ∙ e)
+      (ap (λ (ps : List (Result Attribute ℕ)). first_meaning m ps) (sym (pieces_split s)) ∙ e)
 
   one_string : (a : Attribute) → list_string (a ∷ []) ≡ canonical_string a
   one_string a = append-nil (canonical_string a)

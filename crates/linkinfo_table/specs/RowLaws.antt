@@ -31,7 +31,6 @@ masked_masked n = omega arith
 module _ {F : Type 0} (f : Family) (other : DefaultNla → F) (attribute : F → Attribute) (rows : ℕ → Row F)
     (is_row : (n : ℕ) (e : Entry F) → rows n ≡ Is e → IsRow attribute n e)
     (keeps_other : (d : DefaultNla) → attribute (other d) ≡ record { kind = d.kind; value = d.value }) where
-
   -- what an attribute was read as, under a row
   ReadAs : Row F → Attribute → F → Type 0
   ReadAs (Is e) a x = (u : e.codec.Carrier) × (e.codec.means a.value ≡ Ok u) × (e.label u ≡ x)
@@ -73,25 +72,27 @@ module _ {F : Type 0} (f : Family) (other : DefaultNla → F) (attribute : F →
       let row = is_row (masked a.kind) e h in
       let law = row.codec.alike_is a.value b.value p.0 q.0 is_a.bytes is_b.bytes p.1 q.1 in
       let holds_a = row.codec.holds a.value p.0 is_a.bytes p.1 in
-      let holds_b = row.codec.holds b.value q.0 is_b.bytes q.1 in
-      (λ t.
-        let parts = and_parts (masked b.kind == masked a.kind) (e.codec.alike a.value b.value) t in
-        sym p.2 ∙ ap e.label (law.0 parts.1) ∙ q.2,
-       λ t.
-        let equal = row.same p.0 q.0 holds_a holds_b (p.2 ∙ t ∙ sym q.2) in
-        and_from (masked b.kind == masked a.kind) (e.codec.alike a.value b.value) (eq-eqb _ _ same) (law.1 equal))
+      let holds_b = row.codec.holds b.value q.0 is_b.bytes q.1 in (
+        λ t.
+            let parts = and_parts (masked b.kind == masked a.kind) (e.codec.alike a.value b.value) t in
+            sym p.2 ∙ ap e.label (law.0 parts.1) ∙ q.2,
+        λ t.
+            let equal = row.same p.0 q.0 holds_a holds_b (p.2 ∙ t ∙ sym q.2) in
+            and_from (masked b.kind == masked a.kind) (e.codec.alike a.value b.value) (eq-eqb _ _ same) (law.1 equal),
+      )
   alike_row (Refused cause) a b x y h same is_a is_b p q = absurd p
-  alike_row Unknown a b x y h same is_a is_b p q =
-      (λ t.
+  alike_row Unknown a b x y h same is_a is_b p q = (
+    λ t.
         let parts = and_parts (b.kind == a.kind) (bytes_eq a.value b.value) t in
         let kinds : a.kind ≡ b.kind = sym (eqb-true _ _ parts.0) in
         let values : a.value ≡ b.value = (bytes_eq-Decides a.value b.value).0 parts.1 in
         sym p ∙ (λ i. other (record { kind = kinds i; value = values i })) ∙ q,
-       λ t.
+    λ t.
         let whole : attribute (other (kept a)) ≡ attribute (other (kept b)) = ap attribute (p ∙ t ∙ sym q) in
         let equal = sym (keeps_other (kept a)) ∙ whole ∙ keeps_other (kept b) in
         and_from (b.kind == a.kind) (bytes_eq a.value b.value) (eq-eqb _ _ (ap (λ (z : Attribute). z.kind) (sym equal)))
-          ((bytes_eq-Decides a.value b.value).1 (ap (λ (z : Attribute). z.value) equal)))
+        ((bytes_eq-Decides a.value b.value).1 (ap (λ (z : Attribute). z.value) equal)),
+  )
 
   -- alike attributes have one masked type
   alike_masked : (r : Row F) (a b : Attribute) → row_alike r a b ≡ true → masked b.kind ≡ masked a.kind
@@ -105,12 +106,13 @@ module _ {F : Type 0} (f : Family) (other : DefaultNla → F) (attribute : F →
   rows_alike_is a b x y is_a is_b h k =
       let p = read_as (rows (masked a.kind)) a x h in
       let q = read_as (rows (masked b.kind)) b y k in
-      let under : (same : masked b.kind ≡ masked a.kind) → ReadAs (rows (masked a.kind)) b y = λ same. subst (λ (n : ℕ). ReadAs (rows n) b y) same q in
-      (λ t. let same = alike_masked (rows (masked a.kind)) a b t in (alike_row (rows (masked a.kind)) a b x y refl same is_a is_b p (under same)).0 t,
-       λ t.
-        let same : masked b.kind ≡ masked a.kind =
+      let under : (same : masked b.kind ≡ masked a.kind) → ReadAs (rows (masked a.kind)) b y = λ same. subst (λ (n : ℕ). ReadAs (rows n) b y) same q in (
+        λ t. let same = alike_masked (rows (masked a.kind)) a b t in (alike_row (rows (masked a.kind)) a b x y refl same is_a is_b p (under same)).0 t,
+        λ t.
+            let same : masked b.kind ≡ masked a.kind =
             sym (masked_of (rows (masked b.kind)) b y refl q) ∙ ap (λ (z : F). masked (attribute z).kind) (sym t) ∙ masked_of (rows (masked a.kind)) a x refl p in
-        (alike_row (rows (masked a.kind)) a b x y refl same is_a is_b p (under same)).1 t)
+            (alike_row (rows (masked a.kind)) a b x y refl same is_a is_b p (under same)).1 t,
+      )
 
   -- what is read is well formed
   well_row : (r : Row F) (a : Attribute) (x : F) → rows (masked a.kind) ≡ r → IsAttribute a → ReadAs r a x → WellAt other r x

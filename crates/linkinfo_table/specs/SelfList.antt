@@ -66,18 +66,18 @@ module _ {X : Type 0} (m : Attribute → Result X DecodeError) (h : Attribute �
   pub list_is_codec : IsCodec codec
   list_is_codec = record {
     holds = λ p xs bytes e.
-      read_is_well under after attribute (λ _ x. well x) next (λ _ a x. read_well a x) (λ _ a x i e. refl) (λ _ x. well_reads x) (λ _ x. well_attribute x)
+        read_is_well under after attribute (λ _ x. well x) next (λ _ a x. read_well a x) (λ _ a x i e. refl) (λ _ x. well_reads x) (λ _ x. well_attribute x)
         (tt {0}) p xs bytes (read_inside (values m (pieces p)) xs e);
     again = λ xs w fits.
-      ap (λ (r : Result (List X) DecodeError). inside r)
+        ap (λ (r : Result (List X) DecodeError). inside r)
         (well_is_read under after attribute (λ _ x. well x) next (λ _ a x. read_well a x) (λ _ a x i e. refl) (λ _ x. well_reads x) (λ _ x. well_attribute x)
-          (tt {0}) xs w (fits_inside (map attribute xs) fits));
+        (tt {0}) xs w (fits_inside (map attribute xs) fits));
     bytes = λ xs w fits.
-      IsBytes-list_string (map attribute xs)
+        IsBytes-list_string (map attribute xs)
         (well_attributes under after attribute (λ _ x. well x) next (λ _ a x. read_well a x) (λ _ a x i e. refl) (λ _ x. well_reads x) (λ _ x. well_attribute x)
-          (tt {0}) xs w (fits_inside (map attribute xs) fits));
+        (tt {0}) xs w (fits_inside (map attribute xs) fits));
     alike_is = λ p q xs ys bp bq e g.
-      lists_alike under after (λ _ a b. f a b) (λ _ a b x y. alike_is a b x y) (λ _ a b e. refl)
+        lists_alike under after (λ _ a b. f a b) (λ _ a b x y. alike_is a b x y) (λ _ a b e. refl)
         (tt {0}) p q xs ys bp bq (read_inside (values m (pieces p)) xs e) (read_inside (values m (pieces q)) ys g);
     quarter = λ p. quarter under after (λ _ a. h a) (λ _ a. small a) p (tt {0});
     no_own_memory = λ p. not_own (values m (pieces p));

@@ -15,5 +15,4 @@ pub fn reading_back<F: LinkFamily>(bytes: &[u8], ctx: F::Context)
     ensures list_is_well { (xs : List F) → values (F.meaning ctx) (pieces bytes.now) ≡ Ok xs → AllWell (F.well ctx) xs }
     ensures first { (x : F) → Fits (F.attribute x) → bytes.now ≡ canonical_string (F.attribute x) → (first_meaning (F.meaning ctx) (pieces bytes.now) ≡ Ok x) ↔ F.well ctx x }
     ensures first_is_well { (x : F) → first_meaning (F.meaning ctx) (pieces bytes.now) ≡ Ok x → F.well ctx x }
-{
-}
+{}

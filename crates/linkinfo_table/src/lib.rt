@@ -11,13 +11,20 @@ mod part;
 mod peer;
 mod row_family;
 mod rows;
+#[cfg(test)]
+mod tests;
 
 pub use family::LinkFamily;
 pub use first::{first_check, first_read, first_same};
-pub use linkinfo_shapes::{Datum, Shape, table_shape};
+pub use linkinfo_shapes::{
+    Datum, Shape, datum_len, read_datum, shape_check, shape_same, table_shape, write_datum,
+};
 pub use list::{list_check, list_read, list_same};
 pub use lookup::Lookup;
 pub use part::Part;
 pub use peer::{LinkPeer, PeerFault};
 pub use row_family::{FlatFamily, RowFamily};
-pub use rows::{row_check, row_emit_value, row_fit_len, row_kind, row_read, row_same, row_value_len, table_lookup};
+pub use rows::{
+    row_check, row_emit_value, row_fit_len, row_kind, row_read, row_same, row_value_len,
+    table_lookup,
+};

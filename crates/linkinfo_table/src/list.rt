@@ -75,12 +75,7 @@ pub fn list_same<F: LinkFamily>(
 }
 
 /// The same, attribute by attribute.
-fn pairs_same<F: LinkFamily>(
-    a: &[u8],
-    b: &[u8],
-    ctx: F::Context,
-    count: &mut HeaderCount,
-) -> bool
+fn pairs_same<F: LinkFamily>(a: &[u8], b: &[u8], ctx: F::Context, count: &mut HeaderCount) -> bool
     requires first { IsOk (values (F.meaning ctx) (pieces a.now)) }
     requires second { IsOk (values (F.meaning ctx) (pieces b.now)) }
     requires room { count.old + (length a.now + length b.now) / 4 < 2 ^ 64 }

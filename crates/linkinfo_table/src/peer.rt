@@ -4,8 +4,11 @@ ghost use Rattle.std.specs.Prelude.{◌≡◌, ◌↔◌, ◌≤◌, ℕ, Bool, 
 ghost use Rattle.nla_frame.specs.Attribute.{IsBytes};
 ghost use Rattle.linkinfo_table.specs.Peers.{PeerGives};
 
-use nla_frame::ExactEq;
+use nla_frame::{Bytes, ExactEq};
 use std::alloc::Global;
+
+/// The most bytes that the length field of an attribute can count.
+const PAYLOAD_LEN_MAX: usize = 65531;
 
 /// Why a peer was not read.
 #[derive(Clone, Copy, Debug, PartialEq, Eq)]
@@ -61,4 +64,54 @@ pub trait LinkPeer: Sized + Eq + ExactEq + Drop {
     ghost well_means: { (x : Self) → well x → meaning (canonical x) ≡ Some x };
 
     ghost well_bytes: { (x : Self) → well x → IsBytes (canonical x) };
+}
+
+/// Any payload is a peer: its bytes. Every peer is well formed, and the cause `Peer` never comes.
+impl LinkPeer for Bytes {
+    ghost use Rattle.linkinfo_table.specs.BytesPeer.{bytes_alike_is, bytes_meaning_well, bytes_well_means, bytes_well_bytes};
+    ghost use Rattle.std.specs.Str.{bytes_eq};
+
+    ghost meaning = { λ p. Some p };
+
+    ghost alike = { bytes_eq };
+
+    ghost canonical = { λ p. p };
+
+    ghost well = { IsBytes };
+
+    ghost alike_is = { bytes_alike_is };
+
+    ghost meaning_well = { bytes_meaning_well };
+
+    ghost well_means = { bytes_well_means };
+
+    ghost well_bytes = { bytes_well_bytes };
+
+    fn read(alloc: Global, payload: &[u8]) -> Result<Bytes, PeerFault> {
+        match Bytes::copy_of(alloc, payload) {
+            Ok(bytes) => Ok(bytes),
+            Err(_) => Err(PeerFault::Memory),
+        }
+    }
+
+    fn check(_payload: &[u8]) -> bool {
+        true
+    }
+
+    fn same(a: &[u8], b: &[u8]) -> bool {
+        a == b
+    }
+
+    fn fit_len(&self) -> Option<usize> {
+        let len = self.len();
+        if len <= PAYLOAD_LEN_MAX {
+            Some(len)
+        } else {
+            None
+        }
+    }
+
+    fn emit(&self, buffer: &mut [u8]) {
+        buffer.copy_from_slice(self.as_slice());
+    }
 }

@@ -12,7 +12,9 @@ ghost use Rattle.linkinfo_table.specs.Rows.{alike_in, meaning_in, memory_in};
 use crate::lookup::Lookup;
 use crate::part::Part;
 use crate::row_family::RowFamily;
-use linkinfo_shapes::{Shape, datum_len, read_datum, shape_check, shape_same, table_shape, write_datum};
+use linkinfo_shapes::{
+    Shape, datum_len, read_datum, shape_check, shape_same, table_shape, write_datum,
+};
 use nla_frame::{Cause, DecodeError, DefaultNla, Family, Nla, NlaBuffer, Parseable};
 use std::alloc::Global;
 

@@ -14,7 +14,7 @@ invariant-loop-next g l =
     record {
       answer : verdict (values m (pieces l.rest)) ≡ verdict (values m (pieces l.bytes));
       counted : l.count + headers_of m h (pieces l.rest) ≡ l.fn.count + headers_of m h (pieces l.bytes);
-      room : 4 * l.count + length l.rest ≤ 4 * l.fn.count + length l.bytes
+      room : 4 * l.count + length l.rest ≤ 4 * l.fn.count + length l.bytes;
     }
 
 abbrev pub decreases-loop-next : goal.decreases-loop-next

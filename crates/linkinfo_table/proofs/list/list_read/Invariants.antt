@@ -16,7 +16,7 @@ invariant-loop-next g l =
       certain : memory_of m needs (pieces l.bytes) ≡ false → memory_of m needs (pieces l.rest) ≡ false;
       counted : l.count + headers_of m h (pieces l.rest) ≡ l.fn.count + headers_of m h (pieces l.bytes);
       rises : l.fn.count ≤ l.count;
-      room : 4 * l.count + length l.rest ≤ 4 * l.fn.count + length l.bytes
+      room : 4 * l.count + length l.rest ≤ 4 * l.fn.count + length l.bytes;
     }
 
 abbrev pub decreases-loop-next : goal.decreases-loop-next

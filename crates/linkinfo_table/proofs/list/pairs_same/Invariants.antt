@@ -17,7 +17,7 @@ invariant-loop-next g l =
       same : alike_pairs f (pieces l.x) (pieces l.y) ≡ alike_pairs f (pieces l.a) (pieces l.b);
       counted : l.count + (headers_of m h (pieces l.x) + headers_of m h (pieces l.y)) ≡ l.fn.count + (headers_of m h (pieces l.a) + headers_of m h (pieces l.b));
       rises : l.fn.count ≤ l.count;
-      room : 4 * l.count + (length l.x + length l.y) ≤ 4 * l.fn.count + (length l.a + length l.b)
+      room : 4 * l.count + (length l.x + length l.y) ≤ 4 * l.fn.count + (length l.a + length l.b);
     }
 
 abbrev pub decreases-loop-next : goal.decreases-loop-next

@@ -29,8 +29,8 @@ returns-in-Err g c =
     let fails = means_fault f other c.in-Is.shape c.value.result.now c.in-Err.cause c.in-Err.ensures in
     let error = c.fault.result in
     verdict_err f other _ error (meaning_at f other rows a k _ at
-      (refuse_row f other (rows k) a c.in-Is.shape c.value.result.now c.in-Err.cause c.FAMILY.result k error flat is c.value.ensures.value fails
-        c.fault.ensures c.FAMILY.ensures at))
+    (refuse_row f other (rows k) a c.in-Is.shape c.value.result.now c.in-Err.cause c.FAMILY.result k error flat is c.value.ensures.value fails
+    c.fault.ensures c.FAMILY.ensures at))
 
 pub returns-in-Refused : goal.returns-in-Refused
 returns-in-Refused g c =
@@ -43,7 +43,7 @@ returns-in-Refused g c =
     let is = sym c.shape.ensures ∙ c.in-Refused.is in
     let error = c.fault-in-Refused.result in
     verdict_err f other _ error (meaning_at f other rows a k _ at
-      (refused_row f other (rows k) a c.in-Refused.cause c.FAMILY-in-Refused.result k error is c.fault-in-Refused.ensures c.FAMILY-in-Refused.ensures at))
+    (refused_row f other (rows k) a c.in-Refused.cause c.FAMILY-in-Refused.result k error is c.fault-in-Refused.ensures c.FAMILY-in-Refused.ensures at))
 
 pub returns-in-Unknown : goal.returns-in-Unknown
 returns-in-Unknown g c =

@@ -46,8 +46,8 @@ returns-in_ok-from_datum-in-Ok g c =
     let flat = flat_at rows k (masked a.kind) at c.requires in
     let is = sym c.shape.ensures ∙ c.in-Is.is in
     let means = meaning_at f other rows a k _ at
-      (read_row f other (rows k) a c.in-Is.shape c.value.result.now c.in-Ok.datum c.in_ok-from_datum-in-Ok.field-0 flat is c.value.ensures.value c.in-Ok.ensures
-        c.in_ok-from_datum-in-Ok.ensures.value) in
+    (read_row f other (rows k) a c.in-Is.shape c.value.result.now c.in-Ok.datum c.in_ok-from_datum-in-Ok.field-0 flat is c.value.ensures.value c.in-Ok.ensures
+    c.in_ok-from_datum-in-Ok.ensures.value) in
     record { answer = means; certain = λ _. means }
 
 pub returns-in-Err : goal.returns-in-Err
@@ -62,8 +62,8 @@ returns-in-Err g c =
     let is = sym c.shape.ensures ∙ c.in-Is.is in
     let fails = read_fails c.in-Is.shape c.value.result.now c.in-Err.cause c.in-Err.ensures in
     let means = meaning_at f other rows a k _ at
-      (refuse_row f other (rows k) a c.in-Is.shape c.value.result.now c.in-Err.cause c.FAMILY.result k c.fault.result flat is c.value.ensures.value fails
-        c.fault.ensures c.FAMILY.ensures at) in
+    (refuse_row f other (rows k) a c.in-Is.shape c.value.result.now c.in-Err.cause c.FAMILY.result k c.fault.result flat is c.value.ensures.value fails
+    c.fault.ensures c.FAMILY.ensures at) in
     record { answer = λ _. means; certain = λ _. means }
 
 pub returns-in-Refused : goal.returns-in-Refused
@@ -75,8 +75,8 @@ returns-in-Refused g c =
     let k = c.kind-kind.result in
     let at = c.kind-kind.ensures in
     let means = meaning_at f other rows a k _ at
-      (refused_row f other (rows k) a c.in-Refused.cause c.FAMILY-in-Refused.result k c.fault-in-Refused.result (sym c.shape.ensures ∙ c.in-Refused.is)
-        c.fault-in-Refused.ensures c.FAMILY-in-Refused.ensures at) in
+    (refused_row f other (rows k) a c.in-Refused.cause c.FAMILY-in-Refused.result k c.fault-in-Refused.result (sym c.shape.ensures ∙ c.in-Refused.is)
+    c.fault-in-Refused.ensures c.FAMILY-in-Refused.ensures at) in
     record { answer = λ _. means; certain = λ _. means }
 
 pub returns-in_ok-parse-in-Unknown : goal.returns-in_ok-parse-in-Unknown
@@ -88,5 +88,5 @@ returns-in_ok-parse-in-Unknown g c =
     let k = c.kind-kind.result in
     let at = c.kind-kind.ensures in
     let means = meaning_at f other rows a k _ at
-      (kept_row f other (rows k) a _ c.from_other.result (sym c.shape.ensures ∙ c.in-Unknown.is) (kept_same a _ c.in_ok-parse-in-Unknown.ensures.answer) c.from_other.ensures) in
+    (kept_row f other (rows k) a _ c.from_other.result (sym c.shape.ensures ∙ c.in-Unknown.is) (kept_same a _ c.in_ok-parse-in-Unknown.ensures.answer) c.from_other.ensures) in
     record { answer = means; certain = λ _. means }

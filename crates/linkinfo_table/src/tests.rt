@@ -1,0 +1,30 @@
+//! Peers of plain bytes; the calls of families are tested where families are.
+
+use crate::{LinkPeer, PeerFault};
+use nla_frame::Bytes;
+use std::test::Fail;
+
+#[test]
+fn bytes_are_peers(rt: HostRuntime) -> Result<(), Fail> {
+    let alloc = rt.alloc();
+    let payload = [0xaa, 0xbb];
+    let Ok(peer) = <Bytes as LinkPeer>::read(alloc, &payload) else {
+        panic!(&rt; "the payload is a peer");
+    };
+    assert_eq!(rt; peer.as_slice(), payload.as_slice());
+    assert!(rt; <Bytes as LinkPeer>::check(&payload));
+    assert!(rt; <Bytes as LinkPeer>::check(&[]));
+    assert!(rt; <Bytes as LinkPeer>::same(&payload, &payload));
+    assert!(rt; !<Bytes as LinkPeer>::same(&payload, &payload[..1]));
+    assert_eq!(rt; LinkPeer::fit_len(&peer), Some(2));
+    assert!(rt; peer.len() == 2);
+    let mut buffer = [0; 2];
+    LinkPeer::emit(&peer, &mut buffer);
+    assert_eq!(rt; buffer, payload);
+    let longest = Bytes::new(vec![in alloc; 0u8; 65531]?);
+    assert_eq!(rt; LinkPeer::fit_len(&longest), Some(65531));
+    let longer = Bytes::new(vec![in alloc; 0u8; 65532]?);
+    assert_eq!(rt; LinkPeer::fit_len(&longer), None);
+    assert!(rt; PeerFault::Refused != PeerFault::Memory);
+    Ok(())
+}
