@@ -17,12 +17,11 @@ use Rattle.linkinfo_shapes.specs.declared.datum.Datum.{Datum}
 use Rattle.linkinfo_shapes.specs.Shapes.{stripped, IsPlain, IsAccepted, Carrier, means, payload_alike, needs_memory, verdict as shape_verdict}
 use Rattle.linkinfo_shapes.specs.ShapeLaws.{accepted}
 use Rattle.linkinfo_shapes.specs.Data.{value_of, unwrap, ReadsAs}
-use Rattle.linkinfo_shapes.specs.DataLaws.{read_means, read_suits, read_fails}
-use Rattle.linkinfo_table.specs.declared.lookup.Lookup.{Lookup}
+use Rattle.linkinfo_shapes.specs.DataLaws.{read_means, read_suits}
 use Rattle.linkinfo_table.specs.declared.lookup.Lookup.TheVariants as lookup
-use Rattle.linkinfo_table.specs.Codecs.{Fault, Own, Inside}
-use Rattle.linkinfo_table.specs.Rows.{Row, Is, Refused, Unknown, fault_at, labelled, row_meaning, meaning_in, row_alike, alike_in, row_needs_memory, memory_in}
-use Rattle.linkinfo_table.specs.FamilyRows.{own, shape_codec, FamilyRow, Plain, Custom, Refuses, Absent, row_of, lookup_of, IsFlat, SuitsRow, IsLabelled, owns_memory, row_owns_memory}
+use Rattle.linkinfo_table.specs.Codecs.{Own}
+use Rattle.linkinfo_table.specs.Rows.{fault_at, labelled, row_meaning, meaning_in, row_alike, alike_in, row_needs_memory, memory_in}
+use Rattle.linkinfo_table.specs.FamilyRows.{own, FamilyRow, Plain, Custom, Refuses, Absent, row_of, lookup_of, IsFlat, SuitsRow, IsLabelled, owns_memory, row_owns_memory}
 
 abbrev done : {A E : Type 0} → A → Result A E
 done x = Ok x

@@ -1,5 +1,5 @@
 -- What the payload of a row holds, and how it is read, written and compared: shapes, peers and lists of the same family are rows alike.
-use Rattle.std.specs.Prelude.{◌≡◌, ◌≢◌, ◌↔◌, ℕ, ◌*◌, ◌≤◌, Bool, true, false, List, length, Result, Ok, Err}
+use Rattle.std.specs.Prelude.{◌≡◌, ◌≢◌, ◌↔◌, ℕ, ◌*◌, ◌≤◌, Bool, true, List, length, Result, Ok, Err}
 use Rattle.nla_frame.specs.Attribute.{IsBytes}
 use Rattle.nla_frame.specs.Error.{memory_fault}
 use Rattle.nla_frame.specs.declared.error.Cause.{Cause}

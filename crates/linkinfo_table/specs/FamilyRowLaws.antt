@@ -1,18 +1,18 @@
 -- Tables of plain rows are lawful: shapes are codecs, and what a table's rows keep is what each row owes.
-use Rattle.std.specs.Prelude.{◌≡◌, ◌≢◌, ◌↔◌, ℕ, ◌*◌, ◌<◌, ◌≤◌, ◌==◌, Bool, true, false, List, [], ◌∷◌, length, Option, Some, None, Result, Ok, Err, refl}
+use Rattle.std.specs.Prelude.{◌≡◌, ◌≢◌, ℕ, ◌==◌, List, [], ◌∷◌, Option, Some, Result, Ok, Err, refl}
 use Rattle.std.proofs.Common.{sym, ap, subst, ◌∙◌, arith, inl, inr}
 use Rattle.std.proofs.lemmas.Bool.{eqb-true, cases_Bool, cond-true, cond-false}
-use Rattle.nla_frame.specs.Attribute.{Attribute, IsBytes}
+use Rattle.nla_frame.specs.Attribute.{Attribute}
 use Rattle.nla_frame.specs.Error.{memory_fault}
 use Rattle.nla_frame.specs.declared.error.Cause.{Cause}
 use Rattle.nla_frame.specs.declared.error.Cause.TheVariants as cause
 use Rattle.linkinfo_shapes.specs.declared.shape.Shape.{Shape}
-use Rattle.linkinfo_shapes.specs.Shapes.{Carrier, means, canon, Holds, payload_alike}
+use Rattle.linkinfo_shapes.specs.Shapes.{Carrier, means, canon}
 use Rattle.linkinfo_shapes.specs.ShapeLaws.{means_holds, means-canon, IsBytes-canon, means_alike, means_memory}
 use Rattle.linkinfo_shapes.specs.Table.{found}
-use Rattle.linkinfo_table.specs.Codecs.{Codec, Fault, Own, Inside, IsCodec}
-use Rattle.linkinfo_table.specs.Rows.{Entry, Row, Is, Refused, Unknown, IsRow}
-use Rattle.linkinfo_table.specs.FamilyRows.{own, shape_codec, FamilyRow, Plain, Custom, Refuses, Absent, row_of, lookup_of, RowOwes, PlainRow, find, plain_or_absent, table_row, without_labels, lookup_in, Keeps, EachKeeps, IsFlat}
+use Rattle.linkinfo_table.specs.Codecs.{Own, Inside, IsCodec}
+use Rattle.linkinfo_table.specs.Rows.{Entry, Row, Is, IsRow}
+use Rattle.linkinfo_table.specs.FamilyRows.{own, shape_codec, row_of, lookup_of, RowOwes, PlainRow, plain_or_absent, table_row, without_labels, lookup_in, Keeps, EachKeeps, IsFlat}
 
 abbrev done : {A E : Type 0} → A → Result A E
 done x = Ok x

@@ -3,18 +3,15 @@ use Rattle.std.specs.Prelude.{◌≡◌, ◌≢◌, ℕ, ◌<◌, ◌==◌, Bool
 use Rattle.nla_frame.specs.Attribute.{Attribute}
 use Rattle.nla_frame.specs.declared.error.Cause.{Cause}
 use Rattle.nla_frame.specs.declared.error.Cause.TheVariants as cause
-use Rattle.nla_frame.specs.declared.error.Family.{Family}
-use Rattle.nla_frame.specs.declared.default_nla.DefaultNla.{DefaultNla}
 use Rattle.linkinfo_shapes.specs.declared.shape.Shape.{Shape}
 use Rattle.linkinfo_shapes.specs.declared.shape.Shape.TheVariants.{Name, Raw}
 use Rattle.linkinfo_shapes.specs.Shapes.{IsPlain, Carrier, means, canon, Holds, payload_alike, needs_memory}
 use Rattle.linkinfo_shapes.specs.Data.{Value, value_of, unwrap, written, Suits}
-use Rattle.linkinfo_shapes.specs.Table.{found, shape_of}
 use Rattle.linkinfo_table.specs.declared.lookup.Lookup.{Lookup}
 use Rattle.linkinfo_table.specs.declared.lookup.Lookup.TheVariants as lookup
 use Rattle.linkinfo_table.specs.declared.part.Part.{Part}
 use Rattle.linkinfo_table.specs.declared.part.Part.TheVariants as part
-use Rattle.linkinfo_table.specs.Codecs.{Codec, Fault, Own, Inside}
+use Rattle.linkinfo_table.specs.Codecs.{Codec, Fault, Own}
 use Rattle.linkinfo_table.specs.Rows.{Row, Is, Refused, Unknown, IsRow}
 
 abbrev pub own : {X : Type 0} → Result X Cause → Result X Fault

@@ -3,14 +3,13 @@ use Rattle.std.specs.Prelude.{◌≡◌, ◌≢◌, ◌↔◌, ℕ, ◌*◌, ◌
 use Rattle.std.proofs.Common.{sym, ap, subst, ◌∙◌, arith}
 use Rattle.nla_frame.specs.Attribute.{Attribute, IsAttribute, Fits, masked}
 use Rattle.nla_frame.specs.Error.{memory_fault}
-use Rattle.nla_frame.specs.declared.error.Cause.{Cause}
 use Rattle.nla_frame.specs.declared.error.Cause.TheVariants as cause
 use Rattle.nla_frame.specs.declared.error.Family.{Family}
 use Rattle.nla_frame.specs.declared.error.DecodeError.{DecodeError}
 use Rattle.nla_frame.specs.declared.default_nla.DefaultNla.{DefaultNla}
-use Rattle.linkinfo_table.specs.Codecs.{Codec, Fault, Own, Inside, IsCodec}
-use Rattle.linkinfo_table.specs.Rows.{Entry, Row, Is, Refused, Unknown, fault_at, labelled, row_meaning, meaning_in, alike_in, headers_inside, WellFormed, IsRow}
-use Rattle.linkinfo_table.specs.RowLaws.{rows_alike_is, rows_read_well, rows_well_reads, rows_well_attribute, rows_quarter}
+use Rattle.linkinfo_table.specs.Codecs.{Fault, Own, Inside}
+use Rattle.linkinfo_table.specs.Rows.{Entry, Row, Is, Refused, Unknown, fault_at, labelled, row_meaning, meaning_in, alike_in, WellFormed, IsRow}
+use Rattle.linkinfo_table.specs.RowLaws.{rows_alike_is, rows_read_well, rows_well_reads, rows_well_attribute}
 use Rattle.linkinfo_table.specs.FamilyRows.{FamilyRow, row_of, RowOwes}
 use Rattle.linkinfo_table.specs.FamilyRowLaws.{owed}
 

@@ -1,17 +1,15 @@
 -- Rows of a family that holds lists of itself, by how many lists more may stand inside: a list is a row like any other, and without a level
 -- left it is refused.
-use Rattle.std.specs.Prelude.{◌≡◌, ◌≢◌, ◌↔◌, ℕ, zero, suc, ◌*◌, ◌<◌, ◌==◌, Bool, true, false, List, Result, Ok, Err, refl}
-use Rattle.std.proofs.Common.{sym, ap, subst, ◌∙◌, inl, inr}
-use Rattle.std.proofs.lemmas.Bool.{eqb-true, cases_Bool}
-use Rattle.nla_frame.specs.Attribute.{Attribute, IsAttribute, Fits, list_string, masked}
-use Rattle.nla_frame.specs.declared.error.Cause.{Cause}
+use Rattle.std.specs.Prelude.{◌≡◌, ◌≢◌, ℕ, zero, suc, ◌<◌, ◌==◌, Bool, true, false, List, refl}
+use Rattle.std.proofs.Common.{sym, subst}
+use Rattle.std.proofs.lemmas.Bool.{eqb-true}
+use Rattle.nla_frame.specs.Attribute.{Attribute, list_string}
 use Rattle.nla_frame.specs.declared.error.Cause.TheVariants as cause
 use Rattle.nla_frame.specs.declared.error.Family.{Family}
-use Rattle.nla_frame.specs.declared.error.DecodeError.{DecodeError}
 use Rattle.nla_frame.specs.declared.default_nla.DefaultNla.{DefaultNla}
 use Rattle.linkinfo_shapes.specs.declared.shape.Shape.TheVariants as shape
 use Rattle.linkinfo_table.specs.Codecs.{Codec, IsCodec}
-use Rattle.linkinfo_table.specs.Rows.{Entry, Row, Is, Refused, Unknown, meaning_in, alike_in, headers_inside, memory_in, WellFormed, IsRow}
+use Rattle.linkinfo_table.specs.Rows.{Entry, Row, Is, meaning_in, alike_in, headers_inside, memory_in, WellFormed, IsRow}
 use Rattle.linkinfo_table.specs.RowLaws.{rows_alike_is, rows_read_well, rows_well_reads, rows_well_attribute, rows_quarter}
 use Rattle.linkinfo_table.specs.FamilyRows.{FamilyRow, Custom, Refuses, row_of, row_if, RowOwes}
 use Rattle.linkinfo_table.specs.FamilyRowLaws.{owed}

@@ -1,5 +1,5 @@
 -- The laws of lists, from those of one attribute: what is read is well formed, canonical strings read back, alike lists mean the same.
-use Rattle.std.specs.Prelude.{◌≡◌, ◌≢◌, ◌↔◌, ℕ, ◌+◌, ◌*◌, ◌%◌, ◌≤◌, Bool, true, false, ◌&&◌, List, [], ◌∷◌, ◌++◌, length, map, IsOk, IsTrue, Result, Ok, Err, refl}
+use Rattle.std.specs.Prelude.{◌≡◌, ◌≢◌, ◌↔◌, ℕ, ◌*◌, ◌%◌, ◌≤◌, Bool, true, List, [], ◌∷◌, ◌++◌, length, map, IsOk, IsTrue, Result, Ok, Err, refl}
 use Rattle.std.proofs.Common.{sym, ap, subst, ◌∙◌, arith}
 use Rattle.std.specs.List.{AllByRecursion}
 use Rattle.std.proofs.lemmas.Bool.{and_parts, and_from}
@@ -9,13 +9,10 @@ use Rattle.nla_frame.specs.Error.{header_fault, memory_fault}
 use Rattle.nla_frame.specs.Framing.{Splits}
 use Rattle.nla_frame.specs.Pieces.{pieces, pieces_of, split}
 use Rattle.nla_frame.specs.declared.error.DecodeError.{DecodeError}
-use Rattle.nla_frame.specs.declared.error.Cause.{Cause}
 use Rattle.nla_frame.specs.declared.error.Cause.TheVariants as cause
-use Rattle.nla_frame.proofs.ByteLists.{IsBytes-list_string}
 use Rattle.nla_frame.proofs.Framing.{split_is, splits_attributes, splits_append}
 use Rattle.nla_frame.proofs.Stepping.{pieces_split, pieces_only, pieces-list_string, pieces_nil, seen_room, by_pieces}
-use Rattle.nla_frame.proofs.Emitting.{fits_inside}
-use Rattle.linkinfo_table.specs.Lists.{values, alike_pairs, AllWell, ◌>>=◌, if_read, values_under, headers_under, alike_under, well_under, first_meaning, first_headers, first_alike}
+use Rattle.linkinfo_table.specs.Lists.{values, alike_pairs, AllWell, ◌>>=◌, if_read, values_under, headers_under, alike_under, well_under, first_meaning}
 
 abbrev good : {A : Type 0} → A → Result A DecodeError
 good x = Ok x

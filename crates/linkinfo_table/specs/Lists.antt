@@ -1,6 +1,6 @@
 -- What a list of attributes means, over the pieces of its string, given what one attribute means. A state may go along, as the kind in force
 -- does at top level: `m t a` is the meaning of an attribute under the state, `after t a` the state behind it.
-use Rattle.std.specs.Prelude.{◌≡◌, ℕ, ◌+◌, Bool, true, false, ◌&&◌, ◌||◌, is_ok, List, [], ◌∷◌, ◌++◌, Result, Ok, Err}
+use Rattle.std.specs.Prelude.{ℕ, ◌+◌, Bool, true, false, ◌&&◌, ◌||◌, is_ok, List, [], ◌∷◌, ◌++◌, Result, Ok, Err}
 use Rattle.nla_frame.specs.Attribute.{Attribute}
 use Rattle.nla_frame.specs.Error.{header_fault}
 use Rattle.nla_frame.specs.declared.error.DecodeError.{DecodeError}

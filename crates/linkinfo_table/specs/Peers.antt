@@ -1,6 +1,6 @@
 -- A payload that is a peer of a type that is handed in: what its calls answer, the codec, and that it is lawful where the peer is.
-use Rattle.std.specs.Prelude.{◌≡◌, ◌≢◌, ◌↔◌, ℕ, ◌*◌, ◌≤◌, Bool, true, false, List, length, Option, Some, None, Result, Ok, Err, refl}
-use Rattle.std.proofs.Common.{arith, ap, ◌∙◌}
+use Rattle.std.specs.Prelude.{◌≡◌, ◌≢◌, ◌↔◌, ℕ, Bool, true, List, Option, Some, None, Result, Ok, Err}
+use Rattle.std.proofs.Common.{arith, ap}
 use Rattle.nla_frame.specs.Attribute.{IsBytes}
 use Rattle.nla_frame.specs.Error.{memory_fault}
 use Rattle.nla_frame.specs.declared.error.Cause.TheVariants as cause

@@ -1,20 +1,16 @@
 -- The laws of a family that is given by rows, whatever the codecs of its rows.
-use Rattle.std.specs.Prelude.{◌≡◌, ◌≢◌, ◌↔◌, ℕ, ◌*◌, ◌%◌, ◌<◌, ◌≤◌, ◌==◌, ◌&&◌, Bool, true, false, List, length, Result, Ok, Err, refl}
+use Rattle.std.specs.Prelude.{◌≡◌, ◌↔◌, ℕ, ◌*◌, ◌<◌, ◌≤◌, ◌==◌, true, List, length, Result, Ok, Err, refl}
 use Rattle.std.specs.Str.{bytes_eq}
 use Rattle.std.proofs.Common.{sym, ap, subst, ◌∙◌, arith}
 use Rattle.std.proofs.lemmas.Bool.{eqb-true, eq-eqb, and_parts, and_from}
 use Rattle.std.proofs.lemmas.Slice.Eq.{bytes_eq-Decides}
 use Rattle.nla_frame.specs.Attribute.{Attribute, IsAttribute, IsBytes, Fits, masked}
-use Rattle.nla_frame.specs.Error.{memory_fault}
 use Rattle.nla_frame.specs.Kept.{kept}
-use Rattle.nla_frame.specs.declared.error.Cause.{Cause}
-use Rattle.nla_frame.specs.declared.error.Cause.TheVariants as cause
 use Rattle.nla_frame.specs.declared.error.Family.{Family}
-use Rattle.nla_frame.specs.declared.error.Family.TheVariants as family
 use Rattle.nla_frame.specs.declared.error.DecodeError.{DecodeError}
 use Rattle.nla_frame.specs.declared.default_nla.DefaultNla.{DefaultNla}
-use Rattle.linkinfo_table.specs.Codecs.{Codec, Fault, Own, Inside, IsCodec}
-use Rattle.linkinfo_table.specs.Rows.{Entry, Row, Is, Refused, Unknown, fault_at, labelled, row_meaning, meaning_in, row_alike, alike_in, row_headers, headers_inside, WellAt, WellFormed, IsRow}
+use Rattle.linkinfo_table.specs.Codecs.{Fault}
+use Rattle.linkinfo_table.specs.Rows.{Entry, Row, Is, Refused, Unknown, labelled, row_meaning, meaning_in, row_alike, alike_in, row_headers, headers_inside, WellAt, WellFormed, IsRow}
 
 abbrev good : {A : Type 0} → A → Result A DecodeError
 good x = Ok x

@@ -1,5 +1,5 @@
 -- A family by its rows: what an attribute means, which attributes are alike, and which values are well formed.
-use Rattle.std.specs.Prelude.{◌≡◌, ℕ, ◌<◌, ◌==◌, ◌&&◌, Bool, true, false, List, Result, Ok, Err}
+use Rattle.std.specs.Prelude.{◌≡◌, ℕ, ◌<◌, ◌==◌, ◌&&◌, Bool, true, false, Result, Ok, Err}
 use Rattle.std.specs.Str.{bytes_eq}
 use Rattle.nla_frame.specs.Attribute.{Attribute, IsBytes, masked}
 use Rattle.nla_frame.specs.Kept.{kept}

@@ -1,8 +1,8 @@
 -- A payload that is a list of the same family, read by the family's rows under one list more: the codec, and that it is lawful where those
 -- rows are.
 use Rattle.std.specs.Prelude.{◌≡◌, ◌≢◌, ◌↔◌, ℕ, ◌*◌, ◌≤◌, Bool, true, List, length, map, Result, Ok, Err, refl}
-use Rattle.std.proofs.Common.{sym, ap, ◌∙◌}
-use Rattle.nla_frame.specs.Attribute.{Attribute, IsAttribute, IsBytes, Fits, list_string}
+use Rattle.std.proofs.Common.{ap}
+use Rattle.nla_frame.specs.Attribute.{Attribute, IsAttribute, Fits, list_string}
 use Rattle.nla_frame.specs.Error.{memory_fault}
 use Rattle.nla_frame.specs.Pieces.{pieces}
 use Rattle.nla_frame.specs.declared.error.Cause.TheVariants as cause
@@ -10,7 +10,7 @@ use Rattle.nla_frame.specs.declared.error.DecodeError.{DecodeError}
 use Rattle.nla_frame.proofs.ByteLists.{IsBytes-list_string}
 use Rattle.nla_frame.proofs.Emitting.{fits_inside}
 use Rattle.linkinfo_table.specs.Codecs.{Codec, Fault, Own, Inside, IsCodec}
-use Rattle.linkinfo_table.specs.Lists.{values, values_under, headers_of, alike_pairs, memory_of, AllWell}
+use Rattle.linkinfo_table.specs.Lists.{values, headers_of, alike_pairs, memory_of, AllWell}
 use Rattle.linkinfo_table.specs.ListLaws.{no_memory, quarter, lists_alike, read_is_well, well_attributes, well_is_read}
 
 abbrev pub inside : {X : Type 0} → Result X DecodeError → Result X Fault

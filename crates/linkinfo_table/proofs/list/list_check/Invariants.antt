@@ -1,8 +1,7 @@
-use Rattle.std.proofs.Common.{◌≡◌, ◌+◌, ◌*◌, ◌≤◌, false, length}
-use Rattle.std.specs.Prelude.{IsOk}
+use Rattle.std.proofs.Common.{◌≡◌, ◌+◌, ◌*◌, ◌≤◌, length}
 use Rattle.nla_frame.specs.Answers.{verdict}
 use Rattle.nla_frame.specs.Pieces.{pieces}
-use Rattle.linkinfo_table.specs.Lists.{values, behind, headers_of, memory_of, alike_pairs}
+use Rattle.linkinfo_table.specs.Lists.{values, headers_of}
 use Rattle.linkinfo_table.proofs.list.list_check.Given as goal
 
 abbrev pub invariant-loop-next : goal.invariant-loop-next

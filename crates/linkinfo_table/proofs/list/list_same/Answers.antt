@@ -1,4 +1,4 @@
-use Rattle.std.proofs.Common.{arith, ◌≡◌, true, sym, ◌∙◌}
+use Rattle.std.proofs.Common.{arith}
 use Rattle.linkinfo_table.specs.ListLaws.{lists_same}
 use Rattle.linkinfo_table.proofs.list.list_same.Goals as goal
 
