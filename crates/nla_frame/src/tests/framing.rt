@@ -139,12 +139,28 @@ fn frames_strings(rt: HostRuntime) -> Result<(), Fail> {
         &[(9, &[])],
         (fault, 1, 4),
     )?;
+    Ok(())
+}
+
+#[test]
+fn frames_short_length_fields(rt: HostRuntime) -> Result<(), Fail> {
+    let alloc = rt.alloc();
+    let none = None;
+    let fault = Some(HEADER_FAULT);
 
     // Length fields 0 to 4.
     check_walk(&rt, alloc, &[0, 0, 1, 0], &[], (fault, 1, 0))?;
     check_walk(&rt, alloc, &[1, 0, 1, 0], &[], (fault, 1, 0))?;
     check_walk(&rt, alloc, &[2, 0, 1, 0], &[], (fault, 1, 0))?;
     check_walk(&rt, alloc, &[4, 0, 1, 0], &[(1, &[])], (none, 1, 4))?;
+    Ok(())
+}
+
+#[test]
+fn passes_over_padding(rt: HostRuntime) -> Result<(), Fail> {
+    let alloc = rt.alloc();
+    let none = None;
+    let fault = Some(HEADER_FAULT);
 
     // The last attribute's padding may be absent, cut short, or anything.
     check_walk(&rt, alloc, &[5, 0, 1, 0, 7], &[(1, &[7])], (none, 1, 5))?;
