@@ -1,14 +1,15 @@
 -- One step over the attributes of a list.
 use Rattle.std.proofs.Common.{◌≡◌, ℕ, Bool, true, false, List, [], ◌∷◌, length, refl, sym, ap, subst, ◌∙◌, arith, Result, Ok, Err, Some}
 use Rattle.std.specs.Iterator.{MakesProgress, item_count}
-use Rattle.nla_frame.specs.Attribute.{Attribute}
+use Rattle.nla_frame.specs.Attribute.{Attribute, masked}
 use Rattle.nla_frame.specs.Pieces.{pieces}
 use Rattle.nla_frame.specs.Walk.{Walk, unread, Passes}
 use Rattle.nla_frame.specs.declared.error.DecodeError.{DecodeError}
 use Rattle.nla_frame.proofs.Stepping.{pieces_nil}
 use Rattle.linkinfo.specs.declared.role.InForce.{InForce}
 use Rattle.linkinfo.specs.declared.walk.LinkInfoItem.{LinkInfoItem}
-use Rattle.linkinfo.specs.Roles.{behind}
+use Rattle.linkinfo.specs.declared.role.Role.{Role}
+use Rattle.linkinfo.specs.Roles.{behind, behind_role, role_of}
 use Rattle.linkinfo.specs.Walks.{LinkWalk, left, item_or_fault, walk_items, items_left, FaultOf, Stops, Moves}
 
 abbrev walk : Walk → InForce → Bool → LinkWalk
@@ -17,6 +18,10 @@ walk attributes force failed = record { attributes = attributes; force = force; 
 -- after a fault nothing is left
 pub none_left : (attributes : Walk) (force : InForce) (failed : Bool) → failed ≡ true → pieces (left (walk attributes force failed)) ≡ []
 none_left attributes force failed e = ap (λ (f : Bool). pieces (left (walk attributes force f))) e ∙ pieces_nil
+
+-- the role of an attribute is that of its masked type
+pub behind_is : (t : InForce) (a : Attribute) (r : Role) (k : ℕ) → r ≡ role_of t k → k ≡ masked a.kind → behind_role r t a ≡ behind t a
+behind_is t a r k e h = ap (λ (s : Role). behind_role s t a) (e ∙ ap (λ (n : ℕ). role_of t n) h)
 
 -- an attribute's own fault
 pub own_fault : (attributes after : Walk) (force : InForce) (failed : Bool) (a : Attribute) (e : DecodeError) → failed ≡ false → Passes attributes a after →

@@ -1,2 +1,9 @@
+pub mod Data
+pub mod Families
+pub mod Items
+pub mod Payloads
+pub mod PortData
 pub mod Roles
+pub mod Strings
 pub mod Walks
+pub mod Xstats

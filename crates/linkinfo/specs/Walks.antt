@@ -7,8 +7,9 @@ use Rattle.nla_frame.specs.Pieces.{pieces}
 use Rattle.nla_frame.specs.Walk.{Walk, unread}
 use Rattle.nla_frame.specs.declared.error.DecodeError.{DecodeError}
 use Rattle.linkinfo.specs.declared.role.InForce.{InForce}
+use Rattle.linkinfo.specs.declared.role.Role.{Role}
 use Rattle.linkinfo.specs.declared.walk.LinkInfoItem.{LinkInfoItem}
-use Rattle.linkinfo.specs.Roles.{behind, none_in_force}
+use Rattle.linkinfo.specs.Roles.{behind, none_in_force, role_at}
 
 -- the attributes that are gone over, the kinds in force before the next one, and whether a fault was met
 pub record LinkWalk : Type 0 where
@@ -40,10 +41,10 @@ abbrev pub items_left : LinkWalk → List (Result Attribute DecodeError)
 items_left w = walk_items w.force (pieces (left w))
 
 -- One step: an attribute without a fault of its own, ..
-pub record Enters (s : LinkWalk) (a : Attribute) (u : InForce) (t : LinkWalk) : Type 0 where
+pub record Enters (s : LinkWalk) (a : Attribute) (r : Role) (t : LinkWalk) : Type 0 where
   pub pieces_are : pieces (left s) ≡ Ok a ∷ pieces (left t)
   pub attribute : IsAttribute a
-  pub before : u ≡ s.force
+  pub role : r ≡ role_at s.force a
   pub behind : behind s.force a ≡ Ok t.force
   pub value_is : a.value ≡ slice_range s.attributes.source (s.attributes.place + 4) (s.attributes.place + (4 + length a.value))
   pub examined : t.attributes.examined ≡ s.attributes.examined + 1
@@ -62,7 +63,7 @@ pub record Stops (s : LinkWalk) (e : DecodeError) (t : LinkWalk) : Type 0 where
   pub examined : t.attributes.examined ≡ s.attributes.examined + seen
 
 -- .. or the end.
-abbrev pub Advances : LinkWalk → Option (Result (Attribute × InForce) DecodeError) → LinkWalk → Type 0
+abbrev pub Advances : LinkWalk → Option (Result (Attribute × Role) DecodeError) → LinkWalk → Type 0
 Advances s None t = (t ≡ s) × (pieces (left s) ≡ [])
 Advances s (Some (Ok x)) t = Enters s x.0 x.1 t
 Advances s (Some (Err e)) t = Stops s e t

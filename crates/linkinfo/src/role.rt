@@ -2,7 +2,7 @@
 
 ghost use Rattle.std.specs.Prelude.{◌≡◌, Ok, Err, MatchResult};
 ghost use Rattle.nla_frame.specs.Attribute.{masked};
-ghost use Rattle.linkinfo.specs.Roles.{behind, fault_of_item, name_meaning, role_of};
+ghost use Rattle.linkinfo.specs.Roles.{behind_role, fault_of_item, name_meaning, role_of};
 
 use linkinfo_numbers::{KindTag, PortTag, port_tag_of_name, tag_of_name};
 use linkinfo_table::{Shape, read_datum};
@@ -101,12 +101,16 @@ pub(crate) fn name_in<'a>(nla: &NlaBuffer<'a>) -> Result<&'a str, DecodeError>
     }
 }
 
-/// The kinds in force behind an attribute, or the attribute's own fault: (LinkInfo, type, Order) for data or statistics without
+/// The kinds in force behind an attribute of this role, or the attribute's own fault: (LinkInfo, type, Order) for data or statistics without
 /// their kind, (LinkInfo, type, Utf8) for a name that is not UTF-8.
-pub(crate) fn behind(force: InForce, nla: &NlaBuffer<'_>) -> Result<InForce, DecodeError>
-    ensures { result ≡ behind force nla.now }
+pub(crate) fn behind(
+    role: Role,
+    force: InForce,
+    nla: &NlaBuffer<'_>,
+) -> Result<InForce, DecodeError>
+    ensures { result ≡ behind_role role force nla.now }
 {
-    match role_of(force, nla.kind()) {
+    match role {
         Role::Kind => {
             let name = name_in(nla)?;
             Ok(InForce {

@@ -4,7 +4,7 @@ ghost use Rattle.std.specs.Prelude.{◌≡◌, ◌*◌, ◌≤◌, length};
 ghost use Rattle.std.specs.Iterator.{item_count};
 ghost use Rattle.linkinfo.specs.Walks.{Advances, Moves, items_left, link_walk};
 
-use crate::role::{InForce, behind};
+use crate::role::{InForce, Role, behind, role_of};
 use linkinfo_numbers::{KindTag, PortTag};
 use nla_frame::{DecodeError, NlaBuffer, NlasIterator};
 use std::marker::Model;
@@ -63,8 +63,8 @@ impl<'a> LinkInfoWalk<'a> {
         self.attributes.examined()
     }
 
-    /// The next attribute, with the kinds in force before it.
-    pub(crate) fn advance(&mut self) -> Option<Result<(NlaBuffer<'a>, InForce), DecodeError>>
+    /// The next attribute, with its role under the kinds in force before it.
+    pub(crate) fn advance(&mut self) -> Option<Result<(NlaBuffer<'a>, Role), DecodeError>>
         ensures step { Advances self.old result self.new }
         ensures source { self.new.attributes.source ≡ self.old.attributes.source }
     {
@@ -73,11 +73,11 @@ impl<'a> LinkInfoWalk<'a> {
         }
         match self.attributes.next()? {
             Ok(nla) => {
-                let before = self.force;
-                match behind(before, &nla) {
+                let role = role_of(self.force, nla.kind());
+                match behind(role, self.force, &nla) {
                     Ok(force) => {
                         self.force = force;
-                        Some(Ok((nla, before)))
+                        Some(Ok((nla, role)))
                     }
                     Err(fault) => {
                         self.failed = true;
@@ -102,8 +102,9 @@ impl<'a> Iterator for LinkInfoWalk<'a> {
 
     fn next(&mut self) -> Option<Result<LinkInfoItem<'a>, DecodeError>> {
         let place = self.attributes.place();
+        let before = self.force;
         match self.advance()? {
-            Ok((nla, before)) => Some(Ok(LinkInfoItem {
+            Ok((nla, _)) => Some(Ok(LinkInfoItem {
                 place,
                 raw_kind: nla.raw_kind(),
                 value: nla.value(),

@@ -18,7 +18,8 @@ use Rattle.linkinfo_table.specs.Lists.{first_meaning, first_headers, first_alike
 use Rattle.linkinfo_table.specs.ListLaws.{header_is_no_memory, first_read_well, first_well_reads}
 use Rattle.linkinfo_table.specs.SelfList.{inside, read_inside, not_own, not_inner, list_codec, list_is_codec}
 use Rattle.linkinfo_table.specs.Rows.{meaning_in, alike_in, memory_in, WellFormed}
-use Rattle.linkinfo_table.specs.FamilyRows.{FamilyRow, row_of, RowOwes}
+use Rattle.linkinfo_table.specs.FamilyRows.{FamilyRow, PlainRow, EachKeeps, table_row, row_of, RowOwes}
+use Rattle.linkinfo_table.specs.FamilyRowLaws.{table_owes}
 use Rattle.linkinfo_table.specs.FlatLaws.{flat_alike_is, none_inside, flat_no_memory, flat_read_well, flat_well_reads, flat_well_attribute}
 
 pub record Members (X : Type 0) : Type 1 where
@@ -60,6 +61,16 @@ row_members_lawful family other attribute rows owes keeps_other = record {
   well_reads = λ x. flat_well_reads family other attribute rows owes keeps_other attribute (λ x. refl) x;
   well_attribute = λ x. flat_well_attribute family other attribute rows owes keeps_other attribute (λ x. refl) x;
 }
+
+-- a family that is given by a table
+abbrev pub table_members : {X : Type 0} → Family → (DefaultNla → X) → (X → Attribute) → List (PlainRow X) → Members X
+table_members family other attribute rows = row_members family other attribute (λ n. table_row rows n)
+
+pub table_members_lawful : {X : Type 0} (family : Family) (other : DefaultNla → X) (attribute : X → Attribute) (rows : List (PlainRow X)) →
+    EachKeeps attribute rows → ((d : DefaultNla) → attribute (other d) ≡ record { kind = d.kind; value = d.value }) →
+    IsFamily (table_members family other attribute rows)
+table_members_lawful family other attribute rows keeps keeps_other =
+    row_members_lawful family other attribute (λ n. table_row rows n) (λ n. table_owes attribute rows keeps n) keeps_other
 
 -- ---- a payload that is a list of attributes of the family
 

@@ -1,5 +1,5 @@
-use Rattle.std.proofs.Common.{refl, sym}
-use Rattle.linkinfo.proofs.Walking.{none_left, own_fault}
+use Rattle.std.proofs.Common.{refl, sym, ◌∙◌}
+use Rattle.linkinfo.proofs.Walking.{none_left, behind_is, own_fault}
 use Rattle.linkinfo.proofs.walk.LinkInfoWalk.advance.Goals as goal
 
 pub returns-then-self-clause-step : goal.returns-then-self-clause-step
@@ -8,4 +8,4 @@ returns-then-self-clause-step c = (refl, rw (← c.self.view_is) (none_left c.se
 pub returns-in-Err-behind-clause-step : goal.returns-in-Err-behind-clause-step
 returns-in-Err-behind-clause-step c =
     let moves = rw c.in-Ok.is at c.in_ok-nla.ensures.steps in
-    rw (← c.self.view_is) (own_fault _ _ _ _ _ _ c.if-self.false moves.steps (sym c.in-Err-behind.ensures))
+    rw (← c.self.view_is) (own_fault _ _ _ _ _ _ c.if-self.false moves.steps (sym (behind_is _ _ _ _ c.role_of-role.ensures c.kind.ensures) ∙ sym c.in-Err-behind.ensures))
