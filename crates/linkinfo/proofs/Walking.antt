@@ -2,10 +2,11 @@
 use Rattle.std.proofs.Common.{◌≡◌, ℕ, Bool, true, false, List, [], ◌∷◌, length, refl, sym, ap, subst, ◌∙◌, arith, Result, Ok, Err, Some}
 use Rattle.std.specs.Iterator.{MakesProgress, item_count}
 use Rattle.nla_frame.specs.Attribute.{Attribute, masked}
-use Rattle.nla_frame.specs.Pieces.{pieces}
-use Rattle.nla_frame.specs.Walk.{Walk, unread, Passes}
+use Rattle.nla_frame.specs.Error.{header_fault}
+use Rattle.nla_frame.specs.Pieces.{pieces, items_of, seen}
+use Rattle.nla_frame.specs.Walk.{Walk, unread, Passes, Fails, Moves as AttributeMoves}
 use Rattle.nla_frame.specs.declared.error.DecodeError.{DecodeError}
-use Rattle.nla_frame.proofs.Stepping.{pieces_nil}
+use Rattle.nla_frame.proofs.Stepping.{pieces_nil, seen_room}
 use Rattle.linkinfo.specs.declared.role.InForce.{InForce}
 use Rattle.linkinfo.specs.declared.walk.LinkInfoItem.{LinkInfoItem}
 use Rattle.linkinfo.specs.declared.role.Role.{Role}
@@ -34,6 +35,29 @@ own_fault attributes after force failed a e going passes fault =
       fault = subst (λ (ps : List (Result Attribute ℕ)). FaultOf force ps e 1) (sym parts) (fault, refl);
       failed = refl;
       examined = passes.examined;
+      room = omega (arith, ap (λ (f : Bool). length (left (walk attributes force f))) going, passes.room);
+    }
+
+-- a header that is not accepted
+abbrev fault : DecodeError → Result Attribute DecodeError
+fault e = Err e
+
+first_fault : (d e : DecodeError) (xs ys : List (Result Attribute DecodeError)) → (fault d ∷ xs) ≡ (fault e ∷ ys) → d ≡ e
+first_fault d e xs ys h = cc
+
+pub no_header : (attributes after : Walk) (force : InForce) (failed : Bool) (e : DecodeError) → failed ≡ false → AttributeMoves attributes (Some (Err e)) after →
+    Stops (walk attributes force failed) e (walk after force true)
+no_header attributes after force failed e going moves =
+    let fails : Fails attributes after = moves.steps in
+    let is : e ≡ header_fault = first_fault e header_fault _ [] (sym moves.gives ∙ ap items_of fails.pieces_are) in
+    let unread_is : left (walk attributes force failed) ≡ unread attributes = ap (λ (f : Bool). left (walk attributes force f)) going in
+    let parts : pieces (left (walk attributes force failed)) ≡ Err (seen (unread attributes)) ∷ [] = ap pieces unread_is ∙ fails.pieces_are in
+    record {
+      seen = seen (unread attributes);
+      fault = subst (λ (ps : List (Result Attribute ℕ)). FaultOf force ps e (seen (unread attributes))) (sym parts) (is, refl);
+      failed = refl;
+      examined = fails.examined;
+      room = omega (arith, ap length unread_is, seen_room (unread attributes));
     }
 
 -- the fault is the one item left

@@ -1,5 +1,5 @@
 -- Going over the attributes of a list with the kinds in force before each.
-use Rattle.std.specs.Prelude.{◌≡◌, ◌≤◌, ℕ, ◌+◌, Bool, true, false, if◌then◌else◌, List, [], ◌∷◌, length, slice_range, Option, Some, None, Result, Ok, Err}
+use Rattle.std.specs.Prelude.{◌≡◌, ◌≤◌, ℕ, ◌+◌, ◌*◌, Bool, true, false, if◌then◌else◌, List, [], ◌∷◌, length, slice_range, Option, Some, None, Result, Ok, Err}
 use Rattle.std.specs.Iterator.{YieldsFirst}
 use Rattle.nla_frame.specs.Attribute.{Attribute, IsAttribute}
 use Rattle.nla_frame.specs.Error.{header_fault}
@@ -61,6 +61,7 @@ pub record Stops (s : LinkWalk) (e : DecodeError) (t : LinkWalk) : Type 0 where
   pub fault : FaultOf s.force (pieces (left s)) e seen
   pub failed : t.failed ≡ true
   pub examined : t.attributes.examined ≡ s.attributes.examined + seen
+  pub room : 4 * seen ≤ length (left s)
 
 -- .. or the end.
 abbrev pub Advances : LinkWalk → Option (Result (Attribute × Role) DecodeError) → LinkWalk → Type 0

@@ -9,7 +9,10 @@ ghost use Rattle.linkinfo.specs.Data.{data_of, family_of};
 use crate::fits::fitting;
 use linkinfo_devices::{InfoVrf, InfoXfrm};
 use linkinfo_numbers::{InfoKind, KindTag};
-use linkinfo_table::{LinkPeer, list_check, list_read, list_same};
+use linkinfo_peers::InfoVethOf;
+use linkinfo_table::{
+    LinkPeer, first_check, first_read, first_same, list_check, list_read, list_same,
+};
 use nla_frame::{
     Bytes, DecodeError, HeaderCount, Nla, Nlas, emit_nlas, nlas_buffer_len, nlas_fit_len,
 };
@@ -21,6 +24,8 @@ const IFLA_INFO_DATA: u16 = 2;
 /// The family of the attributes in a kind's data.
 #[derive(Clone, Copy, Debug, PartialEq, Eq)]
 pub enum DataFamily {
+    /// Those of veth links, of which the first alone is read.
+    Veth,
     /// Those of vrf links.
     Vrf,
     /// Those of xfrm links.
@@ -34,6 +39,7 @@ pub(crate) fn family_of(tag: KindTag) -> DataFamily
     ensures { result ≡ family_of tag }
 {
     match tag {
+        KindTag::Veth => DataFamily::Veth,
         KindTag::Vrf => DataFamily::Vrf,
         KindTag::Xfrm => DataFamily::Xfrm,
         _ => DataFamily::Raw,
@@ -43,13 +49,14 @@ pub(crate) fn family_of(tag: KindTag) -> DataFamily
 /// The data of a link: attributes of the family of its kind, or the bytes.
 #[derive(Debug, PartialEq, Eq, Clone, Drop)]
 pub enum InfoDataOf<P> {
+    /// Of `veth`: the first attribute alone.
+    Veth(InfoVethOf<P>),
     /// Of `vrf`.
     Vrf(Nlas<InfoVrf>),
     /// Of `xfrm`.
     Xfrm(Nlas<InfoXfrm>),
     /// Of a kind without a family.
     Other(Bytes),
-    Never(P),
 }
 
 /// Reads a payload as data of a family.
@@ -67,6 +74,7 @@ pub(crate) fn read_data<P: LinkPeer>(
     ensures quarter { 4 * count.new ≤ 4 * count.old + length payload.now }
 {
     match family {
+        DataFamily::Veth => Ok(InfoDataOf::Veth(first_read(alloc, payload, (), count)?)),
         DataFamily::Vrf => Ok(InfoDataOf::Vrf(Nlas::new(list_read(
             alloc,
             payload,
@@ -95,6 +103,7 @@ pub(crate) fn check_data<P: LinkPeer>(
     ensures quarter { 4 * count.new ≤ 4 * count.old + length payload.now }
 {
     match family {
+        DataFamily::Veth => first_check::<InfoVethOf<P>>(payload, (), count),
         DataFamily::Vrf => list_check::<InfoVrf>(payload, (), count),
         DataFamily::Xfrm => list_check::<InfoXfrm>(payload, (), count),
         DataFamily::Raw => Ok(()),
@@ -117,6 +126,7 @@ pub(crate) fn same_data<P: LinkPeer>(
     ensures quarter { 4 * count.new ≤ 4 * count.old + (length a.now + length b.now) }
 {
     match family {
+        DataFamily::Veth => first_same::<InfoVethOf<P>>(a, b, (), count),
         DataFamily::Vrf => list_same::<InfoVrf>(a, b, (), count),
         DataFamily::Xfrm => list_same::<InfoXfrm>(a, b, (), count),
         DataFamily::Raw => a == b,
@@ -151,10 +161,10 @@ impl<P: LinkPeer> Nla for InfoDataOf<P> {
     #[tactic(auto, using(nla_frame::proofs::Emitting::list_fits, nla_frame::proofs::Emitting::one_fits))]
     fn value_len(&self) -> usize {
         match self {
+            InfoDataOf::Veth(nla) => nla.buffer_len(),
             InfoDataOf::Vrf(list) => nlas_buffer_len(list.as_slice()),
             InfoDataOf::Xfrm(list) => nlas_buffer_len(list.as_slice()),
             InfoDataOf::Other(bytes) => bytes.len(),
-            InfoDataOf::Never(p) => 0,
         }
     }
 
@@ -165,20 +175,20 @@ impl<P: LinkPeer> Nla for InfoDataOf<P> {
     #[tactic(auto, using(nla_frame::proofs::Emitting::list_fits, nla_frame::proofs::Emitting::one_fits))]
     fn emit_value(&self, buffer: &mut [u8]) {
         match self {
+            InfoDataOf::Veth(nla) => nla.emit(buffer),
             InfoDataOf::Vrf(list) => emit_nlas(list.as_slice(), buffer),
             InfoDataOf::Xfrm(list) => emit_nlas(list.as_slice(), buffer),
             InfoDataOf::Other(bytes) => buffer.copy_from_slice(bytes.as_slice()),
-            InfoDataOf::Never(p) => {},
         }
     }
 
     #[tactic(auto, using(nla_frame::proofs::Emitting::list_fits, nla_frame::proofs::Emitting::one_fits))]
     fn fit_len(&self) -> Option<usize> {
         match self {
+            InfoDataOf::Veth(nla) => fitting(4 + nla.fit_len()?.next_multiple_of(4)),
             InfoDataOf::Vrf(list) => fitting(nlas_fit_len(list.as_slice())?),
             InfoDataOf::Xfrm(list) => fitting(nlas_fit_len(list.as_slice())?),
             InfoDataOf::Other(bytes) => fitting(bytes.len()),
-            InfoDataOf::Never(p) => None,
         }
     }
 }

@@ -15,7 +15,7 @@ use nla_frame::{DecodeError, HeaderCount};
 use std::alloc::Global;
 
 /// Reads the attributes that a walk has not gone over. The headers that the walk looks at are not counted here.
-#[tactic(auto, unfolding(linkinfo_table::specs::Rows::meaning_in, linkinfo_table::specs::Rows::headers_inside, linkinfo_table::specs::Rows::memory_in))]
+
 fn read_rest<P: LinkPeer>(
     alloc: Global,
     walk: &mut LinkInfoWalk<'_>,
@@ -31,7 +31,27 @@ fn read_rest<P: LinkPeer>(
     let mut items = Vec::new(alloc);
     while let Some(next) = walk.advance() {
         let (nla, role) = next?;
-        items.push(read_item(alloc, &nla, role, count)?)?;
+        match read_item(alloc, &nla, role, count) {
+            Ok(item) => items.push(item)?,
+            Err(fault) => return Err(fault),
+        }
     }
     Ok(items)
+}
+
+/// Checks the attributes that a walk has not gone over, as `read_rest` reads them. Takes no memory.
+fn check_rest<P: LinkPeer>(
+    walk: &mut LinkInfoWalk<'_>,
+    count: &mut HeaderCount,
+) -> Result<(), DecodeError>
+    requires { 4 * (count.old + walk.old.attributes.examined) + length (left walk.old) < 4 * 2 ^ 64 }
+    ensures answer { result ≡ verdict (values_from P.LinkPeer.own walk.old.force (pieces (left walk.old))) }
+    ensures counted { count.new + walk.new.attributes.examined ≡ (count.old + walk.old.attributes.examined) + headers_from P.LinkPeer.own walk.old.force (pieces (left walk.old)) }
+    ensures quarter { 4 * (count.new + walk.new.attributes.examined) ≤ 4 * (count.old + walk.old.attributes.examined) + length (left walk.old) }
+{
+    while let Some(next) = walk.advance() {
+        let (nla, role) = next?;
+        check_item::<P>(&nla, role, count)?;
+    }
+    Ok(())
 }

@@ -7,6 +7,7 @@ pub mod Levels
 pub mod ListLaws
 pub mod Lists
 pub mod Members
+pub mod PeerLaws
 pub mod Peers
 pub mod RowLaws
 pub mod Rows
