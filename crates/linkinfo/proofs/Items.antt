@@ -43,7 +43,7 @@ use Rattle.linkinfo.specs.Strings.{or_stay, force_after, force_behind}
 
 -- ---- what the rows owe
 
-unknown_from_six : (t : InForce) (n : ℕ) → role_of t (suc (suc (suc (suc (suc (suc n)))))) ≡ role.Unknown
+pub unknown_from_six : (t : InForce) (n : ℕ) → role_of t (suc (suc (suc (suc (suc (suc n)))))) ≡ role.Unknown
 unfolding role_of
 unknown_from_six t n =
     let k : ℕ = suc (suc (suc (suc (suc (suc n))))) in
@@ -56,10 +56,16 @@ module _ {P : Type 0} (peer : Ghosts P) where
   abbrev good : LinkInfoOf P → Result (LinkInfoOf P) DecodeError
   good x = Ok x
 
-  kinds_same : (k l : InfoKind) → info.Kind {P = P} k ≡ info.Kind l → k ≡ l
+  abbrev a_kind : InfoKind → LinkInfoOf P
+  a_kind k = info.Kind k
+
+  abbrev a_port_kind : InfoPortKind → LinkInfoOf P
+  a_port_kind k = info.PortKind k
+
+  kinds_same : (k l : InfoKind) → a_kind k ≡ a_kind l → k ≡ l
   kinds_same k l e = cc
 
-  port_kinds_same : (k l : InfoPortKind) → info.PortKind {P = P} k ≡ info.PortKind l → k ≡ l
+  port_kinds_same : (k l : InfoPortKind) → a_port_kind k ≡ a_port_kind l → k ≡ l
   port_kinds_same k l e = cc
 
   kind_owes : RowOwes attribute 1 (link_row peer role.Kind)
@@ -193,7 +199,7 @@ module _ {P : Type 0} (peer : Ghosts P) where
   pub same_role : (t : InForce) (a b : Attribute) → masked b.kind ≡ masked a.kind → role_at t b ≡ role_at t a
   same_role t a b e = ap (λ (n : ℕ). role_of t n) e
 
-  role_alike_after : (r : Role) (t : InForce) (a b : Attribute) → row_alike (link_row peer r) a b ≡ true →
+  pub role_alike_after : (r : Role) (t : InForce) (a b : Attribute) → row_alike (link_row peer r) a b ≡ true →
       (masked b.kind ≡ masked a.kind) × (or_stay t (behind_role r t a) ≡ or_stay t (behind_role r t b))
   role_alike_after role.Kind t a b h =
       let both = and_parts (eqb (masked b.kind) (masked a.kind)) (bytes_eq (stripped a.value) (stripped b.value)) h in

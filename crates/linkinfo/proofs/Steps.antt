@@ -45,14 +45,14 @@ entered_any role.Misplaced t u a e = absurd cc
 entered_any _ t u a e = refl
 
 module _ {P : Type 0} (peer : Ghosts P) where
-  abbrev meant : Role → Attribute → Result (LinkInfoOf P) DecodeError
+  abbrev pub meant : Role → Attribute → Result (LinkInfoOf P) DecodeError
   meant r a = row_meaning family.LinkInfo link_other (link_row peer r) a
 
-  meaning_is : (t : InForce) (a : Attribute) (r : Role) → r ≡ role_at t a → link_meaning peer t a ≡ meant r a
+  pub meaning_is : (t : InForce) (a : Attribute) (r : Role) → r ≡ role_at t a → link_meaning peer t a ≡ meant r a
   unfolding meaning_in
   meaning_is t a r e = ap (λ (s : Role). meant s a) (sym e)
 
-  headers_is : (t : InForce) (a : Attribute) (r : Role) → r ≡ role_at t a → link_headers peer t a ≡ row_headers (link_row peer r) a
+  pub headers_is : (t : InForce) (a : Attribute) (r : Role) → r ≡ role_at t a → link_headers peer t a ≡ row_headers (link_row peer r) a
   unfolding headers_inside
   headers_is t a r e = ap (λ (s : Role). row_headers (link_row peer s) a) (sym e)
 
@@ -96,7 +96,7 @@ module _ {P : Type 0} (peer : Ghosts P) where
       }
 
   -- an attribute's own fault is what it means
-  own_fault_is : (r : Role) (t : InForce) (a : Attribute) (e : DecodeError) → behind_role r t a ≡ Err e → (meant r a ≡ Err e) × (row_headers (link_row peer r) a ≡ 0)
+  pub own_fault_is : (r : Role) (t : InForce) (a : Attribute) (e : DecodeError) → behind_role r t a ≡ Err e → (meant r a ≡ Err e) × (row_headers (link_row peer r) a ≡ 0)
   own_fault_is role.Kind t a e h = (named_err (λ name. info.Kind (kind_of_name name)) a e (go (name_meaning a) _ h), refl)
     where
       go : (n : Result (List ℕ) DecodeError) (f : List ℕ → InForce) → with_name n f ≡ Err e → n ≡ Err e

@@ -1,24 +1,37 @@
 -- The laws of whole strings: what is read is well formed, a canonical string reads back exactly where its list is well formed, strings read one
 -- behind another, and alike strings mean the same.
-use Rattle.std.proofs.Common.{◌≡◌, ℕ, ◌*◌, ◌≤◌, ◌%◌, Bool, true, false, List, [], ◌∷◌, ◌++◌, length, map, refl, sym, ap, subst, ◌∙◌, Result, Ok, Err, Option, Some, None}
+use Rattle.std.proofs.Common.{◌≡◌, ℕ, zero, suc, ◌*◌, ◌≤◌, ◌%◌, Bool, true, false, List, [], ◌∷◌, ◌++◌, length, map, refl, sym, ap, subst, ◌∙◌, Result, Ok, Err, Option, Some, None}
 use Rattle.std.specs.Prelude.{◌↔◌, IfOk, IsOk, IsTrue}
 use Rattle.std.specs.List.{AllByRecursion}
-use Rattle.nla_frame.specs.Attribute.{Attribute, IsAttribute, IsBytes, Fits, list_string}
+use Rattle.nla_frame.specs.Attribute.{Attribute, IsBytes, Fits, list_string, masked}
 use Rattle.nla_frame.specs.Pieces.{pieces}
 use Rattle.nla_frame.specs.declared.error.Family.TheVariants as family
 use Rattle.nla_frame.specs.declared.error.DecodeError.{DecodeError}
+use Rattle.nla_frame.proofs.ByteLists.{IsBytes-nil, IsBytes-cons}
+use Rattle.linkinfo_numbers.specs.declared.names.KindTag.{KindTag}
+use Rattle.linkinfo_numbers.specs.declared.names.PortTag.{PortTag}
+use Rattle.linkinfo_numbers.specs.Kind.{tag_of_name}
+use Rattle.linkinfo_numbers.specs.PortKind.{port_tag_of_name}
 use Rattle.linkinfo_table.specs.declared.peer.LinkPeer.{Ghosts}
 use Rattle.linkinfo_table.specs.PeerLaws.{IsPeer}
 use Rattle.linkinfo_table.specs.ListLaws.{quarter, lists_alike, read_is_well, well_is_read, canonical_law, append_law}
-use Rattle.linkinfo_table.specs.Rows.{row_meaning}
+use Rattle.linkinfo_table.specs.Rows.{meaning_in, row_meaning}
 use Rattle.linkinfo.specs.declared.link_info.LinkInfoOf.{LinkInfoOf}
 use Rattle.linkinfo.specs.declared.role.InForce.{InForce}
 use Rattle.linkinfo.specs.declared.role.Role.{Role}
 use Rattle.linkinfo.specs.declared.role.Role.TheVariants as role
 use Rattle.linkinfo.specs.Items.{link_attribute, link_headers, link_meaning, link_alike, link_well, link_row, link_other}
-use Rattle.linkinfo.specs.Roles.{none_in_force, role_at}
-use Rattle.linkinfo.specs.Strings.{force_after, force_behind, values_from, headers_from, alike_from, reading, headers_of_string, alike_strings, WellFormed}
-use Rattle.linkinfo.proofs.Items.{link_alike_is, link_read_well, link_well_reads, link_well_attribute, link_quarter, link_next, link_alike_after}
+use Rattle.linkinfo.specs.Roles.{behind_role, name_meaning, none_in_force, role_of, role_under, with_name}
+use Rattle.linkinfo.specs.Strings.{or_stay, force_after, force_behind, values_from, headers_from, alike_from, reading, headers_of_string, alike_strings, WellFormed}
+use Rattle.linkinfo.proofs.Items.{link_alike_is, link_read_well, link_well_reads, link_well_attribute, link_quarter, link_next, link_alike_after, unknown_from_six}
+
+IsBytes-left : (x y : List ℕ) → IsBytes (x ++ y) → IsBytes x
+IsBytes-left [] y h = IsBytes-nil
+IsBytes-left (b ∷ x) y h = IsBytes-cons b x (h 0) (IsBytes-left x y (λ i. h (suc i)))
+
+IsBytes-right : (x y : List ℕ) → IsBytes (x ++ y) → IsBytes y
+IsBytes-right [] y h = h
+IsBytes-right (b ∷ x) y h = IsBytes-right x y (λ i. h (suc i))
 
 module _ {P : Type 0} (peer : Ghosts P) (law : IsPeer peer) where
   abbrev attribute : LinkInfoOf P → Attribute
@@ -88,6 +101,9 @@ module _ {P : Type 0} (peer : Ghosts P) (law : IsPeer peer) where
 
   -- ---- one string behind another
 
+  abbrev meant : Role → Attribute → Result (LinkInfoOf P) DecodeError
+  meant r a = row_meaning family.LinkInfo link_other (link_row peer r) a
+
   -- at least the kinds in force
   abbrev kept_in : {A : Type 0} → Option A → Option A → Type 0
   kept_in None o = Unit {0}
@@ -96,3 +112,85 @@ module _ {P : Type 0} (peer : Ghosts P) (law : IsPeer peer) where
   record Less (t u : InForce) : Type 0 where
     kind : kept_in t.kind u.kind
     port : kept_in t.port u.port
+
+  data_more : (o q : Option KindTag) (a : Attribute) (x : LinkInfoOf P) → kept_in o q → meant (role_under o (λ tag. role.Data tag)) a ≡ Ok x →
+      meant (role_under q (λ tag. role.Data tag)) a ≡ Ok x
+  data_more None q a x h e = absurd cc
+  data_more (Some g) q a x h e = ap (λ (r : Option KindTag). meant (role_under r (λ tag. role.Data tag)) a) h ∙ e
+
+  xstats_more : (o q : Option KindTag) (a : Attribute) (x : LinkInfoOf P) → kept_in o q → meant (role_under o (λ _. role.Xstats)) a ≡ Ok x →
+      meant (role_under q (λ _. role.Xstats)) a ≡ Ok x
+  xstats_more None q a x h e = absurd cc
+  xstats_more (Some g) q a x h e = ap (λ (r : Option KindTag). meant (role_under r (λ _. role.Xstats)) a) h ∙ e
+
+  port_more : (o q : Option PortTag) (a : Attribute) (x : LinkInfoOf P) → kept_in o q → meant (role_under o (λ tag. role.PortData tag)) a ≡ Ok x →
+      meant (role_under q (λ tag. role.PortData tag)) a ≡ Ok x
+  port_more None q a x h e = absurd cc
+  port_more (Some g) q a x h e = ap (λ (r : Option PortTag). meant (role_under r (λ tag. role.PortData tag)) a) h ∙ e
+
+  reads_more : (n : ℕ) (t u : InForce) (a : Attribute) (x : LinkInfoOf P) → Less t u → meant (role_of t n) a ≡ Ok x → meant (role_of u n) a ≡ Ok x
+  unfolding role_of
+  reads_more zero t u a x less e = e
+  reads_more (suc zero) t u a x less e = e
+  reads_more (suc (suc zero)) t u a x less e = data_more t.kind u.kind a x less.kind e
+  reads_more (suc (suc (suc zero))) t u a x less e = xstats_more t.kind u.kind a x less.kind e
+  reads_more (suc (suc (suc (suc zero)))) t u a x less e = e
+  reads_more (suc (suc (suc (suc (suc zero))))) t u a x less e = port_more t.port u.port a x less.port e
+  reads_more (suc (suc (suc (suc (suc (suc n)))))) t u a x less e =
+      ap (λ (r : Role). meant r a) (unknown_from_six u n) ∙ sym (ap (λ (r : Role). meant r a) (unknown_from_six t n)) ∙ e
+
+  less_reads : (t u : InForce) (a : Attribute) (x : LinkInfoOf P) → Less t u → link_meaning peer t a ≡ Ok x → link_meaning peer u a ≡ Ok x
+  unfolding meaning_in
+  less_reads t u a x less e = reads_more (masked a.kind) t u a x less e
+
+  -- the kinds in force behind an attribute, by its type
+  less_name : (m : Result (List ℕ) DecodeError) (t u : InForce) (f : InForce → List ℕ → InForce) → ((name : List ℕ) → Less (f t name) (f u name)) → Less t u →
+      Less (or_stay t (with_name m (f t))) (or_stay u (with_name m (f u)))
+  less_name (Ok name) t u f h less = h name
+  less_name (Err e) t u f h less = less
+
+  less_port : (o q : Option PortTag) (t u : InForce) (a : Attribute) → t.port ≡ o → u.port ≡ q → Less t u →
+      Less (or_stay t (behind_role (role_under o (λ tag. role.PortData tag)) t a)) (or_stay u (behind_role (role_under q (λ tag. role.PortData tag)) u a))
+  less_port None None t u a e f less = less
+  less_port None (Some g) t u a e f less = record { kind = less.kind; port = subst (λ (o : Option PortTag). kept_in o None) (sym e) tt }
+  less_port (Some g) None t u a e f less = absurd (none_some (sym f ∙ subst (λ (o : Option PortTag). kept_in o u.port) e less.port))
+    where
+      none_some : None ≡ Some g → ⊥
+      none_some h = cc
+  less_port (Some g) (Some k) t u a e f less = record { kind = less.kind; port = tt }
+
+  less_stay : (o q : Option KindTag) (at : KindTag → Role) (t u : InForce) (a : Attribute) →
+      ((tag : KindTag) (v : InForce) → or_stay v (behind_role (at tag) v a) ≡ v) → Less t u →
+      Less (or_stay t (behind_role (role_under o at) t a)) (or_stay u (behind_role (role_under q at) u a))
+  less_stay None None at t u a stay less = less
+  less_stay None (Some g) at t u a stay less = subst (λ (v : InForce). Less t v) (sym (stay g u)) less
+  less_stay (Some g) None at t u a stay less = subst (λ (v : InForce). Less v u) (sym (stay g t)) less
+  less_stay (Some g) (Some k) at t u a stay less =
+      subst (λ (v : InForce). Less v (or_stay u (behind_role (at k) u a))) (sym (stay g t)) (subst (λ (v : InForce). Less t v) (sym (stay k u)) less)
+
+  after_more : (n : ℕ) (t u : InForce) (a : Attribute) → Less t u → Less (or_stay t (behind_role (role_of t n) t a)) (or_stay u (behind_role (role_of u n) u a))
+  unfolding role_of
+  after_more zero t u a less = less
+  after_more (suc zero) t u a less =
+      less_name (name_meaning a) t u (λ v name. record { kind = Some (tag_of_name name); port = v.port }) (λ name. record { kind = refl; port = less.port }) less
+  after_more (suc (suc zero)) t u a less = less_stay t.kind u.kind (λ tag. role.Data tag) t u a (λ tag v. refl) less
+  after_more (suc (suc (suc zero))) t u a less = less_stay t.kind u.kind (λ _. role.Xstats) t u a (λ tag v. refl) less
+  after_more (suc (suc (suc (suc zero)))) t u a less =
+      less_name (name_meaning a) t u (λ v name. record { kind = v.kind; port = Some (port_tag_of_name name) }) (λ name. record { kind = less.kind; port = refl }) less
+  after_more (suc (suc (suc (suc (suc zero))))) t u a less = less_port t.port u.port t u a refl refl less
+  after_more (suc (suc (suc (suc (suc (suc n)))))) t u a less =
+      subst (λ (v : InForce). Less v (or_stay u (behind_role (role_of u (suc (suc (suc (suc (suc (suc n))))))) u a)))
+      (sym (ap (λ (r : Role). or_stay t (behind_role r t a)) (unknown_from_six t n)))
+      (subst (λ (v : InForce). Less t v) (sym (ap (λ (r : Role). or_stay u (behind_role r u a)) (unknown_from_six u n))) less)
+
+  less_after : (t u : InForce) (a : Attribute) → Less t u → Less (force_after t a) (force_after u a)
+  unfolding force_after
+  less_after t u a less = after_more (masked a.kind) t u a less
+
+  pub appended_reading : (s a b : List ℕ) (xs ys : List (LinkInfoOf P)) → IsBytes s → length a % 4 ≡ 0 → s ≡ a ++ b → reading peer a ≡ Ok xs → reading peer b ≡ Ok ys →
+      reading peer s ≡ Ok (xs ++ ys)
+  unfolding reading
+  appended_reading s a b xs ys bytes four e h k =
+      let both : IsBytes (a ++ b) = subst IsBytes e bytes in
+      append_law (link_meaning peer) force_after Less less_reads less_after none_in_force s a b xs ys (λ _. record { kind = tt; port = tt }) (IsBytes-left a b both)
+      (IsBytes-right a b both) four e h k

@@ -1,3 +1,4 @@
+pub mod Comparing
 pub mod Data
 pub mod Families
 pub mod Items

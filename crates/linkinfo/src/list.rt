@@ -4,14 +4,21 @@ ghost use Rattle.std.specs.Prelude.{◌≡◌, ◌↔◌, ◌+◌, ◌*◌, ◌/
 ghost use Rattle.std.specs.Bool.{OnTrue};
 ghost use Rattle.nla_frame.specs.Answers.{CertainUnless, Gives, OnAnswer, verdict};
 ghost use Rattle.nla_frame.specs.Pieces.{pieces};
-ghost use Rattle.linkinfo.specs.Strings.{alike_from, headers_from, memory_from, values_from};
+ghost use Rattle.nla_frame.specs.Attribute.{Fits, list_string};
+ghost use Rattle.std.specs.Prelude.{List, ◌++◌, ◌%◌, map, IfOk, Ok};
+ghost use Rattle.std.specs.List.{AllByRecursion};
+ghost use Rattle.linkinfo.specs.Comparing.{same_answer, same_counts};
+ghost use Rattle.linkinfo.specs.Items.{link_attribute};
+ghost use Rattle.linkinfo.specs.Roles.{none_in_force};
+ghost use Rattle.linkinfo.specs.Strings.{alike_from, headers_from, memory_from, values_from, alike_strings, headers_of_string, reading, reading_needs_memory, WellFormed};
 ghost use Rattle.linkinfo.specs.Walks.{left};
 
 use crate::item::{check_item, read_item, same_item};
 use crate::link_info::LinkInfoOf;
+use crate::role::{InForce, behind, role_of};
 use crate::walk::LinkInfoWalk;
 use linkinfo_table::LinkPeer;
-use nla_frame::{DecodeError, HeaderCount};
+use nla_frame::{Bytes, DecodeError, HeaderCount, Nlas, next_piece};
 use std::alloc::Global;
 
 /// Reads the attributes that a walk has not gone over. The headers that the walk looks at are not counted here.
@@ -54,4 +61,34 @@ fn check_rest<P: LinkPeer>(
         check_item::<P>(&nla, role, count)?;
     }
     Ok(())
+}
+
+/// Whether two accepted strings mean the same list, attribute by attribute, each pair under the kinds in force in the first. Takes no memory.
+fn same_strings<P: LinkPeer>(a: &[u8], b: &[u8], count: &mut HeaderCount) -> bool
+    requires first { IsOk (values_from P.LinkPeer.own none_in_force (pieces a.now)) }
+    requires second { IsOk (values_from P.LinkPeer.own none_in_force (pieces b.now)) }
+    requires room { count.old + (length a.now + length b.now) / 4 < 2 ^ 64 }
+    ensures same { result ≡ alike_from P.LinkPeer.own none_in_force (pieces a.now) (pieces b.now) }
+    ensures counted { OnTrue result (count.new ≡ count.old + (headers_from P.LinkPeer.own none_in_force (pieces a.now) + headers_from P.LinkPeer.own none_in_force (pieces b.now))) }
+    ensures rises { count.old ≤ count.new }
+    ensures quarter { 4 * count.new ≤ 4 * count.old + (length a.now + length b.now) }
+{
+    let mut x = a;
+    let mut y = b;
+    let mut force = InForce::none();
+    while let Some(next) = next_piece(x, count) {
+        let Some(other) = next_piece(y, count) else {
+            return false;
+        };
+        let (p, after_p) = next.unwrap();
+        let (q, after_q) = other.unwrap();
+        let role = role_of(force, p.kind());
+        if !same_item::<P>(&p, &q, role, count) {
+            return false;
+        }
+        force = behind(role, force, &p).unwrap();
+        x = after_p;
+        y = after_q;
+    }
+    next_piece(y, count).is_none()
 }
