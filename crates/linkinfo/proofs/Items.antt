@@ -1,12 +1,11 @@
 -- The laws of the attributes of a list: each row owes what a row of a family owes, and the kinds in force behind an attribute are those behind
 -- its value.
-use Rattle.std.proofs.Common.{◌≡◌, ℕ, zero, suc, ◌+◌, ◌*◌, ◌<◌, ◌≤◌, Bool, true, false, eqb, ◌&&◌, List, [], ◌∷◌, ◌++◌, length, refl, sym, ap, subst, ◌∙◌, arith, Result, Ok, Err, Option, Some, None, lit<}
+use Rattle.std.proofs.Common.{◌≡◌, ℕ, zero, suc, ◌*◌, ◌≤◌, true, eqb, List, length, refl, sym, ap, subst, ◌∙◌, arith, Result, Ok, Err, Option, Some, None, lit<}
 use Rattle.std.specs.Prelude.{◌≢◌, ◌↔◌}
 use Rattle.std.specs.Str.{bytes_eq}
 use Rattle.std.proofs.lemmas.Bool.{eqb-true, ne_eqb, and_parts}
 use Rattle.std.proofs.lemmas.Slice.Eq.{bytes_eq-Decides}
 use Rattle.nla_frame.specs.Attribute.{Attribute, IsAttribute, Fits, masked}
-use Rattle.nla_frame.specs.Error.{memory_fault}
 use Rattle.nla_frame.specs.declared.default_nla.DefaultNla.{DefaultNla}
 use Rattle.nla_frame.specs.declared.error.Cause.{Cause}
 use Rattle.nla_frame.specs.declared.error.Cause.TheVariants as cause
@@ -16,8 +15,8 @@ use Rattle.linkinfo_numbers.specs.declared.kind.InfoKind.{InfoKind}
 use Rattle.linkinfo_numbers.specs.declared.port_kind.InfoPortKind.{InfoPortKind}
 use Rattle.linkinfo_numbers.specs.declared.names.KindTag.{KindTag}
 use Rattle.linkinfo_numbers.specs.declared.names.PortTag.{PortTag}
-use Rattle.linkinfo_numbers.specs.Kind.{kind_of_name, text_of_kind, text_of_kind-kind_of_name, tag_of_kind, tag_of_name, tag_of_kind-kind_of_name}
-use Rattle.linkinfo_numbers.specs.PortKind.{port_kind_of_name, text_of_port_kind, text_of_port_kind-port_kind_of_name, tag_of_port_kind, port_tag_of_name, tag_of_port_kind-port_kind_of_name}
+use Rattle.linkinfo_numbers.specs.Kind.{kind_of_name, text_of_kind, text_of_kind-kind_of_name, tag_of_name, tag_of_kind-kind_of_name}
+use Rattle.linkinfo_numbers.specs.PortKind.{port_kind_of_name, text_of_port_kind, text_of_port_kind-port_kind_of_name, port_tag_of_name, tag_of_port_kind-port_kind_of_name}
 use Rattle.linkinfo_numbers.specs.Name.{name_attribute}
 use Rattle.linkinfo_shapes.specs.Shapes.{means, stripped, text_of}
 use Rattle.linkinfo_shapes.specs.declared.shape.Shape.TheVariants.{Name, Raw}
@@ -25,20 +24,18 @@ use Rattle.linkinfo_table.specs.declared.peer.LinkPeer.{Ghosts}
 use Rattle.linkinfo_table.specs.PeerLaws.{IsPeer}
 use Rattle.linkinfo_table.specs.FamilyRows.{own, RowOwes}
 use Rattle.linkinfo_table.specs.FamilyRowLaws.{owed, shape_is_codec}
-use Rattle.linkinfo_table.specs.Rows.{Entry, Row, Is, IsRow, labelled, meaning_in, alike_in, headers_inside, row_meaning, row_alike}
+use Rattle.linkinfo_table.specs.Rows.{Entry, Is, IsRow, labelled, meaning_in, alike_in, row_meaning, row_alike}
 use Rattle.linkinfo_table.specs.RowLaws.{rows_alike_is, rows_read_well, rows_well_reads, rows_well_attribute, rows_quarter}
 use Rattle.linkinfo_table.specs.SelfList.{inside}
-use Rattle.linkinfo.specs.declared.data.InfoDataOf.{InfoDataOf}
-use Rattle.linkinfo.specs.declared.port_data.InfoPortData.{InfoPortData}
 use Rattle.linkinfo.specs.declared.link_info.LinkInfoOf.{LinkInfoOf}
 use Rattle.linkinfo.specs.declared.link_info.LinkInfoOf.TheVariants as info
 use Rattle.linkinfo.specs.declared.role.InForce.{InForce}
 use Rattle.linkinfo.specs.declared.role.Role.{Role}
 use Rattle.linkinfo.specs.declared.role.Role.TheVariants as role
-use Rattle.linkinfo.specs.Data.{data_of, data_payload, data_is_codec, family_of}
+use Rattle.linkinfo.specs.Data.{data_of, data_is_codec, family_of}
 use Rattle.linkinfo.specs.PortData.{port_data_of, port_data_is_codec, port_family_of}
 use Rattle.linkinfo.specs.Items.{link_attribute, link_other, link_row, link_rows, link_meaning, link_headers, link_alike, link_well}
-use Rattle.linkinfo.specs.Roles.{behind, behind_role, name_meaning, name_or_fault, role_of, role_at, role_under, with_name}
+use Rattle.linkinfo.specs.Roles.{behind_role, name_meaning, name_or_fault, role_of, role_at, role_under, with_name}
 use Rattle.linkinfo.specs.Strings.{or_stay, force_after, force_behind}
 
 -- ---- what the rows owe

@@ -3,7 +3,7 @@ use Rattle.std.proofs.Common.{◌≡◌, ℕ, ◌+◌, Bool, true, false, ◌&&�
 use Rattle.std.specs.Prelude.{IsOk}
 use Rattle.std.specs.Bool.{OnTrue}
 use Rattle.nla_frame.specs.Attribute.{Attribute, masked}
-use Rattle.nla_frame.specs.Pieces.{pieces, GoesOn}
+use Rattle.nla_frame.specs.Pieces.{pieces}
 use Rattle.nla_frame.specs.declared.error.DecodeError.{DecodeError}
 use Rattle.linkinfo_table.specs.declared.peer.LinkPeer.{Ghosts}
 use Rattle.linkinfo_table.specs.Lists.{◌>>=◌, if_read}
@@ -12,7 +12,7 @@ use Rattle.linkinfo.specs.declared.link_info.LinkInfoOf.{LinkInfoOf}
 use Rattle.linkinfo.specs.declared.role.InForce.{InForce}
 use Rattle.linkinfo.specs.declared.role.Role.{Role}
 use Rattle.linkinfo.specs.Items.{link_row, link_alike, link_headers, link_meaning}
-use Rattle.linkinfo.specs.Roles.{behind, behind_role, role_of, role_at}
+use Rattle.linkinfo.specs.Roles.{behind_role, role_of, role_at}
 use Rattle.linkinfo.specs.Strings.{force_after, values_from, headers_from, alike_from}
 use Rattle.linkinfo.proofs.Items.{role_alike_after, link_alike_after, same_role}
 use Rattle.linkinfo.proofs.Steps.{after_is, meant, meaning_is, headers_is, own_fault_is}

@@ -1,11 +1,10 @@
 -- One step of a walk, as the values, headers and memory of what it has not gone over.
-use Rattle.std.proofs.Common.{◌≡◌, ℕ, ◌+◌, ◌*◌, ◌≤◌, Bool, true, false, ◌||◌, List, [], ◌∷◌, ◌++◌, length, append_assoc, refl, sym, ap, subst, ◌∙◌, arith, Result, Ok, Err, Some, None}
+use Rattle.std.proofs.Common.{◌≡◌, ℕ, ◌+◌, ◌*◌, ◌≤◌, Bool, true, false, ◌||◌, List, [], ◌∷◌, ◌++◌, length, append_assoc, refl, sym, ap, ◌∙◌, arith, Result, Ok, Err}
 use Rattle.std.specs.Prelude.{◌≢◌, is_ok, IsOk}
 use Rattle.nla_frame.specs.Answers.{verdict}
 use Rattle.nla_frame.specs.Attribute.{Attribute, IsAttribute}
-use Rattle.nla_frame.specs.Error.{header_fault, memory_fault}
+use Rattle.nla_frame.specs.Error.{memory_fault}
 use Rattle.nla_frame.specs.Pieces.{pieces, seen}
-use Rattle.nla_frame.specs.declared.error.Cause.TheVariants as cause
 use Rattle.nla_frame.specs.declared.error.Family.TheVariants as family
 use Rattle.nla_frame.specs.declared.error.DecodeError.{DecodeError}
 use Rattle.linkinfo_numbers.specs.Kind.{kind_of_name}
@@ -125,8 +124,8 @@ module _ {P : Type 0} (peer : Ghosts P) where
       let none = headers_is t a (role_at t a) refl ∙ own.1 in (
         ap (λ (m : Result (LinkInfoOf P) DecodeError). m >>= λ x. values_from peer (force_after t a) more >>= λ xs. Ok (x ∷ xs)) means,
         ap (λ (m : Result (LinkInfoOf P) DecodeError). 1 + (link_headers peer t a + if_read m (headers_from peer (force_after t a) more))) means
-        ∙ ap (λ (k : ℕ). 1 + (k + 0)) none
-        ∙ sym h.1,
+            ∙ ap (λ (k : ℕ). 1 + (k + 0)) none
+            ∙ sym h.1,
       )
 
   pub stopped : (s : LinkWalk) (e : DecodeError) (t : LinkWalk) → Stops s e t → Stopped s e t

@@ -1,6 +1,6 @@
 -- The laws of whole strings: what is read is well formed, a canonical string reads back exactly where its list is well formed, strings read one
 -- behind another, and alike strings mean the same.
-use Rattle.std.proofs.Common.{◌≡◌, ℕ, zero, suc, ◌*◌, ◌≤◌, ◌%◌, Bool, true, false, List, [], ◌∷◌, ◌++◌, length, map, refl, sym, ap, subst, ◌∙◌, Result, Ok, Err, Option, Some, None}
+use Rattle.std.proofs.Common.{◌≡◌, ℕ, zero, suc, ◌*◌, ◌≤◌, ◌%◌, Bool, true, List, [], ◌∷◌, ◌++◌, length, map, refl, sym, ap, subst, ◌∙◌, Result, Ok, Err, Option, Some, None}
 use Rattle.std.specs.Prelude.{◌↔◌, IfOk, IsOk, IsTrue}
 use Rattle.std.specs.List.{AllByRecursion}
 use Rattle.nla_frame.specs.Attribute.{Attribute, IsBytes, Fits, list_string, masked}
@@ -20,9 +20,10 @@ use Rattle.linkinfo.specs.declared.link_info.LinkInfoOf.{LinkInfoOf}
 use Rattle.linkinfo.specs.declared.role.InForce.{InForce}
 use Rattle.linkinfo.specs.declared.role.Role.{Role}
 use Rattle.linkinfo.specs.declared.role.Role.TheVariants as role
+use Rattle.linkinfo.specs.Comparing.{same_answer}
 use Rattle.linkinfo.specs.Items.{link_attribute, link_headers, link_meaning, link_alike, link_well, link_row, link_other}
 use Rattle.linkinfo.specs.Roles.{behind_role, name_meaning, none_in_force, role_of, role_under, with_name}
-use Rattle.linkinfo.specs.Strings.{or_stay, force_after, force_behind, values_from, headers_from, alike_from, reading, headers_of_string, alike_strings, WellFormed}
+use Rattle.linkinfo.specs.Strings.{or_stay, force_after, force_behind, headers_from, reading, alike_strings, WellFormed}
 use Rattle.linkinfo.proofs.Items.{link_alike_is, link_read_well, link_well_reads, link_well_attribute, link_quarter, link_next, link_alike_after, unknown_from_six}
 
 IsBytes-left : (x y : List ℕ) → IsBytes (x ++ y) → IsBytes x
@@ -98,6 +99,31 @@ module _ {P : Type 0} (peer : Ghosts P) (law : IsPeer peer) where
         λ d. ap (λ (zs : List (LinkInfoOf P)). list_string (map attribute zs)) (both.0 d),
         λ d. both.1 (ok_same xs ys (sym rx ∙ ap (reading peer) d ∙ ry)),
       )
+
+  -- ---- what a comparison answers
+
+  pub same_equal : (p q : List ℕ) (r : Result Bool DecodeError) → IsBytes p → IsBytes q → r ≡ same_answer (reading peer p) (reading peer q) (alike_strings peer p q) →
+      IfOk r (λ same. IsTrue same ↔ (reading peer p ≡ reading peer q))
+  same_equal p q r bp bq e = subst (λ (z : Result Bool DecodeError). IfOk z (λ same. IsTrue same ↔ (reading peer p ≡ reading peer q))) (sym e)
+      (go (reading peer p) (reading peer q) refl refl)
+    where
+      go : (s t : Result (List (LinkInfoOf P)) DecodeError) → reading peer p ≡ s → reading peer q ≡ t →
+          IfOk (same_answer s t (alike_strings peer p q)) (λ same. IsTrue same ↔ (reading peer p ≡ reading peer q))
+      go (Ok xs) (Ok ys) h k =
+          same_reading p q (alike_strings peer p q) bp bq (subst (λ (z : Result (List (LinkInfoOf P)) DecodeError). IsOk z) (sym h) refl)
+          (subst (λ (z : Result (List (LinkInfoOf P)) DecodeError). IsOk z) (sym k) refl) refl
+      go (Ok xs) (Err d) h k = tt
+      go (Err d) t h k = tt
+
+  pub same_answered : (p q : List ℕ) (r : Result Bool DecodeError) (xs ys : List (LinkInfoOf P)) → IsBytes p → IsBytes q →
+      r ≡ same_answer (reading peer p) (reading peer q) (alike_strings peer p q) → reading peer p ≡ Ok xs → reading peer q ≡ Ok ys →
+      AllByRecursion Fits (map attribute xs) → AllByRecursion Fits (map attribute ys) →
+      IfOk r (λ same. IsTrue same ↔ (list_string (map attribute xs) ≡ list_string (map attribute ys)))
+  same_answered p q r xs ys bp bq e h k f g =
+      subst (λ (z : Result Bool DecodeError). IfOk z (λ same. IsTrue same ↔ (list_string (map attribute xs) ≡ list_string (map attribute ys))))
+      (sym (e ∙ ap (λ (s : Result (List (LinkInfoOf P)) DecodeError). same_answer s (reading peer q) (alike_strings peer p q)) h
+      ∙ ap (λ (t : Result (List (LinkInfoOf P)) DecodeError). same_answer (ok_of xs) t (alike_strings peer p q)) k))
+      (same_canonical p q xs ys bp bq h k f g)
 
   -- ---- one string behind another
 

@@ -1,6 +1,6 @@
 -- Attributes of the list: what each means by its role, as a row of a table that the kinds in force choose.
-use Rattle.std.specs.Prelude.{◌≡◌, ℕ, Bool, List, [], ◌∷◌, ◌++◌, Result}
-use Rattle.nla_frame.specs.Attribute.{Attribute, masked}
+use Rattle.std.specs.Prelude.{ℕ, Bool, Result}
+use Rattle.nla_frame.specs.Attribute.{Attribute}
 use Rattle.nla_frame.specs.Kept.{attribute_of}
 use Rattle.nla_frame.specs.declared.default_nla.DefaultNla.{DefaultNla}
 use Rattle.nla_frame.specs.declared.error.Cause.TheVariants as cause
@@ -11,7 +11,7 @@ use Rattle.linkinfo_numbers.specs.PortKind.{port_kind_attribute, port_kind_of_na
 use Rattle.linkinfo_shapes.specs.declared.shape.Shape.TheVariants.{Name, Raw}
 use Rattle.linkinfo_table.specs.declared.peer.LinkPeer.{Ghosts}
 use Rattle.linkinfo_table.specs.FamilyRows.{shape_codec}
-use Rattle.linkinfo_table.specs.Rows.{Entry, Row, Is, Refused, Unknown, meaning_in, alike_in, headers_inside, memory_in, WellFormed}
+use Rattle.linkinfo_table.specs.Rows.{Row, Is, Refused, Unknown, meaning_in, alike_in, headers_inside, memory_in, WellFormed}
 use Rattle.linkinfo.specs.declared.link_info.LinkInfoOf.{LinkInfoOf}
 use Rattle.linkinfo.specs.declared.link_info.LinkInfoOf.TheVariants as info
 use Rattle.linkinfo.specs.declared.role.InForce.{InForce}

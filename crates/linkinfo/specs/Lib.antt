@@ -1,3 +1,4 @@
+pub mod BytesPeer
 pub mod Comparing
 pub mod Data
 pub mod Families

@@ -59,6 +59,9 @@ pub enum InfoDataOf<P> {
     Other(Bytes),
 }
 
+/// The data of a link, with peers kept as bytes.
+pub type InfoData = InfoDataOf<Bytes>;
+
 /// Reads a payload as data of a family.
 pub(crate) fn read_data<P: LinkPeer>(
     alloc: Global,
@@ -75,18 +78,8 @@ pub(crate) fn read_data<P: LinkPeer>(
 {
     match family {
         DataFamily::Veth => Ok(InfoDataOf::Veth(first_read(alloc, payload, (), count)?)),
-        DataFamily::Vrf => Ok(InfoDataOf::Vrf(Nlas::new(list_read(
-            alloc,
-            payload,
-            (),
-            count,
-        )?))),
-        DataFamily::Xfrm => Ok(InfoDataOf::Xfrm(Nlas::new(list_read(
-            alloc,
-            payload,
-            (),
-            count,
-        )?))),
+        DataFamily::Vrf => Ok(InfoDataOf::Vrf(Nlas::new(list_read(alloc, payload, (), count)?))),
+        DataFamily::Xfrm => Ok(InfoDataOf::Xfrm(Nlas::new(list_read(alloc, payload, (), count)?))),
         DataFamily::Raw => Ok(InfoDataOf::Other(Bytes::copy_of(alloc, payload)?)),
     }
 }
@@ -192,4 +185,3 @@ impl<P: LinkPeer> Nla for InfoDataOf<P> {
         }
     }
 }
-

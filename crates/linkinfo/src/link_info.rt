@@ -6,7 +6,7 @@ use crate::port_data::InfoPortData;
 use crate::xstats::LinkXstats;
 use linkinfo_numbers::{InfoKind, InfoPortKind};
 use linkinfo_table::LinkPeer;
-use nla_frame::{DefaultNla, Emitable, Nla};
+use nla_frame::{Bytes, DefaultNla, Emitable, Nla};
 
 /// `IFLA_INFO_XSTATS`.
 const IFLA_INFO_XSTATS: u16 = 3;
@@ -27,6 +27,9 @@ pub enum LinkInfoOf<P> {
     /// An attribute of another type, kept as it came.
     Other(DefaultNla),
 }
+
+/// An attribute of the list, with peers kept as bytes.
+pub type LinkInfo = LinkInfoOf<Bytes>;
 
 impl<P: LinkPeer> Nla for LinkInfoOf<P> {
     ghost use Rattle.linkinfo.specs.Items.{link_attribute};

@@ -3,9 +3,7 @@
 ghost use Rattle.std.specs.Prelude.{◌≡◌};
 
 use linkinfo_numbers::InfoKind;
-use nla_frame::{
-    Bytes, DecodeError, Emitable, ExactEq, NlaBuffer, ParseableParametrized,
-};
+use nla_frame::{Bytes, DecodeError, Emitable, ExactEq, NlaBuffer, ParseableParametrized};
 use std::alloc::Global;
 
 /// The statistics of a link, as its driver lays them out.

@@ -64,7 +64,7 @@ loop-next-preserved g c =
             pair.headers_y alike,
             ap (λ (u : InForce). headers_from peer u (pieces c.unwrap-p.result.1.now)) force,
             ap (λ (u : InForce). headers_from peer u (pieces c.unwrap-q.result.1.now)) other,
-            on_true _ _ c.if-not-same_item.false c.same_item.ensures.counted
+            on_true _ _ c.if-not-same_item.false c.same_item.ensures.counted,
           );
       rises = omega (arith, inv.rises, on_x.counted, on_y.counted, c.same_item.ensures.rises);
       room = omega (arith, inv.room, on_x.counted, on_y.counted, on_x.room, on_y.room, c.same_item.ensures.quarter);
