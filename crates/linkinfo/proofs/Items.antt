@@ -144,7 +144,7 @@ module _ {P : Type 0} (peer : Ghosts P) where
   good_same : (x y : LinkInfoOf P) → good x ≡ good y → x ≡ y
   good_same x y e = cc
 
-  name_read : (a : Attribute) (label : List ℕ → LinkInfoOf P) (x : LinkInfoOf P) → labelled family.LinkInfo (masked a.kind) label (own (means Name a.value)) ≡ Ok x →
+  pub name_read : (a : Attribute) (label : List ℕ → LinkInfoOf P) (x : LinkInfoOf P) → labelled family.LinkInfo (masked a.kind) label (own (means Name a.value)) ≡ Ok x →
       (name : List ℕ) × (name_meaning a ≡ Ok name) × (label name ≡ x)
   unfolding name_meaning
   name_read a label x e = go (means Name a.value) e

@@ -1,10 +1,14 @@
 -- What a byte string means as a list of link info attributes, and when two strings mean the same.
-use Rattle.std.specs.Prelude.{ℕ, Bool, List, Some, None, Result, Ok, Err}
-use Rattle.nla_frame.specs.Attribute.{Attribute}
+use Rattle.std.specs.Prelude.{◌≡◌, ◌==◌, ◌||◌, ℕ, Bool, false, if◌then◌else◌, List, [], ◌∷◌, Option, Some, None, Result, Ok, Err}
+use Rattle.nla_frame.specs.Attribute.{Attribute, masked}
+use Rattle.nla_frame.specs.Framing.{Frames}
 use Rattle.nla_frame.specs.Pieces.{pieces}
 use Rattle.nla_frame.specs.declared.error.DecodeError.{DecodeError}
-use Rattle.linkinfo_numbers.specs.Kind.{tag_of_kind}
-use Rattle.linkinfo_numbers.specs.PortKind.{tag_of_port_kind}
+use Rattle.linkinfo_numbers.specs.declared.names.KindTag.{KindTag}
+use Rattle.linkinfo_numbers.specs.declared.names.PortTag.{PortTag}
+use Rattle.linkinfo_numbers.specs.Kind.{tag_of_kind, tag_of_name}
+use Rattle.linkinfo_numbers.specs.PortKind.{port_tag_of_name, tag_of_port_kind}
+use Rattle.linkinfo_shapes.specs.Shapes.{stripped}
 use Rattle.linkinfo_table.specs.declared.peer.LinkPeer.{Ghosts}
 use Rattle.linkinfo_table.specs.Lists.{values_under, headers_under, alike_under, memory_under, well_under}
 use Rattle.linkinfo.specs.declared.link_info.LinkInfoOf.{LinkInfoOf}
@@ -63,3 +67,46 @@ reading_needs_memory peer s = memory_from peer none_in_force (pieces s)
 -- a list is well formed: each value under the kinds in force that those before it leave
 abbrev pub WellFormed : {P : Type 0} → Ghosts P → List (LinkInfoOf P) → Type 0
 WellFormed peer xs = well_under (link_well peer) force_behind none_in_force xs
+
+-- ---- the same as relations
+
+-- each attribute means its value, under the kinds in force that those before it leave
+abbrev pub MeansEach : {P : Type 0} → Ghosts P → InForce → List Attribute → List (LinkInfoOf P) → Type 0
+MeansEach peer t [] [] = Unit {0}
+MeansEach peer t [] (x ∷ xs) = ⊥
+MeansEach peer t (a ∷ more) [] = ⊥
+MeansEach peer t (a ∷ more) (x ∷ xs) = (link_meaning peer t a ≡ Ok x) × MeansEach peer (force_after t a) more xs
+
+-- the string frames attributes that mean the values
+abbrev pub Means : {P : Type 0} → Ghosts P → List ℕ → List (LinkInfoOf P) → Type 0
+Means peer s xs = (attributes : List Attribute) × Frames s attributes × MeansEach peer none_in_force attributes xs
+
+-- the kinds in force behind attributes
+abbrev pub force_behind_all : InForce → List Attribute → InForce
+force_behind_all t [] = t
+force_behind_all t (a ∷ more) = force_behind_all (force_after t a) more
+
+-- ---- the kinds in force, by place
+
+-- the first, where it is there, and else the second
+abbrev pub first_or : {A : Type 0} → Option A → Option A → Option A
+first_or (Some x) o = Some x
+first_or None o = o
+
+-- the tag of the name in the last attribute of type 1
+abbrev pub last_kind : List Attribute → Option KindTag
+last_kind [] = None
+last_kind (a ∷ more) = first_or (last_kind more) (if masked a.kind == 1 then Some (tag_of_name (stripped a.value)) else None)
+
+-- one of these has type 4 or 5
+abbrev pub names_or_uses : List Attribute → Bool
+names_or_uses [] = false
+names_or_uses (a ∷ more) = (masked a.kind == 4 || masked a.kind == 5) || names_or_uses more
+
+-- the tag of the name in the last attribute of type 4, where none of type 5 follows it
+abbrev pub last_port : List Attribute → Option PortTag
+last_port [] = None
+last_port (a ∷ more) =
+    if names_or_uses more then last_port more
+    else if masked a.kind == 4 then Some (port_tag_of_name (stripped a.value))
+    else None

@@ -4,6 +4,7 @@
 mod data;
 mod fits;
 mod item;
+pub mod laws;
 mod link_info;
 mod list;
 mod port_data;

@@ -60,14 +60,14 @@ module _ {T X : Type 0} (m : T → Attribute → Result X DecodeError) (after : 
   whole_front t (a ∷ more) left zs e = let p = reads t a (pieces_of more left) zs e in whole_front (after t a) more left p.xs p.others
 
   -- an accepted string is the attributes that it frames
-  record Accepted (t : T) (s : List ℕ) (zs : List X) : Type 0 where
-    front : List Attribute
-    attributes : AllByRecursion IsAttribute front
-    frames : Splits s front []
-    pieces_are : pieces s ≡ pieces_of front []
-    values_are : values_under m after t (pieces_of front []) ≡ Ok zs
+  pub record Accepted (t : T) (s : List ℕ) (zs : List X) : Type 0 where
+    pub front : List Attribute
+    pub attributes : AllByRecursion IsAttribute front
+    pub frames : Splits s front []
+    pub pieces_are : pieces s ≡ pieces_of front []
+    pub values_are : values_under m after t (pieces_of front []) ≡ Ok zs
 
-  accepted : (t : T) (s : List ℕ) (zs : List X) → IsBytes s → values_under m after t (pieces s) ≡ Ok zs → Accepted t s zs
+  pub accepted : (t : T) (s : List ℕ) (zs : List X) → IsBytes s → values_under m after t (pieces s) ≡ Ok zs → Accepted t s zs
   accepted t s zs fits e =
       let is = split_is s fits in
       let read = ap (λ (ps : List (Result Attribute ℕ)). values_under m after t ps) (sym (pieces_split s)) ∙ e in

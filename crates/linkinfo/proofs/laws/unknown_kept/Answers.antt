@@ -1,0 +1,5 @@
+use Rattle.linkinfo.proofs.Places.{unknown_is_kept}
+use Rattle.linkinfo.proofs.laws.unknown_kept.Goals as goal
+
+pub returns : goal.returns
+returns g c = λ t a e. unknown_is_kept g.P.LinkPeer t a e
