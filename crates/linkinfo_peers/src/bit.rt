@@ -5,7 +5,7 @@ ghost use Rattle.linkinfo_table.specs.Peers.{PeerGives};
 ghost use Rattle.linkinfo_table.specs.declared.peer.PeerFault.TheVariants as fault;
 ghost use Rattle.linkinfo_peers.specs.Bit.{bit_alike, bit_alike_is, bit_meaning, bit_payload, bit_well_bytes, bit_well_means};
 
-use linkinfo_shapes::{Datum, Shape, datum_len, read_datum, shape_check, shape_same, write_datum};
+use linkinfo_shapes::{Datum, Shape, read_datum, shape_check, shape_same, write_datum};
 use linkinfo_table::{LinkPeer, PeerFault};
 use nla_frame::ExactEq;
 use std::alloc::Global;
@@ -53,9 +53,8 @@ impl LinkPeer for BitPeer {
         shape_same(Shape::Truth, a, b)
     }
 
-    #[tactic(auto, unfolding(linkinfo_shapes::specs::Data::Suits, linkinfo_shapes::specs::Data::written))]
     fn fit_len(&self) -> Option<usize> {
-        datum_len(Shape::Truth, &Datum::Truth(self.0))
+        Some(1)
     }
 
     #[tactic(auto, unfolding(linkinfo_shapes::specs::Data::Suits, linkinfo_shapes::specs::Data::written))]

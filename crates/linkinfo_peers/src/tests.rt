@@ -113,6 +113,9 @@ fn peers_are_bits(rt: HostRuntime) -> Result<(), Fail> {
     let read = <InfoVethOf<BitPeer> as LinkFamily>::read(alloc, &nla, (), &mut count)?;
     assert_eq!(rt; count.get(), 0);
     assert!(rt; read == InfoVethOf::Peer(BitPeer(true)));
+    let mut count = HeaderCount::new();
+    assert!(rt; <InfoVethOf<BitPeer> as LinkFamily>::same_value(&nla, &nla, (), &mut count));
+    assert_eq!(rt; count.get(), 0);
     let value = InfoVethOf::Peer(BitPeer(true));
     assert_eq!(rt; value.kind(), 1);
     assert!(rt; value.fit_len() == Some(1));
