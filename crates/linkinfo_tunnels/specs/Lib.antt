@@ -1,0 +1,4 @@
+pub mod Amt
+pub mod BareUdp
+pub mod Labels
+pub mod Vti
