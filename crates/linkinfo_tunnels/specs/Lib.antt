@@ -1,6 +1,8 @@
 pub mod Amt
 pub mod BareUdp
 pub mod Geneve
+pub mod Gre
+pub mod Gre6
 pub mod Gtp
 pub mod Labels
 pub mod Vti

@@ -208,7 +208,14 @@ impl<'a> Parseable<NlaBuffer<'a>> for InfoGeneve {
 }
 
 impl ExactEq for InfoGeneve {
-    ghost use Rattle.std.proofs.Common.{rules};
+    ghost use Rattle.std.specs.Cmp.{booleans_Decides};
+    ghost use Rattle.std.proofs.lemmas.Bool.Decides.{Decides-eqb};
+    ghost use Rattle.nla_frame.specs.Derived.{derived_decides, no_field, one_field};
+    ghost use Rattle.nla_frame.specs.contracts.exact_eq.Ipv4AddrExactEq.TheImpl.Laws.{exact-law as ipv4_exact};
+    ghost use Rattle.nla_frame.specs.contracts.exact_eq.Ipv6AddrExactEq.TheImpl.Laws.{exact-law as ipv6_exact};
+    ghost use Rattle.linkinfo_numbers.specs.contracts.geneve.GeneveDfExactEq.TheImpl.Laws.{exact-law as df_exact};
+    ghost use Rattle.nla_frame.specs.contracts.default_nla.DefaultNlaExactEq.TheImpl.Laws.{exact-law as kept_exact};
+    ghost use Rattle.linkinfo_tunnels.specs.contracts.geneve.InfoGeneve.{enum};
 
-    ghost exact = { Prim.search rules };
+    ghost exact = { let number = one_field Decides-eqb in let ipv4 = one_field ipv4_exact in let ipv6 = one_field ipv6_exact in let truth = one_field booleans_Decides in let df = one_field df_exact in let kept = one_field kept_exact in derived_decides enum _ (number, (ipv4, (number, (number, (number, (no_field, (ipv6, (truth, (truth, (truth, (number, (truth, (df, (no_field, (ipv4, (ipv6, (kept, tt))))))))))))))))) };
 }

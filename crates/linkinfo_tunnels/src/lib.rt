@@ -4,6 +4,8 @@
 mod amt;
 mod bare_udp;
 mod geneve;
+mod gre;
+mod gre6;
 mod gtp;
 mod parts;
 mod vti;
@@ -12,6 +14,8 @@ mod vxlan;
 pub use amt::InfoAmt;
 pub use bare_udp::InfoBareUdp;
 pub use geneve::InfoGeneve;
+pub use gre::InfoGre;
+pub use gre6::InfoGre6;
 pub use gtp::InfoGtp;
 pub use vti::InfoVti;
 pub use vxlan::InfoVxlan;
