@@ -4,6 +4,7 @@ pub mod Geneve
 pub mod Gre
 pub mod Gre6
 pub mod Gtp
+pub mod IpTunnel
 pub mod Labels
 pub mod Vti
 pub mod Vxlan
