@@ -4,6 +4,7 @@
 mod family;
 mod first;
 mod flat;
+mod found;
 pub mod laws;
 mod list;
 mod lookup;
@@ -16,6 +17,7 @@ mod tests;
 
 pub use family::LinkFamily;
 pub use first::{first_check, first_read, first_same};
+pub use found::Found;
 pub use linkinfo_shapes::{
     Datum, Shape, datum_len, read_datum, shape_check, shape_same, table_shape, write_datum,
 };
