@@ -11,7 +11,7 @@ ghost use Rattle.std.specs.Prelude.{false, refl};
 use crate::parts;
 use linkinfo_numbers::AmtMode;
 use linkinfo_table::{
-    Datum, FlatFamily, Lookup, Part, RowFamily, row_emit_value, row_fit_len, row_kind, row_read,
+    FlatFamily, Found, Lookup, Part, RowFamily, row_emit_value, row_fit_len, row_kind, row_read,
     row_value_len, table_lookup,
 };
 use nla_frame::{DecodeError, DefaultNla, ExactEq, Family, Nla, NlaBuffer, Parseable};
@@ -81,27 +81,21 @@ impl RowFamily for InfoAmt {
         table_lookup(Family::Amt, kind)
     }
 
-    fn from_datum(
-        _alloc: Global,
-        _ctx: (),
-        kind: u16,
-        datum: Datum<'_>,
-    ) -> Result<InfoAmt, AllocError> {
-        Ok(match kind {
-            IFLA_AMT_MODE => InfoAmt::Mode(AmtMode::from(datum.u32_or_zero())),
-            IFLA_AMT_RELAY_PORT => InfoAmt::RelayPort(datum.u16_or_zero()),
-            IFLA_AMT_GATEWAY_PORT => InfoAmt::GatewayPort(datum.u16_or_zero()),
-            IFLA_AMT_LINK => InfoAmt::Link(datum.u32_or_zero()),
-            IFLA_AMT_LOCAL_IP => InfoAmt::LocalIp(datum.ip_or_unspecified()),
-            IFLA_AMT_REMOTE_IP => InfoAmt::RemoteIp(datum.ip_or_unspecified()),
-            IFLA_AMT_DISCOVERY_IP => InfoAmt::DiscoveryIp(datum.ip_or_unspecified()),
-            IFLA_AMT_MAX_TUNNELS => InfoAmt::MaxTunnels(datum.u32_or_zero()),
-            _ => unreachable!(),
+    fn from_found(_alloc: Global, _ctx: (), found: Found<'_>) -> Result<InfoAmt, AllocError> {
+        Ok(match found {
+            Found::Typed(IFLA_AMT_MODE, datum) => InfoAmt::Mode(AmtMode::from(datum.u32_or_zero())),
+            Found::Typed(IFLA_AMT_RELAY_PORT, datum) => InfoAmt::RelayPort(datum.u16_or_zero()),
+            Found::Typed(IFLA_AMT_GATEWAY_PORT, datum) => InfoAmt::GatewayPort(datum.u16_or_zero()),
+            Found::Typed(IFLA_AMT_LINK, datum) => InfoAmt::Link(datum.u32_or_zero()),
+            Found::Typed(IFLA_AMT_LOCAL_IP, datum) => InfoAmt::LocalIp(datum.ip_or_unspecified()),
+            Found::Typed(IFLA_AMT_REMOTE_IP, datum) => InfoAmt::RemoteIp(datum.ip_or_unspecified()),
+            Found::Typed(IFLA_AMT_DISCOVERY_IP, datum) => InfoAmt::DiscoveryIp(
+                datum.ip_or_unspecified(),
+            ),
+            Found::Typed(IFLA_AMT_MAX_TUNNELS, datum) => InfoAmt::MaxTunnels(datum.u32_or_zero()),
+            Found::Typed(_, _) => unreachable!(),
+            Found::Kept(nla) => InfoAmt::Other(nla),
         })
-    }
-
-    fn from_other(nla: DefaultNla) -> InfoAmt {
-        InfoAmt::Other(nla)
     }
 
     fn to_part(&self) -> Part<'_> {

@@ -11,7 +11,7 @@ ghost use Rattle.std.specs.Prelude.{false, refl};
 use crate::parts;
 use linkinfo_numbers::EthernetProtocol;
 use linkinfo_table::{
-    Datum, FlatFamily, Lookup, Part, RowFamily, row_emit_value, row_fit_len, row_kind, row_read,
+    FlatFamily, Found, Lookup, Part, RowFamily, row_emit_value, row_fit_len, row_kind, row_read,
     row_value_len, table_lookup,
 };
 use nla_frame::{DecodeError, DefaultNla, ExactEq, Family, Nla, NlaBuffer, Parseable};
@@ -64,25 +64,19 @@ impl RowFamily for InfoBareUdp {
         table_lookup(Family::BareUdp, kind)
     }
 
-    fn from_datum(
-        _alloc: Global,
-        _ctx: (),
-        kind: u16,
-        datum: Datum<'_>,
-    ) -> Result<InfoBareUdp, AllocError> {
-        Ok(match kind {
-            IFLA_BAREUDP_PORT => InfoBareUdp::Port(datum.u16_or_zero()),
-            IFLA_BAREUDP_ETHERTYPE => InfoBareUdp::Ethertype(EthernetProtocol::from(
+    fn from_found(_alloc: Global, _ctx: (), found: Found<'_>) -> Result<InfoBareUdp, AllocError> {
+        Ok(match found {
+            Found::Typed(IFLA_BAREUDP_PORT, datum) => InfoBareUdp::Port(datum.u16_or_zero()),
+            Found::Typed(IFLA_BAREUDP_ETHERTYPE, datum) => InfoBareUdp::Ethertype(
+                EthernetProtocol::from(datum.u16_or_zero()),
+            ),
+            Found::Typed(IFLA_BAREUDP_SRCPORT_MIN, datum) => InfoBareUdp::SrcPortMin(
                 datum.u16_or_zero(),
-            )),
-            IFLA_BAREUDP_SRCPORT_MIN => InfoBareUdp::SrcPortMin(datum.u16_or_zero()),
-            IFLA_BAREUDP_MULTIPROTO_MODE => InfoBareUdp::MultiprotoMode,
-            _ => unreachable!(),
+            ),
+            Found::Typed(IFLA_BAREUDP_MULTIPROTO_MODE, _) => InfoBareUdp::MultiprotoMode,
+            Found::Typed(_, _) => unreachable!(),
+            Found::Kept(nla) => InfoBareUdp::Other(nla),
         })
-    }
-
-    fn from_other(nla: DefaultNla) -> InfoBareUdp {
-        InfoBareUdp::Other(nla)
     }
 
     fn to_part(&self) -> Part<'_> {

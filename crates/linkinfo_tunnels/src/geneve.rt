@@ -11,7 +11,7 @@ ghost use Rattle.std.specs.Prelude.{false, refl};
 use crate::parts;
 use linkinfo_numbers::GeneveDf;
 use linkinfo_table::{
-    Datum, FlatFamily, Lookup, Part, RowFamily, row_emit_value, row_fit_len, row_kind, row_read,
+    FlatFamily, Found, Lookup, Part, RowFamily, row_emit_value, row_fit_len, row_kind, row_read,
     row_value_len, table_lookup,
 };
 use nla_frame::{DecodeError, DefaultNla, ExactEq, Family, Nla, NlaBuffer, Parseable};
@@ -113,35 +113,43 @@ impl RowFamily for InfoGeneve {
         table_lookup(Family::Geneve, kind)
     }
 
-    fn from_datum(
-        _alloc: Global,
-        _ctx: (),
-        kind: u16,
-        datum: Datum<'_>,
-    ) -> Result<InfoGeneve, AllocError> {
-        Ok(match kind {
-            IFLA_GENEVE_ID => InfoGeneve::Id(datum.u32_or_zero()),
-            IFLA_GENEVE_REMOTE => InfoGeneve::Remote(datum.ipv4_or_unspecified()),
-            IFLA_GENEVE_TTL => InfoGeneve::Ttl(datum.u8_or_zero()),
-            IFLA_GENEVE_TOS => InfoGeneve::Tos(datum.u8_or_zero()),
-            IFLA_GENEVE_PORT => InfoGeneve::Port(datum.u16_or_zero()),
-            IFLA_GENEVE_COLLECT_METADATA => InfoGeneve::CollectMetadata,
-            IFLA_GENEVE_REMOTE6 => InfoGeneve::Remote6(datum.ipv6_or_unspecified()),
-            IFLA_GENEVE_UDP_CSUM => InfoGeneve::UdpCsum(datum.bool_or_false()),
-            IFLA_GENEVE_UDP_ZERO_CSUM6_TX => InfoGeneve::UdpZeroCsum6Tx(datum.bool_or_false()),
-            IFLA_GENEVE_UDP_ZERO_CSUM6_RX => InfoGeneve::UdpZeroCsum6Rx(datum.bool_or_false()),
-            IFLA_GENEVE_LABEL => InfoGeneve::Label(datum.u32_or_zero()),
-            IFLA_GENEVE_TTL_INHERIT => InfoGeneve::TtlInherit(datum.bool_or_false()),
-            IFLA_GENEVE_DF => InfoGeneve::Df(GeneveDf::from(datum.u8_or_zero())),
-            IFLA_GENEVE_INNER_PROTO_INHERIT => InfoGeneve::InnerProtoInherit,
-            IFLA_GENEVE_LOCAL => InfoGeneve::Local(datum.ipv4_or_unspecified()),
-            IFLA_GENEVE_LOCAL6 => InfoGeneve::Local6(datum.ipv6_or_unspecified()),
-            _ => unreachable!(),
+    fn from_found(_alloc: Global, _ctx: (), found: Found<'_>) -> Result<InfoGeneve, AllocError> {
+        Ok(match found {
+            Found::Typed(IFLA_GENEVE_ID, datum) => InfoGeneve::Id(datum.u32_or_zero()),
+            Found::Typed(IFLA_GENEVE_REMOTE, datum) => InfoGeneve::Remote(
+                datum.ipv4_or_unspecified(),
+            ),
+            Found::Typed(IFLA_GENEVE_TTL, datum) => InfoGeneve::Ttl(datum.u8_or_zero()),
+            Found::Typed(IFLA_GENEVE_TOS, datum) => InfoGeneve::Tos(datum.u8_or_zero()),
+            Found::Typed(IFLA_GENEVE_PORT, datum) => InfoGeneve::Port(datum.u16_or_zero()),
+            Found::Typed(IFLA_GENEVE_COLLECT_METADATA, _) => InfoGeneve::CollectMetadata,
+            Found::Typed(IFLA_GENEVE_REMOTE6, datum) => InfoGeneve::Remote6(
+                datum.ipv6_or_unspecified(),
+            ),
+            Found::Typed(IFLA_GENEVE_UDP_CSUM, datum) => InfoGeneve::UdpCsum(datum.bool_or_false()),
+            Found::Typed(IFLA_GENEVE_UDP_ZERO_CSUM6_TX, datum) => InfoGeneve::UdpZeroCsum6Tx(
+                datum.bool_or_false(),
+            ),
+            Found::Typed(IFLA_GENEVE_UDP_ZERO_CSUM6_RX, datum) => InfoGeneve::UdpZeroCsum6Rx(
+                datum.bool_or_false(),
+            ),
+            Found::Typed(IFLA_GENEVE_LABEL, datum) => InfoGeneve::Label(datum.u32_or_zero()),
+            Found::Typed(IFLA_GENEVE_TTL_INHERIT, datum) => InfoGeneve::TtlInherit(
+                datum.bool_or_false(),
+            ),
+            Found::Typed(IFLA_GENEVE_DF, datum) => InfoGeneve::Df(GeneveDf::from(
+                datum.u8_or_zero(),
+            )),
+            Found::Typed(IFLA_GENEVE_INNER_PROTO_INHERIT, _) => InfoGeneve::InnerProtoInherit,
+            Found::Typed(IFLA_GENEVE_LOCAL, datum) => InfoGeneve::Local(
+                datum.ipv4_or_unspecified(),
+            ),
+            Found::Typed(IFLA_GENEVE_LOCAL6, datum) => InfoGeneve::Local6(
+                datum.ipv6_or_unspecified(),
+            ),
+            Found::Typed(_, _) => unreachable!(),
+            Found::Kept(nla) => InfoGeneve::Other(nla),
         })
-    }
-
-    fn from_other(nla: DefaultNla) -> InfoGeneve {
-        InfoGeneve::Other(nla)
     }
 
     fn to_part(&self) -> Part<'_> {
@@ -217,5 +225,11 @@ impl ExactEq for InfoGeneve {
     ghost use Rattle.nla_frame.specs.contracts.default_nla.DefaultNlaExactEq.TheImpl.Laws.{exact-law as kept_exact};
     ghost use Rattle.linkinfo_tunnels.specs.contracts.geneve.InfoGeneve.{enum};
 
-    ghost exact = { let number = one_field Decides-eqb in let ipv4 = one_field ipv4_exact in let ipv6 = one_field ipv6_exact in let truth = one_field booleans_Decides in let df = one_field df_exact in let kept = one_field kept_exact in derived_decides enum _ (number, (ipv4, (number, (number, (number, (no_field, (ipv6, (truth, (truth, (truth, (number, (truth, (df, (no_field, (ipv4, (ipv6, (kept, tt))))))))))))))))) };
+    ghost exact = { let number = one_field Decides-eqb in
+        let ipv4 = one_field ipv4_exact in
+        let ipv6 = one_field ipv6_exact in
+        let truth = one_field booleans_Decides in
+        let df = one_field df_exact in
+        let kept = one_field kept_exact in
+        derived_decides enum _ (number, (ipv4, (number, (number, (number, (no_field, (ipv6, (truth, (truth, (truth, (number, (truth, (df, (no_field, (ipv4, (ipv6, (kept, tt))))))))))))))))) };
 }

@@ -12,7 +12,7 @@ use crate::parts;
 use bitflags::Flags;
 use linkinfo_numbers::{ErSpanDir, GreEncapFlags, GreEncapType, GreIOFlags};
 use linkinfo_table::{
-    Datum, FlatFamily, Lookup, Part, RowFamily, row_emit_value, row_fit_len, row_kind, row_read,
+    FlatFamily, Found, Lookup, Part, RowFamily, row_emit_value, row_fit_len, row_kind, row_read,
     row_value_len, table_lookup,
 };
 use nla_frame::{DecodeError, DefaultNla, ExactEq, Family, Nla, NlaBuffer, Parseable};
@@ -130,41 +130,45 @@ impl RowFamily for InfoGre {
         table_lookup(Family::Gre, kind)
     }
 
-    fn from_datum(
-        _alloc: Global,
-        _ctx: (),
-        kind: u16,
-        datum: Datum<'_>,
-    ) -> Result<InfoGre, AllocError> {
-        Ok(match kind {
-            IFLA_GRE_LINK => InfoGre::Link(datum.u32_or_zero()),
-            IFLA_GRE_IFLAGS => InfoGre::IFlags(GreIOFlags::from_bits_retain(datum.u16_or_zero())),
-            IFLA_GRE_OFLAGS => InfoGre::OFlags(GreIOFlags::from_bits_retain(datum.u16_or_zero())),
-            IFLA_GRE_IKEY => InfoGre::IKey(datum.u32_or_zero()),
-            IFLA_GRE_OKEY => InfoGre::OKey(datum.u32_or_zero()),
-            IFLA_GRE_LOCAL => InfoGre::Local(datum.ipv4_or_unspecified()),
-            IFLA_GRE_REMOTE => InfoGre::Remote(datum.ipv4_or_unspecified()),
-            IFLA_GRE_TTL => InfoGre::Ttl(datum.u8_or_zero()),
-            IFLA_GRE_TOS => InfoGre::Tos(datum.u8_or_zero()),
-            IFLA_GRE_PMTUDISC => InfoGre::PathMTUDiscovery(datum.bool_or_false()),
-            IFLA_GRE_ENCAP_TYPE => InfoGre::EncapType(GreEncapType::from(datum.u16_or_zero())),
-            IFLA_GRE_ENCAP_FLAGS => InfoGre::EncapFlags(GreEncapFlags::from_bits_retain(
+    fn from_found(_alloc: Global, _ctx: (), found: Found<'_>) -> Result<InfoGre, AllocError> {
+        Ok(match found {
+            Found::Typed(IFLA_GRE_LINK, datum) => InfoGre::Link(datum.u32_or_zero()),
+            Found::Typed(IFLA_GRE_IFLAGS, datum) => InfoGre::IFlags(GreIOFlags::from_bits_retain(
                 datum.u16_or_zero(),
             )),
-            IFLA_GRE_ENCAP_SPORT => InfoGre::SourcePort(datum.u16_or_zero()),
-            IFLA_GRE_ENCAP_DPORT => InfoGre::DestinationPort(datum.u16_or_zero()),
-            IFLA_GRE_COLLECT_METADATA => InfoGre::CollectMetadata,
-            IFLA_GRE_FWMARK => InfoGre::FwMask(datum.u32_or_zero()),
-            IFLA_GRE_ERSPAN_INDEX => InfoGre::ErSpanIndex(datum.u32_or_zero()),
-            IFLA_GRE_ERSPAN_VER => InfoGre::ErSpanVer(datum.u8_or_zero()),
-            IFLA_GRE_ERSPAN_DIR => InfoGre::ErSpanDir(ErSpanDir::from(datum.u8_or_zero())),
-            IFLA_GRE_ERSPAN_HWID => InfoGre::ErSpanHwId(datum.u16_or_zero()),
-            _ => unreachable!(),
+            Found::Typed(IFLA_GRE_OFLAGS, datum) => InfoGre::OFlags(GreIOFlags::from_bits_retain(
+                datum.u16_or_zero(),
+            )),
+            Found::Typed(IFLA_GRE_IKEY, datum) => InfoGre::IKey(datum.u32_or_zero()),
+            Found::Typed(IFLA_GRE_OKEY, datum) => InfoGre::OKey(datum.u32_or_zero()),
+            Found::Typed(IFLA_GRE_LOCAL, datum) => InfoGre::Local(datum.ipv4_or_unspecified()),
+            Found::Typed(IFLA_GRE_REMOTE, datum) => InfoGre::Remote(datum.ipv4_or_unspecified()),
+            Found::Typed(IFLA_GRE_TTL, datum) => InfoGre::Ttl(datum.u8_or_zero()),
+            Found::Typed(IFLA_GRE_TOS, datum) => InfoGre::Tos(datum.u8_or_zero()),
+            Found::Typed(IFLA_GRE_PMTUDISC, datum) => InfoGre::PathMTUDiscovery(
+                datum.bool_or_false(),
+            ),
+            Found::Typed(IFLA_GRE_ENCAP_TYPE, datum) => InfoGre::EncapType(GreEncapType::from(
+                datum.u16_or_zero(),
+            )),
+            Found::Typed(IFLA_GRE_ENCAP_FLAGS, datum) => InfoGre::EncapFlags(
+                GreEncapFlags::from_bits_retain(datum.u16_or_zero()),
+            ),
+            Found::Typed(IFLA_GRE_ENCAP_SPORT, datum) => InfoGre::SourcePort(datum.u16_or_zero()),
+            Found::Typed(IFLA_GRE_ENCAP_DPORT, datum) => InfoGre::DestinationPort(
+                datum.u16_or_zero(),
+            ),
+            Found::Typed(IFLA_GRE_COLLECT_METADATA, _) => InfoGre::CollectMetadata,
+            Found::Typed(IFLA_GRE_FWMARK, datum) => InfoGre::FwMask(datum.u32_or_zero()),
+            Found::Typed(IFLA_GRE_ERSPAN_INDEX, datum) => InfoGre::ErSpanIndex(datum.u32_or_zero()),
+            Found::Typed(IFLA_GRE_ERSPAN_VER, datum) => InfoGre::ErSpanVer(datum.u8_or_zero()),
+            Found::Typed(IFLA_GRE_ERSPAN_DIR, datum) => InfoGre::ErSpanDir(ErSpanDir::from(
+                datum.u8_or_zero(),
+            )),
+            Found::Typed(IFLA_GRE_ERSPAN_HWID, datum) => InfoGre::ErSpanHwId(datum.u16_or_zero()),
+            Found::Typed(_, _) => unreachable!(),
+            Found::Kept(nla) => InfoGre::Other(nla),
         })
-    }
-
-    fn from_other(nla: DefaultNla) -> InfoGre {
-        InfoGre::Other(nla)
     }
 
     fn to_part(&self) -> Part<'_> {
@@ -248,5 +252,13 @@ impl ExactEq for InfoGre {
     ghost use Rattle.nla_frame.specs.contracts.default_nla.DefaultNlaExactEq.TheImpl.Laws.{exact-law as kept_exact};
     ghost use Rattle.linkinfo_tunnels.specs.contracts.gre.InfoGre.{enum};
 
-    ghost exact = { let number = one_field Decides-eqb in let header = one_field header_exact in let ipv4 = one_field ipv4_exact in let truth = one_field booleans_Decides in let encapsulation = one_field encapsulation_exact in let wrapping = one_field wrapping_exact in let direction = one_field direction_exact in let kept = one_field kept_exact in derived_decides enum _ (number, (header, (header, (number, (number, (ipv4, (ipv4, (number, (number, (truth, (encapsulation, (wrapping, (number, (number, (no_field, (number, (number, (number, (direction, (number, (kept, tt))))))))))))))))))))) };
+    ghost exact = { let number = one_field Decides-eqb in
+        let header = one_field header_exact in
+        let ipv4 = one_field ipv4_exact in
+        let truth = one_field booleans_Decides in
+        let encapsulation = one_field encapsulation_exact in
+        let wrapping = one_field wrapping_exact in
+        let direction = one_field direction_exact in
+        let kept = one_field kept_exact in
+        derived_decides enum _ (number, (header, (header, (number, (number, (ipv4, (ipv4, (number, (number, (truth, (encapsulation, (wrapping, (number, (number, (no_field, (number, (number, (number, (direction, (number, (kept, tt))))))))))))))))))))) };
 }

@@ -12,7 +12,7 @@ use crate::parts;
 use bitflags::Flags;
 use linkinfo_numbers::{ErSpanDir, GreEncapFlags, GreEncapType, GreIOFlags};
 use linkinfo_table::{
-    Datum, FlatFamily, Lookup, Part, RowFamily, row_emit_value, row_fit_len, row_kind, row_read,
+    FlatFamily, Found, Lookup, Part, RowFamily, row_emit_value, row_fit_len, row_kind, row_read,
     row_value_len, table_lookup,
 };
 use nla_frame::{DecodeError, DefaultNla, ExactEq, Family, Nla, NlaBuffer, Parseable};
@@ -134,42 +134,46 @@ impl RowFamily for InfoGre6 {
         table_lookup(Family::Gre6, kind)
     }
 
-    fn from_datum(
-        _alloc: Global,
-        _ctx: (),
-        kind: u16,
-        datum: Datum<'_>,
-    ) -> Result<InfoGre6, AllocError> {
-        Ok(match kind {
-            IFLA_GRE_LINK => InfoGre6::Link(datum.u32_or_zero()),
-            IFLA_GRE_IFLAGS => InfoGre6::IFlags(GreIOFlags::from_bits_retain(datum.u16_or_zero())),
-            IFLA_GRE_OFLAGS => InfoGre6::OFlags(GreIOFlags::from_bits_retain(datum.u16_or_zero())),
-            IFLA_GRE_IKEY => InfoGre6::IKey(datum.u32_or_zero()),
-            IFLA_GRE_OKEY => InfoGre6::OKey(datum.u32_or_zero()),
-            IFLA_GRE_LOCAL => InfoGre6::Local(datum.ipv6_or_unspecified()),
-            IFLA_GRE_REMOTE => InfoGre6::Remote(datum.ipv6_or_unspecified()),
-            IFLA_GRE_TTL => InfoGre6::Ttl(datum.u8_or_zero()),
-            IFLA_GRE_TOS => InfoGre6::Tos(datum.u8_or_zero()),
-            IFLA_GRE_ENCAP_LIMIT => InfoGre6::EncapLimit(datum.u8_or_zero()),
-            IFLA_GRE_FLOWINFO => InfoGre6::FlowLabel(datum.u32_or_zero()),
-            IFLA_GRE_ENCAP_TYPE => InfoGre6::EncapType(GreEncapType::from(datum.u16_or_zero())),
-            IFLA_GRE_ENCAP_FLAGS => InfoGre6::EncapFlags(GreEncapFlags::from_bits_retain(
+    fn from_found(_alloc: Global, _ctx: (), found: Found<'_>) -> Result<InfoGre6, AllocError> {
+        Ok(match found {
+            Found::Typed(IFLA_GRE_LINK, datum) => InfoGre6::Link(datum.u32_or_zero()),
+            Found::Typed(IFLA_GRE_IFLAGS, datum) => InfoGre6::IFlags(GreIOFlags::from_bits_retain(
                 datum.u16_or_zero(),
             )),
-            IFLA_GRE_ENCAP_SPORT => InfoGre6::SourcePort(datum.u16_or_zero()),
-            IFLA_GRE_ENCAP_DPORT => InfoGre6::DestinationPort(datum.u16_or_zero()),
-            IFLA_GRE_COLLECT_METADATA => InfoGre6::CollectMetadata,
-            IFLA_GRE_FWMARK => InfoGre6::FwMask(datum.u32_or_zero()),
-            IFLA_GRE_ERSPAN_INDEX => InfoGre6::ErSpanIndex(datum.u32_or_zero()),
-            IFLA_GRE_ERSPAN_VER => InfoGre6::ErSpanVer(datum.u8_or_zero()),
-            IFLA_GRE_ERSPAN_DIR => InfoGre6::ErSpanDir(ErSpanDir::from(datum.u8_or_zero())),
-            IFLA_GRE_ERSPAN_HWID => InfoGre6::ErSpanHwId(datum.u16_or_zero()),
-            _ => unreachable!(),
+            Found::Typed(IFLA_GRE_OFLAGS, datum) => InfoGre6::OFlags(GreIOFlags::from_bits_retain(
+                datum.u16_or_zero(),
+            )),
+            Found::Typed(IFLA_GRE_IKEY, datum) => InfoGre6::IKey(datum.u32_or_zero()),
+            Found::Typed(IFLA_GRE_OKEY, datum) => InfoGre6::OKey(datum.u32_or_zero()),
+            Found::Typed(IFLA_GRE_LOCAL, datum) => InfoGre6::Local(datum.ipv6_or_unspecified()),
+            Found::Typed(IFLA_GRE_REMOTE, datum) => InfoGre6::Remote(datum.ipv6_or_unspecified()),
+            Found::Typed(IFLA_GRE_TTL, datum) => InfoGre6::Ttl(datum.u8_or_zero()),
+            Found::Typed(IFLA_GRE_TOS, datum) => InfoGre6::Tos(datum.u8_or_zero()),
+            Found::Typed(IFLA_GRE_ENCAP_LIMIT, datum) => InfoGre6::EncapLimit(datum.u8_or_zero()),
+            Found::Typed(IFLA_GRE_FLOWINFO, datum) => InfoGre6::FlowLabel(datum.u32_or_zero()),
+            Found::Typed(IFLA_GRE_ENCAP_TYPE, datum) => InfoGre6::EncapType(GreEncapType::from(
+                datum.u16_or_zero(),
+            )),
+            Found::Typed(IFLA_GRE_ENCAP_FLAGS, datum) => InfoGre6::EncapFlags(
+                GreEncapFlags::from_bits_retain(datum.u16_or_zero()),
+            ),
+            Found::Typed(IFLA_GRE_ENCAP_SPORT, datum) => InfoGre6::SourcePort(datum.u16_or_zero()),
+            Found::Typed(IFLA_GRE_ENCAP_DPORT, datum) => InfoGre6::DestinationPort(
+                datum.u16_or_zero(),
+            ),
+            Found::Typed(IFLA_GRE_COLLECT_METADATA, _) => InfoGre6::CollectMetadata,
+            Found::Typed(IFLA_GRE_FWMARK, datum) => InfoGre6::FwMask(datum.u32_or_zero()),
+            Found::Typed(IFLA_GRE_ERSPAN_INDEX, datum) => InfoGre6::ErSpanIndex(
+                datum.u32_or_zero(),
+            ),
+            Found::Typed(IFLA_GRE_ERSPAN_VER, datum) => InfoGre6::ErSpanVer(datum.u8_or_zero()),
+            Found::Typed(IFLA_GRE_ERSPAN_DIR, datum) => InfoGre6::ErSpanDir(ErSpanDir::from(
+                datum.u8_or_zero(),
+            )),
+            Found::Typed(IFLA_GRE_ERSPAN_HWID, datum) => InfoGre6::ErSpanHwId(datum.u16_or_zero()),
+            Found::Typed(_, _) => unreachable!(),
+            Found::Kept(nla) => InfoGre6::Other(nla),
         })
-    }
-
-    fn from_other(nla: DefaultNla) -> InfoGre6 {
-        InfoGre6::Other(nla)
     }
 
     fn to_part(&self) -> Part<'_> {
@@ -253,5 +257,12 @@ impl ExactEq for InfoGre6 {
     ghost use Rattle.nla_frame.specs.contracts.default_nla.DefaultNlaExactEq.TheImpl.Laws.{exact-law as kept_exact};
     ghost use Rattle.linkinfo_tunnels.specs.contracts.gre6.InfoGre6.{enum};
 
-    ghost exact = { let number = one_field Decides-eqb in let header = one_field header_exact in let ipv6 = one_field ipv6_exact in let encapsulation = one_field encapsulation_exact in let wrapping = one_field wrapping_exact in let direction = one_field direction_exact in let kept = one_field kept_exact in derived_decides enum _ (number, (header, (header, (number, (number, (ipv6, (ipv6, (number, (number, (number, (number, (encapsulation, (wrapping, (number, (number, (no_field, (number, (number, (number, (direction, (number, (kept, tt)))))))))))))))))))))) };
+    ghost exact = { let number = one_field Decides-eqb in
+        let header = one_field header_exact in
+        let ipv6 = one_field ipv6_exact in
+        let encapsulation = one_field encapsulation_exact in
+        let wrapping = one_field wrapping_exact in
+        let direction = one_field direction_exact in
+        let kept = one_field kept_exact in
+        derived_decides enum _ (number, (header, (header, (number, (number, (ipv6, (ipv6, (number, (number, (number, (number, (encapsulation, (wrapping, (number, (number, (no_field, (number, (number, (number, (direction, (number, (kept, tt)))))))))))))))))))))) };
 }

@@ -11,7 +11,7 @@ ghost use Rattle.std.specs.Prelude.{false, refl};
 use crate::parts;
 use linkinfo_numbers::GtpRole;
 use linkinfo_table::{
-    Datum, FlatFamily, Lookup, Part, RowFamily, row_emit_value, row_fit_len, row_kind, row_read,
+    FlatFamily, Found, Lookup, Part, RowFamily, row_emit_value, row_fit_len, row_kind, row_read,
     row_value_len, table_lookup,
 };
 use nla_frame::{DecodeError, DefaultNla, ExactEq, Family, Nla, NlaBuffer, Parseable};
@@ -81,27 +81,23 @@ impl RowFamily for InfoGtp {
         table_lookup(Family::Gtp, kind)
     }
 
-    fn from_datum(
-        _alloc: Global,
-        _ctx: (),
-        kind: u16,
-        datum: Datum<'_>,
-    ) -> Result<InfoGtp, AllocError> {
-        Ok(match kind {
-            IFLA_GTP_FD0 => InfoGtp::Fd0(datum.u32_or_zero()),
-            IFLA_GTP_FD1 => InfoGtp::Fd1(datum.u32_or_zero()),
-            IFLA_GTP_PDP_HASHSIZE => InfoGtp::PdpHashsize(datum.u32_or_zero()),
-            IFLA_GTP_ROLE => InfoGtp::Role(GtpRole::from(datum.u32_or_zero())),
-            IFLA_GTP_CREATE_SOCKETS => InfoGtp::CreateSockets(datum.bool_or_false()),
-            IFLA_GTP_RESTART_COUNT => InfoGtp::RestartCount(datum.u8_or_zero()),
-            IFLA_GTP_LOCAL => InfoGtp::Local(datum.ipv4_or_unspecified()),
-            IFLA_GTP_LOCAL6 => InfoGtp::Local6(datum.ipv6_or_unspecified()),
-            _ => unreachable!(),
+    fn from_found(_alloc: Global, _ctx: (), found: Found<'_>) -> Result<InfoGtp, AllocError> {
+        Ok(match found {
+            Found::Typed(IFLA_GTP_FD0, datum) => InfoGtp::Fd0(datum.u32_or_zero()),
+            Found::Typed(IFLA_GTP_FD1, datum) => InfoGtp::Fd1(datum.u32_or_zero()),
+            Found::Typed(IFLA_GTP_PDP_HASHSIZE, datum) => InfoGtp::PdpHashsize(datum.u32_or_zero()),
+            Found::Typed(IFLA_GTP_ROLE, datum) => InfoGtp::Role(GtpRole::from(datum.u32_or_zero())),
+            Found::Typed(IFLA_GTP_CREATE_SOCKETS, datum) => InfoGtp::CreateSockets(
+                datum.bool_or_false(),
+            ),
+            Found::Typed(IFLA_GTP_RESTART_COUNT, datum) => InfoGtp::RestartCount(
+                datum.u8_or_zero(),
+            ),
+            Found::Typed(IFLA_GTP_LOCAL, datum) => InfoGtp::Local(datum.ipv4_or_unspecified()),
+            Found::Typed(IFLA_GTP_LOCAL6, datum) => InfoGtp::Local6(datum.ipv6_or_unspecified()),
+            Found::Typed(_, _) => unreachable!(),
+            Found::Kept(nla) => InfoGtp::Other(nla),
         })
-    }
-
-    fn from_other(nla: DefaultNla) -> InfoGtp {
-        InfoGtp::Other(nla)
     }
 
     fn to_part(&self) -> Part<'_> {

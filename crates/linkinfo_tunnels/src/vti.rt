@@ -10,7 +10,7 @@ ghost use Rattle.std.specs.Prelude.{false, refl};
 
 use crate::parts;
 use linkinfo_table::{
-    Datum, FlatFamily, Lookup, Part, RowFamily, row_emit_value, row_fit_len, row_kind, row_read,
+    FlatFamily, Found, Lookup, Part, RowFamily, row_emit_value, row_fit_len, row_kind, row_read,
     row_value_len, table_lookup,
 };
 use nla_frame::{DecodeError, DefaultNla, ExactEq, Family, Nla, NlaBuffer, Parseable};
@@ -72,25 +72,17 @@ impl RowFamily for InfoVti {
         table_lookup(Family::Vti, kind)
     }
 
-    fn from_datum(
-        _alloc: Global,
-        _ctx: (),
-        kind: u16,
-        datum: Datum<'_>,
-    ) -> Result<InfoVti, AllocError> {
-        Ok(match kind {
-            IFLA_VTI_LINK => InfoVti::Link(datum.u32_or_zero()),
-            IFLA_VTI_IKEY => InfoVti::IKey(datum.u32_or_zero()),
-            IFLA_VTI_OKEY => InfoVti::OKey(datum.u32_or_zero()),
-            IFLA_VTI_LOCAL => InfoVti::Local(datum.ip_or_unspecified()),
-            IFLA_VTI_REMOTE => InfoVti::Remote(datum.ip_or_unspecified()),
-            IFLA_VTI_FWMARK => InfoVti::FwMark(datum.u32_or_zero()),
-            _ => unreachable!(),
+    fn from_found(_alloc: Global, _ctx: (), found: Found<'_>) -> Result<InfoVti, AllocError> {
+        Ok(match found {
+            Found::Typed(IFLA_VTI_LINK, datum) => InfoVti::Link(datum.u32_or_zero()),
+            Found::Typed(IFLA_VTI_IKEY, datum) => InfoVti::IKey(datum.u32_or_zero()),
+            Found::Typed(IFLA_VTI_OKEY, datum) => InfoVti::OKey(datum.u32_or_zero()),
+            Found::Typed(IFLA_VTI_LOCAL, datum) => InfoVti::Local(datum.ip_or_unspecified()),
+            Found::Typed(IFLA_VTI_REMOTE, datum) => InfoVti::Remote(datum.ip_or_unspecified()),
+            Found::Typed(IFLA_VTI_FWMARK, datum) => InfoVti::FwMark(datum.u32_or_zero()),
+            Found::Typed(_, _) => unreachable!(),
+            Found::Kept(nla) => InfoVti::Other(nla),
         })
-    }
-
-    fn from_other(nla: DefaultNla) -> InfoVti {
-        InfoVti::Other(nla)
     }
 
     fn to_part(&self) -> Part<'_> {
