@@ -82,19 +82,20 @@ impl RowFamily for InfoAmt {
     }
 
     fn from_found(_alloc: Global, _ctx: (), found: Found<'_>) -> Result<InfoAmt, AllocError> {
-        Ok(match found {
-            Found::Typed(IFLA_AMT_MODE, datum) => InfoAmt::Mode(AmtMode::from(datum.u32_or_zero())),
-            Found::Typed(IFLA_AMT_RELAY_PORT, datum) => InfoAmt::RelayPort(datum.u16_or_zero()),
-            Found::Typed(IFLA_AMT_GATEWAY_PORT, datum) => InfoAmt::GatewayPort(datum.u16_or_zero()),
-            Found::Typed(IFLA_AMT_LINK, datum) => InfoAmt::Link(datum.u32_or_zero()),
-            Found::Typed(IFLA_AMT_LOCAL_IP, datum) => InfoAmt::LocalIp(datum.ip_or_unspecified()),
-            Found::Typed(IFLA_AMT_REMOTE_IP, datum) => InfoAmt::RemoteIp(datum.ip_or_unspecified()),
-            Found::Typed(IFLA_AMT_DISCOVERY_IP, datum) => InfoAmt::DiscoveryIp(
-                datum.ip_or_unspecified(),
-            ),
-            Found::Typed(IFLA_AMT_MAX_TUNNELS, datum) => InfoAmt::MaxTunnels(datum.u32_or_zero()),
-            Found::Typed(_, _) => unreachable!(),
-            Found::Kept(nla) => InfoAmt::Other(nla),
+        let (kind, datum) = match found {
+            Found::Typed(kind, datum) => (kind, datum),
+            Found::Kept(nla) => return Ok(InfoAmt::Other(nla)),
+        };
+        Ok(match kind {
+            IFLA_AMT_MODE => InfoAmt::Mode(AmtMode::from(datum.u32_or_zero())),
+            IFLA_AMT_RELAY_PORT => InfoAmt::RelayPort(datum.u16_or_zero()),
+            IFLA_AMT_GATEWAY_PORT => InfoAmt::GatewayPort(datum.u16_or_zero()),
+            IFLA_AMT_LINK => InfoAmt::Link(datum.u32_or_zero()),
+            IFLA_AMT_LOCAL_IP => InfoAmt::LocalIp(datum.ip_or_unspecified()),
+            IFLA_AMT_REMOTE_IP => InfoAmt::RemoteIp(datum.ip_or_unspecified()),
+            IFLA_AMT_DISCOVERY_IP => InfoAmt::DiscoveryIp(datum.ip_or_unspecified()),
+            IFLA_AMT_MAX_TUNNELS => InfoAmt::MaxTunnels(datum.u32_or_zero()),
+            _ => unreachable!(),
         })
     }
 

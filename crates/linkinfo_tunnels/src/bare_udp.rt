@@ -65,17 +65,18 @@ impl RowFamily for InfoBareUdp {
     }
 
     fn from_found(_alloc: Global, _ctx: (), found: Found<'_>) -> Result<InfoBareUdp, AllocError> {
-        Ok(match found {
-            Found::Typed(IFLA_BAREUDP_PORT, datum) => InfoBareUdp::Port(datum.u16_or_zero()),
-            Found::Typed(IFLA_BAREUDP_ETHERTYPE, datum) => InfoBareUdp::Ethertype(
-                EthernetProtocol::from(datum.u16_or_zero()),
-            ),
-            Found::Typed(IFLA_BAREUDP_SRCPORT_MIN, datum) => InfoBareUdp::SrcPortMin(
+        let (kind, datum) = match found {
+            Found::Typed(kind, datum) => (kind, datum),
+            Found::Kept(nla) => return Ok(InfoBareUdp::Other(nla)),
+        };
+        Ok(match kind {
+            IFLA_BAREUDP_PORT => InfoBareUdp::Port(datum.u16_or_zero()),
+            IFLA_BAREUDP_ETHERTYPE => InfoBareUdp::Ethertype(EthernetProtocol::from(
                 datum.u16_or_zero(),
-            ),
-            Found::Typed(IFLA_BAREUDP_MULTIPROTO_MODE, _) => InfoBareUdp::MultiprotoMode,
-            Found::Typed(_, _) => unreachable!(),
-            Found::Kept(nla) => InfoBareUdp::Other(nla),
+            )),
+            IFLA_BAREUDP_SRCPORT_MIN => InfoBareUdp::SrcPortMin(datum.u16_or_zero()),
+            IFLA_BAREUDP_MULTIPROTO_MODE => InfoBareUdp::MultiprotoMode,
+            _ => unreachable!(),
         })
     }
 

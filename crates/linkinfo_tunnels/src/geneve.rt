@@ -114,41 +114,28 @@ impl RowFamily for InfoGeneve {
     }
 
     fn from_found(_alloc: Global, _ctx: (), found: Found<'_>) -> Result<InfoGeneve, AllocError> {
-        Ok(match found {
-            Found::Typed(IFLA_GENEVE_ID, datum) => InfoGeneve::Id(datum.u32_or_zero()),
-            Found::Typed(IFLA_GENEVE_REMOTE, datum) => InfoGeneve::Remote(
-                datum.ipv4_or_unspecified(),
-            ),
-            Found::Typed(IFLA_GENEVE_TTL, datum) => InfoGeneve::Ttl(datum.u8_or_zero()),
-            Found::Typed(IFLA_GENEVE_TOS, datum) => InfoGeneve::Tos(datum.u8_or_zero()),
-            Found::Typed(IFLA_GENEVE_PORT, datum) => InfoGeneve::Port(datum.u16_or_zero()),
-            Found::Typed(IFLA_GENEVE_COLLECT_METADATA, _) => InfoGeneve::CollectMetadata,
-            Found::Typed(IFLA_GENEVE_REMOTE6, datum) => InfoGeneve::Remote6(
-                datum.ipv6_or_unspecified(),
-            ),
-            Found::Typed(IFLA_GENEVE_UDP_CSUM, datum) => InfoGeneve::UdpCsum(datum.bool_or_false()),
-            Found::Typed(IFLA_GENEVE_UDP_ZERO_CSUM6_TX, datum) => InfoGeneve::UdpZeroCsum6Tx(
-                datum.bool_or_false(),
-            ),
-            Found::Typed(IFLA_GENEVE_UDP_ZERO_CSUM6_RX, datum) => InfoGeneve::UdpZeroCsum6Rx(
-                datum.bool_or_false(),
-            ),
-            Found::Typed(IFLA_GENEVE_LABEL, datum) => InfoGeneve::Label(datum.u32_or_zero()),
-            Found::Typed(IFLA_GENEVE_TTL_INHERIT, datum) => InfoGeneve::TtlInherit(
-                datum.bool_or_false(),
-            ),
-            Found::Typed(IFLA_GENEVE_DF, datum) => InfoGeneve::Df(GeneveDf::from(
-                datum.u8_or_zero(),
-            )),
-            Found::Typed(IFLA_GENEVE_INNER_PROTO_INHERIT, _) => InfoGeneve::InnerProtoInherit,
-            Found::Typed(IFLA_GENEVE_LOCAL, datum) => InfoGeneve::Local(
-                datum.ipv4_or_unspecified(),
-            ),
-            Found::Typed(IFLA_GENEVE_LOCAL6, datum) => InfoGeneve::Local6(
-                datum.ipv6_or_unspecified(),
-            ),
-            Found::Typed(_, _) => unreachable!(),
-            Found::Kept(nla) => InfoGeneve::Other(nla),
+        let (kind, datum) = match found {
+            Found::Typed(kind, datum) => (kind, datum),
+            Found::Kept(nla) => return Ok(InfoGeneve::Other(nla)),
+        };
+        Ok(match kind {
+            IFLA_GENEVE_ID => InfoGeneve::Id(datum.u32_or_zero()),
+            IFLA_GENEVE_REMOTE => InfoGeneve::Remote(datum.ipv4_or_unspecified()),
+            IFLA_GENEVE_TTL => InfoGeneve::Ttl(datum.u8_or_zero()),
+            IFLA_GENEVE_TOS => InfoGeneve::Tos(datum.u8_or_zero()),
+            IFLA_GENEVE_PORT => InfoGeneve::Port(datum.u16_or_zero()),
+            IFLA_GENEVE_COLLECT_METADATA => InfoGeneve::CollectMetadata,
+            IFLA_GENEVE_REMOTE6 => InfoGeneve::Remote6(datum.ipv6_or_unspecified()),
+            IFLA_GENEVE_UDP_CSUM => InfoGeneve::UdpCsum(datum.bool_or_false()),
+            IFLA_GENEVE_UDP_ZERO_CSUM6_TX => InfoGeneve::UdpZeroCsum6Tx(datum.bool_or_false()),
+            IFLA_GENEVE_UDP_ZERO_CSUM6_RX => InfoGeneve::UdpZeroCsum6Rx(datum.bool_or_false()),
+            IFLA_GENEVE_LABEL => InfoGeneve::Label(datum.u32_or_zero()),
+            IFLA_GENEVE_TTL_INHERIT => InfoGeneve::TtlInherit(datum.bool_or_false()),
+            IFLA_GENEVE_DF => InfoGeneve::Df(GeneveDf::from(datum.u8_or_zero())),
+            IFLA_GENEVE_INNER_PROTO_INHERIT => InfoGeneve::InnerProtoInherit,
+            IFLA_GENEVE_LOCAL => InfoGeneve::Local(datum.ipv4_or_unspecified()),
+            IFLA_GENEVE_LOCAL6 => InfoGeneve::Local6(datum.ipv6_or_unspecified()),
+            _ => unreachable!(),
         })
     }
 

@@ -131,43 +131,34 @@ impl RowFamily for InfoGre {
     }
 
     fn from_found(_alloc: Global, _ctx: (), found: Found<'_>) -> Result<InfoGre, AllocError> {
-        Ok(match found {
-            Found::Typed(IFLA_GRE_LINK, datum) => InfoGre::Link(datum.u32_or_zero()),
-            Found::Typed(IFLA_GRE_IFLAGS, datum) => InfoGre::IFlags(GreIOFlags::from_bits_retain(
+        let (kind, datum) = match found {
+            Found::Typed(kind, datum) => (kind, datum),
+            Found::Kept(nla) => return Ok(InfoGre::Other(nla)),
+        };
+        Ok(match kind {
+            IFLA_GRE_LINK => InfoGre::Link(datum.u32_or_zero()),
+            IFLA_GRE_IFLAGS => InfoGre::IFlags(GreIOFlags::from_bits_retain(datum.u16_or_zero())),
+            IFLA_GRE_OFLAGS => InfoGre::OFlags(GreIOFlags::from_bits_retain(datum.u16_or_zero())),
+            IFLA_GRE_IKEY => InfoGre::IKey(datum.u32_or_zero()),
+            IFLA_GRE_OKEY => InfoGre::OKey(datum.u32_or_zero()),
+            IFLA_GRE_LOCAL => InfoGre::Local(datum.ipv4_or_unspecified()),
+            IFLA_GRE_REMOTE => InfoGre::Remote(datum.ipv4_or_unspecified()),
+            IFLA_GRE_TTL => InfoGre::Ttl(datum.u8_or_zero()),
+            IFLA_GRE_TOS => InfoGre::Tos(datum.u8_or_zero()),
+            IFLA_GRE_PMTUDISC => InfoGre::PathMTUDiscovery(datum.bool_or_false()),
+            IFLA_GRE_ENCAP_TYPE => InfoGre::EncapType(GreEncapType::from(datum.u16_or_zero())),
+            IFLA_GRE_ENCAP_FLAGS => InfoGre::EncapFlags(GreEncapFlags::from_bits_retain(
                 datum.u16_or_zero(),
             )),
-            Found::Typed(IFLA_GRE_OFLAGS, datum) => InfoGre::OFlags(GreIOFlags::from_bits_retain(
-                datum.u16_or_zero(),
-            )),
-            Found::Typed(IFLA_GRE_IKEY, datum) => InfoGre::IKey(datum.u32_or_zero()),
-            Found::Typed(IFLA_GRE_OKEY, datum) => InfoGre::OKey(datum.u32_or_zero()),
-            Found::Typed(IFLA_GRE_LOCAL, datum) => InfoGre::Local(datum.ipv4_or_unspecified()),
-            Found::Typed(IFLA_GRE_REMOTE, datum) => InfoGre::Remote(datum.ipv4_or_unspecified()),
-            Found::Typed(IFLA_GRE_TTL, datum) => InfoGre::Ttl(datum.u8_or_zero()),
-            Found::Typed(IFLA_GRE_TOS, datum) => InfoGre::Tos(datum.u8_or_zero()),
-            Found::Typed(IFLA_GRE_PMTUDISC, datum) => InfoGre::PathMTUDiscovery(
-                datum.bool_or_false(),
-            ),
-            Found::Typed(IFLA_GRE_ENCAP_TYPE, datum) => InfoGre::EncapType(GreEncapType::from(
-                datum.u16_or_zero(),
-            )),
-            Found::Typed(IFLA_GRE_ENCAP_FLAGS, datum) => InfoGre::EncapFlags(
-                GreEncapFlags::from_bits_retain(datum.u16_or_zero()),
-            ),
-            Found::Typed(IFLA_GRE_ENCAP_SPORT, datum) => InfoGre::SourcePort(datum.u16_or_zero()),
-            Found::Typed(IFLA_GRE_ENCAP_DPORT, datum) => InfoGre::DestinationPort(
-                datum.u16_or_zero(),
-            ),
-            Found::Typed(IFLA_GRE_COLLECT_METADATA, _) => InfoGre::CollectMetadata,
-            Found::Typed(IFLA_GRE_FWMARK, datum) => InfoGre::FwMask(datum.u32_or_zero()),
-            Found::Typed(IFLA_GRE_ERSPAN_INDEX, datum) => InfoGre::ErSpanIndex(datum.u32_or_zero()),
-            Found::Typed(IFLA_GRE_ERSPAN_VER, datum) => InfoGre::ErSpanVer(datum.u8_or_zero()),
-            Found::Typed(IFLA_GRE_ERSPAN_DIR, datum) => InfoGre::ErSpanDir(ErSpanDir::from(
-                datum.u8_or_zero(),
-            )),
-            Found::Typed(IFLA_GRE_ERSPAN_HWID, datum) => InfoGre::ErSpanHwId(datum.u16_or_zero()),
-            Found::Typed(_, _) => unreachable!(),
-            Found::Kept(nla) => InfoGre::Other(nla),
+            IFLA_GRE_ENCAP_SPORT => InfoGre::SourcePort(datum.u16_or_zero()),
+            IFLA_GRE_ENCAP_DPORT => InfoGre::DestinationPort(datum.u16_or_zero()),
+            IFLA_GRE_COLLECT_METADATA => InfoGre::CollectMetadata,
+            IFLA_GRE_FWMARK => InfoGre::FwMask(datum.u32_or_zero()),
+            IFLA_GRE_ERSPAN_INDEX => InfoGre::ErSpanIndex(datum.u32_or_zero()),
+            IFLA_GRE_ERSPAN_VER => InfoGre::ErSpanVer(datum.u8_or_zero()),
+            IFLA_GRE_ERSPAN_DIR => InfoGre::ErSpanDir(ErSpanDir::from(datum.u8_or_zero())),
+            IFLA_GRE_ERSPAN_HWID => InfoGre::ErSpanHwId(datum.u16_or_zero()),
+            _ => unreachable!(),
         })
     }
 

@@ -135,44 +135,35 @@ impl RowFamily for InfoGre6 {
     }
 
     fn from_found(_alloc: Global, _ctx: (), found: Found<'_>) -> Result<InfoGre6, AllocError> {
-        Ok(match found {
-            Found::Typed(IFLA_GRE_LINK, datum) => InfoGre6::Link(datum.u32_or_zero()),
-            Found::Typed(IFLA_GRE_IFLAGS, datum) => InfoGre6::IFlags(GreIOFlags::from_bits_retain(
+        let (kind, datum) = match found {
+            Found::Typed(kind, datum) => (kind, datum),
+            Found::Kept(nla) => return Ok(InfoGre6::Other(nla)),
+        };
+        Ok(match kind {
+            IFLA_GRE_LINK => InfoGre6::Link(datum.u32_or_zero()),
+            IFLA_GRE_IFLAGS => InfoGre6::IFlags(GreIOFlags::from_bits_retain(datum.u16_or_zero())),
+            IFLA_GRE_OFLAGS => InfoGre6::OFlags(GreIOFlags::from_bits_retain(datum.u16_or_zero())),
+            IFLA_GRE_IKEY => InfoGre6::IKey(datum.u32_or_zero()),
+            IFLA_GRE_OKEY => InfoGre6::OKey(datum.u32_or_zero()),
+            IFLA_GRE_LOCAL => InfoGre6::Local(datum.ipv6_or_unspecified()),
+            IFLA_GRE_REMOTE => InfoGre6::Remote(datum.ipv6_or_unspecified()),
+            IFLA_GRE_TTL => InfoGre6::Ttl(datum.u8_or_zero()),
+            IFLA_GRE_TOS => InfoGre6::Tos(datum.u8_or_zero()),
+            IFLA_GRE_ENCAP_LIMIT => InfoGre6::EncapLimit(datum.u8_or_zero()),
+            IFLA_GRE_FLOWINFO => InfoGre6::FlowLabel(datum.u32_or_zero()),
+            IFLA_GRE_ENCAP_TYPE => InfoGre6::EncapType(GreEncapType::from(datum.u16_or_zero())),
+            IFLA_GRE_ENCAP_FLAGS => InfoGre6::EncapFlags(GreEncapFlags::from_bits_retain(
                 datum.u16_or_zero(),
             )),
-            Found::Typed(IFLA_GRE_OFLAGS, datum) => InfoGre6::OFlags(GreIOFlags::from_bits_retain(
-                datum.u16_or_zero(),
-            )),
-            Found::Typed(IFLA_GRE_IKEY, datum) => InfoGre6::IKey(datum.u32_or_zero()),
-            Found::Typed(IFLA_GRE_OKEY, datum) => InfoGre6::OKey(datum.u32_or_zero()),
-            Found::Typed(IFLA_GRE_LOCAL, datum) => InfoGre6::Local(datum.ipv6_or_unspecified()),
-            Found::Typed(IFLA_GRE_REMOTE, datum) => InfoGre6::Remote(datum.ipv6_or_unspecified()),
-            Found::Typed(IFLA_GRE_TTL, datum) => InfoGre6::Ttl(datum.u8_or_zero()),
-            Found::Typed(IFLA_GRE_TOS, datum) => InfoGre6::Tos(datum.u8_or_zero()),
-            Found::Typed(IFLA_GRE_ENCAP_LIMIT, datum) => InfoGre6::EncapLimit(datum.u8_or_zero()),
-            Found::Typed(IFLA_GRE_FLOWINFO, datum) => InfoGre6::FlowLabel(datum.u32_or_zero()),
-            Found::Typed(IFLA_GRE_ENCAP_TYPE, datum) => InfoGre6::EncapType(GreEncapType::from(
-                datum.u16_or_zero(),
-            )),
-            Found::Typed(IFLA_GRE_ENCAP_FLAGS, datum) => InfoGre6::EncapFlags(
-                GreEncapFlags::from_bits_retain(datum.u16_or_zero()),
-            ),
-            Found::Typed(IFLA_GRE_ENCAP_SPORT, datum) => InfoGre6::SourcePort(datum.u16_or_zero()),
-            Found::Typed(IFLA_GRE_ENCAP_DPORT, datum) => InfoGre6::DestinationPort(
-                datum.u16_or_zero(),
-            ),
-            Found::Typed(IFLA_GRE_COLLECT_METADATA, _) => InfoGre6::CollectMetadata,
-            Found::Typed(IFLA_GRE_FWMARK, datum) => InfoGre6::FwMask(datum.u32_or_zero()),
-            Found::Typed(IFLA_GRE_ERSPAN_INDEX, datum) => InfoGre6::ErSpanIndex(
-                datum.u32_or_zero(),
-            ),
-            Found::Typed(IFLA_GRE_ERSPAN_VER, datum) => InfoGre6::ErSpanVer(datum.u8_or_zero()),
-            Found::Typed(IFLA_GRE_ERSPAN_DIR, datum) => InfoGre6::ErSpanDir(ErSpanDir::from(
-                datum.u8_or_zero(),
-            )),
-            Found::Typed(IFLA_GRE_ERSPAN_HWID, datum) => InfoGre6::ErSpanHwId(datum.u16_or_zero()),
-            Found::Typed(_, _) => unreachable!(),
-            Found::Kept(nla) => InfoGre6::Other(nla),
+            IFLA_GRE_ENCAP_SPORT => InfoGre6::SourcePort(datum.u16_or_zero()),
+            IFLA_GRE_ENCAP_DPORT => InfoGre6::DestinationPort(datum.u16_or_zero()),
+            IFLA_GRE_COLLECT_METADATA => InfoGre6::CollectMetadata,
+            IFLA_GRE_FWMARK => InfoGre6::FwMask(datum.u32_or_zero()),
+            IFLA_GRE_ERSPAN_INDEX => InfoGre6::ErSpanIndex(datum.u32_or_zero()),
+            IFLA_GRE_ERSPAN_VER => InfoGre6::ErSpanVer(datum.u8_or_zero()),
+            IFLA_GRE_ERSPAN_DIR => InfoGre6::ErSpanDir(ErSpanDir::from(datum.u8_or_zero())),
+            IFLA_GRE_ERSPAN_HWID => InfoGre6::ErSpanHwId(datum.u16_or_zero()),
+            _ => unreachable!(),
         })
     }
 

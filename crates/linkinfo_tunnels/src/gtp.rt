@@ -82,21 +82,20 @@ impl RowFamily for InfoGtp {
     }
 
     fn from_found(_alloc: Global, _ctx: (), found: Found<'_>) -> Result<InfoGtp, AllocError> {
-        Ok(match found {
-            Found::Typed(IFLA_GTP_FD0, datum) => InfoGtp::Fd0(datum.u32_or_zero()),
-            Found::Typed(IFLA_GTP_FD1, datum) => InfoGtp::Fd1(datum.u32_or_zero()),
-            Found::Typed(IFLA_GTP_PDP_HASHSIZE, datum) => InfoGtp::PdpHashsize(datum.u32_or_zero()),
-            Found::Typed(IFLA_GTP_ROLE, datum) => InfoGtp::Role(GtpRole::from(datum.u32_or_zero())),
-            Found::Typed(IFLA_GTP_CREATE_SOCKETS, datum) => InfoGtp::CreateSockets(
-                datum.bool_or_false(),
-            ),
-            Found::Typed(IFLA_GTP_RESTART_COUNT, datum) => InfoGtp::RestartCount(
-                datum.u8_or_zero(),
-            ),
-            Found::Typed(IFLA_GTP_LOCAL, datum) => InfoGtp::Local(datum.ipv4_or_unspecified()),
-            Found::Typed(IFLA_GTP_LOCAL6, datum) => InfoGtp::Local6(datum.ipv6_or_unspecified()),
-            Found::Typed(_, _) => unreachable!(),
-            Found::Kept(nla) => InfoGtp::Other(nla),
+        let (kind, datum) = match found {
+            Found::Typed(kind, datum) => (kind, datum),
+            Found::Kept(nla) => return Ok(InfoGtp::Other(nla)),
+        };
+        Ok(match kind {
+            IFLA_GTP_FD0 => InfoGtp::Fd0(datum.u32_or_zero()),
+            IFLA_GTP_FD1 => InfoGtp::Fd1(datum.u32_or_zero()),
+            IFLA_GTP_PDP_HASHSIZE => InfoGtp::PdpHashsize(datum.u32_or_zero()),
+            IFLA_GTP_ROLE => InfoGtp::Role(GtpRole::from(datum.u32_or_zero())),
+            IFLA_GTP_CREATE_SOCKETS => InfoGtp::CreateSockets(datum.bool_or_false()),
+            IFLA_GTP_RESTART_COUNT => InfoGtp::RestartCount(datum.u8_or_zero()),
+            IFLA_GTP_LOCAL => InfoGtp::Local(datum.ipv4_or_unspecified()),
+            IFLA_GTP_LOCAL6 => InfoGtp::Local6(datum.ipv6_or_unspecified()),
+            _ => unreachable!(),
         })
     }
 

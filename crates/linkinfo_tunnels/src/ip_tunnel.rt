@@ -147,52 +147,40 @@ impl RowFamily for InfoIpTunnel {
         ctx: KindTag,
         found: Found<'_>,
     ) -> Result<InfoIpTunnel, AllocError> {
-        Ok(match found {
-            Found::Typed(IFLA_IPTUN_LINK, datum) => InfoIpTunnel::Link(datum.u32_or_zero()),
-            Found::Typed(IFLA_IPTUN_LOCAL, datum) => InfoIpTunnel::Local(datum.ip_or_unspecified()),
-            Found::Typed(IFLA_IPTUN_REMOTE, datum) => InfoIpTunnel::Remote(
-                datum.ip_or_unspecified(),
-            ),
-            Found::Typed(IFLA_IPTUN_TTL, datum) => InfoIpTunnel::Ttl(datum.u8_or_zero()),
-            Found::Typed(IFLA_IPTUN_TOS, datum) => InfoIpTunnel::Tos(datum.u8_or_zero()),
-            Found::Typed(IFLA_IPTUN_ENCAP_LIMIT, datum) => InfoIpTunnel::EncapLimit(
-                datum.u8_or_zero(),
-            ),
-            Found::Typed(IFLA_IPTUN_FLOWINFO, datum) => InfoIpTunnel::FlowInfo(datum.u32_or_zero()),
-            Found::Typed(IFLA_IPTUN_FLAGS, datum) => flags(ctx, datum),
-            Found::Typed(IFLA_IPTUN_PROTO, datum) => InfoIpTunnel::Protocol(IpProtocol::from(
-                datum.u8_or_zero(),
-            )),
-            Found::Typed(IFLA_IPTUN_PMTUDISC, datum) => InfoIpTunnel::PMtuDisc(
-                datum.bool_or_false(),
-            ),
-            Found::Typed(IFLA_IPTUN_6RD_PREFIX, datum) => InfoIpTunnel::Ipv6RdPrefix(
-                datum.ipv6_or_unspecified(),
-            ),
-            Found::Typed(IFLA_IPTUN_6RD_RELAY_PREFIX, datum) => InfoIpTunnel::Ipv6RdRelayPrefix(
+        let (kind, datum) = match found {
+            Found::Typed(kind, datum) => (kind, datum),
+            Found::Kept(nla) => return Ok(InfoIpTunnel::Other(nla)),
+        };
+        Ok(match kind {
+            IFLA_IPTUN_LINK => InfoIpTunnel::Link(datum.u32_or_zero()),
+            IFLA_IPTUN_LOCAL => InfoIpTunnel::Local(datum.ip_or_unspecified()),
+            IFLA_IPTUN_REMOTE => InfoIpTunnel::Remote(datum.ip_or_unspecified()),
+            IFLA_IPTUN_TTL => InfoIpTunnel::Ttl(datum.u8_or_zero()),
+            IFLA_IPTUN_TOS => InfoIpTunnel::Tos(datum.u8_or_zero()),
+            IFLA_IPTUN_ENCAP_LIMIT => InfoIpTunnel::EncapLimit(datum.u8_or_zero()),
+            IFLA_IPTUN_FLOWINFO => InfoIpTunnel::FlowInfo(datum.u32_or_zero()),
+            IFLA_IPTUN_FLAGS => flags(ctx, datum),
+            IFLA_IPTUN_PROTO => InfoIpTunnel::Protocol(IpProtocol::from(datum.u8_or_zero())),
+            IFLA_IPTUN_PMTUDISC => InfoIpTunnel::PMtuDisc(datum.bool_or_false()),
+            IFLA_IPTUN_6RD_PREFIX => InfoIpTunnel::Ipv6RdPrefix(datum.ipv6_or_unspecified()),
+            IFLA_IPTUN_6RD_RELAY_PREFIX => InfoIpTunnel::Ipv6RdRelayPrefix(
                 datum.ipv4_or_unspecified(),
             ),
-            Found::Typed(IFLA_IPTUN_6RD_PREFIXLEN, datum) => InfoIpTunnel::Ipv6RdPrefixLen(
+            IFLA_IPTUN_6RD_PREFIXLEN => InfoIpTunnel::Ipv6RdPrefixLen(datum.u16_or_zero()),
+            IFLA_IPTUN_6RD_RELAY_PREFIXLEN => InfoIpTunnel::Ipv6RdRelayPrefixLen(
                 datum.u16_or_zero(),
             ),
-            Found::Typed(IFLA_IPTUN_6RD_RELAY_PREFIXLEN, datum) =>
-                InfoIpTunnel::Ipv6RdRelayPrefixLen(datum.u16_or_zero()),
-            Found::Typed(IFLA_IPTUN_ENCAP_TYPE, datum) => InfoIpTunnel::EncapType(
-                TunnelEncapType::from(datum.u16_or_zero()),
-            ),
-            Found::Typed(IFLA_IPTUN_ENCAP_FLAGS, datum) => InfoIpTunnel::EncapFlags(
-                TunnelEncapFlags::from_bits_retain(datum.u16_or_zero()),
-            ),
-            Found::Typed(IFLA_IPTUN_ENCAP_SPORT, datum) => InfoIpTunnel::EncapSPort(
+            IFLA_IPTUN_ENCAP_TYPE => InfoIpTunnel::EncapType(TunnelEncapType::from(
                 datum.u16_or_zero(),
-            ),
-            Found::Typed(IFLA_IPTUN_ENCAP_DPORT, datum) => InfoIpTunnel::EncapDPort(
+            )),
+            IFLA_IPTUN_ENCAP_FLAGS => InfoIpTunnel::EncapFlags(TunnelEncapFlags::from_bits_retain(
                 datum.u16_or_zero(),
-            ),
-            Found::Typed(IFLA_IPTUN_COLLECT_METADATA, _) => InfoIpTunnel::CollectMetadata,
-            Found::Typed(IFLA_IPTUN_FWMARK, datum) => InfoIpTunnel::FwMark(datum.u32_or_zero()),
-            Found::Typed(_, _) => unreachable!(),
-            Found::Kept(nla) => InfoIpTunnel::Other(nla),
+            )),
+            IFLA_IPTUN_ENCAP_SPORT => InfoIpTunnel::EncapSPort(datum.u16_or_zero()),
+            IFLA_IPTUN_ENCAP_DPORT => InfoIpTunnel::EncapDPort(datum.u16_or_zero()),
+            IFLA_IPTUN_COLLECT_METADATA => InfoIpTunnel::CollectMetadata,
+            IFLA_IPTUN_FWMARK => InfoIpTunnel::FwMark(datum.u32_or_zero()),
+            _ => unreachable!(),
         })
     }
 

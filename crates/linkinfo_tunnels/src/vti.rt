@@ -73,15 +73,18 @@ impl RowFamily for InfoVti {
     }
 
     fn from_found(_alloc: Global, _ctx: (), found: Found<'_>) -> Result<InfoVti, AllocError> {
-        Ok(match found {
-            Found::Typed(IFLA_VTI_LINK, datum) => InfoVti::Link(datum.u32_or_zero()),
-            Found::Typed(IFLA_VTI_IKEY, datum) => InfoVti::IKey(datum.u32_or_zero()),
-            Found::Typed(IFLA_VTI_OKEY, datum) => InfoVti::OKey(datum.u32_or_zero()),
-            Found::Typed(IFLA_VTI_LOCAL, datum) => InfoVti::Local(datum.ip_or_unspecified()),
-            Found::Typed(IFLA_VTI_REMOTE, datum) => InfoVti::Remote(datum.ip_or_unspecified()),
-            Found::Typed(IFLA_VTI_FWMARK, datum) => InfoVti::FwMark(datum.u32_or_zero()),
-            Found::Typed(_, _) => unreachable!(),
-            Found::Kept(nla) => InfoVti::Other(nla),
+        let (kind, datum) = match found {
+            Found::Typed(kind, datum) => (kind, datum),
+            Found::Kept(nla) => return Ok(InfoVti::Other(nla)),
+        };
+        Ok(match kind {
+            IFLA_VTI_LINK => InfoVti::Link(datum.u32_or_zero()),
+            IFLA_VTI_IKEY => InfoVti::IKey(datum.u32_or_zero()),
+            IFLA_VTI_OKEY => InfoVti::OKey(datum.u32_or_zero()),
+            IFLA_VTI_LOCAL => InfoVti::Local(datum.ip_or_unspecified()),
+            IFLA_VTI_REMOTE => InfoVti::Remote(datum.ip_or_unspecified()),
+            IFLA_VTI_FWMARK => InfoVti::FwMark(datum.u32_or_zero()),
+            _ => unreachable!(),
         })
     }
 

@@ -188,67 +188,46 @@ impl RowFamily for InfoVxlan {
     }
 
     fn from_found(_alloc: Global, _ctx: (), found: Found<'_>) -> Result<InfoVxlan, AllocError> {
-        Ok(match found {
-            Found::Typed(IFLA_VXLAN_ID, datum) => InfoVxlan::Id(datum.u32_or_zero()),
-            Found::Typed(IFLA_VXLAN_GROUP, datum) => InfoVxlan::Group(datum.ipv4_or_unspecified()),
-            Found::Typed(IFLA_VXLAN_LINK, datum) => InfoVxlan::Link(datum.u32_or_zero()),
-            Found::Typed(IFLA_VXLAN_LOCAL, datum) => InfoVxlan::Local(datum.ipv4_or_unspecified()),
-            Found::Typed(IFLA_VXLAN_TTL, datum) => InfoVxlan::Ttl(datum.u8_or_zero()),
-            Found::Typed(IFLA_VXLAN_TOS, datum) => InfoVxlan::Tos(datum.u8_or_zero()),
-            Found::Typed(IFLA_VXLAN_LEARNING, datum) => InfoVxlan::Learning(datum.bool_or_false()),
-            Found::Typed(IFLA_VXLAN_AGEING, datum) => InfoVxlan::Ageing(datum.u32_or_zero()),
-            Found::Typed(IFLA_VXLAN_LIMIT, datum) => InfoVxlan::Limit(datum.u32_or_zero()),
-            Found::Typed(IFLA_VXLAN_PORT_RANGE, datum) => InfoVxlan::PortRange(
-                datum.u16_pair_or_zeros(),
-            ),
-            Found::Typed(IFLA_VXLAN_PROXY, datum) => InfoVxlan::Proxy(datum.bool_or_false()),
-            Found::Typed(IFLA_VXLAN_RSC, datum) => InfoVxlan::Rsc(datum.bool_or_false()),
-            Found::Typed(IFLA_VXLAN_L2MISS, datum) => InfoVxlan::L2Miss(datum.bool_or_false()),
-            Found::Typed(IFLA_VXLAN_L3MISS, datum) => InfoVxlan::L3Miss(datum.bool_or_false()),
-            Found::Typed(IFLA_VXLAN_PORT, datum) => InfoVxlan::Port(datum.u16_or_zero()),
-            Found::Typed(IFLA_VXLAN_GROUP6, datum) => InfoVxlan::Group6(
-                datum.ipv6_or_unspecified(),
-            ),
-            Found::Typed(IFLA_VXLAN_LOCAL6, datum) => InfoVxlan::Local6(
-                datum.ipv6_or_unspecified(),
-            ),
-            Found::Typed(IFLA_VXLAN_UDP_CSUM, datum) => InfoVxlan::UDPCsum(datum.bool_or_false()),
-            Found::Typed(IFLA_VXLAN_UDP_ZERO_CSUM6_TX, datum) => InfoVxlan::UDPZeroCsumTX(
-                datum.bool_or_false(),
-            ),
-            Found::Typed(IFLA_VXLAN_UDP_ZERO_CSUM6_RX, datum) => InfoVxlan::UDPZeroCsumRX(
-                datum.bool_or_false(),
-            ),
-            Found::Typed(IFLA_VXLAN_REMCSUM_TX, datum) => InfoVxlan::RemCsumTX(
-                datum.bool_or_false(),
-            ),
-            Found::Typed(IFLA_VXLAN_REMCSUM_RX, datum) => InfoVxlan::RemCsumRX(
-                datum.bool_or_false(),
-            ),
-            Found::Typed(IFLA_VXLAN_GBP, _) => InfoVxlan::Gbp,
-            Found::Typed(IFLA_VXLAN_REMCSUM_NOPARTIAL, _) => InfoVxlan::RemCsumNoPartial,
-            Found::Typed(IFLA_VXLAN_COLLECT_METADATA, datum) => InfoVxlan::CollectMetadata(
-                datum.bool_or_false(),
-            ),
-            Found::Typed(IFLA_VXLAN_LABEL, datum) => InfoVxlan::Label(datum.u32_or_zero()),
-            Found::Typed(IFLA_VXLAN_GPE, _) => InfoVxlan::Gpe,
-            Found::Typed(IFLA_VXLAN_TTL_INHERIT, datum) => ttl_inherit(datum.byte_or_none()),
-            Found::Typed(IFLA_VXLAN_DF, datum) => InfoVxlan::Df(VxlanDf::from(datum.u8_or_zero())),
-            Found::Typed(IFLA_VXLAN_VNIFILTER, datum) => InfoVxlan::Vnifilter(
-                datum.bool_or_false(),
-            ),
-            Found::Typed(IFLA_VXLAN_LOCALBYPASS, datum) => InfoVxlan::Localbypass(
-                datum.bool_or_false(),
-            ),
-            Found::Typed(IFLA_VXLAN_LABEL_POLICY, datum) => InfoVxlan::LabelPolicy(
-                datum.u32_or_zero(),
-            ),
-            Found::Typed(IFLA_VXLAN_RESERVED_BITS, datum) => InfoVxlan::ReservedBits(
-                datum.u64_or_zero(),
-            ),
-            Found::Typed(IFLA_VXLAN_MC_ROUTE, datum) => InfoVxlan::McRoute(datum.bool_or_false()),
-            Found::Typed(_, _) => unreachable!(),
-            Found::Kept(nla) => InfoVxlan::Other(nla),
+        let (kind, datum) = match found {
+            Found::Typed(kind, datum) => (kind, datum),
+            Found::Kept(nla) => return Ok(InfoVxlan::Other(nla)),
+        };
+        Ok(match kind {
+            IFLA_VXLAN_ID => InfoVxlan::Id(datum.u32_or_zero()),
+            IFLA_VXLAN_GROUP => InfoVxlan::Group(datum.ipv4_or_unspecified()),
+            IFLA_VXLAN_LINK => InfoVxlan::Link(datum.u32_or_zero()),
+            IFLA_VXLAN_LOCAL => InfoVxlan::Local(datum.ipv4_or_unspecified()),
+            IFLA_VXLAN_TTL => InfoVxlan::Ttl(datum.u8_or_zero()),
+            IFLA_VXLAN_TOS => InfoVxlan::Tos(datum.u8_or_zero()),
+            IFLA_VXLAN_LEARNING => InfoVxlan::Learning(datum.bool_or_false()),
+            IFLA_VXLAN_AGEING => InfoVxlan::Ageing(datum.u32_or_zero()),
+            IFLA_VXLAN_LIMIT => InfoVxlan::Limit(datum.u32_or_zero()),
+            IFLA_VXLAN_PORT_RANGE => InfoVxlan::PortRange(datum.u16_pair_or_zeros()),
+            IFLA_VXLAN_PROXY => InfoVxlan::Proxy(datum.bool_or_false()),
+            IFLA_VXLAN_RSC => InfoVxlan::Rsc(datum.bool_or_false()),
+            IFLA_VXLAN_L2MISS => InfoVxlan::L2Miss(datum.bool_or_false()),
+            IFLA_VXLAN_L3MISS => InfoVxlan::L3Miss(datum.bool_or_false()),
+            IFLA_VXLAN_PORT => InfoVxlan::Port(datum.u16_or_zero()),
+            IFLA_VXLAN_GROUP6 => InfoVxlan::Group6(datum.ipv6_or_unspecified()),
+            IFLA_VXLAN_LOCAL6 => InfoVxlan::Local6(datum.ipv6_or_unspecified()),
+            IFLA_VXLAN_UDP_CSUM => InfoVxlan::UDPCsum(datum.bool_or_false()),
+            IFLA_VXLAN_UDP_ZERO_CSUM6_TX => InfoVxlan::UDPZeroCsumTX(datum.bool_or_false()),
+            IFLA_VXLAN_UDP_ZERO_CSUM6_RX => InfoVxlan::UDPZeroCsumRX(datum.bool_or_false()),
+            IFLA_VXLAN_REMCSUM_TX => InfoVxlan::RemCsumTX(datum.bool_or_false()),
+            IFLA_VXLAN_REMCSUM_RX => InfoVxlan::RemCsumRX(datum.bool_or_false()),
+            IFLA_VXLAN_GBP => InfoVxlan::Gbp,
+            IFLA_VXLAN_REMCSUM_NOPARTIAL => InfoVxlan::RemCsumNoPartial,
+            IFLA_VXLAN_COLLECT_METADATA => InfoVxlan::CollectMetadata(datum.bool_or_false()),
+            IFLA_VXLAN_LABEL => InfoVxlan::Label(datum.u32_or_zero()),
+            IFLA_VXLAN_GPE => InfoVxlan::Gpe,
+            IFLA_VXLAN_TTL_INHERIT => ttl_inherit(datum.byte_or_none()),
+            IFLA_VXLAN_DF => InfoVxlan::Df(VxlanDf::from(datum.u8_or_zero())),
+            IFLA_VXLAN_VNIFILTER => InfoVxlan::Vnifilter(datum.bool_or_false()),
+            IFLA_VXLAN_LOCALBYPASS => InfoVxlan::Localbypass(datum.bool_or_false()),
+            IFLA_VXLAN_LABEL_POLICY => InfoVxlan::LabelPolicy(datum.u32_or_zero()),
+            IFLA_VXLAN_RESERVED_BITS => InfoVxlan::ReservedBits(datum.u64_or_zero()),
+            IFLA_VXLAN_MC_ROUTE => InfoVxlan::McRoute(datum.bool_or_false()),
+            _ => unreachable!(),
         })
     }
 
