@@ -9,6 +9,8 @@ mod gre6;
 mod gtp;
 mod ip_tunnel;
 mod parts;
+#[cfg(test)]
+mod tests;
 mod vti;
 mod vxlan;
 

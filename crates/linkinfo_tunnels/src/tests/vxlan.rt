@@ -1,0 +1,186 @@
+//! Rows of VXLAN tunnels.
+
+use super::{
+    UNLISTED, error, has_one_length, is_emitted, is_kept, is_row, takes_any_payload, unlisted,
+};
+use crate::InfoVxlan;
+use linkinfo_numbers::VxlanDf;
+use nla_frame::{Cause, Family, NlaBuffer, Parseable};
+use std::net::{Ipv4Addr, Ipv6Addr};
+use std::test::Fail;
+
+#[test]
+fn rows_of_vxlan(rt: HostRuntime) -> Result<(), Fail> {
+    let alloc = rt.alloc();
+    let v4 = Ipv4Addr::new(10, 0, 0, 1);
+    let v6 = Ipv6Addr::new(0xfe80, 0, 0, 0, 0, 0, 0, 2);
+    for (bytes, value) in [
+        (
+            [8, 0, 1, 0, 4, 3, 2, 1].as_slice(),
+            InfoVxlan::Id(0x0102_0304),
+        ),
+        ([8, 0, 2, 0, 10, 0, 0, 1].as_slice(), InfoVxlan::Group(v4)),
+        (
+            [8, 0, 3, 0, 4, 3, 2, 1].as_slice(),
+            InfoVxlan::Link(0x0102_0304),
+        ),
+        ([8, 0, 4, 0, 10, 0, 0, 1].as_slice(), InfoVxlan::Local(v4)),
+        ([5, 0, 5, 0, 64, 0, 0, 0].as_slice(), InfoVxlan::Ttl(0x40)),
+        ([5, 0, 6, 0, 64, 0, 0, 0].as_slice(), InfoVxlan::Tos(0x40)),
+        (
+            [5, 0, 7, 0, 1, 0, 0, 0].as_slice(),
+            InfoVxlan::Learning(true),
+        ),
+        (
+            [8, 0, 8, 0, 4, 3, 2, 1].as_slice(),
+            InfoVxlan::Ageing(0x0102_0304),
+        ),
+        (
+            [8, 0, 9, 0, 4, 3, 2, 1].as_slice(),
+            InfoVxlan::Limit(0x0102_0304),
+        ),
+        (
+            [8, 0, 10, 0, 1, 2, 3, 4].as_slice(),
+            InfoVxlan::PortRange((0x0102, 0x0304)),
+        ),
+        ([5, 0, 11, 0, 1, 0, 0, 0].as_slice(), InfoVxlan::Proxy(true)),
+        ([5, 0, 12, 0, 1, 0, 0, 0].as_slice(), InfoVxlan::Rsc(true)),
+        (
+            [5, 0, 13, 0, 1, 0, 0, 0].as_slice(),
+            InfoVxlan::L2Miss(true),
+        ),
+        (
+            [5, 0, 14, 0, 1, 0, 0, 0].as_slice(),
+            InfoVxlan::L3Miss(true),
+        ),
+        (
+            [6, 0, 15, 0, 1, 2, 0, 0].as_slice(),
+            InfoVxlan::Port(0x0102),
+        ),
+        (
+            [
+                20, 0, 16, 0, 0xfe, 0x80, 0, 0, 0, 0, 0, 0, 0, 0, 0, 0, 0, 0, 0, 2,
+            ]
+            .as_slice(),
+            InfoVxlan::Group6(v6),
+        ),
+        (
+            [
+                20, 0, 17, 0, 0xfe, 0x80, 0, 0, 0, 0, 0, 0, 0, 0, 0, 0, 0, 0, 0, 2,
+            ]
+            .as_slice(),
+            InfoVxlan::Local6(v6),
+        ),
+        (
+            [5, 0, 18, 0, 1, 0, 0, 0].as_slice(),
+            InfoVxlan::UDPCsum(true),
+        ),
+        (
+            [5, 0, 19, 0, 1, 0, 0, 0].as_slice(),
+            InfoVxlan::UDPZeroCsumTX(true),
+        ),
+        (
+            [5, 0, 20, 0, 1, 0, 0, 0].as_slice(),
+            InfoVxlan::UDPZeroCsumRX(true),
+        ),
+        (
+            [5, 0, 21, 0, 1, 0, 0, 0].as_slice(),
+            InfoVxlan::RemCsumTX(true),
+        ),
+        (
+            [5, 0, 22, 0, 1, 0, 0, 0].as_slice(),
+            InfoVxlan::RemCsumRX(true),
+        ),
+        (
+            [5, 0, 25, 0, 1, 0, 0, 0].as_slice(),
+            InfoVxlan::CollectMetadata(true),
+        ),
+        (
+            [8, 0, 26, 0, 1, 2, 3, 4].as_slice(),
+            InfoVxlan::Label(0x0102_0304),
+        ),
+        (
+            [5, 0, 29, 0, 2, 0, 0, 0].as_slice(),
+            InfoVxlan::Df(VxlanDf::Inherit),
+        ),
+        (
+            [5, 0, 30, 0, 1, 0, 0, 0].as_slice(),
+            InfoVxlan::Vnifilter(true),
+        ),
+        (
+            [5, 0, 31, 0, 1, 0, 0, 0].as_slice(),
+            InfoVxlan::Localbypass(true),
+        ),
+        (
+            [8, 0, 32, 0, 4, 3, 2, 1].as_slice(),
+            InfoVxlan::LabelPolicy(0x0102_0304),
+        ),
+        (
+            [12, 0, 33, 0, 1, 2, 3, 4, 5, 6, 7, 8].as_slice(),
+            InfoVxlan::ReservedBits(0x0102_0304_0506_0708),
+        ),
+        (
+            [5, 0, 34, 0, 1, 0, 0, 0].as_slice(),
+            InfoVxlan::McRoute(true),
+        ),
+    ] {
+        assert!(rt; InfoVxlan::parse(alloc, &NlaBuffer::new_checked(bytes)?)? == value);
+        is_row(&rt, alloc, (), bytes, &value)?;
+        has_one_length::<InfoVxlan>(&rt, (), bytes)?;
+    }
+    for (kind, value) in [
+        (23, InfoVxlan::Gbp),
+        (24, InfoVxlan::RemCsumNoPartial),
+        (27, InfoVxlan::Gpe),
+    ] {
+        let bytes = [4, 0, kind, 0];
+        assert!(rt; InfoVxlan::parse(alloc, &NlaBuffer::new_checked(&bytes)?)? == value);
+        is_row(&rt, alloc, (), &bytes, &value)?;
+        takes_any_payload(&rt, alloc, (), kind, &value)?;
+    }
+    let read = InfoVxlan::parse(alloc, &NlaBuffer::new_checked(&UNLISTED)?)?;
+    assert!(rt; read == InfoVxlan::Other(unlisted(alloc)?));
+    assert!(rt; read.clone()? == read);
+    is_kept(&rt, alloc, (), &read)
+}
+
+#[test]
+fn worked_vxlan(rt: HostRuntime) -> Result<(), Fail> {
+    let alloc = rt.alloc();
+    // Every nonzero byte is true, and is written as 1.
+    let two = [5, 0, 7, 0, 2, 0, 0, 0];
+    let read = InfoVxlan::parse(alloc, &NlaBuffer::new_checked(&two)?)?;
+    assert!(rt; read == InfoVxlan::Learning(true));
+    is_emitted(&rt, &read, &[5, 0, 7, 0, 1, 0, 0, 0])?;
+    let seven = [5, 0, 25, 0, 7, 0, 0, 0];
+    let read = InfoVxlan::parse(alloc, &NlaBuffer::new_checked(&seven)?)?;
+    assert!(rt; read == InfoVxlan::CollectMetadata(true));
+    is_emitted(&rt, &read, &[5, 0, 25, 0, 1, 0, 0, 0])?;
+
+    let port = [6, 0, 15, 0, 0x12, 0xb5, 0, 0];
+    is_row(&rt, alloc, (), &port, &InfoVxlan::Port(4789))?;
+    let bits = [12, 0, 33, 0, 0, 0, 0, 0, 0, 0, 0, 1];
+    is_row(&rt, alloc, (), &bits, &InfoVxlan::ReservedBits(1))?;
+    // The low port may be above the high one.
+    let range = [8, 0, 10, 0, 0, 2, 0, 1];
+    is_row(&rt, alloc, (), &range, &InfoVxlan::PortRange((2, 1)))
+}
+
+#[test]
+fn inherited_time_to_live(rt: HostRuntime) -> Result<(), Fail> {
+    let alloc = rt.alloc();
+    let without = [4, 0, 28, 0];
+    let with = [5, 0, 28, 0, 0, 0, 0, 0];
+    for (bytes, value) in [
+        (without.as_slice(), InfoVxlan::TtlInheritFlag),
+        (with.as_slice(), InfoVxlan::TtlInherit(0)),
+    ] {
+        assert!(rt; InfoVxlan::parse(alloc, &NlaBuffer::new_checked(bytes)?)? == value);
+        is_row(&rt, alloc, (), bytes, &value)?;
+    }
+    let long = [6, 0, 28, 0, 0, 0, 0, 0];
+    let fault = error(Family::Vxlan, 28, Cause::Length);
+    let read = InfoVxlan::parse(alloc, &NlaBuffer::new_checked(&long)?);
+    assert_eq!(rt; read.err(), Some(fault));
+    Ok(())
+}
