@@ -1,9 +1,9 @@
 //! Rows of AMT tunnels.
 
-use super::{UNLISTED, error, has_one_length, is_kept, is_row, unlisted};
+use super::{UNLISTED, has_one_length, is_kept, is_parsed, is_refused, is_row, unlisted};
 use crate::InfoAmt;
 use linkinfo_numbers::AmtMode;
-use nla_frame::{Cause, Family, NlaBuffer, Parseable};
+use nla_frame::Cause;
 use std::net::{IpAddr, Ipv4Addr, Ipv6Addr};
 use std::test::Fail;
 
@@ -67,23 +67,21 @@ fn rows_of_amt(rt: HostRuntime) -> Result<(), Fail> {
             InfoAmt::MaxTunnels(0x0102_0304),
         ),
     ] {
-        assert!(rt; InfoAmt::parse(alloc, &NlaBuffer::new_checked(bytes)?)? == value);
+        is_parsed(&rt, alloc, bytes, &value)?;
         is_row(&rt, alloc, (), bytes, &value)?;
-        has_one_length::<InfoAmt>(&rt, (), bytes)?;
+        has_one_length::<InfoAmt>(&rt, alloc, (), bytes)?;
     }
-    let read = InfoAmt::parse(alloc, &NlaBuffer::new_checked(&UNLISTED)?)?;
-    assert!(rt; read == InfoAmt::Other(unlisted(alloc)?));
-    assert!(rt; read.clone()? == read);
-    is_kept(&rt, alloc, (), &read)
+    let kept = InfoAmt::Other(unlisted(alloc)?);
+    assert!(rt; kept.clone()? == kept);
+    is_parsed(&rt, alloc, &UNLISTED, &kept)?;
+    is_kept(&rt, alloc, (), &kept)
 }
 
 #[test]
 fn worked_amt(rt: HostRuntime) -> Result<(), Fail> {
     let alloc = rt.alloc();
     let short = [6, 0, 5, 0, 1, 2, 0, 0];
-    let fault = error(Family::Amt, 5, Cause::Length);
-    let read = InfoAmt::parse(alloc, &NlaBuffer::new_checked(&short)?);
-    assert_eq!(rt; read.err(), Some(fault));
+    is_refused::<InfoAmt>(&rt, alloc, (), &short, Cause::Length)?;
     // A number without a name is kept.
     let unnamed = [8, 0, 1, 0, 2, 0, 0, 0];
     is_row(&rt, alloc, (), &unnamed, &InfoAmt::Mode(AmtMode::Other(2)))

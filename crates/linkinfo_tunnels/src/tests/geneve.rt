@@ -1,9 +1,9 @@
 //! Rows of Geneve tunnels.
 
-use super::{UNLISTED, error, has_one_length, is_kept, is_row, takes_any_payload, unlisted};
+use super::{UNLISTED, has_one_length, is_kept, is_mark, is_parsed, is_refused, is_row, unlisted};
 use crate::InfoGeneve;
 use linkinfo_numbers::GeneveDf;
-use nla_frame::{Cause, Family, NlaBuffer, Parseable};
+use nla_frame::Cause;
 use std::net::{Ipv4Addr, Ipv6Addr};
 use std::test::Fail;
 
@@ -64,29 +64,27 @@ fn rows_of_geneve(rt: HostRuntime) -> Result<(), Fail> {
             InfoGeneve::Local6(v6),
         ),
     ] {
-        assert!(rt; InfoGeneve::parse(alloc, &NlaBuffer::new_checked(bytes)?)? == value);
+        is_parsed(&rt, alloc, bytes, &value)?;
         is_row(&rt, alloc, (), bytes, &value)?;
-        has_one_length::<InfoGeneve>(&rt, (), bytes)?;
+        has_one_length::<InfoGeneve>(&rt, alloc, (), bytes)?;
     }
     for (kind, value) in [
         (6, InfoGeneve::CollectMetadata),
         (14, InfoGeneve::InnerProtoInherit),
     ] {
-        let bytes = [4, 0, kind, 0];
-        assert!(rt; InfoGeneve::parse(alloc, &NlaBuffer::new_checked(&bytes)?)? == value);
-        is_row(&rt, alloc, (), &bytes, &value)?;
-        takes_any_payload(&rt, alloc, (), kind, &value)?;
+        is_parsed(&rt, alloc, &[4, 0, kind, 0], &value)?;
+        is_mark(&rt, alloc, (), kind, &value)?;
     }
-    let read = InfoGeneve::parse(alloc, &NlaBuffer::new_checked(&UNLISTED)?)?;
-    assert!(rt; read == InfoGeneve::Other(unlisted(alloc)?));
-    assert!(rt; read.clone()? == read);
-    is_kept(&rt, alloc, (), &read)
+    let kept = InfoGeneve::Other(unlisted(alloc)?);
+    assert!(rt; kept.clone()? == kept);
+    is_parsed(&rt, alloc, &UNLISTED, &kept)?;
+    is_kept(&rt, alloc, (), &kept)
 }
 
 #[test]
 fn addresses_of_the_other_version(rt: HostRuntime) -> Result<(), Fail> {
     let alloc = rt.alloc();
-    let mut attribute = [0; 20];
+    let mut attribute = [0; 24];
     for (kind, length, cause) in [
         (2, 20, Cause::AddressKind),
         (17, 20, Cause::AddressKind),
@@ -97,13 +95,7 @@ fn addresses_of_the_other_version(rt: HostRuntime) -> Result<(), Fail> {
     ] {
         attribute[0] = length;
         attribute[2] = kind;
-        let nla = NlaBuffer::new_checked(&attribute)?;
-        let fault = error(Family::Geneve, u16::from(kind), cause);
-        assert_eq!(rt;
-            InfoGeneve::parse(alloc, &nla).err(),
-            Some(fault),
-            "type {kind}, length {length}"
-        );
+        is_refused::<InfoGeneve>(&rt, alloc, (), &attribute, cause)?;
     }
     Ok(())
 }

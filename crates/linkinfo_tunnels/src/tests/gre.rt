@@ -1,9 +1,9 @@
 //! Rows of GRE tunnels over IPv4.
 
-use super::{UNLISTED, has_one_length, is_emitted, is_kept, is_row, takes_any_payload, unlisted};
+use super::{UNLISTED, has_one_length, is_emitted, is_kept, is_mark, is_parsed, is_row, unlisted};
 use crate::InfoGre;
 use linkinfo_numbers::{ErSpanDir, GreEncapFlags, GreEncapType, GreIOFlags};
-use nla_frame::{DefaultNla, NlaBuffer, Parseable};
+use nla_frame::DefaultNla;
 use std::net::Ipv4Addr;
 use std::test::Fail;
 
@@ -77,37 +77,31 @@ fn rows_of_gre(rt: HostRuntime) -> Result<(), Fail> {
             InfoGre::ErSpanHwId(0x0102),
         ),
     ] {
-        assert!(rt; InfoGre::parse(alloc, &NlaBuffer::new_checked(bytes)?)? == value);
+        is_parsed(&rt, alloc, bytes, &value)?;
         is_row(&rt, alloc, (), bytes, &value)?;
-        has_one_length::<InfoGre>(&rt, (), bytes)?;
+        has_one_length::<InfoGre>(&rt, alloc, (), bytes)?;
     }
     for (kind, value) in [(18, InfoGre::CollectMetadata)] {
-        let bytes = [4, 0, kind, 0];
-        assert!(rt; InfoGre::parse(alloc, &NlaBuffer::new_checked(&bytes)?)? == value);
-        is_row(&rt, alloc, (), &bytes, &value)?;
-        takes_any_payload(&rt, alloc, (), kind, &value)?;
+        is_parsed(&rt, alloc, &[4, 0, kind, 0], &value)?;
+        is_mark(&rt, alloc, (), kind, &value)?;
     }
-    let read = InfoGre::parse(alloc, &NlaBuffer::new_checked(&UNLISTED)?)?;
-    assert!(rt; read == InfoGre::Other(unlisted(alloc)?));
-    assert!(rt; read.clone()? == read);
-    is_kept(&rt, alloc, (), &read)
+    let kept = InfoGre::Other(unlisted(alloc)?);
+    assert!(rt; kept.clone()? == kept);
+    is_parsed(&rt, alloc, &UNLISTED, &kept)?;
+    is_kept(&rt, alloc, (), &kept)
 }
 
 #[test]
 fn worked_gre(rt: HostRuntime) -> Result<(), Fail> {
     let alloc = rt.alloc();
     // Path MTU discovery is true for 1 alone.
-    let two = [5, 0, 10, 0, 2, 0, 0, 0];
-    let read = InfoGre::parse(alloc, &NlaBuffer::new_checked(&two)?)?;
-    assert!(rt; read == InfoGre::PathMTUDiscovery(false));
-    is_emitted(&rt, &read, &[5, 0, 10, 0, 0, 0, 0, 0])?;
-
-    // Types without a row here, one of which has a row over IPv6.
+    let discovery = InfoGre::PathMTUDiscovery(false);
+    is_parsed(&rt, alloc, &[5, 0, 10, 0, 2, 0, 0, 0], &discovery)?;
+    is_emitted(&rt, &discovery, &[5, 0, 10, 0, 0, 0, 0, 0])?;
+    // Types without a row here, two of which have one over IPv6.
     for kind in [11, 12, 13, 19] {
-        let bytes = [4, 0, kind, 0];
         let kept = DefaultNla::new(u16::from(kind), Vec::new(alloc));
-        let read = InfoGre::parse(alloc, &NlaBuffer::new_checked(&bytes)?)?;
-        assert!(rt; read == InfoGre::Other(kept));
+        is_parsed(&rt, alloc, &[4, 0, kind, 0], &InfoGre::Other(kept))?;
     }
     Ok(())
 }

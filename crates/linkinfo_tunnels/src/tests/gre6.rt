@@ -1,9 +1,9 @@
 //! Rows of GRE tunnels over IPv6.
 
-use super::{UNLISTED, has_one_length, is_kept, is_row, takes_any_payload, unlisted};
+use super::{UNLISTED, has_one_length, is_kept, is_mark, is_parsed, is_row, unlisted};
 use crate::InfoGre6;
 use linkinfo_numbers::{ErSpanDir, GreEncapFlags, GreEncapType, GreIOFlags};
-use nla_frame::{DefaultNla, NlaBuffer, Parseable};
+use nla_frame::DefaultNla;
 use std::net::Ipv6Addr;
 use std::test::Fail;
 
@@ -93,29 +93,29 @@ fn rows_of_gre6(rt: HostRuntime) -> Result<(), Fail> {
             InfoGre6::ErSpanHwId(0x0102),
         ),
     ] {
-        assert!(rt; InfoGre6::parse(alloc, &NlaBuffer::new_checked(bytes)?)? == value);
+        is_parsed(&rt, alloc, bytes, &value)?;
         is_row(&rt, alloc, (), bytes, &value)?;
-        has_one_length::<InfoGre6>(&rt, (), bytes)?;
+        has_one_length::<InfoGre6>(&rt, alloc, (), bytes)?;
     }
     for (kind, value) in [(18, InfoGre6::CollectMetadata)] {
-        let bytes = [4, 0, kind, 0];
-        assert!(rt; InfoGre6::parse(alloc, &NlaBuffer::new_checked(&bytes)?)? == value);
-        is_row(&rt, alloc, (), &bytes, &value)?;
-        takes_any_payload(&rt, alloc, (), kind, &value)?;
+        is_parsed(&rt, alloc, &[4, 0, kind, 0], &value)?;
+        is_mark(&rt, alloc, (), kind, &value)?;
     }
-    let read = InfoGre6::parse(alloc, &NlaBuffer::new_checked(&UNLISTED)?)?;
-    assert!(rt; read == InfoGre6::Other(unlisted(alloc)?));
-    assert!(rt; read.clone()? == read);
-    is_kept(&rt, alloc, (), &read)
+    let kept = InfoGre6::Other(unlisted(alloc)?);
+    assert!(rt; kept.clone()? == kept);
+    is_parsed(&rt, alloc, &UNLISTED, &kept)?;
+    is_kept(&rt, alloc, (), &kept)
 }
 
 #[test]
 fn worked_gre6(rt: HostRuntime) -> Result<(), Fail> {
     let alloc = rt.alloc();
     // Path MTU discovery has no row over IPv6.
-    let discovery = [5, 0, 10, 0, 1, 0, 0, 0];
     let kept = DefaultNla::new(10, vec![in alloc; 1u8]?);
-    let read = InfoGre6::parse(alloc, &NlaBuffer::new_checked(&discovery)?)?;
-    assert!(rt; read == InfoGre6::Other(kept));
-    Ok(())
+    is_parsed(
+        &rt,
+        alloc,
+        &[5, 0, 10, 0, 1, 0, 0, 0],
+        &InfoGre6::Other(kept),
+    )
 }

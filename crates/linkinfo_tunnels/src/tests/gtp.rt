@@ -1,9 +1,8 @@
 //! Rows of GTP tunnels.
 
-use super::{UNLISTED, has_one_length, is_kept, is_list, is_row, unlisted};
+use super::{UNLISTED, has_one_length, is_kept, is_list, is_parsed, is_row, unlisted};
 use crate::InfoGtp;
 use linkinfo_numbers::GtpRole;
-use nla_frame::{NlaBuffer, Parseable};
 use std::net::{Ipv4Addr, Ipv6Addr};
 use std::test::Fail;
 
@@ -46,24 +45,19 @@ fn rows_of_gtp(rt: HostRuntime) -> Result<(), Fail> {
             InfoGtp::Local6(v6),
         ),
     ] {
-        assert!(rt; InfoGtp::parse(alloc, &NlaBuffer::new_checked(bytes)?)? == value);
+        is_parsed(&rt, alloc, bytes, &value)?;
         is_row(&rt, alloc, (), bytes, &value)?;
-        has_one_length::<InfoGtp>(&rt, (), bytes)?;
+        has_one_length::<InfoGtp>(&rt, alloc, (), bytes)?;
     }
-    let read = InfoGtp::parse(alloc, &NlaBuffer::new_checked(&UNLISTED)?)?;
-    assert!(rt; read == InfoGtp::Other(unlisted(alloc)?));
-    assert!(rt; read.clone()? == read);
-    is_kept(&rt, alloc, (), &read)
+    let kept = InfoGtp::Other(unlisted(alloc)?);
+    assert!(rt; kept.clone()? == kept);
+    is_parsed(&rt, alloc, &UNLISTED, &kept)?;
+    is_kept(&rt, alloc, (), &kept)
 }
 
 #[test]
 fn worked_gtp(rt: HostRuntime) -> Result<(), Fail> {
     let alloc = rt.alloc();
-    let local = [8, 0, 7, 0, 10, 0, 0, 1];
-    let read = InfoGtp::parse(alloc, &NlaBuffer::new_checked(&local)?)?;
-    assert!(rt; read == InfoGtp::Local(Ipv4Addr::new(10, 0, 0, 1)));
-
-    // A whole list.
     let data = [
         5, 0, 5, 0, 1, 0, 0, 0, 8, 0, 4, 0, 1, 0, 0, 0, 8, 0, 3, 0, 0, 4, 0, 0,
     ];

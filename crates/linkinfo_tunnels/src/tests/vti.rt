@@ -1,8 +1,7 @@
 //! Rows of VTI tunnels.
 
-use super::{UNLISTED, has_one_length, is_kept, is_row, unlisted};
+use super::{UNLISTED, has_one_length, is_kept, is_parsed, is_row, unlisted};
 use crate::InfoVti;
-use nla_frame::{NlaBuffer, Parseable};
 use std::net::{IpAddr, Ipv4Addr, Ipv6Addr};
 use std::test::Fail;
 
@@ -51,24 +50,24 @@ fn rows_of_vti(rt: HostRuntime) -> Result<(), Fail> {
             InfoVti::FwMark(0x0102_0304),
         ),
     ] {
-        assert!(rt; InfoVti::parse(alloc, &NlaBuffer::new_checked(bytes)?)? == value);
+        is_parsed(&rt, alloc, bytes, &value)?;
         is_row(&rt, alloc, (), bytes, &value)?;
-        has_one_length::<InfoVti>(&rt, (), bytes)?;
+        has_one_length::<InfoVti>(&rt, alloc, (), bytes)?;
     }
-    let read = InfoVti::parse(alloc, &NlaBuffer::new_checked(&UNLISTED)?)?;
-    assert!(rt; read == InfoVti::Other(unlisted(alloc)?));
-    assert!(rt; read.clone()? == read);
-    is_kept(&rt, alloc, (), &read)
+    let kept = InfoVti::Other(unlisted(alloc)?);
+    assert!(rt; kept.clone()? == kept);
+    is_parsed(&rt, alloc, &UNLISTED, &kept)?;
+    is_kept(&rt, alloc, (), &kept)
 }
 
 #[test]
 fn worked_vti(rt: HostRuntime) -> Result<(), Fail> {
     let alloc = rt.alloc();
-    let key = [8, 0, 2, 0, 0, 0, 0, 1];
-    let link = [8, 0, 1, 0, 1, 0, 0, 0];
-    let read = InfoVti::parse(alloc, &NlaBuffer::new_checked(&key)?)?;
-    assert!(rt; read == InfoVti::IKey(1));
-    let read = InfoVti::parse(alloc, &NlaBuffer::new_checked(&link)?)?;
-    assert!(rt; read == InfoVti::Link(1));
+    for (bytes, value) in [
+        ([8, 0, 2, 0, 0, 0, 0, 1], InfoVti::IKey(1)),
+        ([8, 0, 1, 0, 1, 0, 0, 0], InfoVti::Link(1)),
+    ] {
+        is_parsed(&rt, alloc, &bytes, &value)?;
+    }
     Ok(())
 }

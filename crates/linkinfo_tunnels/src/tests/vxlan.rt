@@ -1,11 +1,11 @@
 //! Rows of VXLAN tunnels.
 
 use super::{
-    UNLISTED, error, has_one_length, is_emitted, is_kept, is_row, takes_any_payload, unlisted,
+    UNLISTED, has_one_length, is_emitted, is_kept, is_mark, is_parsed, is_refused, is_row, unlisted,
 };
 use crate::InfoVxlan;
 use linkinfo_numbers::VxlanDf;
-use nla_frame::{Cause, Family, NlaBuffer, Parseable};
+use nla_frame::Cause;
 use std::net::{Ipv4Addr, Ipv6Addr};
 use std::test::Fail;
 
@@ -124,63 +124,48 @@ fn rows_of_vxlan(rt: HostRuntime) -> Result<(), Fail> {
             InfoVxlan::McRoute(true),
         ),
     ] {
-        assert!(rt; InfoVxlan::parse(alloc, &NlaBuffer::new_checked(bytes)?)? == value);
+        is_parsed(&rt, alloc, bytes, &value)?;
         is_row(&rt, alloc, (), bytes, &value)?;
-        has_one_length::<InfoVxlan>(&rt, (), bytes)?;
+        has_one_length::<InfoVxlan>(&rt, alloc, (), bytes)?;
     }
     for (kind, value) in [
         (23, InfoVxlan::Gbp),
         (24, InfoVxlan::RemCsumNoPartial),
         (27, InfoVxlan::Gpe),
     ] {
-        let bytes = [4, 0, kind, 0];
-        assert!(rt; InfoVxlan::parse(alloc, &NlaBuffer::new_checked(&bytes)?)? == value);
-        is_row(&rt, alloc, (), &bytes, &value)?;
-        takes_any_payload(&rt, alloc, (), kind, &value)?;
+        is_parsed(&rt, alloc, &[4, 0, kind, 0], &value)?;
+        is_mark(&rt, alloc, (), kind, &value)?;
     }
-    let read = InfoVxlan::parse(alloc, &NlaBuffer::new_checked(&UNLISTED)?)?;
-    assert!(rt; read == InfoVxlan::Other(unlisted(alloc)?));
-    assert!(rt; read.clone()? == read);
-    is_kept(&rt, alloc, (), &read)
+    let kept = InfoVxlan::Other(unlisted(alloc)?);
+    assert!(rt; kept.clone()? == kept);
+    is_parsed(&rt, alloc, &UNLISTED, &kept)?;
+    is_kept(&rt, alloc, (), &kept)
 }
 
 #[test]
 fn worked_vxlan(rt: HostRuntime) -> Result<(), Fail> {
     let alloc = rt.alloc();
-    // Every nonzero byte is true, and is written as 1.
-    let two = [5, 0, 7, 0, 2, 0, 0, 0];
-    let read = InfoVxlan::parse(alloc, &NlaBuffer::new_checked(&two)?)?;
-    assert!(rt; read == InfoVxlan::Learning(true));
-    is_emitted(&rt, &read, &[5, 0, 7, 0, 1, 0, 0, 0])?;
-    let seven = [5, 0, 25, 0, 7, 0, 0, 0];
-    let read = InfoVxlan::parse(alloc, &NlaBuffer::new_checked(&seven)?)?;
-    assert!(rt; read == InfoVxlan::CollectMetadata(true));
-    is_emitted(&rt, &read, &[5, 0, 25, 0, 1, 0, 0, 0])?;
-
-    let port = [6, 0, 15, 0, 0x12, 0xb5, 0, 0];
-    is_row(&rt, alloc, (), &port, &InfoVxlan::Port(4789))?;
-    let bits = [12, 0, 33, 0, 0, 0, 0, 0, 0, 0, 0, 1];
-    is_row(&rt, alloc, (), &bits, &InfoVxlan::ReservedBits(1))?;
-    // The low port may be above the high one.
-    let range = [8, 0, 10, 0, 0, 2, 0, 1];
-    is_row(&rt, alloc, (), &range, &InfoVxlan::PortRange((2, 1)))
-}
-
-#[test]
-fn inherited_time_to_live(rt: HostRuntime) -> Result<(), Fail> {
-    let alloc = rt.alloc();
-    let without = [4, 0, 28, 0];
-    let with = [5, 0, 28, 0, 0, 0, 0, 0];
     for (bytes, value) in [
-        (without.as_slice(), InfoVxlan::TtlInheritFlag),
-        (with.as_slice(), InfoVxlan::TtlInherit(0)),
+        ([6, 0, 15, 0, 0x12, 0xb5, 0, 0], InfoVxlan::Port(4789)),
+        // The low port may be above the high one.
+        ([8, 0, 10, 0, 0, 2, 0, 1], InfoVxlan::PortRange((2, 1))),
+        ([5, 0, 28, 0, 0, 0, 0, 0], InfoVxlan::TtlInherit(0)),
     ] {
-        assert!(rt; InfoVxlan::parse(alloc, &NlaBuffer::new_checked(bytes)?)? == value);
-        is_row(&rt, alloc, (), bytes, &value)?;
+        is_parsed(&rt, alloc, &bytes, &value)?;
+        is_row(&rt, alloc, (), &bytes, &value)?;
     }
+    // The only type of which a payload may be empty or a byte.
+    is_row(&rt, alloc, (), &[4, 0, 28, 0], &InfoVxlan::TtlInheritFlag)?;
     let long = [6, 0, 28, 0, 0, 0, 0, 0];
-    let fault = error(Family::Vxlan, 28, Cause::Length);
-    let read = InfoVxlan::parse(alloc, &NlaBuffer::new_checked(&long)?);
-    assert_eq!(rt; read.err(), Some(fault));
+    is_refused::<InfoVxlan>(&rt, alloc, (), &long, Cause::Length)?;
+
+    // Every nonzero byte is true, and is written as 1.
+    for (byte, kind, value) in [
+        (2, 7, InfoVxlan::Learning(true)),
+        (7, 25, InfoVxlan::CollectMetadata(true)),
+    ] {
+        is_parsed(&rt, alloc, &[5, 0, kind, 0, byte, 0, 0, 0], &value)?;
+        is_emitted(&rt, &value, &[5, 0, kind, 0, 1, 0, 0, 0])?;
+    }
     Ok(())
 }
