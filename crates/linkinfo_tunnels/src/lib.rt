@@ -1,4 +1,4 @@
-//! Attributes of tunnels.
+//! Attributes of tunnels: vxlan, geneve, gre over IPv4 and IPv6, ipip, sit, ip6tnl, vti, gtp, amt and bareudp links.
 #![tactic(auto)]
 
 mod amt;

@@ -157,7 +157,7 @@ pub enum InfoVxlan {
     LabelPolicy(u32),
     /// The bits of the VXLAN header that are taken for reserved (`IFLA_VXLAN_RESERVED_BITS`), network byte order.
     ReservedBits(u64),
-    /// Whether multicast is routed by the tables of multicast routes (`IFLA_VXLAN_MC_ROUTE`), one byte.
+    /// Whether packets to a multicast group go by the multicast routes of the host (`IFLA_VXLAN_MC_ROUTE`), one byte.
     McRoute(bool),
     /// An attribute of another type, kept as it came.
     Other(DefaultNla),
