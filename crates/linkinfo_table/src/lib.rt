@@ -14,6 +14,7 @@ mod row_family;
 mod rows;
 #[cfg(test)]
 mod tests;
+mod unnested;
 
 pub use family::LinkFamily;
 pub use first::{first_check, first_read, first_same};
@@ -30,3 +31,4 @@ pub use rows::{
     row_check, row_emit_value, row_fit_len, row_kind, row_read, row_same, row_value_len,
     table_lookup,
 };
+pub use unnested::UnnestedFamily;
