@@ -1,13 +1,13 @@
 -- The rows of IP tunnels.
 use Rattle.std.specs.Prelude.{◌≡◌, ◌≢◌, ◌==◌, ℕ, Bool, true, false, List, [], ◌∷◌, refl}
-use Rattle.std.proofs.Common.{ap, lit<, subst, sym, ◌∙◌}
+use Rattle.std.proofs.Common.{ap, lit<, ◌∙◌}
 use Rattle.std.proofs.lemmas.Bool.{eqb-true, false_from_ne_true}
 use Rattle.nla_frame.specs.Attribute.{Attribute}
 use Rattle.nla_frame.specs.Kept.{attribute_of}
 use Rattle.nla_frame.specs.declared.error.Family.TheVariants as family
 use Rattle.nla_frame.specs.declared.error.Cause.TheVariants as cause
 use Rattle.linkinfo_table.specs.FamilyRows.{FamilyRow, Plain, Refuses, PlainRow, row, row_if, row_of, typed, table_row, lookup_of, lookup_in, EachKeeps, IsFlat, RowOwes}
-use Rattle.linkinfo_table.specs.FamilyRowLaws.{plain_is_row, table_flat, table_lookup, table_owes}
+use Rattle.linkinfo_table.specs.FamilyRowLaws.{plain_is_row, row_if_owes, table_flat, table_lookup, table_owes}
 use Rattle.linkinfo_shapes.specs.Shapes.{Carrier, IsPlain}
 use Rattle.linkinfo_shapes.specs.declared.shape.Shape.{Shape}
 use Rattle.linkinfo_shapes.specs.Table.{shape_of}
@@ -101,22 +101,19 @@ flags_are_flat tag.SitTun = tt
 flags_are_flat tag.Ip6Tnl = tt
 flags_are_flat _ = tt
 
--- what holds of type 8 and of the rows of the table holds of every row
-of_each_row : (P : ℕ → FamilyRow InfoIpTunnel → Type 0) → ((kind : KindTag) → P 8 (flags_row kind)) →
-    ((n : ℕ) → P n (table_row ip_tunnel_rows n)) → (kind : KindTag) (n : ℕ) → P n (ip_tunnel_row kind n)
-of_each_row P flags others kind n = chosen (n == 8) refl
-  where
-    chosen : (b : Bool) → (n == 8) ≡ b → P n (row_if b (flags_row kind) (table_row ip_tunnel_rows n))
-    chosen true same = subst (λ m. P m (flags_row kind)) (sym (eqb-true n 8 same)) (flags kind)
-    chosen false other = others n
-
 pub ip_tunnel_owes : (kind : KindTag) (n : ℕ) → RowOwes ip_tunnel_attribute n (row_of (ip_tunnel_row kind n))
 ip_tunnel_owes kind n =
-    of_each_row (λ m r. RowOwes ip_tunnel_attribute m (row_of r)) flags_owe (table_owes ip_tunnel_attribute ip_tunnel_rows ip_tunnel_keeps) kind n
+    row_if_owes ip_tunnel_attribute 8 n (flags_row kind) (table_row ip_tunnel_rows n) (flags_owe kind)
+    (table_owes ip_tunnel_attribute ip_tunnel_rows ip_tunnel_keeps n)
+
+row_if_flat : (b : Bool) (first rest : FamilyRow InfoIpTunnel) → IsFlat first → IsFlat rest → IsFlat (row_if b first rest)
+row_if_flat true first rest one other = one
+row_if_flat false first rest one other = other
 
 pub ip_tunnel_flat : (kind : KindTag) (n : ℕ) → IsFlat (ip_tunnel_row kind n)
 ip_tunnel_flat kind n =
-    of_each_row (λ m r. IsFlat r) flags_are_flat (table_flat ip_tunnel_attribute ip_tunnel_rows ip_tunnel_keeps) kind n
+    row_if_flat (n == 8) (flags_row kind) (table_row ip_tunnel_rows n) (flags_are_flat kind)
+    (table_flat ip_tunnel_attribute ip_tunnel_rows ip_tunnel_keeps n)
 
 -- every other type has the row of the table of all families
 pub ip_tunnel_lookup : (kind : KindTag) (n : ℕ) → n ≢ 8 → lookup_of (ip_tunnel_row kind n) ≡ lookup_in (shape_of family.IpTunnel n)
