@@ -1,0 +1,70 @@
+-- The rows of GRE tunnels over IPv4.
+use Rattle.std.specs.Prelude.{◌≡◌, ℕ, List, [], ◌∷◌, refl}
+use Rattle.std.proofs.Common.{ap}
+use Rattle.nla_frame.specs.Attribute.{Attribute}
+use Rattle.nla_frame.specs.Kept.{attribute_of}
+use Rattle.nla_frame.specs.declared.error.Family.TheVariants as family
+use Rattle.linkinfo_table.specs.FamilyRows.{PlainRow, row, typed, table_row, lookup_of, lookup_in, EachKeeps}
+use Rattle.linkinfo_table.specs.FamilyRowLaws.{table_lookup}
+use Rattle.linkinfo_shapes.specs.Table.{shape_of}
+use Rattle.linkinfo_shapes.specs.declared.shape.Shape.TheVariants.{Le32, Be16, Be32, V4, U8, TruthOne, Le16, Mark}
+use Rattle.linkinfo_numbers.specs.Table.{key-value_of}
+use Rattle.linkinfo_numbers.specs.Gre.{gre_encap_type, gre_encap_type_number, gre_encap_type_table_holds, er_span_dir, er_span_dir_number, er_span_dir_table_holds, gre_io_flags, gre_encap_flags}
+use Rattle.linkinfo_tunnels.specs.Labels.{each_keeps}
+use Rattle.linkinfo_tunnels.specs.declared.gre.InfoGre.{InfoGre}
+use Rattle.linkinfo_tunnels.specs.declared.gre.InfoGre.TheVariants.{Link, IFlags, OFlags, IKey, OKey, Local, Remote, Ttl, Tos, PathMTUDiscovery, EncapType, EncapFlags, SourcePort, DestinationPort, CollectMetadata, FwMask, ErSpanIndex, ErSpanVer, ErSpanDir, ErSpanHwId, Other}
+
+abbrev pub gre_rows : List (PlainRow InfoGre)
+gre_rows =
+    row 1 Le32 (λ n. Link n) ∷
+    row 2 Be16 (λ n. IFlags (gre_io_flags n)) ∷
+    row 3 Be16 (λ n. OFlags (gre_io_flags n)) ∷
+    row 4 Be32 (λ n. IKey n) ∷
+    row 5 Be32 (λ n. OKey n) ∷
+    row 6 V4 (λ a. Local a) ∷
+    row 7 V4 (λ a. Remote a) ∷
+    row 8 U8 (λ n. Ttl n) ∷
+    row 9 U8 (λ n. Tos n) ∷
+    row 10 TruthOne (λ b. PathMTUDiscovery b) ∷
+    row 14 Le16 (λ n. EncapType (gre_encap_type n)) ∷
+    row 15 Le16 (λ n. EncapFlags (gre_encap_flags n)) ∷
+    row 16 Be16 (λ n. SourcePort n) ∷
+    row 17 Be16 (λ n. DestinationPort n) ∷
+    row 18 Mark (λ _. CollectMetadata) ∷
+    row 20 Le32 (λ n. FwMask n) ∷
+    row 21 Le32 (λ n. ErSpanIndex n) ∷
+    row 22 U8 (λ n. ErSpanVer n) ∷
+    row 23 U8 (λ n. ErSpanDir (er_span_dir n)) ∷
+    row 24 Le16 (λ n. ErSpanHwId n) ∷
+    []
+
+abbrev pub gre_attribute : InfoGre → Attribute
+gre_attribute (Link n) = typed 1 Le32 n
+gre_attribute (IFlags flags) = typed 2 Be16 flags.0
+gre_attribute (OFlags flags) = typed 3 Be16 flags.0
+gre_attribute (IKey n) = typed 4 Be32 n
+gre_attribute (OKey n) = typed 5 Be32 n
+gre_attribute (Local a) = typed 6 V4 a
+gre_attribute (Remote a) = typed 7 V4 a
+gre_attribute (Ttl n) = typed 8 U8 n
+gre_attribute (Tos n) = typed 9 U8 n
+gre_attribute (PathMTUDiscovery b) = typed 10 TruthOne b
+gre_attribute (EncapType encapsulation) = typed 14 Le16 (gre_encap_type_number encapsulation)
+gre_attribute (EncapFlags flags) = typed 15 Le16 flags.0
+gre_attribute (SourcePort n) = typed 16 Be16 n
+gre_attribute (DestinationPort n) = typed 17 Be16 n
+gre_attribute CollectMetadata = typed 18 Mark tt
+gre_attribute (FwMask n) = typed 20 Le32 n
+gre_attribute (ErSpanIndex n) = typed 21 Le32 n
+gre_attribute (ErSpanVer n) = typed 22 U8 n
+gre_attribute (ErSpanDir direction) = typed 23 U8 (er_span_dir_number direction)
+gre_attribute (ErSpanHwId n) = typed 24 Le16 n
+gre_attribute (Other nla) = attribute_of nla
+
+pub gre_keeps : EachKeeps gre_attribute gre_rows
+gre_keeps = each_keeps gre_attribute gre_rows refl
+    (λ n. refl, (λ n. refl, (λ n. refl, (λ n. refl, (λ n. refl, (λ a. refl, (λ a. refl, (λ n. refl, (λ n. refl, (λ b. refl, (λ n. ap (typed 14 Le16) (key-value_of gre_encap_type_table_holds n), (λ n. refl, (λ n. refl, (λ n. refl, (λ _. refl, (λ n. refl, (λ n. refl, (λ n. refl, (λ n. ap (typed 23 U8) (key-value_of er_span_dir_table_holds n), (λ n. refl, tt))))))))))))))))))))
+
+-- these are the rows of the table of all families
+pub gre_lookup : (number : ℕ) → lookup_of (table_row gre_rows number) ≡ lookup_in (shape_of family.Gre number)
+gre_lookup number = table_lookup gre_rows number

@@ -1,0 +1,10 @@
+pub mod Amt
+pub mod BareUdp
+pub mod Geneve
+pub mod Gre
+pub mod Gre6
+pub mod Gtp
+pub mod IpTunnel
+pub mod Labels
+pub mod Vti
+pub mod Vxlan

@@ -1,0 +1,321 @@
+//! IP tunnels.
+
+ghost use Rattle.linkinfo_tunnels.specs.declared.ip_tunnel.InfoIpTunnel.TheVariants.{Other};
+ghost use Rattle.linkinfo_tunnels.specs.IpTunnel.{flags_row, ip_tunnel_attribute, ip_tunnel_flat, ip_tunnel_owes, ip_tunnel_row};
+ghost use Rattle.linkinfo_table.specs.FamilyRows.{IsLabelled, SuitsRow, lookup_of, row_of};
+ghost use Rattle.linkinfo_shapes.specs.Data.{value_of};
+ghost use Rattle.linkinfo_table.specs.Rows.{meaning_in, memory_in};
+ghost use Rattle.linkinfo_numbers.specs.Kind.{tag_of_kind};
+ghost use Rattle.nla_frame.specs.declared.error.Family.TheVariants as family;
+ghost use Rattle.std.specs.Prelude.{◌≡◌, false, refl};
+
+use crate::parts;
+use bitflags::Flags;
+use linkinfo_numbers::{
+    InfoKind, Ip6TunnelFlags, IpProtocol, KindTag, TunnelEncapFlags, TunnelEncapType,
+};
+use linkinfo_table::{
+    Datum, FlatFamily, Found, Lookup, Part, RowFamily, Shape, row_emit_value, row_fit_len,
+    row_kind, row_read, row_value_len, table_lookup,
+};
+use nla_frame::{
+    Cause, DecodeError, DefaultNla, ExactEq, Family, Nla, NlaBuffer, ParseableParametrized,
+};
+use std::alloc::{AllocError, Global};
+use std::net::{IpAddr, Ipv4Addr, Ipv6Addr};
+
+const IFLA_IPTUN_LINK: u16 = 1;
+
+const IFLA_IPTUN_LOCAL: u16 = 2;
+
+const IFLA_IPTUN_REMOTE: u16 = 3;
+
+const IFLA_IPTUN_TTL: u16 = 4;
+
+const IFLA_IPTUN_TOS: u16 = 5;
+
+const IFLA_IPTUN_ENCAP_LIMIT: u16 = 6;
+
+const IFLA_IPTUN_FLOWINFO: u16 = 7;
+
+const IFLA_IPTUN_FLAGS: u16 = 8;
+
+const IFLA_IPTUN_PROTO: u16 = 9;
+
+const IFLA_IPTUN_PMTUDISC: u16 = 10;
+
+const IFLA_IPTUN_6RD_PREFIX: u16 = 11;
+
+const IFLA_IPTUN_6RD_RELAY_PREFIX: u16 = 12;
+
+const IFLA_IPTUN_6RD_PREFIXLEN: u16 = 13;
+
+const IFLA_IPTUN_6RD_RELAY_PREFIXLEN: u16 = 14;
+
+const IFLA_IPTUN_ENCAP_TYPE: u16 = 15;
+
+const IFLA_IPTUN_ENCAP_FLAGS: u16 = 16;
+
+const IFLA_IPTUN_ENCAP_SPORT: u16 = 17;
+
+const IFLA_IPTUN_ENCAP_DPORT: u16 = 18;
+
+const IFLA_IPTUN_COLLECT_METADATA: u16 = 19;
+
+const IFLA_IPTUN_FWMARK: u16 = 20;
+
+/// An attribute of an IP tunnel: of a link of the kind `ipip`, `sit` or `ip6tnl` (include/uapi/linux/if_tunnel.h).
+#[derive(Debug, PartialEq, Eq, Clone, Drop)]
+pub enum InfoIpTunnel {
+    /// The index of the underlying interface (`IFLA_IPTUN_LINK`), native byte order.
+    Link(u32),
+    /// The address of this end (`IFLA_IPTUN_LOCAL`), network byte order.
+    Local(IpAddr),
+    /// The address of the other end (`IFLA_IPTUN_REMOTE`), network byte order.
+    Remote(IpAddr),
+    /// The time to live of what is sent, 0 for that of the inner packet (`IFLA_IPTUN_TTL`), one byte.
+    Ttl(u8),
+    /// The type of service of what is sent, 1 for that of the inner packet (`IFLA_IPTUN_TOS`), one byte.
+    Tos(u8),
+    /// How often what is sent may be wrapped again (`IFLA_IPTUN_ENCAP_LIMIT`), one byte.
+    EncapLimit(u8),
+    /// The IPv6 traffic class and flow label (`IFLA_IPTUN_FLOWINFO`), network byte order.
+    FlowInfo(u32),
+    /// The flags under the kind `ipip` (`IFLA_IPTUN_FLAGS`), network byte order.
+    Ipv4Flags(u16),
+    /// The flags under the kind `sit` (`IFLA_IPTUN_FLAGS`), network byte order.
+    Ipv6SitFlags(u16),
+    /// The flags under the kind `ip6tnl` (`IFLA_IPTUN_FLAGS`), native byte order.
+    Ipv6Flags(Ip6TunnelFlags),
+    /// The protocol inside the tunnel (`IFLA_IPTUN_PROTO`), one byte.
+    Protocol(IpProtocol),
+    /// Whether the path MTU is discovered (`IFLA_IPTUN_PMTUDISC`), one byte.
+    PMtuDisc(bool),
+    /// The IPv6 prefix of 6rd (`IFLA_IPTUN_6RD_PREFIX`), network byte order.
+    Ipv6RdPrefix(Ipv6Addr),
+    /// The IPv4 prefix of the relays of 6rd (`IFLA_IPTUN_6RD_RELAY_PREFIX`), network byte order.
+    Ipv6RdRelayPrefix(Ipv4Addr),
+    /// The length of the IPv6 prefix in bits (`IFLA_IPTUN_6RD_PREFIXLEN`), native byte order.
+    Ipv6RdPrefixLen(u16),
+    /// The length of the IPv4 prefix in bits (`IFLA_IPTUN_6RD_RELAY_PREFIXLEN`), native byte order.
+    Ipv6RdRelayPrefixLen(u16),
+    /// What the tunnel is wrapped in (`IFLA_IPTUN_ENCAP_TYPE`), native byte order.
+    EncapType(TunnelEncapType),
+    /// How the tunnel is wrapped (`IFLA_IPTUN_ENCAP_FLAGS`), native byte order.
+    EncapFlags(TunnelEncapFlags),
+    /// The source port that the tunnel is wrapped with (`IFLA_IPTUN_ENCAP_SPORT`), network byte order.
+    EncapSPort(u16),
+    /// The destination port that the tunnel is wrapped with (`IFLA_IPTUN_ENCAP_DPORT`), network byte order.
+    EncapDPort(u16),
+    /// The metadata of each packet is collected (`IFLA_IPTUN_COLLECT_METADATA`), a presence flag.
+    CollectMetadata,
+    /// The firewall mark that routes are looked up by (`IFLA_IPTUN_FWMARK`), native byte order.
+    FwMark(u32),
+    /// An attribute of another type, kept as it came.
+    Other(DefaultNla),
+}
+
+impl RowFamily for InfoIpTunnel {
+    type Context = KindTag;
+
+    const FAMILY: Family = Family::IpTunnel;
+
+    ghost FAMILY = { family.IpTunnel };
+
+    ghost rows = { ip_tunnel_row };
+
+    ghost other = { λ nla. Other nla };
+
+    ghost canonical = { ip_tunnel_attribute };
+
+    ghost is_custom = { λ _. false };
+
+    ghost owes = { ip_tunnel_owes };
+
+    ghost keeps_other = { λ _. refl };
+
+    #[tactic(auto, using(crate::specs::IpTunnel::ip_tunnel_lookup))]
+    fn shape(ctx: KindTag, kind: u16) -> Lookup {
+        match kind {
+            IFLA_IPTUN_FLAGS => flags_lookup(ctx),
+            _ => table_lookup(Family::IpTunnel, kind),
+        }
+    }
+
+    fn from_found(
+        _alloc: Global,
+        ctx: KindTag,
+        found: Found<'_>,
+    ) -> Result<InfoIpTunnel, AllocError> {
+        let (kind, datum) = match found {
+            Found::Typed(kind, datum) => (kind, datum),
+            Found::Kept(nla) => return Ok(InfoIpTunnel::Other(nla)),
+        };
+        Ok(match kind {
+            IFLA_IPTUN_LINK => InfoIpTunnel::Link(datum.u32_or_zero()),
+            IFLA_IPTUN_LOCAL => InfoIpTunnel::Local(datum.ip_or_unspecified()),
+            IFLA_IPTUN_REMOTE => InfoIpTunnel::Remote(datum.ip_or_unspecified()),
+            IFLA_IPTUN_TTL => InfoIpTunnel::Ttl(datum.u8_or_zero()),
+            IFLA_IPTUN_TOS => InfoIpTunnel::Tos(datum.u8_or_zero()),
+            IFLA_IPTUN_ENCAP_LIMIT => InfoIpTunnel::EncapLimit(datum.u8_or_zero()),
+            IFLA_IPTUN_FLOWINFO => InfoIpTunnel::FlowInfo(datum.u32_or_zero()),
+            IFLA_IPTUN_FLAGS => flags(ctx, datum),
+            IFLA_IPTUN_PROTO => InfoIpTunnel::Protocol(IpProtocol::from(datum.u8_or_zero())),
+            IFLA_IPTUN_PMTUDISC => InfoIpTunnel::PMtuDisc(datum.bool_or_false()),
+            IFLA_IPTUN_6RD_PREFIX => InfoIpTunnel::Ipv6RdPrefix(datum.ipv6_or_unspecified()),
+            IFLA_IPTUN_6RD_RELAY_PREFIX => InfoIpTunnel::Ipv6RdRelayPrefix(
+                datum.ipv4_or_unspecified(),
+            ),
+            IFLA_IPTUN_6RD_PREFIXLEN => InfoIpTunnel::Ipv6RdPrefixLen(datum.u16_or_zero()),
+            IFLA_IPTUN_6RD_RELAY_PREFIXLEN => InfoIpTunnel::Ipv6RdRelayPrefixLen(
+                datum.u16_or_zero(),
+            ),
+            IFLA_IPTUN_ENCAP_TYPE => InfoIpTunnel::EncapType(TunnelEncapType::from(
+                datum.u16_or_zero(),
+            )),
+            IFLA_IPTUN_ENCAP_FLAGS => InfoIpTunnel::EncapFlags(TunnelEncapFlags::from_bits_retain(
+                datum.u16_or_zero(),
+            )),
+            IFLA_IPTUN_ENCAP_SPORT => InfoIpTunnel::EncapSPort(datum.u16_or_zero()),
+            IFLA_IPTUN_ENCAP_DPORT => InfoIpTunnel::EncapDPort(datum.u16_or_zero()),
+            IFLA_IPTUN_COLLECT_METADATA => InfoIpTunnel::CollectMetadata,
+            IFLA_IPTUN_FWMARK => InfoIpTunnel::FwMark(datum.u32_or_zero()),
+            _ => unreachable!(),
+        })
+    }
+
+    fn to_part(&self) -> Part<'_> {
+        match self {
+            InfoIpTunnel::Link(index) => parts::le32(IFLA_IPTUN_LINK, *index),
+            InfoIpTunnel::Local(address) => parts::ip(IFLA_IPTUN_LOCAL, *address),
+            InfoIpTunnel::Remote(address) => parts::ip(IFLA_IPTUN_REMOTE, *address),
+            InfoIpTunnel::Ttl(ttl) => parts::u8(IFLA_IPTUN_TTL, *ttl),
+            InfoIpTunnel::Tos(tos) => parts::u8(IFLA_IPTUN_TOS, *tos),
+            InfoIpTunnel::EncapLimit(limit) => parts::u8(IFLA_IPTUN_ENCAP_LIMIT, *limit),
+            InfoIpTunnel::FlowInfo(info) => parts::be32(IFLA_IPTUN_FLOWINFO, *info),
+            InfoIpTunnel::Ipv4Flags(flags) => parts::be16(IFLA_IPTUN_FLAGS, *flags),
+            InfoIpTunnel::Ipv6SitFlags(flags) => parts::be16(IFLA_IPTUN_FLAGS, *flags),
+            InfoIpTunnel::Ipv6Flags(flags) => parts::le32(IFLA_IPTUN_FLAGS, flags.bits()),
+            InfoIpTunnel::Protocol(protocol) => parts::u8(IFLA_IPTUN_PROTO, u8::from(*protocol)),
+            InfoIpTunnel::PMtuDisc(on) => parts::truth(IFLA_IPTUN_PMTUDISC, *on),
+            InfoIpTunnel::Ipv6RdPrefix(prefix) => parts::v6(IFLA_IPTUN_6RD_PREFIX, *prefix),
+            InfoIpTunnel::Ipv6RdRelayPrefix(prefix) => parts::v4(
+                IFLA_IPTUN_6RD_RELAY_PREFIX,
+                *prefix,
+            ),
+            InfoIpTunnel::Ipv6RdPrefixLen(length) => parts::le16(IFLA_IPTUN_6RD_PREFIXLEN, *length),
+            InfoIpTunnel::Ipv6RdRelayPrefixLen(length) => parts::le16(
+                IFLA_IPTUN_6RD_RELAY_PREFIXLEN,
+                *length,
+            ),
+            InfoIpTunnel::EncapType(encapsulation) => parts::le16(
+                IFLA_IPTUN_ENCAP_TYPE,
+                u16::from(*encapsulation),
+            ),
+            InfoIpTunnel::EncapFlags(flags) => parts::le16(IFLA_IPTUN_ENCAP_FLAGS, flags.bits()),
+            InfoIpTunnel::EncapSPort(port) => parts::be16(IFLA_IPTUN_ENCAP_SPORT, *port),
+            InfoIpTunnel::EncapDPort(port) => parts::be16(IFLA_IPTUN_ENCAP_DPORT, *port),
+            InfoIpTunnel::CollectMetadata => parts::mark(IFLA_IPTUN_COLLECT_METADATA),
+            InfoIpTunnel::FwMark(mark) => parts::le32(IFLA_IPTUN_FWMARK, *mark),
+            InfoIpTunnel::Other(nla) => Part::Kept(nla),
+        }
+    }
+}
+
+/// What the kind of the link says of `IFLA_IPTUN_FLAGS`.
+fn flags_lookup(tag: KindTag) -> Lookup
+    ensures { result ≡ lookup_of (flags_row tag) }
+{
+    match tag {
+        KindTag::IpIp | KindTag::SitTun => Lookup::Is(Shape::Be16),
+        KindTag::Ip6Tnl => Lookup::Is(Shape::Le32),
+        _ => Lookup::Refused(Cause::Kind),
+    }
+}
+
+/// The flags of a link of the kind. Asks for a kind under which they are accepted.
+fn flags(tag: KindTag, datum: Datum<'_>) -> InfoIpTunnel
+    requires { SuitsRow (flags_row tag) (value_of datum) }
+    ensures { IsLabelled (flags_row tag) (value_of datum.entry) result }
+{
+    match tag {
+        KindTag::IpIp => InfoIpTunnel::Ipv4Flags(datum.u16_or_zero()),
+        KindTag::SitTun => InfoIpTunnel::Ipv6SitFlags(datum.u16_or_zero()),
+        KindTag::Ip6Tnl => {
+            InfoIpTunnel::Ipv6Flags(Ip6TunnelFlags::from_bits_retain(datum.u32_or_zero()))
+        }
+        _ => unreachable!(),
+    }
+}
+
+impl Nla for InfoIpTunnel {
+    ghost attribute = { ip_tunnel_attribute };
+
+    fn value_len(&self) -> usize {
+        row_value_len(self)
+    }
+
+    fn kind(&self) -> u16 {
+        row_kind(self)
+    }
+
+    fn emit_value(&self, buffer: &mut [u8]) {
+        row_emit_value(self, buffer);
+    }
+
+    fn fit_len(&self) -> Option<usize> {
+        row_fit_len(self)
+    }
+}
+
+impl FlatFamily for InfoIpTunnel {
+    ghost flat = { ip_tunnel_flat };
+
+    ghost never_custom = { λ _. refl };
+
+    ghost written = { λ _. refl };
+}
+
+/// Reads the attribute of a link of the kind. A payload of another length than its row's is (IpTunnel, type, Length). Under the kinds
+/// `ipip` and `sit` `IFLA_IPTUN_FLAGS` is a big-endian number of two bytes, under `ip6tnl` a little-endian one of four, and under every
+/// other kind it is (IpTunnel, 8, Kind).
+impl<'a, 'k> ParseableParametrized<NlaBuffer<'a>, &'k InfoKind> for InfoIpTunnel {
+    ghost meaning = { λ nla kind. meaning_in family.IpTunnel (λ d. Other d) (λ n. row_of (ip_tunnel_row (tag_of_kind kind.now) n)) nla };
+
+    ghost needs_memory = { λ nla kind. memory_in (λ n. row_of (ip_tunnel_row (tag_of_kind kind.now) n)) nla };
+
+    fn parse_with_param(
+        alloc: Global,
+        buffer: &NlaBuffer<'a>,
+        param: &'k InfoKind,
+    ) -> Result<InfoIpTunnel, DecodeError> {
+        row_read(alloc, buffer, param.tag())
+    }
+}
+
+impl ExactEq for InfoIpTunnel {
+    ghost use Rattle.std.specs.Cmp.{booleans_Decides};
+    ghost use Rattle.std.proofs.lemmas.Bool.Decides.{Decides-eqb};
+    ghost use Rattle.nla_frame.specs.Derived.{derived_decides, no_field, one_field};
+    ghost use Rattle.nla_frame.specs.contracts.exact_eq.IpAddrExactEq.TheImpl.Laws.{exact-law as ip_exact};
+    ghost use Rattle.linkinfo_numbers.specs.contracts.tunnel.Ip6TunnelFlagsExactEq.TheImpl.Laws.{exact-law as flags_exact};
+    ghost use Rattle.linkinfo_numbers.specs.contracts.ip.IpProtocolExactEq.TheImpl.Laws.{exact-law as protocol_exact};
+    ghost use Rattle.nla_frame.specs.contracts.exact_eq.Ipv6AddrExactEq.TheImpl.Laws.{exact-law as ipv6_exact};
+    ghost use Rattle.nla_frame.specs.contracts.exact_eq.Ipv4AddrExactEq.TheImpl.Laws.{exact-law as ipv4_exact};
+    ghost use Rattle.linkinfo_numbers.specs.contracts.tunnel.TunnelEncapTypeExactEq.TheImpl.Laws.{exact-law as encapsulation_exact};
+    ghost use Rattle.linkinfo_numbers.specs.contracts.tunnel.TunnelEncapFlagsExactEq.TheImpl.Laws.{exact-law as wrapping_exact};
+    ghost use Rattle.nla_frame.specs.contracts.default_nla.DefaultNlaExactEq.TheImpl.Laws.{exact-law as kept_exact};
+    ghost use Rattle.linkinfo_tunnels.specs.contracts.ip_tunnel.InfoIpTunnel.{enum};
+
+    ghost exact = { let number = one_field Decides-eqb in
+        let ip = one_field ip_exact in
+        let flags = one_field flags_exact in
+        let protocol = one_field protocol_exact in
+        let truth = one_field booleans_Decides in
+        let ipv6 = one_field ipv6_exact in
+        let ipv4 = one_field ipv4_exact in
+        let encapsulation = one_field encapsulation_exact in
+        let wrapping = one_field wrapping_exact in
+        let kept = one_field kept_exact in
+        derived_decides enum _ (number, (ip, (ip, (number, (number, (number, (number, (number, (number, (flags, (protocol, (truth, (ipv6, (ipv4, (number, (number, (encapsulation, (wrapping, (number, (number, (no_field, (number, (kept, tt))))))))))))))))))))))) };
+}

@@ -1,0 +1,134 @@
+//! What a typed value shows of its canonical attribute: a type number, a shape and a datum, by a function for each shape.
+#![tactic(auto, unfolding(linkinfo_shapes::specs::Data::Suits, linkinfo_shapes::specs::Data::written))]
+
+ghost use Rattle.std.specs.Prelude.{false};
+ghost use Rattle.linkinfo_shapes.specs.declared.shape.Shape.TheVariants as shape;
+ghost use Rattle.linkinfo_table.specs.FamilyRows.{Shows, typed};
+
+use linkinfo_table::{Datum, Part, Shape};
+use std::net::{IpAddr, Ipv4Addr, Ipv6Addr};
+
+/// One byte.
+pub fn u8<'a>(kind: u16, number: u8) -> Part<'a>
+    ensures { Shows result (typed kind shape.U8 number) false }
+{
+    Part::Typed(kind, Shape::U8, Datum::Number(u64::from(number)))
+}
+
+/// A little-endian number of two bytes.
+pub fn le16<'a>(kind: u16, number: u16) -> Part<'a>
+    ensures { Shows result (typed kind shape.Le16 number) false }
+{
+    Part::Typed(kind, Shape::Le16, Datum::Number(u64::from(number)))
+}
+
+/// A big-endian number of two bytes.
+pub fn be16<'a>(kind: u16, number: u16) -> Part<'a>
+    ensures { Shows result (typed kind shape.Be16 number) false }
+{
+    Part::Typed(kind, Shape::Be16, Datum::Number(u64::from(number)))
+}
+
+/// A little-endian number of four bytes.
+pub fn le32<'a>(kind: u16, number: u32) -> Part<'a>
+    ensures { Shows result (typed kind shape.Le32 number) false }
+{
+    Part::Typed(kind, Shape::Le32, Datum::Number(u64::from(number)))
+}
+
+/// A big-endian number of four bytes.
+pub fn be32<'a>(kind: u16, number: u32) -> Part<'a>
+    ensures { Shows result (typed kind shape.Be32 number) false }
+{
+    Part::Typed(kind, Shape::Be32, Datum::Number(u64::from(number)))
+}
+
+/// A big-endian number of eight bytes.
+pub fn be64<'a>(kind: u16, number: u64) -> Part<'a>
+    ensures { Shows result (typed kind shape.Be64 number) false }
+{
+    Part::Typed(kind, Shape::Be64, Datum::Number(number))
+}
+
+/// A truth byte, true where it is not zero.
+pub fn truth<'a>(kind: u16, on: bool) -> Part<'a>
+    ensures { Shows result (typed kind shape.Truth on) false }
+{
+    Part::Typed(kind, Shape::Truth, Datum::Truth(on))
+}
+
+/// A truth byte, true where it is 1.
+pub fn truth_one<'a>(kind: u16, on: bool) -> Part<'a>
+    ensures { Shows result (typed kind shape.TruthOne on) false }
+{
+    Part::Typed(kind, Shape::TruthOne, Datum::Truth(on))
+}
+
+/// A presence flag.
+pub fn mark<'a>(kind: u16) -> Part<'a>
+    ensures { Shows result (typed kind shape.Mark tt) false }
+{
+    Part::Typed(kind, Shape::Mark, Datum::Empty)
+}
+
+/// An IPv4 address.
+pub fn v4<'a>(kind: u16, address: Ipv4Addr) -> Part<'a>
+    ensures { Shows result (typed kind shape.V4 address) false }
+{
+    Part::Typed(kind, Shape::V4, Datum::V4(address))
+}
+
+/// An IPv6 address.
+pub fn v6<'a>(kind: u16, address: Ipv6Addr) -> Part<'a>
+    ensures { Shows result (typed kind shape.V6 address) false }
+{
+    Part::Typed(kind, Shape::V6, Datum::V6(address))
+}
+
+/// An IPv4 address of a Geneve tunnel.
+pub fn geneve_v4<'a>(kind: u16, address: Ipv4Addr) -> Part<'a>
+    ensures { Shows result (typed kind shape.GeneveV4 address) false }
+{
+    Part::Typed(kind, Shape::GeneveV4, Datum::V4(address))
+}
+
+/// An IPv6 address of a Geneve tunnel.
+pub fn geneve_v6<'a>(kind: u16, address: Ipv6Addr) -> Part<'a>
+    ensures { Shows result (typed kind shape.GeneveV6 address) false }
+{
+    Part::Typed(kind, Shape::GeneveV6, Datum::V6(address))
+}
+
+/// An address of either version.
+pub fn ip<'a>(kind: u16, address: IpAddr) -> Part<'a>
+    ensures { Shows result (typed kind shape.Ip address) false }
+{
+    let datum = match address {
+        IpAddr::V4(address) => Datum::V4(address),
+        IpAddr::V6(address) => Datum::V6(address),
+    };
+    Part::Typed(kind, Shape::Ip, datum)
+}
+
+/// Two big-endian numbers of two bytes each.
+pub fn be_pair<'a>(kind: u16, pair: (u16, u16)) -> Part<'a>
+    ensures { Shows result (typed kind shape.BePair pair) false }
+{
+    let (first, second) = pair;
+    Part::Typed(
+        kind,
+        Shape::BePair,
+        Datum::Pair(u32::from(first), u32::from(second)),
+    )
+}
+
+/// No byte, or one.
+pub fn empty_or_byte<'a>(kind: u16, byte: Option<u8>) -> Part<'a>
+    ensures { Shows result (typed kind shape.EmptyOrByte byte) false }
+{
+    let datum = match byte {
+        Some(byte) => Datum::Number(u64::from(byte)),
+        None => Datum::Empty,
+    };
+    Part::Typed(kind, Shape::EmptyOrByte, datum)
+}

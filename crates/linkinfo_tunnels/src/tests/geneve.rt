@@ -1,0 +1,101 @@
+//! Rows of Geneve tunnels.
+
+use super::{UNLISTED, has_one_length, is_kept, is_mark, is_parsed, is_refused, is_row, unlisted};
+use crate::InfoGeneve;
+use linkinfo_numbers::GeneveDf;
+use nla_frame::Cause;
+use std::net::{Ipv4Addr, Ipv6Addr};
+use std::test::Fail;
+
+#[test]
+fn rows_of_geneve(rt: HostRuntime) -> Result<(), Fail> {
+    let alloc = rt.alloc();
+    let v4 = Ipv4Addr::new(10, 0, 0, 1);
+    let v6 = Ipv6Addr::new(0xfe80, 0, 0, 0, 0, 0, 0, 2);
+    for (bytes, value) in [
+        (
+            [8, 0, 1, 0, 4, 3, 2, 1].as_slice(),
+            InfoGeneve::Id(0x0102_0304),
+        ),
+        ([8, 0, 2, 0, 10, 0, 0, 1].as_slice(), InfoGeneve::Remote(v4)),
+        ([5, 0, 3, 0, 64, 0, 0, 0].as_slice(), InfoGeneve::Ttl(0x40)),
+        ([5, 0, 4, 0, 64, 0, 0, 0].as_slice(), InfoGeneve::Tos(0x40)),
+        (
+            [6, 0, 5, 0, 1, 2, 0, 0].as_slice(),
+            InfoGeneve::Port(0x0102),
+        ),
+        (
+            [
+                20, 0, 7, 0, 0xfe, 0x80, 0, 0, 0, 0, 0, 0, 0, 0, 0, 0, 0, 0, 0, 2,
+            ]
+            .as_slice(),
+            InfoGeneve::Remote6(v6),
+        ),
+        (
+            [5, 0, 8, 0, 1, 0, 0, 0].as_slice(),
+            InfoGeneve::UdpCsum(true),
+        ),
+        (
+            [5, 0, 9, 0, 1, 0, 0, 0].as_slice(),
+            InfoGeneve::UdpZeroCsum6Tx(true),
+        ),
+        (
+            [5, 0, 10, 0, 1, 0, 0, 0].as_slice(),
+            InfoGeneve::UdpZeroCsum6Rx(true),
+        ),
+        (
+            [8, 0, 11, 0, 1, 2, 3, 4].as_slice(),
+            InfoGeneve::Label(0x0102_0304),
+        ),
+        (
+            [5, 0, 12, 0, 1, 0, 0, 0].as_slice(),
+            InfoGeneve::TtlInherit(true),
+        ),
+        (
+            [5, 0, 13, 0, 1, 0, 0, 0].as_slice(),
+            InfoGeneve::Df(GeneveDf::Set),
+        ),
+        ([8, 0, 17, 0, 10, 0, 0, 1].as_slice(), InfoGeneve::Local(v4)),
+        (
+            [
+                20, 0, 18, 0, 0xfe, 0x80, 0, 0, 0, 0, 0, 0, 0, 0, 0, 0, 0, 0, 0, 2,
+            ]
+            .as_slice(),
+            InfoGeneve::Local6(v6),
+        ),
+    ] {
+        is_parsed(&rt, alloc, bytes, &value)?;
+        is_row(&rt, alloc, (), bytes, &value)?;
+        has_one_length::<InfoGeneve>(&rt, alloc, (), bytes)?;
+    }
+    for (kind, value) in [
+        (6, InfoGeneve::CollectMetadata),
+        (14, InfoGeneve::InnerProtoInherit),
+    ] {
+        is_parsed(&rt, alloc, &[4, 0, kind, 0], &value)?;
+        is_mark(&rt, alloc, (), kind, &value)?;
+    }
+    let kept = InfoGeneve::Other(unlisted(alloc)?);
+    assert!(rt; kept.clone()? == kept);
+    is_parsed(&rt, alloc, &UNLISTED, &kept)?;
+    is_kept(&rt, alloc, (), &kept)
+}
+
+#[test]
+fn addresses_of_the_other_version(rt: HostRuntime) -> Result<(), Fail> {
+    let alloc = rt.alloc();
+    let mut attribute = [0; 24];
+    for (kind, length, cause) in [
+        (2, 20, Cause::AddressKind),
+        (17, 20, Cause::AddressKind),
+        (7, 8, Cause::AddressKind),
+        (18, 8, Cause::AddressKind),
+        (2, 6, Cause::Length),
+        (7, 6, Cause::Length),
+    ] {
+        attribute[0] = length;
+        attribute[2] = kind;
+        is_refused::<InfoGeneve>(&rt, alloc, (), &attribute, cause)?;
+    }
+    Ok(())
+}
