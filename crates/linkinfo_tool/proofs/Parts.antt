@@ -3,8 +3,7 @@ use Rattle.std.proofs.Common.{◌≡◌, ℕ, ◌+◌, ◌<◌, ◌≤◌, Bool,
 use Rattle.std.specs.List.{slice_split, onto_first, position, position_or_len}
 use Rattle.std.proofs.lemmas.Bool.Decides.{nat_tests}
 use Rattle.std.proofs.lemmas.List.Splits.{slice_split_first, length-slice_split}
-use Rattle.linkinfo_tool.specs.Lines.{lines_of, without_empty_last, words_of}
-use Rattle.linkinfo_tool.specs.Answers.{words_answer, bad_line}
+use Rattle.linkinfo_tool.specs.Lines.{lines_of, without_empty_last}
 
 -- a list where no element passes is one part
 whole_by_place : (p : ℕ → Bool) (xs : List ℕ) → length xs ≤ position_or_len p xs → slice_split p xs ≡ xs ∷ []
@@ -46,11 +45,3 @@ lines_of-last text line h e same = ap without_empty_last e ∙ last_kept line (s
   where
     last_kept : (part : List ℕ) → 0 < length part → without_empty_last (part ∷ []) ≡ part ∷ []
     last_kept part h = grind (arith, nat_tests)
-
--- more than three words are no command
-pub words_answer-many : (verb first second : List ℕ) (more : List ℕ) → words_answer (verb ∷ first ∷ second ∷ words_of more) ≡ bad_line
-words_answer-many verb first second more = many (words_of more) (let n = length-slice_split (λ b. eqb b 32) more in omega (arith, n))
-  where
-    many : (words : List (List ℕ)) → 0 < length words → words_answer (verb ∷ first ∷ second ∷ words) ≡ bad_line
-    many [] h = absurd (omega arith)
-    many (word ∷ words) h = refl

@@ -71,14 +71,23 @@ comparison_answer first second =
 
 -- ---- lines
 
+-- the answer of a command of one operand, or of two
+abbrev pub on_one : (List ℕ → List ℕ) → List (List ℕ) → List ℕ
+on_one answer (word ∷ []) = answer word
+on_one answer words = bad_line
+
+abbrev pub on_two : (List ℕ → List ℕ → List ℕ) → List (List ℕ) → List ℕ
+on_two answer (first ∷ second ∷ []) = answer first second
+on_two answer words = bad_line
+
 -- the answer to a line of these words
 abbrev pub words_answer : List (List ℕ) → List ℕ
-words_answer (verb ∷ word ∷ []) =
-    if bytes_eq verb (codes "check") then check_answer word
-    else if bytes_eq verb (codes "canon") then canon_answer word
+words_answer [] = bad_line
+words_answer (verb ∷ operands) =
+    if bytes_eq verb (codes "check") then on_one check_answer operands
+    else if bytes_eq verb (codes "canon") then on_one canon_answer operands
+    else if bytes_eq verb (codes "same") then on_two comparison_answer operands
     else bad_line
-words_answer (verb ∷ first ∷ second ∷ []) = if bytes_eq verb (codes "same") then comparison_answer first second else bad_line
-words_answer words = bad_line
 
 -- the answer to a line, with its line feed
 abbrev pub line_answer : List ℕ → List ℕ

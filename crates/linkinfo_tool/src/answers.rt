@@ -1,10 +1,10 @@
 //! The answers to the lines of an input.
 
-ghost use Rattle.std.specs.Prelude.{◌≡◌, ◌++◌, [], ◌∷◌, if◌then◌else◌, Some, None, IfOk, OnOk, length, map};
+ghost use Rattle.std.specs.Prelude.{codes, ◌≡◌, ◌++◌, [], ◌∷◌, if◌then◌else◌, Some, None, IfOk, OnOk, length, map};
 ghost use Rattle.hex.specs.Hex.{encode_lower};
 ghost use Rattle.nla_frame.specs.Attribute.{ListFits, list_string};
 ghost use Rattle.linkinfo.specs.Reading.{item_attribute};
-ghost use Rattle.linkinfo_tool.specs.Answers.{answer_of, bad_line, bytes_of, canon_answer, canonical_text, check_answer, comparison_answer, fault_text, line_answer, words_answer};
+ghost use Rattle.linkinfo_tool.specs.Answers.{answer_of, bad_line, bytes_of, canon_answer, canonical_text, check_answer, comparison_answer, fault_text, line_answer, on_two, words_answer};
 ghost use Rattle.linkinfo_tool.specs.Lines.{words_of};
 
 use crate::lines::{cut, first_line};
@@ -62,37 +62,21 @@ impl Answers {
         let Some(operands) = operands else {
             return self.push_bad_line();
         };
-        let (first, more) = cut(operands, b' ');
-        let Some(more) = more else {
-            return self.push_about_one(verb, first);
-        };
-        let (second, rest) = cut(more, b' ');
-        match rest {
-            None => self.push_about_two(verb, first, second),
-            Some(_) => self.push_bad_line(),
-        }
+        self.push_command(verb, operands)
     }
 
-    /// Adds the answer to a line of two words.
-    fn push_about_one(&mut self, verb: &[u8], word: &[u8]) -> Result<(), AllocError>
+    fn push_command(&mut self, verb: &[u8], operands: &[u8]) -> Result<(), AllocError>
         ensures { OnOk result (self.new.text.items
-            ≡ self.old.text.items ++ words_answer (verb.now ∷ word.now ∷ [])) }
+            ≡ self.old.text.items ++ words_answer (verb.now ∷ words_of operands.now)) }
     {
-        match verb {
-            b"check" => self.push_check(word),
-            b"canon" => self.push_canon(word),
-            _ => self.push_bad_line(),
-        }
-    }
-
-    /// Adds the answer to a line of three words.
-    fn push_about_two(&mut self, verb: &[u8], first: &[u8], second: &[u8]) -> Result<(), AllocError>
-        ensures { OnOk result (self.new.text.items
-            ≡ self.old.text.items ++ words_answer (verb.now ∷ first.now ∷ second.now ∷ [])) }
-    {
-        match verb {
-            b"same" => self.push_comparison(first, second),
-            _ => self.push_bad_line(),
+        if verb == b"check".as_slice() {
+            self.push_check(operands)
+        } else if verb == b"canon".as_slice() {
+            self.push_canon(operands)
+        } else if verb == b"same".as_slice() {
+            self.push_same(operands)
+        } else {
+            self.push_bad_line()
         }
     }
 
@@ -138,6 +122,17 @@ impl Answers {
     }
 
     /// `same HEX HEX`: whether the two lists mean the same.
+    fn push_same(&mut self, operands: &[u8]) -> Result<(), AllocError>
+        ensures { OnOk result (self.new.text.items
+            ≡ self.old.text.items ++ on_two comparison_answer (words_of operands.now)) }
+    {
+        let (first, second) = cut(operands, b' ');
+        let Some(second) = second else {
+            return self.push_bad_line();
+        };
+        self.push_comparison(first, second)
+    }
+
     fn push_comparison(&mut self, first: &[u8], second: &[u8]) -> Result<(), AllocError>
         ensures { OnOk result (self.new.text.items
             ≡ self.old.text.items ++ comparison_answer first.now second.now) }

@@ -1,6 +1,4 @@
-use Rattle.std.proofs.Common.{rules, ◌≡◌, ◌≢◌, ◌≤◌, List, ℕ, ◌++◌, length, map, drop, arith, append-nil, ap, ◌∙◌, sym}
-use Rattle.std.proofs.lemmas.List.{drop_all}
-use Rattle.hex.specs.Hex.{encode_lower}
+use Rattle.std.proofs.Common.{rules, ◌≡◌, ◌≢◌, length, map, ◌∙◌, sym}
 use Rattle.nla_frame.specs.Attribute.{list_string}
 use Rattle.linkinfo.specs.Reading.{item_attribute}
 use Rattle.linkinfo_tool.proofs.Fits.{canonical_text-fits, canonical_text-unfit, word_of-none, word_of-some}
