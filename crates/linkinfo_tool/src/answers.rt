@@ -30,8 +30,11 @@ pub fn answer(alloc: Global, input: &[u8]) -> Result<Vec<u8>, AllocError>
 #[derive(Drop)]
 struct Answers {
     alloc: Global,
+    /// The answers.
     text: Vec<u8>,
+    /// What a word names, and then the canonical string.
     bytes: Vec<u8>,
+    /// What the second word of a comparison names.
     second: Vec<u8>,
 }
 
@@ -65,6 +68,8 @@ impl Answers {
         self.push_command(verb, operands)
     }
 
+    /// Adds the answer to a verb and what follows its space. An operand with a space in it names no bytes, so the last operand is read
+    /// without looking for more spaces.
     fn push_command(&mut self, verb: &[u8], operands: &[u8]) -> Result<(), AllocError>
         ensures { OnOk result (self.new.text.items
             ≡ self.old.text.items ++ words_answer (verb.now ∷ words_of operands.now)) }
@@ -107,6 +112,7 @@ impl Answers {
         }
     }
 
+    /// Adds the canonical string of the items in hex, or that they do not fit.
     fn push_canonical(&mut self, items: &[LinkInfo]) -> Result<(), AllocError>
         ensures { OnOk result (self.new.text.items
             ≡ self.old.text.items ++ canonical_text (map item_attribute items.now)) }
@@ -133,6 +139,7 @@ impl Answers {
         self.push_comparison(first, second)
     }
 
+    /// Adds the answer to a comparison of what two words name.
     fn push_comparison(&mut self, first: &[u8], second: &[u8]) -> Result<(), AllocError>
         ensures { OnOk result (self.new.text.items
             ≡ self.old.text.items ++ comparison_answer first.now second.now) }
