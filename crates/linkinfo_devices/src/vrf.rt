@@ -9,8 +9,8 @@ ghost use Rattle.nla_frame.specs.declared.error.Family.TheVariants as family;
 ghost use Rattle.std.specs.Prelude.{false, refl};
 
 use linkinfo_table::{
-    Datum, FlatFamily, Lookup, Part, RowFamily, Shape, row_emit_value, row_fit_len, row_kind,
-    row_read, row_value_len, table_lookup,
+    Datum, FlatFamily, Found, Lookup, Part, RowFamily, Shape, row_emit_value, row_fit_len,
+    row_kind, row_read, row_value_len, table_lookup,
 };
 use nla_frame::{DecodeError, DefaultNla, ExactEq, Family, Nla, NlaBuffer, Parseable};
 use std::alloc::{AllocError, Global};
@@ -53,20 +53,12 @@ impl RowFamily for InfoVrf {
         table_lookup(Family::Vrf, kind)
     }
 
-    fn from_datum(
-        _alloc: Global,
-        _ctx: (),
-        kind: u16,
-        datum: Datum<'_>,
-    ) -> Result<InfoVrf, AllocError> {
-        match kind {
-            IFLA_VRF_TABLE => Ok(InfoVrf::TableId(datum.u32_or_zero())),
-            _ => unreachable!(),
+    fn from_found(_alloc: Global, _ctx: (), found: Found<'_>) -> Result<InfoVrf, AllocError> {
+        match found {
+            Found::Typed(IFLA_VRF_TABLE, datum) => Ok(InfoVrf::TableId(datum.u32_or_zero())),
+            Found::Typed(_, _) => unreachable!(),
+            Found::Kept(nla) => Ok(InfoVrf::Other(nla)),
         }
-    }
-
-    fn from_other(nla: DefaultNla) -> InfoVrf {
-        InfoVrf::Other(nla)
     }
 
     #[tactic(auto, unfolding(linkinfo_shapes::specs::Data::Suits, linkinfo_shapes::specs::Data::written))]

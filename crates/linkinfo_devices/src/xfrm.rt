@@ -9,8 +9,8 @@ ghost use Rattle.nla_frame.specs.declared.error.Family.TheVariants as family;
 ghost use Rattle.std.specs.Prelude.{false, refl};
 
 use linkinfo_table::{
-    Datum, FlatFamily, Lookup, Part, RowFamily, Shape, row_emit_value, row_fit_len, row_kind,
-    row_read, row_value_len, table_lookup,
+    Datum, FlatFamily, Found, Lookup, Part, RowFamily, Shape, row_emit_value, row_fit_len,
+    row_kind, row_read, row_value_len, table_lookup,
 };
 use nla_frame::{DecodeError, DefaultNla, ExactEq, Family, Nla, NlaBuffer, Parseable};
 use std::alloc::{AllocError, Global};
@@ -54,21 +54,13 @@ impl RowFamily for InfoXfrm {
         table_lookup(Family::Xfrm, kind)
     }
 
-    fn from_datum(
-        _alloc: Global,
-        _ctx: (),
-        kind: u16,
-        datum: Datum<'_>,
-    ) -> Result<InfoXfrm, AllocError> {
-        match kind {
-            IFLA_XFRM_LINK => Ok(InfoXfrm::Link(datum.u32_or_zero())),
-            IFLA_XFRM_IF_ID => Ok(InfoXfrm::IfId(datum.u32_or_zero())),
-            _ => unreachable!(),
+    fn from_found(_alloc: Global, _ctx: (), found: Found<'_>) -> Result<InfoXfrm, AllocError> {
+        match found {
+            Found::Typed(IFLA_XFRM_LINK, datum) => Ok(InfoXfrm::Link(datum.u32_or_zero())),
+            Found::Typed(IFLA_XFRM_IF_ID, datum) => Ok(InfoXfrm::IfId(datum.u32_or_zero())),
+            Found::Typed(_, _) => unreachable!(),
+            Found::Kept(nla) => Ok(InfoXfrm::Other(nla)),
         }
-    }
-
-    fn from_other(nla: DefaultNla) -> InfoXfrm {
-        InfoXfrm::Other(nla)
     }
 
     #[tactic(auto, unfolding(linkinfo_shapes::specs::Data::Suits, linkinfo_shapes::specs::Data::written))]

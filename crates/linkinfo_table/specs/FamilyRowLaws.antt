@@ -1,5 +1,5 @@
 -- Tables of plain rows are lawful: shapes are codecs, and what a table's rows keep is what each row owes.
-use Rattle.std.specs.Prelude.{◌≡◌, ◌≢◌, ℕ, ◌==◌, List, [], ◌∷◌, Option, Some, Result, Ok, Err, refl}
+use Rattle.std.specs.Prelude.{◌≡◌, ◌≢◌, ℕ, ◌==◌, Bool, true, false, List, [], ◌∷◌, Option, Some, Result, Ok, Err, refl}
 use Rattle.std.proofs.Common.{sym, ap, subst, ◌∙◌, arith, inl, inr}
 use Rattle.std.proofs.lemmas.Bool.{eqb-true, cases_Bool, cond-true, cond-false}
 use Rattle.nla_frame.specs.Attribute.{Attribute}
@@ -12,7 +12,7 @@ use Rattle.linkinfo_shapes.specs.ShapeLaws.{means_holds, means-canon, IsBytes-ca
 use Rattle.linkinfo_shapes.specs.Table.{found}
 use Rattle.linkinfo_table.specs.Codecs.{Own, Inside, IsCodec}
 use Rattle.linkinfo_table.specs.Rows.{Entry, Row, Is, IsRow}
-use Rattle.linkinfo_table.specs.FamilyRows.{own, shape_codec, row_of, lookup_of, RowOwes, PlainRow, plain_or_absent, table_row, without_labels, lookup_in, Keeps, EachKeeps, IsFlat}
+use Rattle.linkinfo_table.specs.FamilyRows.{own, shape_codec, FamilyRow, row_of, row_if, lookup_of, RowOwes, PlainRow, plain_or_absent, table_row, without_labels, lookup_in, Keeps, EachKeeps, IsFlat}
 
 abbrev done : {A E : Type 0} → A → Result A E
 done x = Ok x
@@ -75,6 +75,15 @@ table_flat {F = F} attribute (r ∷ rows) k n =
       | inl same ↦ subst (λ (x : Option (PlainRow F)). IsFlat (plain_or_absent x)) (sym (cond-true (n == r.number) _ _ same)) k.0.plain
       | inr other ↦ subst (λ (x : Option (PlainRow F)). IsFlat (plain_or_absent x)) (sym (cond-false (n == r.number) _ _ other)) (table_flat attribute rows k.1 n)
     ]
+
+-- what is owed at a number where one row stands, and where another does
+pub row_if_owes : {F : Type 0} (attribute : F → Attribute) (number n : ℕ) (row rest : FamilyRow F) → RowOwes attribute number (row_of row) → RowOwes attribute n (row_of rest) →
+    RowOwes attribute n (row_of (row_if (n == number) row rest))
+row_if_owes {F = F} attribute number n row rest owes others = go (n == number) refl
+  where
+    go : (b : Bool) → n == number ≡ b → RowOwes attribute n (row_of (row_if b row rest))
+    go true e = subst (λ (m : ℕ). RowOwes attribute m (row_of row)) (sym (eqb-true n number e)) owes
+    go false e = others
 
 -- the table says what the table of all families says, where its rows without their labels are that one's
 pub table_lookup : {F : Type 0} (rows : List (PlainRow F)) (n : ℕ) → lookup_of (table_row rows n) ≡ lookup_in (found (without_labels rows) n)

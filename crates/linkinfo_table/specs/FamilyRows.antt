@@ -1,6 +1,7 @@
 -- The rows of a family, as its table gives them: by shape, or by a codec of the family's own.
 use Rattle.std.specs.Prelude.{◌≡◌, ◌≢◌, ℕ, ◌<◌, ◌==◌, Bool, true, false, if◌then◌else◌, List, [], ◌∷◌, map, Option, Some, None, Result, Ok, Err}
 use Rattle.nla_frame.specs.Attribute.{Attribute}
+use Rattle.nla_frame.specs.declared.default_nla.DefaultNla.{DefaultNla}
 use Rattle.nla_frame.specs.declared.error.Cause.{Cause}
 use Rattle.nla_frame.specs.declared.error.Cause.TheVariants as cause
 use Rattle.linkinfo_shapes.specs.declared.shape.Shape.{Shape}
@@ -11,6 +12,8 @@ use Rattle.linkinfo_table.specs.declared.lookup.Lookup.{Lookup}
 use Rattle.linkinfo_table.specs.declared.lookup.Lookup.TheVariants as lookup
 use Rattle.linkinfo_table.specs.declared.part.Part.{Part}
 use Rattle.linkinfo_table.specs.declared.part.Part.TheVariants as part
+use Rattle.linkinfo_table.specs.declared.found.Found.{Found}
+use Rattle.linkinfo_table.specs.declared.found.Found.TheVariants as found
 use Rattle.linkinfo_table.specs.Codecs.{Codec, Fault, Own}
 use Rattle.linkinfo_table.specs.Rows.{Row, Is, Refused, Unknown, IsRow}
 
@@ -134,6 +137,21 @@ owns_memory _ = false
 abbrev pub row_owns_memory : {F : Type 0} → FamilyRow F → Bool
 row_owns_memory (Plain shape label) = owns_memory shape
 row_owns_memory _ = true
+
+-- what was read of an attribute: a datum belongs to the row of its type
+abbrev pub SuitsFound : {F : Type 0} → (ℕ → FamilyRow F) → Found → Type 0
+SuitsFound rows (found.Typed number datum) = SuitsRow (rows number) (value_of datum)
+SuitsFound rows (found.Kept nla) = Unit {0}
+
+-- a value is made of what was read: the label of its row, or the attribute kept as it came
+abbrev pub IsMadeOf : {F : Type 0} → (DefaultNla → F) → (ℕ → FamilyRow F) → Found → F → Type 0
+IsMadeOf other rows (found.Typed number datum) x = IsLabelled (rows number) (value_of datum) x
+IsMadeOf other rows (found.Kept nla) x = x ≡ other nla
+
+-- making a value of what was read may need memory
+abbrev pub found_needs_memory : {F : Type 0} → (ℕ → FamilyRow F) → Found → Bool
+found_needs_memory rows (found.Typed number datum) = row_owns_memory (rows number)
+found_needs_memory rows (found.Kept nla) = false
 
 -- what a value shows of its canonical attribute: type, shape and datum, or that it is kept as it came
 abbrev pub Shows : Part → Attribute → Bool → Type 0

@@ -1,8 +1,6 @@
 -- Rows of a family that holds lists of itself, by how many lists more may stand inside: a list is a row like any other, and without a level
 -- left it is refused.
-use Rattle.std.specs.Prelude.{◌≡◌, ◌≢◌, ℕ, zero, suc, ◌<◌, ◌==◌, Bool, true, false, List, refl}
-use Rattle.std.proofs.Common.{sym, subst}
-use Rattle.std.proofs.lemmas.Bool.{eqb-true}
+use Rattle.std.specs.Prelude.{◌≡◌, ◌≢◌, ℕ, zero, suc, ◌<◌, ◌==◌, List}
 use Rattle.nla_frame.specs.Attribute.{Attribute, list_string}
 use Rattle.nla_frame.specs.declared.error.Cause.TheVariants as cause
 use Rattle.nla_frame.specs.declared.error.Family.{Family}
@@ -12,7 +10,7 @@ use Rattle.linkinfo_table.specs.Codecs.{Codec, IsCodec}
 use Rattle.linkinfo_table.specs.Rows.{Entry, Row, Is, meaning_in, alike_in, headers_inside, memory_in, WellFormed, IsRow}
 use Rattle.linkinfo_table.specs.RowLaws.{rows_alike_is, rows_read_well, rows_well_reads, rows_well_attribute, rows_quarter}
 use Rattle.linkinfo_table.specs.FamilyRows.{FamilyRow, Custom, Refuses, row_of, row_if, RowOwes}
-use Rattle.linkinfo_table.specs.FamilyRowLaws.{owed}
+use Rattle.linkinfo_table.specs.FamilyRowLaws.{owed, row_if_owes}
 use Rattle.linkinfo_table.specs.FlatLaws.{flat_no_memory}
 use Rattle.linkinfo_table.specs.SelfList.{list_codec, list_is_codec}
 use Rattle.std.specs.Prelude.{map}
@@ -43,16 +41,11 @@ module _ {X : Type 0} (f : Family) (other : DefaultNla → X) (attribute : X →
         (λ x w fits. rows_well_reads f other attribute at is_row keeps_other x w fits)
         (λ x w fits. rows_well_attribute f other attribute at is_row keeps_other x w fits)
 
-    -- what is owed at a number where a list row stands, and where another does
-    chosen : (b : Bool) (n : ℕ) (list : FamilyRow X) → n == number ≡ b → RowOwes attribute number (row_of list) → RowOwes attribute n (row_of (row_if b list (flat n)))
-    chosen true n list e owes = subst (λ (m : ℕ). RowOwes attribute m (row_of list)) (sym (eqb-true n number e)) owes
-    chosen false n list e owes = flat_owes n
-
     no_memory : cause.Depth ≢ cause.Memory
     no_memory e = absurd cc
 
     pub level_owes : (levels n : ℕ) → RowOwes attribute n (row_of (level_rows levels n))
-    level_owes zero n = chosen (n == number) n (Refuses cause.Depth) refl no_memory
+    level_owes zero n = row_if_owes attribute number n (Refuses cause.Depth) (flat n) no_memory (flat_owes n)
     level_owes (suc levels) n =
-        chosen (n == number) n (Custom shape.SelfList (inner_codec (λ k. row_of (level_rows levels k))) label) refl
-        (record { low = low; codec = inner_is_codec (level_rows levels) (level_owes levels); keeps = keeps; same = λ xs ys h g e. same xs ys e })
+        row_if_owes attribute number n (Custom shape.SelfList (inner_codec (λ k. row_of (level_rows levels k))) label) (flat n)
+        (record { low = low; codec = inner_is_codec (level_rows levels) (level_owes levels); keeps = keeps; same = λ xs ys h g e. same xs ys e }) (flat_owes n)

@@ -6,6 +6,8 @@ pub mod FlatLaws
 pub mod Levels
 pub mod ListLaws
 pub mod Lists
+pub mod Members
+pub mod PeerLaws
 pub mod Peers
 pub mod RowLaws
 pub mod Rows

@@ -23,7 +23,7 @@ bad e = Err e
 heads : {A : Type 0} (x y : A) (xs ys : List A) → (x ∷ xs) ≡ (y ∷ ys) → (x ≡ y) × (xs ≡ ys)
 heads x y xs ys e = (cc, cc)
 
-header_is_no_memory : header_fault ≢ memory_fault
+pub header_is_no_memory : header_fault ≢ memory_fault
 header_is_no_memory e = let causes : cause.Header ≡ cause.Memory = ap (λ (d : DecodeError). d.cause) e in absurd cc
 
 module _ {T X : Type 0} (m : T → Attribute → Result X DecodeError) (after : T → Attribute → T) where

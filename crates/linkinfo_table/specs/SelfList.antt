@@ -31,15 +31,15 @@ list_codec {X = X} m h f needs attribute well = record {
   needs_memory = λ p. memory_of m needs (pieces p);
 }
 
-read_inside : {X : Type 0} (r : Result X DecodeError) (x : X) → inside r ≡ Ok x → r ≡ Ok x
+pub read_inside : {X : Type 0} (r : Result X DecodeError) (x : X) → inside r ≡ Ok x → r ≡ Ok x
 read_inside (Ok y) x h = cc
 read_inside (Err e) x h = absurd cc
 
-not_own : {X : Type 0} (r : Result X DecodeError) → inside r ≢ Err (Own cause.Memory)
+pub not_own : {X : Type 0} (r : Result X DecodeError) → inside r ≢ Err (Own cause.Memory)
 not_own (Ok x) h = absurd cc
 not_own (Err e) h = absurd cc
 
-not_inner : {X : Type 0} (r : Result X DecodeError) → r ≢ Err memory_fault → inside r ≢ Err (Inside memory_fault)
+pub not_inner : {X : Type 0} (r : Result X DecodeError) → r ≢ Err memory_fault → inside r ≢ Err (Inside memory_fault)
 not_inner (Ok x) never h = absurd cc
 not_inner (Err e) never h = never cc
 

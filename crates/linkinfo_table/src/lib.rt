@@ -4,6 +4,7 @@
 mod family;
 mod first;
 mod flat;
+mod found;
 pub mod laws;
 mod list;
 mod lookup;
@@ -13,9 +14,11 @@ mod row_family;
 mod rows;
 #[cfg(test)]
 mod tests;
+mod unnested;
 
 pub use family::LinkFamily;
 pub use first::{first_check, first_read, first_same};
+pub use found::Found;
 pub use linkinfo_shapes::{
     Datum, Shape, datum_len, read_datum, shape_check, shape_same, table_shape, write_datum,
 };
@@ -28,3 +31,4 @@ pub use rows::{
     row_check, row_emit_value, row_fit_len, row_kind, row_read, row_same, row_value_len,
     table_lookup,
 };
+pub use unnested::UnnestedFamily;

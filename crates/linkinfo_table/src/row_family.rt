@@ -4,12 +4,11 @@ ghost use Rattle.std.specs.Prelude.{◌≡◌, ℕ, Bool, false, IfOk, IsOk};
 ghost use Rattle.nla_frame.specs.Attribute.{Attribute};
 ghost use Rattle.nla_frame.specs.declared.error.Family.{Family};
 ghost use Rattle.nla_frame.specs.declared.default_nla.DefaultNla.{DefaultNla};
-ghost use Rattle.linkinfo_shapes.specs.Data.{value_of};
-ghost use Rattle.linkinfo_table.specs.FamilyRows.{FamilyRow, IsFlat, IsLabelled, RowOwes, Shows, SuitsRow, lookup_of, row_of, row_owns_memory};
+ghost use Rattle.linkinfo_table.specs.FamilyRows.{FamilyRow, IsFlat, IsMadeOf, RowOwes, Shows, SuitsFound, found_needs_memory, lookup_of, row_of};
 
+use crate::found::Found;
 use crate::lookup::Lookup;
 use crate::part::Part;
-use linkinfo_shapes::Datum;
 use nla_frame::{DefaultNla, Family, Nla};
 use std::alloc::{AllocError, Global};
 
@@ -40,21 +39,12 @@ pub trait RowFamily: Sized + Drop {
     fn shape(ctx: Self::Context, kind: u16) -> Lookup
         ensures { result ≡ lookup_of (rows ctx kind) };
 
-    /// The variant of a row that holds a datum. Asks that the datum belongs to the row's shape; only a text or bytes, which are copied,
-    /// may want memory.
-    fn from_datum(
-        alloc: Global,
-        ctx: Self::Context,
-        kind: u16,
-        datum: Datum<'_>,
-    ) -> Result<Self, AllocError>
-        requires { SuitsRow (rows ctx kind) (value_of datum) }
-        ensures value { IfOk result (IsLabelled (rows ctx kind) (value_of datum.entry)) }
-        ensures certain { row_owns_memory (rows ctx kind) ≡ false → IsOk result };
-
-    /// The variant of an attribute that is kept as it came.
-    fn from_other(nla: DefaultNla) -> Self
-        ensures { result ≡ other nla };
+    /// The value of what was read of an attribute. Asks that a datum belongs to the shape of its type's row; only a text or bytes, which are
+    /// copied, may want memory.
+    fn from_found(alloc: Global, ctx: Self::Context, found: Found<'_>) -> Result<Self, AllocError>
+        requires { SuitsFound (rows ctx) found }
+        ensures value { IfOk result (IsMadeOf other (rows ctx) found.entry) }
+        ensures certain { found_needs_memory (rows ctx) found.entry ≡ false → IsOk result };
 
     /// The type number, shape and datum of a value, or the attribute that it keeps.
     fn to_part(&self) -> Part<'_>

@@ -9,6 +9,7 @@ ghost use Rattle.linkinfo_shapes.specs.Table.{shape_of};
 ghost use Rattle.linkinfo_table.specs.FamilyRows.{IsFlat, lookup_in, row_of};
 ghost use Rattle.linkinfo_table.specs.Rows.{alike_in, meaning_in, memory_in};
 
+use crate::found::Found;
 use crate::lookup::Lookup;
 use crate::part::Part;
 use crate::row_family::RowFamily;
@@ -51,11 +52,14 @@ pub fn row_read<F: RowFamily>(
     let kind = nla.kind();
     match F::shape(ctx, kind) {
         Lookup::Is(shape) => match read_datum(shape, nla.value()) {
-            Ok(datum) => Ok(F::from_datum(alloc, ctx, kind, datum)?),
+            Ok(datum) => Ok(F::from_found(alloc, ctx, Found::Typed(kind, datum))?),
             Err(cause) => Err(fault(F::FAMILY, kind, cause)),
         },
         Lookup::Refused(cause) => Err(fault(F::FAMILY, kind, cause)),
-        Lookup::Unknown => Ok(F::from_other(DefaultNla::parse(alloc, nla)?)),
+        Lookup::Unknown => {
+            let kept = DefaultNla::parse(alloc, nla)?;
+            Ok(F::from_found(alloc, ctx, Found::Kept(kept))?)
+        }
     }
 }
 

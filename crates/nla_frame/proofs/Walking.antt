@@ -18,19 +18,19 @@ progress s t x h = record { on = λ _. (tt, tt, omega (arith, ap length h.gives)
 -- after a fault nothing is left
 pub on_failed : (s : List ℕ) (at n : ℕ) (failed : Bool) → failed ≡ true → Moves (walk s at n failed) None (walk s at n failed)
 on_failed s at n failed e =
-    let none : items_left (walk s at n failed) ≡ [] = ap (λ (f : Bool). items_left (walk s at n f)) e ∙ ap items_of pieces_nil in
-    record { gives = (none, none); source = refl; counted = refl; steps = refl }
+    let none : pieces (unread (walk s at n failed)) ≡ [] = ap (λ (f : Bool). pieces (unread (walk s at n f))) e ∙ pieces_nil in
+    record { gives = (ap items_of none, ap items_of none); source = refl; counted = refl; steps = (refl, none) }
 
 -- at the end
 pub on_end : (s : List ℕ) (at n m : ℕ) (failed : Bool) → failed ≡ false → Ended (drop at s) n m → Moves (walk s at n failed) None (walk s at m failed)
 on_end s at n m failed e h =
-    let none : (k : ℕ) → items_left (walk s at k failed) ≡ [] =
-    λ k. ap (λ (f : Bool). items_left (walk s at k f)) e ∙ ap items_of h.pieces_are in
+    let none : (k : ℕ) → pieces (unread (walk s at k failed)) ≡ [] =
+    λ k. ap (λ (f : Bool). pieces (unread (walk s at k f))) e ∙ h.pieces_are in
     record {
-      gives = (none n, none m);
+      gives = (ap items_of (none n), ap items_of (none m));
       source = refl;
       counted = ap (λ (k : ℕ). k + headers_left (walk s at n failed)) h.counted;
-      steps = ap (λ (k : ℕ). walk s at k failed) h.counted;
+      steps = (ap (λ (k : ℕ). walk s at k failed) h.counted, none n);
     }
 
 -- where the next header is looked for
@@ -62,6 +62,7 @@ on_attribute s u at n m failed a rest from within e step =
       counted = omega (arith, ap headers_in parts, h.counted);
       steps = record {
         attribute = h.attribute;
+        pieces_are = parts;
         value_is = h.value_is ∙ value_there s at (length a.value);
         place = next_place s rest at (aligned (4 + length a.value)) within h.rest_is;
         examined = h.counted;
@@ -80,7 +81,7 @@ on_fault s u at n m failed e from f step =
       gives = ap items_of parts ∙ ap (λ (x : DecodeError). Err x ∷ []) (sym h.fault) ∙ ap (λ (x : List (Result Attribute DecodeError)). Err e ∷ x) (sym none);
       source = refl;
       counted = omega (arith, ap headers_in parts, ap headers_in pieces_nil, h.counted);
-      steps = record { failed = refl; place = refl; examined = h.counted ∙ ap (λ (x : List ℕ). n + seen x) (sym unread_is) };
+      steps = record { failed = refl; pieces_are = parts ∙ ap (λ (x : List ℕ). Err (seen x) ∷ []) (sym unread_is); place = refl; examined = h.counted ∙ ap (λ (x : List ℕ). n + seen x) (sym unread_is) };
     }
 
 -- a quarter as many items as bytes, and one more

@@ -1,5 +1,5 @@
 -- An iterator over the attributes of a string.
-use Rattle.std.specs.Prelude.{◌≡◌, ◌≤◌, ℕ, ◌+◌, min, Bool, true, if◌then◌else◌, List, [], length, drop, slice_range, Option, Some, None, Result, Ok, Err}
+use Rattle.std.specs.Prelude.{◌≡◌, ◌≤◌, ℕ, ◌+◌, min, Bool, true, if◌then◌else◌, List, [], ◌∷◌, length, drop, slice_range, Option, Some, None, Result, Ok, Err}
 use Rattle.std.specs.Iterator.{YieldsFirst}
 use Rattle.nla_frame.specs.Attribute.{Attribute, IsAttribute, aligned}
 use Rattle.nla_frame.specs.Pieces.{pieces, items_of, headers_in, seen}
@@ -27,6 +27,7 @@ headers_left w = headers_in (pieces (unread w))
 -- The next header is looked for after its padding, or at the end.
 pub record Passes (s : Walk) (a : Attribute) (t : Walk) : Type 0 where
   pub attribute : IsAttribute a
+  pub pieces_are : pieces (unread s) ≡ Ok a ∷ pieces (unread t)
   pub value_is : a.value ≡ slice_range s.source (s.place + 4) (s.place + (4 + length a.value))
   pub place : t.place ≡ min (length s.source) (s.place + aligned (4 + length a.value))
   pub examined : t.examined ≡ s.examined + 1
@@ -35,11 +36,12 @@ pub record Passes (s : Walk) (a : Attribute) (t : Walk) : Type 0 where
 -- at a fault the place stays that of the header at fault
 pub record Fails (s t : Walk) : Type 0 where
   pub failed : t.failed ≡ true
+  pub pieces_are : pieces (unread s) ≡ Err (seen (unread s)) ∷ []
   pub place : t.place ≡ s.place
   pub examined : t.examined ≡ s.examined + seen (unread s)
 
 abbrev pub StepsBy : Walk → Option (Result Attribute DecodeError) → Walk → Type 0
-StepsBy s None t = t ≡ s
+StepsBy s None t = (t ≡ s) × (pieces (unread s) ≡ [])
 StepsBy s (Some (Ok a)) t = Passes s a t
 StepsBy s (Some (Err e)) t = Fails s t
 

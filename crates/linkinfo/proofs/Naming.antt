@@ -1,0 +1,81 @@
+-- The rows of names, from what their name is.
+use Rattle.std.proofs.Common.{◌≡◌, ℕ, Bool, true, false, List, refl, sym, ap, subst, ◌∙◌, Result, Ok, Err, inl, inr}
+use Rattle.std.specs.Prelude.{IsOk}
+use Rattle.std.specs.Str.{is_utf8}
+use Rattle.nla_frame.specs.Answers.{verdict}
+use Rattle.std.proofs.lemmas.Bool.{cases_Bool, cond-false}
+use Rattle.nla_frame.specs.Attribute.{Attribute, masked}
+use Rattle.nla_frame.specs.declared.error.Cause.{Cause}
+use Rattle.nla_frame.specs.declared.error.Cause.TheVariants as cause
+use Rattle.nla_frame.specs.declared.error.Family.TheVariants as family
+use Rattle.nla_frame.specs.declared.error.DecodeError.{DecodeError}
+use Rattle.linkinfo_shapes.specs.Shapes.{IsAccepted, means, needs_memory, stripped}
+use Rattle.linkinfo_shapes.specs.declared.shape.Shape.TheVariants.{Name}
+use Rattle.linkinfo_table.specs.FamilyRows.{own}
+use Rattle.linkinfo_table.specs.Rows.{labelled}
+use Rattle.linkinfo.specs.declared.role.InForce.{InForce}
+use Rattle.linkinfo.specs.Roles.{name_meaning, name_or_fault, with_name}
+
+module _ {X : Type 0} (label : List ℕ → X) where
+  abbrev named : Attribute → Result X DecodeError
+  named a = labelled family.LinkInfo (masked a.kind) label (own (means Name a.value))
+
+  pub named_ok : (a : Attribute) (name : List ℕ) (x : X) → name_meaning a ≡ Ok name → label name ≡ x → named a ≡ Ok x
+  unfolding name_meaning
+  named_ok a name x e is = go (means Name a.value) e
+    where
+      same : (n : List ℕ) → name_or_fault a (Ok n) ≡ Ok name → n ≡ name
+      same n h = cc
+
+      go : (r : Result (List ℕ) Cause) → name_or_fault a r ≡ Ok name → labelled family.LinkInfo (masked a.kind) label (own r) ≡ Ok x
+      go (Ok n) h = let z : label n ≡ x = ap label (same n h) ∙ is in ap (λ (y : X). let s : Result X DecodeError = Ok y in s) z
+      go (Err c) h = absurd cc
+
+  pub named_err : (a : Attribute) (d : DecodeError) → name_meaning a ≡ Err d → named a ≡ Err d
+  unfolding name_meaning
+  named_err a d e = go (means Name a.value) e
+    where
+      go : (r : Result (List ℕ) Cause) → name_or_fault a r ≡ Err d → labelled family.LinkInfo (masked a.kind) label (own r) ≡ Err d
+      go (Ok n) h = absurd cc
+      go (Err c) h = cc
+
+  -- a name that is UTF-8 has a meaning
+  pub name_checked : (a : Attribute) → IsOk (name_meaning a) → Ok tt ≡ verdict (named a)
+  name_checked a ok = go (name_meaning a) refl ok
+    where
+      go : (r : Result (List ℕ) DecodeError) → name_meaning a ≡ r → IsOk r → Ok tt ≡ verdict (named a)
+      go (Ok name) e h = sym (ap verdict (named_ok a name (label name) e refl))
+      go (Err d) e h = absurd cc
+
+  -- and a name with a meaning is accepted by its shape
+  pub accepted_name : (a : Attribute) (p : List ℕ) → p ≡ a.value → IsOk (named a) → IsAccepted Name p
+  unfolding IsAccepted
+  accepted_name a p e ok = subst (λ (q : List ℕ). IsOk (means Name q)) (sym e) (go (means Name a.value) ok)
+    where
+      go : (r : Result (List ℕ) Cause) → IsOk (labelled family.LinkInfo (masked a.kind) label (own r)) → IsOk r
+      go (Ok n) h = refl
+      go (Err c) h = absurd cc
+
+pub with_name_ok : (r : Result (List ℕ) DecodeError) (f : List ℕ → InForce) → IsOk (with_name r f) → IsOk r
+with_name_ok (Ok n) f h = refl
+with_name_ok (Err e) f h = absurd cc
+
+abbrev no_text : Result (List ℕ) Cause
+no_text = Err cause.Utf8
+
+-- a name that was read needs memory
+pub name_needs : (a : Attribute) (name : List ℕ) → name_meaning a ≡ Ok name → needs_memory Name a.value ≡ true
+unfolding name_meaning
+name_needs a name e =
+    elim (cases_Bool (is_utf8 (stripped a.value))) [
+      | inl text ↦ text
+      | inr other ↦ absurd (never (means Name a.value) (cond-false (is_utf8 (stripped a.value)) _ _ other) e)
+    ]
+  where
+    never : (r : Result (List ℕ) Cause) → r ≡ no_text → name_or_fault a r ≡ Ok name → ⊥
+    never (Ok n) h k = absurd cc
+    never (Err c) h k = absurd cc
+
+pub not_both : (b : Bool) → b ≡ true → b ≡ false → ⊥
+not_both true h k = absurd cc
+not_both false h k = absurd cc

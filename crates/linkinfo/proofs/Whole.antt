@@ -1,0 +1,222 @@
+-- The laws of whole strings: what is read is well formed, a canonical string reads back exactly where its list is well formed, strings read one
+-- behind another, and alike strings mean the same.
+use Rattle.std.proofs.Common.{◌≡◌, ℕ, zero, suc, ◌*◌, ◌≤◌, ◌%◌, Bool, true, List, [], ◌∷◌, ◌++◌, length, map, refl, sym, ap, subst, ◌∙◌, Result, Ok, Err, Option, Some, None}
+use Rattle.std.specs.Prelude.{◌↔◌, IfOk, IsOk, IsTrue}
+use Rattle.std.specs.List.{AllByRecursion}
+use Rattle.nla_frame.specs.Attribute.{Attribute, IsBytes, Fits, list_string, masked}
+use Rattle.nla_frame.specs.Pieces.{pieces}
+use Rattle.nla_frame.specs.declared.error.Family.TheVariants as family
+use Rattle.nla_frame.specs.declared.error.DecodeError.{DecodeError}
+use Rattle.nla_frame.proofs.ByteLists.{IsBytes-nil, IsBytes-cons}
+use Rattle.linkinfo_numbers.specs.declared.names.KindTag.{KindTag}
+use Rattle.linkinfo_numbers.specs.declared.names.PortTag.{PortTag}
+use Rattle.linkinfo_numbers.specs.Kind.{tag_of_name}
+use Rattle.linkinfo_numbers.specs.PortKind.{port_tag_of_name}
+use Rattle.linkinfo_table.specs.declared.peer.LinkPeer.{Ghosts}
+use Rattle.linkinfo_table.specs.PeerLaws.{IsPeer}
+use Rattle.linkinfo_table.specs.ListLaws.{quarter, lists_alike, read_is_well, well_is_read, canonical_law, append_law}
+use Rattle.linkinfo_table.specs.Rows.{meaning_in, row_meaning}
+use Rattle.linkinfo.specs.declared.link_info.LinkInfoOf.{LinkInfoOf}
+use Rattle.linkinfo.specs.declared.role.InForce.{InForce}
+use Rattle.linkinfo.specs.declared.role.Role.{Role}
+use Rattle.linkinfo.specs.declared.role.Role.TheVariants as role
+use Rattle.linkinfo.specs.Comparing.{same_answer}
+use Rattle.linkinfo.specs.Items.{link_attribute, link_headers, link_meaning, link_alike, link_well, link_row, link_other}
+use Rattle.linkinfo.specs.Roles.{behind_role, name_meaning, none_in_force, role_of, role_under, with_name}
+use Rattle.linkinfo.specs.Strings.{or_stay, force_after, force_behind, headers_from, reading, alike_strings, WellFormed}
+use Rattle.linkinfo.proofs.Items.{link_alike_is, link_read_well, link_well_reads, link_well_attribute, link_quarter, link_next, link_alike_after, unknown_from_six}
+
+IsBytes-left : (x y : List ℕ) → IsBytes (x ++ y) → IsBytes x
+IsBytes-left [] y h = IsBytes-nil
+IsBytes-left (b ∷ x) y h = IsBytes-cons b x (h 0) (IsBytes-left x y (λ i. h (suc i)))
+
+IsBytes-right : (x y : List ℕ) → IsBytes (x ++ y) → IsBytes y
+IsBytes-right [] y h = h
+IsBytes-right (b ∷ x) y h = IsBytes-right x y (λ i. h (suc i))
+
+module _ {P : Type 0} (peer : Ghosts P) (law : IsPeer peer) where
+  abbrev attribute : LinkInfoOf P → Attribute
+  attribute = link_attribute peer
+
+  -- at most a quarter of the bytes are headers
+  pub quarter_from : (t : InForce) (s : List ℕ) → 4 * headers_from peer t (pieces s) ≤ length s
+  quarter_from t s = quarter (link_meaning peer) force_after (link_headers peer) (link_quarter peer law) s t
+
+  pub reading_is_well : (s : List ℕ) (xs : List (LinkInfoOf P)) → IsBytes s → reading peer s ≡ Ok xs → WellFormed peer xs
+  unfolding reading
+  reading_is_well s xs bytes e =
+      read_is_well (link_meaning peer) force_after attribute (link_well peer) force_behind (link_read_well peer law) (λ t a x _. link_next peer t a x) (link_well_reads peer law)
+      (link_well_attribute peer law) none_in_force s xs bytes e
+
+  pub canonical_reading : (s : List ℕ) (xs : List (LinkInfoOf P)) → IsBytes s → AllByRecursion Fits (map attribute xs) → s ≡ list_string (map attribute xs) →
+      (reading peer s ≡ Ok xs) ↔ WellFormed peer xs
+  unfolding reading
+  canonical_reading s xs bytes fits e =
+      canonical_law (link_meaning peer) force_after attribute (link_well peer) force_behind (link_read_well peer law) (λ t a x _. link_next peer t a x) (link_well_reads peer law)
+      (link_well_attribute peer law) none_in_force s xs bytes fits e
+
+  -- what is read, emitted and read again is the same
+  pub well_reading : (xs : List (LinkInfoOf P)) → WellFormed peer xs → AllByRecursion Fits (map attribute xs) → reading peer (list_string (map attribute xs)) ≡ Ok xs
+  unfolding reading
+  well_reading xs w fits =
+      well_is_read (link_meaning peer) force_after attribute (link_well peer) force_behind (link_read_well peer law) (λ t a x _. link_next peer t a x) (link_well_reads peer law)
+      (link_well_attribute peer law) none_in_force xs w fits
+
+  -- ---- alike strings
+
+  pub strings_alike : (p q : List ℕ) (xs ys : List (LinkInfoOf P)) → IsBytes p → IsBytes q → reading peer p ≡ Ok xs → reading peer q ≡ Ok ys →
+      (alike_strings peer p q ≡ true) ↔ (xs ≡ ys)
+  unfolding reading alike_strings
+  strings_alike p q xs ys bp bq h k =
+      lists_alike (link_meaning peer) force_after (link_alike peer) (link_alike_is peer law) (link_alike_after peer) none_in_force p q xs ys bp bq h k
+
+  abbrev ok_of : {A : Type 0} → A → Result A DecodeError
+  ok_of x = Ok x
+
+  ok_same : {A : Type 0} (x y : A) → ok_of x ≡ ok_of y → x ≡ y
+  ok_same x y e = cc
+
+  -- an answer that is whether two accepted strings are alike is whether they mean the same
+  pub same_reading : (p q : List ℕ) (r : Bool) → IsBytes p → IsBytes q → IsOk (reading peer p) → IsOk (reading peer q) → r ≡ alike_strings peer p q →
+      IsTrue r ↔ (reading peer p ≡ reading peer q)
+  same_reading p q r bp bq u v e = go (reading peer p) (reading peer q) refl refl u v
+    where
+      go : (s t : Result (List (LinkInfoOf P)) DecodeError) → reading peer p ≡ s → reading peer q ≡ t → IsOk s → IsOk t → IsTrue r ↔ (s ≡ t)
+      go (Ok xs) (Ok ys) h k i j =
+          let both = strings_alike p q xs ys bp bq h k in
+          (λ d. ap (λ (zs : List (LinkInfoOf P)). ok_of zs) (both.0 (sym e ∙ d)), λ d. e ∙ both.1 (ok_same xs ys d))
+      go (Ok xs) (Err d) h k i j = absurd cc
+      go (Err d) t h k i j = absurd cc
+
+  -- where both lists fit, alike strings are those of one canonical string
+  pub same_canonical : (p q : List ℕ) (xs ys : List (LinkInfoOf P)) → IsBytes p → IsBytes q → reading peer p ≡ Ok xs → reading peer q ≡ Ok ys →
+      AllByRecursion Fits (map attribute xs) → AllByRecursion Fits (map attribute ys) →
+      (alike_strings peer p q ≡ true) ↔ (list_string (map attribute xs) ≡ list_string (map attribute ys))
+  same_canonical p q xs ys bp bq h k f g =
+      let both = strings_alike p q xs ys bp bq h k in
+      let rx = well_reading xs (reading_is_well p xs bp h) f in
+      let ry = well_reading ys (reading_is_well q ys bq k) g in (
+        λ d. ap (λ (zs : List (LinkInfoOf P)). list_string (map attribute zs)) (both.0 d),
+        λ d. both.1 (ok_same xs ys (sym rx ∙ ap (reading peer) d ∙ ry)),
+      )
+
+  -- ---- what a comparison answers
+
+  pub same_equal : (p q : List ℕ) (r : Result Bool DecodeError) → IsBytes p → IsBytes q → r ≡ same_answer (reading peer p) (reading peer q) (alike_strings peer p q) →
+      IfOk r (λ same. IsTrue same ↔ (reading peer p ≡ reading peer q))
+  same_equal p q r bp bq e = subst (λ (z : Result Bool DecodeError). IfOk z (λ same. IsTrue same ↔ (reading peer p ≡ reading peer q))) (sym e)
+      (go (reading peer p) (reading peer q) refl refl)
+    where
+      go : (s t : Result (List (LinkInfoOf P)) DecodeError) → reading peer p ≡ s → reading peer q ≡ t →
+          IfOk (same_answer s t (alike_strings peer p q)) (λ same. IsTrue same ↔ (reading peer p ≡ reading peer q))
+      go (Ok xs) (Ok ys) h k =
+          same_reading p q (alike_strings peer p q) bp bq (subst (λ (z : Result (List (LinkInfoOf P)) DecodeError). IsOk z) (sym h) refl)
+          (subst (λ (z : Result (List (LinkInfoOf P)) DecodeError). IsOk z) (sym k) refl) refl
+      go (Ok xs) (Err d) h k = tt
+      go (Err d) t h k = tt
+
+  pub same_answered : (p q : List ℕ) (r : Result Bool DecodeError) (xs ys : List (LinkInfoOf P)) → IsBytes p → IsBytes q →
+      r ≡ same_answer (reading peer p) (reading peer q) (alike_strings peer p q) → reading peer p ≡ Ok xs → reading peer q ≡ Ok ys →
+      AllByRecursion Fits (map attribute xs) → AllByRecursion Fits (map attribute ys) →
+      IfOk r (λ same. IsTrue same ↔ (list_string (map attribute xs) ≡ list_string (map attribute ys)))
+  same_answered p q r xs ys bp bq e h k f g =
+      subst (λ (z : Result Bool DecodeError). IfOk z (λ same. IsTrue same ↔ (list_string (map attribute xs) ≡ list_string (map attribute ys))))
+      (sym (e ∙ ap (λ (s : Result (List (LinkInfoOf P)) DecodeError). same_answer s (reading peer q) (alike_strings peer p q)) h
+      ∙ ap (λ (t : Result (List (LinkInfoOf P)) DecodeError). same_answer (ok_of xs) t (alike_strings peer p q)) k))
+      (same_canonical p q xs ys bp bq h k f g)
+
+  -- ---- one string behind another
+
+  abbrev meant : Role → Attribute → Result (LinkInfoOf P) DecodeError
+  meant r a = row_meaning family.LinkInfo link_other (link_row peer r) a
+
+  -- at least the kinds in force
+  abbrev kept_in : {A : Type 0} → Option A → Option A → Type 0
+  kept_in None o = Unit {0}
+  kept_in (Some x) o = o ≡ Some x
+
+  record Less (t u : InForce) : Type 0 where
+    kind : kept_in t.kind u.kind
+    port : kept_in t.port u.port
+
+  data_more : (o q : Option KindTag) (a : Attribute) (x : LinkInfoOf P) → kept_in o q → meant (role_under o (λ tag. role.Data tag)) a ≡ Ok x →
+      meant (role_under q (λ tag. role.Data tag)) a ≡ Ok x
+  data_more None q a x h e = absurd cc
+  data_more (Some g) q a x h e = ap (λ (r : Option KindTag). meant (role_under r (λ tag. role.Data tag)) a) h ∙ e
+
+  xstats_more : (o q : Option KindTag) (a : Attribute) (x : LinkInfoOf P) → kept_in o q → meant (role_under o (λ _. role.Xstats)) a ≡ Ok x →
+      meant (role_under q (λ _. role.Xstats)) a ≡ Ok x
+  xstats_more None q a x h e = absurd cc
+  xstats_more (Some g) q a x h e = ap (λ (r : Option KindTag). meant (role_under r (λ _. role.Xstats)) a) h ∙ e
+
+  port_more : (o q : Option PortTag) (a : Attribute) (x : LinkInfoOf P) → kept_in o q → meant (role_under o (λ tag. role.PortData tag)) a ≡ Ok x →
+      meant (role_under q (λ tag. role.PortData tag)) a ≡ Ok x
+  port_more None q a x h e = absurd cc
+  port_more (Some g) q a x h e = ap (λ (r : Option PortTag). meant (role_under r (λ tag. role.PortData tag)) a) h ∙ e
+
+  reads_more : (n : ℕ) (t u : InForce) (a : Attribute) (x : LinkInfoOf P) → Less t u → meant (role_of t n) a ≡ Ok x → meant (role_of u n) a ≡ Ok x
+  unfolding role_of
+  reads_more zero t u a x less e = e
+  reads_more (suc zero) t u a x less e = e
+  reads_more (suc (suc zero)) t u a x less e = data_more t.kind u.kind a x less.kind e
+  reads_more (suc (suc (suc zero))) t u a x less e = xstats_more t.kind u.kind a x less.kind e
+  reads_more (suc (suc (suc (suc zero)))) t u a x less e = e
+  reads_more (suc (suc (suc (suc (suc zero))))) t u a x less e = port_more t.port u.port a x less.port e
+  reads_more (suc (suc (suc (suc (suc (suc n)))))) t u a x less e =
+      ap (λ (r : Role). meant r a) (unknown_from_six u n) ∙ sym (ap (λ (r : Role). meant r a) (unknown_from_six t n)) ∙ e
+
+  less_reads : (t u : InForce) (a : Attribute) (x : LinkInfoOf P) → Less t u → link_meaning peer t a ≡ Ok x → link_meaning peer u a ≡ Ok x
+  unfolding meaning_in
+  less_reads t u a x less e = reads_more (masked a.kind) t u a x less e
+
+  -- the kinds in force behind an attribute, by its type
+  less_name : (m : Result (List ℕ) DecodeError) (t u : InForce) (f : InForce → List ℕ → InForce) → ((name : List ℕ) → Less (f t name) (f u name)) → Less t u →
+      Less (or_stay t (with_name m (f t))) (or_stay u (with_name m (f u)))
+  less_name (Ok name) t u f h less = h name
+  less_name (Err e) t u f h less = less
+
+  less_port : (o q : Option PortTag) (t u : InForce) (a : Attribute) → t.port ≡ o → u.port ≡ q → Less t u →
+      Less (or_stay t (behind_role (role_under o (λ tag. role.PortData tag)) t a)) (or_stay u (behind_role (role_under q (λ tag. role.PortData tag)) u a))
+  less_port None None t u a e f less = less
+  less_port None (Some g) t u a e f less = record { kind = less.kind; port = subst (λ (o : Option PortTag). kept_in o None) (sym e) tt }
+  less_port (Some g) None t u a e f less = absurd (none_some (sym f ∙ subst (λ (o : Option PortTag). kept_in o u.port) e less.port))
+    where
+      none_some : None ≡ Some g → ⊥
+      none_some h = cc
+  less_port (Some g) (Some k) t u a e f less = record { kind = less.kind; port = tt }
+
+  less_stay : (o q : Option KindTag) (at : KindTag → Role) (t u : InForce) (a : Attribute) →
+      ((tag : KindTag) (v : InForce) → or_stay v (behind_role (at tag) v a) ≡ v) → Less t u →
+      Less (or_stay t (behind_role (role_under o at) t a)) (or_stay u (behind_role (role_under q at) u a))
+  less_stay None None at t u a stay less = less
+  less_stay None (Some g) at t u a stay less = subst (λ (v : InForce). Less t v) (sym (stay g u)) less
+  less_stay (Some g) None at t u a stay less = subst (λ (v : InForce). Less v u) (sym (stay g t)) less
+  less_stay (Some g) (Some k) at t u a stay less =
+      subst (λ (v : InForce). Less v (or_stay u (behind_role (at k) u a))) (sym (stay g t)) (subst (λ (v : InForce). Less t v) (sym (stay k u)) less)
+
+  after_more : (n : ℕ) (t u : InForce) (a : Attribute) → Less t u → Less (or_stay t (behind_role (role_of t n) t a)) (or_stay u (behind_role (role_of u n) u a))
+  unfolding role_of
+  after_more zero t u a less = less
+  after_more (suc zero) t u a less =
+      less_name (name_meaning a) t u (λ v name. record { kind = Some (tag_of_name name); port = v.port }) (λ name. record { kind = refl; port = less.port }) less
+  after_more (suc (suc zero)) t u a less = less_stay t.kind u.kind (λ tag. role.Data tag) t u a (λ tag v. refl) less
+  after_more (suc (suc (suc zero))) t u a less = less_stay t.kind u.kind (λ _. role.Xstats) t u a (λ tag v. refl) less
+  after_more (suc (suc (suc (suc zero)))) t u a less =
+      less_name (name_meaning a) t u (λ v name. record { kind = v.kind; port = Some (port_tag_of_name name) }) (λ name. record { kind = less.kind; port = refl }) less
+  after_more (suc (suc (suc (suc (suc zero))))) t u a less = less_port t.port u.port t u a refl refl less
+  after_more (suc (suc (suc (suc (suc (suc n)))))) t u a less =
+      subst (λ (v : InForce). Less v (or_stay u (behind_role (role_of u (suc (suc (suc (suc (suc (suc n))))))) u a)))
+      (sym (ap (λ (r : Role). or_stay t (behind_role r t a)) (unknown_from_six t n)))
+      (subst (λ (v : InForce). Less t v) (sym (ap (λ (r : Role). or_stay u (behind_role r u a)) (unknown_from_six u n))) less)
+
+  less_after : (t u : InForce) (a : Attribute) → Less t u → Less (force_after t a) (force_after u a)
+  unfolding force_after
+  less_after t u a less = after_more (masked a.kind) t u a less
+
+  pub appended_reading : (s a b : List ℕ) (xs ys : List (LinkInfoOf P)) → IsBytes s → length a % 4 ≡ 0 → s ≡ a ++ b → reading peer a ≡ Ok xs → reading peer b ≡ Ok ys →
+      reading peer s ≡ Ok (xs ++ ys)
+  unfolding reading
+  appended_reading s a b xs ys bytes four e h k =
+      let both : IsBytes (a ++ b) = subst IsBytes e bytes in
+      append_law (link_meaning peer) force_after Less less_reads less_after none_in_force s a b xs ys (λ _. record { kind = tt; port = tt }) (IsBytes-left a b both)
+      (IsBytes-right a b both) four e h k

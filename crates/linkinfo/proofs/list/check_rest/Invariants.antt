@@ -1,0 +1,19 @@
+use Rattle.std.proofs.Common.{◌≡◌, ◌+◌, ◌*◌, ◌≤◌, length}
+use Rattle.nla_frame.specs.Answers.{verdict}
+use Rattle.nla_frame.specs.Pieces.{pieces}
+use Rattle.linkinfo.specs.Strings.{headers_from, values_from}
+use Rattle.linkinfo.specs.Walks.{left}
+use Rattle.linkinfo.proofs.list.check_rest.Given as goal
+
+abbrev pub invariant-loop-next : goal.invariant-loop-next
+invariant-loop-next g l =
+    let peer = g.P.LinkPeer in
+    let first = l.initial.walk in
+    record {
+      answer : verdict (values_from peer l.walk.force (pieces (left l.walk))) ≡ verdict (values_from peer first.force (pieces (left first)));
+      counted : (l.count + l.walk.attributes.examined) + headers_from peer l.walk.force (pieces (left l.walk)) ≡ (l.initial.count + first.attributes.examined) + headers_from peer first.force (pieces (left first));
+      room : 4 * (l.count + l.walk.attributes.examined) + length (left l.walk) ≤ 4 * (l.initial.count + first.attributes.examined) + length (left first);
+    }
+
+abbrev pub decreases-loop-next : goal.decreases-loop-next
+decreases-loop-next g l = length (left l.walk)

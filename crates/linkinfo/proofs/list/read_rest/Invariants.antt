@@ -1,0 +1,21 @@
+use Rattle.std.proofs.Common.{◌≡◌, ◌+◌, ◌*◌, ◌≤◌, false, length}
+use Rattle.nla_frame.specs.Pieces.{pieces}
+use Rattle.linkinfo_table.specs.Lists.{behind}
+use Rattle.linkinfo.specs.Strings.{headers_from, memory_from, values_from}
+use Rattle.linkinfo.specs.Walks.{left}
+use Rattle.linkinfo.proofs.list.read_rest.Given as goal
+
+abbrev pub invariant-loop-next : goal.invariant-loop-next
+invariant-loop-next g l =
+    let peer = g.P.LinkPeer in
+    let first = l.initial.walk in
+    record {
+      answer : behind l.items.items (values_from peer l.walk.force (pieces (left l.walk))) ≡ values_from peer first.force (pieces (left first));
+      certain : memory_from peer first.force (pieces (left first)) ≡ false → memory_from peer l.walk.force (pieces (left l.walk)) ≡ false;
+      counted : (l.count + l.walk.attributes.examined) + headers_from peer l.walk.force (pieces (left l.walk)) ≡ (l.initial.count + first.attributes.examined) + headers_from peer first.force (pieces (left first));
+      rises : l.initial.count + first.attributes.examined ≤ l.count + l.walk.attributes.examined;
+      room : 4 * (l.count + l.walk.attributes.examined) + length (left l.walk) ≤ 4 * (l.initial.count + first.attributes.examined) + length (left first);
+    }
+
+abbrev pub decreases-loop-next : goal.decreases-loop-next
+decreases-loop-next g l = length (left l.walk)

@@ -1,0 +1,11 @@
+pub mod BytesPeer
+pub mod Comparing
+pub mod Data
+pub mod Families
+pub mod Items
+pub mod Payloads
+pub mod PortData
+pub mod Roles
+pub mod Strings
+pub mod Walks
+pub mod Xstats

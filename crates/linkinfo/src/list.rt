@@ -1,0 +1,254 @@
+//! The list inside `IFLA_LINKINFO`: read, checked and compared.
+
+ghost use Rattle.std.specs.Prelude.{◌≡◌, ◌↔◌, ◌+◌, ◌*◌, ◌/◌, ◌<◌, ◌≤◌, ◌^◌, IsOk, IsTrue, length};
+ghost use Rattle.std.specs.Bool.{OnTrue};
+ghost use Rattle.nla_frame.specs.Answers.{CertainUnless, Gives, OnAnswer, verdict};
+ghost use Rattle.nla_frame.specs.Pieces.{pieces};
+ghost use Rattle.nla_frame.specs.Attribute.{Fits, list_string};
+ghost use Rattle.std.specs.Prelude.{ℕ, List, ◌++◌, ◌%◌, map, IfOk, Ok};
+ghost use Rattle.std.specs.List.{AllByRecursion};
+ghost use Rattle.linkinfo.specs.BytesPeer.{bytes_peer};
+ghost use Rattle.linkinfo.specs.Comparing.{same_answer, same_counts};
+ghost use Rattle.linkinfo.specs.Items.{link_attribute};
+ghost use Rattle.linkinfo.specs.Roles.{none_in_force};
+ghost use Rattle.linkinfo.specs.Strings.{alike_from, headers_from, memory_from, values_from, alike_strings, headers_of_string, reading, reading_needs_memory, WellFormed};
+ghost use Rattle.linkinfo.specs.Walks.{left};
+
+use crate::item::{check_item, read_item, same_item};
+use crate::link_info::LinkInfoOf;
+use crate::role::{InForce, behind, role_of};
+use crate::walk::LinkInfoWalk;
+use linkinfo_table::LinkPeer;
+use nla_frame::{Bytes, DecodeError, HeaderCount, Nlas, next_piece};
+use std::alloc::Global;
+
+/// Reads the attributes that a walk has not gone over. The headers that the walk looks at are not counted here.
+
+fn read_rest<P: LinkPeer>(
+    alloc: Global,
+    walk: &mut LinkInfoWalk<'_>,
+    count: &mut HeaderCount,
+) -> Result<Vec<LinkInfoOf<P>>, DecodeError>
+    requires { 4 * (count.old + walk.old.attributes.examined) + length (left walk.old) < 4 * 2 ^ 64 }
+    ensures answer { Gives (λ v. v.items) result (values_from P.LinkPeer.own walk.old.force (pieces (left walk.old))) }
+    ensures certain { CertainUnless (memory_from P.LinkPeer.own walk.old.force (pieces (left walk.old))) (λ v. v.items) result (values_from P.LinkPeer.own walk.old.force (pieces (left walk.old))) }
+    ensures counted { OnAnswer result (count.new + walk.new.attributes.examined ≡ (count.old + walk.old.attributes.examined) + headers_from P.LinkPeer.own walk.old.force (pieces (left walk.old))) }
+    ensures rises { count.old + walk.old.attributes.examined ≤ count.new + walk.new.attributes.examined }
+    ensures quarter { 4 * (count.new + walk.new.attributes.examined) ≤ 4 * (count.old + walk.old.attributes.examined) + length (left walk.old) }
+{
+    let mut items = Vec::new(alloc);
+    while let Some(next) = walk.advance() {
+        let (nla, role) = next?;
+        match read_item(alloc, &nla, role, count) {
+            Ok(item) => items.push(item)?,
+            Err(fault) => return Err(fault),
+        }
+    }
+    Ok(items)
+}
+
+/// Checks the attributes that a walk has not gone over, as `read_rest` reads them. Takes no memory.
+fn check_rest<P: LinkPeer>(
+    walk: &mut LinkInfoWalk<'_>,
+    count: &mut HeaderCount,
+) -> Result<(), DecodeError>
+    requires { 4 * (count.old + walk.old.attributes.examined) + length (left walk.old) < 4 * 2 ^ 64 }
+    ensures answer { result ≡ verdict (values_from P.LinkPeer.own walk.old.force (pieces (left walk.old))) }
+    ensures counted { count.new + walk.new.attributes.examined ≡ (count.old + walk.old.attributes.examined) + headers_from P.LinkPeer.own walk.old.force (pieces (left walk.old)) }
+    ensures quarter { 4 * (count.new + walk.new.attributes.examined) ≤ 4 * (count.old + walk.old.attributes.examined) + length (left walk.old) }
+{
+    while let Some(next) = walk.advance() {
+        let (nla, role) = next?;
+        check_item::<P>(&nla, role, count)?;
+    }
+    Ok(())
+}
+
+/// Whether two accepted strings mean the same list, attribute by attribute, each pair under the kinds in force in the first. Takes no memory.
+fn same_strings<P: LinkPeer>(a: &[u8], b: &[u8], count: &mut HeaderCount) -> bool
+    requires first { IsOk (values_from P.LinkPeer.own none_in_force (pieces a.now)) }
+    requires second { IsOk (values_from P.LinkPeer.own none_in_force (pieces b.now)) }
+    requires room { count.old + (length a.now + length b.now) / 4 < 2 ^ 64 }
+    ensures same { result ≡ alike_from P.LinkPeer.own none_in_force (pieces a.now) (pieces b.now) }
+    ensures counted { OnTrue result (count.new ≡ count.old + (headers_from P.LinkPeer.own none_in_force (pieces a.now) + headers_from P.LinkPeer.own none_in_force (pieces b.now))) }
+    ensures rises { count.old ≤ count.new }
+    ensures quarter { 4 * count.new ≤ 4 * count.old + (length a.now + length b.now) }
+{
+    let mut x = a;
+    let mut y = b;
+    let mut force = InForce::none();
+    while let Some(next) = next_piece(x, count) {
+        let Some(other) = next_piece(y, count) else {
+            return false;
+        };
+        let (p, after_p) = next.unwrap();
+        let (q, after_q) = other.unwrap();
+        let role = role_of(force, p.kind());
+        if !same_item::<P>(&p, &q, role, count) {
+            return false;
+        }
+        force = behind(role, force, &p).unwrap();
+        x = after_p;
+        y = after_q;
+    }
+    next_piece(y, count).is_none()
+}
+
+/// Checks a whole string, and counts each header once.
+#[tactic(auto, unfolding(crate::specs::Strings::reading, crate::specs::Strings::headers_of_string))]
+fn check_string<P: LinkPeer>(bytes: &[u8], count: &mut HeaderCount) -> Result<(), DecodeError>
+    requires { count.old + length bytes.now / 4 < 2 ^ 64 }
+    ensures answer { result ≡ verdict (reading P.LinkPeer.own bytes.now) }
+    ensures counted { count.new ≡ count.old + headers_of_string P.LinkPeer.own bytes.now }
+    ensures quarter { 4 * count.new ≤ 4 * count.old + length bytes.now }
+{
+    let mut walk = LinkInfoWalk::new(bytes);
+    let answer = check_rest::<P>(&mut walk, count);
+    count.add(walk.examined());
+    answer
+}
+
+/// The attributes inside `IFLA_LINKINFO`, include/uapi/linux/if_link.h, with peers of type `P`.
+///
+/// The list is emitted with `nlas_fit_len`, `nlas_buffer_len` and `emit_nlas` of its items.
+#[derive(Debug, PartialEq, Eq, Clone, Drop)]
+pub struct VecLinkInfoOf<P>(pub Nlas<LinkInfoOf<P>>);
+
+/// The list with peers kept as bytes.
+pub type VecLinkInfo = VecLinkInfoOf<Bytes>;
+
+impl<P: LinkPeer> VecLinkInfoOf<P> {
+    /// Reads the list that the bytes frame, and counts each header with four present bytes that is looked at, at all depths. Asks for a
+    /// counter at zero. It answers as `parse` does.
+    #[tactic(auto, unfolding(crate::specs::Strings::reading, crate::specs::Strings::headers_of_string, crate::specs::Strings::reading_needs_memory))]
+    pub fn parse_counted(
+        alloc: Global,
+        bytes: &[u8],
+        count: &mut HeaderCount,
+    ) -> Result<VecLinkInfoOf<P>, DecodeError>
+        requires { count.old ≡ 0 }
+        ensures answer { Gives (λ list. list.0) result (reading P.LinkPeer.own bytes.now) }
+        ensures certain { CertainUnless (reading_needs_memory P.LinkPeer.own bytes.now) (λ list. list.0) result (reading P.LinkPeer.own bytes.now) }
+        ensures counted { OnAnswer result (count.new ≡ headers_of_string P.LinkPeer.own bytes.now) }
+        ensures quarter { count.new ≤ length bytes.now / 4 }
+    {
+        let mut walk = LinkInfoWalk::new(bytes);
+        let answer = read_rest(alloc, &mut walk, count);
+        count.add(walk.examined());
+        match answer {
+            Ok(items) => Ok(VecLinkInfoOf(Nlas::new(items))),
+            Err(fault) => Err(fault),
+        }
+    }
+
+    /// Reads the list that the bytes frame.
+    ///
+    /// The fault is that of the first attribute in byte order that has no header or no meaning, the outer one before those inside it. An
+    /// answer other than (Frame, 0, Memory) is what the string means; the empty string takes no memory, and a first attribute's own
+    /// fault never gives way to Memory.
+    pub fn parse(alloc: Global, bytes: &[u8]) -> Result<VecLinkInfoOf<P>, DecodeError>
+        ensures answer { Gives (λ list. list.0) result (reading P.LinkPeer.own bytes.now) }
+        ensures certain { CertainUnless (reading_needs_memory P.LinkPeer.own bytes.now) (λ list. list.0) result (reading P.LinkPeer.own bytes.now) }
+
+        // What is read is well formed.
+        ensures well_formed { (xs : List (LinkInfoOf P)) → reading P.LinkPeer.own bytes.now ≡ Ok xs → WellFormed P.LinkPeer.own xs }
+
+        // The canonical string of a list that fits reads back as that list exactly where it is well formed.
+        ensures canonical { (xs : List (LinkInfoOf P)) → AllByRecursion Fits (map (link_attribute P.LinkPeer.own) xs) → bytes.now ≡ list_string (map (link_attribute P.LinkPeer.own) xs) → (reading P.LinkPeer.own bytes.now ≡ Ok xs) ↔ WellFormed P.LinkPeer.own xs }
+
+        // Accepted strings one behind another read as their lists one behind another.
+        ensures appended { (a b : List ℕ) (xs ys : List (LinkInfoOf P)) → length a % 4 ≡ 0 → bytes.now ≡ a ++ b → reading P.LinkPeer.own a ≡ Ok xs → reading P.LinkPeer.own b ≡ Ok ys → reading P.LinkPeer.own bytes.now ≡ Ok (xs ++ ys) }
+    {
+        let mut count = HeaderCount::new();
+        VecLinkInfoOf::parse_counted(alloc, bytes, &mut count)
+    }
+}
+
+/// Whether the bytes are in the grammar, with peers of type `P`: the verdict of `VecLinkInfoOf::parse`, or the fault. Takes no memory.
+pub fn check_of<P: LinkPeer>(bytes: &[u8]) -> Result<(), DecodeError>
+    ensures { result ≡ verdict (reading P.LinkPeer.own bytes.now) }
+{
+    let mut count = HeaderCount::new();
+    check_string::<P>(bytes, &mut count)
+}
+
+/// The same, and each header with four present bytes that is looked at is counted. Asks for a counter at zero.
+pub fn check_counted_of<P: LinkPeer>(
+    bytes: &[u8],
+    count: &mut HeaderCount,
+) -> Result<(), DecodeError>
+    requires { count.old ≡ 0 }
+    ensures answer { result ≡ verdict (reading P.LinkPeer.own bytes.now) }
+    ensures counted { count.new ≡ headers_of_string P.LinkPeer.own bytes.now }
+    ensures quarter { count.new ≤ length bytes.now / 4 }
+{
+    check_string::<P>(bytes, count)
+}
+
+/// Whether two strings mean the same list, with peers of type `P`: the first string's fault, else the second's, else whether they are alike.
+/// Each header is counted. Asks for a counter at zero, and takes no memory.
+#[tactic(auto, unfolding(crate::specs::Strings::reading, crate::specs::Strings::headers_of_string, crate::specs::Strings::alike_strings))]
+pub fn same_counted_of<P: LinkPeer>(
+    a: &[u8],
+    b: &[u8],
+    count: &mut HeaderCount,
+) -> Result<bool, DecodeError>
+    requires { count.old ≡ 0 }
+    ensures answer { result ≡ same_answer (reading P.LinkPeer.own a.now) (reading P.LinkPeer.own b.now) (alike_strings P.LinkPeer.own a.now b.now) }
+    ensures counted { same_counts result (reading P.LinkPeer.own a.now) (headers_of_string P.LinkPeer.own a.now) (headers_of_string P.LinkPeer.own b.now) count.new }
+    ensures half { count.new ≤ (length a.now + length b.now) / 2 }
+{
+    check_string::<P>(a, count)?;
+    check_string::<P>(b, count)?;
+    Ok(same_strings::<P>(a, b, count))
+}
+
+/// Whether two strings mean the same list, with peers of type `P`: the first string's fault, else the second's, else whether they are alike.
+/// No value is made, so it also answers of lists that do not fit. Takes no memory.
+pub fn same_of<P: LinkPeer>(a: &[u8], b: &[u8]) -> Result<bool, DecodeError>
+    ensures answer { result ≡ same_answer (reading P.LinkPeer.own a.now) (reading P.LinkPeer.own b.now) (alike_strings P.LinkPeer.own a.now b.now) }
+
+    // Alike strings are those that mean the same list.
+    ensures equal { IfOk result (λ same. IsTrue same ↔ (reading P.LinkPeer.own a.now ≡ reading P.LinkPeer.own b.now)) }
+
+    // Where both lists fit, alike strings are those of one canonical string.
+    ensures canonical { (xs ys : List (LinkInfoOf P)) → reading P.LinkPeer.own a.now ≡ Ok xs → reading P.LinkPeer.own b.now ≡ Ok ys → AllByRecursion Fits (map (link_attribute P.LinkPeer.own) xs) → AllByRecursion Fits (map (link_attribute P.LinkPeer.own) ys) → IfOk result (λ same. IsTrue same ↔ (list_string (map (link_attribute P.LinkPeer.own) xs) ≡ list_string (map (link_attribute P.LinkPeer.own) ys))) }
+{
+    let mut count = HeaderCount::new();
+    same_counted_of::<P>(a, b, &mut count)
+}
+
+/// `check_of`, with peers kept as bytes.
+pub fn check(bytes: &[u8]) -> Result<(), DecodeError>
+    ensures { result ≡ verdict (reading bytes_peer bytes.now) }
+{
+    check_of::<Bytes>(bytes)
+}
+
+/// `check_counted_of`, with peers kept as bytes.
+pub fn check_counted(bytes: &[u8], count: &mut HeaderCount) -> Result<(), DecodeError>
+    requires { count.old ≡ 0 }
+    ensures answer { result ≡ verdict (reading bytes_peer bytes.now) }
+    ensures counted { count.new ≡ headers_of_string bytes_peer bytes.now }
+    ensures quarter { count.new ≤ length bytes.now / 4 }
+{
+    check_counted_of::<Bytes>(bytes, count)
+}
+
+/// `same_of`, with peers kept as bytes.
+pub fn same(a: &[u8], b: &[u8]) -> Result<bool, DecodeError>
+    ensures answer { result ≡ same_answer (reading bytes_peer a.now) (reading bytes_peer b.now) (alike_strings bytes_peer a.now b.now) }
+    ensures equal { IfOk result (λ same. IsTrue same ↔ (reading bytes_peer a.now ≡ reading bytes_peer b.now)) }
+{
+    same_of::<Bytes>(a, b)
+}
+
+/// `same_counted_of`, with peers kept as bytes.
+pub fn same_counted(a: &[u8], b: &[u8], count: &mut HeaderCount) -> Result<bool, DecodeError>
+    requires { count.old ≡ 0 }
+    ensures answer { result ≡ same_answer (reading bytes_peer a.now) (reading bytes_peer b.now) (alike_strings bytes_peer a.now b.now) }
+    ensures counted { same_counts result (reading bytes_peer a.now) (headers_of_string bytes_peer a.now) (headers_of_string bytes_peer b.now) count.new }
+    ensures half { count.new ≤ (length a.now + length b.now) / 2 }
+{
+    same_counted_of::<Bytes>(a, b, count)
+}

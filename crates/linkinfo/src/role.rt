@@ -1,0 +1,135 @@
+//! What an attribute of the list is, by its type and the kinds in force before it.
+
+ghost use Rattle.std.specs.Prelude.{◌≡◌, Ok, Err, MatchResult};
+ghost use Rattle.nla_frame.specs.Attribute.{masked};
+ghost use Rattle.linkinfo.specs.Roles.{behind_role, fault_of_item, name_meaning, role_of};
+
+use linkinfo_numbers::{KindTag, PortTag, port_tag_of_name, tag_of_name};
+use linkinfo_table::{Shape, read_datum};
+use nla_frame::{Cause, DecodeError, Family, NlaBuffer};
+
+const IFLA_INFO_KIND: u16 = 1;
+
+const IFLA_INFO_DATA: u16 = 2;
+
+const IFLA_INFO_XSTATS: u16 = 3;
+
+const IFLA_INFO_SLAVE_KIND: u16 = 4;
+
+const IFLA_INFO_SLAVE_DATA: u16 = 5;
+
+/// The kinds in force: that of the link is the last one named, that of the port the last one named that no port data used up.
+#[derive(Clone, Copy, Debug, PartialEq, Eq)]
+pub struct InForce {
+    pub(crate) kind: Option<KindTag>,
+    pub(crate) port: Option<PortTag>,
+}
+
+impl InForce {
+    /// Before the first attribute.
+    pub(crate) fn none() -> InForce
+        ensures { result ≡ Rattle.linkinfo.specs.Roles.none_in_force }
+    {
+        InForce {
+            kind: None,
+            port: None,
+        }
+    }
+}
+
+/// What an attribute of the list holds.
+#[derive(Clone, Copy, Debug, PartialEq, Eq)]
+pub enum Role {
+    /// The name of a kind.
+    Kind,
+    /// Data of the kind in force.
+    Data(KindTag),
+    /// Statistics of the kind in force.
+    Xstats,
+    /// The name of a port kind.
+    PortKind,
+    /// Data of the port kind in force.
+    PortData(PortTag),
+    /// Data or statistics with no kind in force.
+    Misplaced,
+    /// An attribute of an unknown type.
+    Unknown,
+}
+
+/// The role of an attribute of this masked type.
+#[tactic(auto, unfolding(crate::specs::Roles::role_of))]
+pub(crate) fn role_of(force: InForce, kind: u16) -> Role
+    ensures { result ≡ role_of force kind }
+{
+    match kind {
+        IFLA_INFO_KIND => Role::Kind,
+        IFLA_INFO_DATA => match force.kind {
+            Some(tag) => Role::Data(tag),
+            None => Role::Misplaced,
+        },
+        IFLA_INFO_XSTATS => match force.kind {
+            Some(_) => Role::Xstats,
+            None => Role::Misplaced,
+        },
+        IFLA_INFO_SLAVE_KIND => Role::PortKind,
+        IFLA_INFO_SLAVE_DATA => match force.port {
+            Some(tag) => Role::PortData(tag),
+            None => Role::Misplaced,
+        },
+        _ => Role::Unknown,
+    }
+}
+
+/// The fault of an attribute of the list itself.
+pub(crate) fn fault(nla: &NlaBuffer<'_>, cause: Cause) -> DecodeError
+    ensures { result ≡ fault_of_item nla.now cause }
+{
+    DecodeError {
+        family: Family::LinkInfo,
+        kind: nla.kind(),
+        cause,
+    }
+}
+
+/// The name that an attribute holds: its payload without one closing NUL. Refused as (LinkInfo, type, Utf8) where it is not UTF-8.
+pub(crate) fn name_in<'a>(nla: &NlaBuffer<'a>) -> Result<&'a str, DecodeError>
+    ensures { MatchResult result (λ name. name_meaning nla.now ≡ Ok name.now) (λ fault. name_meaning nla.now ≡ Err fault) }
+{
+    match read_datum(Shape::Name, nla.value()) {
+        Ok(datum) => Ok(datum.text_or_empty()),
+        Err(cause) => Err(fault(nla, cause)),
+    }
+}
+
+/// The kinds in force behind an attribute of this role, or the attribute's own fault: (LinkInfo, type, Order) for data or statistics without
+/// their kind, (LinkInfo, type, Utf8) for a name that is not UTF-8.
+pub(crate) fn behind(
+    role: Role,
+    force: InForce,
+    nla: &NlaBuffer<'_>,
+) -> Result<InForce, DecodeError>
+    ensures { result ≡ behind_role role force nla.now }
+{
+    match role {
+        Role::Kind => {
+            let name = name_in(nla)?;
+            Ok(InForce {
+                kind: Some(tag_of_name(name.as_bytes())),
+                port: force.port,
+            })
+        }
+        Role::PortKind => {
+            let name = name_in(nla)?;
+            Ok(InForce {
+                kind: force.kind,
+                port: Some(port_tag_of_name(name.as_bytes())),
+            })
+        }
+        Role::PortData(_) => Ok(InForce {
+            kind: force.kind,
+            port: None,
+        }),
+        Role::Misplaced => Err(fault(nla, Cause::Order)),
+        Role::Data(_) | Role::Xstats | Role::Unknown => Ok(force),
+    }
+}

@@ -1,0 +1,117 @@
+//! The attributes of a list, one after another, borrowed, with the kinds in force before each.
+
+ghost use Rattle.std.specs.Prelude.{◌≡◌, ◌*◌, ◌≤◌, length};
+ghost use Rattle.std.specs.Iterator.{item_count};
+ghost use Rattle.linkinfo.specs.Walks.{Advances, Moves, items_left, link_walk};
+
+use crate::role::{InForce, Role, behind, role_of};
+use linkinfo_numbers::{KindTag, PortTag};
+use nla_frame::{DecodeError, NlaBuffer, NlasIterator};
+use std::marker::Model;
+
+/// An attribute of the list, borrowed from its bytes.
+#[derive(Clone, Copy, Debug, PartialEq, Eq)]
+pub struct LinkInfoItem<'a> {
+    /// Where its header stands in the list.
+    pub place: usize,
+    /// Its whole 16-bit type.
+    pub raw_kind: u16,
+    /// The bytes of its value, those of the source itself.
+    pub value: &'a [u8],
+    /// The kind of the link in force before it: that of the last `IFLA_INFO_KIND`.
+    pub kind_tag: Option<KindTag>,
+    /// The kind of the port in force before it: that of the last `IFLA_INFO_SLAVE_KIND` that no `IFLA_INFO_SLAVE_DATA` used up.
+    pub port_tag: Option<PortTag>,
+}
+
+/// Goes over the attributes of a list in order, and looks at no payload but those of names.
+///
+/// It ends after its first fault: (Frame, 0, Header) where a header is not accepted, (LinkInfo, type, Order) where data, statistics
+/// or port data have no kind in force, and (LinkInfo, type, Utf8) where a name is not UTF-8.
+#[derive(Debug, Drop)]
+pub struct LinkInfoWalk<'a> {
+    attributes: NlasIterator<'a>,
+    force: InForce,
+    failed: bool,
+}
+
+impl<'a> Model for LinkInfoWalk<'a> {
+    ghost use Rattle.linkinfo.specs.Walks.{LinkWalk};
+
+    ghost Value = { LinkWalk };
+
+    ghost view = { λ w. record { attributes = w.attributes; force = w.force; failed = w.failed } };
+}
+
+impl<'a> LinkInfoWalk<'a> {
+    /// Begins at place 0 of the bytes, with no kind in force.
+    pub fn new(bytes: &'a [u8]) -> LinkInfoWalk<'a>
+        ensures { result ≡ link_walk bytes.now }
+    {
+        LinkInfoWalk {
+            attributes: NlasIterator::new(bytes),
+            force: InForce::none(),
+            failed: false,
+        }
+    }
+
+    /// How many headers with four present bytes were looked at so far: never more than a quarter of the bytes.
+    pub fn examined(&self) -> usize
+        ensures count { result ≡ self.now.attributes.examined }
+        ensures quarter { 4 * result ≤ length self.now.attributes.source }
+    {
+        self.attributes.examined()
+    }
+
+    /// The next attribute, with its role under the kinds in force before it.
+    pub(crate) fn advance(&mut self) -> Option<Result<(NlaBuffer<'a>, Role), DecodeError>>
+        ensures step { Advances self.old result self.new }
+        ensures source { self.new.attributes.source ≡ self.old.attributes.source }
+    {
+        if self.failed {
+            return None;
+        }
+        match self.attributes.next()? {
+            Ok(nla) => {
+                let role = role_of(self.force, nla.kind());
+                match behind(role, self.force, &nla) {
+                    Ok(force) => {
+                        self.force = force;
+                        Some(Ok((nla, role)))
+                    }
+                    Err(fault) => {
+                        self.failed = true;
+                        Some(Err(fault))
+                    }
+                }
+            }
+            Err(fault) => {
+                self.failed = true;
+                Some(Err(fault))
+            }
+        }
+    }
+}
+
+impl<'a> Iterator for LinkInfoWalk<'a> {
+    type Item = Result<LinkInfoItem<'a>, DecodeError>;
+
+    ghost next_gives = { Moves };
+
+    ghost remaining = { item_count items_left };
+
+    fn next(&mut self) -> Option<Result<LinkInfoItem<'a>, DecodeError>> {
+        let place = self.attributes.place();
+        let before = self.force;
+        match self.advance()? {
+            Ok((nla, _)) => Some(Ok(LinkInfoItem {
+                place,
+                raw_kind: nla.raw_kind(),
+                value: nla.value(),
+                kind_tag: before.kind,
+                port_tag: before.port,
+            })),
+            Err(fault) => Some(Err(fault)),
+        }
+    }
+}

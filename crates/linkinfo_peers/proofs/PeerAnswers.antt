@@ -1,0 +1,28 @@
+-- From what the calls of a peer answer to what the peer's row means.
+use Rattle.std.proofs.Common.{◌≡◌, ◌∙◌, ℕ, Bool, List, Option, Some, None, Result, refl, sym, subst}
+use Rattle.std.specs.Prelude.{IsOk, IsSome}
+use Rattle.nla_frame.specs.Attribute.{Attribute, masked}
+use Rattle.nla_frame.specs.declared.error.Family.{Family}
+use Rattle.nla_frame.specs.declared.error.DecodeError.{DecodeError}
+use Rattle.nla_frame.specs.declared.default_nla.DefaultNla.{DefaultNla}
+use Rattle.linkinfo_table.specs.FamilyRows.{FamilyRow, row_of}
+use Rattle.linkinfo_table.specs.Peers.{peer_or_fault}
+use Rattle.linkinfo_table.specs.Rows.{alike_in, labelled, meaning_in, row_alike, row_meaning}
+use Rattle.linkinfo_table.proofs.RowAnswers.{alike_at, meaning_at}
+use Rattle.linkinfo_peers.specs.PeerRows.{peer_meaning}
+
+module _ {P F : Type 0} (f : Family) (other : DefaultNla → F) (value : P → F) (meaning : List ℕ → Option P) where
+  accepted : (n : ℕ) (o : Option P) → IsOk (labelled f n value (peer_or_fault o)) → IsSome o
+  accepted n (Some peer) h = refl
+  accepted n None h = absurd cc
+
+  -- an accepted attribute of type 1 holds a peer
+  pub peer_accepted : (rows : ℕ → FamilyRow F) (a : Attribute) (k : ℕ) → k ≡ masked a.kind → row_meaning f other (row_of (rows k)) a ≡ peer_meaning f value meaning a →
+      IsOk (meaning_in f other (λ n. row_of (rows n)) a) → IsSome (meaning a.value)
+  peer_accepted rows a k e means ok =
+      accepted (masked a.kind) (meaning a.value) (subst (λ (m : Result F DecodeError). IsOk m) (meaning_at f other rows a k (peer_meaning f value meaning a) e means) ok)
+
+-- what was answered of two peers is so of two attributes, the first of type 1
+pub same_at : {F : Type 0} (rows : ℕ → FamilyRow F) (a b : Attribute) (k : ℕ) {t u : Bool} → k ≡ masked a.kind → row_alike (row_of (rows k)) a b ≡ u → t ≡ u →
+    t ≡ alike_in (λ n. row_of (rows n)) a b
+same_at rows a b k e law h = alike_at rows a b k _ e (h ∙ sym law)

@@ -1,0 +1,56 @@
+-- Rows of a family with a peer: type 1 is the peer, and the other types have rows of shapes or none.
+use Rattle.std.specs.Prelude.{◌≡◌, ◌≢◌, ◌↔◌, ℕ, ◌==◌, Bool, true, false, List, ◌∷◌, Option, Some, Result, refl}
+use Rattle.std.proofs.Common.{sym, subst, cond, lit<}
+use Rattle.std.proofs.lemmas.Bool.{ne_eqb}
+use Rattle.nla_frame.specs.Attribute.{Attribute, IsBytes, masked}
+use Rattle.nla_frame.specs.declared.error.Family.{Family}
+use Rattle.nla_frame.specs.declared.error.DecodeError.{DecodeError}
+use Rattle.linkinfo_shapes.specs.Table.{found}
+use Rattle.linkinfo_shapes.specs.declared.shape.Shape.TheVariants as shape
+use Rattle.linkinfo_table.specs.Rows.{labelled}
+use Rattle.linkinfo_table.specs.FamilyRows.{FamilyRow, Custom, PlainRow, row_of, row_if, lookup_of, lookup_in, table_row, without_labels, IsFlat, RowOwes, EachKeeps}
+use Rattle.linkinfo_table.specs.FamilyRowLaws.{row_if_owes, table_flat, table_lookup, table_owes}
+use Rattle.linkinfo_table.specs.Peers.{peer_codec, peer_is_codec, peer_or_fault}
+
+-- what an attribute means as a peer: the value of its peer, or the cause Peer
+abbrev pub peer_meaning : {P F : Type 0} → Family → (P → F) → (List ℕ → Option P) → Attribute → Result F DecodeError
+peer_meaning family value meaning a = labelled family (masked a.kind) value (peer_or_fault (meaning a.value))
+
+module _ {P F : Type 0} (meaning : List ℕ → Option P) (alike : List ℕ → List ℕ → Bool) (payload : P → List ℕ) (well : P → Type 0) (value : P → F) where
+  abbrev pub peer_row : FamilyRow F
+  peer_row = Custom shape.Peer (peer_codec meaning alike payload well) value
+
+  -- the rows of a family, given those of shapes
+  abbrev pub peer_rows : List (PlainRow F) → ℕ → FamilyRow F
+  peer_rows plain n = row_if (n == 1) peer_row (table_row plain n)
+
+  -- they are the rows of a table of shapes that has the peer first
+  pub peer_lookup : (plain : List (PlainRow F)) (n : ℕ) → lookup_of (peer_rows plain n) ≡ lookup_in (found ((1, shape.Peer) ∷ without_labels plain) n)
+  peer_lookup plain n = go (n == 1)
+    where
+      go : (b : Bool) → lookup_of (row_if b peer_row (table_row plain n)) ≡ lookup_in (cond b (Some shape.Peer) (found (without_labels plain) n))
+      go true = refl
+      go false = table_lookup plain n
+
+  module _ (attribute : F → Attribute) (plain : List (PlainRow F)) (keeps : EachKeeps attribute plain) where
+    -- every other row has a shape, or is none
+    pub flat_elsewhere : (n : ℕ) → n ≢ 1 → IsFlat (peer_rows plain n)
+    flat_elsewhere n other = subst (λ (b : Bool). IsFlat (row_if b peer_row (table_row plain n))) (sym (ne_eqb n 1 other)) (table_flat attribute plain keeps n)
+
+    pub peer_owes :
+        ((p q : List ℕ) (x y : P) → IsBytes p → IsBytes q → meaning p ≡ Some x → meaning q ≡ Some y → (alike p q ≡ true) ↔ (x ≡ y)) →
+        ((p : List ℕ) (x : P) → IsBytes p → meaning p ≡ Some x → well x) →
+        ((x : P) → well x → meaning (payload x) ≡ Some x) →
+        ((x : P) → well x → IsBytes (payload x)) →
+        ((x : P) → attribute (value x) ≡ record { kind = 1; value = payload x }) →
+        ((x y : P) → value x ≡ value y → x ≡ y) →
+        (n : ℕ) → RowOwes attribute n (row_of (peer_rows plain n))
+    peer_owes alike_is meaning_well well_means well_bytes shown same n =
+        row_if_owes attribute 1 n peer_row (table_row plain n)
+        (record {
+          low = lit< tt;
+          codec = peer_is_codec meaning alike payload well alike_is meaning_well well_means well_bytes;
+          keeps = shown;
+          same = λ x y h g e. same x y e;
+        })
+        (table_owes attribute plain keeps n)

@@ -1,0 +1,37 @@
+-- The rows of veth links, over a peer's meaning, what makes two of its payloads alike, its canonical payload, and what holds of it.
+use Rattle.std.specs.Prelude.{◌≡◌, ℕ, Bool, true, false, List, [], Option}
+use Rattle.nla_frame.specs.Attribute.{Attribute}
+use Rattle.nla_frame.specs.Kept.{attribute_of}
+use Rattle.nla_frame.specs.declared.error.Family.TheVariants as family
+use Rattle.linkinfo_shapes.specs.Table.{shape_of}
+use Rattle.linkinfo_table.specs.FamilyRows.{FamilyRow, PlainRow, lookup_of, lookup_in, EachKeeps}
+use Rattle.linkinfo_peers.specs.PeerRows.{peer_rows, peer_lookup}
+use Rattle.linkinfo_peers.specs.declared.veth.InfoVethOf.{InfoVethOf}
+use Rattle.linkinfo_peers.specs.declared.veth.InfoVethOf.TheVariants.{Peer, Other}
+
+-- no row beside the peer's
+abbrev pub veth_plain : {P : Type 0} → List (PlainRow (InfoVethOf P))
+veth_plain = []
+
+abbrev pub veth_attribute : {P : Type 0} → (P → List ℕ) → InfoVethOf P → Attribute
+veth_attribute payload (Peer peer) = record { kind = 1; value = payload peer }
+veth_attribute payload (Other nla) = attribute_of nla
+
+-- the payload of a peer is written by the family itself
+abbrev pub veth_is_custom : {P : Type 0} → InfoVethOf P → Bool
+veth_is_custom (Peer peer) = true
+veth_is_custom (Other nla) = false
+
+pub veth_keeps : {P : Type 0} (payload : P → List ℕ) → EachKeeps (veth_attribute payload) veth_plain
+veth_keeps payload = tt
+
+pub veth_peer_same : {P : Type 0} (x y : P) → Peer x ≡ Peer y → x ≡ y
+veth_peer_same x y e = cc
+
+module _ {P : Type 0} (meaning : List ℕ → Option P) (alike : List ℕ → List ℕ → Bool) (payload : P → List ℕ) (well : P → Type 0) where
+  abbrev pub veth_rows : ℕ → FamilyRow (InfoVethOf P)
+  veth_rows n = peer_rows meaning alike payload well (λ peer. Peer peer) veth_plain n
+
+  -- these are the rows of the table of all families
+  pub veth_lookup : (number : ℕ) → lookup_of (veth_rows number) ≡ lookup_in (shape_of family.Veth number)
+  veth_lookup number = peer_lookup meaning alike payload well (λ peer. Peer peer) veth_plain number

@@ -1,0 +1,71 @@
+//! A bit as a peer.
+
+ghost use Rattle.std.specs.Prelude.{◌≢◌, Err};
+ghost use Rattle.linkinfo_table.specs.Peers.{PeerGives};
+ghost use Rattle.linkinfo_table.specs.declared.peer.PeerFault.TheVariants as fault;
+ghost use Rattle.linkinfo_peers.specs.Bit.{bit_alike, bit_alike_is, bit_meaning, bit_payload, bit_well_bytes, bit_well_means};
+
+use linkinfo_shapes::{Datum, Shape, datum_len, read_datum, shape_check, shape_same, write_datum};
+use linkinfo_table::{LinkPeer, PeerFault};
+use nla_frame::ExactEq;
+use std::alloc::Global;
+
+/// A peer of one byte: true where the byte is not zero, and written as 01 or 00. A payload of another length is refused.
+///
+/// Every bit is well formed, and no call takes memory.
+#[derive(Clone, Copy, Debug, PartialEq, Eq)]
+pub struct BitPeer(pub bool);
+
+impl LinkPeer for BitPeer {
+    ghost meaning = { bit_meaning };
+
+    ghost alike = { bit_alike };
+
+    ghost canonical = { bit_payload };
+
+    ghost well = { λ _. Unit {0} };
+
+    ghost alike_is = { bit_alike_is };
+
+    ghost meaning_well = { λ _ _ _ _. tt };
+
+    ghost well_means = { λ x _. bit_well_means x };
+
+    ghost well_bytes = { λ x _. bit_well_bytes x };
+
+    #[tactic(auto, using(linkinfo_shapes::specs::DataLaws::read_fails))]
+    fn read(_alloc: Global, payload: &[u8]) -> Result<BitPeer, PeerFault>
+        ensures meaning { PeerGives result (bit_meaning payload.now) }
+        ensures certain { result ≢ Err fault.Memory }
+    {
+        match read_datum(Shape::Truth, payload) {
+            Ok(datum) => Ok(BitPeer(datum.bool_or_false())),
+            Err(_) => Err(PeerFault::Refused),
+        }
+    }
+
+    fn check(payload: &[u8]) -> bool {
+        shape_check(Shape::Truth, payload).is_ok()
+    }
+
+    #[tactic(auto, using(crate::specs::Bit::bit_accepted))]
+    fn same(a: &[u8], b: &[u8]) -> bool {
+        shape_same(Shape::Truth, a, b)
+    }
+
+    #[tactic(auto, unfolding(linkinfo_shapes::specs::Data::Suits, linkinfo_shapes::specs::Data::written))]
+    fn fit_len(&self) -> Option<usize> {
+        datum_len(Shape::Truth, &Datum::Truth(self.0))
+    }
+
+    #[tactic(auto, unfolding(linkinfo_shapes::specs::Data::Suits, linkinfo_shapes::specs::Data::written))]
+    fn emit(&self, buffer: &mut [u8]) {
+        write_datum(Shape::Truth, &Datum::Truth(self.0), buffer);
+    }
+}
+
+impl ExactEq for BitPeer {
+    ghost use Rattle.std.proofs.Common.{rules};
+
+    ghost exact = { Prim.search rules };
+}

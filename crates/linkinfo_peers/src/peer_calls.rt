@@ -1,0 +1,152 @@
+//! What each family with a peer does: the calls of families by rows, but for attributes of type 1.
+
+ghost use Rattle.std.specs.Prelude.{◌≡◌, ◌==◌, ◌&&◌, IsOk, IsSome, SomeIff, length};
+ghost use Rattle.nla_frame.specs.Answers.{CertainUnless, Gives, verdict};
+ghost use Rattle.nla_frame.specs.Attribute.{Fits, masked};
+ghost use Rattle.nla_frame.specs.Error.{memory_fault};
+ghost use Rattle.nla_frame.specs.declared.error.Cause.TheVariants as cause;
+ghost use Rattle.linkinfo_table.specs.FamilyRows.{row_of};
+ghost use Rattle.linkinfo_table.specs.Rows.{alike_in, meaning_in, memory_in};
+ghost use Rattle.linkinfo_peers.specs.PeerRows.{peer_meaning};
+
+use crate::peer_family::PeerFamily;
+use linkinfo_table::{
+    LinkPeer, PeerFault, row_check, row_emit_value, row_fit_len, row_kind, row_read, row_same,
+};
+use nla_frame::{Cause, DecodeError, Family, NlaBuffer};
+use std::alloc::Global;
+
+/// The type of a peer: `VETH_INFO_PEER` (include/uapi/linux/veth.h), `VXCAN_INFO_PEER` (include/uapi/linux/can/vxcan.h) and
+/// `IFLA_NETKIT_PEER_INFO` (include/uapi/linux/if_link.h).
+const PEER: u16 = 1;
+
+fn refused(family: Family, kind: u16) -> DecodeError
+    ensures { result ≡ record { family = family; kind = kind; cause = cause.Peer } }
+{
+    DecodeError {
+        family,
+        kind,
+        cause: Cause::Peer,
+    }
+}
+
+fn no_memory() -> DecodeError
+    ensures { result ≡ memory_fault }
+{
+    DecodeError {
+        family: Family::Frame,
+        kind: 0,
+        cause: Cause::Memory,
+    }
+}
+
+fn read_as_peer<F: PeerFamily>(alloc: Global, nla: &NlaBuffer<'_>) -> Result<F, DecodeError>
+    ensures { Gives (λ value. value) result (peer_meaning F.FAMILY F.peer_value F.Peer.LinkPeer.meaning nla.now) }
+{
+    match F::Peer::read(alloc, nla.value()) {
+        Ok(peer) => Ok(F::from_peer(peer)),
+        Err(PeerFault::Refused) => Err(refused(F::FAMILY, nla.kind())),
+        Err(PeerFault::Memory) => Err(no_memory()),
+    }
+}
+
+fn check_as_peer<F: PeerFamily>(nla: &NlaBuffer<'_>) -> Result<(), DecodeError>
+    ensures { result ≡ verdict (peer_meaning F.FAMILY F.peer_value F.Peer.LinkPeer.meaning nla.now) }
+{
+    if F::Peer::check(nla.value()) {
+        Ok(())
+    } else {
+        Err(refused(F::FAMILY, nla.kind()))
+    }
+}
+
+fn same_as_peer<F: PeerFamily>(a: &NlaBuffer<'_>, b: &NlaBuffer<'_>) -> bool
+    requires first { IsSome (F.Peer.LinkPeer.meaning a.now.value) }
+    requires second { masked b.now.kind ≡ masked a.now.kind → IsSome (F.Peer.LinkPeer.meaning b.now.value) }
+    ensures { result ≡ ((masked b.now.kind == masked a.now.kind) && F.Peer.LinkPeer.alike a.now.value b.now.value) }
+{
+    b.kind() == a.kind() && F::Peer::same(a.value(), b.value())
+}
+
+/// Reads an attribute: a peer under type 1, and else by its row. A refused peer is (family, 1, Peer).
+pub fn peer_read<F: PeerFamily>(
+    alloc: Global,
+    nla: &NlaBuffer<'_>,
+    ctx: F::Context,
+) -> Result<F, DecodeError>
+    ensures answer { Gives (λ value. value) result (meaning_in F.FAMILY F.other (λ n. row_of (F.rows ctx n)) nla.now) }
+    ensures certain { CertainUnless (memory_in (λ n. row_of (F.rows ctx n)) nla.now) (λ value. value) result (meaning_in F.FAMILY F.other (λ n. row_of (F.rows ctx n)) nla.now) }
+{
+    if nla.kind() == PEER {
+        read_as_peer(alloc, nla)
+    } else {
+        row_read(alloc, nla, ctx)
+    }
+}
+
+/// Whether `peer_read` would succeed, or the attribute's fault. Takes no memory.
+pub fn peer_check<F: PeerFamily>(nla: &NlaBuffer<'_>, ctx: F::Context) -> Result<(), DecodeError>
+    ensures { result ≡ verdict (meaning_in F.FAMILY F.other (λ n. row_of (F.rows ctx n)) nla.now) }
+{
+    if nla.kind() == PEER {
+        check_as_peer::<F>(nla)
+    } else {
+        row_check::<F>(nla, ctx)
+    }
+}
+
+/// Whether two attributes mean the same value. Asks that both are accepted, and takes no memory.
+pub fn peer_same<F: PeerFamily>(a: &NlaBuffer<'_>, b: &NlaBuffer<'_>, ctx: F::Context) -> bool
+    requires first { IsOk (meaning_in F.FAMILY F.other (λ n. row_of (F.rows ctx n)) a.now) }
+    requires second { IsOk (meaning_in F.FAMILY F.other (λ n. row_of (F.rows ctx n)) b.now) }
+    ensures { result ≡ alike_in (λ n. row_of (F.rows ctx n)) a.now b.now }
+{
+    if a.kind() == PEER {
+        same_as_peer::<F>(a, b)
+    } else {
+        row_same::<F>(a, b, ctx)
+    }
+}
+
+/// The type number of a value.
+pub fn peer_kind<F: PeerFamily>(value: &F) -> u16
+    ensures { result ≡ (F.canonical value.now).kind }
+{
+    match value.peer() {
+        Some(_) => PEER,
+        None => row_kind(value),
+    }
+}
+
+/// The length of a value's payload where it fits, and else `None`.
+pub fn peer_fit_len<F: PeerFamily>(value: &F) -> Option<usize>
+    ensures { SomeIff result (Fits (F.canonical value.now)) (length (F.canonical value.now).value) }
+{
+    match value.peer() {
+        Some(peer) => peer.fit_len(),
+        None => row_fit_len(value),
+    }
+}
+
+/// The length of a value's payload. Asks that the value fits.
+pub fn peer_value_len<F: PeerFamily>(value: &F) -> usize
+    requires { Fits (F.canonical value.now) }
+    ensures { result ≡ length (F.canonical value.now).value }
+{
+    match peer_fit_len(value) {
+        Some(len) => len,
+        None => unreachable!(),
+    }
+}
+
+/// Writes a value's payload. Asks that the value fits, and for a buffer of exactly its length.
+pub fn peer_emit_value<F: PeerFamily>(value: &F, buffer: &mut [u8])
+    requires fits { Fits (F.canonical value.now) }
+    requires exact { length buffer.old ≡ length (F.canonical value.now).value }
+    ensures { buffer.new ≡ (F.canonical value.now).value }
+{
+    match value.peer() {
+        Some(peer) => peer.emit(buffer),
+        None => row_emit_value(value, buffer),
+    }
+}

@@ -1,0 +1,150 @@
+//! Veth links, which come in pairs: `VETH_INFO_UNSPEC` and on, include/uapi/linux/veth.h.
+
+ghost use Rattle.linkinfo_peers.specs.PeerRows.{flat_elsewhere, peer_owes};
+ghost use Rattle.linkinfo_peers.specs.Veth.{veth_attribute, veth_is_custom, veth_keeps, veth_peer_same, veth_plain, veth_rows};
+ghost use Rattle.linkinfo_peers.specs.declared.veth.InfoVethOf.TheVariants as veth;
+ghost use Rattle.linkinfo_table.specs.FamilyRows.{row_of};
+ghost use Rattle.linkinfo_table.specs.Rows.{meaning_in, memory_in};
+ghost use Rattle.nla_frame.specs.declared.error.Family.TheVariants as family;
+ghost use Rattle.std.specs.Prelude.{refl};
+
+use crate::peer_calls::{
+    peer_check, peer_emit_value, peer_fit_len, peer_kind, peer_read, peer_same, peer_value_len,
+};
+use crate::peer_family::PeerFamily;
+use linkinfo_table::{Found, LinkPeer, Lookup, Part, RowFamily, UnnestedFamily, table_lookup};
+use nla_frame::{Bytes, DecodeError, DefaultNla, ExactEq, Family, Nla, NlaBuffer, Parseable};
+use std::alloc::{AllocError, Global};
+
+/// An attribute of a veth link, with a peer of type `P`.
+#[derive(Debug, PartialEq, Eq, Clone, Drop)]
+pub enum InfoVethOf<P> {
+    /// The other end of the pair (`VETH_INFO_PEER`).
+    Peer(P),
+    /// An attribute of another type, kept as it came.
+    Other(DefaultNla),
+}
+
+/// An attribute of a veth link, whose peer is the bytes of its payload.
+pub type InfoVeth = InfoVethOf<Bytes>;
+
+impl<P: LinkPeer> RowFamily for InfoVethOf<P> {
+    type Context = ();
+
+    const FAMILY: Family = Family::Veth;
+
+    ghost FAMILY = { family.Veth };
+
+    ghost rows = { λ _ n. veth_rows P.meaning P.alike P.canonical P.well n };
+
+    ghost other = { λ nla. veth.Other nla };
+
+    ghost canonical = { veth_attribute P.canonical };
+
+    ghost is_custom = { veth_is_custom };
+
+    ghost owes = { λ _ n. peer_owes P.meaning P.alike P.canonical P.well (λ peer. veth.Peer peer) (veth_attribute P.canonical) veth_plain (veth_keeps P.canonical) P.alike_is P.meaning_well P.well_means P.well_bytes (λ _. refl) veth_peer_same n };
+
+    ghost keeps_other = { λ _. refl };
+
+    #[tactic(auto, using(crate::specs::Veth::veth_lookup))]
+    fn shape(_ctx: (), kind: u16) -> Lookup {
+        table_lookup(Family::Veth, kind)
+    }
+
+    fn from_found(_alloc: Global, _ctx: (), found: Found<'_>) -> Result<InfoVethOf<P>, AllocError> {
+        match found {
+            Found::Typed(_, _) => unreachable!(),
+            Found::Kept(nla) => Ok(InfoVethOf::Other(nla)),
+        }
+    }
+
+    fn to_part(&self) -> Part<'_> {
+        match self {
+            InfoVethOf::Peer(_) => Part::Custom,
+            InfoVethOf::Other(nla) => Part::Kept(nla),
+        }
+    }
+}
+
+impl<P: LinkPeer> PeerFamily for InfoVethOf<P> {
+    type Peer = P;
+
+    ghost peer_value = { λ peer. veth.Peer peer };
+
+    ghost peer_means = { λ _ _. refl };
+
+    ghost peer_needs_memory = { λ _ _. refl };
+
+    ghost peer_alike = { λ _ _ _. refl };
+
+    ghost flat_elsewhere = { λ _ n. flat_elsewhere P.meaning P.alike P.canonical P.well (λ peer. veth.Peer peer) (veth_attribute P.canonical) veth_plain (veth_keeps P.canonical) n };
+
+    fn from_peer(peer: P) -> InfoVethOf<P> {
+        InfoVethOf::Peer(peer)
+    }
+
+    fn peer(&self) -> Option<&P> {
+        match self {
+            InfoVethOf::Peer(peer) => Some(peer),
+            InfoVethOf::Other(_) => None,
+        }
+    }
+}
+
+impl<P: LinkPeer> Nla for InfoVethOf<P> {
+    ghost attribute = { veth_attribute P.canonical };
+
+    fn value_len(&self) -> usize {
+        peer_value_len(self)
+    }
+
+    fn kind(&self) -> u16 {
+        peer_kind(self)
+    }
+
+    fn emit_value(&self, buffer: &mut [u8]) {
+        peer_emit_value(self, buffer);
+    }
+
+    fn fit_len(&self) -> Option<usize> {
+        peer_fit_len(self)
+    }
+}
+
+/// Reads the attribute. A peer that is refused is (Veth, 1, Peer).
+impl<'a, P: LinkPeer> Parseable<NlaBuffer<'a>> for InfoVethOf<P> {
+    ghost meaning = { λ nla. meaning_in family.Veth (λ d. veth.Other d) (λ n. row_of (veth_rows P.meaning P.alike P.canonical P.well n)) nla };
+
+    ghost needs_memory = { λ nla. memory_in (λ n. row_of (veth_rows P.meaning P.alike P.canonical P.well n)) nla };
+
+    fn parse(alloc: Global, buffer: &NlaBuffer<'a>) -> Result<InfoVethOf<P>, DecodeError> {
+        peer_read(alloc, buffer, ())
+    }
+}
+
+impl<P: LinkPeer> UnnestedFamily for InfoVethOf<P> {
+    ghost written = { λ _. refl };
+
+    fn read_by_row(
+        alloc: Global,
+        nla: &NlaBuffer<'_>,
+        ctx: (),
+    ) -> Result<InfoVethOf<P>, DecodeError> {
+        peer_read(alloc, nla, ctx)
+    }
+
+    fn check_by_row(nla: &NlaBuffer<'_>, ctx: ()) -> Result<(), DecodeError> {
+        peer_check::<InfoVethOf<P>>(nla, ctx)
+    }
+
+    fn same_by_row(a: &NlaBuffer<'_>, b: &NlaBuffer<'_>, ctx: ()) -> bool {
+        peer_same::<InfoVethOf<P>>(a, b, ctx)
+    }
+}
+
+impl<P: LinkPeer> ExactEq for InfoVethOf<P> {
+    ghost use Rattle.std.proofs.Common.{rules};
+
+    ghost exact = { Prim.search (rules, P.exact) };
+}

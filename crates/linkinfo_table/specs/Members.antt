@@ -1,0 +1,154 @@
+-- What a family says of its attributes under one context, as `LinkFamily` has it, and what follows for payloads that are a list of its
+-- attributes, or begin with one.
+use Rattle.std.specs.Prelude.{◌≡◌, ◌≢◌, ◌↔◌, ℕ, ◌*◌, ◌≤◌, Bool, true, List, [], ◌∷◌, length, Result, Ok, Err, refl}
+use Rattle.std.specs.List.{AllByRecursion}
+use Rattle.std.proofs.Common.{sym, ap, ◌∙◌, arith}
+use Rattle.nla_frame.specs.Attribute.{Attribute, IsAttribute, IsBytes, Fits, canonical_string}
+use Rattle.nla_frame.specs.Error.{memory_fault}
+use Rattle.nla_frame.specs.Pieces.{pieces, pieces_of, split}
+use Rattle.nla_frame.specs.declared.error.Family.{Family}
+use Rattle.nla_frame.specs.declared.error.DecodeError.{DecodeError}
+use Rattle.nla_frame.specs.declared.default_nla.DefaultNla.{DefaultNla}
+use Rattle.nla_frame.proofs.ByteLists.{IsBytes-canonical_string}
+use Rattle.nla_frame.proofs.Emitting.{one_fits}
+use Rattle.nla_frame.proofs.Framing.{split_is, splits_attributes}
+use Rattle.nla_frame.proofs.Stepping.{pieces_split, pieces_nil, seen_room, by_pieces}
+use Rattle.linkinfo_table.specs.Codecs.{Codec, IsCodec}
+use Rattle.linkinfo_table.specs.Lists.{first_meaning, first_headers, first_alike, first_memory}
+use Rattle.linkinfo_table.specs.ListLaws.{header_is_no_memory, first_read_well, first_well_reads}
+use Rattle.linkinfo_table.specs.SelfList.{inside, read_inside, not_own, not_inner, list_codec, list_is_codec}
+use Rattle.linkinfo_table.specs.Rows.{meaning_in, alike_in, memory_in, WellFormed}
+use Rattle.linkinfo_table.specs.FamilyRows.{FamilyRow, PlainRow, EachKeeps, table_row, row_of, RowOwes}
+use Rattle.linkinfo_table.specs.FamilyRowLaws.{table_owes}
+use Rattle.linkinfo_table.specs.FlatLaws.{flat_alike_is, none_inside, flat_no_memory, flat_read_well, flat_well_reads, flat_well_attribute}
+
+pub record Members (X : Type 0) : Type 1 where
+  pub meaning : Attribute → Result X DecodeError
+  pub headers : Attribute → ℕ
+  pub alike : Attribute → Attribute → Bool
+  pub needs_memory : Attribute → Bool
+  pub attribute : X → Attribute
+  pub well : X → Type 0
+
+-- the laws of `LinkFamily`
+pub record IsFamily {X : Type 0} (f : Members X) : Type 0 where
+  pub alike_is : (a b : Attribute) (x y : X) → IsAttribute a → IsAttribute b → f.meaning a ≡ Ok x → f.meaning b ≡ Ok y → (f.alike a b ≡ true) ↔ (x ≡ y)
+  pub quarter : (a : Attribute) → 4 * f.headers a ≤ length a.value
+  pub no_memory : (a : Attribute) → f.meaning a ≢ Err memory_fault
+  pub read_well : (a : Attribute) (x : X) → IsAttribute a → f.meaning a ≡ Ok x → f.well x
+  pub well_reads : (x : X) → f.well x → Fits (f.attribute x) → f.meaning (f.attribute x) ≡ Ok x
+  pub well_attribute : (x : X) → f.well x → Fits (f.attribute x) → IsAttribute (f.attribute x)
+
+-- a family that is given by rows, with no attribute inside another
+abbrev pub row_members : {X : Type 0} → Family → (DefaultNla → X) → (X → Attribute) → (ℕ → FamilyRow X) → Members X
+row_members family other attribute rows = record {
+  meaning = λ a. meaning_in family other (λ n. row_of (rows n)) a;
+  headers = λ _. 0;
+  alike = λ a b. alike_in (λ n. row_of (rows n)) a b;
+  needs_memory = λ a. memory_in (λ n. row_of (rows n)) a;
+  attribute = attribute;
+  well = λ x. WellFormed other attribute (λ n. row_of (rows n)) x;
+}
+
+pub row_members_lawful : {X : Type 0} (family : Family) (other : DefaultNla → X) (attribute : X → Attribute) (rows : ℕ → FamilyRow X) →
+    ((n : ℕ) → RowOwes attribute n (row_of (rows n))) → ((d : DefaultNla) → attribute (other d) ≡ record { kind = d.kind; value = d.value }) →
+    IsFamily (row_members family other attribute rows)
+row_members_lawful family other attribute rows owes keeps_other = record {
+  alike_is = λ a b x y. flat_alike_is family other attribute rows owes keeps_other a b x y;
+  quarter = λ a. none_inside a;
+  no_memory = λ a. flat_no_memory family other attribute rows owes keeps_other a;
+  read_well = λ a x. flat_read_well family other attribute rows owes keeps_other a x;
+  well_reads = λ x. flat_well_reads family other attribute rows owes keeps_other attribute (λ x. refl) x;
+  well_attribute = λ x. flat_well_attribute family other attribute rows owes keeps_other attribute (λ x. refl) x;
+}
+
+-- a family that is given by a table
+abbrev pub table_members : {X : Type 0} → Family → (DefaultNla → X) → (X → Attribute) → List (PlainRow X) → Members X
+table_members family other attribute rows = row_members family other attribute (λ n. table_row rows n)
+
+pub table_members_lawful : {X : Type 0} (family : Family) (other : DefaultNla → X) (attribute : X → Attribute) (rows : List (PlainRow X)) →
+    EachKeeps attribute rows → ((d : DefaultNla) → attribute (other d) ≡ record { kind = d.kind; value = d.value }) →
+    IsFamily (table_members family other attribute rows)
+table_members_lawful family other attribute rows keeps keeps_other =
+    row_members_lawful family other attribute (λ n. table_row rows n) (λ n. table_owes attribute rows keeps n) keeps_other
+
+-- ---- a payload that is a list of attributes of the family
+
+abbrev pub list_of : {X : Type 0} → Members X → Codec
+list_of f = list_codec f.meaning f.headers f.alike f.needs_memory f.attribute f.well
+
+pub list_of_is_codec : {X : Type 0} (f : Members X) → IsFamily f → IsCodec (list_of f)
+list_of_is_codec f lawful =
+    list_is_codec f.meaning f.headers f.alike f.needs_memory f.attribute f.well lawful.alike_is lawful.quarter lawful.no_memory lawful.read_well lawful.well_reads
+    lawful.well_attribute
+
+-- ---- a payload of which the first attribute alone is read
+
+abbrev pub first_of : {X : Type 0} → Members X → Codec
+first_of {X = X} f = record {
+  Carrier = X;
+  means = λ p. inside (first_meaning f.meaning (pieces p));
+  canon = λ x. canonical_string (f.attribute x);
+  Holds = f.well;
+  alike = λ p q. first_alike f.alike (pieces p) (pieces q);
+  headers = λ p. first_headers f.headers (pieces p);
+  needs_memory = λ p. first_memory f.needs_memory (pieces p);
+}
+
+module _ {X : Type 0} (f : Members X) (lawful : IsFamily f) where
+  fronts_alike : (front other : List Attribute) (left rest : List ℕ) (x y : X) → AllByRecursion IsAttribute front → AllByRecursion IsAttribute other →
+      first_meaning f.meaning (pieces_of front left) ≡ Ok x → first_meaning f.meaning (pieces_of other rest) ≡ Ok y →
+      (first_alike f.alike (pieces_of front left) (pieces_of other rest) ≡ true) ↔ (x ≡ y)
+  fronts_alike [] other [] rest x y i j h k = absurd cc
+  fronts_alike [] other (b ∷ left) rest x y i j h k = absurd cc
+  fronts_alike (a ∷ front) [] left [] x y i j h k = absurd cc
+  fronts_alike (a ∷ front) [] left (b ∷ rest) x y i j h k = absurd cc
+  fronts_alike (a ∷ front) (b ∷ other) left rest x y i j h k = lawful.alike_is a b x y i.0 j.0 h k
+
+  first_alike_is : (p q : List ℕ) (x y : X) → IsBytes p → IsBytes q → first_meaning f.meaning (pieces p) ≡ Ok x → first_meaning f.meaning (pieces q) ≡ Ok y →
+      (first_alike f.alike (pieces p) (pieces q) ≡ true) ↔ (x ≡ y)
+  first_alike_is p q x y bp bq h k =
+      let u = split_is p bp in
+      let v = split_is q bq in
+      let same : first_alike f.alike (pieces p) (pieces q) ≡ first_alike f.alike (pieces_of (split p).front (split p).left) (pieces_of (split q).front (split q).left) =
+      ap (λ (ps : List (Result Attribute ℕ)). first_alike f.alike ps (pieces q)) (pieces_split p)
+      ∙ ap (λ (qs : List (Result Attribute ℕ)). first_alike f.alike (pieces_of (split p).front (split p).left) qs) (pieces_split q) in
+      let law =
+      fronts_alike (split p).front (split q).front (split p).left (split q).left x y (splits_attributes p (split p).front (split p).left u)
+      (splits_attributes q (split q).front (split q).left v) (ap (λ (ps : List (Result Attribute ℕ)). first_meaning f.meaning ps) (sym (pieces_split p)) ∙ h)
+      (ap (λ (ps : List (Result Attribute ℕ)). first_meaning f.meaning ps) (sym (pieces_split q)) ∙ k) in
+      (λ e. law.0 (sym same ∙ e), λ e. same ∙ law.1 e)
+
+  first_quarter : (p : List ℕ) → 4 * first_headers f.headers (pieces p) ≤ length p
+  first_quarter p = by_pieces (λ z. 4 * first_headers f.headers (pieces z) ≤ length z)
+      (omega (arith, ap (λ (ps : List (Result Attribute ℕ)). first_headers f.headers ps) pieces_nil))
+      (λ z some e. omega (arith, ap (λ (ps : List (Result Attribute ℕ)). first_headers f.headers ps) e, seen_room z))
+      (λ z a rest e room more. omega (arith, ap (λ (ps : List (Result Attribute ℕ)). first_headers f.headers ps) e, room, lawful.quarter a))
+      p
+
+  abbrev bad : DecodeError → Result X DecodeError
+  bad e = Err e
+
+  bad_same : (d e : DecodeError) → bad d ≡ bad e → d ≡ e
+  bad_same d e h = cc
+
+  first_no_memory : (ps : List (Result Attribute ℕ)) → first_meaning f.meaning ps ≢ Err memory_fault
+  first_no_memory [] h = header_is_no_memory (bad_same _ _ h)
+  first_no_memory ((Err n) ∷ more) h = header_is_no_memory (bad_same _ _ h)
+  first_no_memory ((Ok a) ∷ more) h = lawful.no_memory a h
+
+  pub first_of_is_codec : IsCodec (first_of f)
+  first_of_is_codec = record {
+    holds = λ p x bytes e.
+        first_read_well f.meaning f.attribute f.well lawful.read_well lawful.well_reads lawful.well_attribute p x bytes (read_inside (first_meaning f.meaning (pieces p)) x e);
+    again = λ x w small.
+        ap (λ (r : Result X DecodeError). inside r)
+        (first_well_reads f.meaning f.attribute f.well lawful.read_well lawful.well_reads lawful.well_attribute (canonical_string (f.attribute x)) x
+        (one_fits (f.attribute x) small) refl w);
+    bytes = λ x w small. IsBytes-canonical_string (f.attribute x) (lawful.well_attribute x w (one_fits (f.attribute x) small)).bytes;
+    alike_is = λ p q x y bp bq e g.
+        first_alike_is p q x y bp bq (read_inside (first_meaning f.meaning (pieces p)) x e) (read_inside (first_meaning f.meaning (pieces q)) y g);
+    quarter = λ p. first_quarter p;
+    no_own_memory = λ p. not_own (first_meaning f.meaning (pieces p));
+    no_inner_memory = λ p. not_inner (first_meaning f.meaning (pieces p)) (first_no_memory (pieces p));
+  }

@@ -1,0 +1,103 @@
+//! A family by rows of which no attribute holds others is a `LinkFamily`.
+
+ghost use Rattle.std.specs.Prelude.{◌≡◌, IsOk};
+ghost use Rattle.nla_frame.specs.Answers.{CertainUnless, Gives, verdict};
+ghost use Rattle.linkinfo_table.specs.FamilyRows.{lookup_of, row_of};
+ghost use Rattle.linkinfo_table.specs.Rows.{alike_in, meaning_in, memory_in, WellFormed};
+ghost use Rattle.linkinfo_table.specs.FlatLaws.{flat_alike_is, none_inside, flat_no_memory, flat_read_well, flat_well_reads, flat_well_attribute};
+
+use crate::family::LinkFamily;
+use crate::lookup::Lookup;
+use crate::row_family::RowFamily;
+use nla_frame::{DecodeError, Family, HeaderCount, Nla, NlaBuffer};
+use std::alloc::Global;
+
+/// A family by rows of which no attribute holds others, so that none is looked at inside one. It is a `LinkFamily` by its rows, and by
+/// these calls, which read, check and compare an attribute by its row.
+pub trait UnnestedFamily: RowFamily + Nla {
+    /// Reads an attribute by its row.
+    fn read_by_row(
+        alloc: Global,
+        nla: &NlaBuffer<'_>,
+        ctx: <Self as RowFamily>::Context,
+    ) -> Result<Self, DecodeError>
+        ensures answer { Gives (λ value. value) result (meaning_in Self.FAMILY Self.other (λ n. row_of (Self.rows ctx n)) nla.now) }
+        ensures certain { CertainUnless (memory_in (λ n. row_of (Self.rows ctx n)) nla.now) (λ value. value) result (meaning_in Self.FAMILY Self.other (λ n. row_of (Self.rows ctx n)) nla.now) };
+
+    /// Whether `read_by_row` would succeed, or the attribute's fault. Takes no memory.
+    fn check_by_row(
+        nla: &NlaBuffer<'_>,
+        ctx: <Self as RowFamily>::Context,
+    ) -> Result<(), DecodeError>
+        ensures { result ≡ verdict (meaning_in Self.FAMILY Self.other (λ n. row_of (Self.rows ctx n)) nla.now) };
+
+    /// Whether two attributes mean the same value. Asks that both are accepted, and takes no memory.
+    fn same_by_row(a: &NlaBuffer<'_>, b: &NlaBuffer<'_>, ctx: <Self as RowFamily>::Context) -> bool
+        requires first { IsOk (meaning_in Self.FAMILY Self.other (λ n. row_of (Self.rows ctx n)) a.now) }
+        requires second { IsOk (meaning_in Self.FAMILY Self.other (λ n. row_of (Self.rows ctx n)) b.now) }
+        ensures { result ≡ alike_in (λ n. row_of (Self.rows ctx n)) a.now b.now };
+
+    ghost written: { (x : Self) → Self.attribute x ≡ Self.canonical x };
+}
+
+impl<F: UnnestedFamily> LinkFamily for F {
+    type Context = <F as RowFamily>::Context;
+
+    const FAMILY: Family = <F as RowFamily>::FAMILY;
+
+    ghost FAMILY = { F.RowFamily.FAMILY };
+
+    ghost lookup = { λ c n. lookup_of (F.rows c n) };
+
+    ghost meaning = { λ c a. meaning_in F.RowFamily.FAMILY F.other (λ n. row_of (F.rows c n)) a };
+
+    ghost needs_memory = { λ c a. memory_in (λ n. row_of (F.rows c n)) a };
+
+    ghost headers = { λ _ _. 0 };
+
+    ghost alike = { λ c a b. alike_in (λ n. row_of (F.rows c n)) a b };
+
+    ghost well = { λ c x. WellFormed F.other F.canonical (λ n. row_of (F.rows c n)) x };
+
+    ghost alike_is = { λ c a b x y. flat_alike_is F.RowFamily.FAMILY F.other F.canonical (F.rows c) (F.owes c) F.keeps_other a b x y };
+
+    ghost headers_quarter = { λ _ a. none_inside a };
+
+    ghost no_memory = { λ c a. flat_no_memory F.RowFamily.FAMILY F.other F.canonical (F.rows c) (F.owes c) F.keeps_other a };
+
+    ghost read_well = { λ c a x. flat_read_well F.RowFamily.FAMILY F.other F.canonical (F.rows c) (F.owes c) F.keeps_other a x };
+
+    ghost well_reads = { λ c x. flat_well_reads F.RowFamily.FAMILY F.other F.canonical (F.rows c) (F.owes c) F.keeps_other F.attribute F.written x };
+
+    ghost well_attribute = { λ c x. flat_well_attribute F.RowFamily.FAMILY F.other F.canonical (F.rows c) (F.owes c) F.keeps_other F.attribute F.written x };
+
+    fn shape(ctx: <F as RowFamily>::Context, kind: u16) -> Lookup {
+        <F as RowFamily>::shape(ctx, kind)
+    }
+
+    fn read(
+        alloc: Global,
+        nla: &NlaBuffer<'_>,
+        ctx: <F as RowFamily>::Context,
+        _count: &mut HeaderCount,
+    ) -> Result<F, DecodeError> {
+        F::read_by_row(alloc, nla, ctx)
+    }
+
+    fn check_value(
+        nla: &NlaBuffer<'_>,
+        ctx: <F as RowFamily>::Context,
+        _count: &mut HeaderCount,
+    ) -> Result<(), DecodeError> {
+        F::check_by_row(nla, ctx)
+    }
+
+    fn same_value(
+        a: &NlaBuffer<'_>,
+        b: &NlaBuffer<'_>,
+        ctx: <F as RowFamily>::Context,
+        _count: &mut HeaderCount,
+    ) -> bool {
+        F::same_by_row(a, b, ctx)
+    }
+}
