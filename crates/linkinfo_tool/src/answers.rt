@@ -3,7 +3,8 @@
 ghost use Rattle.std.specs.Prelude.{codes, ◌≡◌, ◌++◌, [], ◌∷◌, if◌then◌else◌, Some, None, IfOk, OnOk, length, map};
 ghost use Rattle.hex.specs.Hex.{encode_lower};
 ghost use Rattle.nla_frame.specs.Attribute.{ListFits, list_string};
-ghost use Rattle.linkinfo.specs.Reading.{item_attribute};
+ghost use Rattle.linkinfo.specs.BytesPeer.{bytes_peer};
+ghost use Rattle.linkinfo.specs.Items.{link_attribute};
 ghost use Rattle.linkinfo_tool.specs.Answers.{answer_of, bad_line, bytes_of, canon_answer, canonical_text, check_answer, comparison_answer, fault_text, line_answer, on_two, words_answer};
 ghost use Rattle.linkinfo_tool.specs.Lines.{words_of};
 
@@ -115,7 +116,7 @@ impl Answers {
     /// Adds the canonical string of the items in hex, or that they do not fit.
     fn push_canonical(&mut self, items: &[LinkInfo]) -> Result<(), AllocError>
         ensures { OnOk result (self.new.text.items
-            ≡ self.old.text.items ++ canonical_text (map item_attribute items.now)) }
+            ≡ self.old.text.items ++ canonical_text (map (link_attribute bytes_peer) items.now)) }
     {
         let Some(len) = nlas_fit_len(items) else {
             return self.text.extend_from_slice(b"unfit");
@@ -184,9 +185,9 @@ fn read_hex(word: &[u8], bytes: &mut Vec<u8>) -> Result<bool, AllocError>
 
 /// Makes the buffer the canonical string of the items. Asks that the items fit and that this is its length.
 fn write_canonical(items: &[LinkInfo], len: usize, bytes: &mut Vec<u8>) -> Result<(), AllocError>
-    requires fits { ListFits (map item_attribute items.now) }
-    requires exact { len ≡ length (list_string (map item_attribute items.now)) }
-    ensures { OnOk result (bytes.new.items ≡ list_string (map item_attribute items.now)) }
+    requires fits { ListFits (map (link_attribute bytes_peer) items.now) }
+    requires exact { len ≡ length (list_string (map (link_attribute bytes_peer) items.now)) }
+    ensures { OnOk result (bytes.new.items ≡ list_string (map (link_attribute bytes_peer) items.now)) }
 {
     bytes.resize(len, 0)?;
     emit_nlas(items, bytes);
