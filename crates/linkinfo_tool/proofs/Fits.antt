@@ -1,0 +1,43 @@
+-- When a list's canonical string is answered.
+use Rattle.std.proofs.Common.{◌≡◌, ◌≢◌, ℕ, ◌^◌, ◌≤◌, Bool, true, false, nat_le, if◌then◌else◌, List, [], ◌∷◌, length, refl, ap, arith}
+use Rattle.std.specs.Prelude.{codes}
+use Rattle.std.specs.Bool.{Decides}
+use Rattle.std.specs.List.{AllByRecursion, list_all}
+use Rattle.std.proofs.lemmas.Bool.Decides.{Decides-and, Decides-like, Decides-ltb, nat_tests}
+use Rattle.hex.specs.Hex.{encode_lower}
+use Rattle.nla_frame.specs.Attribute.{Attribute, Fits, ListFits, list_string}
+use Rattle.linkinfo_tool.specs.Answers.{canonical_text, list_fits, word_of}
+
+short_decides : (n : ℕ) → Decides (nat_le n 65531) (n ≤ 65531)
+short_decides n = (λ h. grind (arith, nat_tests), λ h. grind (arith, nat_tests))
+
+each_decides : (attributes : List Attribute) → Decides (list_all (λ a. nat_le (length a.value) 65531) attributes) (AllByRecursion Fits attributes)
+each_decides [] = (λ _. tt, λ _. refl)
+each_decides (a ∷ attributes) = Decides-and _ _ (short_decides (length a.value)) (each_decides attributes)
+
+pub list_fits_decides : (attributes : List Attribute) → Decides (list_fits attributes) (ListFits attributes)
+list_fits_decides attributes =
+    Decides-like _ (λ p. record { each = p.0; total = p.1 }) (λ f. (f.each, f.total))
+    (Decides-and _ _ (each_decides attributes) (Decides-ltb (length (list_string attributes)) (2 ^ 64)))
+
+pub canonical_text-fits : (attributes : List Attribute) → ListFits attributes → canonical_text attributes ≡ word_of (list_string attributes)
+canonical_text-fits attributes h =
+    ap (λ (b : Bool). if b then word_of (list_string attributes) else codes "unfit") ((list_fits_decides attributes).1 h)
+
+pub canonical_text-unfit : (attributes : List Attribute) → ¬ ListFits attributes → canonical_text attributes ≡ codes "unfit"
+canonical_text-unfit attributes h =
+    let decides = list_fits_decides attributes in
+    let none : list_fits attributes ≡ false = no_from_not (list_fits attributes) (λ e. h (decides.0 e)) in
+    ap (λ (b : Bool). if b then word_of (list_string attributes) else codes "unfit") none
+  where
+    no_from_not : (b : Bool) → (b ≡ true → ⊥) → b ≡ false
+    no_from_not true h = absurd (h refl)
+    no_from_not false h = refl
+
+pub word_of-none : (bytes : List ℕ) → length bytes ≡ 0 → word_of bytes ≡ codes "-"
+word_of-none [] h = refl
+word_of-none (b ∷ bytes) h = absurd (omega arith)
+
+pub word_of-some : (bytes : List ℕ) → length bytes ≢ 0 → word_of bytes ≡ encode_lower bytes
+word_of-some [] h = absurd (h refl)
+word_of-some (b ∷ bytes) h = refl

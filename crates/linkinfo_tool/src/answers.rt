@@ -1,0 +1,205 @@
+//! The answers to the lines of an input.
+
+ghost use Rattle.std.specs.Prelude.{codes, ◌≡◌, ◌++◌, [], ◌∷◌, if◌then◌else◌, Some, None, IfOk, OnOk, length, map};
+ghost use Rattle.hex.specs.Hex.{encode_lower};
+ghost use Rattle.nla_frame.specs.Attribute.{ListFits, list_string};
+ghost use Rattle.linkinfo.specs.BytesPeer.{bytes_peer};
+ghost use Rattle.linkinfo.specs.Items.{link_attribute};
+ghost use Rattle.linkinfo_tool.specs.Answers.{answer_of, bad_line, bytes_of, canon_answer, canonical_text, check_answer, comparison_answer, fault_text, line_answer, on_two, words_answer};
+ghost use Rattle.linkinfo_tool.specs.Lines.{words_of};
+
+use crate::lines::{cut, first_line};
+use linkinfo::{Cause, DecodeError, LinkInfo, VecLinkInfo, emit_nlas, nlas_fit_len};
+use std::alloc::{AllocError, Global};
+use std::io::Write;
+
+/// The answers to all lines of an input, each with its line feed. It fails only where memory runs out.
+pub fn answer(alloc: Global, input: &[u8]) -> Result<Vec<u8>, AllocError>
+    ensures { IfOk result (λ text. text.items ≡ answer_of input.now) }
+{
+    let mut answers = Answers::new(alloc);
+    let mut rest = input;
+    while !rest.is_empty() {
+        let (line, more) = first_line(rest);
+        answers.push_line(line)?;
+        rest = more;
+    }
+    Ok(answers.text)
+}
+
+/// The answers so far, and buffers that each line uses again.
+#[derive(Drop)]
+struct Answers {
+    alloc: Global,
+    /// The answers.
+    text: Vec<u8>,
+    /// What a word names, and then the canonical string.
+    bytes: Vec<u8>,
+    /// What the second word of a comparison names.
+    second: Vec<u8>,
+}
+
+impl Answers {
+    fn new(alloc: Global) -> Answers
+        ensures { result.text.items ≡ [] }
+    {
+        Answers {
+            alloc,
+            text: Vec::new(alloc),
+            bytes: Vec::new(alloc),
+            second: Vec::new(alloc),
+        }
+    }
+
+    /// Adds the answer to a line, with its line feed.
+    fn push_line(&mut self, line: &[u8]) -> Result<(), AllocError>
+        ensures { OnOk result (self.new.text.items ≡ self.old.text.items ++ line_answer line.now) }
+    {
+        self.push_answer(line)?;
+        self.text.extend_from_slice(b"\n")
+    }
+
+    fn push_answer(&mut self, line: &[u8]) -> Result<(), AllocError>
+        ensures { OnOk result (self.new.text.items ≡ self.old.text.items ++ words_answer (words_of line.now)) }
+    {
+        let (verb, operands) = cut(line, b' ');
+        let Some(operands) = operands else {
+            return self.push_bad_line();
+        };
+        self.push_command(verb, operands)
+    }
+
+    /// Adds the answer to a verb and what follows its space. An operand with a space in it names no bytes, so the last operand is read
+    /// without looking for more spaces.
+    fn push_command(&mut self, verb: &[u8], operands: &[u8]) -> Result<(), AllocError>
+        ensures { OnOk result (self.new.text.items
+            ≡ self.old.text.items ++ words_answer (verb.now ∷ words_of operands.now)) }
+    {
+        if verb == b"check".as_slice() {
+            self.push_check(operands)
+        } else if verb == b"canon".as_slice() {
+            self.push_canon(operands)
+        } else if verb == b"same".as_slice() {
+            self.push_same(operands)
+        } else {
+            self.push_bad_line()
+        }
+    }
+
+    /// `check HEX`: whether the list is accepted.
+    fn push_check(&mut self, word: &[u8]) -> Result<(), AllocError>
+        ensures { OnOk result (self.new.text.items ≡ self.old.text.items ++ check_answer word.now) }
+    {
+        if !read_hex(word, &mut self.bytes)? {
+            return self.push_bad_line();
+        }
+        match linkinfo::check(&self.bytes) {
+            Ok(()) => self.text.extend_from_slice(b"ok"),
+            Err(fault) => self.push_fault(fault),
+        }
+    }
+
+    /// `canon HEX`: the canonical string of the list, if it fits.
+    fn push_canon(&mut self, word: &[u8]) -> Result<(), AllocError>
+        ensures { OnOk result (self.new.text.items ≡ self.old.text.items ++ canon_answer word.now) }
+    {
+        if !read_hex(word, &mut self.bytes)? {
+            return self.push_bad_line();
+        }
+        match VecLinkInfo::parse(self.alloc, &self.bytes) {
+            Ok(list) => self.push_canonical(list.0.as_slice()),
+            Err(fault) if fault.cause == Cause::Memory => Err(AllocError),
+            Err(fault) => self.push_fault(fault),
+        }
+    }
+
+    /// Adds the canonical string of the items in hex, or that they do not fit.
+    fn push_canonical(&mut self, items: &[LinkInfo]) -> Result<(), AllocError>
+        ensures { OnOk result (self.new.text.items
+            ≡ self.old.text.items ++ canonical_text (map (link_attribute bytes_peer) items.now)) }
+    {
+        let Some(len) = nlas_fit_len(items) else {
+            return self.text.extend_from_slice(b"unfit");
+        };
+        if len == 0 {
+            return self.text.extend_from_slice(b"-");
+        }
+        write_canonical(items, len, &mut self.bytes)?;
+        push_hex(&self.bytes, &mut self.text)
+    }
+
+    /// `same HEX HEX`: whether the two lists mean the same.
+    fn push_same(&mut self, operands: &[u8]) -> Result<(), AllocError>
+        ensures { OnOk result (self.new.text.items
+            ≡ self.old.text.items ++ on_two comparison_answer (words_of operands.now)) }
+    {
+        let (first, second) = cut(operands, b' ');
+        let Some(second) = second else {
+            return self.push_bad_line();
+        };
+        self.push_comparison(first, second)
+    }
+
+    /// Adds the answer to a comparison of what two words name.
+    fn push_comparison(&mut self, first: &[u8], second: &[u8]) -> Result<(), AllocError>
+        ensures { OnOk result (self.new.text.items
+            ≡ self.old.text.items ++ comparison_answer first.now second.now) }
+    {
+        if !read_hex(first, &mut self.bytes)? || !read_hex(second, &mut self.second)? {
+            return self.push_bad_line();
+        }
+        match linkinfo::same(&self.bytes, &self.second) {
+            Ok(true) => self.text.extend_from_slice(b"true"),
+            Ok(false) => self.text.extend_from_slice(b"false"),
+            Err(fault) => self.push_fault(fault),
+        }
+    }
+
+    fn push_fault(&mut self, fault: DecodeError) -> Result<(), AllocError>
+        ensures { OnOk result (self.new.text.items ≡ self.old.text.items ++ fault_text fault) }
+    {
+        write!(self.text, "err {fault}").map_err(|_| AllocError)
+    }
+
+    fn push_bad_line(&mut self) -> Result<(), AllocError>
+        ensures { OnOk result (self.new.text.items ≡ self.old.text.items ++ bad_line) }
+    {
+        self.text.extend_from_slice(b"bad line")
+    }
+}
+
+/// Reads the bytes that a word names into the buffer, and answers whether it names some.
+fn read_hex(word: &[u8], bytes: &mut Vec<u8>) -> Result<bool, AllocError>
+    ensures { IfOk result (λ named. (if named then Some bytes.new.items else None) ≡ bytes_of word.now) }
+{
+    if word == b"-".as_slice() {
+        bytes.clear();
+        return Ok(true);
+    }
+    if word.is_empty() {
+        return Ok(false);
+    }
+    bytes.resize(word.len() / 2, 0)?;
+    Ok(hex::decode_to_slice(word, bytes.as_mut_slice()).is_ok())
+}
+
+/// Makes the buffer the canonical string of the items. Asks that the items fit and that this is its length.
+fn write_canonical(items: &[LinkInfo], len: usize, bytes: &mut Vec<u8>) -> Result<(), AllocError>
+    requires fits { ListFits (map (link_attribute bytes_peer) items.now) }
+    requires exact { len ≡ length (list_string (map (link_attribute bytes_peer) items.now)) }
+    ensures { OnOk result (bytes.new.items ≡ list_string (map (link_attribute bytes_peer) items.now)) }
+{
+    bytes.resize(len, 0)?;
+    emit_nlas(items, bytes);
+    Ok(())
+}
+
+/// Adds the bytes in lower case hex.
+fn push_hex(bytes: &[u8], text: &mut Vec<u8>) -> Result<(), AllocError>
+    ensures { OnOk result (text.new.items ≡ text.old.items ++ encode_lower bytes.now) }
+{
+    let start = text.len();
+    let digits = bytes.len().checked_mul(2).ok_or(AllocError)?;
+    text.resize(start.checked_add(digits).ok_or(AllocError)?, 0)?;
+    hex::encode_to_slice(bytes, &mut text[start..]).map_err(|_| AllocError)
+}
