@@ -1,6 +1,7 @@
 pub mod BytesPeer
 pub mod Comparing
 pub mod Data
+pub mod Equal
 pub mod Families
 pub mod Items
 pub mod Payloads

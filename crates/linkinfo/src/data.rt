@@ -14,7 +14,7 @@ use linkinfo_table::{
     LinkPeer, first_check, first_read, first_same, list_check, list_read, list_same,
 };
 use nla_frame::{
-    Bytes, DecodeError, HeaderCount, Nla, Nlas, emit_nlas, nlas_buffer_len, nlas_fit_len,
+    Bytes, DecodeError, ExactEq, HeaderCount, Nla, Nlas, emit_nlas, nlas_buffer_len, nlas_fit_len,
 };
 use std::alloc::Global;
 
@@ -184,4 +184,20 @@ impl<P: LinkPeer> Nla for InfoDataOf<P> {
             InfoDataOf::Other(bytes) => fitting(bytes.len()),
         }
     }
+}
+
+impl<P: ExactEq> ExactEq for InfoDataOf<P> {
+    ghost use Rattle.std.specs.Cmp.Lexicographic.{bytes_decides, pointwise_decides};
+    ghost use Rattle.linkinfo.specs.declared.data.InfoDataOf.TheVariants as info;
+    ghost use Rattle.linkinfo.specs.Equal.{apart, under};
+    ghost use Rattle.linkinfo_devices.specs.contracts.vrf.InfoVrfExactEq.TheImpl.Laws as vrf;
+    ghost use Rattle.linkinfo_devices.specs.contracts.xfrm.InfoXfrmExactEq.TheImpl.Laws as xfrm;
+    ghost use Rattle.std.proofs.Common.{rules};
+
+    ghost exact = { elim [
+      | info.Veth x ↦ elim [ info.Veth y ↦ under (λ v. info.Veth v) (λ e. cc) (Prim.search (rules, P.exact)) | _ ↦ apart (λ e. cc) ]
+      | info.Vrf x ↦ elim [ info.Vrf y ↦ under (λ v. info.Vrf v) (λ e. cc) (pointwise_decides vrf.exact-law x y) | _ ↦ apart (λ e. cc) ]
+      | info.Xfrm x ↦ elim [ info.Xfrm y ↦ under (λ v. info.Xfrm v) (λ e. cc) (pointwise_decides xfrm.exact-law x y) | _ ↦ apart (λ e. cc) ]
+      | info.Other x ↦ elim [ info.Other y ↦ under (λ v. info.Other v) (λ e. cc) (bytes_decides x y) | _ ↦ apart (λ e. cc) ]
+    ] };
 }
