@@ -9,6 +9,8 @@ mod link_info;
 mod list;
 mod port_data;
 mod role;
+#[cfg(test)]
+mod tests;
 mod walk;
 mod xstats;
 

@@ -1,0 +1,15 @@
+//! Tests over worked strings, and over what a Linux kernel answered.
+
+mod assertions;
+mod attributes;
+mod comparing;
+mod counts;
+mod dumps;
+mod faults;
+mod fronts;
+mod lists;
+mod longest;
+mod payloads;
+mod peers;
+mod walks;
+mod worked;

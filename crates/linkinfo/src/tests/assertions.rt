@@ -1,0 +1,130 @@
+//! What the tests ask of one string or one value.
+
+use crate::{
+    Cause, DecodeError, Family, HeaderCount, LinkInfo, LinkInfoOf, LinkPeer, Nla, Nlas,
+    VecLinkInfo, VecLinkInfoOf, check, emit_nlas, nlas_buffer_len, nlas_fit_len, same,
+};
+use std::alloc::{AllocError, Global};
+use std::process::Abort;
+
+/// The fault of a header that is not accepted.
+pub const HEADER_FAULT: DecodeError = DecodeError {
+    family: Family::Frame,
+    kind: 0,
+    cause: Cause::Header,
+};
+
+/// A fault of an attribute of the list itself.
+pub fn link_fault(kind: u16, cause: Cause) -> DecodeError {
+    DecodeError {
+        family: Family::LinkInfo,
+        kind,
+        cause,
+    }
+}
+
+/// The bytes of a text in hexadecimal digits, between which spaces may stand.
+pub fn bytes_of(rt: &impl Abort, alloc: Global, text: &str) -> Result<Vec<u8>, AllocError> {
+    let mut bytes = Vec::new(alloc);
+    let mut high = None;
+    for character in text.as_bytes() {
+        let digit = match *character {
+            b' ' => continue,
+            b'0'..=b'9' => *character - b'0',
+            b'a'..=b'f' => *character - b'a' + 10,
+            _ => panic!(rt; "a digit in {text}"),
+        };
+        match high {
+            None => high = Some(digit << 4),
+            Some(first) => {
+                bytes.push(first | digit)?;
+                high = None;
+            }
+        }
+    }
+    assert!(rt; high.is_none(), "an even number of digits in {text}");
+    Ok(bytes)
+}
+
+/// A list of these attributes.
+pub fn list_of(items: Vec<LinkInfo>) -> VecLinkInfo {
+    VecLinkInfoOf(Nlas::new(items))
+}
+
+/// The list is emitted as the string into a longer buffer, whose last three bytes stay.
+pub fn assert_emitted<P: LinkPeer>(
+    rt: &impl Abort,
+    alloc: Global,
+    items: &[LinkInfoOf<P>],
+    string: &[u8],
+) -> Result<(), AllocError> {
+    let Some(len) = nlas_fit_len(items) else {
+        panic!(rt; "the list of {string:?} fits");
+    };
+    assert_eq!(rt; len, string.len());
+    assert_eq!(rt; nlas_buffer_len(items), len);
+    assert!(rt; len <= 100_000);
+    let mut buffer = vec![in alloc; 255u8; len + 3]?;
+    emit_nlas(items, &mut buffer);
+    assert_eq!(rt; &buffer[..len], string);
+    assert_eq!(rt; &buffer[len..], [255; 3].as_slice());
+    Ok(())
+}
+
+/// The string is read as the list, and the list is emitted as its canonical string, which reads as the same list.
+pub fn assert_reads(
+    rt: &impl Abort,
+    alloc: Global,
+    text: &str,
+    items: Vec<LinkInfo>,
+    canonical: &str,
+) -> Result<(), DecodeError> {
+    let wanted = list_of(items);
+    let canonical = bytes_of(rt, alloc, canonical)?;
+    assert_emitted(rt, alloc, wanted.0.as_slice(), &canonical)?;
+    for bytes in [bytes_of(rt, alloc, text)?.as_slice(), &canonical] {
+        assert_eq!(rt; check(bytes), Ok(()), "checking {text}");
+        let read = VecLinkInfo::parse(alloc, bytes)?;
+        assert!(rt; read == wanted, "reading {text}");
+        let mut count = HeaderCount::new();
+        let counted = VecLinkInfo::parse_counted(alloc, bytes, &mut count)?;
+        assert!(rt; counted == wanted, "reading {text}");
+        assert_eq!(rt; same(bytes, &canonical), Ok(true), "comparing {text}");
+    }
+    Ok(())
+}
+
+/// The string is refused with this fault by every call.
+pub fn assert_refused(rt: &impl Abort, alloc: Global, bytes: &[u8], fault: DecodeError) {
+    assert_eq!(rt; check(bytes), Err(fault), "checking {bytes:?}");
+    let read = VecLinkInfo::parse(alloc, bytes);
+    assert_eq!(rt; read.err(), Some(fault), "reading {bytes:?}");
+    assert_eq!(rt; same(bytes, &[]), Err(fault), "comparing {bytes:?}");
+    assert_eq!(rt; same(&[], bytes), Err(fault), "comparing {bytes:?}");
+}
+
+/// The attribute has this type and payload, and is emitted as the string.
+pub fn assert_attribute<T: Nla>(
+    rt: &impl Abort,
+    alloc: Global,
+    value: &T,
+    payload: &[u8],
+    string: &[u8],
+) -> Result<(), AllocError> {
+    let Some(len) = value.fit_len() else {
+        panic!(rt; "the value of {string:?} fits");
+    };
+    assert_eq!(rt; len, payload.len());
+    assert_eq!(rt; value.value_len(), len);
+    let mut buffer = vec![in alloc; 255u8; len]?;
+    value.emit_value(&mut buffer);
+    assert_eq!(rt; buffer.as_slice(), payload);
+    let len = value.buffer_len();
+    assert_eq!(rt; len, string.len());
+    assert!(rt; len <= 100_000);
+    let mut buffer = vec![in alloc; 255u8; len + 3]?;
+    value.emit(&mut buffer);
+    assert_eq!(rt; &buffer[..len], string);
+    assert_eq!(rt; &buffer[len..], [255; 3].as_slice());
+    Ok(())
+}

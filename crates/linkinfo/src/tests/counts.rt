@@ -1,0 +1,58 @@
+//! How many headers are looked at.
+
+use super::assertions::{bytes_of, link_fault};
+use super::worked::{
+    DATA_TWICE, FIRST_FAULT, PFCP, PFCP_NO_NUL, SECOND_PORT_DATA, VETH_TAIL, XFRM,
+};
+use crate::{Cause, DecodeError, Family, HeaderCount, VecLinkInfo, check_counted, same_counted};
+use std::test::Fail;
+
+#[test]
+fn counts_of_one_string(rt: HostRuntime) -> Result<(), Fail> {
+    let alloc = rt.alloc();
+    let order = link_fault(5, Cause::Order);
+    let length = DecodeError {
+        family: Family::Vrf,
+        kind: 1,
+        cause: Cause::Length,
+    };
+    for (text, fault, headers, allowed) in [
+        ("", None, 0, 0),
+        (XFRM, None, 4, 8),
+        (DATA_TWICE, None, 4, 7),
+        (VETH_TAIL, None, 3, 7),
+        (SECOND_PORT_DATA, Some(order), 3, 4),
+        (FIRST_FAULT, Some(length), 3, 5),
+    ] {
+        let bytes = bytes_of(&rt, alloc, text)?;
+        assert_eq!(rt; bytes.len() / 4, allowed, "the quarter of {text}");
+        let mut count = HeaderCount::new();
+        let checked = check_counted(&bytes, &mut count);
+        assert_eq!(rt; checked.err(), fault, "checking {text}");
+        assert_eq!(rt; count.get(), headers, "headers of {text}");
+        let mut count = HeaderCount::new();
+        let read = VecLinkInfo::parse_counted(alloc, &bytes, &mut count);
+        assert_eq!(rt; read.err(), fault, "reading {text}");
+        assert_eq!(rt; count.get(), headers, "headers of {text}");
+    }
+    Ok(())
+}
+
+#[test]
+fn counts_of_two_strings(rt: HostRuntime) -> Result<(), Fail> {
+    let alloc = rt.alloc();
+    let order = link_fault(5, Cause::Order);
+    for (a, b, wanted, headers) in [
+        (PFCP_NO_NUL, PFCP, Ok(true), 4),
+        (XFRM, SECOND_PORT_DATA, Err(order), 7),
+        (SECOND_PORT_DATA, XFRM, Err(order), 3),
+    ] {
+        let first = bytes_of(&rt, alloc, a)?;
+        let second = bytes_of(&rt, alloc, b)?;
+        let mut count = HeaderCount::new();
+        let answer = same_counted(&first, &second, &mut count);
+        assert_eq!(rt; answer, wanted, "{a} and {b}");
+        assert_eq!(rt; count.get(), headers, "headers of {a} and {b}");
+    }
+    Ok(())
+}

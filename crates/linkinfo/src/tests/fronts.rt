@@ -1,0 +1,136 @@
+//! Every front of every worked string: `check` and `parse` agree, and an accepted front is the same as itself.
+
+use super::assertions::bytes_of;
+use crate::{VecLinkInfo, check, same};
+use std::alloc::{AllocError, Global};
+use std::process::Abort;
+use std::test::Fail;
+
+/// Lists and single attributes.
+const STRINGS: [&str; 58] = [
+    "09000100 7866726d 00000000 14000200 08000100 02000000 08000200 0a000000",
+    "08000100 67747000 1c000200 05000500 01000000 08000400 01000000 08000300 00040000",
+    "0c000100 62617265 75647000 14000200 06000100 19eb0000 06000200 88470000",
+    "08000100 70666370",
+    "09000100 70666370 00000000",
+    "08000200 00000000",
+    "04000300",
+    "08000400 76726600 04000500 04000500",
+    "09000100 7866726d 00000000 04000200 0c000200 08000200 05000000",
+    "08000100 76726600 09000100 7866726d 00000000 04000200",
+    "09000100 76657468 00000000 11000200 06000100 aabb0000 05000900 07",
+    "09000100 76657468 00000000 04000200",
+    "0b000100 6e65746b 69740000 0c000200 08000600 05000000",
+    "04001c00",
+    "05001c00 00000000",
+    "05000700 02000000",
+    "05000700 01000000",
+    "08000a00 00020001",
+    "05000a00 02000000",
+    "10000500 0a000400 02000000 00010000",
+    "0e000500 0a000400 02000000 0001",
+    "08000900 ffffffff",
+    "04000980",
+    "04000900",
+    "09000180 7866726d 00000000",
+    "09000100 7866726d 00000000",
+    "080001",
+    "03000100",
+    "09000100 7866726d",
+    "04000900 00",
+    "06000100 c328",
+    "08000100 76726600 09000200 05000100 07000000 01",
+    "05000300 07000000",
+    "08000300 07000000",
+    "06000800 05000000",
+    "14000200 00000000 00000000 00000000 00000000",
+    "06000200 01020000",
+    "0c000200 01000000 ff000000",
+    "0d000200 01020304 05060708 09",
+    "0e000100 4241544d 414e5f49 56000000",
+    "0f000100 4241544d 414e5f49 56000000",
+    "04000100",
+    "05000100 00000000",
+    "08000100 63616e00 06000300 01020000",
+    "08000100 76726600 04000200",
+    "06000800 00100000",
+    "04000200",
+    "0b000100 69707674 61700000 14000200 06000100 00000000 06000200 02000000",
+    "0b000100 6970766c 616e0000 14000200 06000100 00000000 06000200 02000000",
+    "0b000100 6970766c 616e0000 14000200 06000100 00000000 06000200 00000000",
+    "0a000100 69706f69 62000000 14000200 06000100 01800000 06000200 01000000",
+    "0b000100 62617461 64760000 14000200 0e000100 4241544d 414e5f49 56000000",
+    "09000100 69706970 00000000 0c000200 06000800 00100000",
+    "08000100 73697400 0c000200 06000800 00100000",
+    "0b000100 69703674 6e6c0000 0c000200 06000800 00100000",
+    "09000100 76657468 00000000 0c000200 06000100 aabb0000",
+    "0b000100 6e65746b 69740000 0c000200 08000600 01000000",
+    "05000400 78000000 05000500 07000000",
+];
+
+/// `check` and `parse` agree on each front, and so does `same` of the front with itself.
+pub fn assert_fronts(rt: &impl Abort, alloc: Global, bytes: &[u8]) {
+    for end in 0..=bytes.len() {
+        let front = &bytes[..end];
+        let read = VecLinkInfo::parse(alloc, front);
+        let checked = check(front);
+        match read {
+            Ok(_) => {
+                assert_eq!(rt; checked, Ok(()), "the front of {end} of {bytes:?}");
+                assert_eq!(rt;
+                    same(front, front),
+                    Ok(true),
+                    "the front of {end} of {bytes:?}"
+                );
+            }
+            Err(fault) => {
+                assert_eq!(rt; checked, Err(fault), "the front of {end} of {bytes:?}");
+                assert_eq!(rt;
+                    same(front, front),
+                    Err(fault),
+                    "the front of {end} of {bytes:?}"
+                );
+            }
+        }
+    }
+}
+
+#[test]
+fn every_front(rt: HostRuntime) -> Result<(), Fail> {
+    for text in STRINGS {
+        let bytes = bytes_of(&rt, rt.alloc(), text)?;
+        assert_fronts(&rt, rt.alloc(), &bytes);
+    }
+    Ok(())
+}
+
+/// A macvlan link whose data is a chain of address lists, this many levels deep, of which the last one is empty.
+fn chain(alloc: Global, depth: u8) -> Result<Vec<u8>, AllocError> {
+    let kind = [12, 0, 1, 0, b'm', b'a', b'c', b'v', b'l', b'a', b'n', 0];
+    let mut bytes = Vec::from_array(alloc, kind)?;
+    let data_len = 4 + 4 * u16::from(depth);
+    bytes.extend_from_slice(&data_len.to_le_bytes())?;
+    bytes.extend_from_slice(&[2, 0])?;
+    for below in 0..depth {
+        let list_len = 4 * u16::from(depth - below);
+        bytes.extend_from_slice(&list_len.to_le_bytes())?;
+        bytes.extend_from_slice(&[5, 0])?;
+    }
+    Ok(bytes)
+}
+
+#[test]
+fn every_front_of_a_chain(rt: HostRuntime) -> Result<(), Fail> {
+    let alloc = rt.alloc();
+    for (depth, header) in [
+        (100, [0x94, 1, 2, 0]),
+        (128, [4, 2, 2, 0]),
+        (129, [8, 2, 2, 0]),
+    ] {
+        let bytes = chain(alloc, depth)?;
+        assert!(rt; bytes.len() > 16);
+        assert_eq!(rt; &bytes[12..16], header.as_slice());
+        assert_fronts(&rt, alloc, &bytes);
+    }
+    Ok(())
+}

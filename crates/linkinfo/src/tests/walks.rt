@@ -1,0 +1,107 @@
+//! The borrowed walk.
+
+use super::assertions::{HEADER_FAULT, bytes_of, link_fault};
+use super::worked::{DATA_TWICE, FIRST_FAULT, SECOND_PORT_DATA};
+use crate::{Cause, DecodeError, KindTag, LinkInfoItem, LinkInfoWalk, PortTag};
+use std::process::Abort;
+use std::test::Fail;
+
+/// The items that a walk gives, the fault that it ends with, and how many headers it looks at.
+fn assert_walk(
+    rt: &impl Abort,
+    bytes: &[u8],
+    items: &[LinkInfoItem<'_>],
+    fault: Option<DecodeError>,
+    examined: usize,
+) {
+    let mut walk = LinkInfoWalk::new(bytes);
+    assert_eq!(rt; walk.examined(), 0);
+    for wanted in items {
+        let Some(Ok(item)) = walk.next() else {
+            panic!(rt; "an item at {wanted:?} of {bytes:?}");
+        };
+        assert!(rt; item == *wanted, "{item:?} in {bytes:?}");
+    }
+    match fault {
+        Some(fault) => assert!(rt; walk.next() == Some(Err(fault)), "the fault of {bytes:?}"),
+        None => assert!(rt; walk.next().is_none(), "the end of {bytes:?}"),
+    }
+    assert!(rt; walk.next().is_none(), "the end of {bytes:?}");
+    assert_eq!(rt; walk.examined(), examined, "headers of {bytes:?}");
+}
+
+/// An item with no kind in force.
+fn item<'a>(place: usize, raw_kind: u16, value: &'a [u8]) -> LinkInfoItem<'a> {
+    LinkInfoItem {
+        place,
+        raw_kind,
+        value,
+        kind_tag: None,
+        port_tag: None,
+    }
+}
+
+/// An item under a kind.
+fn under<'a>(kind: KindTag, place: usize, raw_kind: u16, value: &'a [u8]) -> LinkInfoItem<'a> {
+    LinkInfoItem {
+        place,
+        raw_kind,
+        value,
+        kind_tag: Some(kind),
+        port_tag: None,
+    }
+}
+
+/// An item under a port kind.
+fn under_port<'a>(port: PortTag, place: usize, raw_kind: u16, value: &'a [u8]) -> LinkInfoItem<'a> {
+    LinkInfoItem {
+        place,
+        raw_kind,
+        value,
+        kind_tag: None,
+        port_tag: Some(port),
+    }
+}
+
+#[test]
+fn walks_over_kinds_and_data(rt: HostRuntime) -> Result<(), Fail> {
+    let alloc = rt.alloc();
+    assert_walk(&rt, &[], &[], None, 0);
+    let items = [
+        item(0, 1, b"xfrm\0"),
+        under(KindTag::Xfrm, 12, 2, &[]),
+        under(KindTag::Xfrm, 16, 2, &[8, 0, 2, 0, 5, 0, 0, 0]),
+    ];
+    assert_walk(&rt, &bytes_of(&rt, alloc, DATA_TWICE)?, &items, None, 3);
+
+    // A payload is not looked at, so the fault is that of the stray byte.
+    let items = [
+        item(0, 1, b"vrf\0"),
+        under(KindTag::Vrf, 8, 2, &[5, 0, 1, 0, 7]),
+    ];
+    let bytes = bytes_of(&rt, alloc, FIRST_FAULT)?;
+    assert_walk(&rt, &bytes, &items, Some(HEADER_FAULT), 2);
+    Ok(())
+}
+
+#[test]
+fn walks_over_ports(rt: HostRuntime) -> Result<(), Fail> {
+    let alloc = rt.alloc();
+    let items = [item(0, 4, b"vrf\0"), under_port(PortTag::Vrf, 8, 5, &[])];
+    let bytes = bytes_of(&rt, alloc, SECOND_PORT_DATA)?;
+    let order = link_fault(5, Cause::Order);
+    assert_walk(&rt, &bytes, &items, Some(order), 3);
+    Ok(())
+}
+
+#[test]
+fn walks_end_at_faults(rt: HostRuntime) {
+    // Types keep their flag bits, in items and not in faults.
+    let marked = item(0, 0x8009, &[7]);
+    let bytes = [5, 0, 9, 0x80, 7, 0, 0, 0, 6, 0, 1, 0x80, 0xc3, 0x28];
+    let utf8 = link_fault(1, Cause::Utf8);
+    assert_walk(&rt, &bytes, &[marked], Some(utf8), 2);
+    let order = link_fault(3, Cause::Order);
+    assert_walk(&rt, &[4, 0, 3, 0, 4, 0, 9, 0], &[], Some(order), 1);
+    assert_walk(&rt, &[8, 0, 1], &[], Some(HEADER_FAULT), 0);
+}
