@@ -7,6 +7,7 @@ mod counts;
 mod dumps;
 mod faults;
 mod fronts;
+mod laws;
 mod lists;
 mod longest;
 mod payloads;

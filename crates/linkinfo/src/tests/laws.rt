@@ -1,0 +1,16 @@
+//! The laws, whose functions do nothing.
+
+use super::assertions::bytes_of;
+use super::worked::XFRM;
+use crate::{BitPeer, Bytes, check, laws};
+use std::test::Fail;
+
+#[test]
+fn laws_leave_a_string_accepted(rt: HostRuntime) -> Result<(), Fail> {
+    let bytes = bytes_of(&rt, rt.alloc(), XFRM)?;
+    laws::framed::<Bytes>(&bytes);
+    laws::in_force::<BitPeer>(&bytes);
+    laws::unknown_kept::<Bytes>();
+    assert_eq!(rt; check(&bytes), Ok(()));
+    Ok(())
+}
