@@ -103,28 +103,28 @@ pub fn assert_refused(rt: &impl Abort, alloc: Global, bytes: &[u8], fault: Decod
     assert_eq!(rt; same(&[], bytes), Err(fault), "comparing {bytes:?}");
 }
 
-/// The attribute has this type and payload, and is emitted as the string.
+/// The attribute is emitted as the string, with its type, and its payload by itself.
 pub fn assert_attribute<T: Nla>(
     rt: &impl Abort,
     alloc: Global,
     value: &T,
-    payload: &[u8],
     string: &[u8],
 ) -> Result<(), AllocError> {
     let Some(len) = value.fit_len() else {
         panic!(rt; "the value of {string:?} fits");
     };
-    assert_eq!(rt; len, payload.len());
     assert_eq!(rt; value.value_len(), len);
+    assert_eq!(rt; value.buffer_len(), string.len());
+    assert!(rt; string.len() <= 100_000);
+    assert!(rt; len <= 65_531);
+    assert!(rt; 4 + len <= string.len());
+    assert_eq!(rt; value.kind().to_le_bytes().as_slice(), &string[2..4]);
     let mut buffer = vec![in alloc; 255u8; len]?;
     value.emit_value(&mut buffer);
-    assert_eq!(rt; buffer.as_slice(), payload);
-    let len = value.buffer_len();
-    assert_eq!(rt; len, string.len());
-    assert!(rt; len <= 100_000);
-    let mut buffer = vec![in alloc; 255u8; len + 3]?;
+    assert_eq!(rt; buffer.as_slice(), &string[4..4 + len]);
+    let mut buffer = vec![in alloc; 255u8; string.len() + 3]?;
     value.emit(&mut buffer);
-    assert_eq!(rt; &buffer[..len], string);
-    assert_eq!(rt; &buffer[len..], [255; 3].as_slice());
+    assert_eq!(rt; &buffer[..string.len()], string);
+    assert_eq!(rt; &buffer[string.len()..], [255; 3].as_slice());
     Ok(())
 }

@@ -1,0 +1,129 @@
+//! Lists that are read.
+
+use super::answers::{assert_reads, read_at_last};
+use linkinfo::{LinkInfo, VecLinkInfo, nlas_fit_len};
+use linkinfo_numbers::InfoKind;
+
+/// The kind veth and its data, the last two bytes of which are a peer.
+const VETH: [u8; 24] = [
+    9, 0, 1, 0, b'v', b'e', b't', b'h', 0, 0, 0, 0, 12, 0, 2, 0, 6, 0, 1, 0, 0xaa, 0xbb, 0, 0,
+];
+
+#[test]
+fn reads_the_empty_list(rt: HostRuntime) {
+    let list = VecLinkInfo::parse(rt.alloc(), &[]);
+    assert!(rt; list.is_ok());
+    assert_reads(&rt, rt.alloc(), &[], &[]);
+}
+
+#[test]
+fn reads_attributes_of_xfrm(rt: HostRuntime) {
+    let bytes = [
+        9, 0, 1, 0, b'x', b'f', b'r', b'm', 0, 0, 0, 0, 20, 0, 2, 0, 8, 0, 1, 0, 2, 0, 0, 0, 8, 0,
+        2, 0, 10, 0, 0, 0,
+    ];
+    assert_reads(&rt, rt.alloc(), &bytes, &bytes);
+}
+
+#[test]
+fn reads_a_name_without_nul(rt: HostRuntime) {
+    let bytes = [8, 0, 1, 0, b'p', b'f', b'c', b'p'];
+    let canonical = [9, 0, 1, 0, b'p', b'f', b'c', b'p', 0, 0, 0, 0];
+    assert_reads(&rt, rt.alloc(), &bytes, &canonical);
+}
+
+#[test]
+fn reads_a_name_in_canonical_form(rt: HostRuntime) {
+    let bytes = [9, 0, 1, 0, b'p', b'f', b'c', b'p', 0, 0, 0, 0];
+    assert_reads(&rt, rt.alloc(), &bytes, &bytes);
+}
+
+#[test]
+fn reads_the_empty_name(rt: HostRuntime) {
+    assert_reads(&rt, rt.alloc(), &[4, 0, 1, 0], &[5, 0, 1, 0, 0, 0, 0, 0]);
+}
+
+#[test]
+fn reads_port_data(rt: HostRuntime) {
+    let bytes = [8, 0, 4, 0, b'v', b'r', b'f', 0, 4, 0, 5, 0];
+    assert_reads(&rt, rt.alloc(), &bytes, &bytes);
+}
+
+#[test]
+fn reads_other_port_data(rt: HostRuntime) {
+    let bytes = [5, 0, 4, 0, b'x', 0, 0, 0, 5, 0, 5, 0, 7, 0, 0, 0];
+    let canonical = [6, 0, 4, 0, b'x', 0, 0, 0, 5, 0, 5, 0, 7, 0, 0, 0];
+    assert_reads(&rt, rt.alloc(), &bytes, &canonical);
+}
+
+#[test]
+fn reads_data_twice(rt: HostRuntime) {
+    let bytes = [
+        9, 0, 1, 0, b'x', b'f', b'r', b'm', 0, 0, 0, 0, 4, 0, 2, 0, 12, 0, 2, 0, 8, 0, 2, 0, 5, 0,
+        0, 0,
+    ];
+    assert_reads(&rt, rt.alloc(), &bytes, &bytes);
+}
+
+#[test]
+fn reads_a_later_kind(rt: HostRuntime) {
+    let bytes = [
+        8, 0, 1, 0, b'v', b'r', b'f', 0, 9, 0, 1, 0, b'x', b'f', b'r', b'm', 0, 0, 0, 0, 4, 0, 2, 0,
+    ];
+    assert_reads(&rt, rt.alloc(), &bytes, &bytes);
+}
+
+#[test]
+fn reads_empty_data(rt: HostRuntime) {
+    let bytes = [8, 0, 1, 0, b'v', b'r', b'f', 0, 4, 0, 2, 0];
+    assert_reads(&rt, rt.alloc(), &bytes, &bytes);
+}
+
+#[test]
+fn reads_the_first_attribute_of_veth(rt: HostRuntime) {
+    let bytes = [
+        9, 0, 1, 0, b'v', b'e', b't', b'h', 0, 0, 0, 0, 17, 0, 2, 0, 6, 0, 1, 0, 0xaa, 0xbb, 0, 0,
+        5, 0, 9, 0, 7,
+    ];
+    assert_reads(&rt, rt.alloc(), &bytes, &VETH);
+}
+
+#[test]
+fn reads_veth_in_canonical_form(rt: HostRuntime) {
+    assert_reads(&rt, rt.alloc(), &VETH, &VETH);
+}
+
+#[test]
+fn reads_statistics(rt: HostRuntime) {
+    let bytes = [8, 0, 1, 0, b'c', b'a', b'n', 0, 6, 0, 3, 0, 1, 2, 0, 0];
+    assert_reads(&rt, rt.alloc(), &bytes, &bytes);
+}
+
+#[test]
+fn reads_unknown_attributes(rt: HostRuntime) {
+    assert_reads(&rt, rt.alloc(), &[4, 0, 9, 0x80], &[4, 0, 9, 0x80]);
+    assert_reads(&rt, rt.alloc(), &[4, 0, 9, 0], &[4, 0, 9, 0]);
+}
+
+#[test]
+fn reads_marked_kinds(rt: HostRuntime) {
+    let marked = [9, 0, 1, 0x80, b'x', b'f', b'r', b'm', 0, 0, 0, 0];
+    let plain = [9, 0, 1, 0, b'x', b'f', b'r', b'm', 0, 0, 0, 0];
+    assert_reads(&rt, rt.alloc(), &marked, &plain);
+    assert_reads(&rt, rt.alloc(), &plain, &plain);
+}
+
+#[test]
+fn reads_a_name_that_does_not_fit(rt: HostRuntime) {
+    let mut bytes = [b'a'; 65535];
+    bytes[..4].copy_from_slice(&[255, 255, 1, 0]);
+    let list = match read_at_last(&rt, rt.alloc(), &bytes) {
+        Ok(list) => list,
+        Err(fault) => panic!(&rt; "{fault:?} of the long name"),
+    };
+    assert_eq!(rt; nlas_fit_len(list.0.as_slice()), None);
+    let [LinkInfo::Kind(InfoKind::Other(name))] = list.0.as_slice() else {
+        panic!(&rt; "one kind of the long name");
+    };
+    assert_eq!(rt; name.as_bytes(), &bytes[4..]);
+}
