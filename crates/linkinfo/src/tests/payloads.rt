@@ -4,7 +4,7 @@ use super::assertions::HEADER_FAULT;
 use crate::{
     BitPeer, Bytes, Cause, DecodeError, DefaultNla, Emitable, Family, InfoData, InfoDataOf,
     InfoKind, InfoPortData, InfoPortKind, InfoVeth, InfoVethOf, InfoVrf, InfoXfrm, LinkXstats,
-    NlaBuffer, Nlas, ParseableParametrized, Text,
+    NlaBuffer, Nlas, ParseableParametrized, Text, is_equal,
 };
 use std::test::Fail;
 
@@ -82,7 +82,7 @@ fn port_data_by_kind(rt: HostRuntime) -> Result<(), Fail> {
     let items = vec![in alloc; InfoVrf::TableId(5)]?;
     let table = [8, 0, 1, 0, 5, 0, 0, 0];
     let read = InfoPortData::parse_with_param(alloc, &table, &InfoPortKind::Vrf)?;
-    assert!(rt; read == InfoPortData::VrfPort(Nlas::new(items)));
+    assert!(rt; is_equal(&read, &InfoPortData::VrfPort(Nlas::new(items))));
     for name in ["x", "vrf"] {
         let other = InfoPortKind::Other(Text::copy_of(alloc, name)?);
         let read = InfoPortData::parse_with_param(alloc, &[7], &other)?;
@@ -102,7 +102,7 @@ fn statistics_are_bytes(rt: HostRuntime) -> Result<(), Fail> {
         assert!(rt; read == LinkXstats::Other(Bytes::copy_of(alloc, &[1, 2])?));
     }
     let xstats = LinkXstats::Other(Bytes::copy_of(alloc, &[1, 2])?);
-    assert!(rt; xstats.clone()? == xstats);
+    assert!(rt; is_equal(&xstats.clone()?, &xstats));
     assert!(rt; xstats.buffer_len() == 2);
     let mut buffer = [255; 5];
     xstats.emit(&mut buffer);
