@@ -1,6 +1,6 @@
 //! The answers to the lines of an input.
 
-ghost use Rattle.std.specs.Prelude.{codes, ◌≡◌, ◌++◌, [], ◌∷◌, if◌then◌else◌, Some, None, IfOk, OnOk, length, map};
+ghost use Rattle.std.specs.Prelude.{◌≡◌, ◌++◌, [], ◌∷◌, if◌then◌else◌, Some, None, IfOk, OnOk, length, map};
 ghost use Rattle.hex.specs.Hex.{encode_lower};
 ghost use Rattle.nla_frame.specs.Attribute.{ListFits, list_string};
 ghost use Rattle.linkinfo.specs.BytesPeer.{bytes_peer};

@@ -1,6 +1,6 @@
 //! What follows from the definitions of the answers. These functions do nothing: each is there for its contract.
 
-ghost use Rattle.std.specs.Prelude.{◌≡◌, ◌≢◌, ◌⊎◌, ◌↔◌, ℕ, ◌<◌, ◌*◌, List, [], ◌∷◌, ◌++◌, length, codes, Some, None, IsTrue, All};
+ghost use Rattle.std.specs.Prelude.{◌≡◌, ◌≢◌, ◌⊎◌, ◌↔◌, ℕ, ◌<◌, ◌*◌, List, [], ◌∷◌, ◌++◌, length, codes, Some, IsTrue, All};
 ghost use Rattle.std.specs.List.{AllPass};
 ghost use Rattle.hex.specs.Hex.{IsBytes, encode_upper, is_hex_digit};
 ghost use Rattle.nla_frame.specs.Attribute.{Attribute, ListFits};

@@ -1,7 +1,7 @@
 //! One run of the program: it reads all input, builds the whole answer, and then writes it.
 
 ghost use Rattle.std.specs.Prelude.{◌≡◌, ◌⊎◌, ℕ, List, Err, IfOk, IfErr, OnOk};
-ghost use Rattle.std.specs.Io.KnownBytes.{Appends, Consumes, IsAtEnd, Keeps};
+ghost use Rattle.std.specs.Io.KnownBytes.{Appends, Keeps};
 ghost use Rattle.linkinfo_tool.specs.Answers.{answer_of};
 ghost use Rattle.linkinfo_tool.specs.Streams.{AppendsBeginning, GivesAll};
 
