@@ -1,7 +1,7 @@
 //! What a Linux 6.18 kernel answered for `IFLA_LINKINFO`.
 //!
-//! Links of each of these kinds were made in a network namespace, and their link info was taken out of a dump by `RTM_GETLINK`. Each string is in the
-//! grammar and is its own canonical string.
+//! Links of these kinds were made in a network namespace, and their link info was taken out of a dump by `RTM_GETLINK`. Each string is
+//! in the grammar and is its own canonical string.
 
 use super::assertions::{assert_emitted, bytes_of};
 use crate::{VecLinkInfo, check, same};

@@ -41,25 +41,19 @@ fn item<'a>(place: usize, raw_kind: u16, value: &'a [u8]) -> LinkInfoItem<'a> {
     }
 }
 
-/// An item under a kind.
-fn under<'a>(kind: KindTag, place: usize, raw_kind: u16, value: &'a [u8]) -> LinkInfoItem<'a> {
+/// The item under a kind.
+fn under(kind: KindTag, item: LinkInfoItem<'_>) -> LinkInfoItem<'_> {
     LinkInfoItem {
-        place,
-        raw_kind,
-        value,
         kind_tag: Some(kind),
-        port_tag: None,
+        ..item
     }
 }
 
-/// An item under a port kind.
-fn under_port<'a>(port: PortTag, place: usize, raw_kind: u16, value: &'a [u8]) -> LinkInfoItem<'a> {
+/// The item under a port kind.
+fn under_port(port: PortTag, item: LinkInfoItem<'_>) -> LinkInfoItem<'_> {
     LinkInfoItem {
-        place,
-        raw_kind,
-        value,
-        kind_tag: None,
         port_tag: Some(port),
+        ..item
     }
 }
 
@@ -69,15 +63,15 @@ fn walks_over_kinds_and_data(rt: HostRuntime) -> Result<(), Fail> {
     assert_walk(&rt, &[], &[], None, 0);
     let items = [
         item(0, 1, b"xfrm\0"),
-        under(KindTag::Xfrm, 12, 2, &[]),
-        under(KindTag::Xfrm, 16, 2, &[8, 0, 2, 0, 5, 0, 0, 0]),
+        under(KindTag::Xfrm, item(12, 2, &[])),
+        under(KindTag::Xfrm, item(16, 2, &[8, 0, 2, 0, 5, 0, 0, 0])),
     ];
     assert_walk(&rt, &bytes_of(&rt, alloc, DATA_TWICE)?, &items, None, 3);
 
     // A payload is not looked at, so the fault is that of the stray byte.
     let items = [
         item(0, 1, b"vrf\0"),
-        under(KindTag::Vrf, 8, 2, &[5, 0, 1, 0, 7]),
+        under(KindTag::Vrf, item(8, 2, &[5, 0, 1, 0, 7])),
     ];
     let bytes = bytes_of(&rt, alloc, FIRST_FAULT)?;
     assert_walk(&rt, &bytes, &items, Some(HEADER_FAULT), 2);
@@ -87,11 +81,29 @@ fn walks_over_kinds_and_data(rt: HostRuntime) -> Result<(), Fail> {
 #[test]
 fn walks_over_ports(rt: HostRuntime) -> Result<(), Fail> {
     let alloc = rt.alloc();
-    let items = [item(0, 4, b"vrf\0"), under_port(PortTag::Vrf, 8, 5, &[])];
+    let items = [
+        item(0, 4, b"vrf\0"),
+        under_port(PortTag::Vrf, item(8, 5, &[])),
+    ];
     let bytes = bytes_of(&rt, alloc, SECOND_PORT_DATA)?;
     let order = link_fault(5, Cause::Order);
     assert_walk(&rt, &bytes, &items, Some(order), 3);
     Ok(())
+}
+
+#[test]
+fn walks_with_both_kinds_in_force(rt: HostRuntime) {
+    let bytes = [
+        8, 0, 1, 0, b'v', b'r', b'f', 0, 8, 0, 4, 0, b'v', b'r', b'f', 0, 4, 0, 5, 0, 4, 0, 2, 0,
+    ];
+    let port_data = under_port(PortTag::Vrf, item(16, 5, &[]));
+    let items = [
+        item(0, 1, b"vrf\0"),
+        under(KindTag::Vrf, item(8, 4, b"vrf\0")),
+        under(KindTag::Vrf, port_data),
+        under(KindTag::Vrf, item(20, 2, &[])),
+    ];
+    assert_walk(&rt, &bytes, &items, None, 4);
 }
 
 #[test]
