@@ -169,3 +169,19 @@ fn worked_vxlan(rt: HostRuntime) -> Result<(), Fail> {
     }
     Ok(())
 }
+
+#[test]
+fn worked_flags_of_vxlan(rt: HostRuntime) -> Result<(), Fail> {
+    let alloc = rt.alloc();
+    // A flag stands whatever its payload, and is written without one.
+    is_parsed(&rt, alloc, &[5, 0, 23, 0, 7, 0, 0, 0], &InfoVxlan::Gbp)?;
+    is_emitted(&rt, &InfoVxlan::Gbp, &[4, 0, 23, 0])?;
+    let bits = InfoVxlan::ReservedBits(1);
+    is_row(
+        &rt,
+        alloc,
+        (),
+        &[12, 0, 33, 0, 0, 0, 0, 0, 0, 0, 0, 1],
+        &bits,
+    )
+}
