@@ -6,21 +6,21 @@ use std::alloc::Global;
 use std::process::Abort;
 
 /// Want of memory.
-pub const MEMORY: DecodeError = DecodeError {
+pub(super) const MEMORY: DecodeError = DecodeError {
     family: Family::Frame,
     kind: 0,
     cause: Cause::Memory,
 };
 
 /// The fault of a header that is not accepted.
-pub const HEADER_FAULT: DecodeError = DecodeError {
+pub(super) const HEADER_FAULT: DecodeError = DecodeError {
     family: Family::Frame,
     kind: 0,
     cause: Cause::Header,
 };
 
 /// A fault of an attribute of the list itself.
-pub fn link_fault(kind: u16, cause: Cause) -> DecodeError {
+pub(super) fn link_fault(kind: u16, cause: Cause) -> DecodeError {
     DecodeError {
         family: Family::LinkInfo,
         kind,
@@ -29,13 +29,13 @@ pub fn link_fault(kind: u16, cause: Cause) -> DecodeError {
 }
 
 /// Says that a request was refused. The script that runs these tests stops where none says so.
-pub fn tell_refused(rt: &(impl Abort + Print)) {
+pub(super) fn tell_refused(rt: &(impl Abort + Print)) {
     let told = rt.println("refused");
     assert!(rt; told.is_ok());
 }
 
 /// What reading answers where it is not refused memory: read once more after an answer of Memory.
-pub fn read_at_last(
+pub(super) fn read_at_last(
     rt: &(impl Abort + Print),
     alloc: Global,
     bytes: &[u8],
@@ -50,7 +50,7 @@ pub fn read_at_last(
 }
 
 /// The list is emitted as the string, which takes no memory. A list that was read has no other such string.
-pub fn assert_emitted(rt: &impl Abort, items: &[LinkInfo], string: &[u8]) {
+pub(super) fn assert_emitted(rt: &impl Abort, items: &[LinkInfo], string: &[u8]) {
     let mut buffer = [255; 64];
     let Some(len) = nlas_fit_len(items) else {
         panic!(rt; "the list of {string:?} fits");
@@ -62,7 +62,12 @@ pub fn assert_emitted(rt: &impl Abort, items: &[LinkInfo], string: &[u8]) {
 }
 
 /// Reading answers Memory or the list of this canonical string, and at last the latter.
-pub fn assert_reads(rt: &(impl Abort + Print), alloc: Global, bytes: &[u8], canonical: &[u8]) {
+pub(super) fn assert_reads(
+    rt: &(impl Abort + Print),
+    alloc: Global,
+    bytes: &[u8],
+    canonical: &[u8],
+) {
     match read_at_last(rt, alloc, bytes) {
         Ok(list) => assert_emitted(rt, list.0.as_slice(), canonical),
         Err(fault) => panic!(rt; "{fault:?} of {bytes:?}"),
@@ -70,7 +75,7 @@ pub fn assert_reads(rt: &(impl Abort + Print), alloc: Global, bytes: &[u8], cano
 }
 
 /// Reading answers Memory or the fault, and at last the latter.
-pub fn assert_refused_at_last(
+pub(super) fn assert_refused_at_last(
     rt: &(impl Abort + Print),
     alloc: Global,
     bytes: &[u8],
@@ -81,7 +86,7 @@ pub fn assert_refused_at_last(
 }
 
 /// Reading answers the fault whichever request is refused.
-pub fn assert_refused(rt: &impl Abort, alloc: Global, bytes: &[u8], fault: DecodeError) {
+pub(super) fn assert_refused(rt: &impl Abort, alloc: Global, bytes: &[u8], fault: DecodeError) {
     let answer = VecLinkInfo::parse(alloc, bytes);
     assert_eq!(rt; answer.err(), Some(fault), "the fault of {bytes:?}");
 }
