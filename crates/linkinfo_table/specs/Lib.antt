@@ -3,6 +3,7 @@ pub mod Codecs
 pub mod FamilyRowLaws
 pub mod FamilyRows
 pub mod FlatLaws
+pub mod Labels
 pub mod Levels
 pub mod ListLaws
 pub mod Lists

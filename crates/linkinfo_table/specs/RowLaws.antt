@@ -91,7 +91,7 @@ module _ {F : Type 0} (f : Family) (other : DefaultNla → F) (attribute : F →
   )
 
   -- alike attributes have one masked type
-  alike_masked : (r : Row F) (a b : Attribute) → row_alike r a b ≡ true → masked b.kind ≡ masked a.kind
+  pub alike_masked : (r : Row F) (a b : Attribute) → row_alike r a b ≡ true → masked b.kind ≡ masked a.kind
   alike_masked (Is e) a b t = eqb-true _ _ (and_parts (masked b.kind == masked a.kind) (e.codec.alike a.value b.value) t).0
   alike_masked (Refused cause) a b t = absurd cc
   alike_masked Unknown a b t = ap masked (eqb-true _ _ (and_parts (b.kind == a.kind) (bytes_eq a.value b.value) t).0)

@@ -9,6 +9,7 @@ pub mod laws;
 mod list;
 mod lookup;
 mod part;
+pub mod parts;
 mod peer;
 mod row_family;
 mod rows;

@@ -10,7 +10,7 @@ use Rattle.linkinfo_shapes.specs.Table.{shape_of}
 use Rattle.linkinfo_shapes.specs.declared.shape.Shape.TheVariants.{Le32, Be16, Ip}
 use Rattle.linkinfo_numbers.specs.Table.{key-value_of}
 use Rattle.linkinfo_numbers.specs.Amt.{amt_mode, amt_mode_number, amt_mode_table_holds}
-use Rattle.linkinfo_tunnels.specs.Labels.{each_keeps}
+use Rattle.linkinfo_table.specs.Labels.{each_keeps}
 use Rattle.linkinfo_tunnels.specs.declared.amt.InfoAmt.{InfoAmt}
 use Rattle.linkinfo_tunnels.specs.declared.amt.InfoAmt.TheVariants.{Mode, RelayPort, GatewayPort, Link, LocalIp, RemoteIp, DiscoveryIp, MaxTunnels, Other}
 

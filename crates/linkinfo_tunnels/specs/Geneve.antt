@@ -10,7 +10,7 @@ use Rattle.linkinfo_shapes.specs.Table.{shape_of}
 use Rattle.linkinfo_shapes.specs.declared.shape.Shape.TheVariants.{Le32, GeneveV4, U8, Be16, Mark, GeneveV6, Truth, Be32}
 use Rattle.linkinfo_numbers.specs.Table.{key-value_of}
 use Rattle.linkinfo_numbers.specs.Geneve.{geneve_df, geneve_df_number, geneve_df_table_holds}
-use Rattle.linkinfo_tunnels.specs.Labels.{each_keeps}
+use Rattle.linkinfo_table.specs.Labels.{each_keeps}
 use Rattle.linkinfo_tunnels.specs.declared.geneve.InfoGeneve.{InfoGeneve}
 use Rattle.linkinfo_tunnels.specs.declared.geneve.InfoGeneve.TheVariants.{Id, Remote, Ttl, Tos, Port, CollectMetadata, Remote6, UdpCsum, UdpZeroCsum6Tx, UdpZeroCsum6Rx, Label, TtlInherit, Df, InnerProtoInherit, Local, Local6, Other}
 

@@ -5,6 +5,5 @@ pub mod Gre
 pub mod Gre6
 pub mod Gtp
 pub mod IpTunnel
-pub mod Labels
 pub mod Vti
 pub mod Vxlan

@@ -7,7 +7,7 @@ use Rattle.linkinfo_table.specs.FamilyRows.{PlainRow, row, typed, table_row, loo
 use Rattle.linkinfo_table.specs.FamilyRowLaws.{table_lookup}
 use Rattle.linkinfo_shapes.specs.Table.{shape_of}
 use Rattle.linkinfo_shapes.specs.declared.shape.Shape.TheVariants.{Le32, Be32, Ip}
-use Rattle.linkinfo_tunnels.specs.Labels.{each_keeps}
+use Rattle.linkinfo_table.specs.Labels.{each_keeps}
 use Rattle.linkinfo_tunnels.specs.declared.vti.InfoVti.{InfoVti}
 use Rattle.linkinfo_tunnels.specs.declared.vti.InfoVti.TheVariants.{Link, IKey, OKey, Local, Remote, FwMark, Other}
 

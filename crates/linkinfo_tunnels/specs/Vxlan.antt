@@ -10,7 +10,7 @@ use Rattle.linkinfo_shapes.specs.Table.{shape_of}
 use Rattle.linkinfo_shapes.specs.declared.shape.Shape.TheVariants.{Le32, V4, U8, Truth, BePair, Be16, V6, Mark, Be32, EmptyOrByte, Be64}
 use Rattle.linkinfo_numbers.specs.Table.{key-value_of}
 use Rattle.linkinfo_numbers.specs.Vxlan.{vxlan_df, vxlan_df_number, vxlan_df_table_holds}
-use Rattle.linkinfo_tunnels.specs.Labels.{each_keeps}
+use Rattle.linkinfo_table.specs.Labels.{each_keeps}
 use Rattle.linkinfo_tunnels.specs.declared.vxlan.InfoVxlan.{InfoVxlan}
 use Rattle.linkinfo_tunnels.specs.declared.vxlan.InfoVxlan.TheVariants.{Id, Group, Link, Local, Ttl, Tos, Learning, Ageing, Limit, PortRange, Proxy, Rsc, L2Miss, L3Miss, Port, Group6, Local6, UDPCsum, UDPZeroCsumTX, UDPZeroCsumRX, RemCsumTX, RemCsumRX, Gbp, RemCsumNoPartial, CollectMetadata, Label, Gpe, TtlInheritFlag, TtlInherit, Df, Vnifilter, Localbypass, LabelPolicy, ReservedBits, McRoute, Other}
 

@@ -9,13 +9,12 @@ ghost use Rattle.linkinfo_numbers.specs.Kind.{tag_of_kind};
 ghost use Rattle.nla_frame.specs.declared.error.Family.TheVariants as family;
 ghost use Rattle.std.specs.Prelude.{◌≡◌, false, refl};
 
-use crate::parts;
 use bitflags::Flags;
 use linkinfo_numbers::{
     InfoKind, Ip6TunnelFlags, IpProtocol, KindTag, TunnelEncapFlags, TunnelEncapType,
 };
 use linkinfo_table::{
-    Datum, FlatFamily, Found, Lookup, Part, RowFamily, Shape, row_emit_value, row_fit_len,
+    Datum, FlatFamily, Found, Lookup, Part, RowFamily, Shape, parts, row_emit_value, row_fit_len,
     row_kind, row_read, row_value_len, table_lookup,
 };
 use nla_frame::{

@@ -8,7 +8,6 @@ mod gre;
 mod gre6;
 mod gtp;
 mod ip_tunnel;
-mod parts;
 #[cfg(test)]
 mod tests;
 mod vti;

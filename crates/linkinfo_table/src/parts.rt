@@ -5,7 +5,8 @@ ghost use Rattle.std.specs.Prelude.{false};
 ghost use Rattle.linkinfo_shapes.specs.declared.shape.Shape.TheVariants as shape;
 ghost use Rattle.linkinfo_table.specs.FamilyRows.{Shows, typed};
 
-use linkinfo_table::{Datum, Part, Shape};
+use crate::part::Part;
+use linkinfo_shapes::{Datum, Shape};
 use std::net::{IpAddr, Ipv4Addr, Ipv6Addr};
 
 /// One byte.
@@ -20,6 +21,13 @@ pub fn le16<'a>(kind: u16, number: u16) -> Part<'a>
     ensures { Shows result (typed kind shape.Le16 number) false }
 {
     Part::Typed(kind, Shape::Le16, Datum::Number(u64::from(number)))
+}
+
+/// A little-endian number of eight bytes.
+pub fn le64<'a>(kind: u16, number: u64) -> Part<'a>
+    ensures { Shows result (typed kind shape.Le64 number) false }
+{
+    Part::Typed(kind, Shape::Le64, Datum::Number(number))
 }
 
 /// A big-endian number of two bytes.
@@ -50,6 +58,13 @@ pub fn be64<'a>(kind: u16, number: u64) -> Part<'a>
     Part::Typed(kind, Shape::Be64, Datum::Number(number))
 }
 
+/// A little-endian two's complement number of four bytes.
+pub fn i32<'a>(kind: u16, number: i32) -> Part<'a>
+    ensures { Shows result (typed kind shape.I32 number) false }
+{
+    Part::Typed(kind, Shape::I32, Datum::Signed(number))
+}
+
 /// A truth byte, true where it is not zero.
 pub fn truth<'a>(kind: u16, on: bool) -> Part<'a>
     ensures { Shows result (typed kind shape.Truth on) false }
@@ -69,6 +84,13 @@ pub fn mark<'a>(kind: u16) -> Part<'a>
     ensures { Shows result (typed kind shape.Mark tt) false }
 {
     Part::Typed(kind, Shape::Mark, Datum::Empty)
+}
+
+/// A text, closed by a zero byte.
+pub fn name<'a>(kind: u16, text: &'a str) -> Part<'a>
+    ensures { Shows result (typed kind shape.Name text.now) false }
+{
+    Part::Typed(kind, Shape::Name, Datum::Text(text))
 }
 
 /// An IPv4 address.
@@ -110,6 +132,13 @@ pub fn ip<'a>(kind: u16, address: IpAddr) -> Part<'a>
     Part::Typed(kind, Shape::Ip, datum)
 }
 
+/// A hardware address.
+pub fn mac<'a>(kind: u16, octets: [u8; 6]) -> Part<'a>
+    ensures { Shows result (typed kind shape.Mac octets) false }
+{
+    Part::Typed(kind, Shape::Mac, Datum::Mac(octets))
+}
+
 /// Two big-endian numbers of two bytes each.
 pub fn be_pair<'a>(kind: u16, pair: (u16, u16)) -> Part<'a>
     ensures { Shows result (typed kind shape.BePair pair) false }
@@ -122,6 +151,13 @@ pub fn be_pair<'a>(kind: u16, pair: (u16, u16)) -> Part<'a>
     )
 }
 
+/// Two little-endian numbers of four bytes each, flags and then their mask.
+pub fn flag_pair<'a>(kind: u16, flags: u32, mask: u32) -> Part<'a>
+    ensures { Shows result (typed kind shape.FlagPair (flags, mask)) false }
+{
+    Part::Typed(kind, Shape::FlagPair, Datum::Pair(flags, mask))
+}
+
 /// No byte, or one.
 pub fn empty_or_byte<'a>(kind: u16, byte: Option<u8>) -> Part<'a>
     ensures { Shows result (typed kind shape.EmptyOrByte byte) false }
@@ -131,4 +167,11 @@ pub fn empty_or_byte<'a>(kind: u16, byte: Option<u8>) -> Part<'a>
         None => Datum::Empty,
     };
     Part::Typed(kind, Shape::EmptyOrByte, datum)
+}
+
+/// What is scrubbed: nothing, or by default.
+pub fn scrub<'a>(kind: u16, by_default: bool) -> Part<'a>
+    ensures { Shows result (typed kind shape.Scrub by_default) false }
+{
+    Part::Typed(kind, Shape::Scrub, Datum::Truth(by_default))
 }
