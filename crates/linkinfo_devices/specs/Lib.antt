@@ -1,2 +1,3 @@
+pub mod Nested
 pub mod Vrf
 pub mod Xfrm

@@ -1,9 +1,9 @@
 -- Attributes written into a buffer.
-use Rattle.std.proofs.Common.{◌≡◌, ℕ, suc, ◌+◌, ◌-◌, ◌/◌, ◌%◌, ◌<◌, ◌≤◌, List, [], ◌∷◌, ◌++◌, length, take, drop, map, replicate, get_or, refl, sym, ap, subst, ◌∙◌, append_assoc, arith}
+use Rattle.std.proofs.Common.{◌≡◌, ℕ, ◌+◌, ◌-◌, ◌<◌, ◌≤◌, List, [], ◌∷◌, ◌++◌, length, take, drop, map, get_or, refl, sym, ap, subst, ◌∙◌, append_assoc, arith}
 use Rattle.std.specs.List.{AllByRecursion}
 use Rattle.std.proofs.lemmas.List.{take_at, drop_at, length-append, length-take, length-drop, length-replicate, append-nil, drop-drop, drop_all, take_all, at_drop_more}
 use borrow.Rule.Slice.PartMut.{put_mid}
-use Rattle.nla_frame.specs.Attribute.{Attribute, Fits, ListFits, pad, header, canonical_string, list_string, buffer_len_of}
+use Rattle.nla_frame.specs.Attribute.{Attribute, Fits, ListFits, pad, aligned, canonical_string, list_string, buffer_len_of}
 
 -- ---- lengths
 
@@ -28,42 +28,32 @@ list_fits attributes h = record { each = fits_inside attributes h; total = omega
 pub one_fits : (a : Attribute) → length (canonical_string a) ≤ 65531 → Fits a
 one_fits a h = omega (arith, h, length-canonical_string a)
 
--- ---- one attribute: header, value and zeros, one after another
+-- ---- one attribute: its value in its place, then header and zeros round it
 
-pub emitted : (a : Attribute) (old b1 b2 z : List ℕ) (e w : ℕ) → e ≡ 4 + length a.value → w ≡ buffer_len_of a → buffer_len_of a ≤ length old
-    → b1 ≡ header a ++ drop 4 old → b2 ≡ a.value → z ≡ replicate (w - e) 0
-    → put_mid e (w - e) (put_mid 4 (e - 4) b1 b2) z ≡ canonical_string a ++ drop (buffer_len_of a) old
-emitted a old b1 b2 z e w size whole room f g h =
-    let tail : List ℕ = drop (e - 4) (drop 4 old) in
-    let inner : put_mid 4 (e - 4) b1 b2 ≡ (header a ++ a.value) ++ tail =
-    ap (λ (x : List ℕ). put_mid 4 (e - 4) x b2) f
-    ∙ ap (λ (x : List ℕ). header a ++ (x ++ tail)) g
-    ∙ sym (append_assoc (header a) a.value tail) in
-    let len : length (header a ++ a.value) ≡ e = simp length-append (omega (arith, size)) in
-    let rest : drop (w - e) tail ≡ drop (buffer_len_of a) old =
-    ap (λ (x : List ℕ). drop (w - e) x) (drop-drop (e - 4) 4 old)
-    ∙ drop-drop (w - e) (4 + (e - 4)) old
-    ∙ ap (λ (k : ℕ). drop k old) (omega (arith, size, whole)) in
-    let zeros : z ≡ replicate (pad (length a.value)) 0 = h ∙ ap (λ (k : ℕ). replicate k 0) (omega (arith, size, whole)) in
-    ap (λ (x : List ℕ). put_mid e (w - e) x z) inner
-    ∙ ap (λ (x : List ℕ). x ++ (z ++ drop (w - e) (drop e ((header a ++ a.value) ++ tail)))) (take_at (header a ++ a.value) tail e len)
-    ∙ ap (λ (x : List ℕ). (header a ++ a.value) ++ (z ++ drop (w - e) x)) (drop_at (header a ++ a.value) tail e len)
-    ∙ ap (λ (x : List ℕ). (header a ++ a.value) ++ (z ++ x)) rest
-    ∙ ap (λ (x : List ℕ). (header a ++ a.value) ++ (x ++ drop (buffer_len_of a) old)) zeros
-    ∙ simp append_assoc
+framed_at : (a : Attribute) (old value : List ℕ) (len kind : ℕ) → len ≡ length a.value → kind ≡ a.kind → buffer_len_of a ≤ length old → value ≡ a.value →
+    canonical_string (record { kind = kind; value = take len (drop 4 (put_mid 4 len old value)) }) ++ drop (4 + aligned len) (put_mid 4 len old value)
+    ≡ canonical_string a ++ drop (buffer_len_of a) old
+framed_at a old value len kind size same room written =
+    let tail : List ℕ = drop len (drop 4 old) in
+    let behind : drop 4 (put_mid 4 len old value) ≡ value ++ tail = drop_at (take 4 old) (value ++ tail) 4 (omega (arith, length-take 4 old, room)) in
+    let long : length value ≡ len = ap length written ∙ sym size in
+    let inside : take len (drop 4 (put_mid 4 len old value)) ≡ a.value = ap (λ (x : List ℕ). take len x) behind ∙ take_at value tail len long ∙ written in
+    let rest : drop (4 + aligned len) (put_mid 4 len old value) ≡ drop (buffer_len_of a) old =
+    sym (drop-drop (aligned len) 4 (put_mid 4 len old value))
+    ∙ ap (λ (x : List ℕ). drop (aligned len) x) behind
+    ∙ sym (drop-drop (pad len) len (value ++ tail))
+    ∙ ap (λ (x : List ℕ). drop (pad len) x) (drop_at value tail len long)
+    ∙ drop-drop (pad len) len (drop 4 old)
+    ∙ drop-drop (aligned len) 4 old
+    ∙ ap (λ (n : ℕ). drop (4 + aligned n) old) size in
+    (λ i. canonical_string (record { kind = same i; value = inside i }) ++ rest i)
 
-pub header_bytes : (a : Attribute) (x : List ℕ) (e k : ℕ) → e ≡ 4 + length a.value → k ≡ a.kind →
-    (e % 256 ∷ e / 256 % 256 ∷ k % 256 ∷ k / 256 % 256 ∷ x) ≡ header a ++ x
-header_bytes a x e k p q =
-    ap (λ (n : ℕ). n % 256 ∷ n / 256 % 256 ∷ k % 256 ∷ k / 256 % 256 ∷ x) p
-    ∙ ap (λ (n : ℕ). (4 + length a.value) % 256 ∷ (4 + length a.value) / 256 % 256 ∷ n % 256 ∷ n / 256 % 256 ∷ x) q
-
-pub zeros_length : (a : Attribute) (old b1 b2 : List ℕ) (e w : ℕ) → e ≡ 4 + length a.value → w ≡ buffer_len_of a → buffer_len_of a ≤ length old →
-    length b1 ≡ suc (suc (suc (suc (length (drop 4 old))))) → length b2 ≡ length a.value →
-    length (take (w - e) (drop e (put_mid 4 (e - 4) b1 b2))) ≡ w - e
-zeros_length a old b1 b2 e w size whole room f g =
-    let tail : List ℕ = drop (e - 4) (drop 4 b1) in
-    omega (arith, length-take (w - e) (drop e (put_mid 4 (e - 4) b1 b2)), length-drop e (put_mid 4 (e - 4) b1 b2), length-append (take 4 b1) (b2 ++ tail), length-append b2 tail, length-take 4 b1, length-drop (e - 4) (drop 4 b1), length-drop 4 b1, length-drop 4 old, f, g, size, whole)
+pub framed : (a : Attribute) (old value : List ℕ) (len width kind : ℕ) → len ≡ length a.value → width ≡ len → kind ≡ a.kind → buffer_len_of a ≤ length old → value ≡ a.value →
+    canonical_string (record { kind = kind; value = take len (drop 4 (put_mid 4 width old value)) }) ++ drop (4 + aligned len) (put_mid 4 width old value)
+    ≡ canonical_string a ++ drop (buffer_len_of a) old
+framed a old value len width kind size wide same room written =
+    ap (λ (w : ℕ). canonical_string (record { kind = kind; value = take len (drop 4 (put_mid 4 w old value)) }) ++ drop (4 + aligned len) (put_mid 4 w old value)) wide
+    ∙ framed_at a old value len kind size same room written
 
 -- ---- a text written at a place
 
@@ -99,3 +89,39 @@ pub fits_more : {X : Type 0} (f : X → Attribute) (xs : List X) (i : ℕ) (x : 
 fits_more f xs i x h e all =
     let both : AllByRecursion Fits (map f (get_or xs i x ∷ drop (i + 1) xs)) = rw (at_drop_more (λ ys. map f ys) xs i x h) at all in
     (subst (λ y. Fits (f y)) (sym e) both.0, both.1)
+
+-- a list written into a buffer up to a place, with the items from one on left to write
+pub record WrittenUpTo {X : Type 0} (f : X → Attribute) (xs : List X) (i at : ℕ) (old buffer : List ℕ) : Type 0 where
+  pub place : at + length (list_string (map f (drop i xs))) ≡ length (list_string (map f xs))
+  pub each : AllByRecursion Fits (map f (drop i xs))
+  pub kept : drop at buffer ≡ drop at old
+  pub written : take at buffer ++ list_string (map f (drop i xs)) ≡ list_string (map f xs)
+
+-- one item more: `piece` is what stands from that place on
+pub write_one : {X : Type 0} (f : X → Attribute) (xs : List X) (i at : ℕ) (old buffer : List ℕ) → WrittenUpTo f xs i at old buffer →
+    length (list_string (map f xs)) ≤ length buffer → (x : X) → i < length xs → x ≡ get_or xs i x → (n : ℕ) → n ≡ buffer_len_of (f x) →
+    (k : ℕ) → k ≡ length buffer - at → (piece : List ℕ) → piece ≡ canonical_string (f x) ++ drop n (take k (drop at buffer)) →
+    WrittenUpTo f xs (i + 1) (at + n) old (put_mid at k buffer piece)
+write_one f xs i at old buffer before room x more is n size k wide piece new =
+    let text = canonical_string (f x) in
+    let rest = list_string (map f (drop (i + 1) xs)) in
+    let one = one_more f xs i x more is in
+    let long : length text ≡ n = length-canonical_string (f x) ∙ sym size in
+    let within : at ≤ length buffer = omega (arith, before.place, room) in
+    let now = placed buffer at k n text piece wide new in
+    record {
+      place = omega (arith, before.place, ap length one, length-append text rest, long);
+      each = (fits_more f xs i x more is before.each).1;
+      kept =
+          ap (λ y. drop (at + n) y) now
+          ∙ drop_placed buffer at n text within long
+          ∙ sym (drop-drop n at buffer)
+          ∙ ap (λ y. drop n y) before.kept
+          ∙ drop-drop n at old;
+      written =
+          ap (λ y. take (at + n) y ++ rest) now
+          ∙ ap (λ y. y ++ rest) (take_placed buffer at n text within long)
+          ∙ append_assoc (take at buffer) text rest
+          ∙ ap (λ y. take at buffer ++ y) (sym one)
+          ∙ before.written;
+    }

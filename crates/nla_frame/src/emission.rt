@@ -1,9 +1,31 @@
-//! Lists of attributes, measured and written.
+//! Attributes and lists of them, measured and written.
 
-ghost use Rattle.std.specs.Prelude.{◌≡◌, ◌≤◌, ◌++◌, SomeIff, drop, length, map};
-ghost use Rattle.nla_frame.specs.Attribute.{ListFits, list_string};
+ghost use Rattle.std.specs.Prelude.{◌≡◌, ◌+◌, ◌≤◌, ◌++◌, SomeIff, drop, length, map, take};
+ghost use Rattle.std.specs.Int.{w16, to_le_bytes};
+ghost use Rattle.nla_frame.specs.Attribute.{ListFits, aligned, canonical_string, list_string};
 
 use crate::traits::Nla;
+
+/// Writes header and zero padding round a payload of `len` bytes that stands in its place already, from the fifth byte on, and leaves the
+/// bytes behind them. Asks that a length field can count the payload, and for a buffer of at least the attribute's length.
+pub fn put_frame(buffer: &mut [u8], kind: u16, len: usize)
+    requires fits { len ≤ 65531 }
+    requires room { 4 + aligned len ≤ length buffer.old }
+    ensures { buffer.new ≡ canonical_string (record { kind = kind; value = take len (drop 4 buffer.old) }) ++ drop (4 + aligned len) buffer.old }
+{
+    let end = 4 + len;
+    put_header(buffer, end as u16, kind);
+    buffer[end..end.next_multiple_of(4)].fill(0);
+}
+
+/// Writes length and type at the front, each as a little-endian u16.
+fn put_header(buffer: &mut [u8], length: u16, kind: u16)
+    requires { 4 ≤ Rattle.std.specs.Prelude.length buffer.old }
+    ensures { buffer.new ≡ (to_le_bytes w16 length ++ to_le_bytes w16 kind) ++ drop 4 buffer.old }
+{
+    buffer[..2].copy_from_slice(&length.to_le_bytes());
+    buffer[2..4].copy_from_slice(&kind.to_le_bytes());
+}
 
 /// The length of the list's string where each item fits and the length is a `usize`, and else `None`.
 pub fn nlas_fit_len<T: Nla>(items: &[T]) -> Option<usize>

@@ -1,11 +1,11 @@
 //! What values offer: to be written, as an attribute or as plain bytes, and to be read from bytes.
 
 ghost use Rattle.std.specs.Prelude.{◌≡◌, ℕ, ◌+◌, ◌≤◌, ◌++◌, Bool, List, Result, SomeIff, drop, length};
-ghost use Rattle.std.specs.Int.{w16, to_le_bytes};
 ghost use Rattle.nla_frame.specs.Answers.{CertainUnless, Gives};
 ghost use Rattle.nla_frame.specs.Attribute.{Attribute, Fits, buffer_len_of, canonical_string};
 ghost use Rattle.nla_frame.specs.declared.error.DecodeError.{DecodeError};
 
+use crate::emission::put_frame;
 use crate::error::DecodeError;
 use std::alloc::Global;
 
@@ -51,20 +51,10 @@ pub trait Nla {
         requires room { buffer_len_of (attribute self.now) ≤ length buffer.old }
         ensures { buffer.new ≡ canonical_string (attribute self.now) ++ drop (buffer_len_of (attribute self.now)) buffer.old }
     {
-        let end = 4 + self.value_len();
-        put_header(buffer, end as u16, self.kind());
-        self.emit_value(&mut buffer[4..end]);
-        buffer[end..end.next_multiple_of(4)].fill(0);
+        let len = self.value_len();
+        self.emit_value(&mut buffer[4..4 + len]);
+        put_frame(buffer, self.kind(), len);
     }
-}
-
-/// Writes length and type at the front, each as a little-endian u16.
-fn put_header(buffer: &mut [u8], length: u16, kind: u16)
-    requires { 4 ≤ Rattle.std.specs.Prelude.length buffer.old }
-    ensures { buffer.new ≡ (to_le_bytes w16 length ++ to_le_bytes w16 kind) ++ drop 4 buffer.old }
-{
-    buffer[..2].copy_from_slice(&length.to_le_bytes());
-    buffer[2..4].copy_from_slice(&kind.to_le_bytes());
 }
 
 /// A value that is written as plain bytes, without a header.

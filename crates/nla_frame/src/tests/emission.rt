@@ -1,6 +1,8 @@
 //! Attributes written into buffers.
 
-use crate::{Bytes, DefaultNla, Emitable, Nla, emit_nlas, nlas_buffer_len, nlas_fit_len};
+use crate::{
+    Bytes, DefaultNla, Emitable, Nla, emit_nlas, nlas_buffer_len, nlas_fit_len, put_frame,
+};
 use std::test::Fail;
 
 /// Bytes without a header, as the layers above write statistics.
@@ -88,4 +90,14 @@ fn fits_up_to_65531_bytes(rt: HostRuntime) -> Result<(), Fail> {
         None
     );
     Ok(())
+}
+
+#[test]
+fn frames_are_put_round_payloads(rt: HostRuntime) {
+    let mut buffer = [255; 13];
+    buffer[4..9].copy_from_slice(&[1, 2, 3, 4, 5]);
+    put_frame(&mut buffer, 0x8007, 5);
+    assert_eq!(rt; buffer, [9, 0, 7, 0x80, 1, 2, 3, 4, 5, 0, 0, 0, 255]);
+    put_frame(&mut buffer, 1, 0);
+    assert_eq!(rt; buffer, [4, 0, 1, 0, 1, 2, 3, 4, 5, 0, 0, 0, 255]);
 }

@@ -1,0 +1,106 @@
+-- Families of which attributes of type 5 hold lists of the family's own attributes, at most 128 lists inside one another: their rows by the
+-- number of lists round an attribute, and what these rows say of type 5 and of every other.
+use Rattle.std.specs.Prelude.{◌≡◌, ◌≢◌, ℕ, zero, suc, ◌+◌, ◌-◌, ◌<◌, ◌≤◌, ◌==◌, ◌&&◌, Bool, true, false, List, map, Result, Ok, Err, Option, Some, None, refl}
+use Rattle.std.proofs.Common.{sym, ap, subst, ◌∙◌, arith}
+use Rattle.std.proofs.lemmas.Bool.{eqb-true, eq-eqb}
+use Rattle.nla_frame.specs.Attribute.{Attribute, masked, list_string}
+use Rattle.nla_frame.specs.Pieces.{pieces}
+use Rattle.nla_frame.specs.declared.error.Cause.TheVariants as cause
+use Rattle.nla_frame.specs.declared.error.Family.{Family}
+use Rattle.nla_frame.specs.declared.error.DecodeError.{DecodeError}
+use Rattle.nla_frame.specs.declared.default_nla.DefaultNla.{DefaultNla}
+use Rattle.linkinfo_shapes.specs.declared.shape.Shape.TheVariants as shape
+use Rattle.linkinfo_table.specs.declared.lookup.Lookup.{Lookup}
+use Rattle.linkinfo_table.specs.declared.lookup.Lookup.TheVariants as lookup
+use Rattle.linkinfo_table.specs.Codecs.{Fault}
+use Rattle.linkinfo_table.specs.Rows.{Row, labelled, row_meaning, meaning_in, row_alike, alike_in, row_headers, headers_inside, row_needs_memory, memory_in}
+use Rattle.linkinfo_table.specs.FamilyRows.{FamilyRow, Plain, Custom, Refuses, Absent, row_of, row_if, lookup_of, IsFlat, PlainRow, table_row, EachKeeps, RowOwes}
+use Rattle.linkinfo_table.specs.FamilyRowLaws.{table_flat, table_owes}
+use Rattle.linkinfo_table.specs.Levels.{level_rows, level_owes, inner_codec}
+use Rattle.linkinfo_table.specs.Lists.{values, headers_of, alike_pairs, memory_of}
+use Rattle.linkinfo_table.specs.SelfList.{inside}
+
+-- the value that holds a list, where the list is read
+abbrev pub in_list : {X Y : Type 0} → (X → Y) → Result X DecodeError → Result Y DecodeError
+in_list label (Ok xs) = Ok (label xs)
+in_list label (Err e) = Err e
+
+-- the rows of an attribute inside `around` lists, by the family's rows of the table
+abbrev pub nested_rows : {X : Type 0} → Family → (DefaultNla → X) → (X → Attribute) → (List X → X) → List (PlainRow X) → ℕ → ℕ → FamilyRow X
+nested_rows f other attribute label plain around n = level_rows f other attribute 5 label (λ k. table_row plain k) (128 - around) n
+
+-- what such a family says of a masked type, given what the table of all families says: a list inside 128 others is refused
+abbrev pub nested_lookup : Bool → Lookup → Lookup
+nested_lookup true table = lookup.Refused cause.Depth
+nested_lookup false table = table
+
+module _ {X : Type 0} (f : Family) (other : DefaultNla → X) (attribute : X → Attribute) (label : List X → X) (plain : List (PlainRow X)) where
+  abbrev at : ℕ → ℕ → Row X
+  at around n = row_of (nested_rows f other attribute label plain around n)
+
+  abbrev level : ℕ → ℕ → Row X
+  level levels n = row_of (level_rows f other attribute 5 label (λ k. table_row plain k) levels n)
+
+  -- the row of type 5 where a list more may stand inside
+  abbrev list_row : ℕ → Row X
+  list_row levels = row_of (Custom shape.SelfList (inner_codec f other attribute 5 label (λ k. table_row plain k) (λ k. level levels k)) label)
+
+  five : (c n : ℕ) → c < 128 → n ≡ 5 → at c n ≡ list_row (128 - (c + 1))
+  five c n h e =
+      let one_less : 128 - c ≡ suc (128 - (c + 1)) = omega (arith, h) in
+      ap (λ (levels : ℕ). level levels n) one_less ∙ ap (λ (k : ℕ). level (suc (128 - (c + 1))) k) e
+
+  labelled_inside : (n : ℕ) (r : Result (List X) DecodeError) → labelled f n label (inside r) ≡ in_list label r
+  labelled_inside n (Ok xs) = refl
+  labelled_inside n (Err e) = refl
+
+  -- type 5 under a list less than the most means what a list of the same family under one list more means, and so on
+  pub list_means : (c : ℕ) (a : Attribute) → c < 128 → masked a.kind ≡ 5 →
+      meaning_in f other (λ n. at c n) a ≡ in_list label (values (meaning_in f other (λ n. at (c + 1) n)) (pieces a.value))
+  unfolding meaning_in
+  list_means c a h e = ap (λ (r : Row X). row_meaning f other r a) (five c (masked a.kind) h e) ∙ labelled_inside (masked a.kind) _
+
+  pub list_needs_memory : (c : ℕ) (a : Attribute) → c < 128 → masked a.kind ≡ 5 →
+      memory_in (λ n. at c n) a ≡ memory_of (meaning_in f other (λ n. at (c + 1) n)) (memory_in (λ n. at (c + 1) n)) (pieces a.value)
+  unfolding memory_in
+  list_needs_memory c a h e = ap (λ (r : Row X). row_needs_memory r a) (five c (masked a.kind) h e)
+
+  pub list_headers : (c : ℕ) (a : Attribute) → c < 128 → masked a.kind ≡ 5 →
+      headers_inside (λ n. at c n) a ≡ headers_of (meaning_in f other (λ n. at (c + 1) n)) (headers_inside (λ n. at (c + 1) n)) (pieces a.value)
+  unfolding headers_inside
+  list_headers c a h e = ap (λ (r : Row X). row_headers r a) (five c (masked a.kind) h e)
+
+  pub list_alike : (c : ℕ) (a b : Attribute) → c < 128 → masked a.kind ≡ 5 →
+      alike_in (λ n. at c n) a b ≡ ((masked b.kind == masked a.kind) && alike_pairs (alike_in (λ n. at (c + 1) n)) (pieces a.value) (pieces b.value))
+  unfolding alike_in
+  list_alike c a b h e = ap (λ (r : Row X). row_alike r a b) (five c (masked a.kind) h e)
+
+  -- every other type, and type 5 under the most lists, has a row of the table, is refused, or has none
+  module _ (keeps : EachKeeps attribute plain) where
+    elsewhere : (levels n : ℕ) → (n ≡ 5 → levels ≡ 0) → IsFlat (level_rows f other attribute 5 label (λ k. table_row plain k) levels n)
+    elsewhere zero n h = go (n == 5)
+      where
+        go : (b : Bool) → IsFlat (row_if b (Refuses cause.Depth) (table_row plain n))
+        go true = tt
+        go false = table_flat attribute plain keeps n
+    elsewhere (suc levels) n h = go (n == 5) refl
+      where
+        go : (b : Bool) → (n == 5) ≡ b →
+            IsFlat (row_if b (Custom shape.SelfList (inner_codec f other attribute 5 label (λ k. table_row plain k) (λ k. level levels k)) label) (table_row plain n))
+        go true e = absurd (let never : suc levels ≡ 0 = h (eqb-true n 5 e) in cc)
+        go false e = table_flat attribute plain keeps n
+
+    pub flat_elsewhere : (c n : ℕ) → (n ≡ 5 → 128 ≤ c) → IsFlat (nested_rows f other attribute label plain c n)
+    flat_elsewhere c n h = elsewhere (128 - c) n (λ e. omega (arith, h e))
+
+    pub nested_owes : (keeps_list : (xs : List X) → attribute (label xs) ≡ record { kind = 5; value = list_string (map attribute xs) }) →
+        (same : (xs ys : List X) → label xs ≡ label ys → xs ≡ ys) →
+        (keeps_other : (d : DefaultNla) → attribute (other d) ≡ record { kind = d.kind; value = d.value }) →
+        (c n : ℕ) → RowOwes attribute n (at c n)
+    nested_owes keeps_list same keeps_other c n =
+        level_owes f other attribute 5 label (λ k. table_row plain k) (omega arith) keeps_list same keeps_other (λ k. table_owes attribute plain keeps k) (128 - c) n
+
+  -- what these rows say of a masked type
+  pub nested_lookup_is : (table : ℕ → Lookup) → table 5 ≡ lookup.Is shape.SelfList → ((n : ℕ) → n ≢ 5 → lookup_of (table_row plain n) ≡ table n) →
+      (c n : ℕ) → lookup_of (nested_rows f other attribute label plain c n) ≡ nested_lookup ((n == 5) && (128 ≤? c)) (table n)
+  nested_lookup_is table list others c n = ?
