@@ -1,0 +1,2 @@
+pub mod NestedAnswers
+pub mod NestedEmitting

@@ -1,8 +1,9 @@
 -- Families of which attributes of type 5 hold lists of the family's own attributes, at most 128 lists inside one another: their rows by the
 -- number of lists round an attribute, and what these rows say of type 5 and of every other.
-use Rattle.std.specs.Prelude.{◌≡◌, ◌≢◌, ℕ, zero, suc, ◌+◌, ◌-◌, ◌<◌, ◌≤◌, ◌==◌, ◌&&◌, Bool, true, false, List, map, Result, Ok, Err, Option, Some, None, refl}
+use Rattle.std.specs.Prelude.{◌≡◌, ◌≢◌, ℕ, zero, suc, ◌+◌, ◌-◌, ◌<◌, ◌≤◌, ◌==◌, ◌&&◌, Bool, true, false, if◌then◌else◌, ltb, List, map, Result, Ok, Err, Option, Some, None, refl}
 use Rattle.std.proofs.Common.{sym, ap, subst, ◌∙◌, arith}
-use Rattle.std.proofs.lemmas.Bool.{eqb-true, eq-eqb}
+use Rattle.std.proofs.lemmas.Bool.{eqb-true, eq-eqb, and_from, lt-ltb, le-ltb}
+use denote.Ref.{Bor}
 use Rattle.nla_frame.specs.Attribute.{Attribute, masked, list_string}
 use Rattle.nla_frame.specs.Pieces.{pieces}
 use Rattle.nla_frame.specs.declared.error.Cause.TheVariants as cause
@@ -25,14 +26,29 @@ abbrev pub in_list : {X Y : Type 0} → (X → Y) → Result X DecodeError → R
 in_list label (Ok xs) = Ok (label xs)
 in_list label (Err e) = Err e
 
+-- a value whose payload the family writes itself lends its list, of which the payload is the string
+abbrev pub LendsList : {X : Type 0} → (X → Attribute) → (X → Bool) → X → Option (Bor (List X)) → Type 0
+LendsList canonical is_custom x (Some list) = canonical x ≡ record { kind = 5; value = list_string (map canonical list.now) }
+LendsList canonical is_custom x None = is_custom x ≡ false
+
+-- inside an attribute whose row has a shape of the table, or none, no header is looked at
+pub flat_headers : {X : Type 0} (rows : ℕ → FamilyRow X) (a : Attribute) → IsFlat (rows (masked a.kind)) → headers_inside (λ n. row_of (rows n)) a ≡ 0
+unfolding headers_inside
+flat_headers {X = X} rows a flat = go (rows (masked a.kind)) flat
+  where
+    go : (r : FamilyRow X) → IsFlat r → row_headers (row_of r) a ≡ 0
+    go (Plain shape label) h = refl
+    go (Custom shape codec label) h = absurd h
+    go (Refuses cause) h = refl
+    go Absent h = refl
+
 -- the rows of an attribute inside `around` lists, by the family's rows of the table
 abbrev pub nested_rows : {X : Type 0} → Family → (DefaultNla → X) → (X → Attribute) → (List X → X) → List (PlainRow X) → ℕ → ℕ → FamilyRow X
 nested_rows f other attribute label plain around n = level_rows f other attribute 5 label (λ k. table_row plain k) (128 - around) n
 
 -- what such a family says of a masked type, given what the table of all families says: a list inside 128 others is refused
-abbrev pub nested_lookup : Bool → Lookup → Lookup
-nested_lookup true table = lookup.Refused cause.Depth
-nested_lookup false table = table
+abbrev pub nested_lookup : ℕ → ℕ → Lookup → Lookup
+nested_lookup around n table = if (n == 5) && ltb 127 around then lookup.Refused cause.Depth else table
 
 module _ {X : Type 0} (f : Family) (other : DefaultNla → X) (attribute : X → Attribute) (label : List X → X) (plain : List (PlainRow X)) where
   abbrev at : ℕ → ℕ → Row X
@@ -100,7 +116,33 @@ module _ {X : Type 0} (f : Family) (other : DefaultNla → X) (attribute : X →
     nested_owes keeps_list same keeps_other c n =
         level_owes f other attribute 5 label (λ k. table_row plain k) (omega arith) keeps_list same keeps_other (λ k. table_owes attribute plain keeps k) (128 - c) n
 
+  true_false : true ≡ false → ⊥
+  true_false e = cc
+
   -- what these rows say of a masked type
-  pub nested_lookup_is : (table : ℕ → Lookup) → table 5 ≡ lookup.Is shape.SelfList → ((n : ℕ) → n ≢ 5 → lookup_of (table_row plain n) ≡ table n) →
-      (c n : ℕ) → lookup_of (nested_rows f other attribute label plain c n) ≡ nested_lookup ((n == 5) && (128 ≤? c)) (table n)
-  nested_lookup_is table list others c n = ?
+  module _ (table : ℕ → Lookup) (list : table 5 ≡ lookup.Is shape.SelfList) (others : (n : ℕ) → n ≢ 5 → lookup_of (table_row plain n) ≡ table n) where
+    elsewhere_is : (c n : ℕ) → (n == 5) ≡ false → lookup_of (table_row plain n) ≡ nested_lookup c n (table n)
+    elsewhere_is c n e =
+        others n (λ (h : n ≡ 5). absurd (true_false (sym (eq-eqb n 5 h) ∙ e)))
+        ∙ sym (ap (λ (b : Bool). if b && ltb 127 c then lookup.Refused cause.Depth else table n) e)
+
+    pub nested_lookup_is : (c n : ℕ) → lookup_of (nested_rows f other attribute label plain c n) ≡ nested_lookup c n (table n)
+    nested_lookup_is c n = go (128 - c) refl
+      where
+        go : (levels : ℕ) → 128 - c ≡ levels → lookup_of (level_rows f other attribute 5 label (λ k. table_row plain k) levels n) ≡ nested_lookup c n (table n)
+        go zero h = by (n == 5) refl
+          where
+            by : (b : Bool) → (n == 5) ≡ b → lookup_of (row_if b (Refuses cause.Depth) (table_row plain n)) ≡ nested_lookup c n (table n)
+            by true e =
+                let deep : ((n == 5) && ltb 127 c) ≡ true = and_from (n == 5) (ltb 127 c) e (lt-ltb 127 c (omega (arith, h))) in
+                sym (ap (λ (b : Bool). if b then lookup.Refused cause.Depth else table n) deep)
+            by false e = elsewhere_is c n e
+        go (suc levels) h = by (n == 5) refl
+          where
+            by : (b : Bool) → (n == 5) ≡ b →
+                lookup_of (row_if b (Custom shape.SelfList (inner_codec f other attribute 5 label (λ k. table_row plain k) (λ k. level levels k)) label) (table_row plain n)) ≡ nested_lookup c n (table n)
+            by true e =
+                let shallow : ltb 127 c ≡ false = le-ltb 127 c (omega (arith, h)) in
+                sym list ∙ ap table (sym (eqb-true n 5 e))
+                ∙ sym (ap (λ (b : Bool). if (n == 5) && b then lookup.Refused cause.Depth else table n) shallow ∙ ap (λ (b : Bool). if b && false then lookup.Refused cause.Depth else table n) e)
+            by false e = elsewhere_is c n e

@@ -24,6 +24,12 @@ masked_low n h = omega (arith, h)
 masked_masked : (n : ℕ) → masked (masked n) ≡ masked n
 masked_masked n = omega arith
 
+-- alike attributes have one masked type
+pub alike_masked : {F : Type 0} (r : Row F) (a b : Attribute) → row_alike r a b ≡ true → masked b.kind ≡ masked a.kind
+alike_masked (Is e) a b t = eqb-true _ _ (and_parts (masked b.kind == masked a.kind) (e.codec.alike a.value b.value) t).0
+alike_masked (Refused cause) a b t = absurd cc
+alike_masked Unknown a b t = ap masked (eqb-true _ _ (and_parts (b.kind == a.kind) (bytes_eq a.value b.value) t).0)
+
 module _ {F : Type 0} (f : Family) (other : DefaultNla → F) (attribute : F → Attribute) (rows : ℕ → Row F)
     (is_row : (n : ℕ) (e : Entry F) → rows n ≡ Is e → IsRow attribute n e)
     (keeps_other : (d : DefaultNla) → attribute (other d) ≡ record { kind = d.kind; value = d.value }) where
@@ -89,12 +95,6 @@ module _ {F : Type 0} (f : Family) (other : DefaultNla → F) (attribute : F →
         and_from (b.kind == a.kind) (bytes_eq a.value b.value) (eq-eqb _ _ (ap (λ (z : Attribute). z.kind) (sym equal)))
         ((bytes_eq-Decides a.value b.value).1 (ap (λ (z : Attribute). z.value) equal)),
   )
-
-  -- alike attributes have one masked type
-  pub alike_masked : (r : Row F) (a b : Attribute) → row_alike r a b ≡ true → masked b.kind ≡ masked a.kind
-  alike_masked (Is e) a b t = eqb-true _ _ (and_parts (masked b.kind == masked a.kind) (e.codec.alike a.value b.value) t).0
-  alike_masked (Refused cause) a b t = absurd cc
-  alike_masked Unknown a b t = ap masked (eqb-true _ _ (and_parts (b.kind == a.kind) (bytes_eq a.value b.value) t).0)
 
   pub rows_alike_is : (a b : Attribute) (x y : F) → IsAttribute a → IsAttribute b → meaning_in f other rows a ≡ Ok x → meaning_in f other rows b ≡ Ok y →
       (alike_in rows a b ≡ true) ↔ (x ≡ y)

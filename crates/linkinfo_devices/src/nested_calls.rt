@@ -1,0 +1,163 @@
+//! Reading, checking and comparing attributes of a family that holds lists of its own, and such lists, by calls that lead to each other.
+
+ghost use Rattle.std.specs.Prelude.{◌≡◌, ◌+◌, ◌*◌, ◌/◌, ◌<◌, ◌≤◌, ◌^◌, IsOk, length};
+ghost use Rattle.std.specs.Bool.{OnTrue};
+ghost use Rattle.nla_frame.specs.Answers.{CertainUnless, Gives, OnAnswer, verdict};
+ghost use Rattle.nla_frame.specs.Pieces.{pieces};
+ghost use Rattle.linkinfo_table.specs.FamilyRows.{row_of};
+ghost use Rattle.linkinfo_table.specs.Lists.{alike_pairs, headers_of, memory_of, values};
+ghost use Rattle.linkinfo_table.specs.Rows.{alike_in, headers_inside, meaning_in, memory_in};
+ghost use Rattle.linkinfo_devices.specs.Nested.{in_list};
+
+use crate::nested_family::{LIST_TYPE, MOST_LISTS, NestedFamily};
+use linkinfo_table::{row_check, row_read, row_same};
+use nla_frame::{DecodeError, HeaderCount, NlaBuffer, Nlas, next_piece};
+use std::alloc::Global;
+
+/// Reads an attribute inside `lists` lists.
+#[cycle(nested_read)]
+pub fn nested_read<F: NestedFamily>(
+    alloc: Global,
+    nla: &NlaBuffer<'_>,
+    lists: u8,
+    count: &mut HeaderCount,
+) -> Result<F, DecodeError>
+    requires { count.old + length nla.now.value / 4 < 2 ^ 64 }
+    ensures answer { Gives (λ value. value) result (meaning_in F.FAMILY F.other (λ n. row_of (F.rows lists n)) nla.now) }
+    ensures certain { CertainUnless (memory_in (λ n. row_of (F.rows lists n)) nla.now) (λ value. value) result (meaning_in F.FAMILY F.other (λ n. row_of (F.rows lists n)) nla.now) }
+    ensures counted { OnAnswer result (count.new ≡ count.old + headers_inside (λ n. row_of (F.rows lists n)) nla.now) }
+    ensures rises { count.old ≤ count.new }
+    ensures quarter { 4 * count.new ≤ 4 * count.old + length nla.now.value }
+{
+    if nla.kind() == LIST_TYPE && lists < MOST_LISTS {
+        value_of_list(nested_list_read(alloc, nla.value(), lists + 1, count))
+    } else {
+        row_read(alloc, nla, lists)
+    }
+}
+
+/// Reads a list whose attributes stand inside `lists` lists.
+#[cycle(nested_read)]
+fn nested_list_read<F: NestedFamily>(
+    alloc: Global,
+    bytes: &[u8],
+    lists: u8,
+    count: &mut HeaderCount,
+) -> Result<Vec<F>, DecodeError>
+    requires room { count.old + length bytes.now / 4 < 2 ^ 64 }
+    requires within { lists ≤ 128 }
+    ensures answer { Gives (λ v. v.items) result (values (meaning_in F.FAMILY F.other (λ n. row_of (F.rows lists n))) (pieces bytes.now)) }
+    ensures certain { CertainUnless (memory_of (meaning_in F.FAMILY F.other (λ n. row_of (F.rows lists n))) (memory_in (λ n. row_of (F.rows lists n))) (pieces bytes.now)) (λ v. v.items) result (values (meaning_in F.FAMILY F.other (λ n. row_of (F.rows lists n))) (pieces bytes.now)) }
+    ensures counted { OnAnswer result (count.new ≡ count.old + headers_of (meaning_in F.FAMILY F.other (λ n. row_of (F.rows lists n))) (headers_inside (λ n. row_of (F.rows lists n))) (pieces bytes.now)) }
+    ensures rises { count.old ≤ count.new }
+    ensures quarter { 4 * count.new ≤ 4 * count.old + length bytes.now }
+{
+    let mut items = Vec::new(alloc);
+    let mut rest = bytes;
+    while let Some(next) = next_piece(rest, count) {
+        let (nla, after) = next?;
+        items.push(nested_read(alloc, &nla, lists, count)?)?;
+        rest = after;
+    }
+    Ok(items)
+}
+
+/// The value that holds a list which was read.
+fn value_of_list<F: NestedFamily>(items: Result<Vec<F>, DecodeError>) -> Result<F, DecodeError>
+    ensures { result ≡ in_list (λ v. F.list_value v.items) items }
+{
+    Ok(F::from_list(Nlas::new(items?)))
+}
+
+/// Whether `nested_read` would succeed, or the attribute's fault. Takes no memory.
+#[cycle(nested_check)]
+pub fn nested_check<F: NestedFamily>(
+    nla: &NlaBuffer<'_>,
+    lists: u8,
+    count: &mut HeaderCount,
+) -> Result<(), DecodeError>
+    requires { count.old + length nla.now.value / 4 < 2 ^ 64 }
+    ensures answer { result ≡ verdict (meaning_in F.FAMILY F.other (λ n. row_of (F.rows lists n)) nla.now) }
+    ensures counted { count.new ≡ count.old + headers_inside (λ n. row_of (F.rows lists n)) nla.now }
+    ensures quarter { 4 * count.new ≤ 4 * count.old + length nla.now.value }
+{
+    if nla.kind() == LIST_TYPE && lists < MOST_LISTS {
+        nested_list_check::<F>(nla.value(), lists + 1, count)
+    } else {
+        row_check::<F>(nla, lists)
+    }
+}
+
+/// Whether `nested_list_read` would succeed, or the list's fault.
+#[cycle(nested_check)]
+fn nested_list_check<F: NestedFamily>(
+    bytes: &[u8],
+    lists: u8,
+    count: &mut HeaderCount,
+) -> Result<(), DecodeError>
+    requires room { count.old + length bytes.now / 4 < 2 ^ 64 }
+    requires within { lists ≤ 128 }
+    ensures answer { result ≡ verdict (values (meaning_in F.FAMILY F.other (λ n. row_of (F.rows lists n))) (pieces bytes.now)) }
+    ensures counted { count.new ≡ count.old + headers_of (meaning_in F.FAMILY F.other (λ n. row_of (F.rows lists n))) (headers_inside (λ n. row_of (F.rows lists n))) (pieces bytes.now) }
+    ensures quarter { 4 * count.new ≤ 4 * count.old + length bytes.now }
+{
+    let mut rest = bytes;
+    while let Some(next) = next_piece(rest, count) {
+        let (nla, after) = next?;
+        nested_check::<F>(&nla, lists, count)?;
+        rest = after;
+    }
+    Ok(())
+}
+
+/// Whether two attributes mean the same value. Asks that both are accepted, and takes no memory.
+#[cycle(nested_same)]
+pub fn nested_same<F: NestedFamily>(
+    a: &NlaBuffer<'_>,
+    b: &NlaBuffer<'_>,
+    lists: u8,
+    count: &mut HeaderCount,
+) -> bool
+    requires first { IsOk (meaning_in F.FAMILY F.other (λ n. row_of (F.rows lists n)) a.now) }
+    requires second { IsOk (meaning_in F.FAMILY F.other (λ n. row_of (F.rows lists n)) b.now) }
+    requires room { count.old + (length a.now.value + length b.now.value) / 4 < 2 ^ 64 }
+    ensures same { result ≡ alike_in (λ n. row_of (F.rows lists n)) a.now b.now }
+    ensures counted { OnTrue result (count.new ≡ count.old + (headers_inside (λ n. row_of (F.rows lists n)) a.now + headers_inside (λ n. row_of (F.rows lists n)) b.now)) }
+    ensures rises { count.old ≤ count.new }
+    ensures quarter { 4 * count.new ≤ 4 * count.old + (length a.now.value + length b.now.value) }
+{
+    if a.kind() == LIST_TYPE && lists < MOST_LISTS {
+        b.kind() == LIST_TYPE && nested_list_same::<F>(a.value(), b.value(), lists + 1, count)
+    } else {
+        row_same::<F>(a, b, lists)
+    }
+}
+
+/// Whether two lists mean the same values.
+#[cycle(nested_same)]
+fn nested_list_same<F: NestedFamily>(a: &[u8], b: &[u8], lists: u8, count: &mut HeaderCount) -> bool
+    requires first { IsOk (values (meaning_in F.FAMILY F.other (λ n. row_of (F.rows lists n))) (pieces a.now)) }
+    requires second { IsOk (values (meaning_in F.FAMILY F.other (λ n. row_of (F.rows lists n))) (pieces b.now)) }
+    requires room { count.old + (length a.now + length b.now) / 4 < 2 ^ 64 }
+    requires within { lists ≤ 128 }
+    ensures same { result ≡ alike_pairs (alike_in (λ n. row_of (F.rows lists n))) (pieces a.now) (pieces b.now) }
+    ensures counted { OnTrue result (count.new ≡ count.old + (headers_of (meaning_in F.FAMILY F.other (λ n. row_of (F.rows lists n))) (headers_inside (λ n. row_of (F.rows lists n))) (pieces a.now) + headers_of (meaning_in F.FAMILY F.other (λ n. row_of (F.rows lists n))) (headers_inside (λ n. row_of (F.rows lists n))) (pieces b.now))) }
+    ensures rises { count.old ≤ count.new }
+    ensures quarter { 4 * count.new ≤ 4 * count.old + (length a.now + length b.now) }
+{
+    let mut x = a;
+    let mut y = b;
+    while let Some(next) = next_piece(x, count) {
+        let Some(other) = next_piece(y, count) else {
+            return false;
+        };
+        let (p, after_p) = next.unwrap();
+        let (q, after_q) = other.unwrap();
+        if !nested_same::<F>(&p, &q, lists, count) {
+            return false;
+        }
+        x = after_p;
+        y = after_q;
+    }
+    next_piece(y, count).is_none()
+}

@@ -1,0 +1,115 @@
+//! Measuring and writing values of a family that holds lists of its own. The work is in proportion to the bytes written, however deep the
+//! lists stand: each value is measured once and written once.
+
+ghost use Rattle.std.specs.Prelude.{◌≡◌, ◌≤◌, ◌++◌, SomeIff, drop, length, map};
+ghost use Rattle.nla_frame.specs.Attribute.{Fits, buffer_len_of, canonical_string, list_string};
+
+use crate::nested_family::{LIST_TYPE, NestedFamily};
+use linkinfo_table::{row_emit_value, row_fit_len, row_kind, row_value_len};
+use nla_frame::put_frame;
+
+/// The most bytes of a payload: those that a 16-bit length field counts beside the four header bytes.
+const LONGEST_PAYLOAD: usize = 65531;
+
+/// The length of a value's payload where it fits, and else `None`.
+#[cycle(nested_fit_len)]
+pub fn nested_fit_len<F: NestedFamily>(value: &F) -> Option<usize>
+    ensures { SomeIff result (Fits (F.canonical value.now)) (length (F.canonical value.now).value) }
+{
+    match value.list() {
+        Some(list) => nested_list_fit_len(list.as_slice()),
+        None => row_fit_len(value),
+    }
+}
+
+/// The length of a list's string where a length field counts it, and else `None`.
+#[cycle(nested_fit_len)]
+fn nested_list_fit_len<F: NestedFamily>(items: &[F]) -> Option<usize>
+    ensures { SomeIff result (length (list_string (map F.canonical items.now)) ≤ 65531) (length (list_string (map F.canonical items.now))) }
+{
+    let mut total: usize = 0;
+    for item in items {
+        let len = nested_fit_len(item)?;
+        total += 4 + len.next_multiple_of(4);
+        if total > LONGEST_PAYLOAD {
+            return None;
+        }
+    }
+    Some(total)
+}
+
+/// The length of a value's payload. Asks that the value fits.
+pub fn nested_value_len<F: NestedFamily>(value: &F) -> usize
+    requires { Fits (F.canonical value.now) }
+    ensures { result ≡ length (F.canonical value.now).value }
+{
+    match nested_fit_len(value) {
+        Some(len) => len,
+        None => unreachable!(),
+    }
+}
+
+/// The type number of a value.
+pub fn nested_kind<F: NestedFamily>(value: &F) -> u16
+    ensures { result ≡ (F.canonical value.now).kind }
+{
+    match value.list() {
+        Some(_) => LIST_TYPE,
+        None => row_kind(value),
+    }
+}
+
+/// Writes a value's payload. Asks that the value fits, and for a buffer of exactly the payload's length.
+pub fn nested_emit_value<F: NestedFamily>(value: &F, buffer: &mut [u8])
+    requires fits { Fits (F.canonical value.now) }
+    requires exact { length buffer.old ≡ length (F.canonical value.now).value }
+    ensures { buffer.new ≡ (F.canonical value.now).value }
+{
+    emit_payload(value, buffer);
+}
+
+/// Writes a value's payload at the front of the buffer, leaves the bytes behind it, and answers how many it wrote.
+#[cycle(nested_emit)]
+fn emit_payload<F: NestedFamily>(value: &F, buffer: &mut [u8]) -> usize
+    requires fits { Fits (F.canonical value.now) }
+    requires room { length (F.canonical value.now).value ≤ length buffer.old }
+    ensures taken { result ≡ length (F.canonical value.now).value }
+    ensures written { buffer.new ≡ (F.canonical value.now).value ++ drop (length (F.canonical value.now).value) buffer.old }
+{
+    match value.list() {
+        Some(list) => emit_list(list.as_slice(), buffer),
+        None => {
+            let len = row_value_len(value);
+            row_emit_value(value, &mut buffer[..len]);
+            len
+        }
+    }
+}
+
+/// Writes a list's string in the same way. Asks that a length field counts it.
+#[cycle(nested_emit)]
+fn emit_list<F: NestedFamily>(items: &[F], buffer: &mut [u8]) -> usize
+    requires fits { length (list_string (map F.canonical items.now)) ≤ 65531 }
+    requires room { length (list_string (map F.canonical items.now)) ≤ length buffer.old }
+    ensures taken { result ≡ length (list_string (map F.canonical items.now)) }
+    ensures written { buffer.new ≡ list_string (map F.canonical items.now) ++ drop (length (list_string (map F.canonical items.now))) buffer.old }
+{
+    let mut place: usize = 0;
+    for item in items {
+        place += emit_attribute(item, &mut buffer[place..]);
+    }
+    place
+}
+
+/// Writes a value's attribute in the same way: its payload, and then header and padding round it.
+#[cycle(nested_emit)]
+fn emit_attribute<F: NestedFamily>(value: &F, buffer: &mut [u8]) -> usize
+    requires fits { Fits (F.canonical value.now) }
+    requires room { buffer_len_of (F.canonical value.now) ≤ length buffer.old }
+    ensures taken { result ≡ buffer_len_of (F.canonical value.now) }
+    ensures written { buffer.new ≡ canonical_string (F.canonical value.now) ++ drop (buffer_len_of (F.canonical value.now)) buffer.old }
+{
+    let len = emit_payload(value, &mut buffer[4..]);
+    put_frame(buffer, nested_kind(value), len);
+    4 + len.next_multiple_of(4)
+}
