@@ -1,3 +1,5 @@
+pub mod MacRows
+pub mod MacVlan
 pub mod Nested
 pub mod Vrf
 pub mod Xfrm

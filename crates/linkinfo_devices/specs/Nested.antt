@@ -1,6 +1,6 @@
 -- Families of which attributes of type 5 hold lists of the family's own attributes, at most 128 lists inside one another: their rows by the
 -- number of lists round an attribute, and what these rows say of type 5 and of every other.
-use Rattle.std.specs.Prelude.{◌≡◌, ◌≢◌, ℕ, zero, suc, ◌+◌, ◌-◌, ◌<◌, ◌≤◌, ◌==◌, ◌&&◌, Bool, true, false, if◌then◌else◌, ltb, List, map, Result, Ok, Err, Option, Some, None, refl}
+use Rattle.std.specs.Prelude.{◌≡◌, ◌≢◌, ℕ, zero, suc, ◌+◌, ◌-◌, ◌*◌, ◌<◌, ◌≤◌, ◌==◌, ◌&&◌, Bool, true, false, if◌then◌else◌, ltb, List, length, map, Result, Ok, Err, Option, Some, None, refl}
 use Rattle.std.proofs.Common.{sym, ap, subst, ◌∙◌, arith}
 use Rattle.std.proofs.lemmas.Bool.{eqb-true, eq-eqb, and_from, lt-ltb, le-ltb}
 use denote.Ref.{Bor}
@@ -15,8 +15,12 @@ use Rattle.linkinfo_table.specs.declared.lookup.Lookup.{Lookup}
 use Rattle.linkinfo_table.specs.declared.lookup.Lookup.TheVariants as lookup
 use Rattle.linkinfo_table.specs.Codecs.{Fault}
 use Rattle.linkinfo_table.specs.Rows.{Row, labelled, row_meaning, meaning_in, row_alike, alike_in, row_headers, headers_inside, row_needs_memory, memory_in}
-use Rattle.linkinfo_table.specs.FamilyRows.{FamilyRow, Plain, Custom, Refuses, Absent, row_of, row_if, lookup_of, IsFlat, PlainRow, table_row, EachKeeps, RowOwes}
-use Rattle.linkinfo_table.specs.FamilyRowLaws.{table_flat, table_owes}
+use Rattle.linkinfo_table.specs.FamilyRows.{FamilyRow, Plain, Custom, Refuses, Absent, row_of, row_if, lookup_of, IsFlat, IsLabelled, IsMadeOf, SuitsFound, SuitsRow, PlainRow, table_row, EachKeeps, RowOwes}
+use Rattle.linkinfo_table.specs.FamilyRowLaws.{owed, table_flat, table_owes}
+use Rattle.linkinfo_table.specs.RowLaws.{rows_quarter}
+use Rattle.linkinfo_table.specs.declared.found.Found.{Found}
+use Rattle.linkinfo_table.specs.declared.found.Found.TheVariants as found
+use Rattle.linkinfo_shapes.specs.Data.{value_of}
 use Rattle.linkinfo_table.specs.Levels.{level_rows, level_owes, inner_codec}
 use Rattle.linkinfo_table.specs.Lists.{values, headers_of, alike_pairs, memory_of}
 use Rattle.linkinfo_table.specs.SelfList.{inside}
@@ -146,3 +150,49 @@ module _ {X : Type 0} (f : Family) (other : DefaultNla → X) (attribute : X →
                 sym list ∙ ap table (sym (eqb-true n 5 e))
                 ∙ sym (ap (λ (b : Bool). if (n == 5) && b then lookup.Refused cause.Depth else table n) shallow ∙ ap (λ (b : Bool). if b && false then lookup.Refused cause.Depth else table n) e)
             by false e = elsewhere_is c n e
+
+  -- what was read of an attribute that holds no list, and the value that is made of it, by the rows of the table alone
+  pub suits_plain : (c : ℕ) (read : Found) → SuitsFound (λ n. nested_rows f other attribute label plain c n) read → SuitsFound (λ n. table_row plain n) read
+  suits_plain c (found.Typed n datum) suits = go (128 - c) suits
+    where
+      go : (levels : ℕ) → SuitsRow (level_rows f other attribute 5 label (λ k. table_row plain k) levels n) (value_of datum) → SuitsRow (table_row plain n) (value_of datum)
+      go zero h = by (n == 5) h
+        where
+          by : (b : Bool) → SuitsRow (row_if b (Refuses cause.Depth) (table_row plain n)) (value_of datum) → SuitsRow (table_row plain n) (value_of datum)
+          by true h = absurd h
+          by false h = h
+      go (suc levels) h = by (n == 5) h
+        where
+          by : (b : Bool) →
+              SuitsRow (row_if b (Custom shape.SelfList (inner_codec f other attribute 5 label (λ k. table_row plain k) (λ k. level levels k)) label) (table_row plain n)) (value_of datum) →
+              SuitsRow (table_row plain n) (value_of datum)
+          by true h = absurd h
+          by false h = h
+  suits_plain c (found.Kept nla) suits = tt
+
+  pub made_plain : (c : ℕ) (read : Found) (x : X) → SuitsFound (λ n. nested_rows f other attribute label plain c n) read →
+      IsMadeOf other (λ n. table_row plain n) read x → IsMadeOf other (λ n. nested_rows f other attribute label plain c n) read x
+  made_plain c (found.Typed n datum) x suits made = go (128 - c) suits
+    where
+      go : (levels : ℕ) → SuitsRow (level_rows f other attribute 5 label (λ k. table_row plain k) levels n) (value_of datum) →
+          IsLabelled (level_rows f other attribute 5 label (λ k. table_row plain k) levels n) (value_of datum) x
+      go zero h = by (n == 5) h
+        where
+          by : (b : Bool) → SuitsRow (row_if b (Refuses cause.Depth) (table_row plain n)) (value_of datum) → IsLabelled (row_if b (Refuses cause.Depth) (table_row plain n)) (value_of datum) x
+          by true h = absurd h
+          by false h = made
+      go (suc levels) h = by (n == 5) h
+        where
+          by : (b : Bool) →
+              SuitsRow (row_if b (Custom shape.SelfList (inner_codec f other attribute 5 label (λ k. table_row plain k) (λ k. level levels k)) label) (table_row plain n)) (value_of datum) →
+              IsLabelled (row_if b (Custom shape.SelfList (inner_codec f other attribute 5 label (λ k. table_row plain k) (λ k. level levels k)) label) (table_row plain n)) (value_of datum) x
+          by true h = absurd h
+          by false h = made
+  made_plain c (found.Kept nla) x suits made = made
+
+-- at most a quarter of a payload's bytes are headers, whatever the rows
+pub nested_quarter : {X : Type 0} (f : Family) (other : DefaultNla → X) (attribute : X → Attribute) (rows : ℕ → FamilyRow X) →
+    ((n : ℕ) → RowOwes attribute n (row_of (rows n))) → ((d : DefaultNla) → attribute (other d) ≡ record { kind = d.kind; value = d.value }) →
+    (a : Attribute) → 4 * headers_inside (λ n. row_of (rows n)) a ≤ length a.value
+nested_quarter f other attribute rows owes keeps_other a =
+    rows_quarter f other attribute (λ n. row_of (rows n)) (λ n e h. owed attribute (λ k. row_of (rows k)) owes n e h) keeps_other a

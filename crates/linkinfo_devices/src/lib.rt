@@ -1,6 +1,7 @@
 //! Attributes of xfrm and vrf links.
 #![tactic(auto)]
 
+mod macvlan;
 mod nested_calls;
 mod nested_emission;
 mod nested_family;
@@ -9,6 +10,7 @@ mod tests;
 mod vrf;
 mod xfrm;
 
+pub use macvlan::InfoMacVlan;
 pub use nested_family::NestedFamily;
 pub use vrf::{InfoVrf, InfoVrfPort};
 pub use xfrm::InfoXfrm;

@@ -1,0 +1,262 @@
+//! Macvlan links.
+
+ghost use Rattle.linkinfo_devices.specs.MacRows.{mac_keeps, mac_owes, mac_plain_rows, mac_rows};
+ghost use Rattle.linkinfo_devices.specs.MacVlan.{mac_vlan_attribute, mac_vlan_holds_list, mac_vlan_keep, mac_vlan_labels};
+ghost use Rattle.linkinfo_devices.specs.Nested.{LendsList, flat_elsewhere, list_alike, list_headers, list_means, list_needs_memory, nested_quarter};
+ghost use Rattle.linkinfo_devices.specs.declared.macvlan.InfoMacVlan as macvlan;
+ghost use Rattle.linkinfo_table.specs.FamilyRows.{IsMadeOf, SuitsFound, found_needs_memory, lookup_of, row_of, table_row};
+ghost use Rattle.linkinfo_table.specs.FlatLaws.{flat_alike_is, flat_no_memory, flat_read_well, flat_well_attribute, flat_well_reads};
+ghost use Rattle.linkinfo_table.specs.Rows.{WellFormed, alike_in, headers_inside, meaning_in, memory_in};
+ghost use Rattle.nla_frame.specs.declared.error.Family.TheVariants as family;
+ghost use Rattle.std.specs.Prelude.{◌≡◌, refl};
+
+use crate::nested_calls::{nested_check, nested_read, nested_same};
+use crate::nested_emission::{nested_emit_value, nested_fit_len, nested_kind, nested_value_len};
+use crate::nested_family::{NestedFamily, nested_shape};
+use bitflags::Flags;
+use linkinfo_numbers::{MacVlanFlags, MacVlanMacAddressMode, MacVlanMode};
+use linkinfo_table::{Found, LinkFamily, Lookup, Part, RowFamily, parts};
+use nla_frame::{
+    DecodeError, DefaultNla, ExactEq, Family, HeaderCount, Nla, NlaBuffer, Nlas, Parseable,
+};
+use std::alloc::{AllocError, Global};
+
+const IFLA_MACVLAN_MODE: u16 = 1;
+
+const IFLA_MACVLAN_FLAGS: u16 = 2;
+
+const IFLA_MACVLAN_MACADDR_MODE: u16 = 3;
+
+const IFLA_MACVLAN_MACADDR: u16 = 4;
+
+const IFLA_MACVLAN_MACADDR_COUNT: u16 = 6;
+
+const IFLA_MACVLAN_BC_QUEUE_LEN: u16 = 7;
+
+const IFLA_MACVLAN_BC_QUEUE_LEN_USED: u16 = 8;
+
+const IFLA_MACVLAN_BC_CUTOFF: u16 = 9;
+
+/// An attribute of a macvlan link (include/uapi/linux/if_link.h).
+#[derive(Debug, PartialEq, Eq, Clone, Drop)]
+pub enum InfoMacVlan {
+    /// The mode (`IFLA_MACVLAN_MODE`), native byte order.
+    Mode(MacVlanMode),
+    /// What the link leaves out (`IFLA_MACVLAN_FLAGS`), native byte order.
+    Flags(MacVlanFlags),
+    /// What is done with source addresses (`IFLA_MACVLAN_MACADDR_MODE`), native byte order.
+    MacAddrMode(MacVlanMacAddressMode),
+    /// A source address (`IFLA_MACVLAN_MACADDR`).
+    MacAddr([u8; 6]),
+    /// A list of attributes of a macvlan link, by custom of source addresses (`IFLA_MACVLAN_MACADDR_DATA`). A list inside 128 others is
+    /// refused.
+    MacAddrData(Nlas<InfoMacVlan>),
+    /// How many source addresses there are (`IFLA_MACVLAN_MACADDR_COUNT`), native byte order.
+    MacAddrCount(u32),
+    /// The length of the queue for broadcasts that is asked for (`IFLA_MACVLAN_BC_QUEUE_LEN`), native byte order.
+    BcQueueLen(u32),
+    /// The length of the queue for broadcasts that is in use (`IFLA_MACVLAN_BC_QUEUE_LEN_USED`), native byte order.
+    BcQueueLenUsed(u32),
+    /// From how many receivers on a broadcast goes by the queue (`IFLA_MACVLAN_BC_CUTOFF`), native byte order; -1 stands for never.
+    BcCutoff(i32),
+    /// An attribute of another type, kept as it came.
+    Other(DefaultNla),
+}
+
+/// The value of what was read of an attribute that holds no list.
+fn value_of(found: Found<'_>) -> InfoMacVlan
+    requires { SuitsFound (λ n. table_row (mac_plain_rows mac_vlan_labels) n) found }
+    ensures { IsMadeOf (λ d. macvlan.Other d) (λ n. table_row (mac_plain_rows mac_vlan_labels) n) found.entry result }
+{
+    let (kind, datum) = match found {
+        Found::Typed(kind, datum) => (kind, datum),
+        Found::Kept(nla) => return InfoMacVlan::Other(nla),
+    };
+    match kind {
+        IFLA_MACVLAN_MODE => InfoMacVlan::Mode(MacVlanMode::from(datum.u32_or_zero())),
+        IFLA_MACVLAN_FLAGS => InfoMacVlan::Flags(MacVlanFlags::from_bits_retain(
+            datum.u16_or_zero(),
+        )),
+        IFLA_MACVLAN_MACADDR_MODE => InfoMacVlan::MacAddrMode(MacVlanMacAddressMode::from(
+            datum.u32_or_zero(),
+        )),
+        IFLA_MACVLAN_MACADDR => InfoMacVlan::MacAddr(datum.mac_or_zeros()),
+        IFLA_MACVLAN_MACADDR_COUNT => InfoMacVlan::MacAddrCount(datum.u32_or_zero()),
+        IFLA_MACVLAN_BC_QUEUE_LEN => InfoMacVlan::BcQueueLen(datum.u32_or_zero()),
+        IFLA_MACVLAN_BC_QUEUE_LEN_USED => InfoMacVlan::BcQueueLenUsed(datum.u32_or_zero()),
+        IFLA_MACVLAN_BC_CUTOFF => InfoMacVlan::BcCutoff(datum.i32_or_zero()),
+        _ => unreachable!(),
+    }
+}
+
+impl RowFamily for InfoMacVlan {
+    type Context = u8;
+
+    const FAMILY: Family = Family::MacVlan;
+
+    ghost FAMILY = { family.MacVlan };
+
+    ghost rows = { λ c n. mac_rows family.MacVlan mac_vlan_attribute mac_vlan_labels c n };
+
+    ghost other = { λ nla. macvlan.Other nla };
+
+    ghost canonical = { mac_vlan_attribute };
+
+    ghost is_custom = { mac_vlan_holds_list };
+
+    ghost owes = { λ c n. mac_owes family.MacVlan mac_vlan_attribute mac_vlan_labels mac_vlan_keep c n };
+
+    ghost keeps_other = { λ d. mac_vlan_keep.other d };
+
+    #[tactic(auto, using(crate::specs::MacRows::mac_lookup))]
+    fn shape(lists: u8, kind: u16) -> Lookup {
+        nested_shape(Family::MacVlan, lists, kind)
+    }
+
+    #[tactic(auto, using(crate::specs::MacVlan::mac_vlan_suits, crate::specs::MacVlan::mac_vlan_made))]
+    fn from_found(_alloc: Global, _lists: u8, found: Found<'_>) -> Result<InfoMacVlan, AllocError> {
+        Ok(value_of(found))
+    }
+
+    fn to_part(&self) -> Part<'_> {
+        match self {
+            InfoMacVlan::Mode(mode) => parts::le32(IFLA_MACVLAN_MODE, u32::from(*mode)),
+            InfoMacVlan::Flags(flags) => parts::le16(IFLA_MACVLAN_FLAGS, flags.bits()),
+            InfoMacVlan::MacAddrMode(mode) => parts::le32(
+                IFLA_MACVLAN_MACADDR_MODE,
+                u32::from(*mode),
+            ),
+            InfoMacVlan::MacAddr(address) => parts::mac(IFLA_MACVLAN_MACADDR, *address),
+            InfoMacVlan::MacAddrData(_) => Part::Custom,
+            InfoMacVlan::MacAddrCount(count) => parts::le32(IFLA_MACVLAN_MACADDR_COUNT, *count),
+            InfoMacVlan::BcQueueLen(len) => parts::le32(IFLA_MACVLAN_BC_QUEUE_LEN, *len),
+            InfoMacVlan::BcQueueLenUsed(len) => parts::le32(IFLA_MACVLAN_BC_QUEUE_LEN_USED, *len),
+            InfoMacVlan::BcCutoff(receivers) => parts::i32(IFLA_MACVLAN_BC_CUTOFF, *receivers),
+            InfoMacVlan::Other(nla) => Part::Kept(nla),
+        }
+    }
+}
+
+impl NestedFamily for InfoMacVlan {
+    ghost list_value = { λ xs. macvlan.MacAddrData xs };
+
+    fn from_list(items: Nlas<InfoMacVlan>) -> InfoMacVlan
+        ensures { result ≡ macvlan.MacAddrData items }
+    {
+        InfoMacVlan::MacAddrData(items)
+    }
+
+    fn list(&self) -> Option<&Nlas<InfoMacVlan>>
+        ensures { LendsList mac_vlan_attribute mac_vlan_holds_list self.now result }
+    {
+        match self {
+            InfoMacVlan::MacAddrData(items) => Some(items),
+            _ => None,
+        }
+    }
+
+    ghost list_means = { λ c a. list_means family.MacVlan (λ d. macvlan.Other d) mac_vlan_attribute (λ xs. macvlan.MacAddrData xs) (mac_plain_rows mac_vlan_labels) c a };
+
+    ghost list_needs_memory = { λ c a. list_needs_memory family.MacVlan (λ d. macvlan.Other d) mac_vlan_attribute (λ xs. macvlan.MacAddrData xs) (mac_plain_rows mac_vlan_labels) c a };
+
+    ghost list_headers = { λ c a. list_headers family.MacVlan (λ d. macvlan.Other d) mac_vlan_attribute (λ xs. macvlan.MacAddrData xs) (mac_plain_rows mac_vlan_labels) c a };
+
+    ghost list_alike = { λ c a b. list_alike family.MacVlan (λ d. macvlan.Other d) mac_vlan_attribute (λ xs. macvlan.MacAddrData xs) (mac_plain_rows mac_vlan_labels) c a b };
+
+    ghost flat_elsewhere = { λ c n. flat_elsewhere family.MacVlan (λ d. macvlan.Other d) mac_vlan_attribute (λ xs. macvlan.MacAddrData xs) (mac_plain_rows mac_vlan_labels) (mac_keeps mac_vlan_attribute mac_vlan_labels mac_vlan_keep) c n };
+}
+
+impl Nla for InfoMacVlan {
+    ghost attribute = { mac_vlan_attribute };
+
+    fn value_len(&self) -> usize {
+        nested_value_len(self)
+    }
+
+    fn kind(&self) -> u16 {
+        nested_kind(self)
+    }
+
+    fn emit_value(&self, buffer: &mut [u8]) {
+        nested_emit_value(self, buffer);
+    }
+
+    fn fit_len(&self) -> Option<usize> {
+        nested_fit_len(self)
+    }
+}
+
+/// An attribute inside as many lists as the context says.
+impl LinkFamily for InfoMacVlan {
+    type Context = u8;
+
+    const FAMILY: Family = Family::MacVlan;
+
+    ghost FAMILY = { family.MacVlan };
+
+    ghost lookup = { λ c n. lookup_of (mac_rows family.MacVlan mac_vlan_attribute mac_vlan_labels c n) };
+
+    ghost meaning = { λ c a. meaning_in family.MacVlan (λ d. macvlan.Other d) (λ n. row_of (mac_rows family.MacVlan mac_vlan_attribute mac_vlan_labels c n)) a };
+
+    ghost needs_memory = { λ c a. memory_in (λ n. row_of (mac_rows family.MacVlan mac_vlan_attribute mac_vlan_labels c n)) a };
+
+    ghost headers = { λ c a. headers_inside (λ n. row_of (mac_rows family.MacVlan mac_vlan_attribute mac_vlan_labels c n)) a };
+
+    ghost alike = { λ c a b. alike_in (λ n. row_of (mac_rows family.MacVlan mac_vlan_attribute mac_vlan_labels c n)) a b };
+
+    ghost well = { λ c x. WellFormed (λ d. macvlan.Other d) mac_vlan_attribute (λ n. row_of (mac_rows family.MacVlan mac_vlan_attribute mac_vlan_labels c n)) x };
+
+    ghost alike_is = { λ c a b x y. flat_alike_is family.MacVlan (λ d. macvlan.Other d) mac_vlan_attribute (mac_rows family.MacVlan mac_vlan_attribute mac_vlan_labels c) (mac_owes family.MacVlan mac_vlan_attribute mac_vlan_labels mac_vlan_keep c) mac_vlan_keep.other a b x y };
+
+    ghost headers_quarter = { λ c a. nested_quarter family.MacVlan (λ d. macvlan.Other d) mac_vlan_attribute (mac_rows family.MacVlan mac_vlan_attribute mac_vlan_labels c) (mac_owes family.MacVlan mac_vlan_attribute mac_vlan_labels mac_vlan_keep c) mac_vlan_keep.other a };
+
+    ghost no_memory = { λ c a. flat_no_memory family.MacVlan (λ d. macvlan.Other d) mac_vlan_attribute (mac_rows family.MacVlan mac_vlan_attribute mac_vlan_labels c) (mac_owes family.MacVlan mac_vlan_attribute mac_vlan_labels mac_vlan_keep c) mac_vlan_keep.other a };
+
+    ghost read_well = { λ c a x. flat_read_well family.MacVlan (λ d. macvlan.Other d) mac_vlan_attribute (mac_rows family.MacVlan mac_vlan_attribute mac_vlan_labels c) (mac_owes family.MacVlan mac_vlan_attribute mac_vlan_labels mac_vlan_keep c) mac_vlan_keep.other a x };
+
+    ghost well_reads = { λ c x. flat_well_reads family.MacVlan (λ d. macvlan.Other d) mac_vlan_attribute (mac_rows family.MacVlan mac_vlan_attribute mac_vlan_labels c) (mac_owes family.MacVlan mac_vlan_attribute mac_vlan_labels mac_vlan_keep c) mac_vlan_keep.other mac_vlan_attribute (λ _. refl) x };
+
+    ghost well_attribute = { λ c x. flat_well_attribute family.MacVlan (λ d. macvlan.Other d) mac_vlan_attribute (mac_rows family.MacVlan mac_vlan_attribute mac_vlan_labels c) (mac_owes family.MacVlan mac_vlan_attribute mac_vlan_labels mac_vlan_keep c) mac_vlan_keep.other mac_vlan_attribute (λ _. refl) x };
+
+    fn shape(lists: u8, kind: u16) -> Lookup {
+        <InfoMacVlan as RowFamily>::shape(lists, kind)
+    }
+
+    fn read(
+        alloc: Global,
+        nla: &NlaBuffer<'_>,
+        lists: u8,
+        count: &mut HeaderCount,
+    ) -> Result<InfoMacVlan, DecodeError> {
+        nested_read(alloc, nla, lists, count)
+    }
+
+    fn check_value(
+        nla: &NlaBuffer<'_>,
+        lists: u8,
+        count: &mut HeaderCount,
+    ) -> Result<(), DecodeError> {
+        nested_check::<InfoMacVlan>(nla, lists, count)
+    }
+
+    fn same_value(
+        a: &NlaBuffer<'_>,
+        b: &NlaBuffer<'_>,
+        lists: u8,
+        count: &mut HeaderCount,
+    ) -> bool {
+        nested_same::<InfoMacVlan>(a, b, lists, count)
+    }
+}
+
+/// Reads the attribute, inside no list. A payload of another length than its row's is (MacVlan, type, Length), a list inside 128 others is
+/// (MacVlan, 5, Depth), and what a list does not frame (Frame, 0, Header).
+impl<'a> Parseable<NlaBuffer<'a>> for InfoMacVlan {
+    ghost meaning = { λ nla. meaning_in family.MacVlan (λ d. macvlan.Other d) (λ n. row_of (mac_rows family.MacVlan mac_vlan_attribute mac_vlan_labels 0 n)) nla };
+
+    ghost needs_memory = { λ nla. memory_in (λ n. row_of (mac_rows family.MacVlan mac_vlan_attribute mac_vlan_labels 0 n)) nla };
+
+    fn parse(alloc: Global, buffer: &NlaBuffer<'a>) -> Result<InfoMacVlan, DecodeError> {
+        nested_read(alloc, buffer, 0, &mut HeaderCount::new())
+    }
+}
