@@ -10,7 +10,7 @@ ghost use Rattle.linkinfo_table.specs.Rows.{WellFormed, alike_in, headers_inside
 ghost use Rattle.nla_frame.specs.declared.error.Family.TheVariants as family;
 ghost use Rattle.std.specs.Prelude.{◌≡◌, refl};
 
-use crate::nested_calls::{nested_check, nested_read, nested_same};
+use crate::nested_calls::{nested_check, nested_parse, nested_read, nested_same};
 use crate::nested_emission::{nested_emit_value, nested_fit_len, nested_kind, nested_value_len};
 use crate::nested_family::{NestedFamily, nested_shape};
 use bitflags::Flags;
@@ -257,6 +257,6 @@ impl<'a> Parseable<NlaBuffer<'a>> for InfoMacVlan {
     ghost needs_memory = { λ nla. memory_in (λ n. row_of (mac_rows family.MacVlan mac_vlan_attribute mac_vlan_labels 0 n)) nla };
 
     fn parse(alloc: Global, buffer: &NlaBuffer<'a>) -> Result<InfoMacVlan, DecodeError> {
-        nested_read(alloc, buffer, 0, &mut HeaderCount::new())
+        nested_parse(alloc, buffer)
     }
 }

@@ -11,7 +11,7 @@ ghost use Rattle.linkinfo_devices.specs.Nested.{in_list};
 
 use crate::nested_family::{LIST_TYPE, MOST_LISTS, NestedFamily};
 use linkinfo_table::{row_check, row_read, row_same};
-use nla_frame::{DecodeError, HeaderCount, NlaBuffer, Nlas, next_piece};
+use nla_frame::{DecodeError, HeaderCount, NlaBuffer, Nlas, laws, next_piece};
 use std::alloc::Global;
 
 /// Reads an attribute inside `lists` lists.
@@ -67,6 +67,15 @@ fn value_of_list<F: NestedFamily>(items: Result<Vec<F>, DecodeError>) -> Result<
     ensures { result ≡ in_list (λ v. F.list_value v.items) items }
 {
     Ok(F::from_list(Nlas::new(items?)))
+}
+
+/// Reads an attribute that stands in no list.
+pub fn nested_parse<F: NestedFamily>(alloc: Global, nla: &NlaBuffer<'_>) -> Result<F, DecodeError>
+    ensures answer { Gives (λ value. value) result (meaning_in F.FAMILY F.other (λ n. row_of (F.rows 0 n)) nla.now) }
+    ensures certain { CertainUnless (memory_in (λ n. row_of (F.rows 0 n)) nla.now) (λ value. value) result (meaning_in F.FAMILY F.other (λ n. row_of (F.rows 0 n)) nla.now) }
+{
+    laws::borrowed(nla);
+    nested_read(alloc, nla, 0, &mut HeaderCount::new())
 }
 
 /// Whether `nested_read` would succeed, or the attribute's fault. Takes no memory.

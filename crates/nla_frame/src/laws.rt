@@ -6,6 +6,8 @@ ghost use Rattle.nla_frame.specs.Attribute.{Attribute, IsAttribute, list_string}
 ghost use Rattle.nla_frame.specs.Framing.{Frames, Splits};
 ghost use Rattle.nla_frame.specs.Pieces.{pieces, pieces_of, split};
 
+use crate::buffer::NlaBuffer;
+
 /// A string frames one list of attributes, or is broken in one way; its pieces are that one. The string of a list frames that list.
 /// Where a string's length is a multiple of four, a string behind it adds its own attributes.
 pub fn framing(bytes: &[u8])
@@ -15,3 +17,10 @@ pub fn framing(bytes: &[u8])
     ensures canonical { (attributes : List Attribute) → AllByRecursion IsAttribute attributes → bytes.now ≡ list_string attributes → Frames bytes.now attributes }
     ensures appended { (a b : List ℕ) (first second : List Attribute) → bytes.now ≡ a ++ b → length a % 4 ≡ 0 → Frames a first → Frames b second → Frames bytes.now (first ++ second) }
 {}
+
+/// A borrowed attribute has a type of 16 bits, and a payload of bytes that a 16-bit length field counts.
+pub fn borrowed(nla: &NlaBuffer<'_>)
+    ensures { IsAttribute nla.now }
+{
+    nla.value();
+}
