@@ -1,5 +1,6 @@
 pub mod MacRows
 pub mod MacVlan
+pub mod MacVlanEqual
 pub mod Nested
 pub mod Vrf
 pub mod Xfrm

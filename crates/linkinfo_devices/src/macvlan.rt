@@ -260,3 +260,9 @@ impl<'a> Parseable<NlaBuffer<'a>> for InfoMacVlan {
         nested_parse(alloc, buffer)
     }
 }
+
+impl ExactEq for InfoMacVlan {
+    ghost use Rattle.linkinfo_devices.specs.MacVlanEqual.{mac_vlan_decides};
+
+    ghost exact = { mac_vlan_decides };
+}

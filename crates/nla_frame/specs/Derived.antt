@@ -78,6 +78,10 @@ derived_decides_at N tests c h y =
     let same = ap (λ k. by false false N.parts tests k (N.as_values y)) (N.beta c) in
     (λ t. ap N.make (d.0 (sym same ∙ t)) ∙ N.eta y, λ p. same ∙ d.1 (sym (N.beta c) ∙ ap N.as_values p))
 
+-- a single field whose test is known of one value
+pub one_field_at : {A : Type 0} {b : Bool} (x : A) (y : A × Unit {0}) → Decides b (x ≡ y.0) → Decides b ((x, tt) ≡ y)
+one_field_at x y d = (λ t i. (d.0 t i, tt), λ p. d.1 (ap (λ z. z.0) p))
+
 -- a list of which it is known of each element
 pub pointwise_decides_at : {A : Type 0} (E : A → A → Bool) (xs : List ((x : A) × ((y : A) → Decides (E x y) (x ≡ y)))) (ys : List A) →
     Decides (pointwise E (map (λ e. e.0) xs) ys) (map (λ e. e.0) xs ≡ ys)
