@@ -1,5 +1,5 @@
 -- The rows that macvlan and macvtap links share, over what each of the two families makes of their data.
-use Rattle.std.specs.Prelude.{◌≡◌, ◌≢◌, ◌==◌, ℕ, ℤ, Bool, false, if◌then◌else◌, Some, List, [], ◌∷◌, ◌++◌, map, refl}
+use Rattle.std.specs.Prelude.{◌≡◌, ◌==◌, ℕ, ℤ, false, if◌then◌else◌, Some, List, [], ◌∷◌, ◌++◌, map, refl}
 use Rattle.std.proofs.Common.{sym, ap, ◌∙◌}
 use Rattle.std.proofs.lemmas.Bool.{cond-false, ne_eqb}
 use Rattle.nla_frame.specs.Attribute.{Attribute, list_string}

@@ -1,5 +1,5 @@
 -- The rows of macvlan links, and their canonical attributes, through lists of any depth.
-use Rattle.std.specs.Prelude.{◌≡◌, Bool, true, false, ℕ, List, map, refl}
+use Rattle.std.specs.Prelude.{◌≡◌, Bool, true, false, ℕ, List}
 use Rattle.std.proofs.Common.{sym, ap, ◌∙◌, inl, inr}
 use denote.Enum.Declared.{Choice}
 use Rattle.nla_frame.specs.Attribute.{Attribute, list_string}
@@ -7,9 +7,11 @@ use Rattle.nla_frame.specs.Kept.{attribute_of}
 use Rattle.linkinfo_numbers.specs.Macvlan.{mac_vlan_mode_number, mac_vlan_mac_address_mode_number}
 use Rattle.linkinfo_shapes.specs.declared.shape.Shape.TheVariants.{Le32, Le16, Mac, I32}
 use Rattle.nla_frame.specs.declared.error.Family.TheVariants as family
-use Rattle.linkinfo_table.specs.FamilyRows.{IsMadeOf, SuitsFound, table_row, typed}
+use Rattle.linkinfo_table.specs.FamilyRows.{EachKeeps, FamilyRow, IsMadeOf, PlainRow, RowOwes, SuitsFound, lookup_in, lookup_of, row_of, table_row, typed}
 use Rattle.linkinfo_table.specs.declared.found.Found.{Found}
-use Rattle.linkinfo_devices.specs.MacRows.{MacLabels, MacLabelsKeep, mac_plain_rows, mac_rows, mac_suits, mac_made}
+use Rattle.linkinfo_devices.specs.MacRows.{MacLabels, MacLabelsKeep, mac_keeps, mac_lookup, mac_made, mac_owes, mac_plain_rows, mac_rows, mac_suits}
+use Rattle.linkinfo_devices.specs.Nested.{nested_lookup}
+use Rattle.linkinfo_shapes.specs.Table.{shape_of}
 use Rattle.linkinfo_devices.specs.declared.macvlan.InfoMacVlan.{InfoMacVlan}
 use Rattle.linkinfo_devices.specs.declared.macvlan.InfoMacVlan as macvlan
 use Rattle.linkinfo_devices.specs.declared.macvlan.InfoMacVlan.TheOpen as layer
@@ -87,12 +89,27 @@ mac_vlan_keep = record {
   same_data = λ xs ys e. same_lists xs ys e;
 }
 
+-- the rows, and those that have a shape of the table
+abbrev pub mac_vlan_plain_rows : List (PlainRow InfoMacVlan)
+mac_vlan_plain_rows = mac_plain_rows mac_vlan_labels
+
+abbrev pub mac_vlan_rows : ℕ → ℕ → FamilyRow InfoMacVlan
+mac_vlan_rows c n = mac_rows family.MacVlan mac_vlan_attribute mac_vlan_labels c n
+
+pub mac_vlan_keeps : EachKeeps mac_vlan_attribute mac_vlan_plain_rows
+mac_vlan_keeps = mac_keeps mac_vlan_attribute mac_vlan_labels mac_vlan_keep
+
+pub mac_vlan_owes : (c n : ℕ) → RowOwes mac_vlan_attribute n (row_of (mac_vlan_rows c n))
+mac_vlan_owes c n = mac_owes family.MacVlan mac_vlan_attribute mac_vlan_labels mac_vlan_keep c n
+
+-- these are the rows of the table of all families, but that a list inside 128 others is refused
+pub mac_vlan_lookup : (c n : ℕ) → lookup_of (mac_vlan_rows c n) ≡ nested_lookup c n (lookup_in (shape_of family.MacVlan n))
+mac_vlan_lookup c n = mac_lookup family.MacVlan mac_vlan_attribute mac_vlan_labels c n
+
 -- what was read of an attribute that holds no list, and the value made of it, by the plain rows alone
-pub mac_vlan_suits : (c : ℕ) (read : Found) → SuitsFound (λ n. mac_rows family.MacVlan mac_vlan_attribute mac_vlan_labels c n) read →
-    SuitsFound (λ n. table_row (mac_plain_rows mac_vlan_labels) n) read
+pub mac_vlan_suits : (c : ℕ) (read : Found) → SuitsFound (λ n. mac_vlan_rows c n) read → SuitsFound (λ n. table_row mac_vlan_plain_rows n) read
 mac_vlan_suits c read suits = mac_suits family.MacVlan mac_vlan_attribute mac_vlan_labels c read suits
 
-pub mac_vlan_made : (c : ℕ) (read : Found) (x : InfoMacVlan) → SuitsFound (λ n. mac_rows family.MacVlan mac_vlan_attribute mac_vlan_labels c n) read →
-    IsMadeOf (λ d. macvlan.Other d) (λ n. table_row (mac_plain_rows mac_vlan_labels) n) read x →
-    IsMadeOf (λ d. macvlan.Other d) (λ n. mac_rows family.MacVlan mac_vlan_attribute mac_vlan_labels c n) read x
+pub mac_vlan_made : (c : ℕ) (read : Found) (x : InfoMacVlan) → SuitsFound (λ n. mac_vlan_rows c n) read →
+    IsMadeOf (λ d. macvlan.Other d) (λ n. table_row mac_vlan_plain_rows n) read x → IsMadeOf (λ d. macvlan.Other d) (λ n. mac_vlan_rows c n) read x
 mac_vlan_made c read x suits made = mac_made family.MacVlan mac_vlan_attribute mac_vlan_labels c read x suits made

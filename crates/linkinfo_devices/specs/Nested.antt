@@ -1,7 +1,7 @@
 -- Families of which attributes of type 5 hold lists of the family's own attributes, at most 128 lists inside one another: their rows by the
 -- number of lists round an attribute, and what these rows say of type 5 and of every other.
 use Rattle.std.specs.Prelude.{◌≡◌, ◌≢◌, ℕ, zero, suc, ◌+◌, ◌-◌, ◌*◌, ◌<◌, ◌≤◌, ◌==◌, ◌&&◌, Bool, true, false, if◌then◌else◌, ltb, List, length, map, Result, Ok, Err, Option, Some, None, refl}
-use Rattle.std.proofs.Common.{sym, ap, subst, ◌∙◌, arith}
+use Rattle.std.proofs.Common.{sym, ap, ◌∙◌, arith}
 use Rattle.std.proofs.lemmas.Bool.{eqb-true, eq-eqb, and_from, lt-ltb, le-ltb}
 use denote.Ref.{Bor}
 use Rattle.nla_frame.specs.Attribute.{Attribute, masked, list_string}
@@ -13,7 +13,6 @@ use Rattle.nla_frame.specs.declared.default_nla.DefaultNla.{DefaultNla}
 use Rattle.linkinfo_shapes.specs.declared.shape.Shape.TheVariants as shape
 use Rattle.linkinfo_table.specs.declared.lookup.Lookup.{Lookup}
 use Rattle.linkinfo_table.specs.declared.lookup.Lookup.TheVariants as lookup
-use Rattle.linkinfo_table.specs.Codecs.{Fault}
 use Rattle.linkinfo_table.specs.Rows.{Row, labelled, row_meaning, meaning_in, row_alike, alike_in, row_headers, headers_inside, row_needs_memory, memory_in}
 use Rattle.linkinfo_table.specs.FamilyRows.{FamilyRow, Plain, Custom, Refuses, Absent, row_of, row_if, lookup_of, IsFlat, IsLabelled, IsMadeOf, SuitsFound, SuitsRow, PlainRow, table_row, EachKeeps, RowOwes}
 use Rattle.linkinfo_table.specs.FamilyRowLaws.{owed, table_flat, table_owes}

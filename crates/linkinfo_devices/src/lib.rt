@@ -2,6 +2,7 @@
 #![tactic(auto)]
 
 mod macvlan;
+mod macvtap;
 mod nested_calls;
 mod nested_emission;
 mod nested_family;
@@ -11,6 +12,7 @@ mod vrf;
 mod xfrm;
 
 pub use macvlan::InfoMacVlan;
+pub use macvtap::InfoMacVtap;
 pub use nested_family::NestedFamily;
 pub use vrf::{InfoVrf, InfoVrfPort};
 pub use xfrm::InfoXfrm;

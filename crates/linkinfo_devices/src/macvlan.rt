@@ -1,7 +1,6 @@
 //! Macvlan links.
 
-ghost use Rattle.linkinfo_devices.specs.MacRows.{mac_keeps, mac_owes, mac_plain_rows, mac_rows};
-ghost use Rattle.linkinfo_devices.specs.MacVlan.{mac_vlan_attribute, mac_vlan_holds_list, mac_vlan_keep, mac_vlan_labels};
+ghost use Rattle.linkinfo_devices.specs.MacVlan.{mac_vlan_attribute, mac_vlan_holds_list, mac_vlan_keep, mac_vlan_keeps, mac_vlan_owes, mac_vlan_plain_rows, mac_vlan_rows};
 ghost use Rattle.linkinfo_devices.specs.Nested.{LendsList, flat_elsewhere, list_alike, list_headers, list_means, list_needs_memory, nested_quarter};
 ghost use Rattle.linkinfo_devices.specs.declared.macvlan.InfoMacVlan as macvlan;
 ghost use Rattle.linkinfo_table.specs.FamilyRows.{IsMadeOf, SuitsFound, found_needs_memory, lookup_of, row_of, table_row};
@@ -21,21 +20,21 @@ use nla_frame::{
 };
 use std::alloc::{AllocError, Global};
 
-const IFLA_MACVLAN_MODE: u16 = 1;
+pub(crate) const IFLA_MACVLAN_MODE: u16 = 1;
 
-const IFLA_MACVLAN_FLAGS: u16 = 2;
+pub(crate) const IFLA_MACVLAN_FLAGS: u16 = 2;
 
-const IFLA_MACVLAN_MACADDR_MODE: u16 = 3;
+pub(crate) const IFLA_MACVLAN_MACADDR_MODE: u16 = 3;
 
-const IFLA_MACVLAN_MACADDR: u16 = 4;
+pub(crate) const IFLA_MACVLAN_MACADDR: u16 = 4;
 
-const IFLA_MACVLAN_MACADDR_COUNT: u16 = 6;
+pub(crate) const IFLA_MACVLAN_MACADDR_COUNT: u16 = 6;
 
-const IFLA_MACVLAN_BC_QUEUE_LEN: u16 = 7;
+pub(crate) const IFLA_MACVLAN_BC_QUEUE_LEN: u16 = 7;
 
-const IFLA_MACVLAN_BC_QUEUE_LEN_USED: u16 = 8;
+pub(crate) const IFLA_MACVLAN_BC_QUEUE_LEN_USED: u16 = 8;
 
-const IFLA_MACVLAN_BC_CUTOFF: u16 = 9;
+pub(crate) const IFLA_MACVLAN_BC_CUTOFF: u16 = 9;
 
 /// An attribute of a macvlan link (include/uapi/linux/if_link.h).
 #[derive(Debug, PartialEq, Eq, Clone, Drop)]
@@ -65,8 +64,8 @@ pub enum InfoMacVlan {
 
 /// The value of what was read of an attribute that holds no list.
 fn value_of(found: Found<'_>) -> InfoMacVlan
-    requires { SuitsFound (λ n. table_row (mac_plain_rows mac_vlan_labels) n) found }
-    ensures { IsMadeOf (λ d. macvlan.Other d) (λ n. table_row (mac_plain_rows mac_vlan_labels) n) found.entry result }
+    requires { SuitsFound (λ n. table_row (mac_vlan_plain_rows) n) found }
+    ensures { IsMadeOf (λ d. macvlan.Other d) (λ n. table_row (mac_vlan_plain_rows) n) found.entry result }
 {
     let (kind, datum) = match found {
         Found::Typed(kind, datum) => (kind, datum),
@@ -96,7 +95,7 @@ impl RowFamily for InfoMacVlan {
 
     ghost FAMILY = { family.MacVlan };
 
-    ghost rows = { λ c n. mac_rows family.MacVlan mac_vlan_attribute mac_vlan_labels c n };
+    ghost rows = { λ c n. mac_vlan_rows c n };
 
     ghost other = { λ nla. macvlan.Other nla };
 
@@ -104,11 +103,11 @@ impl RowFamily for InfoMacVlan {
 
     ghost is_custom = { mac_vlan_holds_list };
 
-    ghost owes = { λ c n. mac_owes family.MacVlan mac_vlan_attribute mac_vlan_labels mac_vlan_keep c n };
+    ghost owes = { λ c n. mac_vlan_owes c n };
 
     ghost keeps_other = { λ d. mac_vlan_keep.other d };
 
-    #[tactic(auto, using(crate::specs::MacRows::mac_lookup))]
+    #[tactic(auto, using(crate::specs::MacVlan::mac_vlan_lookup))]
     fn shape(lists: u8, kind: u16) -> Lookup {
         nested_shape(Family::MacVlan, lists, kind)
     }
@@ -155,15 +154,15 @@ impl NestedFamily for InfoMacVlan {
         }
     }
 
-    ghost list_means = { λ c a. list_means family.MacVlan (λ d. macvlan.Other d) mac_vlan_attribute (λ xs. macvlan.MacAddrData xs) (mac_plain_rows mac_vlan_labels) c a };
+    ghost list_means = { λ c a. list_means family.MacVlan (λ d. macvlan.Other d) mac_vlan_attribute (λ xs. macvlan.MacAddrData xs) (mac_vlan_plain_rows) c a };
 
-    ghost list_needs_memory = { λ c a. list_needs_memory family.MacVlan (λ d. macvlan.Other d) mac_vlan_attribute (λ xs. macvlan.MacAddrData xs) (mac_plain_rows mac_vlan_labels) c a };
+    ghost list_needs_memory = { λ c a. list_needs_memory family.MacVlan (λ d. macvlan.Other d) mac_vlan_attribute (λ xs. macvlan.MacAddrData xs) (mac_vlan_plain_rows) c a };
 
-    ghost list_headers = { λ c a. list_headers family.MacVlan (λ d. macvlan.Other d) mac_vlan_attribute (λ xs. macvlan.MacAddrData xs) (mac_plain_rows mac_vlan_labels) c a };
+    ghost list_headers = { λ c a. list_headers family.MacVlan (λ d. macvlan.Other d) mac_vlan_attribute (λ xs. macvlan.MacAddrData xs) (mac_vlan_plain_rows) c a };
 
-    ghost list_alike = { λ c a b. list_alike family.MacVlan (λ d. macvlan.Other d) mac_vlan_attribute (λ xs. macvlan.MacAddrData xs) (mac_plain_rows mac_vlan_labels) c a b };
+    ghost list_alike = { λ c a b. list_alike family.MacVlan (λ d. macvlan.Other d) mac_vlan_attribute (λ xs. macvlan.MacAddrData xs) (mac_vlan_plain_rows) c a b };
 
-    ghost flat_elsewhere = { λ c n. flat_elsewhere family.MacVlan (λ d. macvlan.Other d) mac_vlan_attribute (λ xs. macvlan.MacAddrData xs) (mac_plain_rows mac_vlan_labels) (mac_keeps mac_vlan_attribute mac_vlan_labels mac_vlan_keep) c n };
+    ghost flat_elsewhere = { λ c n. flat_elsewhere family.MacVlan (λ d. macvlan.Other d) mac_vlan_attribute (λ xs. macvlan.MacAddrData xs) (mac_vlan_plain_rows) mac_vlan_keeps c n };
 }
 
 impl Nla for InfoMacVlan {
@@ -194,29 +193,29 @@ impl LinkFamily for InfoMacVlan {
 
     ghost FAMILY = { family.MacVlan };
 
-    ghost lookup = { λ c n. lookup_of (mac_rows family.MacVlan mac_vlan_attribute mac_vlan_labels c n) };
+    ghost lookup = { λ c n. lookup_of (mac_vlan_rows c n) };
 
-    ghost meaning = { λ c a. meaning_in family.MacVlan (λ d. macvlan.Other d) (λ n. row_of (mac_rows family.MacVlan mac_vlan_attribute mac_vlan_labels c n)) a };
+    ghost meaning = { λ c a. meaning_in family.MacVlan (λ d. macvlan.Other d) (λ n. row_of (mac_vlan_rows c n)) a };
 
-    ghost needs_memory = { λ c a. memory_in (λ n. row_of (mac_rows family.MacVlan mac_vlan_attribute mac_vlan_labels c n)) a };
+    ghost needs_memory = { λ c a. memory_in (λ n. row_of (mac_vlan_rows c n)) a };
 
-    ghost headers = { λ c a. headers_inside (λ n. row_of (mac_rows family.MacVlan mac_vlan_attribute mac_vlan_labels c n)) a };
+    ghost headers = { λ c a. headers_inside (λ n. row_of (mac_vlan_rows c n)) a };
 
-    ghost alike = { λ c a b. alike_in (λ n. row_of (mac_rows family.MacVlan mac_vlan_attribute mac_vlan_labels c n)) a b };
+    ghost alike = { λ c a b. alike_in (λ n. row_of (mac_vlan_rows c n)) a b };
 
-    ghost well = { λ c x. WellFormed (λ d. macvlan.Other d) mac_vlan_attribute (λ n. row_of (mac_rows family.MacVlan mac_vlan_attribute mac_vlan_labels c n)) x };
+    ghost well = { λ c x. WellFormed (λ d. macvlan.Other d) mac_vlan_attribute (λ n. row_of (mac_vlan_rows c n)) x };
 
-    ghost alike_is = { λ c a b x y. flat_alike_is family.MacVlan (λ d. macvlan.Other d) mac_vlan_attribute (mac_rows family.MacVlan mac_vlan_attribute mac_vlan_labels c) (mac_owes family.MacVlan mac_vlan_attribute mac_vlan_labels mac_vlan_keep c) mac_vlan_keep.other a b x y };
+    ghost alike_is = { λ c a b x y. flat_alike_is family.MacVlan (λ d. macvlan.Other d) mac_vlan_attribute (mac_vlan_rows c) (mac_vlan_owes c) mac_vlan_keep.other a b x y };
 
-    ghost headers_quarter = { λ c a. nested_quarter family.MacVlan (λ d. macvlan.Other d) mac_vlan_attribute (mac_rows family.MacVlan mac_vlan_attribute mac_vlan_labels c) (mac_owes family.MacVlan mac_vlan_attribute mac_vlan_labels mac_vlan_keep c) mac_vlan_keep.other a };
+    ghost headers_quarter = { λ c a. nested_quarter family.MacVlan (λ d. macvlan.Other d) mac_vlan_attribute (mac_vlan_rows c) (mac_vlan_owes c) mac_vlan_keep.other a };
 
-    ghost no_memory = { λ c a. flat_no_memory family.MacVlan (λ d. macvlan.Other d) mac_vlan_attribute (mac_rows family.MacVlan mac_vlan_attribute mac_vlan_labels c) (mac_owes family.MacVlan mac_vlan_attribute mac_vlan_labels mac_vlan_keep c) mac_vlan_keep.other a };
+    ghost no_memory = { λ c a. flat_no_memory family.MacVlan (λ d. macvlan.Other d) mac_vlan_attribute (mac_vlan_rows c) (mac_vlan_owes c) mac_vlan_keep.other a };
 
-    ghost read_well = { λ c a x. flat_read_well family.MacVlan (λ d. macvlan.Other d) mac_vlan_attribute (mac_rows family.MacVlan mac_vlan_attribute mac_vlan_labels c) (mac_owes family.MacVlan mac_vlan_attribute mac_vlan_labels mac_vlan_keep c) mac_vlan_keep.other a x };
+    ghost read_well = { λ c a x. flat_read_well family.MacVlan (λ d. macvlan.Other d) mac_vlan_attribute (mac_vlan_rows c) (mac_vlan_owes c) mac_vlan_keep.other a x };
 
-    ghost well_reads = { λ c x. flat_well_reads family.MacVlan (λ d. macvlan.Other d) mac_vlan_attribute (mac_rows family.MacVlan mac_vlan_attribute mac_vlan_labels c) (mac_owes family.MacVlan mac_vlan_attribute mac_vlan_labels mac_vlan_keep c) mac_vlan_keep.other mac_vlan_attribute (λ _. refl) x };
+    ghost well_reads = { λ c x. flat_well_reads family.MacVlan (λ d. macvlan.Other d) mac_vlan_attribute (mac_vlan_rows c) (mac_vlan_owes c) mac_vlan_keep.other mac_vlan_attribute (λ _. refl) x };
 
-    ghost well_attribute = { λ c x. flat_well_attribute family.MacVlan (λ d. macvlan.Other d) mac_vlan_attribute (mac_rows family.MacVlan mac_vlan_attribute mac_vlan_labels c) (mac_owes family.MacVlan mac_vlan_attribute mac_vlan_labels mac_vlan_keep c) mac_vlan_keep.other mac_vlan_attribute (λ _. refl) x };
+    ghost well_attribute = { λ c x. flat_well_attribute family.MacVlan (λ d. macvlan.Other d) mac_vlan_attribute (mac_vlan_rows c) (mac_vlan_owes c) mac_vlan_keep.other mac_vlan_attribute (λ _. refl) x };
 
     fn shape(lists: u8, kind: u16) -> Lookup {
         <InfoMacVlan as RowFamily>::shape(lists, kind)
@@ -252,9 +251,9 @@ impl LinkFamily for InfoMacVlan {
 /// Reads the attribute, inside no list. A payload of another length than its row's is (MacVlan, type, Length), a list inside 128 others is
 /// (MacVlan, 5, Depth), and what a list does not frame (Frame, 0, Header).
 impl<'a> Parseable<NlaBuffer<'a>> for InfoMacVlan {
-    ghost meaning = { λ nla. meaning_in family.MacVlan (λ d. macvlan.Other d) (λ n. row_of (mac_rows family.MacVlan mac_vlan_attribute mac_vlan_labels 0 n)) nla };
+    ghost meaning = { λ nla. meaning_in family.MacVlan (λ d. macvlan.Other d) (λ n. row_of (mac_vlan_rows 0 n)) nla };
 
-    ghost needs_memory = { λ nla. memory_in (λ n. row_of (mac_rows family.MacVlan mac_vlan_attribute mac_vlan_labels 0 n)) nla };
+    ghost needs_memory = { λ nla. memory_in (λ n. row_of (mac_vlan_rows 0 n)) nla };
 
     fn parse(alloc: Global, buffer: &NlaBuffer<'a>) -> Result<InfoMacVlan, DecodeError> {
         nested_parse(alloc, buffer)

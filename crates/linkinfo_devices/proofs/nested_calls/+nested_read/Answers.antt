@@ -1,6 +1,4 @@
-use Rattle.std.proofs.Common.{◌≡◌, ◌∙◌, ◌+◌, sym, ap, arith}
-use Rattle.std.specs.Prelude.{Ok, Err}
-use Rattle.nla_frame.specs.Answers.{OnAnswer}
+use Rattle.std.proofs.Common.{◌∙◌, ◌+◌, sym, ap, arith}
 use Rattle.nla_frame.specs.Attribute.{masked}
 use Rattle.nla_frame.specs.Pieces.{pieces}
 use Rattle.linkinfo_table.specs.FamilyRows.{row_of}

@@ -1,0 +1,256 @@
+//! Macvtap links. Their attributes have the types of those of macvlan links.
+
+ghost use Rattle.linkinfo_devices.specs.MacVtap.{mac_vtap_attribute, mac_vtap_holds_list, mac_vtap_keep, mac_vtap_keeps, mac_vtap_owes, mac_vtap_plain_rows, mac_vtap_rows};
+ghost use Rattle.linkinfo_devices.specs.Nested.{LendsList, flat_elsewhere, list_alike, list_headers, list_means, list_needs_memory, nested_quarter};
+ghost use Rattle.linkinfo_devices.specs.declared.macvtap.InfoMacVtap as macvtap;
+ghost use Rattle.linkinfo_table.specs.FamilyRows.{IsMadeOf, SuitsFound, found_needs_memory, lookup_of, row_of, table_row};
+ghost use Rattle.linkinfo_table.specs.FlatLaws.{flat_alike_is, flat_no_memory, flat_read_well, flat_well_attribute, flat_well_reads};
+ghost use Rattle.linkinfo_table.specs.Rows.{WellFormed, alike_in, headers_inside, meaning_in, memory_in};
+ghost use Rattle.nla_frame.specs.declared.error.Family.TheVariants as family;
+ghost use Rattle.std.specs.Prelude.{◌≡◌, refl};
+
+use crate::macvlan::{
+    IFLA_MACVLAN_BC_CUTOFF, IFLA_MACVLAN_BC_QUEUE_LEN, IFLA_MACVLAN_BC_QUEUE_LEN_USED,
+    IFLA_MACVLAN_FLAGS, IFLA_MACVLAN_MACADDR, IFLA_MACVLAN_MACADDR_COUNT,
+    IFLA_MACVLAN_MACADDR_MODE, IFLA_MACVLAN_MODE,
+};
+use crate::nested_calls::{nested_check, nested_parse, nested_read, nested_same};
+use crate::nested_emission::{nested_emit_value, nested_fit_len, nested_kind, nested_value_len};
+use crate::nested_family::{NestedFamily, nested_shape};
+use bitflags::Flags;
+use linkinfo_numbers::{MacVlanFlags, MacVlanMacAddressMode, MacVlanMode};
+use linkinfo_table::{Found, LinkFamily, Lookup, Part, RowFamily, parts};
+use nla_frame::{
+    DecodeError, DefaultNla, ExactEq, Family, HeaderCount, Nla, NlaBuffer, Nlas, Parseable,
+};
+use std::alloc::{AllocError, Global};
+
+/// An attribute of a macvtap link (include/uapi/linux/if_link.h).
+#[derive(Debug, PartialEq, Eq, Clone, Drop)]
+pub enum InfoMacVtap {
+    /// The mode (`IFLA_MACVLAN_MODE`), native byte order.
+    Mode(MacVlanMode),
+    /// What the link leaves out (`IFLA_MACVLAN_FLAGS`), native byte order.
+    Flags(MacVlanFlags),
+    /// What is done with source addresses (`IFLA_MACVLAN_MACADDR_MODE`), native byte order.
+    MacAddrMode(MacVlanMacAddressMode),
+    /// A source address (`IFLA_MACVLAN_MACADDR`).
+    MacAddr([u8; 6]),
+    /// A list of attributes of a macvtap link, by custom of source addresses (`IFLA_MACVLAN_MACADDR_DATA`). A list inside 128 others is
+    /// refused.
+    MacAddrData(Nlas<InfoMacVtap>),
+    /// How many source addresses there are (`IFLA_MACVLAN_MACADDR_COUNT`), native byte order.
+    MacAddrCount(u32),
+    /// The length of the queue for broadcasts that is asked for (`IFLA_MACVLAN_BC_QUEUE_LEN`), native byte order.
+    BcQueueLen(u32),
+    /// The length of the queue for broadcasts that is in use (`IFLA_MACVLAN_BC_QUEUE_LEN_USED`), native byte order.
+    BcQueueLenUsed(u32),
+    /// From how many receivers on a broadcast goes by the queue (`IFLA_MACVLAN_BC_CUTOFF`), native byte order; -1 stands for never.
+    BcCutoff(i32),
+    /// An attribute of another type, kept as it came.
+    Other(DefaultNla),
+}
+
+/// The value of what was read of an attribute that holds no list.
+fn value_of(found: Found<'_>) -> InfoMacVtap
+    requires { SuitsFound (λ n. table_row (mac_vtap_plain_rows) n) found }
+    ensures { IsMadeOf (λ d. macvtap.Other d) (λ n. table_row (mac_vtap_plain_rows) n) found.entry result }
+{
+    let (kind, datum) = match found {
+        Found::Typed(kind, datum) => (kind, datum),
+        Found::Kept(nla) => return InfoMacVtap::Other(nla),
+    };
+    match kind {
+        IFLA_MACVLAN_MODE => InfoMacVtap::Mode(MacVlanMode::from(datum.u32_or_zero())),
+        IFLA_MACVLAN_FLAGS => InfoMacVtap::Flags(MacVlanFlags::from_bits_retain(
+            datum.u16_or_zero(),
+        )),
+        IFLA_MACVLAN_MACADDR_MODE => InfoMacVtap::MacAddrMode(MacVlanMacAddressMode::from(
+            datum.u32_or_zero(),
+        )),
+        IFLA_MACVLAN_MACADDR => InfoMacVtap::MacAddr(datum.mac_or_zeros()),
+        IFLA_MACVLAN_MACADDR_COUNT => InfoMacVtap::MacAddrCount(datum.u32_or_zero()),
+        IFLA_MACVLAN_BC_QUEUE_LEN => InfoMacVtap::BcQueueLen(datum.u32_or_zero()),
+        IFLA_MACVLAN_BC_QUEUE_LEN_USED => InfoMacVtap::BcQueueLenUsed(datum.u32_or_zero()),
+        IFLA_MACVLAN_BC_CUTOFF => InfoMacVtap::BcCutoff(datum.i32_or_zero()),
+        _ => unreachable!(),
+    }
+}
+
+impl RowFamily for InfoMacVtap {
+    type Context = u8;
+
+    const FAMILY: Family = Family::MacVtap;
+
+    ghost FAMILY = { family.MacVtap };
+
+    ghost rows = { λ c n. mac_vtap_rows c n };
+
+    ghost other = { λ nla. macvtap.Other nla };
+
+    ghost canonical = { mac_vtap_attribute };
+
+    ghost is_custom = { mac_vtap_holds_list };
+
+    ghost owes = { λ c n. mac_vtap_owes c n };
+
+    ghost keeps_other = { λ d. mac_vtap_keep.other d };
+
+    #[tactic(auto, using(crate::specs::MacVtap::mac_vtap_lookup))]
+    fn shape(lists: u8, kind: u16) -> Lookup {
+        nested_shape(Family::MacVtap, lists, kind)
+    }
+
+    #[tactic(auto, using(crate::specs::MacVtap::mac_vtap_suits, crate::specs::MacVtap::mac_vtap_made))]
+    fn from_found(_alloc: Global, _lists: u8, found: Found<'_>) -> Result<InfoMacVtap, AllocError> {
+        Ok(value_of(found))
+    }
+
+    fn to_part(&self) -> Part<'_> {
+        match self {
+            InfoMacVtap::Mode(mode) => parts::le32(IFLA_MACVLAN_MODE, u32::from(*mode)),
+            InfoMacVtap::Flags(flags) => parts::le16(IFLA_MACVLAN_FLAGS, flags.bits()),
+            InfoMacVtap::MacAddrMode(mode) => parts::le32(
+                IFLA_MACVLAN_MACADDR_MODE,
+                u32::from(*mode),
+            ),
+            InfoMacVtap::MacAddr(address) => parts::mac(IFLA_MACVLAN_MACADDR, *address),
+            InfoMacVtap::MacAddrData(_) => Part::Custom,
+            InfoMacVtap::MacAddrCount(count) => parts::le32(IFLA_MACVLAN_MACADDR_COUNT, *count),
+            InfoMacVtap::BcQueueLen(len) => parts::le32(IFLA_MACVLAN_BC_QUEUE_LEN, *len),
+            InfoMacVtap::BcQueueLenUsed(len) => parts::le32(IFLA_MACVLAN_BC_QUEUE_LEN_USED, *len),
+            InfoMacVtap::BcCutoff(receivers) => parts::i32(IFLA_MACVLAN_BC_CUTOFF, *receivers),
+            InfoMacVtap::Other(nla) => Part::Kept(nla),
+        }
+    }
+}
+
+impl NestedFamily for InfoMacVtap {
+    ghost list_value = { λ xs. macvtap.MacAddrData xs };
+
+    fn from_list(items: Nlas<InfoMacVtap>) -> InfoMacVtap
+        ensures { result ≡ macvtap.MacAddrData items }
+    {
+        InfoMacVtap::MacAddrData(items)
+    }
+
+    fn list(&self) -> Option<&Nlas<InfoMacVtap>>
+        ensures { LendsList mac_vtap_attribute mac_vtap_holds_list self.now result }
+    {
+        match self {
+            InfoMacVtap::MacAddrData(items) => Some(items),
+            _ => None,
+        }
+    }
+
+    ghost list_means = { λ c a. list_means family.MacVtap (λ d. macvtap.Other d) mac_vtap_attribute (λ xs. macvtap.MacAddrData xs) (mac_vtap_plain_rows) c a };
+
+    ghost list_needs_memory = { λ c a. list_needs_memory family.MacVtap (λ d. macvtap.Other d) mac_vtap_attribute (λ xs. macvtap.MacAddrData xs) (mac_vtap_plain_rows) c a };
+
+    ghost list_headers = { λ c a. list_headers family.MacVtap (λ d. macvtap.Other d) mac_vtap_attribute (λ xs. macvtap.MacAddrData xs) (mac_vtap_plain_rows) c a };
+
+    ghost list_alike = { λ c a b. list_alike family.MacVtap (λ d. macvtap.Other d) mac_vtap_attribute (λ xs. macvtap.MacAddrData xs) (mac_vtap_plain_rows) c a b };
+
+    ghost flat_elsewhere = { λ c n. flat_elsewhere family.MacVtap (λ d. macvtap.Other d) mac_vtap_attribute (λ xs. macvtap.MacAddrData xs) (mac_vtap_plain_rows) mac_vtap_keeps c n };
+}
+
+impl Nla for InfoMacVtap {
+    ghost attribute = { mac_vtap_attribute };
+
+    fn value_len(&self) -> usize {
+        nested_value_len(self)
+    }
+
+    fn kind(&self) -> u16 {
+        nested_kind(self)
+    }
+
+    fn emit_value(&self, buffer: &mut [u8]) {
+        nested_emit_value(self, buffer);
+    }
+
+    fn fit_len(&self) -> Option<usize> {
+        nested_fit_len(self)
+    }
+}
+
+/// An attribute inside as many lists as the context says.
+impl LinkFamily for InfoMacVtap {
+    type Context = u8;
+
+    const FAMILY: Family = Family::MacVtap;
+
+    ghost FAMILY = { family.MacVtap };
+
+    ghost lookup = { λ c n. lookup_of (mac_vtap_rows c n) };
+
+    ghost meaning = { λ c a. meaning_in family.MacVtap (λ d. macvtap.Other d) (λ n. row_of (mac_vtap_rows c n)) a };
+
+    ghost needs_memory = { λ c a. memory_in (λ n. row_of (mac_vtap_rows c n)) a };
+
+    ghost headers = { λ c a. headers_inside (λ n. row_of (mac_vtap_rows c n)) a };
+
+    ghost alike = { λ c a b. alike_in (λ n. row_of (mac_vtap_rows c n)) a b };
+
+    ghost well = { λ c x. WellFormed (λ d. macvtap.Other d) mac_vtap_attribute (λ n. row_of (mac_vtap_rows c n)) x };
+
+    ghost alike_is = { λ c a b x y. flat_alike_is family.MacVtap (λ d. macvtap.Other d) mac_vtap_attribute (mac_vtap_rows c) (mac_vtap_owes c) mac_vtap_keep.other a b x y };
+
+    ghost headers_quarter = { λ c a. nested_quarter family.MacVtap (λ d. macvtap.Other d) mac_vtap_attribute (mac_vtap_rows c) (mac_vtap_owes c) mac_vtap_keep.other a };
+
+    ghost no_memory = { λ c a. flat_no_memory family.MacVtap (λ d. macvtap.Other d) mac_vtap_attribute (mac_vtap_rows c) (mac_vtap_owes c) mac_vtap_keep.other a };
+
+    ghost read_well = { λ c a x. flat_read_well family.MacVtap (λ d. macvtap.Other d) mac_vtap_attribute (mac_vtap_rows c) (mac_vtap_owes c) mac_vtap_keep.other a x };
+
+    ghost well_reads = { λ c x. flat_well_reads family.MacVtap (λ d. macvtap.Other d) mac_vtap_attribute (mac_vtap_rows c) (mac_vtap_owes c) mac_vtap_keep.other mac_vtap_attribute (λ _. refl) x };
+
+    ghost well_attribute = { λ c x. flat_well_attribute family.MacVtap (λ d. macvtap.Other d) mac_vtap_attribute (mac_vtap_rows c) (mac_vtap_owes c) mac_vtap_keep.other mac_vtap_attribute (λ _. refl) x };
+
+    fn shape(lists: u8, kind: u16) -> Lookup {
+        <InfoMacVtap as RowFamily>::shape(lists, kind)
+    }
+
+    fn read(
+        alloc: Global,
+        nla: &NlaBuffer<'_>,
+        lists: u8,
+        count: &mut HeaderCount,
+    ) -> Result<InfoMacVtap, DecodeError> {
+        nested_read(alloc, nla, lists, count)
+    }
+
+    fn check_value(
+        nla: &NlaBuffer<'_>,
+        lists: u8,
+        count: &mut HeaderCount,
+    ) -> Result<(), DecodeError> {
+        nested_check::<InfoMacVtap>(nla, lists, count)
+    }
+
+    fn same_value(
+        a: &NlaBuffer<'_>,
+        b: &NlaBuffer<'_>,
+        lists: u8,
+        count: &mut HeaderCount,
+    ) -> bool {
+        nested_same::<InfoMacVtap>(a, b, lists, count)
+    }
+}
+
+/// Reads the attribute, inside no list. A payload of another length than its row's is (MacVtap, type, Length), a list inside 128 others is
+/// (MacVtap, 5, Depth), and what a list does not frame (Frame, 0, Header).
+impl<'a> Parseable<NlaBuffer<'a>> for InfoMacVtap {
+    ghost meaning = { λ nla. meaning_in family.MacVtap (λ d. macvtap.Other d) (λ n. row_of (mac_vtap_rows 0 n)) nla };
+
+    ghost needs_memory = { λ nla. memory_in (λ n. row_of (mac_vtap_rows 0 n)) nla };
+
+    fn parse(alloc: Global, buffer: &NlaBuffer<'a>) -> Result<InfoMacVtap, DecodeError> {
+        nested_parse(alloc, buffer)
+    }
+}
+
+impl ExactEq for InfoMacVtap {
+    ghost use Rattle.linkinfo_devices.specs.MacVtapEqual.{mac_vtap_decides};
+
+    ghost exact = { mac_vtap_decides };
+}
