@@ -1,8 +1,14 @@
+pub mod Ipoib
+pub mod Ipvlan
+pub mod Ipvtap
 pub mod MacRows
 pub mod MacVlan
 pub mod MacVlanEqual
 pub mod MacVtap
 pub mod MacVtapEqual
+pub mod Macsec
+pub mod ModeAndFlags
 pub mod Nested
+pub mod Rmnet
 pub mod Vrf
 pub mod Xfrm

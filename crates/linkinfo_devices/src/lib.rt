@@ -1,18 +1,28 @@
-//! Attributes of xfrm and vrf links.
+//! Attributes of macvlan, macvtap, ipvlan, ipvtap, ipoib, macsec, rmnet, xfrm and vrf links.
 #![tactic(auto)]
 
+mod ipoib;
+mod ipvlan;
+mod ipvtap;
+mod macsec;
 mod macvlan;
 mod macvtap;
 mod nested_calls;
 mod nested_emission;
 mod nested_family;
+mod rmnet;
 #[cfg(test)]
 mod tests;
 mod vrf;
 mod xfrm;
 
+pub use ipoib::InfoIpoib;
+pub use ipvlan::InfoIpVlan;
+pub use ipvtap::InfoIpVtap;
+pub use macsec::InfoMacSec;
 pub use macvlan::InfoMacVlan;
 pub use macvtap::InfoMacVtap;
 pub use nested_family::NestedFamily;
+pub use rmnet::InfoRmNet;
 pub use vrf::{InfoVrf, InfoVrfPort};
 pub use xfrm::InfoXfrm;

@@ -1,4 +1,10 @@
-//! Tests over worked strings of one family.
+//! Tests over worked strings of one family, and over each row of each family, as the kernel writes it.
+
+mod ipoib;
+mod ipvlan;
+mod macsec;
+mod rmnet;
+mod rows;
 
 use crate::{InfoVrf, InfoXfrm};
 use linkinfo_table::{

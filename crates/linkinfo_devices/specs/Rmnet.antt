@@ -1,0 +1,37 @@
+-- The rows of links to Qualcomm modems.
+use Rattle.std.specs.Prelude.{◌≡◌, ℕ, List, [], ◌∷◌, refl}
+use Rattle.nla_frame.specs.Attribute.{Attribute}
+use Rattle.nla_frame.specs.Kept.{attribute_of}
+use Rattle.nla_frame.specs.declared.error.Family.TheVariants as family
+use Rattle.linkinfo_table.specs.FamilyRows.{PlainRow, row, typed, table_row, lookup_of, lookup_in, EachKeeps}
+use Rattle.linkinfo_table.specs.FamilyRowLaws.{table_lookup}
+use Rattle.linkinfo_shapes.specs.Table.{shape_of}
+use Rattle.linkinfo_shapes.specs.declared.shape.Shape.TheVariants.{Le16, FlagPair}
+use Rattle.linkinfo_numbers.specs.Rmnet.{rm_net_flags}
+use Rattle.linkinfo_numbers.specs.declared.rmnet.InfoRmNetFlags.{InfoRmNetFlags}
+use Rattle.linkinfo_table.specs.Labels.{each_keeps}
+use Rattle.linkinfo_devices.specs.declared.rmnet.InfoRmNet.{InfoRmNet}
+use Rattle.linkinfo_devices.specs.declared.rmnet.InfoRmNet.TheVariants.{MuxId, Flags, Other}
+
+-- flags, and then their mask
+abbrev pub flags_under_mask : ℕ × ℕ → InfoRmNetFlags
+flags_under_mask pair = record { flags = rm_net_flags pair.0; mask = rm_net_flags pair.1 }
+
+abbrev pub rm_net_rows : List (PlainRow InfoRmNet)
+rm_net_rows =
+    row 1 Le16 (λ n. MuxId n) ∷
+    row 2 FlagPair (λ pair. Flags (flags_under_mask pair)) ∷
+    []
+
+abbrev pub rm_net_attribute : InfoRmNet → Attribute
+rm_net_attribute (MuxId n) = typed 1 Le16 n
+rm_net_attribute (Flags under) = typed 2 FlagPair (under.flags.0, under.mask.0)
+rm_net_attribute (Other nla) = attribute_of nla
+
+pub rm_net_keeps : EachKeeps rm_net_attribute rm_net_rows
+rm_net_keeps = each_keeps rm_net_attribute rm_net_rows refl
+    (λ n. refl, (λ pair. refl, tt))
+
+-- these are the rows of the table of all families
+pub rm_net_lookup : (number : ℕ) → lookup_of (table_row rm_net_rows number) ≡ lookup_in (shape_of family.RmNet number)
+rm_net_lookup number = table_lookup rm_net_rows number
