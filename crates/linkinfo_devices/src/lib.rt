@@ -22,7 +22,6 @@ pub use ipvtap::InfoIpVtap;
 pub use macsec::InfoMacSec;
 pub use macvlan::InfoMacVlan;
 pub use macvtap::InfoMacVtap;
-pub use nested_family::NestedFamily;
 pub use rmnet::InfoRmNet;
 pub use vrf::{InfoVrf, InfoVrfPort};
 pub use xfrm::InfoXfrm;

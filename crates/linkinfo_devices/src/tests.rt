@@ -3,6 +3,8 @@
 mod ipoib;
 mod ipvlan;
 mod macsec;
+mod macvlan;
+mod nested;
 mod rmnet;
 mod rows;
 
