@@ -1,12 +1,15 @@
 //! Laws of families, each the contract of a function without code.
 
-ghost use Rattle.std.specs.Prelude.{◌≡◌, ◌↔◌, List, Ok, map};
+ghost use Rattle.std.specs.Prelude.{◌≡◌, ◌↔◌, ◌==◌, ◌&&◌, List, Ok, map};
 ghost use Rattle.std.specs.List.{AllByRecursion};
-ghost use Rattle.nla_frame.specs.Attribute.{Fits, canonical_string, list_string};
+ghost use Rattle.std.specs.Str.{bytes_eq};
+ghost use Rattle.nla_frame.specs.Attribute.{Attribute, Fits, canonical_string, list_string};
+ghost use Rattle.nla_frame.specs.Kept.{kept};
 ghost use Rattle.nla_frame.specs.Pieces.{pieces};
 ghost use Rattle.linkinfo_table.specs.Lists.{AllWell, first_meaning, values};
 
 use crate::family::LinkFamily;
+use crate::rowless::RowlessFamily;
 
 /// Where the bytes are the string of a list of which each item fits, they mean that list exactly where each item is well formed; and what
 /// they mean is always well formed. The same of one item.
@@ -15,4 +18,12 @@ pub fn reading_back<F: LinkFamily>(bytes: &[u8], ctx: F::Context)
     ensures list_is_well { (xs : List F) → values (F.meaning ctx) (pieces bytes.now) ≡ Ok xs → AllWell (F.well ctx) xs }
     ensures first { (x : F) → Fits (F.attribute x) → bytes.now ≡ canonical_string (F.attribute x) → (first_meaning (F.meaning ctx) (pieces bytes.now) ≡ Ok x) ↔ F.well ctx x }
     ensures first_is_well { (x : F) → first_meaning (F.meaning ctx) (pieces bytes.now) ≡ Ok x → F.well ctx x }
+{}
+
+/// An attribute of a family without rows means the value that keeps it, whatever its type and payload. Two are alike where both have one
+/// 16-bit type, flag bits included, and one payload.
+#[tactic(auto, unfolding(crate::specs::Rows::meaning_in, crate::specs::Rows::alike_in))]
+pub fn kept_as_it_came<F: RowlessFamily>()
+    ensures read { (a : Attribute) → ⟦<F as LinkFamily>⟧.meaning tt a ≡ Ok (F.keeping (kept a)) }
+    ensures compared { (a b : Attribute) → ⟦<F as LinkFamily>⟧.alike tt a b ≡ ((b.kind == a.kind) && bytes_eq a.value b.value) }
 {}

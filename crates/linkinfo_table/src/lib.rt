@@ -12,6 +12,7 @@ mod part;
 pub mod parts;
 mod peer;
 mod row_family;
+mod rowless;
 mod rows;
 #[cfg(test)]
 mod tests;
@@ -28,6 +29,7 @@ pub use lookup::Lookup;
 pub use part::Part;
 pub use peer::{LinkPeer, PeerFault};
 pub use row_family::{FlatFamily, RowFamily};
+pub use rowless::RowlessFamily;
 pub use rows::{
     row_check, row_emit_value, row_fit_len, row_kind, row_read, row_same, row_value_len,
     table_lookup,
