@@ -1,5 +1,5 @@
-//! Attributes of veth, vxcan and netkit links, each with a peer of a type that is handed in, and of wwan, batadv, tun and wireguard links and
-//! ports of teams.
+//! Attributes of veth, vxcan and netkit links, each with a peer of a type that is handed in, and of wwan, batadv, tun, wireguard and pfcp links
+//! and ports of teams.
 #![tactic(auto)]
 
 mod batadv;
@@ -7,6 +7,7 @@ mod bit;
 mod netkit;
 mod peer_calls;
 mod peer_family;
+mod pfcp;
 mod team_port;
 #[cfg(test)]
 mod tests;
@@ -19,6 +20,7 @@ mod wwan;
 pub use batadv::InfoBatAdv;
 pub use bit::BitPeer;
 pub use netkit::{InfoNetkit, InfoNetkitOf};
+pub use pfcp::InfoPfcp;
 pub use team_port::InfoTeamPort;
 pub use tun::InfoTun;
 pub use veth::{InfoVeth, InfoVethOf};

@@ -3,7 +3,7 @@
 use super::{
     are_same, has_shapes, is_emitted, is_kept, is_list, is_parsed, is_read, lists_same, unlisted,
 };
-use crate::{InfoTeamPort, InfoTun, InfoWireguard};
+use crate::{InfoPfcp, InfoTeamPort, InfoTun, InfoWireguard};
 use linkinfo_table::{LinkFamily, RowlessFamily, laws, list_check, list_read};
 use nla_frame::{Cause, DecodeError, DefaultNla, ExactEq, Family, HeaderCount, NlaBuffer};
 use std::alloc::{AllocError, Global};
@@ -115,6 +115,19 @@ fn wireguard_links(rt: HostRuntime) -> Result<(), Fail> {
     let list = [
         InfoWireguard::Other(plain(alloc)?),
         InfoWireguard::Other(last(alloc)?),
+    ];
+    is_list(&rt, alloc, &LIST, &list)
+}
+
+#[test]
+fn pfcp_links(rt: HostRuntime) -> Result<(), Fail> {
+    let alloc = rt.alloc();
+    let marked = InfoPfcp::Other(marked(alloc)?);
+    is_parsed(&rt, alloc, &MARKED, &marked)?;
+    keeps_all::<InfoPfcp>(&rt, alloc)?;
+    let list = [
+        InfoPfcp::Other(plain(alloc)?),
+        InfoPfcp::Other(last(alloc)?),
     ];
     is_list(&rt, alloc, &LIST, &list)
 }
