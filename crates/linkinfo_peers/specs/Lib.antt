@@ -1,3 +1,7 @@
+pub mod Batadv
 pub mod Bit
+pub mod Netkit
 pub mod PeerRows
 pub mod Veth
+pub mod Vxcan
+pub mod Wwan

@@ -1,6 +1,6 @@
 -- Rows of a family with a peer: type 1 is the peer, and the other types have rows of shapes or none.
 use Rattle.std.specs.Prelude.{◌≡◌, ◌≢◌, ◌↔◌, ℕ, ◌==◌, Bool, true, false, List, ◌∷◌, Option, Some, Result, refl}
-use Rattle.std.proofs.Common.{sym, subst, cond, lit<}
+use Rattle.std.proofs.Common.{sym, ap, subst, cond, lit<, ◌∙◌}
 use Rattle.std.proofs.lemmas.Bool.{ne_eqb}
 use Rattle.nla_frame.specs.Attribute.{Attribute, IsBytes, masked}
 use Rattle.nla_frame.specs.declared.error.Family.{Family}
@@ -15,6 +15,9 @@ use Rattle.linkinfo_table.specs.Peers.{peer_codec, peer_is_codec, peer_or_fault}
 -- what an attribute means as a peer: the value of its peer, or the cause Peer
 abbrev pub peer_meaning : {P F : Type 0} → Family → (P → F) → (List ℕ → Option P) → Attribute → Result F DecodeError
 peer_meaning family value meaning a = labelled family (masked a.kind) value (peer_or_fault (meaning a.value))
+
+some_same : {P : Type 0} (x y : P) → Some x ≡ Some y → x ≡ y
+some_same x y e = cc
 
 module _ {P F : Type 0} (meaning : List ℕ → Option P) (alike : List ℕ → List ℕ → Bool) (payload : P → List ℕ) (well : P → Type 0) (value : P → F) where
   abbrev pub peer_row : FamilyRow F
@@ -37,6 +40,26 @@ module _ {P F : Type 0} (meaning : List ℕ → Option P) (alike : List ℕ → 
     pub flat_elsewhere : (n : ℕ) → n ≢ 1 → IsFlat (peer_rows plain n)
     flat_elsewhere n other = subst (λ (b : Bool). IsFlat (row_if b peer_row (table_row plain n))) (sym (ne_eqb n 1 other)) (table_flat attribute plain keeps n)
 
+    -- what each row owes, from the laws of the peer and what the value of a peer shows
+    pub peer_rows_owe :
+        ((p q : List ℕ) (x y : P) → IsBytes p → IsBytes q → meaning p ≡ Some x → meaning q ≡ Some y → (alike p q ≡ true) ↔ (x ≡ y)) →
+        ((p : List ℕ) (x : P) → IsBytes p → meaning p ≡ Some x → well x) →
+        ((x : P) → well x → meaning (payload x) ≡ Some x) →
+        ((x : P) → well x → IsBytes (payload x)) →
+        ((x : P) → attribute (value x) ≡ record { kind = 1; value = payload x }) →
+        (n : ℕ) → RowOwes attribute n (row_of (peer_rows plain n))
+    peer_rows_owe alike_is meaning_well well_means well_bytes shown n =
+        row_if_owes attribute 1 n peer_row (table_row plain n)
+        (record {
+          low = lit< tt;
+          codec = peer_is_codec meaning alike payload well alike_is meaning_well well_means well_bytes;
+          keeps = shown;
+          same = λ x y h g e.
+              let payloads : payload x ≡ payload y = ap (λ (a : Attribute). a.value) (sym (shown x) ∙ ap attribute e ∙ shown y) in
+              some_same x y (sym (well_means x h) ∙ ap meaning payloads ∙ well_means y g);
+        })
+        (table_owes attribute plain keeps n)
+
     pub peer_owes :
         ((p q : List ℕ) (x y : P) → IsBytes p → IsBytes q → meaning p ≡ Some x → meaning q ≡ Some y → (alike p q ≡ true) ↔ (x ≡ y)) →
         ((p : List ℕ) (x : P) → IsBytes p → meaning p ≡ Some x → well x) →
@@ -45,12 +68,4 @@ module _ {P F : Type 0} (meaning : List ℕ → Option P) (alike : List ℕ → 
         ((x : P) → attribute (value x) ≡ record { kind = 1; value = payload x }) →
         ((x y : P) → value x ≡ value y → x ≡ y) →
         (n : ℕ) → RowOwes attribute n (row_of (peer_rows plain n))
-    peer_owes alike_is meaning_well well_means well_bytes shown same n =
-        row_if_owes attribute 1 n peer_row (table_row plain n)
-        (record {
-          low = lit< tt;
-          codec = peer_is_codec meaning alike payload well alike_is meaning_well well_means well_bytes;
-          keeps = shown;
-          same = λ x y h g e. same x y e;
-        })
-        (table_owes attribute plain keeps n)
+    peer_owes alike_is meaning_well well_means well_bytes shown same n = peer_rows_owe alike_is meaning_well well_means well_bytes shown n

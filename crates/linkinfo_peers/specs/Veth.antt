@@ -2,10 +2,8 @@
 use Rattle.std.specs.Prelude.{◌≡◌, ℕ, Bool, true, false, List, [], Option}
 use Rattle.nla_frame.specs.Attribute.{Attribute}
 use Rattle.nla_frame.specs.Kept.{attribute_of}
-use Rattle.nla_frame.specs.declared.error.Family.TheVariants as family
-use Rattle.linkinfo_shapes.specs.Table.{shape_of}
-use Rattle.linkinfo_table.specs.FamilyRows.{FamilyRow, PlainRow, lookup_of, lookup_in, EachKeeps}
-use Rattle.linkinfo_peers.specs.PeerRows.{peer_rows, peer_lookup}
+use Rattle.linkinfo_table.specs.FamilyRows.{FamilyRow, PlainRow, EachKeeps}
+use Rattle.linkinfo_peers.specs.PeerRows.{peer_rows}
 use Rattle.linkinfo_peers.specs.declared.veth.InfoVethOf.{InfoVethOf}
 use Rattle.linkinfo_peers.specs.declared.veth.InfoVethOf.TheVariants.{Peer, Other}
 
@@ -31,7 +29,3 @@ veth_peer_same x y e = cc
 module _ {P : Type 0} (meaning : List ℕ → Option P) (alike : List ℕ → List ℕ → Bool) (payload : P → List ℕ) (well : P → Type 0) where
   abbrev pub veth_rows : ℕ → FamilyRow (InfoVethOf P)
   veth_rows n = peer_rows meaning alike payload well (λ peer. Peer peer) veth_plain n
-
-  -- these are the rows of the table of all families
-  pub veth_lookup : (number : ℕ) → lookup_of (veth_rows number) ≡ lookup_in (shape_of family.Veth number)
-  veth_lookup number = peer_lookup meaning alike payload well (λ peer. Peer peer) veth_plain number

@@ -1,213 +1,226 @@
-//! Tests of both peers through every call of the families.
+//! Tests over worked attributes: each row of each family, both peers through each call of the families with one, and families without rows.
 
-use crate::{BitPeer, InfoVeth, InfoVethOf};
-use linkinfo_table::{
-    LinkFamily, LinkPeer, Lookup, PeerFault, Shape, first_check, first_read, first_same,
-    list_check, list_read, list_same,
-};
+mod batadv;
+mod bit;
+mod netkit;
+mod peers;
+mod rowless;
+mod wwan;
+
+use linkinfo_table::{LinkFamily, Lookup, Shape, laws, list_check, list_read, list_same};
 use nla_frame::{
-    Bytes, Cause, DecodeError, DefaultNla, Family, HeaderCount, Nla, NlaBuffer, Parseable, is_equal,
+    Cause, DecodeError, DefaultNla, ExactEq, HeaderCount, Nla, NlaBuffer, Parseable, emit_nlas,
+    is_equal, nlas_fit_len,
 };
+use std::alloc::{AllocError, Global};
 use std::process::Abort;
 use std::test::Fail;
 
-const PEER_REFUSED: DecodeError = DecodeError {
-    family: Family::Veth,
-    kind: 1,
-    cause: Cause::Peer,
-};
+/// An attribute of one byte and a type that no family here has, flag bits included.
+const UNLISTED: [u8; 8] = [5, 0, 0xff, 0x80, 1, 0, 0, 0];
 
-/// Whether two lists of veth attributes are accepted and the same.
-fn lists_same<P: LinkPeer>(rt: &impl Abort, a: &[u8], b: &[u8]) -> bool {
-    let mut count = HeaderCount::new();
-    assert!(rt; a.len() < 1000);
-    assert!(rt; b.len() < 1000);
-    assert!(rt; list_check::<InfoVethOf<P>>(a, (), &mut count).is_ok());
-    let mut count = HeaderCount::new();
-    assert!(rt; list_check::<InfoVethOf<P>>(b, (), &mut count).is_ok());
-    let mut count = HeaderCount::new();
-    let same = list_same::<InfoVethOf<P>>(a, b, (), &mut count);
-    if same {
-        assert!(rt; count.get() == 2);
-    }
-    same
+/// What `UNLISTED` is kept as.
+fn unlisted(alloc: Global) -> Result<DefaultNla, AllocError> {
+    Ok(DefaultNla::new(0x80ff, vec![in alloc; 1u8]?))
 }
 
-#[test]
-fn bits_are_peers(rt: HostRuntime) -> Result<(), Fail> {
-    let alloc = rt.alloc();
-    for (byte, bit) in [(0u8, false), (1, true), (7, true), (255, true)] {
-        assert!(rt; <BitPeer as LinkPeer>::check(&[byte]));
-        let read = <BitPeer as LinkPeer>::read(alloc, &[byte]);
-        assert!(rt; read == Ok(BitPeer(bit)));
-    }
-    for payload in [[0xaa, 0xbb].as_slice(), &[]] {
-        assert!(rt; !<BitPeer as LinkPeer>::check(payload));
-        let read = <BitPeer as LinkPeer>::read(alloc, payload);
-        assert!(rt; read == Err(PeerFault::Refused));
-    }
-    assert!(rt; <BitPeer as LinkPeer>::check(&[7]));
-    assert!(rt; <BitPeer as LinkPeer>::check(&[9]));
-    assert!(rt; <BitPeer as LinkPeer>::check(&[0]));
-    assert!(rt; <BitPeer as LinkPeer>::same(&[7], &[9]));
-    assert!(rt; !<BitPeer as LinkPeer>::same(&[7], &[0]));
-    for (peer, payload) in [(BitPeer(true), [1]), (BitPeer(false), [0])] {
-        assert_eq!(rt; LinkPeer::fit_len(&peer), Some(1));
-        let mut buffer = [255];
-        LinkPeer::emit(&peer, &mut buffer);
-        assert_eq!(rt; buffer, payload);
-    }
-    assert!(rt; is_equal(&BitPeer(true), &BitPeer(true)));
-    assert!(rt; !is_equal(&BitPeer(true), &BitPeer(false)));
-    Ok(())
-}
-
-#[test]
-fn row_of_a_peer(rt: HostRuntime) {
+/// The family has these shapes by masked type, and no other row up to 39.
+fn has_shapes<F: LinkFamily<Context = ()>>(rt: &impl Abort, rows: &[(u16, Shape)]) {
     for kind in 0..40 {
-        let wanted = if kind == 1 {
-            Lookup::Is(Shape::Peer)
-        } else {
-            Lookup::Unknown
-        };
-        assert!(rt; <InfoVeth as LinkFamily>::shape((), kind) == wanted);
-        assert!(rt; <InfoVethOf<BitPeer> as LinkFamily>::shape((), kind) == wanted);
+        let mut wanted = Lookup::Unknown;
+        for row in rows {
+            if row.0 == kind {
+                wanted = Lookup::Is(row.1);
+            }
+        }
+        assert!(rt; F::shape((), kind) == wanted);
     }
 }
 
-#[test]
-fn peers_are_bytes(rt: HostRuntime) -> Result<(), Fail> {
-    let alloc = rt.alloc();
-    let empty = InfoVeth::parse(alloc, &NlaBuffer::new_checked(&[4, 0, 1, 0])?)?;
-    assert!(rt; empty == InfoVeth::Peer(Bytes::new(vec![in alloc;]?)));
-    assert_eq!(rt; empty.fit_len(), Some(0));
-
-    // Flag bits of a known type do not count.
-    let marked = [6, 0, 1, 0x80, 0xaa, 0xbb];
-    let value = InfoVeth::parse(alloc, &NlaBuffer::new_checked(&marked)?)?;
-    let wanted = InfoVeth::Peer(Bytes::new(vec![in alloc; 0xaau8, 0xbb]?));
-    assert!(rt; is_equal(&value, &wanted));
-    assert!(rt; !is_equal(&value, &empty));
-    assert!(rt; value.clone()? == value);
-    assert_eq!(rt; wanted.kind(), 1);
-    assert_eq!(rt; value.fit_len(), Some(2));
-    let mut buffer = [255; 10];
-    assert!(rt; wanted.fit_len() == Some(2));
-    assert!(rt; wanted.value_len() == 2);
-    assert!(rt; wanted.buffer_len() == 8);
-    wanted.emit(&mut buffer);
-    assert_eq!(rt; buffer, [6, 0, 1, 0, 0xaa, 0xbb, 0, 0, 255, 255]);
+/// The attribute is read as the value, with no header inside.
+fn is_read<F: LinkFamily<Context = ()> + ExactEq>(
+    rt: &impl Abort,
+    alloc: Global,
+    bytes: &[u8],
+    value: &F,
+) -> Result<(), Fail> {
+    assert!(rt; bytes.len() <= 24);
+    let nla = NlaBuffer::new_checked(bytes)?;
+    let mut count = HeaderCount::new();
+    assert!(rt; is_equal(&F::read(alloc, &nla, (), &mut count)?, value));
+    let mut count = HeaderCount::new();
+    assert_eq!(rt; F::check_value(&nla, (), &mut count), Ok(()));
+    assert_eq!(rt; count.get(), 0);
     Ok(())
 }
 
-#[test]
-fn peers_are_bits(rt: HostRuntime) -> Result<(), Fail> {
-    let alloc = rt.alloc();
-    let one = [5, 0, 1, 0, 7];
-    let nla = NlaBuffer::new_checked(&one)?;
-    let mut count = HeaderCount::new();
-    assert_eq!(rt;
-        <InfoVethOf<BitPeer> as LinkFamily>::check_value(&nla, (), &mut count),
-        Ok(())
-    );
-    let read = <InfoVethOf<BitPeer> as LinkFamily>::read(alloc, &nla, (), &mut count)?;
-    assert_eq!(rt; count.get(), 0);
-    assert!(rt; read == InfoVethOf::Peer(BitPeer(true)));
-    let mut count = HeaderCount::new();
-    assert!(rt; <InfoVethOf<BitPeer> as LinkFamily>::same_value(&nla, &nla, (), &mut count));
-    assert_eq!(rt; count.get(), 0);
-    let value = InfoVethOf::Peer(BitPeer(true));
-    assert_eq!(rt; value.kind(), 1);
-    assert!(rt; value.fit_len() == Some(1));
-    let mut buffer = [255; 9];
-    assert!(rt; value.value_len() == 1);
-    value.emit(&mut buffer);
-    assert_eq!(rt; buffer, [5, 0, 1, 0, 1, 0, 0, 0, 255]);
+/// `parse` reads the attribute as the value.
+fn is_parsed<'a, F: Parseable<NlaBuffer<'a>> + ExactEq + Drop>(
+    rt: &impl Abort,
+    alloc: Global,
+    bytes: &'a [u8],
+    value: &F,
+) -> Result<(), Fail> {
+    let read = F::parse(alloc, &NlaBuffer::new_checked(bytes)?)?;
+    assert!(rt; is_equal(&read, value));
+    Ok(())
+}
 
-    // Of another length, a payload is refused by the peer and not by the family.
-    for refused in [[6, 0, 1, 0, 0xaa, 0xbb].as_slice(), &[4, 0, 1, 0]] {
-        let nla = NlaBuffer::new_checked(refused)?;
-        let mut count = HeaderCount::new();
-        let checked = <InfoVethOf<BitPeer> as LinkFamily>::check_value(&nla, (), &mut count);
-        assert_eq!(rt; checked, Err(PEER_REFUSED));
-        let parsed = InfoVethOf::<BitPeer>::parse(alloc, &nla);
-        assert!(rt; parsed.err() == Some(PEER_REFUSED));
+/// The attribute is refused with this cause, under the name of the family and its type.
+fn is_refused<F: LinkFamily<Context = ()>>(
+    rt: &impl Abort,
+    alloc: Global,
+    bytes: &[u8],
+    cause: Cause,
+) -> Result<(), Fail> {
+    assert!(rt; bytes.len() <= 28);
+    let nla = NlaBuffer::new_checked(bytes)?;
+    let fault = DecodeError {
+        family: F::FAMILY,
+        kind: nla.kind(),
+        cause,
+    };
+    let mut count = HeaderCount::new();
+    assert_eq!(rt; F::read(alloc, &nla, (), &mut count).err(), Some(fault));
+    let mut count = HeaderCount::new();
+    assert_eq!(rt; F::check_value(&nla, (), &mut count), Err(fault));
+    Ok(())
+}
+
+/// `parse` refuses the attribute with this fault.
+fn is_not_parsed<'a, F: Parseable<NlaBuffer<'a>> + Drop>(
+    rt: &impl Abort,
+    alloc: Global,
+    bytes: &'a [u8],
+    fault: DecodeError,
+) -> Result<(), Fail> {
+    let read = F::parse(alloc, &NlaBuffer::new_checked(bytes)?);
+    assert_eq!(rt; read.err(), Some(fault));
+    Ok(())
+}
+
+/// The value is emitted as these bytes, and nothing behind them is changed.
+fn is_emitted<F: Nla>(rt: &impl Abort, value: &F, bytes: &[u8]) -> Result<(), Fail> {
+    let len = bytes.len();
+    assert!(rt; len <= 24);
+    let nla = NlaBuffer::new_checked(bytes)?;
+    assert_eq!(rt; value.kind(), nla.raw_kind());
+    let fits = value.fit_len() == Some(nla.value().len());
+    assert!(rt; fits);
+    assert!(rt; value.value_len() == nla.value().len());
+    let written = value.buffer_len();
+    assert!(rt; written == len);
+    let mut buffer = [255; 27];
+    value.emit(&mut buffer);
+    assert_eq!(rt; &buffer[..len], bytes);
+    assert_eq!(rt; &buffer[len..], &[255; 27][len..]);
+    Ok(())
+}
+
+/// Whether two accepted attributes are the same. Asks that they are accepted.
+fn are_same<F: LinkFamily<Context = ()>>(
+    rt: &impl Abort,
+    a: &[u8],
+    b: &[u8],
+) -> Result<bool, Fail> {
+    assert!(rt; a.len() <= 24 && b.len() <= 24);
+    let a = NlaBuffer::new_checked(a)?;
+    let b = NlaBuffer::new_checked(b)?;
+    let mut count = HeaderCount::new();
+    assert!(rt; F::check_value(&a, (), &mut count).is_ok());
+    let mut count = HeaderCount::new();
+    assert!(rt; F::check_value(&b, (), &mut count).is_ok());
+    let mut count = HeaderCount::new();
+    Ok(F::same_value(&a, &b, (), &mut count))
+}
+
+/// Whether the attribute is the same with other flag bits in its type. Asks that it is accepted.
+fn same_with_flags<F: LinkFamily<Context = ()>>(
+    rt: &impl Abort,
+    bytes: &[u8],
+) -> Result<bool, Fail> {
+    let len = bytes.len();
+    assert!(rt; 4 <= len && len <= 24);
+    let mut marked = [0; 24];
+    marked[..len].copy_from_slice(bytes);
+    marked[3] ^= 0x40;
+    are_same::<F>(rt, bytes, &marked)
+}
+
+/// The canonical attribute of a row's datum: its flag bits do not count.
+fn is_row<F: LinkFamily<Context = ()> + ExactEq>(
+    rt: &impl Abort,
+    alloc: Global,
+    bytes: &[u8],
+    value: &F,
+) -> Result<(), Fail> {
+    is_read(rt, alloc, bytes, value)?;
+    assert!(rt; same_with_flags::<F>(rt, bytes)?);
+    is_emitted(rt, value, bytes)
+}
+
+/// The attribute with a payload of one byte more, and of one byte less, is refused with the cause Length.
+fn has_one_length<F: LinkFamily<Context = ()>>(
+    rt: &impl Abort,
+    alloc: Global,
+    bytes: &[u8],
+) -> Result<(), Fail> {
+    let len = bytes.len();
+    assert!(rt; 5 <= len && len <= 24);
+    let mut attribute = [0; 28];
+    attribute[..len].copy_from_slice(bytes);
+    let length = attribute[0];
+    assert!(rt; 5 <= length && length <= 24);
+    for other in [length - 1, length + 1] {
+        attribute[0] = other;
+        is_refused::<F>(rt, alloc, &attribute, Cause::Length)?;
     }
     Ok(())
 }
 
-#[test]
-fn other_types_are_kept(rt: HostRuntime) -> Result<(), Fail> {
-    let alloc = rt.alloc();
-    let unknown = [5, 0, 9, 0xc0, 7];
-    let nla = NlaBuffer::new_checked(&unknown)?;
-    let kept = DefaultNla::new(0xc009, vec![in alloc; 7u8]?);
-    let value = InfoVethOf::<BitPeer>::parse(alloc, &nla)?;
-    assert!(rt; value == InfoVethOf::Other(kept.clone()?));
-    assert_eq!(rt; value.kind(), 0xc009);
-    assert_eq!(rt; value.fit_len(), Some(1));
-    assert!(rt; InfoVeth::parse(alloc, &nla)? == InfoVeth::Other(kept.clone()?));
-    let value = InfoVeth::Other(kept);
-    let mut buffer = [255; 8];
-    assert!(rt; value.fit_len() == Some(1));
-    assert!(rt; value.value_len() == 1);
-    value.emit(&mut buffer);
-    assert_eq!(rt; buffer, [5, 0, 9, 0xc0, 7, 0, 0, 0]);
-    assert!(rt; !lists_same::<Bytes>(&rt, &[5, 0, 9, 0xc0, 7], &[5, 0, 9, 0, 7]));
-    assert!(rt; lists_same::<Bytes>(&rt, &[5, 0, 9, 0, 7], &[5, 0, 9, 0, 7, 1, 2, 3]));
-    Ok(())
+/// `UNLISTED` is kept as the value: its flag bits count.
+fn is_kept<F: LinkFamily<Context = ()> + ExactEq + Clone>(
+    rt: &impl Abort,
+    alloc: Global,
+    value: &F,
+) -> Result<(), Fail> {
+    is_read(rt, alloc, &UNLISTED, value)?;
+    assert!(rt; is_equal(&value.clone()?, value));
+    assert!(rt; !same_with_flags::<F>(rt, &UNLISTED)?);
+    is_emitted(rt, value, &UNLISTED)
 }
 
-#[test]
-fn longest_peer(rt: HostRuntime) -> Result<(), Fail> {
-    let alloc = rt.alloc();
-    let longest = InfoVeth::Peer(Bytes::new(vec![in alloc; 0u8; 65531]?));
-    assert_eq!(rt; longest.fit_len(), Some(65531));
-    let longer = InfoVeth::Peer(Bytes::new(vec![in alloc; 0u8; 65532]?));
-    assert_eq!(rt; longer.fit_len(), None);
-    Ok(())
+/// Whether two accepted lists are the same, with the headers that were looked at for the answer.
+fn lists_same<F: LinkFamily<Context = ()>>(rt: &impl Abort, a: &[u8], b: &[u8]) -> (bool, usize) {
+    assert!(rt; a.len() < 1000 && b.len() < 1000);
+    let mut count = HeaderCount::new();
+    assert!(rt; list_check::<F>(a, (), &mut count).is_ok());
+    let mut count = HeaderCount::new();
+    assert!(rt; list_check::<F>(b, (), &mut count).is_ok());
+    let mut count = HeaderCount::new();
+    let same = list_same::<F>(a, b, (), &mut count);
+    (same, count.get())
 }
 
-#[test]
-fn peers_are_compared(rt: HostRuntime) {
-    let seven = [5, 0, 1, 0, 7];
-    let nine = [5, 0, 1, 0x40, 9];
-    assert!(rt; lists_same::<BitPeer>(&rt, &seven, &nine));
-    assert!(rt; !lists_same::<Bytes>(&rt, &seven, &nine));
-    assert!(rt; lists_same::<Bytes>(&rt, &seven, &[5, 0, 1, 0x80, 7, 0, 0, 0]));
-    assert!(rt; !lists_same::<BitPeer>(&rt, &seven, &[5, 0, 1, 0, 0]));
-    assert!(rt; !lists_same::<BitPeer>(&rt, &seven, &[5, 0, 2, 0, 7]));
-    assert!(rt; !lists_same::<BitPeer>(&rt, &[5, 0, 2, 0, 7], &seven));
-}
-
-#[test]
-fn first_attribute_alone(rt: HostRuntime) -> Result<(), Fail> {
-    let alloc = rt.alloc();
-    let wanted = InfoVeth::Peer(Bytes::new(vec![in alloc; 0xaau8, 0xbb]?));
+/// The list is read as the values, and is what is emitted for them.
+fn is_list<F: LinkFamily<Context = ()> + ExactEq>(
+    rt: &impl Abort,
+    alloc: Global,
+    bytes: &[u8],
+    values: &[F],
+) -> Result<(), Fail> {
+    let len = bytes.len();
+    assert!(rt; len <= 24);
+    laws::reading_back::<F>(bytes, ());
     let mut count = HeaderCount::new();
-    let value: InfoVeth = first_read(alloc, &[6, 0, 1, 0, 0xaa, 0xbb], (), &mut count)?;
-    assert!(rt; value == wanted);
-    assert_eq!(rt; count.get(), 1);
-
-    // What follows the first attribute is not looked at.
-    let tail = [6, 0, 1, 0, 0xaa, 0xbb, 0, 0, 5, 0, 9, 0, 7];
-    let mut count = HeaderCount::new();
-    let value: InfoVeth = first_read(alloc, &tail, (), &mut count)?;
-    assert!(rt; value == wanted);
-    assert_eq!(rt; count.get(), 1);
-    let mut count = HeaderCount::new();
-    let checked = first_check::<InfoVethOf<BitPeer>>(&tail, (), &mut count);
-    assert_eq!(rt; checked, Err(PEER_REFUSED));
-    let mut count = HeaderCount::new();
-    assert!(rt; first_check::<InfoVeth>(&tail, (), &mut count).is_ok());
-    let mut count = HeaderCount::new();
-    assert!(rt; first_same::<InfoVeth>(&tail, &tail, (), &mut count));
-    assert_eq!(rt; count.get(), 2);
-
-    let mut count = HeaderCount::new();
-    let list: Vec<InfoVeth> = list_read(alloc, &tail, (), &mut count)?;
-    let kept = InfoVeth::Other(DefaultNla::new(9, vec![in alloc; 7u8]?));
-    assert!(rt; list.as_slice() == [wanted, kept].as_slice());
-    assert_eq!(rt; count.get(), 2);
+    let read: Vec<F> = list_read(alloc, bytes, (), &mut count)?;
+    assert!(rt; read.as_slice() == values);
+    assert!(rt; count.get() == values.len());
+    let fits = nlas_fit_len(values) == Some(len);
+    assert!(rt; fits);
+    let mut buffer = [255; 27];
+    emit_nlas(values, &mut buffer);
+    assert_eq!(rt; &buffer[..len], bytes);
+    assert_eq!(rt; &buffer[len..], &[255; 27][len..]);
     Ok(())
 }

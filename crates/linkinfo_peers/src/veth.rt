@@ -1,7 +1,7 @@
 //! Veth links, which come in pairs: `VETH_INFO_UNSPEC` and on, include/uapi/linux/veth.h.
 
-ghost use Rattle.linkinfo_peers.specs.PeerRows.{flat_elsewhere, peer_owes};
-ghost use Rattle.linkinfo_peers.specs.Veth.{veth_attribute, veth_is_custom, veth_keeps, veth_peer_same, veth_plain, veth_rows};
+ghost use Rattle.linkinfo_peers.specs.PeerRows.{flat_elsewhere, peer_rows_owe};
+ghost use Rattle.linkinfo_peers.specs.Veth.{veth_attribute, veth_is_custom, veth_keeps, veth_plain, veth_rows};
 ghost use Rattle.linkinfo_peers.specs.declared.veth.InfoVethOf.TheVariants as veth;
 ghost use Rattle.linkinfo_table.specs.FamilyRows.{row_of};
 ghost use Rattle.linkinfo_table.specs.Rows.{meaning_in, memory_in};
@@ -43,11 +43,11 @@ impl<P: LinkPeer> RowFamily for InfoVethOf<P> {
 
     ghost is_custom = { veth_is_custom };
 
-    ghost owes = { λ _ n. peer_owes P.meaning P.alike P.canonical P.well (λ peer. veth.Peer peer) (veth_attribute P.canonical) veth_plain (veth_keeps P.canonical) P.alike_is P.meaning_well P.well_means P.well_bytes (λ _. refl) veth_peer_same n };
+    ghost owes = { λ _ n. peer_rows_owe P.meaning P.alike P.canonical P.well (λ peer. veth.Peer peer) (veth_attribute P.canonical) veth_plain (veth_keeps P.canonical) P.alike_is P.meaning_well P.well_means P.well_bytes (λ _. refl) n };
 
     ghost keeps_other = { λ _. refl };
 
-    #[tactic(auto, using(crate::specs::Veth::veth_lookup))]
+    #[tactic(auto, using(crate::specs::PeerRows::peer_lookup))]
     fn shape(_ctx: (), kind: u16) -> Lookup {
         table_lookup(Family::Veth, kind)
     }

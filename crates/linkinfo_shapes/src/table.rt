@@ -43,6 +43,7 @@ pub fn table_shape(family: Family, kind: u16) -> Option<Shape>
         | Family::Can
         | Family::Dsa
         | Family::Hsr
+        | Family::Pfcp
         | Family::TeamPort
         | Family::Tun
         | Family::Vlan

@@ -4,7 +4,7 @@ use crate::{Shape, table_shape};
 use nla_frame::Family;
 
 /// The names of the shapes of types 1, 2, 3 and so on; `-` stands for no row.
-const ROWS: [(Family, &str); 36] = [
+const ROWS: [(Family, &str); 37] = [
     (Family::Frame, "-"),
     (Family::LinkInfo, "-"),
     (Family::Amt, "Le32 Be16 Be16 Le32 Ip Ip Ip Le32"),
@@ -53,6 +53,7 @@ const ROWS: [(Family, &str); 36] = [
         Family::Netkit,
         "Peer Truth Le32 Le32 Le32 Scrub Scrub Le16 Le16",
     ),
+    (Family::Pfcp, "-"),
     (Family::RmNet, "Le16 FlagPair"),
     (Family::TeamPort, "-"),
     (Family::Tun, "-"),

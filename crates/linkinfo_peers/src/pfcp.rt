@@ -1,0 +1,82 @@
+//! PFCP links.
+
+ghost use Rattle.linkinfo_peers.specs.declared.pfcp.InfoPfcp.TheVariants.{Other};
+ghost use Rattle.nla_frame.specs.Kept.{attribute_of, kept};
+ghost use Rattle.nla_frame.specs.declared.error.Family.TheVariants as family;
+ghost use Rattle.std.specs.Prelude.{Ok, refl, true};
+
+use linkinfo_table::RowlessFamily;
+use nla_frame::{DecodeError, DefaultNla, ExactEq, Family, Nla, NlaBuffer, Parseable};
+use std::alloc::Global;
+
+/// An attribute of a PFCP link: of a link of the kind `pfcp`.
+///
+/// Its type, flag bits included, and its payload are kept as they came.
+#[derive(Debug, PartialEq, Eq, Clone, Drop)]
+pub enum InfoPfcp {
+    /// An attribute of any type.
+    Other(DefaultNla),
+}
+
+impl RowlessFamily for InfoPfcp {
+    const FAMILY: Family = Family::Pfcp;
+
+    ghost FAMILY = { family.Pfcp };
+
+    ghost keeping = { λ nla. Other nla };
+
+    ghost kept = { elim [ Other nla ↦ nla ] };
+
+    ghost no_rows = { λ _. refl };
+
+    ghost keeps = { λ _. refl };
+
+    ghost written = { elim [ Other nla ↦ refl ] };
+
+    fn from_kept(nla: DefaultNla) -> InfoPfcp {
+        InfoPfcp::Other(nla)
+    }
+
+    fn as_kept(&self) -> &DefaultNla {
+        match self {
+            InfoPfcp::Other(nla) => nla,
+        }
+    }
+}
+
+impl Nla for InfoPfcp {
+    ghost attribute = { elim [ Other nla ↦ attribute_of nla ] };
+
+    fn value_len(&self) -> usize {
+        self.as_kept().value_len()
+    }
+
+    fn kind(&self) -> u16 {
+        self.as_kept().kind()
+    }
+
+    fn emit_value(&self, buffer: &mut [u8]) {
+        self.as_kept().emit_value(buffer);
+    }
+
+    fn fit_len(&self) -> Option<usize> {
+        self.as_kept().fit_len()
+    }
+}
+
+/// Keeps the attribute. Only want of memory refuses it.
+impl<'a> Parseable<NlaBuffer<'a>> for InfoPfcp {
+    ghost meaning = { λ nla. Ok (Other (kept nla)) };
+
+    ghost needs_memory = { λ _. true };
+
+    fn parse(alloc: Global, buffer: &NlaBuffer<'a>) -> Result<InfoPfcp, DecodeError> {
+        Ok(InfoPfcp::from_kept(DefaultNla::parse(alloc, buffer)?))
+    }
+}
+
+impl ExactEq for InfoPfcp {
+    ghost use Rattle.std.proofs.Common.{rules};
+
+    ghost exact = { Prim.search rules };
+}

@@ -1,0 +1,54 @@
+//! Rows of B.A.T.M.A.N. links.
+
+use super::{
+    UNLISTED, are_same, has_shapes, is_emitted, is_kept, is_list, is_parsed, is_read, is_refused,
+    is_row, unlisted,
+};
+use crate::InfoBatAdv;
+use linkinfo_table::Shape;
+use nla_frame::{Cause, Text};
+use std::test::Fail;
+
+/// The name of the fourth version of the algorithm.
+const BATMAN_IV: [u8; 16] = [
+    14, 0, 1, 0, b'B', b'A', b'T', b'M', b'A', b'N', b'_', b'I', b'V', 0, 0, 0,
+];
+
+#[test]
+fn rows_of_batadv(rt: HostRuntime) -> Result<(), Fail> {
+    let alloc = rt.alloc();
+    has_shapes::<InfoBatAdv>(&rt, &[(1, Shape::Name)]);
+    let name = InfoBatAdv::AlgoName(Text::copy_of(alloc, "BATMAN_IV")?);
+    is_parsed(&rt, alloc, &BATMAN_IV, &name)?;
+    is_row(&rt, alloc, &BATMAN_IV, &name)?;
+    assert!(rt; name.clone()? == name);
+    is_list(&rt, alloc, &BATMAN_IV, &[name])?;
+    let kept = InfoBatAdv::Other(unlisted(alloc)?);
+    is_parsed(&rt, alloc, &UNLISTED, &kept)?;
+    is_kept(&rt, alloc, &kept)
+}
+
+#[test]
+fn worked_batadv(rt: HostRuntime) -> Result<(), Fail> {
+    let alloc = rt.alloc();
+    // One closing zero byte is taken off, and no more.
+    let mut two_zeros = BATMAN_IV;
+    two_zeros[0] = 15;
+    let name = InfoBatAdv::AlgoName(Text::copy_of(alloc, "BATMAN_IV\0")?);
+    is_parsed(&rt, alloc, &two_zeros, &name)?;
+    is_row(&rt, alloc, &two_zeros, &name)?;
+    assert!(rt; !are_same::<InfoBatAdv>(&rt, &BATMAN_IV, &two_zeros)?);
+
+    // Without one the name is the same, and is written with one.
+    let mut no_zero = BATMAN_IV;
+    no_zero[0] = 13;
+    let name = InfoBatAdv::AlgoName(Text::copy_of(alloc, "BATMAN_IV")?);
+    is_read(&rt, alloc, &no_zero, &name)?;
+    assert!(rt; are_same::<InfoBatAdv>(&rt, &BATMAN_IV, &no_zero)?);
+    is_emitted(&rt, &name, &BATMAN_IV)?;
+
+    let empty = InfoBatAdv::AlgoName(Text::copy_of(alloc, "")?);
+    is_read(&rt, alloc, &[4, 0, 1, 0], &empty)?;
+    is_row(&rt, alloc, &[5, 0, 1, 0, 0, 0, 0, 0], &empty)?;
+    is_refused::<InfoBatAdv>(&rt, alloc, &[6, 0, 1, 0, 0xc3, 0x28], Cause::Utf8)
+}

@@ -1,0 +1,154 @@
+//! Vxcan links, which come in pairs: `VXCAN_INFO_UNSPEC` and on, include/uapi/linux/can/vxcan.h.
+
+ghost use Rattle.linkinfo_peers.specs.PeerRows.{flat_elsewhere, peer_rows_owe};
+ghost use Rattle.linkinfo_peers.specs.Vxcan.{vxcan_attribute, vxcan_is_custom, vxcan_rows};
+ghost use Rattle.linkinfo_peers.specs.declared.vxcan.InfoVxcanOf.TheVariants as vxcan;
+ghost use Rattle.linkinfo_table.specs.FamilyRows.{row_of};
+ghost use Rattle.linkinfo_table.specs.Rows.{meaning_in, memory_in};
+ghost use Rattle.nla_frame.specs.declared.error.Family.TheVariants as family;
+ghost use Rattle.std.specs.Prelude.{[], refl};
+
+use crate::peer_calls::{
+    peer_check, peer_emit_value, peer_fit_len, peer_kind, peer_read, peer_same, peer_value_len,
+};
+use crate::peer_family::PeerFamily;
+use linkinfo_table::{Found, LinkPeer, Lookup, Part, RowFamily, UnnestedFamily, table_lookup};
+use nla_frame::{Bytes, DecodeError, DefaultNla, ExactEq, Family, Nla, NlaBuffer, Parseable};
+use std::alloc::{AllocError, Global};
+
+/// An attribute of a vxcan link, with a peer of type `P`.
+#[derive(Debug, PartialEq, Eq, Clone, Drop)]
+pub enum InfoVxcanOf<P> {
+    /// The other end of the pair (`VXCAN_INFO_PEER`).
+    Peer(P),
+    /// An attribute of another type, kept as it came.
+    Other(DefaultNla),
+}
+
+/// An attribute of a vxcan link, whose peer is the bytes of its payload.
+pub type InfoVxcan = InfoVxcanOf<Bytes>;
+
+impl<P: LinkPeer> RowFamily for InfoVxcanOf<P> {
+    type Context = ();
+
+    const FAMILY: Family = Family::Vxcan;
+
+    ghost FAMILY = { family.Vxcan };
+
+    ghost rows = { λ _ n. vxcan_rows P.meaning P.alike P.canonical P.well n };
+
+    ghost other = { λ nla. vxcan.Other nla };
+
+    ghost canonical = { vxcan_attribute P.canonical };
+
+    ghost is_custom = { vxcan_is_custom };
+
+    ghost owes = { λ _ n. peer_rows_owe P.meaning P.alike P.canonical P.well (λ peer. vxcan.Peer peer) (vxcan_attribute P.canonical) [] tt P.alike_is P.meaning_well P.well_means P.well_bytes (λ _. refl) n };
+
+    ghost keeps_other = { λ _. refl };
+
+    #[tactic(auto, using(crate::specs::PeerRows::peer_lookup))]
+    fn shape(_ctx: (), kind: u16) -> Lookup {
+        table_lookup(Family::Vxcan, kind)
+    }
+
+    fn from_found(
+        _alloc: Global,
+        _ctx: (),
+        found: Found<'_>,
+    ) -> Result<InfoVxcanOf<P>, AllocError> {
+        match found {
+            Found::Typed(_, _) => unreachable!(),
+            Found::Kept(nla) => Ok(InfoVxcanOf::Other(nla)),
+        }
+    }
+
+    fn to_part(&self) -> Part<'_> {
+        match self {
+            InfoVxcanOf::Peer(_) => Part::Custom,
+            InfoVxcanOf::Other(nla) => Part::Kept(nla),
+        }
+    }
+}
+
+impl<P: LinkPeer> PeerFamily for InfoVxcanOf<P> {
+    type Peer = P;
+
+    ghost peer_value = { λ peer. vxcan.Peer peer };
+
+    ghost peer_means = { λ _ _. refl };
+
+    ghost peer_needs_memory = { λ _ _. refl };
+
+    ghost peer_alike = { λ _ _ _. refl };
+
+    ghost flat_elsewhere = { λ _ n. flat_elsewhere P.meaning P.alike P.canonical P.well (λ peer. vxcan.Peer peer) (vxcan_attribute P.canonical) [] tt n };
+
+    fn from_peer(peer: P) -> InfoVxcanOf<P> {
+        InfoVxcanOf::Peer(peer)
+    }
+
+    fn peer(&self) -> Option<&P> {
+        match self {
+            InfoVxcanOf::Peer(peer) => Some(peer),
+            InfoVxcanOf::Other(_) => None,
+        }
+    }
+}
+
+impl<P: LinkPeer> Nla for InfoVxcanOf<P> {
+    ghost attribute = { vxcan_attribute P.canonical };
+
+    fn value_len(&self) -> usize {
+        peer_value_len(self)
+    }
+
+    fn kind(&self) -> u16 {
+        peer_kind(self)
+    }
+
+    fn emit_value(&self, buffer: &mut [u8]) {
+        peer_emit_value(self, buffer);
+    }
+
+    fn fit_len(&self) -> Option<usize> {
+        peer_fit_len(self)
+    }
+}
+
+/// Reads the attribute. A peer that is refused is (Vxcan, 1, Peer).
+impl<'a, P: LinkPeer> Parseable<NlaBuffer<'a>> for InfoVxcanOf<P> {
+    ghost meaning = { λ nla. meaning_in family.Vxcan (λ d. vxcan.Other d) (λ n. row_of (vxcan_rows P.meaning P.alike P.canonical P.well n)) nla };
+
+    ghost needs_memory = { λ nla. memory_in (λ n. row_of (vxcan_rows P.meaning P.alike P.canonical P.well n)) nla };
+
+    fn parse(alloc: Global, buffer: &NlaBuffer<'a>) -> Result<InfoVxcanOf<P>, DecodeError> {
+        peer_read(alloc, buffer, ())
+    }
+}
+
+impl<P: LinkPeer> UnnestedFamily for InfoVxcanOf<P> {
+    ghost written = { λ _. refl };
+
+    fn read_by_row(
+        alloc: Global,
+        nla: &NlaBuffer<'_>,
+        ctx: (),
+    ) -> Result<InfoVxcanOf<P>, DecodeError> {
+        peer_read(alloc, nla, ctx)
+    }
+
+    fn check_by_row(nla: &NlaBuffer<'_>, ctx: ()) -> Result<(), DecodeError> {
+        peer_check::<InfoVxcanOf<P>>(nla, ctx)
+    }
+
+    fn same_by_row(a: &NlaBuffer<'_>, b: &NlaBuffer<'_>, ctx: ()) -> bool {
+        peer_same::<InfoVxcanOf<P>>(a, b, ctx)
+    }
+}
+
+impl<P: LinkPeer> ExactEq for InfoVxcanOf<P> {
+    ghost use Rattle.std.proofs.Common.{rules};
+
+    ghost exact = { Prim.search (rules, P.exact) };
+}
