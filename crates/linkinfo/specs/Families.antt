@@ -11,7 +11,7 @@ use Rattle.linkinfo_devices.specs.declared.vrf.InfoVrf.{InfoVrf}
 use Rattle.linkinfo_devices.specs.declared.vrf.InfoVrf.TheVariants as vrf
 use Rattle.linkinfo_devices.specs.Vrf.{vrf_attribute, vrf_rows, vrf_keeps}
 use Rattle.linkinfo_peers.specs.PeerRows.{peer_owes}
-use Rattle.linkinfo_peers.specs.Veth.{veth_attribute, veth_rows, veth_plain, veth_keeps, veth_peer_same}
+use Rattle.linkinfo_peers.specs.Veth.{veth_attribute, veth_rows, veth_plain, veth_keeps}
 use Rattle.linkinfo_peers.specs.declared.veth.InfoVethOf.{InfoVethOf}
 use Rattle.linkinfo_peers.specs.declared.veth.InfoVethOf.TheVariants as veth
 
@@ -34,5 +34,5 @@ pub veth_is_family : {P : Type 0} (peer : Ghosts P) → IsPeer peer → IsFamily
 veth_is_family peer law =
     row_members_lawful family.Veth (λ d. veth.Other d) (veth_attribute peer.canonical) (veth_rows peer.meaning peer.alike peer.canonical peer.well)
     (peer_owes peer.meaning peer.alike peer.canonical peer.well (λ x. veth.Peer x) (veth_attribute peer.canonical) veth_plain (veth_keeps peer.canonical)
-    law.alike_is law.meaning_well law.well_means law.well_bytes (λ _. refl) veth_peer_same)
+    law.alike_is law.meaning_well law.well_means law.well_bytes (λ _. refl))
     (λ _. refl)

@@ -1,5 +1,5 @@
-//! Measuring and writing values of a family that holds lists of its own. The work is in proportion to the bytes written, however deep the
-//! lists stand: each value is measured once and written once.
+//! Measuring and writing values of a family that holds lists of its own: each is one walk over the value, in proportion to its bytes, however
+//! deep the lists stand.
 
 ghost use Rattle.std.specs.Prelude.{◌≡◌, ◌≤◌, ◌++◌, SomeIff, drop, length, map};
 ghost use Rattle.nla_frame.specs.Attribute.{Fits, buffer_len_of, canonical_string, list_string};

@@ -41,14 +41,14 @@ module _ {P F : Type 0} (meaning : List ℕ → Option P) (alike : List ℕ → 
     flat_elsewhere n other = subst (λ (b : Bool). IsFlat (row_if b peer_row (table_row plain n))) (sym (ne_eqb n 1 other)) (table_flat attribute plain keeps n)
 
     -- what each row owes, from the laws of the peer and what the value of a peer shows
-    pub peer_rows_owe :
+    pub peer_owes :
         ((p q : List ℕ) (x y : P) → IsBytes p → IsBytes q → meaning p ≡ Some x → meaning q ≡ Some y → (alike p q ≡ true) ↔ (x ≡ y)) →
         ((p : List ℕ) (x : P) → IsBytes p → meaning p ≡ Some x → well x) →
         ((x : P) → well x → meaning (payload x) ≡ Some x) →
         ((x : P) → well x → IsBytes (payload x)) →
         ((x : P) → attribute (value x) ≡ record { kind = 1; value = payload x }) →
         (n : ℕ) → RowOwes attribute n (row_of (peer_rows plain n))
-    peer_rows_owe alike_is meaning_well well_means well_bytes shown n =
+    peer_owes alike_is meaning_well well_means well_bytes shown n =
         row_if_owes attribute 1 n peer_row (table_row plain n)
         (record {
           low = lit< tt;
@@ -59,13 +59,3 @@ module _ {P F : Type 0} (meaning : List ℕ → Option P) (alike : List ℕ → 
               some_same x y (sym (well_means x h) ∙ ap meaning payloads ∙ well_means y g);
         })
         (table_owes attribute plain keeps n)
-
-    pub peer_owes :
-        ((p q : List ℕ) (x y : P) → IsBytes p → IsBytes q → meaning p ≡ Some x → meaning q ≡ Some y → (alike p q ≡ true) ↔ (x ≡ y)) →
-        ((p : List ℕ) (x : P) → IsBytes p → meaning p ≡ Some x → well x) →
-        ((x : P) → well x → meaning (payload x) ≡ Some x) →
-        ((x : P) → well x → IsBytes (payload x)) →
-        ((x : P) → attribute (value x) ≡ record { kind = 1; value = payload x }) →
-        ((x y : P) → value x ≡ value y → x ≡ y) →
-        (n : ℕ) → RowOwes attribute n (row_of (peer_rows plain n))
-    peer_owes alike_is meaning_well well_means well_bytes shown same n = peer_rows_owe alike_is meaning_well well_means well_bytes shown n

@@ -23,9 +23,6 @@ veth_is_custom (Other nla) = false
 pub veth_keeps : {P : Type 0} (payload : P → List ℕ) → EachKeeps (veth_attribute payload) veth_plain
 veth_keeps payload = tt
 
-pub veth_peer_same : {P : Type 0} (x y : P) → Peer x ≡ Peer y → x ≡ y
-veth_peer_same x y e = cc
-
 module _ {P : Type 0} (meaning : List ℕ → Option P) (alike : List ℕ → List ℕ → Bool) (payload : P → List ℕ) (well : P → Type 0) where
   abbrev pub veth_rows : ℕ → FamilyRow (InfoVethOf P)
   veth_rows n = peer_rows meaning alike payload well (λ peer. Peer peer) veth_plain n

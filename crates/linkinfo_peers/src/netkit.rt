@@ -1,6 +1,6 @@
 //! Netkit links, which come in pairs: `IFLA_NETKIT_UNSPEC` and on, include/uapi/linux/if_link.h.
 
-ghost use Rattle.linkinfo_peers.specs.PeerRows.{flat_elsewhere, peer_rows_owe};
+ghost use Rattle.linkinfo_peers.specs.PeerRows.{flat_elsewhere, peer_owes};
 ghost use Rattle.linkinfo_peers.specs.Netkit.{is_by_default, netkit_attribute, netkit_is_custom, netkit_keeps, netkit_plain, netkit_rows, scrub_of};
 ghost use Rattle.linkinfo_peers.specs.declared.netkit.InfoNetkitOf.TheVariants as netkit;
 ghost use Rattle.linkinfo_table.specs.FamilyRows.{row_of};
@@ -78,7 +78,7 @@ impl<P: LinkPeer> RowFamily for InfoNetkitOf<P> {
 
     ghost is_custom = { netkit_is_custom };
 
-    ghost owes = { λ _ n. peer_rows_owe P.meaning P.alike P.canonical P.well (λ peer. netkit.Peer peer) (netkit_attribute P.canonical) netkit_plain (netkit_keeps P.canonical) P.alike_is P.meaning_well P.well_means P.well_bytes (λ _. refl) n };
+    ghost owes = { λ _ n. peer_owes P.meaning P.alike P.canonical P.well (λ peer. netkit.Peer peer) (netkit_attribute P.canonical) netkit_plain (netkit_keeps P.canonical) P.alike_is P.meaning_well P.well_means P.well_bytes (λ _. refl) n };
 
     ghost keeps_other = { λ _. refl };
 

@@ -1,6 +1,6 @@
 //! Veth links, which come in pairs: `VETH_INFO_UNSPEC` and on, include/uapi/linux/veth.h.
 
-ghost use Rattle.linkinfo_peers.specs.PeerRows.{flat_elsewhere, peer_rows_owe};
+ghost use Rattle.linkinfo_peers.specs.PeerRows.{flat_elsewhere, peer_owes};
 ghost use Rattle.linkinfo_peers.specs.Veth.{veth_attribute, veth_is_custom, veth_keeps, veth_plain, veth_rows};
 ghost use Rattle.linkinfo_peers.specs.declared.veth.InfoVethOf.TheVariants as veth;
 ghost use Rattle.linkinfo_table.specs.FamilyRows.{row_of};
@@ -43,7 +43,7 @@ impl<P: LinkPeer> RowFamily for InfoVethOf<P> {
 
     ghost is_custom = { veth_is_custom };
 
-    ghost owes = { λ _ n. peer_rows_owe P.meaning P.alike P.canonical P.well (λ peer. veth.Peer peer) (veth_attribute P.canonical) veth_plain (veth_keeps P.canonical) P.alike_is P.meaning_well P.well_means P.well_bytes (λ _. refl) n };
+    ghost owes = { λ _ n. peer_owes P.meaning P.alike P.canonical P.well (λ peer. veth.Peer peer) (veth_attribute P.canonical) veth_plain (veth_keeps P.canonical) P.alike_is P.meaning_well P.well_means P.well_bytes (λ _. refl) n };
 
     ghost keeps_other = { λ _. refl };
 

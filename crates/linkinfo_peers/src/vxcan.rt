@@ -1,6 +1,6 @@
 //! Vxcan links, which come in pairs: `VXCAN_INFO_UNSPEC` and on, include/uapi/linux/can/vxcan.h.
 
-ghost use Rattle.linkinfo_peers.specs.PeerRows.{flat_elsewhere, peer_rows_owe};
+ghost use Rattle.linkinfo_peers.specs.PeerRows.{flat_elsewhere, peer_owes};
 ghost use Rattle.linkinfo_peers.specs.Vxcan.{vxcan_attribute, vxcan_is_custom, vxcan_rows};
 ghost use Rattle.linkinfo_peers.specs.declared.vxcan.InfoVxcanOf.TheVariants as vxcan;
 ghost use Rattle.linkinfo_table.specs.FamilyRows.{row_of};
@@ -43,7 +43,7 @@ impl<P: LinkPeer> RowFamily for InfoVxcanOf<P> {
 
     ghost is_custom = { vxcan_is_custom };
 
-    ghost owes = { λ _ n. peer_rows_owe P.meaning P.alike P.canonical P.well (λ peer. vxcan.Peer peer) (vxcan_attribute P.canonical) [] tt P.alike_is P.meaning_well P.well_means P.well_bytes (λ _. refl) n };
+    ghost owes = { λ _ n. peer_owes P.meaning P.alike P.canonical P.well (λ peer. vxcan.Peer peer) (vxcan_attribute P.canonical) [] tt P.alike_is P.meaning_well P.well_means P.well_bytes (λ _. refl) n };
 
     ghost keeps_other = { λ _. refl };
 
