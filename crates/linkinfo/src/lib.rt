@@ -9,8 +9,6 @@ mod link_info;
 mod list;
 mod port_data;
 mod role;
-#[cfg(test)]
-mod tests;
 mod walk;
 mod xstats;
 

@@ -2,7 +2,7 @@
 
 use super::assertions::{HEADER_FAULT, assert_attribute, assert_emitted, assert_refused, list_of};
 use super::fronts::assert_fronts;
-use crate::{DefaultNla, InfoKind, LinkInfo, Nla, Text, VecLinkInfo, check, nlas_fit_len, same};
+use linkinfo::{DefaultNla, InfoKind, LinkInfo, Nla, Text, VecLinkInfo, check, nlas_fit_len, same};
 use std::alloc::{AllocError, Global};
 use std::test::Fail;
 

@@ -1,7 +1,7 @@
 //! Every front of every worked string: `check` and `parse` agree, and an accepted front is the same as itself.
 
 use super::assertions::bytes_of;
-use crate::{VecLinkInfo, check, same};
+use linkinfo::{VecLinkInfo, check, same};
 use std::alloc::{AllocError, Global};
 use std::process::Abort;
 use std::test::Fail;

@@ -2,7 +2,7 @@
 
 use super::assertions::{assert_emitted, bytes_of};
 use super::worked::VETH_TAIL;
-use crate::{
+use linkinfo::{
     BitPeer, Cause, DecodeError, Family, HeaderCount, InfoDataOf, InfoKind, InfoVethOf, LinkInfoOf,
     Nlas, VecLinkInfoOf, check_counted_of, check_of, same, same_counted_of, same_of,
 };

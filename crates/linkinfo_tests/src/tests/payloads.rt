@@ -1,7 +1,7 @@
 //! Data, port data and statistics read by themselves.
 
 use super::assertions::HEADER_FAULT;
-use crate::{
+use linkinfo::{
     BitPeer, Bytes, Cause, DecodeError, DefaultNla, Emitable, Family, InfoData, InfoDataOf,
     InfoKind, InfoPortData, InfoPortKind, InfoVeth, InfoVethOf, InfoVrf, InfoXfrm, LinkXstats,
     NlaBuffer, Nlas, ParseableParametrized, Text, is_equal,

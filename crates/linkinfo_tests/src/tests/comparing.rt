@@ -4,7 +4,7 @@ use super::assertions::bytes_of;
 use super::worked::{
     DATA_TWICE, LATER_KIND, OTHER_PORT, PFCP, PFCP_NO_NUL, PORT_DATA, VETH, VETH_TAIL, XFRM, XSTATS,
 };
-use crate::{HeaderCount, same, same_counted};
+use linkinfo::{HeaderCount, same, same_counted};
 use std::test::Fail;
 
 #[test]

@@ -5,7 +5,7 @@ use super::worked::{
     DATA_TWICE, EMPTY_NAME, LATER_KIND, OTHER_PORT, PFCP, PFCP_NO_NUL, PORT_DATA, VETH, VETH_TAIL,
     XFRM, XSTATS,
 };
-use crate::{
+use linkinfo::{
     Bytes, DefaultNla, InfoData, InfoKind, InfoPortData, InfoPortKind, InfoVeth, InfoVrf, InfoXfrm,
     LinkInfo, LinkXstats, Nlas, Text, VecLinkInfo, check, nlas_fit_len,
 };

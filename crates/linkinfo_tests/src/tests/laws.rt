@@ -2,7 +2,7 @@
 
 use super::assertions::bytes_of;
 use super::worked::XFRM;
-use crate::{BitPeer, Bytes, check, laws};
+use linkinfo::{BitPeer, Bytes, check, laws};
 use std::test::Fail;
 
 #[test]

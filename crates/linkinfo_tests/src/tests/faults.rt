@@ -2,7 +2,7 @@
 
 use super::assertions::{HEADER_FAULT, assert_refused, bytes_of, link_fault};
 use super::worked::{FIRST_FAULT, SECOND_PORT_DATA, VETH_EMPTY, XFRM};
-use crate::{Cause, DecodeError, Family, VecLinkInfo, check, same};
+use linkinfo::{Cause, DecodeError, Family, VecLinkInfo, check, same};
 use std::test::Fail;
 
 #[test]

@@ -1,6 +1,6 @@
 //! What the tests ask of one string or one value.
 
-use crate::{
+use linkinfo::{
     Cause, DecodeError, Family, HeaderCount, LinkInfo, LinkInfoOf, LinkPeer, Nla, Nlas,
     VecLinkInfo, VecLinkInfoOf, check, emit_nlas, nlas_buffer_len, nlas_fit_len, same,
 };

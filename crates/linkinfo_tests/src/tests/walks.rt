@@ -2,7 +2,7 @@
 
 use super::assertions::{HEADER_FAULT, bytes_of, link_fault};
 use super::worked::{DATA_TWICE, FIRST_FAULT, SECOND_PORT_DATA};
-use crate::{Cause, DecodeError, KindTag, LinkInfoItem, LinkInfoWalk, PortTag};
+use linkinfo::{Cause, DecodeError, KindTag, LinkInfoItem, LinkInfoWalk, PortTag};
 use std::process::Abort;
 use std::test::Fail;
 

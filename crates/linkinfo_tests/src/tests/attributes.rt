@@ -1,7 +1,7 @@
 //! Each value written as an attribute.
 
 use super::assertions::{assert_attribute, bytes_of};
-use crate::{
+use linkinfo::{
     BitPeer, Bytes, DefaultNla, InfoData, InfoDataOf, InfoKind, InfoPortData, InfoPortKind,
     InfoVeth, InfoVethOf, InfoVrf, InfoXfrm, LinkInfo, LinkXstats, Nla, Nlas,
 };

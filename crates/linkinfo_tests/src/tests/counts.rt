@@ -4,7 +4,7 @@ use super::assertions::{bytes_of, link_fault};
 use super::worked::{
     DATA_TWICE, FIRST_FAULT, PFCP, PFCP_NO_NUL, SECOND_PORT_DATA, VETH_TAIL, XFRM,
 };
-use crate::{Cause, DecodeError, Family, HeaderCount, VecLinkInfo, check_counted, same_counted};
+use linkinfo::{Cause, DecodeError, Family, HeaderCount, VecLinkInfo, check_counted, same_counted};
 use std::test::Fail;
 
 #[test]

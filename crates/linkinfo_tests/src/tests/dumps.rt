@@ -4,7 +4,7 @@
 //! in the grammar and is its own canonical string.
 
 use super::assertions::{assert_emitted, bytes_of};
-use crate::{VecLinkInfo, check, same};
+use linkinfo::{VecLinkInfo, check, same};
 use std::test::Fail;
 
 /// The names of the links, and what stands inside `IFLA_LINKINFO` in hexadecimal digits.
