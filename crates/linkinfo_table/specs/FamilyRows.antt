@@ -5,7 +5,7 @@ use Rattle.nla_frame.specs.declared.default_nla.DefaultNla.{DefaultNla}
 use Rattle.nla_frame.specs.declared.error.Cause.{Cause}
 use Rattle.nla_frame.specs.declared.error.Cause.TheVariants as cause
 use Rattle.linkinfo_shapes.specs.declared.shape.Shape.{Shape}
-use Rattle.linkinfo_shapes.specs.declared.shape.Shape.TheVariants.{Name, Raw}
+use Rattle.linkinfo_shapes.specs.declared.shape.Shape.TheVariants.{Name, Peer, Raw}
 use Rattle.linkinfo_shapes.specs.Shapes.{IsPlain, Carrier, means, canon, Holds, payload_alike, needs_memory}
 use Rattle.linkinfo_shapes.specs.Data.{Value, value_of, unwrap, written, Suits}
 use Rattle.linkinfo_table.specs.declared.lookup.Lookup.{Lookup}
@@ -59,6 +59,12 @@ abbrev pub IsFlat : {F : Type 0} → FamilyRow F → Type 0
 IsFlat (Plain shape label) = IsPlain shape
 IsFlat (Custom shape codec label) = ⊥
 IsFlat _ = Unit {0}
+
+-- a row that holds no attributes: one that the table of shapes reads, or a peer, of which the only fault is the cause Peer
+abbrev pub IsUnnested : {F : Type 0} → FamilyRow F → Type 0
+IsUnnested (Plain shape label) = IsPlain shape
+IsUnnested (Custom shape codec label) = (shape ≡ Peer) × ((p : List ℕ) (fault : Fault) → codec.means p ≡ Err fault → fault ≡ Own cause.Peer)
+IsUnnested _ = Unit {0}
 
 -- what a row owes
 abbrev pub RowOwes : {F : Type 0} → (F → Attribute) → ℕ → Row F → Type 0

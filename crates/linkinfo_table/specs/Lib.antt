@@ -7,6 +7,8 @@ pub mod Labels
 pub mod Levels
 pub mod ListLaws
 pub mod Lists
+pub mod LookupLaws
+pub mod Lookups
 pub mod Members
 pub mod PeerLaws
 pub mod Peers

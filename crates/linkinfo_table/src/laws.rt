@@ -1,13 +1,17 @@
 //! Laws of families, each the contract of a function without code.
 
-ghost use Rattle.std.specs.Prelude.{◌≡◌, ◌↔◌, ◌==◌, ◌&&◌, Err, List, Ok, map};
+ghost use Rattle.std.specs.Prelude.{◌≡◌, ◌≢◌, ◌↔◌, ◌==◌, ◌&&◌, Err, List, Ok, map};
 ghost use Rattle.std.specs.List.{AllByRecursion};
 ghost use Rattle.std.specs.Str.{bytes_eq};
-ghost use Rattle.nla_frame.specs.Attribute.{Attribute, Fits, canonical_string, list_string};
-ghost use Rattle.nla_frame.specs.Kept.{kept};
+ghost use Rattle.nla_frame.specs.Attribute.{Attribute, Fits, canonical_string, list_string, masked};
+ghost use Rattle.nla_frame.specs.Kept.{attribute_of, kept};
 ghost use Rattle.nla_frame.specs.Pieces.{pieces};
+ghost use Rattle.nla_frame.specs.declared.default_nla.DefaultNla.{DefaultNla};
 ghost use Rattle.nla_frame.specs.declared.error.DecodeError.{DecodeError};
+ghost use Rattle.linkinfo_shapes.specs.declared.shape.Shape.TheVariants as shape;
+ghost use Rattle.linkinfo_table.specs.declared.lookup.Lookup.TheVariants as lookup;
 ghost use Rattle.linkinfo_table.specs.Lists.{AllWell, first_meaning, values};
+ghost use Rattle.linkinfo_table.specs.Lookups.{LookupSays};
 ghost use Rattle.linkinfo_table.specs.Readings.{FirstHasFault, FirstMeans, IsDecided, ListHasFault, ListMeans};
 
 use crate::family::LinkFamily;
@@ -37,6 +41,14 @@ pub fn first_framed<F: LinkFamily>(bytes: &[u8], ctx: F::Context)
     ensures means { (x : F) → (first_meaning (F.meaning ctx) (pieces bytes.now) ≡ Ok x) ↔ FirstMeans (F.meaning ctx) bytes.now x }
     ensures faulty { (e : DecodeError) → (first_meaning (F.meaning ctx) (pieces bytes.now) ≡ Err e) ↔ FirstHasFault (F.meaning ctx) bytes.now e }
     ensures decided { IsDecided (FirstMeans (F.meaning ctx) bytes.now) (FirstHasFault (F.meaning ctx) bytes.now) }
+{}
+
+/// What `LinkFamily::shape` answers for the masked type of an attribute says what the attribute means (`LookupSays`). An attribute's own fault, any but
+/// one of a list inside it, names the family and the masked type.
+pub fn looked_up<F: LinkFamily>(ctx: F::Context)
+    ensures says { (a : Attribute) → LookupSays F.FAMILY F.keeping F.attribute F.meaning a (F.lookup ctx (masked a.kind)) (F.meaning ctx a) }
+    ensures kept { (nla : DefaultNla) → F.attribute (F.keeping nla) ≡ attribute_of nla }
+    ensures own_fault { (a : Attribute) (e : DecodeError) → F.lookup ctx (masked a.kind) ≢ lookup.Is shape.SelfList → F.meaning ctx a ≡ Err e → (e.family ≡ F.FAMILY) × (e.kind ≡ masked a.kind) }
 {}
 
 /// An attribute of a family without rows means the value that keeps it, whatever its type and payload. Two are alike where both have one
