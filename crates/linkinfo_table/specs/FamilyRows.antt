@@ -165,3 +165,18 @@ Shows (part.Typed number shape datum) a is_custom =
     (a ≡ record { kind = number; value = written shape (value_of datum) }) × Suits shape (value_of datum) × (is_custom ≡ false)
 Shows (part.Kept nla) a is_custom = (a ≡ record { kind = nla.now.kind; value = nla.now.value }) × (is_custom ≡ false)
 Shows part.Custom a is_custom = is_custom ≡ true
+
+-- ---- equality of these data, whatever the places that they borrow from
+
+-- one type and one datum, or one attribute that is kept
+abbrev pub SameFound : Found → Found → Type 0
+SameFound (found.Typed n d) (found.Typed k e) = (n ≡ k) × (value_of d ≡ value_of e)
+SameFound (found.Kept x) (found.Kept y) = x ≡ y
+SameFound _ _ = ⊥
+
+-- the same of what a value shows, of a type, a shape and a datum
+abbrev pub SamePart : Part → Part → Type 0
+SamePart (part.Typed n s d) (part.Typed k t e) = (n ≡ k) × (s ≡ t) × (value_of d ≡ value_of e)
+SamePart (part.Kept x) (part.Kept y) = x.now ≡ y.now
+SamePart part.Custom part.Custom = Unit {0}
+SamePart _ _ = ⊥

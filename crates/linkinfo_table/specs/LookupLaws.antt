@@ -24,7 +24,7 @@ flat_unnested (Custom shape codec label) h = absurd h
 flat_unnested (Refuses cause) h = tt
 flat_unnested Absent h = tt
 
-list_no_peer : SelfList ≡ Peer → ⊥
+pub list_no_peer : SelfList ≡ Peer → ⊥
 list_no_peer e = absurd cc
 
 abbrev bad : {X : Type 0} → DecodeError → Result X DecodeError

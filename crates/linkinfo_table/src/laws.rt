@@ -1,6 +1,6 @@
 //! Laws of families, each the contract of a function without code.
 
-ghost use Rattle.std.specs.Prelude.{◌≡◌, ◌≢◌, ◌↔◌, ◌==◌, ◌&&◌, Err, List, Ok, map};
+ghost use Rattle.std.specs.Prelude.{◌≡◌, ◌≢◌, ◌↔◌, ◌==◌, ◌&&◌, Err, IsTrue, List, Ok, map};
 ghost use Rattle.std.specs.List.{AllByRecursion};
 ghost use Rattle.std.specs.Str.{bytes_eq};
 ghost use Rattle.nla_frame.specs.Attribute.{Attribute, Fits, canonical_string, list_string, masked};
@@ -10,11 +10,18 @@ ghost use Rattle.nla_frame.specs.declared.default_nla.DefaultNla.{DefaultNla};
 ghost use Rattle.nla_frame.specs.declared.error.DecodeError.{DecodeError};
 ghost use Rattle.linkinfo_shapes.specs.declared.shape.Shape.TheVariants as shape;
 ghost use Rattle.linkinfo_table.specs.declared.lookup.Lookup.TheVariants as lookup;
+ghost use Rattle.linkinfo_table.specs.FamilyRows.{SameFound, SamePart};
+ghost use Rattle.linkinfo_table.specs.declared.found.Found.{Found};
+ghost use Rattle.linkinfo_table.specs.declared.part.Part.{Part};
 ghost use Rattle.linkinfo_table.specs.Lists.{AllWell, first_meaning, values};
 ghost use Rattle.linkinfo_table.specs.Lookups.{LookupSays};
+ghost use Rattle.linkinfo_table.specs.Members.{IsFamily};
 ghost use Rattle.linkinfo_table.specs.Readings.{FirstHasFault, FirstMeans, IsDecided, ListHasFault, ListMeans};
 
 use crate::family::LinkFamily;
+use crate::found::Found;
+use crate::listed::ListedFamily;
+use crate::part::Part;
 use crate::rowless::RowlessFamily;
 
 /// Where the bytes are the string of a list of which each item fits, they mean that list exactly where each item is well formed; and what
@@ -43,6 +50,11 @@ pub fn first_framed<F: LinkFamily>(bytes: &[u8], ctx: F::Context)
     ensures decided { IsDecided (FirstMeans (F.meaning ctx) bytes.now) (FirstHasFault (F.meaning ctx) bytes.now) }
 {}
 
+/// What a family says under a context is lawful, as payloads that hold its attributes ask for.
+pub fn lawful<F: LinkFamily>()
+    ensures { (c : F.Context) → IsFamily (⟦<F as ListedFamily>⟧.members c) }
+{}
+
 /// What `LinkFamily::shape` answers for the masked type of an attribute says what the attribute means (`LookupSays`). An attribute's own fault, any but
 /// one of a list inside it, names the family and the masked type.
 pub fn looked_up<F: LinkFamily>(ctx: F::Context)
@@ -57,4 +69,11 @@ pub fn looked_up<F: LinkFamily>(ctx: F::Context)
 pub fn kept_as_it_came<F: RowlessFamily>()
     ensures read { (a : Attribute) → ⟦<F as LinkFamily>⟧.meaning tt a ≡ Ok (F.keeping (kept a)) }
     ensures compared { (a b : Attribute) → ⟦<F as LinkFamily>⟧.alike tt a b ≡ ((b.kind == a.kind) && bytes_eq a.value b.value) }
+{}
+
+/// `==` of what was read of attributes, and of what values show, answers true exactly where both hold the same, whatever the places that they
+/// borrow from.
+pub fn equal_parts()
+    ensures found { (a b : Found) → IsTrue (⟦<Found<'static> as PartialEq>⟧.eq a b) ↔ SameFound a b }
+    ensures part { (a b : Part) → IsTrue (⟦<Part<'static> as PartialEq>⟧.eq a b) ↔ SamePart a b }
 {}
