@@ -6,6 +6,7 @@ use Rattle.std.specs.Str.{bytes_eq}
 use Rattle.std.proofs.lemmas.Bool.{eqb-true, ne_eqb, and_parts}
 use Rattle.std.proofs.lemmas.Slice.Eq.{bytes_eq-Decides}
 use Rattle.nla_frame.specs.Attribute.{Attribute, IsAttribute, Fits, masked}
+use Rattle.nla_frame.specs.Error.{memory_fault}
 use Rattle.nla_frame.specs.declared.default_nla.DefaultNla.{DefaultNla}
 use Rattle.nla_frame.specs.declared.error.Cause.{Cause}
 use Rattle.nla_frame.specs.declared.error.Cause.TheVariants as cause
@@ -20,9 +21,9 @@ use Rattle.linkinfo_numbers.specs.PortKind.{port_kind_of_name, text_of_port_kind
 use Rattle.linkinfo_numbers.specs.Name.{name_attribute}
 use Rattle.linkinfo_shapes.specs.Shapes.{means, stripped, text_of}
 use Rattle.linkinfo_shapes.specs.declared.shape.Shape.TheVariants.{Name, Raw}
-use Rattle.linkinfo_table.specs.declared.peer.LinkPeer.{Ghosts}
-use Rattle.linkinfo_table.specs.PeerLaws.{IsPeer}
+use Rattle.linkinfo.specs.Families.{AreFamilies, Families}
 use Rattle.linkinfo_table.specs.FamilyRows.{own, RowOwes}
+use Rattle.linkinfo_table.specs.FlatLaws.{rows_no_memory}
 use Rattle.linkinfo_table.specs.FamilyRowLaws.{owed, shape_is_codec}
 use Rattle.linkinfo_table.specs.Rows.{Entry, Is, IsRow, labelled, meaning_in, alike_in, row_meaning, row_alike}
 use Rattle.linkinfo_table.specs.RowLaws.{rows_alike_is, rows_read_well, rows_well_reads, rows_well_attribute, rows_quarter}
@@ -46,7 +47,7 @@ unknown_from_six t n =
     let k : ℕ = suc (suc (suc (suc (suc (suc n))))) in
     rw (ne_eqb k 1 (λ h. omega (arith, h)), ne_eqb k 2 (λ h. omega (arith, h)), ne_eqb k 3 (λ h. omega (arith, h)), ne_eqb k 4 (λ h. omega (arith, h)), ne_eqb k 5 (λ h. omega (arith, h))) refl
 
-module _ {P : Type 0} (peer : Ghosts P) where
+module _ {P : Type 0} (peer : Families P) where
   abbrev attribute : LinkInfoOf P → Attribute
   attribute = link_attribute peer
 
@@ -85,7 +86,7 @@ module _ {P : Type 0} (peer : Ghosts P) where
   not_memory : cause.Order ≢ cause.Memory
   not_memory e = absurd cc
 
-  module _ (law : IsPeer peer) where
+  module _ (law : AreFamilies peer) where
     data_owes : (o : Option KindTag) → RowOwes attribute 2 (link_row peer (role_under o (λ tag. role.Data tag)))
     data_owes (Some tag) = record { low = lit< tt; codec = data_is_codec peer law (family_of tag); keeps = λ d. refl; same = λ x y _ _ e. cc }
     data_owes None = not_memory
@@ -95,7 +96,7 @@ module _ {P : Type 0} (peer : Ghosts P) where
     xstats_owes None = not_memory
 
     port_data_owes : (o : Option PortTag) → RowOwes attribute 5 (link_row peer (role_under o (λ tag. role.PortData tag)))
-    port_data_owes (Some tag) = record { low = lit< tt; codec = port_data_is_codec (port_family_of tag); keeps = λ d. refl; same = λ x y _ _ e. cc }
+    port_data_owes (Some tag) = record { low = lit< tt; codec = port_data_is_codec peer law (port_family_of tag); keeps = λ d. refl; same = λ x y _ _ e. cc }
     port_data_owes None = not_memory
 
     link_owes : (t : InForce) (n : ℕ) → RowOwes attribute n (link_rows peer t n)
@@ -127,6 +128,10 @@ module _ {P : Type 0} (peer : Ghosts P) where
 
     pub link_well_attribute : (t : InForce) (x : LinkInfoOf P) → link_well peer t x → Fits (attribute x) → IsAttribute (attribute x)
     link_well_attribute t x w fits = rows_well_attribute family.LinkInfo link_other attribute (link_rows peer t) (is_row t) keeps_other x w fits
+
+    -- no meaning is want of memory
+    pub link_no_memory : (t : InForce) (a : Attribute) → link_meaning peer t a ≢ Err memory_fault
+    link_no_memory t a = rows_no_memory family.LinkInfo link_other attribute (link_rows peer t) (link_owes t) a
 
     pub link_quarter : (t : InForce) (a : Attribute) → 4 * link_headers peer t a ≤ length a.value
     link_quarter t a = rows_quarter family.LinkInfo link_other attribute (link_rows peer t) (is_row t) keeps_other a

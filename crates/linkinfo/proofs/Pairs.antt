@@ -5,7 +5,7 @@ use Rattle.std.specs.Bool.{OnTrue}
 use Rattle.nla_frame.specs.Attribute.{Attribute, masked}
 use Rattle.nla_frame.specs.Pieces.{pieces}
 use Rattle.nla_frame.specs.declared.error.DecodeError.{DecodeError}
-use Rattle.linkinfo_table.specs.declared.peer.LinkPeer.{Ghosts}
+use Rattle.linkinfo.specs.Families.{Families}
 use Rattle.linkinfo_table.specs.Lists.{◌>>=◌, if_read}
 use Rattle.linkinfo_table.specs.Rows.{row_alike, row_headers, alike_in}
 use Rattle.linkinfo.specs.declared.link_info.LinkInfoOf.{LinkInfoOf}
@@ -17,7 +17,7 @@ use Rattle.linkinfo.specs.Strings.{force_after, values_from, headers_from, alike
 use Rattle.linkinfo.proofs.Items.{role_alike_after, link_alike_after, same_role}
 use Rattle.linkinfo.proofs.Steps.{after_is, meant, meaning_is, headers_is, own_fault_is}
 
-module _ {P : Type 0} (peer : Ghosts P) where
+module _ {P : Type 0} (peer : Families P) where
   -- an accepted string with an attribute in front
   record Front (t : InForce) (a : Attribute) (s rest : List ℕ) : Type 0 where
     first : IsOk (link_meaning peer t a)

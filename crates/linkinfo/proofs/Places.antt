@@ -17,7 +17,7 @@ use Rattle.nla_frame.specs.declared.error.Cause.TheVariants as cause
 use Rattle.nla_frame.specs.declared.error.Family.TheVariants as family
 use Rattle.nla_frame.specs.declared.error.DecodeError.{DecodeError}
 use Rattle.nla_frame.proofs.Stepping.{pieces_only}
-use Rattle.linkinfo_table.specs.declared.peer.LinkPeer.{Ghosts}
+use Rattle.linkinfo.specs.Families.{Families}
 use Rattle.linkinfo_table.specs.ListLaws.{reads, together, accepted}
 use Rattle.linkinfo_table.specs.Rows.{labelled, meaning_in, row_meaning}
 use Rattle.linkinfo_table.specs.FamilyRows.{own}
@@ -31,7 +31,7 @@ use Rattle.linkinfo.specs.Roles.{behind_role, name_meaning, name_or_fault, none_
 use Rattle.linkinfo.specs.Strings.{or_stay, force_after, values_from, reading, MeansEach, Means, force_behind_all, first_or, last_kind, names_or_uses, last_port}
 use Rattle.linkinfo.proofs.Items.{name_read, unknown_from_six}
 
-module _ {P : Type 0} (peer : Ghosts P) where
+module _ {P : Type 0} (peer : Families P) where
   abbrev good : List (LinkInfoOf P) → Result (List (LinkInfoOf P)) DecodeError
   good xs = Ok xs
 

@@ -9,7 +9,7 @@ use Rattle.nla_frame.specs.declared.error.Family.TheVariants as family
 use Rattle.nla_frame.specs.declared.error.DecodeError.{DecodeError}
 use Rattle.linkinfo_numbers.specs.Kind.{kind_of_name}
 use Rattle.linkinfo_numbers.specs.PortKind.{port_kind_of_name}
-use Rattle.linkinfo_table.specs.declared.peer.LinkPeer.{Ghosts}
+use Rattle.linkinfo.specs.Families.{Families}
 use Rattle.linkinfo_table.specs.Lists.{◌>>=◌, if_read, behind as front}
 use Rattle.linkinfo_table.specs.Rows.{meaning_in, headers_inside, memory_in, row_meaning, row_headers, row_needs_memory}
 use Rattle.linkinfo.specs.declared.link_info.LinkInfoOf.{LinkInfoOf}
@@ -43,7 +43,7 @@ entered_any role.PortKind t u a e = go (name_meaning a) _ _ e
 entered_any role.Misplaced t u a e = absurd cc
 entered_any _ t u a e = refl
 
-module _ {P : Type 0} (peer : Ghosts P) where
+module _ {P : Type 0} (peer : Families P) where
   abbrev pub meant : Role → Attribute → Result (LinkInfoOf P) DecodeError
   meant r a = row_meaning family.LinkInfo link_other (link_row peer r) a
 

@@ -1,9 +1,11 @@
 -- The laws of whole strings: what is read is well formed, a canonical string reads back exactly where its list is well formed, strings read one
 -- behind another, and alike strings mean the same.
 use Rattle.std.proofs.Common.{◌≡◌, ℕ, zero, suc, ◌*◌, ◌≤◌, ◌%◌, Bool, true, List, [], ◌∷◌, ◌++◌, length, map, refl, sym, ap, subst, ◌∙◌, Result, Ok, Err, Option, Some, None}
-use Rattle.std.specs.Prelude.{◌↔◌, IfOk, IsOk, IsTrue}
+use Rattle.std.specs.Prelude.{◌≢◌, ◌↔◌, IfOk, IsOk, IsTrue}
 use Rattle.std.specs.List.{AllByRecursion}
+use Rattle.nla_frame.specs.Answers.{verdict}
 use Rattle.nla_frame.specs.Attribute.{Attribute, IsBytes, Fits, list_string, masked}
+use Rattle.nla_frame.specs.Error.{memory_fault}
 use Rattle.nla_frame.specs.Pieces.{pieces}
 use Rattle.nla_frame.specs.declared.error.Family.TheVariants as family
 use Rattle.nla_frame.specs.declared.error.DecodeError.{DecodeError}
@@ -12,9 +14,8 @@ use Rattle.linkinfo_numbers.specs.declared.names.KindTag.{KindTag}
 use Rattle.linkinfo_numbers.specs.declared.names.PortTag.{PortTag}
 use Rattle.linkinfo_numbers.specs.Kind.{tag_of_name}
 use Rattle.linkinfo_numbers.specs.PortKind.{port_tag_of_name}
-use Rattle.linkinfo_table.specs.declared.peer.LinkPeer.{Ghosts}
-use Rattle.linkinfo_table.specs.PeerLaws.{IsPeer}
-use Rattle.linkinfo_table.specs.ListLaws.{quarter, lists_alike, read_is_well, well_is_read, canonical_law, append_law}
+use Rattle.linkinfo.specs.Families.{AreFamilies, Families}
+use Rattle.linkinfo_table.specs.ListLaws.{no_memory, quarter, lists_alike, read_is_well, well_is_read, canonical_law, append_law}
 use Rattle.linkinfo_table.specs.Rows.{meaning_in, row_meaning}
 use Rattle.linkinfo.specs.declared.link_info.LinkInfoOf.{LinkInfoOf}
 use Rattle.linkinfo.specs.declared.role.InForce.{InForce}
@@ -24,7 +25,7 @@ use Rattle.linkinfo.specs.Comparing.{same_answer}
 use Rattle.linkinfo.specs.Items.{link_attribute, link_headers, link_meaning, link_alike, link_well, link_row, link_other}
 use Rattle.linkinfo.specs.Roles.{behind_role, name_meaning, none_in_force, role_of, role_under, with_name}
 use Rattle.linkinfo.specs.Strings.{or_stay, force_after, force_behind, headers_from, reading, alike_strings, WellFormed}
-use Rattle.linkinfo.proofs.Items.{link_alike_is, link_read_well, link_well_reads, link_well_attribute, link_quarter, link_next, link_alike_after, unknown_from_six}
+use Rattle.linkinfo.proofs.Items.{link_alike_is, link_no_memory, link_read_well, link_well_reads, link_well_attribute, link_quarter, link_next, link_alike_after, unknown_from_six}
 
 IsBytes-left : (x y : List ℕ) → IsBytes (x ++ y) → IsBytes x
 IsBytes-left [] y h = IsBytes-nil
@@ -34,7 +35,7 @@ IsBytes-right : (x y : List ℕ) → IsBytes (x ++ y) → IsBytes y
 IsBytes-right [] y h = h
 IsBytes-right (b ∷ x) y h = IsBytes-right x y (λ i. h (suc i))
 
-module _ {P : Type 0} (peer : Ghosts P) (law : IsPeer peer) where
+module _ {P : Type 0} (peer : Families P) (law : AreFamilies peer) where
   abbrev attribute : LinkInfoOf P → Attribute
   attribute = link_attribute peer
 
@@ -61,6 +62,19 @@ module _ {P : Type 0} (peer : Ghosts P) (law : IsPeer peer) where
   well_reading xs w fits =
       well_is_read (link_meaning peer) force_after attribute (link_well peer) force_behind (link_read_well peer law) (λ t a x _. link_next peer t a x) (link_well_reads peer law)
       (link_well_attribute peer law) none_in_force xs w fits
+
+  -- ---- no string means want of memory, and no answer without memory is one
+
+  pub reading_no_memory : (s : List ℕ) → reading peer s ≢ Err memory_fault
+  unfolding reading
+  reading_no_memory s = no_memory (link_meaning peer) force_after (link_no_memory peer law) none_in_force (pieces s)
+
+  pub checked_no_memory : (s : List ℕ) (r : Result (Unit {0}) DecodeError) → r ≡ verdict (reading peer s) → r ≢ Err memory_fault
+  checked_no_memory s r e h = go (reading peer s) (reading_no_memory s) (sym e ∙ h)
+    where
+      go : (m : Result (List (LinkInfoOf P)) DecodeError) → m ≢ Err memory_fault → verdict m ≢ Err memory_fault
+      go (Ok xs) never k = absurd cc
+      go (Err d) never k = let same : d ≡ memory_fault = cc in never (ap (λ (z : DecodeError). Err z) same)
 
   -- ---- alike strings
 

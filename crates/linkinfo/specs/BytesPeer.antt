@@ -1,9 +1,9 @@
--- Peers kept as bytes, as `LinkPeer` for `Bytes` has them.
-use Rattle.std.specs.Prelude.{Some}
-use Rattle.std.specs.Str.{bytes_eq}
-use Rattle.nla_frame.specs.Attribute.{IsBytes}
+-- The families of data with peers kept as bytes.
+use Rattle.nla_frame.specs.contracts.bytes.Bytes as bytes
 use Rattle.nla_frame.specs.declared.bytes.Bytes.{Bytes}
-use Rattle.linkinfo_table.specs.declared.peer.LinkPeer.{Ghosts}
+use Rattle.linkinfo_table.specs.contracts.peer.BytesLinkPeer.TheImpl as impl
+use Rattle.linkinfo.specs.Families.{Families}
+use Rattle.linkinfo.specs.PeerFamilies.{families_of}
 
-abbrev pub bytes_peer : Ghosts Bytes
-bytes_peer = record { meaning = λ p. Some p; alike = bytes_eq; canonical = λ p. p; well = IsBytes }
+abbrev pub bytes_peer : Families Bytes
+bytes_peer = families_of bytes.the_row impl.ghosts

@@ -9,7 +9,7 @@ use Rattle.nla_frame.specs.declared.error.DecodeError.{DecodeError}
 use Rattle.linkinfo_numbers.specs.Kind.{kind_attribute, kind_of_name}
 use Rattle.linkinfo_numbers.specs.PortKind.{port_kind_attribute, port_kind_of_name}
 use Rattle.linkinfo_shapes.specs.declared.shape.Shape.TheVariants.{Name, Raw}
-use Rattle.linkinfo_table.specs.declared.peer.LinkPeer.{Ghosts}
+use Rattle.linkinfo.specs.Families.{Families}
 use Rattle.linkinfo_table.specs.FamilyRows.{shape_codec}
 use Rattle.linkinfo_table.specs.Rows.{Row, Is, Refused, Unknown, meaning_in, alike_in, headers_inside, memory_in, WellFormed}
 use Rattle.linkinfo.specs.declared.link_info.LinkInfoOf.{LinkInfoOf}
@@ -25,7 +25,7 @@ use Rattle.linkinfo.specs.Roles.{role_of}
 use Rattle.linkinfo.specs.Xstats.{xstats_bytes}
 
 -- the canonical attribute
-abbrev pub link_attribute : {P : Type 0} → Ghosts P → LinkInfoOf P → Attribute
+abbrev pub link_attribute : {P : Type 0} → Families P → LinkInfoOf P → Attribute
 link_attribute peer (info.Xstats x) = record { kind = 3; value = xstats_bytes x }
 link_attribute peer (info.Kind k) = kind_attribute k
 link_attribute peer (info.Data d) = data_attribute peer d
@@ -39,7 +39,7 @@ link_other nla = info.Other nla
 
 -- Names are those of kinds, statistics are bytes, and data is read under the kind in force. What is misplaced is refused, and an unknown
 -- type is kept.
-abbrev pub link_row : {P : Type 0} → Ghosts P → Role → Row (LinkInfoOf P)
+abbrev pub link_row : {P : Type 0} → Families P → Role → Row (LinkInfoOf P)
 link_row peer role.Kind = Is (record { codec = shape_codec Name; label = λ name. info.Kind (kind_of_name name) })
 link_row peer (role.Data tag) = Is (record { codec = payload_codec (data_of peer (family_of tag)) (data_payload peer); label = λ d. info.Data d })
 link_row peer role.Xstats = Is (record { codec = shape_codec Raw; label = λ bytes. info.Xstats (xstats.Other bytes) })
@@ -48,26 +48,26 @@ link_row peer (role.PortData tag) = Is (record { codec = payload_codec (port_dat
 link_row peer role.Misplaced = Refused cause.Order
 link_row peer role.Unknown = Unknown
 
-abbrev pub link_rows : {P : Type 0} → Ghosts P → InForce → ℕ → Row (LinkInfoOf P)
+abbrev pub link_rows : {P : Type 0} → Families P → InForce → ℕ → Row (LinkInfoOf P)
 link_rows peer t n = link_row peer (role_of t n)
 
 -- what an attribute of the list means under the kinds in force, or its fault
-abbrev pub link_meaning : {P : Type 0} → Ghosts P → InForce → Attribute → Result (LinkInfoOf P) DecodeError
+abbrev pub link_meaning : {P : Type 0} → Families P → InForce → Attribute → Result (LinkInfoOf P) DecodeError
 link_meaning peer t a = meaning_in family.LinkInfo link_other (link_rows peer t) a
 
 -- the headers inside it
-abbrev pub link_headers : {P : Type 0} → Ghosts P → InForce → Attribute → ℕ
+abbrev pub link_headers : {P : Type 0} → Families P → InForce → Attribute → ℕ
 link_headers peer t a = headers_inside (link_rows peer t) a
 
 -- whether two accepted ones mean the same
-abbrev pub link_alike : {P : Type 0} → Ghosts P → InForce → Attribute → Attribute → Bool
+abbrev pub link_alike : {P : Type 0} → Families P → InForce → Attribute → Attribute → Bool
 link_alike peer t a b = alike_in (link_rows peer t) a b
 
 -- whether reading it may need memory
-abbrev pub link_needs_memory : {P : Type 0} → Ghosts P → InForce → Attribute → Bool
+abbrev pub link_needs_memory : {P : Type 0} → Families P → InForce → Attribute → Bool
 link_needs_memory peer t a = memory_in (link_rows peer t) a
 
 -- Whether a value is one that an attribute can mean under the kinds in force: no kind is `Other` of a known name, data belongs to the kind in
 -- force, no attribute is `Other` of a known type, and each number, text and list is one that its type can hold.
-abbrev pub link_well : {P : Type 0} → Ghosts P → InForce → LinkInfoOf P → Type 0
+abbrev pub link_well : {P : Type 0} → Families P → InForce → LinkInfoOf P → Type 0
 link_well peer t x = WellFormed link_other (link_attribute peer) (link_rows peer t) x

@@ -5,7 +5,9 @@ pub mod Equal
 pub mod Families
 pub mod Items
 pub mod Payloads
+pub mod PeerFamilies
 pub mod PortData
+pub mod Ports
 pub mod Roles
 pub mod Strings
 pub mod Walks

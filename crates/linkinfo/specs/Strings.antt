@@ -9,7 +9,7 @@ use Rattle.linkinfo_numbers.specs.declared.names.PortTag.{PortTag}
 use Rattle.linkinfo_numbers.specs.Kind.{tag_of_kind, tag_of_name}
 use Rattle.linkinfo_numbers.specs.PortKind.{port_tag_of_name, tag_of_port_kind}
 use Rattle.linkinfo_shapes.specs.Shapes.{stripped}
-use Rattle.linkinfo_table.specs.declared.peer.LinkPeer.{Ghosts}
+use Rattle.linkinfo.specs.Families.{Families}
 use Rattle.linkinfo_table.specs.Lists.{values_under, headers_under, alike_under, memory_under, well_under}
 use Rattle.linkinfo.specs.declared.link_info.LinkInfoOf.{LinkInfoOf}
 use Rattle.linkinfo.specs.declared.link_info.LinkInfoOf.TheVariants as info
@@ -34,51 +34,51 @@ force_behind t _ = t
 
 -- ---- over the pieces of a string, under the kinds in force before them
 
-abbrev pub values_from : {P : Type 0} → Ghosts P → InForce → List (Result Attribute ℕ) → Result (List (LinkInfoOf P)) DecodeError
+abbrev pub values_from : {P : Type 0} → Families P → InForce → List (Result Attribute ℕ) → Result (List (LinkInfoOf P)) DecodeError
 values_from peer t ps = values_under (link_meaning peer) force_after t ps
 
-abbrev pub headers_from : {P : Type 0} → Ghosts P → InForce → List (Result Attribute ℕ) → ℕ
+abbrev pub headers_from : {P : Type 0} → Families P → InForce → List (Result Attribute ℕ) → ℕ
 headers_from peer t ps = headers_under (link_meaning peer) (link_headers peer) force_after t ps
 
-abbrev pub alike_from : {P : Type 0} → Ghosts P → InForce → List (Result Attribute ℕ) → List (Result Attribute ℕ) → Bool
+abbrev pub alike_from : {P : Type 0} → Families P → InForce → List (Result Attribute ℕ) → List (Result Attribute ℕ) → Bool
 alike_from peer t ps qs = alike_under (link_alike peer) force_after t ps qs
 
-abbrev pub memory_from : {P : Type 0} → Ghosts P → InForce → List (Result Attribute ℕ) → Bool
+abbrev pub memory_from : {P : Type 0} → Families P → InForce → List (Result Attribute ℕ) → Bool
 memory_from peer t ps = memory_under (link_meaning peer) (link_needs_memory peer) t ps
 
 -- ---- of a whole string, before which no kind is in force
 
 -- what it means: the values of its attributes, or the first fault in byte order
-unfoldable pub reading : {P : Type 0} → Ghosts P → List ℕ → Result (List (LinkInfoOf P)) DecodeError
+unfoldable pub reading : {P : Type 0} → Families P → List ℕ → Result (List (LinkInfoOf P)) DecodeError
 reading peer s = values_from peer none_in_force (pieces s)
 
 -- the headers with four present bytes, at all depths, up to the fault
-unfoldable pub headers_of_string : {P : Type 0} → Ghosts P → List ℕ → ℕ
+unfoldable pub headers_of_string : {P : Type 0} → Families P → List ℕ → ℕ
 headers_of_string peer s = headers_from peer none_in_force (pieces s)
 
 -- whether two accepted strings are alike, attribute by attribute, with no value made
-unfoldable pub alike_strings : {P : Type 0} → Ghosts P → List ℕ → List ℕ → Bool
+unfoldable pub alike_strings : {P : Type 0} → Families P → List ℕ → List ℕ → Bool
 alike_strings peer a b = alike_from peer none_in_force (pieces a) (pieces b)
 
 -- whether reading it may need memory: not the empty string, and not where the first attribute has a fault of its own
-unfoldable pub reading_needs_memory : {P : Type 0} → Ghosts P → List ℕ → Bool
+unfoldable pub reading_needs_memory : {P : Type 0} → Families P → List ℕ → Bool
 reading_needs_memory peer s = memory_from peer none_in_force (pieces s)
 
 -- a list is well formed: each value under the kinds in force that those before it leave
-abbrev pub WellFormed : {P : Type 0} → Ghosts P → List (LinkInfoOf P) → Type 0
+abbrev pub WellFormed : {P : Type 0} → Families P → List (LinkInfoOf P) → Type 0
 WellFormed peer xs = well_under (link_well peer) force_behind none_in_force xs
 
 -- ---- the same as relations
 
 -- each attribute means its value, under the kinds in force that those before it leave
-abbrev pub MeansEach : {P : Type 0} → Ghosts P → InForce → List Attribute → List (LinkInfoOf P) → Type 0
+abbrev pub MeansEach : {P : Type 0} → Families P → InForce → List Attribute → List (LinkInfoOf P) → Type 0
 MeansEach peer t [] [] = Unit {0}
 MeansEach peer t [] (x ∷ xs) = ⊥
 MeansEach peer t (a ∷ more) [] = ⊥
 MeansEach peer t (a ∷ more) (x ∷ xs) = (link_meaning peer t a ≡ Ok x) × MeansEach peer (force_after t a) more xs
 
 -- the string frames attributes that mean the values
-abbrev pub Means : {P : Type 0} → Ghosts P → List ℕ → List (LinkInfoOf P) → Type 0
+abbrev pub Means : {P : Type 0} → Families P → List ℕ → List (LinkInfoOf P) → Type 0
 Means peer s xs = (attributes : List Attribute) × Frames s attributes × MeansEach peer none_in_force attributes xs
 
 -- the kinds in force behind attributes

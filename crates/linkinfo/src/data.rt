@@ -6,6 +6,7 @@ ghost use Rattle.nla_frame.specs.Answers.{CertainUnless, Gives, OnAnswer, verdic
 ghost use Rattle.linkinfo_numbers.specs.Kind.{tag_of_kind};
 ghost use Rattle.linkinfo.specs.Data.{data_of, family_of};
 
+use crate::families::DataFamilies;
 use crate::fits::fitting;
 use linkinfo_devices::{InfoVrf, InfoXfrm};
 use linkinfo_numbers::{InfoKind, KindTag};
@@ -70,9 +71,9 @@ pub(crate) fn read_data<P: LinkPeer>(
     count: &mut HeaderCount,
 ) -> Result<InfoDataOf<P>, DecodeError>
     requires { count.old + length payload.now / 4 < 2 ^ 64 }
-    ensures answer { Gives (λ value. value) result ((data_of P.LinkPeer.own family).means payload.now) }
-    ensures certain { CertainUnless ((data_of P.LinkPeer.own family).needs_memory payload.now) (λ value. value) result ((data_of P.LinkPeer.own family).means payload.now) }
-    ensures counted { OnAnswer result (count.new ≡ count.old + (data_of P.LinkPeer.own family).headers payload.now) }
+    ensures answer { Gives (λ value. value) result ((data_of ⟦<P as DataFamilies>⟧.families family).means payload.now) }
+    ensures certain { CertainUnless ((data_of ⟦<P as DataFamilies>⟧.families family).needs_memory payload.now) (λ value. value) result ((data_of ⟦<P as DataFamilies>⟧.families family).means payload.now) }
+    ensures counted { OnAnswer result (count.new ≡ count.old + (data_of ⟦<P as DataFamilies>⟧.families family).headers payload.now) }
     ensures rises { count.old ≤ count.new }
     ensures quarter { 4 * count.new ≤ 4 * count.old + length payload.now }
 {
@@ -91,8 +92,8 @@ pub(crate) fn check_data<P: LinkPeer>(
     count: &mut HeaderCount,
 ) -> Result<(), DecodeError>
     requires { count.old + length payload.now / 4 < 2 ^ 64 }
-    ensures answer { result ≡ verdict ((data_of P.LinkPeer.own family).means payload.now) }
-    ensures counted { count.new ≡ count.old + (data_of P.LinkPeer.own family).headers payload.now }
+    ensures answer { result ≡ verdict ((data_of ⟦<P as DataFamilies>⟧.families family).means payload.now) }
+    ensures counted { count.new ≡ count.old + (data_of ⟦<P as DataFamilies>⟧.families family).headers payload.now }
     ensures quarter { 4 * count.new ≤ 4 * count.old + length payload.now }
 {
     match family {
@@ -110,11 +111,11 @@ pub(crate) fn same_data<P: LinkPeer>(
     family: DataFamily,
     count: &mut HeaderCount,
 ) -> bool
-    requires first { IsOk ((data_of P.LinkPeer.own family).means a.now) }
-    requires second { IsOk ((data_of P.LinkPeer.own family).means b.now) }
+    requires first { IsOk ((data_of ⟦<P as DataFamilies>⟧.families family).means a.now) }
+    requires second { IsOk ((data_of ⟦<P as DataFamilies>⟧.families family).means b.now) }
     requires room { count.old + (length a.now + length b.now) / 4 < 2 ^ 64 }
-    ensures same { result ≡ (data_of P.LinkPeer.own family).alike a.now b.now }
-    ensures counted { OnTrue result (count.new ≡ count.old + ((data_of P.LinkPeer.own family).headers a.now + (data_of P.LinkPeer.own family).headers b.now)) }
+    ensures same { result ≡ (data_of ⟦<P as DataFamilies>⟧.families family).alike a.now b.now }
+    ensures counted { OnTrue result (count.new ≡ count.old + ((data_of ⟦<P as DataFamilies>⟧.families family).headers a.now + (data_of ⟦<P as DataFamilies>⟧.families family).headers b.now)) }
     ensures rises { count.old ≤ count.new }
     ensures quarter { 4 * count.new ≤ 4 * count.old + (length a.now + length b.now) }
 {
@@ -137,8 +138,8 @@ impl<P: LinkPeer> InfoDataOf<P> {
         payload: &[u8],
         kind: &InfoKind,
     ) -> Result<InfoDataOf<P>, DecodeError>
-        ensures answer { Gives (λ value. value) result ((data_of P.LinkPeer.own (family_of (tag_of_kind kind.now))).means payload.now) }
-        ensures certain { CertainUnless ((data_of P.LinkPeer.own (family_of (tag_of_kind kind.now))).needs_memory payload.now) (λ value. value) result ((data_of P.LinkPeer.own (family_of (tag_of_kind kind.now))).means payload.now) }
+        ensures answer { Gives (λ value. value) result ((data_of ⟦<P as DataFamilies>⟧.families (family_of (tag_of_kind kind.now))).means payload.now) }
+        ensures certain { CertainUnless ((data_of ⟦<P as DataFamilies>⟧.families (family_of (tag_of_kind kind.now))).needs_memory payload.now) (λ value. value) result ((data_of ⟦<P as DataFamilies>⟧.families (family_of (tag_of_kind kind.now))).means payload.now) }
     {
         let mut count = HeaderCount::new();
         read_data(alloc, payload, family_of(kind.tag()), &mut count)
@@ -149,7 +150,7 @@ impl<P: LinkPeer> InfoDataOf<P> {
 impl<P: LinkPeer> Nla for InfoDataOf<P> {
     ghost use Rattle.linkinfo.specs.Data.{data_attribute};
 
-    ghost attribute = { data_attribute P.LinkPeer.own };
+    ghost attribute = { data_attribute ⟦<P as DataFamilies>⟧.families };
 
     #[tactic(auto, using(nla_frame::proofs::Emitting::list_fits, nla_frame::proofs::Emitting::one_fits))]
     fn value_len(&self) -> usize {

@@ -11,6 +11,7 @@ ghost use Rattle.linkinfo.specs.Roles.{behind_role, none_in_force};
 ghost use Rattle.nla_frame.specs.Attribute.{masked};
 
 use crate::data::{InfoDataOf, check_data, family_of, read_data, same_data};
+use crate::families::DataFamilies;
 use crate::link_info::LinkInfoOf;
 use crate::port_data::{
     InfoPortData, check_port_data, port_family_of, read_port_data, same_port_data,
@@ -30,9 +31,9 @@ pub(crate) fn read_item<P: LinkPeer>(
     count: &mut HeaderCount,
 ) -> Result<LinkInfoOf<P>, DecodeError>
     requires { count.old + length nla.now.value / 4 < 2 ^ 64 }
-    ensures answer { Gives (λ value. value) result (row_meaning family.LinkInfo link_other (link_row P.LinkPeer.own role) nla.now) }
-    ensures certain { CertainUnless (row_needs_memory (link_row P.LinkPeer.own role) nla.now) (λ value. value) result (row_meaning family.LinkInfo link_other (link_row P.LinkPeer.own role) nla.now) }
-    ensures counted { OnAnswer result (count.new ≡ count.old + row_headers (link_row P.LinkPeer.own role) nla.now) }
+    ensures answer { Gives (λ value. value) result (row_meaning family.LinkInfo link_other (link_row ⟦<P as DataFamilies>⟧.families role) nla.now) }
+    ensures certain { CertainUnless (row_needs_memory (link_row ⟦<P as DataFamilies>⟧.families role) nla.now) (λ value. value) result (row_meaning family.LinkInfo link_other (link_row ⟦<P as DataFamilies>⟧.families role) nla.now) }
+    ensures counted { OnAnswer result (count.new ≡ count.old + row_headers (link_row ⟦<P as DataFamilies>⟧.families role) nla.now) }
     ensures rises { count.old ≤ count.new }
     ensures quarter { 4 * count.new ≤ 4 * count.old + length nla.now.value }
 {
@@ -68,8 +69,8 @@ pub(crate) fn check_item<P: LinkPeer>(
 ) -> Result<(), DecodeError>
     requires entered { IsOk (behind_role role none_in_force nla.now) }
     requires room { count.old + length nla.now.value / 4 < 2 ^ 64 }
-    ensures answer { result ≡ verdict (row_meaning family.LinkInfo link_other (link_row P.LinkPeer.own role) nla.now) }
-    ensures counted { count.new ≡ count.old + row_headers (link_row P.LinkPeer.own role) nla.now }
+    ensures answer { result ≡ verdict (row_meaning family.LinkInfo link_other (link_row ⟦<P as DataFamilies>⟧.families role) nla.now) }
+    ensures counted { count.new ≡ count.old + row_headers (link_row ⟦<P as DataFamilies>⟧.families role) nla.now }
     ensures quarter { 4 * count.new ≤ 4 * count.old + length nla.now.value }
 {
     match role {
@@ -90,11 +91,11 @@ pub(crate) fn same_item<P: LinkPeer>(
     role: Role,
     count: &mut HeaderCount,
 ) -> bool
-    requires first { IsOk (row_meaning family.LinkInfo link_other (link_row P.LinkPeer.own role) a.now) }
-    requires second { masked b.now.kind ≡ masked a.now.kind → IsOk (row_meaning family.LinkInfo link_other (link_row P.LinkPeer.own role) b.now) }
+    requires first { IsOk (row_meaning family.LinkInfo link_other (link_row ⟦<P as DataFamilies>⟧.families role) a.now) }
+    requires second { masked b.now.kind ≡ masked a.now.kind → IsOk (row_meaning family.LinkInfo link_other (link_row ⟦<P as DataFamilies>⟧.families role) b.now) }
     requires room { count.old + (length a.now.value + length b.now.value) / 4 < 2 ^ 64 }
-    ensures same { result ≡ row_alike (link_row P.LinkPeer.own role) a.now b.now }
-    ensures counted { OnTrue result (count.new ≡ count.old + (row_headers (link_row P.LinkPeer.own role) a.now + row_headers (link_row P.LinkPeer.own role) b.now)) }
+    ensures same { result ≡ row_alike (link_row ⟦<P as DataFamilies>⟧.families role) a.now b.now }
+    ensures counted { OnTrue result (count.new ≡ count.old + (row_headers (link_row ⟦<P as DataFamilies>⟧.families role) a.now + row_headers (link_row ⟦<P as DataFamilies>⟧.families role) b.now)) }
     ensures rises { count.old ≤ count.new }
     ensures quarter { 4 * count.new ≤ 4 * count.old + (length a.now.value + length b.now.value) }
 {

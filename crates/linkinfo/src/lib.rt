@@ -2,18 +2,21 @@
 #![tactic(auto)]
 
 mod data;
+mod families;
 mod fits;
 mod item;
 pub mod laws;
 mod link_info;
 mod list;
 mod port_data;
+mod ports;
 mod role;
 mod walk;
 mod xstats;
 
 pub use data::InfoData;
 pub use data::InfoDataOf;
+pub use families::DataFamilies;
 pub use link_info::LinkInfo;
 pub use link_info::LinkInfoOf;
 pub use linkinfo_devices::InfoVrf;
@@ -67,6 +70,7 @@ pub use linkinfo_table::FlatFamily;
 pub use linkinfo_table::Found;
 pub use linkinfo_table::LinkFamily;
 pub use linkinfo_table::LinkPeer;
+pub use linkinfo_table::ListedFamily;
 pub use linkinfo_table::Lookup;
 pub use linkinfo_table::Part;
 pub use linkinfo_table::PeerFault;

@@ -1,6 +1,7 @@
 //! Attributes of the list inside `IFLA_LINKINFO`, include/uapi/linux/if_link.h.
 
 use crate::data::InfoDataOf;
+use crate::families::DataFamilies;
 use crate::fits::fitting;
 use crate::port_data::InfoPortData;
 use crate::xstats::LinkXstats;
@@ -34,7 +35,7 @@ pub type LinkInfo = LinkInfoOf<Bytes>;
 impl<P: LinkPeer> Nla for LinkInfoOf<P> {
     ghost use Rattle.linkinfo.specs.Items.{link_attribute};
 
-    ghost attribute = { link_attribute P.LinkPeer.own };
+    ghost attribute = { link_attribute ⟦<P as DataFamilies>⟧.families };
 
     fn value_len(&self) -> usize {
         match self {

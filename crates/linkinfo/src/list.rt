@@ -1,11 +1,12 @@
 //! The list inside `IFLA_LINKINFO`: read, checked and compared.
 
-ghost use Rattle.std.specs.Prelude.{◌≡◌, ◌↔◌, ◌+◌, ◌*◌, ◌/◌, ◌<◌, ◌≤◌, ◌^◌, IsOk, IsTrue, length};
+ghost use Rattle.std.specs.Prelude.{◌≡◌, ◌≢◌, ◌↔◌, ◌+◌, ◌*◌, ◌/◌, ◌<◌, ◌≤◌, ◌^◌, IsOk, IsTrue, length};
 ghost use Rattle.std.specs.Bool.{OnTrue};
 ghost use Rattle.nla_frame.specs.Answers.{CertainUnless, Gives, OnAnswer, verdict};
+ghost use Rattle.nla_frame.specs.Error.{memory_fault};
 ghost use Rattle.nla_frame.specs.Pieces.{pieces};
 ghost use Rattle.nla_frame.specs.Attribute.{Fits, list_string};
-ghost use Rattle.std.specs.Prelude.{ℕ, List, ◌++◌, ◌%◌, map, IfOk, Ok};
+ghost use Rattle.std.specs.Prelude.{ℕ, List, ◌++◌, ◌%◌, map, Err, IfOk, Ok};
 ghost use Rattle.std.specs.List.{AllByRecursion};
 ghost use Rattle.linkinfo.specs.BytesPeer.{bytes_peer};
 ghost use Rattle.linkinfo.specs.Comparing.{same_answer, same_counts};
@@ -14,6 +15,7 @@ ghost use Rattle.linkinfo.specs.Roles.{none_in_force};
 ghost use Rattle.linkinfo.specs.Strings.{alike_from, headers_from, memory_from, values_from, alike_strings, headers_of_string, reading, reading_needs_memory, WellFormed};
 ghost use Rattle.linkinfo.specs.Walks.{left};
 
+use crate::families::{DataFamilies, families_lawful};
 use crate::item::{check_item, read_item, same_item};
 use crate::link_info::LinkInfoOf;
 use crate::role::{InForce, behind, role_of};
@@ -30,9 +32,9 @@ fn read_rest<P: LinkPeer>(
     count: &mut HeaderCount,
 ) -> Result<Vec<LinkInfoOf<P>>, DecodeError>
     requires { 4 * (count.old + walk.old.attributes.examined) + length (left walk.old) < 4 * 2 ^ 64 }
-    ensures answer { Gives (λ v. v.items) result (values_from P.LinkPeer.own walk.old.force (pieces (left walk.old))) }
-    ensures certain { CertainUnless (memory_from P.LinkPeer.own walk.old.force (pieces (left walk.old))) (λ v. v.items) result (values_from P.LinkPeer.own walk.old.force (pieces (left walk.old))) }
-    ensures counted { OnAnswer result (count.new + walk.new.attributes.examined ≡ (count.old + walk.old.attributes.examined) + headers_from P.LinkPeer.own walk.old.force (pieces (left walk.old))) }
+    ensures answer { Gives (λ v. v.items) result (values_from ⟦<P as DataFamilies>⟧.families walk.old.force (pieces (left walk.old))) }
+    ensures certain { CertainUnless (memory_from ⟦<P as DataFamilies>⟧.families walk.old.force (pieces (left walk.old))) (λ v. v.items) result (values_from ⟦<P as DataFamilies>⟧.families walk.old.force (pieces (left walk.old))) }
+    ensures counted { OnAnswer result (count.new + walk.new.attributes.examined ≡ (count.old + walk.old.attributes.examined) + headers_from ⟦<P as DataFamilies>⟧.families walk.old.force (pieces (left walk.old))) }
     ensures rises { count.old + walk.old.attributes.examined ≤ count.new + walk.new.attributes.examined }
     ensures quarter { 4 * (count.new + walk.new.attributes.examined) ≤ 4 * (count.old + walk.old.attributes.examined) + length (left walk.old) }
 {
@@ -53,8 +55,8 @@ fn check_rest<P: LinkPeer>(
     count: &mut HeaderCount,
 ) -> Result<(), DecodeError>
     requires { 4 * (count.old + walk.old.attributes.examined) + length (left walk.old) < 4 * 2 ^ 64 }
-    ensures answer { result ≡ verdict (values_from P.LinkPeer.own walk.old.force (pieces (left walk.old))) }
-    ensures counted { count.new + walk.new.attributes.examined ≡ (count.old + walk.old.attributes.examined) + headers_from P.LinkPeer.own walk.old.force (pieces (left walk.old)) }
+    ensures answer { result ≡ verdict (values_from ⟦<P as DataFamilies>⟧.families walk.old.force (pieces (left walk.old))) }
+    ensures counted { count.new + walk.new.attributes.examined ≡ (count.old + walk.old.attributes.examined) + headers_from ⟦<P as DataFamilies>⟧.families walk.old.force (pieces (left walk.old)) }
     ensures quarter { 4 * (count.new + walk.new.attributes.examined) ≤ 4 * (count.old + walk.old.attributes.examined) + length (left walk.old) }
 {
     while let Some(next) = walk.advance() {
@@ -66,11 +68,11 @@ fn check_rest<P: LinkPeer>(
 
 /// Whether two accepted strings mean the same list, attribute by attribute, each pair under the kinds in force in the first. Takes no memory.
 fn same_strings<P: LinkPeer>(a: &[u8], b: &[u8], count: &mut HeaderCount) -> bool
-    requires first { IsOk (values_from P.LinkPeer.own none_in_force (pieces a.now)) }
-    requires second { IsOk (values_from P.LinkPeer.own none_in_force (pieces b.now)) }
+    requires first { IsOk (values_from ⟦<P as DataFamilies>⟧.families none_in_force (pieces a.now)) }
+    requires second { IsOk (values_from ⟦<P as DataFamilies>⟧.families none_in_force (pieces b.now)) }
     requires room { count.old + (length a.now + length b.now) / 4 < 2 ^ 64 }
-    ensures same { result ≡ alike_from P.LinkPeer.own none_in_force (pieces a.now) (pieces b.now) }
-    ensures counted { OnTrue result (count.new ≡ count.old + (headers_from P.LinkPeer.own none_in_force (pieces a.now) + headers_from P.LinkPeer.own none_in_force (pieces b.now))) }
+    ensures same { result ≡ alike_from ⟦<P as DataFamilies>⟧.families none_in_force (pieces a.now) (pieces b.now) }
+    ensures counted { OnTrue result (count.new ≡ count.old + (headers_from ⟦<P as DataFamilies>⟧.families none_in_force (pieces a.now) + headers_from ⟦<P as DataFamilies>⟧.families none_in_force (pieces b.now))) }
     ensures rises { count.old ≤ count.new }
     ensures quarter { 4 * count.new ≤ 4 * count.old + (length a.now + length b.now) }
 {
@@ -98,10 +100,12 @@ fn same_strings<P: LinkPeer>(a: &[u8], b: &[u8], count: &mut HeaderCount) -> boo
 #[tactic(auto, unfolding(crate::specs::Strings::reading, crate::specs::Strings::headers_of_string))]
 fn check_string<P: LinkPeer>(bytes: &[u8], count: &mut HeaderCount) -> Result<(), DecodeError>
     requires { count.old + length bytes.now / 4 < 2 ^ 64 }
-    ensures answer { result ≡ verdict (reading P.LinkPeer.own bytes.now) }
-    ensures counted { count.new ≡ count.old + headers_of_string P.LinkPeer.own bytes.now }
+    ensures answer { result ≡ verdict (reading ⟦<P as DataFamilies>⟧.families bytes.now) }
+    ensures no_memory { result ≢ Err memory_fault }
+    ensures counted { count.new ≡ count.old + headers_of_string ⟦<P as DataFamilies>⟧.families bytes.now }
     ensures quarter { 4 * count.new ≤ 4 * count.old + length bytes.now }
 {
+    families_lawful::<P>();
     let mut walk = LinkInfoWalk::new(bytes);
     let answer = check_rest::<P>(&mut walk, count);
     count.add(walk.examined());
@@ -127,9 +131,9 @@ impl<P: LinkPeer> VecLinkInfoOf<P> {
         count: &mut HeaderCount,
     ) -> Result<VecLinkInfoOf<P>, DecodeError>
         requires { count.old ≡ 0 }
-        ensures answer { Gives (λ list. list.0) result (reading P.LinkPeer.own bytes.now) }
-        ensures certain { CertainUnless (reading_needs_memory P.LinkPeer.own bytes.now) (λ list. list.0) result (reading P.LinkPeer.own bytes.now) }
-        ensures counted { OnAnswer result (count.new ≡ headers_of_string P.LinkPeer.own bytes.now) }
+        ensures answer { Gives (λ list. list.0) result (reading ⟦<P as DataFamilies>⟧.families bytes.now) }
+        ensures certain { CertainUnless (reading_needs_memory ⟦<P as DataFamilies>⟧.families bytes.now) (λ list. list.0) result (reading ⟦<P as DataFamilies>⟧.families bytes.now) }
+        ensures counted { OnAnswer result (count.new ≡ headers_of_string ⟦<P as DataFamilies>⟧.families bytes.now) }
         ensures quarter { count.new ≤ length bytes.now / 4 }
     {
         let mut walk = LinkInfoWalk::new(bytes);
@@ -147,18 +151,19 @@ impl<P: LinkPeer> VecLinkInfoOf<P> {
     /// answer other than (Frame, 0, Memory) is what the string means; the empty string takes no memory, and a first attribute's own
     /// fault never gives way to Memory.
     pub fn parse(alloc: Global, bytes: &[u8]) -> Result<VecLinkInfoOf<P>, DecodeError>
-        ensures answer { Gives (λ list. list.0) result (reading P.LinkPeer.own bytes.now) }
-        ensures certain { CertainUnless (reading_needs_memory P.LinkPeer.own bytes.now) (λ list. list.0) result (reading P.LinkPeer.own bytes.now) }
+        ensures answer { Gives (λ list. list.0) result (reading ⟦<P as DataFamilies>⟧.families bytes.now) }
+        ensures certain { CertainUnless (reading_needs_memory ⟦<P as DataFamilies>⟧.families bytes.now) (λ list. list.0) result (reading ⟦<P as DataFamilies>⟧.families bytes.now) }
 
         // What is read is well formed.
-        ensures well_formed { (xs : List (LinkInfoOf P)) → reading P.LinkPeer.own bytes.now ≡ Ok xs → WellFormed P.LinkPeer.own xs }
+        ensures well_formed { (xs : List (LinkInfoOf P)) → reading ⟦<P as DataFamilies>⟧.families bytes.now ≡ Ok xs → WellFormed ⟦<P as DataFamilies>⟧.families xs }
 
         // The canonical string of a list that fits reads back as that list exactly where it is well formed.
-        ensures canonical { (xs : List (LinkInfoOf P)) → AllByRecursion Fits (map (link_attribute P.LinkPeer.own) xs) → bytes.now ≡ list_string (map (link_attribute P.LinkPeer.own) xs) → (reading P.LinkPeer.own bytes.now ≡ Ok xs) ↔ WellFormed P.LinkPeer.own xs }
+        ensures canonical { (xs : List (LinkInfoOf P)) → AllByRecursion Fits (map (link_attribute ⟦<P as DataFamilies>⟧.families) xs) → bytes.now ≡ list_string (map (link_attribute ⟦<P as DataFamilies>⟧.families) xs) → (reading ⟦<P as DataFamilies>⟧.families bytes.now ≡ Ok xs) ↔ WellFormed ⟦<P as DataFamilies>⟧.families xs }
 
         // Accepted strings one behind another read as their lists one behind another.
-        ensures appended { (a b : List ℕ) (xs ys : List (LinkInfoOf P)) → length a % 4 ≡ 0 → bytes.now ≡ a ++ b → reading P.LinkPeer.own a ≡ Ok xs → reading P.LinkPeer.own b ≡ Ok ys → reading P.LinkPeer.own bytes.now ≡ Ok (xs ++ ys) }
+        ensures appended { (a b : List ℕ) (xs ys : List (LinkInfoOf P)) → length a % 4 ≡ 0 → bytes.now ≡ a ++ b → reading ⟦<P as DataFamilies>⟧.families a ≡ Ok xs → reading ⟦<P as DataFamilies>⟧.families b ≡ Ok ys → reading ⟦<P as DataFamilies>⟧.families bytes.now ≡ Ok (xs ++ ys) }
     {
+        families_lawful::<P>();
         let mut count = HeaderCount::new();
         VecLinkInfoOf::parse_counted(alloc, bytes, &mut count)
     }
@@ -166,7 +171,8 @@ impl<P: LinkPeer> VecLinkInfoOf<P> {
 
 /// Whether the bytes are in the grammar, with peers of type `P`: the verdict of `VecLinkInfoOf::parse`, or the fault. Takes no memory.
 pub fn check_of<P: LinkPeer>(bytes: &[u8]) -> Result<(), DecodeError>
-    ensures { result ≡ verdict (reading P.LinkPeer.own bytes.now) }
+    ensures answer { result ≡ verdict (reading ⟦<P as DataFamilies>⟧.families bytes.now) }
+    ensures no_memory { result ≢ Err memory_fault }
 {
     let mut count = HeaderCount::new();
     check_string::<P>(bytes, &mut count)
@@ -178,8 +184,9 @@ pub fn check_counted_of<P: LinkPeer>(
     count: &mut HeaderCount,
 ) -> Result<(), DecodeError>
     requires { count.old ≡ 0 }
-    ensures answer { result ≡ verdict (reading P.LinkPeer.own bytes.now) }
-    ensures counted { count.new ≡ headers_of_string P.LinkPeer.own bytes.now }
+    ensures answer { result ≡ verdict (reading ⟦<P as DataFamilies>⟧.families bytes.now) }
+    ensures no_memory { result ≢ Err memory_fault }
+    ensures counted { count.new ≡ headers_of_string ⟦<P as DataFamilies>⟧.families bytes.now }
     ensures quarter { count.new ≤ length bytes.now / 4 }
 {
     check_string::<P>(bytes, count)
@@ -194,8 +201,9 @@ pub fn same_counted_of<P: LinkPeer>(
     count: &mut HeaderCount,
 ) -> Result<bool, DecodeError>
     requires { count.old ≡ 0 }
-    ensures answer { result ≡ same_answer (reading P.LinkPeer.own a.now) (reading P.LinkPeer.own b.now) (alike_strings P.LinkPeer.own a.now b.now) }
-    ensures counted { same_counts result (reading P.LinkPeer.own a.now) (headers_of_string P.LinkPeer.own a.now) (headers_of_string P.LinkPeer.own b.now) count.new }
+    ensures answer { result ≡ same_answer (reading ⟦<P as DataFamilies>⟧.families a.now) (reading ⟦<P as DataFamilies>⟧.families b.now) (alike_strings ⟦<P as DataFamilies>⟧.families a.now b.now) }
+    ensures no_memory { result ≢ Err memory_fault }
+    ensures counted { same_counts result (reading ⟦<P as DataFamilies>⟧.families a.now) (headers_of_string ⟦<P as DataFamilies>⟧.families a.now) (headers_of_string ⟦<P as DataFamilies>⟧.families b.now) count.new }
     ensures half { count.new ≤ (length a.now + length b.now) / 2 }
 {
     check_string::<P>(a, count)?;
@@ -206,21 +214,24 @@ pub fn same_counted_of<P: LinkPeer>(
 /// Whether two strings mean the same list, with peers of type `P`: the first string's fault, else the second's, else whether they are alike.
 /// No value is made, so it also answers of lists that do not fit. Takes no memory.
 pub fn same_of<P: LinkPeer>(a: &[u8], b: &[u8]) -> Result<bool, DecodeError>
-    ensures answer { result ≡ same_answer (reading P.LinkPeer.own a.now) (reading P.LinkPeer.own b.now) (alike_strings P.LinkPeer.own a.now b.now) }
+    ensures answer { result ≡ same_answer (reading ⟦<P as DataFamilies>⟧.families a.now) (reading ⟦<P as DataFamilies>⟧.families b.now) (alike_strings ⟦<P as DataFamilies>⟧.families a.now b.now) }
+    ensures no_memory { result ≢ Err memory_fault }
 
     // Alike strings are those that mean the same list.
-    ensures equal { IfOk result (λ same. IsTrue same ↔ (reading P.LinkPeer.own a.now ≡ reading P.LinkPeer.own b.now)) }
+    ensures equal { IfOk result (λ same. IsTrue same ↔ (reading ⟦<P as DataFamilies>⟧.families a.now ≡ reading ⟦<P as DataFamilies>⟧.families b.now)) }
 
     // Where both lists fit, alike strings are those of one canonical string.
-    ensures canonical { (xs ys : List (LinkInfoOf P)) → reading P.LinkPeer.own a.now ≡ Ok xs → reading P.LinkPeer.own b.now ≡ Ok ys → AllByRecursion Fits (map (link_attribute P.LinkPeer.own) xs) → AllByRecursion Fits (map (link_attribute P.LinkPeer.own) ys) → IfOk result (λ same. IsTrue same ↔ (list_string (map (link_attribute P.LinkPeer.own) xs) ≡ list_string (map (link_attribute P.LinkPeer.own) ys))) }
+    ensures canonical { (xs ys : List (LinkInfoOf P)) → reading ⟦<P as DataFamilies>⟧.families a.now ≡ Ok xs → reading ⟦<P as DataFamilies>⟧.families b.now ≡ Ok ys → AllByRecursion Fits (map (link_attribute ⟦<P as DataFamilies>⟧.families) xs) → AllByRecursion Fits (map (link_attribute ⟦<P as DataFamilies>⟧.families) ys) → IfOk result (λ same. IsTrue same ↔ (list_string (map (link_attribute ⟦<P as DataFamilies>⟧.families) xs) ≡ list_string (map (link_attribute ⟦<P as DataFamilies>⟧.families) ys))) }
 {
+    families_lawful::<P>();
     let mut count = HeaderCount::new();
     same_counted_of::<P>(a, b, &mut count)
 }
 
 /// `check_of`, with peers kept as bytes.
 pub fn check(bytes: &[u8]) -> Result<(), DecodeError>
-    ensures { result ≡ verdict (reading bytes_peer bytes.now) }
+    ensures answer { result ≡ verdict (reading bytes_peer bytes.now) }
+    ensures no_memory { result ≢ Err memory_fault }
 {
     check_of::<Bytes>(bytes)
 }
@@ -229,6 +240,7 @@ pub fn check(bytes: &[u8]) -> Result<(), DecodeError>
 pub fn check_counted(bytes: &[u8], count: &mut HeaderCount) -> Result<(), DecodeError>
     requires { count.old ≡ 0 }
     ensures answer { result ≡ verdict (reading bytes_peer bytes.now) }
+    ensures no_memory { result ≢ Err memory_fault }
     ensures counted { count.new ≡ headers_of_string bytes_peer bytes.now }
     ensures quarter { count.new ≤ length bytes.now / 4 }
 {
@@ -238,6 +250,7 @@ pub fn check_counted(bytes: &[u8], count: &mut HeaderCount) -> Result<(), Decode
 /// `same_of`, with peers kept as bytes.
 pub fn same(a: &[u8], b: &[u8]) -> Result<bool, DecodeError>
     ensures answer { result ≡ same_answer (reading bytes_peer a.now) (reading bytes_peer b.now) (alike_strings bytes_peer a.now b.now) }
+    ensures no_memory { result ≢ Err memory_fault }
     ensures equal { IfOk result (λ same. IsTrue same ↔ (reading bytes_peer a.now ≡ reading bytes_peer b.now)) }
 {
     same_of::<Bytes>(a, b)
@@ -247,6 +260,7 @@ pub fn same(a: &[u8], b: &[u8]) -> Result<bool, DecodeError>
 pub fn same_counted(a: &[u8], b: &[u8], count: &mut HeaderCount) -> Result<bool, DecodeError>
     requires { count.old ≡ 0 }
     ensures answer { result ≡ same_answer (reading bytes_peer a.now) (reading bytes_peer b.now) (alike_strings bytes_peer a.now b.now) }
+    ensures no_memory { result ≢ Err memory_fault }
     ensures counted { same_counts result (reading bytes_peer a.now) (headers_of_string bytes_peer a.now) (headers_of_string bytes_peer b.now) count.new }
     ensures half { count.new ≤ (length a.now + length b.now) / 2 }
 {

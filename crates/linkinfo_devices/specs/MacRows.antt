@@ -2,7 +2,7 @@
 use Rattle.std.specs.Prelude.{◌≡◌, ◌==◌, ℕ, ℤ, false, if◌then◌else◌, Some, List, [], ◌∷◌, ◌++◌, map, refl}
 use Rattle.std.proofs.Common.{sym, ap, ◌∙◌}
 use Rattle.std.proofs.lemmas.Bool.{cond-false, ne_eqb}
-use Rattle.nla_frame.specs.Attribute.{Attribute, list_string}
+use Rattle.nla_frame.specs.Attribute.{Attribute, list_string, masked}
 use Rattle.nla_frame.specs.declared.error.Family.{Family}
 use Rattle.nla_frame.specs.declared.default_nla.DefaultNla.{DefaultNla}
 use Rattle.linkinfo_numbers.specs.Table.{key-value_of}
@@ -15,8 +15,10 @@ use Rattle.linkinfo_shapes.specs.declared.shape.Shape.{Shape}
 use Rattle.linkinfo_shapes.specs.declared.shape.Shape.TheVariants.{Le32, Le16, Mac, I32, SelfList}
 use Rattle.linkinfo_table.specs.FamilyRows.{PlainRow, row, typed, table_row, row_of, lookup_of, lookup_in, EachKeeps, IsMadeOf, RowOwes, FamilyRow, SuitsFound}
 use Rattle.linkinfo_table.specs.FamilyRowLaws.{table_lookup}
+use Rattle.linkinfo_table.specs.Lookups.{LookupSays}
+use Rattle.linkinfo_table.specs.Rows.{meaning_in}
 use Rattle.linkinfo_table.specs.Labels.{each_keeps}
-use Rattle.linkinfo_devices.specs.Nested.{nested_rows, nested_owes, nested_lookup, nested_lookup_is, suits_plain, made_plain}
+use Rattle.linkinfo_devices.specs.Nested.{nested_rows, nested_owes, nested_says, nested_lookup, nested_lookup_is, suits_plain, made_plain}
 use Rattle.linkinfo_table.specs.declared.found.Found.{Found}
 
 -- what a family makes of the data of its rows, and of a list
@@ -81,6 +83,13 @@ mac_keeps attribute l k = each_keeps attribute (mac_plain_rows l) refl (
 pub mac_owes : {X : Type 0} (f : Family) (attribute : X → Attribute) (l : MacLabels X) → MacLabelsKeep attribute l → (c n : ℕ) → RowOwes attribute n (row_of (mac_rows f attribute l c n))
 mac_owes f attribute l k c n =
     nested_owes f (λ d. l.other d) attribute (λ xs. l.mac_addr_data xs) (mac_plain_rows l) (mac_keeps attribute l k) k.mac_addr_data k.same_data k.other c n
+
+-- what these rows say of a type is what its attributes mean
+pub mac_says : {X : Type 0} (f : Family) (attribute : X → Attribute) (l : MacLabels X) → MacLabelsKeep attribute l → (c : ℕ) (a : Attribute) →
+    LookupSays f (λ d. l.other d) attribute (λ d b. meaning_in f (λ nla. l.other nla) (λ n. row_of (mac_rows f attribute l d n)) b) a (lookup_of (mac_rows f attribute l c (masked a.kind)))
+    (meaning_in f (λ d. l.other d) (λ n. row_of (mac_rows f attribute l c n)) a)
+mac_says f attribute l k c a =
+    nested_says f (λ d. l.other d) attribute (λ xs. l.mac_addr_data xs) (mac_plain_rows l) (mac_keeps attribute l k) k.mac_addr_data (λ d n. mac_owes f attribute l k d n) c a
 
 -- a row of another number makes no difference
 found_behind : (front : List (ℕ × Shape)) (r : ℕ × Shape) (rest : List (ℕ × Shape)) (n : ℕ) → (n == r.0) ≡ false → found (front ++ (r ∷ rest)) n ≡ found (front ++ rest) n

@@ -2,14 +2,16 @@
 use Rattle.std.specs.Prelude.{◌≡◌, Bool, true, false, ℕ, List}
 use Rattle.std.proofs.Common.{sym, ap, ◌∙◌, inl, inr}
 use denote.Enum.Declared.{Choice}
-use Rattle.nla_frame.specs.Attribute.{Attribute, list_string}
+use Rattle.nla_frame.specs.Attribute.{Attribute, list_string, masked}
 use Rattle.nla_frame.specs.Kept.{attribute_of}
 use Rattle.linkinfo_numbers.specs.Macvlan.{mac_vlan_mode_number, mac_vlan_mac_address_mode_number}
 use Rattle.linkinfo_shapes.specs.declared.shape.Shape.TheVariants.{Le32, Le16, Mac, I32}
 use Rattle.nla_frame.specs.declared.error.Family.TheVariants as family
 use Rattle.linkinfo_table.specs.FamilyRows.{EachKeeps, FamilyRow, IsMadeOf, PlainRow, RowOwes, SuitsFound, lookup_in, lookup_of, row_of, table_row, typed}
+use Rattle.linkinfo_table.specs.Lookups.{LookupSays}
+use Rattle.linkinfo_table.specs.Rows.{meaning_in}
 use Rattle.linkinfo_table.specs.declared.found.Found.{Found}
-use Rattle.linkinfo_devices.specs.MacRows.{MacLabels, MacLabelsKeep, mac_keeps, mac_lookup, mac_made, mac_owes, mac_plain_rows, mac_rows, mac_suits}
+use Rattle.linkinfo_devices.specs.MacRows.{MacLabels, MacLabelsKeep, mac_keeps, mac_lookup, mac_made, mac_owes, mac_plain_rows, mac_rows, mac_says, mac_suits}
 use Rattle.linkinfo_devices.specs.Nested.{nested_lookup}
 use Rattle.linkinfo_shapes.specs.Table.{shape_of}
 use Rattle.linkinfo_devices.specs.declared.macvtap.InfoMacVtap.{InfoMacVtap}
@@ -101,6 +103,12 @@ mac_vtap_keeps = mac_keeps mac_vtap_attribute mac_vtap_labels mac_vtap_keep
 
 pub mac_vtap_owes : (c n : ℕ) → RowOwes mac_vtap_attribute n (row_of (mac_vtap_rows c n))
 mac_vtap_owes c n = mac_owes family.MacVtap mac_vtap_attribute mac_vtap_labels mac_vtap_keep c n
+
+-- what they say of a type is what its attributes mean
+pub mac_vtap_says : (c : ℕ) (a : Attribute) → LookupSays family.MacVtap (λ d. macvtap.Other d) mac_vtap_attribute
+    (λ d b. meaning_in family.MacVtap (λ nla. macvtap.Other nla) (λ n. row_of (mac_vtap_rows d n)) b) a (lookup_of (mac_vtap_rows c (masked a.kind)))
+    (meaning_in family.MacVtap (λ d. macvtap.Other d) (λ n. row_of (mac_vtap_rows c n)) a)
+mac_vtap_says c a = mac_says family.MacVtap mac_vtap_attribute mac_vtap_labels mac_vtap_keep c a
 
 -- these are the rows of the table of all families, but that a list inside 128 others is refused
 pub mac_vtap_lookup : (c n : ℕ) → lookup_of (mac_vtap_rows c n) ≡ nested_lookup c n (lookup_in (shape_of family.MacVtap n))

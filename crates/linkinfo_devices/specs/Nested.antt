@@ -1,7 +1,7 @@
 -- Families of which attributes of type 5 hold lists of the family's own attributes, at most 128 lists inside one another: their rows by the
 -- number of lists round an attribute, and what these rows say of type 5 and of every other.
 use Rattle.std.specs.Prelude.{◌≡◌, ◌≢◌, ℕ, zero, suc, ◌+◌, ◌-◌, ◌*◌, ◌<◌, ◌≤◌, ◌==◌, ◌&&◌, Bool, true, false, if◌then◌else◌, ltb, List, length, map, Result, Ok, Err, Option, Some, None, refl}
-use Rattle.std.proofs.Common.{sym, ap, ◌∙◌, arith}
+use Rattle.std.proofs.Common.{sym, ap, subst, ◌∙◌, arith}
 use Rattle.std.proofs.lemmas.Bool.{eqb-true, eq-eqb, and_from, lt-ltb, le-ltb}
 use denote.Ref.{Bor}
 use Rattle.nla_frame.specs.Attribute.{Attribute, masked, list_string}
@@ -21,6 +21,8 @@ use Rattle.linkinfo_table.specs.declared.found.Found.{Found}
 use Rattle.linkinfo_table.specs.declared.found.Found.TheVariants as found
 use Rattle.linkinfo_shapes.specs.Data.{value_of}
 use Rattle.linkinfo_table.specs.Levels.{level_rows, level_owes, inner_codec}
+use Rattle.linkinfo_table.specs.LookupLaws.{flat_unnested, list_no_peer, row_says}
+use Rattle.linkinfo_table.specs.Lookups.{HoldsList, LookupSays}
 use Rattle.linkinfo_table.specs.Lists.{values, headers_of, alike_pairs, memory_of}
 use Rattle.linkinfo_table.specs.SelfList.{inside}
 
@@ -118,6 +120,45 @@ module _ {X : Type 0} (f : Family) (other : DefaultNla → X) (attribute : X →
         (c n : ℕ) → RowOwes attribute n (at c n)
     nested_owes keeps_list same keeps_other c n =
         level_owes f other attribute 5 label (λ k. table_row plain k) (omega arith) keeps_list same keeps_other (λ k. table_owes attribute plain keeps k) (128 - c) n
+
+    -- what the rows say of a type is what its attributes mean: type 5 under less than the most lists is a list of the family under one list more
+    module _ (keeps_list : (xs : List X) → attribute (label xs) ≡ record { kind = 5; value = list_string (map attribute xs) })
+        (owes : (c n : ℕ) → RowOwes attribute n (at c n)) where
+      abbrev meaning : ℕ → Attribute → Result X DecodeError
+      meaning c a = meaning_in f other (λ n. at c n) a
+
+      list_says : (a : Attribute) (levels : ℕ) → levels < 128 → masked a.kind ≡ 5 →
+          LookupSays f other attribute meaning a (lookup.Is shape.SelfList)
+          (row_meaning f other (row_of (Custom shape.SelfList (inner_codec f other attribute 5 label (λ k. table_row plain k) (λ k. level levels k)) label)) a)
+      list_says a levels below e = record {
+        plain = λ h. absurd h;
+        list = λ _. (128 - levels, subst (λ (n : ℕ). HoldsList attribute a (values (meaning_in f other (λ k. level n k)) (pieces a.value)) (labelled f (masked a.kind) label (inside (values (meaning_in f other (λ k. level levels k)) (pieces a.value))))) (omega (arith, below)) (go (values (meaning_in f other (λ k. level levels k)) (pieces a.value))));
+        peer = λ h. absurd (list_no_peer h);
+      }
+        where
+          go : (r : Result (List X) DecodeError) → HoldsList attribute a r (labelled f (masked a.kind) label (inside r))
+          go (Ok xs) = (label xs, refl, keeps_list xs ∙ ap (λ (n : ℕ). let b : Attribute = record { kind = n; value = list_string (map attribute xs) } in b) (sym e))
+          go (Err d) = refl
+
+      says_at : (levels : ℕ) (a : Attribute) → levels ≤ 128 → RowOwes attribute (masked a.kind) (level levels (masked a.kind)) →
+          LookupSays f other attribute meaning a (lookup_of (level_rows f other attribute 5 label (λ k. table_row plain k) levels (masked a.kind)))
+          (row_meaning f other (level levels (masked a.kind)) a)
+      says_at zero a le owed =
+          row_says f other attribute attribute (λ _. refl) meaning _ a (flat_unnested _ (elsewhere 0 (masked a.kind) (λ _. refl))) owed
+      says_at (suc levels) a le owed = go (masked a.kind == 5) refl owed
+        where
+          go : (b : Bool) → (masked a.kind == 5) ≡ b →
+              RowOwes attribute (masked a.kind) (row_of (row_if b (Custom shape.SelfList (inner_codec f other attribute 5 label (λ k. table_row plain k) (λ k. level levels k)) label) (table_row plain (masked a.kind)))) →
+              LookupSays f other attribute meaning a
+              (lookup_of (row_if b (Custom shape.SelfList (inner_codec f other attribute 5 label (λ k. table_row plain k) (λ k. level levels k)) label) (table_row plain (masked a.kind))))
+              (row_meaning f other (row_of (row_if b (Custom shape.SelfList (inner_codec f other attribute 5 label (λ k. table_row plain k) (λ k. level levels k)) label) (table_row plain (masked a.kind)))) a)
+          go true e h = list_says a levels (omega (arith, le)) (eqb-true (masked a.kind) 5 e)
+          go false e h = row_says f other attribute attribute (λ _. refl) meaning _ a (flat_unnested _ (table_flat attribute plain keeps (masked a.kind))) h
+
+      pub nested_says : (c : ℕ) (a : Attribute) →
+          LookupSays f other attribute meaning a (lookup_of (nested_rows f other attribute label plain c (masked a.kind))) (meaning_in f other (λ n. at c n) a)
+      unfolding meaning_in
+      nested_says c a = says_at (128 - c) a (omega arith) (owes c (masked a.kind))
 
   true_false : true ≡ false → ⊥
   true_false e = cc

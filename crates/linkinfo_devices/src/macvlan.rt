@@ -1,6 +1,6 @@
 //! Macvlan links.
 
-ghost use Rattle.linkinfo_devices.specs.MacVlan.{mac_vlan_attribute, mac_vlan_holds_list, mac_vlan_keep, mac_vlan_keeps, mac_vlan_owes, mac_vlan_plain_rows, mac_vlan_rows};
+ghost use Rattle.linkinfo_devices.specs.MacVlan.{mac_vlan_attribute, mac_vlan_holds_list, mac_vlan_keep, mac_vlan_keeps, mac_vlan_owes, mac_vlan_plain_rows, mac_vlan_rows, mac_vlan_says};
 ghost use Rattle.linkinfo_devices.specs.Nested.{LendsList, flat_elsewhere, list_alike, list_headers, list_means, list_needs_memory, nested_quarter};
 ghost use Rattle.linkinfo_devices.specs.declared.macvlan.InfoMacVlan as macvlan;
 ghost use Rattle.linkinfo_table.specs.FamilyRows.{IsMadeOf, SuitsFound, found_needs_memory, lookup_of, row_of, table_row};
@@ -195,6 +195,8 @@ impl LinkFamily for InfoMacVlan {
 
     ghost lookup = { λ c n. lookup_of (mac_vlan_rows c n) };
 
+    ghost keeping = { λ d. macvlan.Other d };
+
     ghost meaning = { λ c a. meaning_in family.MacVlan (λ d. macvlan.Other d) (λ n. row_of (mac_vlan_rows c n)) a };
 
     ghost needs_memory = { λ c a. memory_in (λ n. row_of (mac_vlan_rows c n)) a };
@@ -204,6 +206,10 @@ impl LinkFamily for InfoMacVlan {
     ghost alike = { λ c a b. alike_in (λ n. row_of (mac_vlan_rows c n)) a b };
 
     ghost well = { λ c x. WellFormed (λ d. macvlan.Other d) mac_vlan_attribute (λ n. row_of (mac_vlan_rows c n)) x };
+
+    ghost keeps = { λ d. mac_vlan_keep.other d };
+
+    ghost looked_up = { λ c a. mac_vlan_says c a };
 
     ghost alike_is = { λ c a b x y. flat_alike_is family.MacVlan (λ d. macvlan.Other d) mac_vlan_attribute (mac_vlan_rows c) (mac_vlan_owes c) mac_vlan_keep.other a b x y };
 

@@ -1,6 +1,6 @@
 //! Macvtap links. Their attributes have the types of those of macvlan links.
 
-ghost use Rattle.linkinfo_devices.specs.MacVtap.{mac_vtap_attribute, mac_vtap_holds_list, mac_vtap_keep, mac_vtap_keeps, mac_vtap_owes, mac_vtap_plain_rows, mac_vtap_rows};
+ghost use Rattle.linkinfo_devices.specs.MacVtap.{mac_vtap_attribute, mac_vtap_holds_list, mac_vtap_keep, mac_vtap_keeps, mac_vtap_owes, mac_vtap_plain_rows, mac_vtap_rows, mac_vtap_says};
 ghost use Rattle.linkinfo_devices.specs.Nested.{LendsList, flat_elsewhere, list_alike, list_headers, list_means, list_needs_memory, nested_quarter};
 ghost use Rattle.linkinfo_devices.specs.declared.macvtap.InfoMacVtap as macvtap;
 ghost use Rattle.linkinfo_table.specs.FamilyRows.{IsMadeOf, SuitsFound, found_needs_memory, lookup_of, row_of, table_row};
@@ -184,6 +184,8 @@ impl LinkFamily for InfoMacVtap {
 
     ghost lookup = { λ c n. lookup_of (mac_vtap_rows c n) };
 
+    ghost keeping = { λ d. macvtap.Other d };
+
     ghost meaning = { λ c a. meaning_in family.MacVtap (λ d. macvtap.Other d) (λ n. row_of (mac_vtap_rows c n)) a };
 
     ghost needs_memory = { λ c a. memory_in (λ n. row_of (mac_vtap_rows c n)) a };
@@ -193,6 +195,10 @@ impl LinkFamily for InfoMacVtap {
     ghost alike = { λ c a b. alike_in (λ n. row_of (mac_vtap_rows c n)) a b };
 
     ghost well = { λ c x. WellFormed (λ d. macvtap.Other d) mac_vtap_attribute (λ n. row_of (mac_vtap_rows c n)) x };
+
+    ghost keeps = { λ d. mac_vtap_keep.other d };
+
+    ghost looked_up = { λ c a. mac_vtap_says c a };
 
     ghost alike_is = { λ c a b x y. flat_alike_is family.MacVtap (λ d. macvtap.Other d) mac_vtap_attribute (mac_vtap_rows c) (mac_vtap_owes c) mac_vtap_keep.other a b x y };
 

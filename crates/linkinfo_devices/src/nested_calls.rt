@@ -88,6 +88,7 @@ pub fn nested_check<F: NestedFamily>(
     requires { count.old + length nla.now.value / 4 < 2 ^ 64 }
     ensures answer { result ≡ verdict (meaning_in F.FAMILY F.other (λ n. row_of (F.rows lists n)) nla.now) }
     ensures counted { count.new ≡ count.old + headers_inside (λ n. row_of (F.rows lists n)) nla.now }
+    ensures rises { count.old ≤ count.new }
     ensures quarter { 4 * count.new ≤ 4 * count.old + length nla.now.value }
 {
     if nla.kind() == LIST_TYPE && lists < MOST_LISTS {
@@ -108,6 +109,7 @@ fn nested_list_check<F: NestedFamily>(
     requires within { lists ≤ 128 }
     ensures answer { result ≡ verdict (values (meaning_in F.FAMILY F.other (λ n. row_of (F.rows lists n))) (pieces bytes.now)) }
     ensures counted { count.new ≡ count.old + headers_of (meaning_in F.FAMILY F.other (λ n. row_of (F.rows lists n))) (headers_inside (λ n. row_of (F.rows lists n))) (pieces bytes.now) }
+    ensures rises { count.old ≤ count.new }
     ensures quarter { 4 * count.new ≤ 4 * count.old + length bytes.now }
 {
     let mut rest = bytes;

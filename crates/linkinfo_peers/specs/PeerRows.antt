@@ -1,15 +1,18 @@
 -- Rows of a family with a peer: type 1 is the peer, and the other types have rows of shapes or none.
-use Rattle.std.specs.Prelude.{◌≡◌, ◌≢◌, ◌↔◌, ℕ, ◌==◌, Bool, true, false, List, ◌∷◌, Option, Some, Result, refl}
+use Rattle.std.specs.Prelude.{◌≡◌, ◌≢◌, ◌↔◌, ℕ, ◌==◌, Bool, true, false, List, ◌∷◌, Option, None, Some, Result, Err, refl}
 use Rattle.std.proofs.Common.{sym, ap, subst, cond, lit<, ◌∙◌}
 use Rattle.std.proofs.lemmas.Bool.{ne_eqb}
 use Rattle.nla_frame.specs.Attribute.{Attribute, IsBytes, masked}
 use Rattle.nla_frame.specs.declared.error.Family.{Family}
 use Rattle.nla_frame.specs.declared.error.DecodeError.{DecodeError}
+use Rattle.nla_frame.specs.declared.error.Cause.TheVariants as cause
 use Rattle.linkinfo_shapes.specs.Table.{found}
 use Rattle.linkinfo_shapes.specs.declared.shape.Shape.TheVariants as shape
 use Rattle.linkinfo_table.specs.Rows.{labelled}
-use Rattle.linkinfo_table.specs.FamilyRows.{FamilyRow, Custom, PlainRow, row_of, row_if, lookup_of, lookup_in, table_row, without_labels, IsFlat, RowOwes, EachKeeps}
+use Rattle.linkinfo_table.specs.FamilyRows.{FamilyRow, Custom, PlainRow, row_of, row_if, lookup_of, lookup_in, table_row, without_labels, IsFlat, IsUnnested, RowOwes, EachKeeps}
 use Rattle.linkinfo_table.specs.FamilyRowLaws.{row_if_owes, table_flat, table_lookup, table_owes}
+use Rattle.linkinfo_table.specs.LookupLaws.{flat_unnested}
+use Rattle.linkinfo_table.specs.Codecs.{Fault, Own}
 use Rattle.linkinfo_table.specs.Peers.{peer_codec, peer_is_codec, peer_or_fault}
 
 -- what an attribute means as a peer: the value of its peer, or the cause Peer
@@ -39,6 +42,18 @@ module _ {P F : Type 0} (meaning : List ℕ → Option P) (alike : List ℕ → 
     -- every other row has a shape, or is none
     pub flat_elsewhere : (n : ℕ) → n ≢ 1 → IsFlat (peer_rows plain n)
     flat_elsewhere n other = subst (λ (b : Bool). IsFlat (row_if b peer_row (table_row plain n))) (sym (ne_eqb n 1 other)) (table_flat attribute plain keeps n)
+
+    -- no attribute holds others, and the only fault of a peer is the cause Peer
+    only_peer : (o : Option P) (fault : Fault) → peer_or_fault o ≡ Err fault → fault ≡ Own cause.Peer
+    only_peer (Some x) fault h = absurd cc
+    only_peer None fault h = cc
+
+    pub peer_unnested : (n : ℕ) → IsUnnested (peer_rows plain n)
+    peer_unnested n = go (n == 1)
+      where
+        go : (b : Bool) → IsUnnested (row_if b peer_row (table_row plain n))
+        go true = (refl, λ p fault h. only_peer (meaning p) fault h)
+        go false = flat_unnested (table_row plain n) (table_flat attribute plain keeps n)
 
     -- what each row owes, from the laws of the peer and what the value of a peer shows
     pub peer_owes :

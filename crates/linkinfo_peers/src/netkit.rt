@@ -1,6 +1,6 @@
 //! Netkit links, which come in pairs: `IFLA_NETKIT_UNSPEC` and on, include/uapi/linux/if_link.h.
 
-ghost use Rattle.linkinfo_peers.specs.PeerRows.{flat_elsewhere, peer_owes};
+ghost use Rattle.linkinfo_peers.specs.PeerRows.{flat_elsewhere, peer_owes, peer_unnested};
 ghost use Rattle.linkinfo_peers.specs.Netkit.{is_by_default, netkit_attribute, netkit_is_custom, netkit_keeps, netkit_plain, netkit_rows, scrub_of};
 ghost use Rattle.linkinfo_peers.specs.declared.netkit.InfoNetkitOf.TheVariants as netkit;
 ghost use Rattle.linkinfo_table.specs.FamilyRows.{row_of};
@@ -202,6 +202,8 @@ impl<'a, P: LinkPeer> Parseable<NlaBuffer<'a>> for InfoNetkitOf<P> {
 
 impl<P: LinkPeer> UnnestedFamily for InfoNetkitOf<P> {
     ghost written = { λ _. refl };
+
+    ghost unnested = { λ _ n. peer_unnested P.meaning P.alike P.canonical P.well (λ peer. netkit.Peer peer) (netkit_attribute P.canonical) netkit_plain (netkit_keeps P.canonical) n };
 
     fn read_by_row(
         alloc: Global,

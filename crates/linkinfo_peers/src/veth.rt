@@ -1,6 +1,6 @@
 //! Veth links, which come in pairs: `VETH_INFO_UNSPEC` and on, include/uapi/linux/veth.h.
 
-ghost use Rattle.linkinfo_peers.specs.PeerRows.{flat_elsewhere, peer_owes};
+ghost use Rattle.linkinfo_peers.specs.PeerRows.{flat_elsewhere, peer_owes, peer_unnested};
 ghost use Rattle.linkinfo_peers.specs.Veth.{veth_attribute, veth_is_custom, veth_keeps, veth_plain, veth_rows};
 ghost use Rattle.linkinfo_peers.specs.declared.veth.InfoVethOf.TheVariants as veth;
 ghost use Rattle.linkinfo_table.specs.FamilyRows.{row_of};
@@ -125,6 +125,8 @@ impl<'a, P: LinkPeer> Parseable<NlaBuffer<'a>> for InfoVethOf<P> {
 
 impl<P: LinkPeer> UnnestedFamily for InfoVethOf<P> {
     ghost written = { λ _. refl };
+
+    ghost unnested = { λ _ n. peer_unnested P.meaning P.alike P.canonical P.well (λ peer. veth.Peer peer) (veth_attribute P.canonical) veth_plain (veth_keeps P.canonical) n };
 
     fn read_by_row(
         alloc: Global,

@@ -1,6 +1,6 @@
 //! Vxcan links, which come in pairs: `VXCAN_INFO_UNSPEC` and on, include/uapi/linux/can/vxcan.h.
 
-ghost use Rattle.linkinfo_peers.specs.PeerRows.{flat_elsewhere, peer_owes};
+ghost use Rattle.linkinfo_peers.specs.PeerRows.{flat_elsewhere, peer_owes, peer_unnested};
 ghost use Rattle.linkinfo_peers.specs.Vxcan.{vxcan_attribute, vxcan_is_custom, vxcan_rows};
 ghost use Rattle.linkinfo_peers.specs.declared.vxcan.InfoVxcanOf.TheVariants as vxcan;
 ghost use Rattle.linkinfo_table.specs.FamilyRows.{row_of};
@@ -129,6 +129,8 @@ impl<'a, P: LinkPeer> Parseable<NlaBuffer<'a>> for InfoVxcanOf<P> {
 
 impl<P: LinkPeer> UnnestedFamily for InfoVxcanOf<P> {
     ghost written = { λ _. refl };
+
+    ghost unnested = { λ _ n. peer_unnested P.meaning P.alike P.canonical P.well (λ peer. vxcan.Peer peer) (vxcan_attribute P.canonical) [] tt n };
 
     fn read_by_row(
         alloc: Global,

@@ -5,7 +5,7 @@ use Rattle.nla_frame.specs.declared.default_nla.DefaultNla.{DefaultNla}
 use Rattle.nla_frame.specs.declared.error.Cause.{Cause}
 use Rattle.nla_frame.specs.declared.error.Cause.TheVariants as cause
 use Rattle.linkinfo_shapes.specs.declared.shape.Shape.{Shape}
-use Rattle.linkinfo_shapes.specs.declared.shape.Shape.TheVariants.{Name, Raw}
+use Rattle.linkinfo_shapes.specs.declared.shape.Shape.TheVariants.{Name, Peer, Raw}
 use Rattle.linkinfo_shapes.specs.Shapes.{IsPlain, Carrier, means, canon, Holds, payload_alike, needs_memory}
 use Rattle.linkinfo_shapes.specs.Data.{Value, value_of, unwrap, written, Suits}
 use Rattle.linkinfo_table.specs.declared.lookup.Lookup.{Lookup}
@@ -59,6 +59,12 @@ abbrev pub IsFlat : {F : Type 0} → FamilyRow F → Type 0
 IsFlat (Plain shape label) = IsPlain shape
 IsFlat (Custom shape codec label) = ⊥
 IsFlat _ = Unit {0}
+
+-- a row that holds no attributes: one that the table of shapes reads, or a peer, of which the only fault is the cause Peer
+abbrev pub IsUnnested : {F : Type 0} → FamilyRow F → Type 0
+IsUnnested (Plain shape label) = IsPlain shape
+IsUnnested (Custom shape codec label) = (shape ≡ Peer) × ((p : List ℕ) (fault : Fault) → codec.means p ≡ Err fault → fault ≡ Own cause.Peer)
+IsUnnested _ = Unit {0}
 
 -- what a row owes
 abbrev pub RowOwes : {F : Type 0} → (F → Attribute) → ℕ → Row F → Type 0
@@ -159,3 +165,18 @@ Shows (part.Typed number shape datum) a is_custom =
     (a ≡ record { kind = number; value = written shape (value_of datum) }) × Suits shape (value_of datum) × (is_custom ≡ false)
 Shows (part.Kept nla) a is_custom = (a ≡ record { kind = nla.now.kind; value = nla.now.value }) × (is_custom ≡ false)
 Shows part.Custom a is_custom = is_custom ≡ true
+
+-- ---- equality of these data, whatever the places that they borrow from
+
+-- one type and one datum, or one attribute that is kept
+abbrev pub SameFound : Found → Found → Type 0
+SameFound (found.Typed n d) (found.Typed k e) = (n ≡ k) × (value_of d ≡ value_of e)
+SameFound (found.Kept x) (found.Kept y) = x ≡ y
+SameFound _ _ = ⊥
+
+-- the same of what a value shows, of a type, a shape and a datum
+abbrev pub SamePart : Part → Part → Type 0
+SamePart (part.Typed n s d) (part.Typed k t e) = (n ≡ k) × (s ≡ t) × (value_of d ≡ value_of e)
+SamePart (part.Kept x) (part.Kept y) = x.now ≡ y.now
+SamePart part.Custom part.Custom = Unit {0}
+SamePart _ _ = ⊥

@@ -17,6 +17,32 @@ use Rattle.linkinfo_table.specs.FamilyRowLaws.{owed}
 pub none_inside : (a : Attribute) → 4 * 0 ≤ length a.value
 none_inside a = omega arith
 
+-- no meaning is want of memory, whatever the rows
+module _ {F : Type 0} (f : Family) (other : DefaultNla → F) (canonical : F → Attribute) where
+  fault_no_memory : (n : ℕ) (fault : Fault) → fault ≢ Own cause.Memory → fault ≢ Inside memory_fault → fault_at f n fault ≢ memory_fault
+  fault_no_memory n (Own c) own inner h = own (ap Own (ap (λ (e : DecodeError). e.cause) h))
+  fault_no_memory n (Inside e) own inner h = inner (ap Inside h)
+
+  abbrev bad : DecodeError → Result F DecodeError
+  bad e = Err e
+
+  bad_same : (d e : DecodeError) → bad d ≡ bad e → d ≡ e
+  bad_same d e h = cc
+
+  row_no_memory : (r : Row F) (a : Attribute) → RowOwes canonical (masked a.kind) r → row_meaning f other r a ≢ Err memory_fault
+  row_no_memory (Is e) a owes k = go (e.codec.means a.value) (owes.codec.no_own_memory a.value) (owes.codec.no_inner_memory a.value) k
+    where
+      go : (r : Result e.codec.Carrier Fault) → r ≢ Err (Own cause.Memory) → r ≢ Err (Inside memory_fault) → labelled f (masked a.kind) e.label r ≢ Err memory_fault
+      go (Ok u) own inner k = absurd cc
+      go (Err fault) own inner k =
+          fault_no_memory (masked a.kind) fault (λ i. own (ap (λ (z : Fault). Err z) i)) (λ i. inner (ap (λ (z : Fault). Err z) i)) (bad_same _ _ k)
+  row_no_memory (Refused c) a owes k = owes (ap (λ (e : DecodeError). e.cause) (bad_same _ _ k))
+  row_no_memory Unknown a owes k = absurd cc
+
+  pub rows_no_memory : (rows : ℕ → Row F) → ((n : ℕ) → RowOwes canonical n (rows n)) → (a : Attribute) → meaning_in f other rows a ≢ Err memory_fault
+  unfolding meaning_in
+  rows_no_memory rows owes a k = row_no_memory (rows (masked a.kind)) a (owes (masked a.kind)) k
+
 module _ {F : Type 0} (f : Family) (other : DefaultNla → F) (canonical : F → Attribute) (rows : ℕ → FamilyRow F)
     (owes : (n : ℕ) → RowOwes canonical n (row_of (rows n)))
     (keeps_other : (d : DefaultNla) → canonical (other d) ≡ record { kind = d.kind; value = d.value }) where
@@ -32,34 +58,8 @@ module _ {F : Type 0} (f : Family) (other : DefaultNla → F) (canonical : F →
   pub flat_read_well : (a : Attribute) (x : F) → IsAttribute a → meaning_in f other at a ≡ Ok x → WellFormed other canonical at x
   flat_read_well a x i h = rows_read_well f other canonical at is_row keeps_other a x i h
 
-  -- no meaning is want of memory
-  fault_no_memory : (n : ℕ) (fault : Fault) → fault ≢ Own cause.Memory → fault ≢ Inside memory_fault → fault_at f n fault ≢ memory_fault
-  fault_no_memory n (Own c) own inner h = own (ap Own (ap (λ (e : DecodeError). e.cause) h))
-  fault_no_memory n (Inside e) own inner h = inner (ap Inside h)
-
-  abbrev bad : DecodeError → Result F DecodeError
-  bad e = Err e
-
-  bad_same : (d e : DecodeError) → bad d ≡ bad e → d ≡ e
-  bad_same d e h = cc
-
-  row_no_memory : (r : Row F) (a : Attribute) → at (masked a.kind) ≡ r → row_meaning f other r a ≢ Err memory_fault
-  row_no_memory (Is e) a h k =
-      let codec = (is_row (masked a.kind) e h).codec in
-      go (e.codec.means a.value) (codec.no_own_memory a.value) (codec.no_inner_memory a.value) k
-    where
-      go : (r : Result e.codec.Carrier Fault) → r ≢ Err (Own cause.Memory) → r ≢ Err (Inside memory_fault) → labelled f (masked a.kind) e.label r ≢ Err memory_fault
-      go (Ok u) own inner k = absurd cc
-      go (Err fault) own inner k =
-          fault_no_memory (masked a.kind) fault (λ i. own (ap (λ (z : Fault). Err z) i)) (λ i. inner (ap (λ (z : Fault). Err z) i)) (bad_same _ _ k)
-  row_no_memory (Refused c) a h k =
-      let never : c ≢ cause.Memory = subst (λ (r : Row F). RowOwes canonical (masked a.kind) r) h (owes (masked a.kind)) in
-      never (ap (λ (e : DecodeError). e.cause) (bad_same _ _ k))
-  row_no_memory Unknown a h k = absurd cc
-
   pub flat_no_memory : (a : Attribute) → meaning_in f other at a ≢ Err memory_fault
-  unfolding meaning_in
-  flat_no_memory a k = row_no_memory (at (masked a.kind)) a refl k
+  flat_no_memory a k = rows_no_memory f other canonical at owes a k
 
   -- what is written is the canonical attribute
   module _ (attribute : F → Attribute) (written : (x : F) → attribute x ≡ canonical x) where

@@ -7,9 +7,13 @@ pub mod Labels
 pub mod Levels
 pub mod ListLaws
 pub mod Lists
+pub mod LookupLaws
+pub mod Lookups
 pub mod Members
 pub mod PeerLaws
 pub mod Peers
+pub mod ReadingLaws
+pub mod Readings
 pub mod RowLaws
 pub mod Rows
 pub mod SelfList

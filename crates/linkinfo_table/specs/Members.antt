@@ -6,21 +6,16 @@ use Rattle.std.proofs.Common.{sym, ap, ◌∙◌, arith}
 use Rattle.nla_frame.specs.Attribute.{Attribute, IsAttribute, IsBytes, Fits, canonical_string}
 use Rattle.nla_frame.specs.Error.{memory_fault}
 use Rattle.nla_frame.specs.Pieces.{pieces, pieces_of, split}
-use Rattle.nla_frame.specs.declared.error.Family.{Family}
 use Rattle.nla_frame.specs.declared.error.DecodeError.{DecodeError}
-use Rattle.nla_frame.specs.declared.default_nla.DefaultNla.{DefaultNla}
 use Rattle.nla_frame.proofs.ByteLists.{IsBytes-canonical_string}
 use Rattle.nla_frame.proofs.Emitting.{one_fits}
 use Rattle.nla_frame.proofs.Framing.{split_is, splits_attributes}
 use Rattle.nla_frame.proofs.Stepping.{pieces_split, pieces_nil, seen_room, by_pieces}
+use Rattle.linkinfo_table.specs.declared.family.LinkFamily.{Ghosts}
 use Rattle.linkinfo_table.specs.Codecs.{Codec, IsCodec}
 use Rattle.linkinfo_table.specs.Lists.{first_meaning, first_headers, first_alike, first_memory}
 use Rattle.linkinfo_table.specs.ListLaws.{header_is_no_memory, first_read_well, first_well_reads}
 use Rattle.linkinfo_table.specs.SelfList.{inside, read_inside, not_own, not_inner, list_codec, list_is_codec}
-use Rattle.linkinfo_table.specs.Rows.{meaning_in, alike_in, memory_in, WellFormed}
-use Rattle.linkinfo_table.specs.FamilyRows.{FamilyRow, PlainRow, EachKeeps, table_row, row_of, RowOwes}
-use Rattle.linkinfo_table.specs.FamilyRowLaws.{table_owes}
-use Rattle.linkinfo_table.specs.FlatLaws.{flat_alike_is, none_inside, flat_no_memory, flat_read_well, flat_well_reads, flat_well_attribute}
 
 pub record Members (X : Type 0) : Type 1 where
   pub meaning : Attribute → Result X DecodeError
@@ -39,38 +34,16 @@ pub record IsFamily {X : Type 0} (f : Members X) : Type 0 where
   pub well_reads : (x : X) → f.well x → Fits (f.attribute x) → f.meaning (f.attribute x) ≡ Ok x
   pub well_attribute : (x : X) → f.well x → Fits (f.attribute x) → IsAttribute (f.attribute x)
 
--- a family that is given by rows, with no attribute inside another
-abbrev pub row_members : {X : Type 0} → Family → (DefaultNla → X) → (X → Attribute) → (ℕ → FamilyRow X) → Members X
-row_members family other attribute rows = record {
-  meaning = λ a. meaning_in family other (λ n. row_of (rows n)) a;
-  headers = λ _. 0;
-  alike = λ a b. alike_in (λ n. row_of (rows n)) a b;
-  needs_memory = λ a. memory_in (λ n. row_of (rows n)) a;
+-- what `LinkFamily` says under one context
+abbrev pub members_of : {X Context : Type 0} → Ghosts X Context → (X → Attribute) → Context → Members X
+members_of own attribute c = record {
+  meaning = own.meaning c;
+  headers = own.headers c;
+  alike = own.alike c;
+  needs_memory = own.needs_memory c;
   attribute = attribute;
-  well = λ x. WellFormed other attribute (λ n. row_of (rows n)) x;
+  well = own.well c;
 }
-
-pub row_members_lawful : {X : Type 0} (family : Family) (other : DefaultNla → X) (attribute : X → Attribute) (rows : ℕ → FamilyRow X) →
-    ((n : ℕ) → RowOwes attribute n (row_of (rows n))) → ((d : DefaultNla) → attribute (other d) ≡ record { kind = d.kind; value = d.value }) →
-    IsFamily (row_members family other attribute rows)
-row_members_lawful family other attribute rows owes keeps_other = record {
-  alike_is = λ a b x y. flat_alike_is family other attribute rows owes keeps_other a b x y;
-  quarter = λ a. none_inside a;
-  no_memory = λ a. flat_no_memory family other attribute rows owes keeps_other a;
-  read_well = λ a x. flat_read_well family other attribute rows owes keeps_other a x;
-  well_reads = λ x. flat_well_reads family other attribute rows owes keeps_other attribute (λ x. refl) x;
-  well_attribute = λ x. flat_well_attribute family other attribute rows owes keeps_other attribute (λ x. refl) x;
-}
-
--- a family that is given by a table
-abbrev pub table_members : {X : Type 0} → Family → (DefaultNla → X) → (X → Attribute) → List (PlainRow X) → Members X
-table_members family other attribute rows = row_members family other attribute (λ n. table_row rows n)
-
-pub table_members_lawful : {X : Type 0} (family : Family) (other : DefaultNla → X) (attribute : X → Attribute) (rows : List (PlainRow X)) →
-    EachKeeps attribute rows → ((d : DefaultNla) → attribute (other d) ≡ record { kind = d.kind; value = d.value }) →
-    IsFamily (table_members family other attribute rows)
-table_members_lawful family other attribute rows keeps keeps_other =
-    row_members_lawful family other attribute (λ n. table_row rows n) (λ n. table_owes attribute rows keeps n) keeps_other
 
 -- ---- a payload that is a list of attributes of the family
 

@@ -5,8 +5,11 @@ ghost use Rattle.std.specs.Bool.{OnTrue};
 ghost use Rattle.nla_frame.specs.Answers.{CertainUnless, Gives, OnAnswer, verdict};
 ghost use Rattle.nla_frame.specs.Attribute.{Attribute, Fits, IsAttribute, masked};
 ghost use Rattle.nla_frame.specs.Error.{memory_fault};
+ghost use Rattle.nla_frame.specs.Kept.{attribute_of};
+ghost use Rattle.nla_frame.specs.declared.default_nla.DefaultNla.{DefaultNla};
 ghost use Rattle.nla_frame.specs.declared.error.DecodeError.{DecodeError};
 ghost use Rattle.nla_frame.specs.declared.error.Family.{Family};
+ghost use Rattle.linkinfo_table.specs.Lookups.{LookupSays};
 ghost use Rattle.linkinfo_table.specs.declared.lookup.Lookup.{Lookup};
 
 use crate::lookup::Lookup;
@@ -26,6 +29,9 @@ pub trait LinkFamily: Nla + Sized + Drop {
 
     /// What the family says of a masked type.
     ghost lookup: { Self.Context → ℕ → Lookup };
+
+    /// The value that keeps an attribute of an unknown type.
+    ghost keeping: { DefaultNla → Self };
 
     /// What an attribute means: a value, or its fault.
     ghost meaning: { Self.Context → Attribute → Result Self DecodeError };
@@ -68,7 +74,9 @@ pub trait LinkFamily: Nla + Sized + Drop {
     ) -> Result<(), DecodeError>
         requires { count.old + length nla.now.value / 4 < 2 ^ 64 }
         ensures answer { result ≡ verdict (meaning ctx nla.now) }
-        ensures counted { count.new ≡ count.old + headers ctx nla.now };
+        ensures counted { count.new ≡ count.old + headers ctx nla.now }
+        ensures rises { count.old ≤ count.new }
+        ensures quarter { 4 * count.new ≤ 4 * count.old + length nla.now.value };
 
     /// Whether two attributes mean the same value. Asks that each means one, and takes no memory.
     fn same_value(
@@ -84,6 +92,10 @@ pub trait LinkFamily: Nla + Sized + Drop {
         ensures counted { OnTrue result (count.new ≡ count.old + (headers ctx a.now + headers ctx b.now)) }
         ensures rises { count.old ≤ count.new }
         ensures quarter { 4 * count.new ≤ 4 * count.old + (length a.now.value + length b.now.value) };
+
+    ghost keeps: { (nla : DefaultNla) → Self.attribute (keeping nla) ≡ attribute_of nla };
+
+    ghost looked_up: { (c : Self.Context) (a : Attribute) → LookupSays FAMILY keeping Self.attribute meaning a (lookup c (masked a.kind)) (meaning c a) };
 
     ghost alike_is: { (c : Self.Context) (a b : Attribute) (x y : Self) → IsAttribute a → IsAttribute b → meaning c a ≡ Ok x → meaning c b ≡ Ok y → (alike c a b ≡ true) ↔ (x ≡ y) };
 

@@ -51,6 +51,7 @@ pub fn first_check<F: LinkFamily>(
     requires { count.old + length bytes.now / 4 < 2 ^ 64 }
     ensures answer { result ≡ verdict (first_meaning (F.meaning ctx) (pieces bytes.now)) }
     ensures counted { count.new ≡ count.old + first_headers (F.headers ctx) (pieces bytes.now) }
+    ensures rises { count.old ≤ count.new }
     ensures quarter { 4 * count.new ≤ 4 * count.old + length bytes.now }
 {
     match next_piece(bytes, count) {

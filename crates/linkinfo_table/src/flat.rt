@@ -1,5 +1,7 @@
 //! A family of which each row has a shape of the table reads, checks and compares by that shape alone.
 
+ghost use Rattle.linkinfo_table.specs.LookupLaws.{flat_unnested};
+
 use crate::row_family::{FlatFamily, RowFamily};
 use crate::rows::{row_check, row_read, row_same};
 use crate::unnested::UnnestedFamily;
@@ -8,6 +10,8 @@ use std::alloc::Global;
 
 impl<F: FlatFamily> UnnestedFamily for F {
     ghost written = { F.written };
+
+    ghost unnested = { λ c n. flat_unnested (F.rows c n) (F.flat c n) };
 
     fn read_by_row(
         alloc: Global,

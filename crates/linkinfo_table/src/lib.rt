@@ -7,6 +7,7 @@ mod flat;
 mod found;
 pub mod laws;
 mod list;
+mod listed;
 mod lookup;
 mod part;
 pub mod parts;
@@ -25,6 +26,7 @@ pub use linkinfo_shapes::{
     Datum, Shape, datum_len, read_datum, shape_check, shape_same, table_shape, write_datum,
 };
 pub use list::{list_check, list_read, list_same};
+pub use listed::ListedFamily;
 pub use lookup::Lookup;
 pub use part::Part;
 pub use peer::{LinkPeer, PeerFault};

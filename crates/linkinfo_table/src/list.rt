@@ -44,6 +44,7 @@ pub fn list_check<F: LinkFamily>(
     requires { count.old + length bytes.now / 4 < 2 ^ 64 }
     ensures answer { result ≡ verdict (values (F.meaning ctx) (pieces bytes.now)) }
     ensures counted { count.new ≡ count.old + headers_of (F.meaning ctx) (F.headers ctx) (pieces bytes.now) }
+    ensures rises { count.old ≤ count.new }
     ensures quarter { 4 * count.new ≤ 4 * count.old + length bytes.now }
 {
     let mut rest = bytes;

@@ -4,7 +4,7 @@ use linkinfo_shapes::{Datum, Shape};
 use nla_frame::DefaultNla;
 
 /// The parts that a value is written from.
-#[derive(Clone, Copy, Debug)]
+#[derive(Clone, Copy, Debug, PartialEq, Eq)]
 pub enum Part<'a> {
     /// A type number, its shape, and the datum.
     Typed(u16, Shape, Datum<'a>),

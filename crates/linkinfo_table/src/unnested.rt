@@ -1,8 +1,11 @@
 //! A family by rows of which no attribute holds others is a `LinkFamily`.
 
-ghost use Rattle.std.specs.Prelude.{◌≡◌, IsOk};
+ghost use Rattle.std.specs.Prelude.{◌≡◌, ℕ, IsOk};
+ghost use Rattle.std.proofs.Common.{◌∙◌};
 ghost use Rattle.nla_frame.specs.Answers.{CertainUnless, Gives, verdict};
-ghost use Rattle.linkinfo_table.specs.FamilyRows.{lookup_of, row_of};
+ghost use Rattle.nla_frame.specs.Attribute.{masked};
+ghost use Rattle.linkinfo_table.specs.FamilyRows.{IsUnnested, lookup_of, row_of};
+ghost use Rattle.linkinfo_table.specs.LookupLaws.{rows_say};
 ghost use Rattle.linkinfo_table.specs.Rows.{alike_in, meaning_in, memory_in, WellFormed};
 ghost use Rattle.linkinfo_table.specs.FlatLaws.{flat_alike_is, none_inside, flat_no_memory, flat_read_well, flat_well_reads, flat_well_attribute};
 
@@ -38,6 +41,8 @@ pub trait UnnestedFamily: RowFamily + Nla {
         ensures { result ≡ alike_in (λ n. row_of (Self.rows ctx n)) a.now b.now };
 
     ghost written: { (x : Self) → Self.attribute x ≡ Self.canonical x };
+
+    ghost unnested: { (c : Self.Context) (n : ℕ) → IsUnnested (Self.rows c n) };
 }
 
 impl<F: UnnestedFamily> LinkFamily for F {
@@ -49,6 +54,8 @@ impl<F: UnnestedFamily> LinkFamily for F {
 
     ghost lookup = { λ c n. lookup_of (F.rows c n) };
 
+    ghost keeping = { F.other };
+
     ghost meaning = { λ c a. meaning_in F.RowFamily.FAMILY F.other (λ n. row_of (F.rows c n)) a };
 
     ghost needs_memory = { λ c a. memory_in (λ n. row_of (F.rows c n)) a };
@@ -58,6 +65,10 @@ impl<F: UnnestedFamily> LinkFamily for F {
     ghost alike = { λ c a b. alike_in (λ n. row_of (F.rows c n)) a b };
 
     ghost well = { λ c x. WellFormed F.other F.canonical (λ n. row_of (F.rows c n)) x };
+
+    ghost keeps = { λ nla. F.written (F.other nla) ∙ F.keeps_other nla };
+
+    ghost looked_up = { λ c a. rows_say F.RowFamily.FAMILY F.other F.canonical F.attribute F.written (λ d b. meaning_in F.RowFamily.FAMILY F.other (λ n. row_of (F.rows d n)) b) (F.rows c) a (F.unnested c (masked a.kind)) (F.owes c (masked a.kind)) };
 
     ghost alike_is = { λ c a b x y. flat_alike_is F.RowFamily.FAMILY F.other F.canonical (F.rows c) (F.owes c) F.keeps_other a b x y };
 

@@ -1,8 +1,9 @@
 //! The answers to the lines of an input.
 
-ghost use Rattle.std.specs.Prelude.{◌≡◌, ◌++◌, [], ◌∷◌, if◌then◌else◌, Some, None, IfOk, OnOk, length, map};
+ghost use Rattle.std.specs.Prelude.{◌≡◌, ◌≢◌, ◌++◌, [], ◌∷◌, if◌then◌else◌, Some, None, IfOk, OnOk, length, map};
 ghost use Rattle.hex.specs.Hex.{encode_lower};
 ghost use Rattle.nla_frame.specs.Attribute.{ListFits, list_string};
+ghost use Rattle.nla_frame.specs.Error.{memory_fault};
 ghost use Rattle.linkinfo.specs.BytesPeer.{bytes_peer};
 ghost use Rattle.linkinfo.specs.Items.{link_attribute};
 ghost use Rattle.linkinfo_tool.specs.Answers.{answer_of, bad_line, bytes_of, canon_answer, canonical_text, check_answer, comparison_answer, fault_text, line_answer, on_two, words_answer};
@@ -155,7 +156,9 @@ impl Answers {
         }
     }
 
+    /// Adds a fault of the input: want of memory is none, and is never written.
     fn push_fault(&mut self, fault: DecodeError) -> Result<(), AllocError>
+        requires { fault ≢ memory_fault }
         ensures { OnOk result (self.new.text.items ≡ self.old.text.items ++ fault_text fault) }
     {
         write!(self.text, "err {fault}").map_err(|_| AllocError)

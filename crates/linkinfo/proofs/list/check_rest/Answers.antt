@@ -5,40 +5,41 @@ use Rattle.linkinfo.specs.Strings.{headers_from}
 use Rattle.linkinfo.specs.Walks.{left}
 use Rattle.linkinfo.proofs.Steps.{entered, stopped, checked_value, checked_fault, checked_on, checked_off}
 use Rattle.linkinfo.proofs.list.check_rest.Goals as goal
+use Rattle.linkinfo.specs.PeerFamilies.{families_of}
 
 pub returns-in_err-nla-clause-answer : goal.returns-in_err-nla-clause-answer
 returns-in_err-nla-clause-answer g c =
-    let stop = stopped g.P.LinkPeer _ _ _ (rw c.in_err-nla.was at c.in-Some.ensures.step) in
+    let stop = stopped (families_of g.row.P g.P.LinkPeer) _ _ _ (rw c.in_err-nla.was at c.in-Some.ensures.step) in
     let same = sym c.loop-next.invariant.answer ∙ ap verdict stop.values in
     search rules
 
 pub returns-in_err-nla-clause-counted : goal.returns-in_err-nla-clause-counted
 returns-in_err-nla-clause-counted g c =
-    let stop = stopped g.P.LinkPeer _ _ _ (rw c.in_err-nla.was at c.in-Some.ensures.step) in
+    let stop = stopped (families_of g.row.P g.P.LinkPeer) _ _ _ (rw c.in_err-nla.was at c.in-Some.ensures.step) in
     omega (arith, stop.headers, c.loop-next.invariant.counted)
 
 pub returns-in_err-nla-clause-quarter : goal.returns-in_err-nla-clause-quarter
 returns-in_err-nla-clause-quarter g c =
-    let stop = stopped g.P.LinkPeer _ _ _ (rw c.in_err-nla.was at c.in-Some.ensures.step) in
+    let stop = stopped (families_of g.row.P g.P.LinkPeer) _ _ _ (rw c.in_err-nla.was at c.in-Some.ensures.step) in
     omega (arith, stop.room, c.loop-next.invariant.room)
 
 pub loop-next-preserved : goal.loop-next-preserved
 loop-next-preserved g c =
-    let step = entered g.P.LinkPeer _ _ _ _ (rw c.in_ok-nla.was at c.in-Some.ensures.step) in
+    let step = entered (families_of g.row.P g.P.LinkPeer) _ _ _ _ (rw c.in_ok-nla.was at c.in-Some.ensures.step) in
     let inv = c.loop-next.invariant in
     record {
       answer = checked_value _ _ _ _ inv.answer step.values c.in_ok-check_item.ensures.answer;
-      counted = omega (arith, inv.counted, step.headers, checked_on _ (headers_from g.P.LinkPeer c.advance.new.self.force (pieces (left c.advance.new.self))) c.in_ok-check_item.ensures.answer, step.examined, c.in_ok-check_item.ensures.counted);
+      counted = omega (arith, inv.counted, step.headers, checked_on _ (headers_from (families_of g.row.P g.P.LinkPeer) c.advance.new.self.force (pieces (left c.advance.new.self))) c.in_ok-check_item.ensures.answer, step.examined, c.in_ok-check_item.ensures.counted);
       room = omega (arith, inv.room, step.room, step.examined, c.in_ok-check_item.ensures.quarter);
     }
 
 pub returns-in_err-check_item-clause-answer : goal.returns-in_err-check_item-clause-answer
 returns-in_err-check_item-clause-answer g c =
-    let step = entered g.P.LinkPeer _ _ _ _ (rw c.in_ok-nla.was at c.in-Some.ensures.step) in
+    let step = entered (families_of g.row.P g.P.LinkPeer) _ _ _ _ (rw c.in_ok-nla.was at c.in-Some.ensures.step) in
     let same = checked_fault _ _ _ _ _ c.loop-next.invariant.answer step.values c.in_err-check_item.ensures.answer in
     search rules
 
 pub returns-in_err-check_item-clause-counted : goal.returns-in_err-check_item-clause-counted
 returns-in_err-check_item-clause-counted g c =
-    let step = entered g.P.LinkPeer _ _ _ _ (rw c.in_ok-nla.was at c.in-Some.ensures.step) in
-    omega (arith, c.loop-next.invariant.counted, step.headers, step.examined, c.in_err-check_item.ensures.counted, checked_off _ _ (headers_from g.P.LinkPeer c.advance.new.self.force (pieces (left c.advance.new.self))) c.in_err-check_item.ensures.answer)
+    let step = entered (families_of g.row.P g.P.LinkPeer) _ _ _ _ (rw c.in_ok-nla.was at c.in-Some.ensures.step) in
+    omega (arith, c.loop-next.invariant.counted, step.headers, step.examined, c.in_err-check_item.ensures.counted, checked_off _ _ (headers_from (families_of g.row.P g.P.LinkPeer) c.advance.new.self.force (pieces (left c.advance.new.self))) c.in_err-check_item.ensures.answer)

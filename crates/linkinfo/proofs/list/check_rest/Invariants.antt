@@ -4,10 +4,11 @@ use Rattle.nla_frame.specs.Pieces.{pieces}
 use Rattle.linkinfo.specs.Strings.{headers_from, values_from}
 use Rattle.linkinfo.specs.Walks.{left}
 use Rattle.linkinfo.proofs.list.check_rest.Given as goal
+use Rattle.linkinfo.specs.PeerFamilies.{families_of}
 
 abbrev pub invariant-loop-next : goal.invariant-loop-next
 invariant-loop-next g l =
-    let peer = g.P.LinkPeer in
+    let peer = families_of g.row.P g.P.LinkPeer in
     let first = l.initial.walk in
     record {
       answer : verdict (values_from peer l.walk.force (pieces (left l.walk))) ≡ verdict (values_from peer first.force (pieces (left first)));

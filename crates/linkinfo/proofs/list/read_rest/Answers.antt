@@ -4,52 +4,53 @@ use Rattle.linkinfo.specs.Strings.{headers_from}
 use Rattle.linkinfo.specs.Walks.{left}
 use Rattle.linkinfo.proofs.Steps.{entered, stopped, on_value, on_fault, on_fault_unless, counted_fault, headers_on, needs_off, value_needs}
 use Rattle.linkinfo.proofs.list.read_rest.Goals as goal
+use Rattle.linkinfo.specs.PeerFamilies.{families_of}
 
 pub returns-in_err-nla-clause-answer : goal.returns-in_err-nla-clause-answer
-returns-in_err-nla-clause-answer g c = let stop = stopped g.P.LinkPeer _ _ _ (rw c.in_err-nla.was at c.in-Some.ensures.step) in search rules
+returns-in_err-nla-clause-answer g c = let stop = stopped (families_of g.row.P g.P.LinkPeer) _ _ _ (rw c.in_err-nla.was at c.in-Some.ensures.step) in search rules
 
 pub returns-in_err-nla-clause-certain : goal.returns-in_err-nla-clause-certain
-returns-in_err-nla-clause-certain g c = let stop = stopped g.P.LinkPeer _ _ _ (rw c.in_err-nla.was at c.in-Some.ensures.step) in search rules
+returns-in_err-nla-clause-certain g c = let stop = stopped (families_of g.row.P g.P.LinkPeer) _ _ _ (rw c.in_err-nla.was at c.in-Some.ensures.step) in search rules
 
 pub returns-in_err-nla-clause-counted : goal.returns-in_err-nla-clause-counted
-returns-in_err-nla-clause-counted g c = let stop = stopped g.P.LinkPeer _ _ _ (rw c.in_err-nla.was at c.in-Some.ensures.step) in search (rules, arith)
+returns-in_err-nla-clause-counted g c = let stop = stopped (families_of g.row.P g.P.LinkPeer) _ _ _ (rw c.in_err-nla.was at c.in-Some.ensures.step) in search (rules, arith)
 
 pub returns-in_err-nla-clause-quarter : goal.returns-in_err-nla-clause-quarter
 returns-in_err-nla-clause-quarter g c =
-    let stop = stopped g.P.LinkPeer _ _ _ (rw c.in_err-nla.was at c.in-Some.ensures.step) in
+    let stop = stopped (families_of g.row.P g.P.LinkPeer) _ _ _ (rw c.in_err-nla.was at c.in-Some.ensures.step) in
     omega (arith, stop.room, c.loop-next.invariant.room)
 
 pub loop-next-preserved : goal.loop-next-preserved
 loop-next-preserved g c =
-    let step = entered g.P.LinkPeer _ _ _ _ (rw c.in_ok-nla.was at c.in-Some.ensures.step) in
+    let step = entered (families_of g.row.P g.P.LinkPeer) _ _ _ _ (rw c.in_ok-nla.was at c.in-Some.ensures.step) in
     let read = c.in-Ok.ensures.answer in
     let counted = c.in-Ok.ensures.counted in
     let inv = c.loop-next.invariant in
     record {
       answer = on_value _ _ _ _ _ _ _ inv.answer step.values read c.in_ok-push-in-Ok.ensures.items;
       certain = λ none. absurd (value_needs _ _ _ _ step.memory read (inv.certain none));
-      counted = omega (arith, inv.counted, step.headers, headers_on _ _ (headers_from g.P.LinkPeer c.advance.new.self.force (pieces (left c.advance.new.self))) read, step.examined, counted);
+      counted = omega (arith, inv.counted, step.headers, headers_on _ _ (headers_from (families_of g.row.P g.P.LinkPeer) c.advance.new.self.force (pieces (left c.advance.new.self))) read, step.examined, counted);
       rises = omega (arith, inv.rises, step.examined, c.in-Ok.ensures.rises);
       room = omega (arith, inv.room, step.room, step.examined, c.in-Ok.ensures.quarter);
     }
 
 pub returns-in-Err-clause-answer : goal.returns-in-Err-clause-answer
 returns-in-Err-clause-answer g c =
-    let step = entered g.P.LinkPeer _ _ _ _ (rw c.in_ok-nla.was at c.in-Some.ensures.step) in
+    let step = entered (families_of g.row.P g.P.LinkPeer) _ _ _ _ (rw c.in_ok-nla.was at c.in-Some.ensures.step) in
     on_fault_unless _ _ _ _ _ _ c.loop-next.invariant.answer step.values c.in-Err.ensures.answer
 
 pub returns-in-Err-clause-certain : goal.returns-in-Err-clause-certain
 returns-in-Err-clause-certain g c = λ none.
-    let step = entered g.P.LinkPeer _ _ _ _ (rw c.in_ok-nla.was at c.in-Some.ensures.step) in
+    let step = entered (families_of g.row.P g.P.LinkPeer) _ _ _ _ (rw c.in_ok-nla.was at c.in-Some.ensures.step) in
     on_fault _ _ _ _ _ _ c.loop-next.invariant.answer step.values
     (c.in-Err.ensures.certain (needs_off _ _ _ step.memory (c.loop-next.invariant.certain none)))
 
 pub returns-in-Err-clause-counted : goal.returns-in-Err-clause-counted
 returns-in-Err-clause-counted g c =
-    let step = entered g.P.LinkPeer _ _ _ _ (rw c.in_ok-nla.was at c.in-Some.ensures.step) in
+    let step = entered (families_of g.row.P g.P.LinkPeer) _ _ _ _ (rw c.in_ok-nla.was at c.in-Some.ensures.step) in
     counted_fault _ _ _ _ _ _ _ _ _ _ c.loop-next.invariant.counted step.headers step.examined c.in-Err.ensures.answer c.in-Err.ensures.counted
 
 pub returns-in_err-push-in-Ok-clause-certain : goal.returns-in_err-push-in-Ok-clause-certain
 returns-in_err-push-in-Ok-clause-certain g c = λ none.
-    let step = entered g.P.LinkPeer _ _ _ _ (rw c.in_ok-nla.was at c.in-Some.ensures.step) in
+    let step = entered (families_of g.row.P g.P.LinkPeer) _ _ _ _ (rw c.in_ok-nla.was at c.in-Some.ensures.step) in
     absurd (value_needs _ _ _ _ step.memory c.in-Ok.ensures.answer (c.loop-next.invariant.certain none))

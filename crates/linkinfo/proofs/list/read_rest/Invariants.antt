@@ -4,10 +4,11 @@ use Rattle.linkinfo_table.specs.Lists.{behind}
 use Rattle.linkinfo.specs.Strings.{headers_from, memory_from, values_from}
 use Rattle.linkinfo.specs.Walks.{left}
 use Rattle.linkinfo.proofs.list.read_rest.Given as goal
+use Rattle.linkinfo.specs.PeerFamilies.{families_of}
 
 abbrev pub invariant-loop-next : goal.invariant-loop-next
 invariant-loop-next g l =
-    let peer = g.P.LinkPeer in
+    let peer = families_of g.row.P g.P.LinkPeer in
     let first = l.initial.walk in
     record {
       answer : behind l.items.items (values_from peer l.walk.force (pieces (left l.walk))) ≡ values_from peer first.force (pieces (left first));

@@ -6,27 +6,28 @@ use Rattle.linkinfo.specs.declared.role.InForce.{InForce}
 use Rattle.linkinfo.specs.Strings.{values_from, headers_from, alike_from}
 use Rattle.linkinfo.proofs.Pairs.{paired, entered_is, apart, along, on_true}
 use Rattle.linkinfo.proofs.list.same_strings.Goals as goal
+use Rattle.linkinfo.specs.PeerFamilies.{families_of}
 
 pub same_item-requires-clause-first : goal.same_item-requires-clause-first
 same_item-requires-clause-first g c =
     let on_x = rw c.unwrap-p.ensures at c.in-Some.ensures in
     let on_y = rw c.unwrap-q.ensures at c.in-Some-next_piece.ensures in
     let inv = c.loop-next.invariant in
-    (paired g.P.LinkPeer _ _ _ _ _ _ _ _ _ c.role_of-role.ensures c.kind.ensures on_x.pieces_are on_y.pieces_are inv.first inv.second).first
+    (paired (families_of g.row.P g.P.LinkPeer) _ _ _ _ _ _ _ _ _ c.role_of-role.ensures c.kind.ensures on_x.pieces_are on_y.pieces_are inv.first inv.second).first
 
 pub same_item-requires-clause-second : goal.same_item-requires-clause-second
 same_item-requires-clause-second g c =
     let on_x = rw c.unwrap-p.ensures at c.in-Some.ensures in
     let on_y = rw c.unwrap-q.ensures at c.in-Some-next_piece.ensures in
     let inv = c.loop-next.invariant in
-    (paired g.P.LinkPeer _ _ _ _ _ _ _ _ _ c.role_of-role.ensures c.kind.ensures on_x.pieces_are on_y.pieces_are inv.first inv.second).second
+    (paired (families_of g.row.P g.P.LinkPeer) _ _ _ _ _ _ _ _ _ c.role_of-role.ensures c.kind.ensures on_x.pieces_are on_y.pieces_are inv.first inv.second).second
 
 pub unwrap-force-requires : goal.unwrap-force-requires
 unwrap-force-requires g c =
     let on_x = rw c.unwrap-p.ensures at c.in-Some.ensures in
     let on_y = rw c.unwrap-q.ensures at c.in-Some-next_piece.ensures in
     let inv = c.loop-next.invariant in
-    let pair = paired g.P.LinkPeer _ _ _ _ _ _ _ _ _ c.role_of-role.ensures c.kind.ensures on_x.pieces_are on_y.pieces_are inv.first inv.second in
+    let pair = paired (families_of g.row.P g.P.LinkPeer) _ _ _ _ _ _ _ _ _ c.role_of-role.ensures c.kind.ensures on_x.pieces_are on_y.pieces_are inv.first inv.second in
     subst (λ (r : Result InForce DecodeError). IsOk r) (sym c.behind.ensures) pair.clean
 
 pub returns-then-not-same_item-clause-same : goal.returns-then-not-same_item-clause-same
@@ -34,7 +35,7 @@ returns-then-not-same_item-clause-same g c =
     let on_x = rw c.unwrap-p.ensures at c.in-Some.ensures in
     let on_y = rw c.unwrap-q.ensures at c.in-Some-next_piece.ensures in
     let inv = c.loop-next.invariant in
-    let pair = paired g.P.LinkPeer _ _ _ _ _ _ _ _ _ c.role_of-role.ensures c.kind.ensures on_x.pieces_are on_y.pieces_are inv.first inv.second in
+    let pair = paired (families_of g.row.P g.P.LinkPeer) _ _ _ _ _ _ _ _ _ c.role_of-role.ensures c.kind.ensures on_x.pieces_are on_y.pieces_are inv.first inv.second in
     sym (sym inv.same ∙ pair.same ∙ apart _ _ (sym c.same_item.ensures.same ∙ c.if-not-same_item.true))
 
 pub loop-next-preserved : goal.loop-next-preserved
@@ -42,8 +43,8 @@ loop-next-preserved g c =
     let on_x = rw c.unwrap-p.ensures at c.in-Some.ensures in
     let on_y = rw c.unwrap-q.ensures at c.in-Some-next_piece.ensures in
     let inv = c.loop-next.invariant in
-    let pair = paired g.P.LinkPeer _ _ _ _ _ _ _ _ _ c.role_of-role.ensures c.kind.ensures on_x.pieces_are on_y.pieces_are inv.first inv.second in
-    let peer = g.P.LinkPeer in
+    let pair = paired (families_of g.row.P g.P.LinkPeer) _ _ _ _ _ _ _ _ _ c.role_of-role.ensures c.kind.ensures on_x.pieces_are on_y.pieces_are inv.first inv.second in
+    let peer = families_of g.row.P g.P.LinkPeer in
     let alike = sym c.same_item.ensures.same ∙ c.if-not-same_item.false in
     let force = entered_is peer _ _ _ _ _ c.role_of-role.ensures c.kind.ensures (sym c.behind.ensures ∙ c.unwrap-force.ensures) in
     let other = sym (pair.goes_on alike) ∙ force in
