@@ -9,10 +9,11 @@ use Rattle.linkinfo_numbers.specs.declared.names.KindTag.{KindTag}
 use Rattle.linkinfo_numbers.specs.declared.names.PortTag.{PortTag}
 use Rattle.linkinfo_numbers.specs.Kind.{kind_of_name, tag_of_name}
 use Rattle.linkinfo_numbers.specs.PortKind.{port_kind_of_name, port_tag_of_name}
-use Rattle.linkinfo_shapes.specs.Shapes.{means, stripped}
+use Rattle.linkinfo_shapes.specs.Shapes.{means}
 use Rattle.linkinfo_shapes.specs.declared.shape.Shape.TheVariants.{Name}
 use Rattle.nla_frame.specs.Attribute.{Attribute, IsBytes, masked}
 use Rattle.nla_frame.specs.Kept.{kept}
+use Rattle.nla_frame.specs.Payload.{stripped}
 use Rattle.nla_frame.specs.Pieces.{pieces_of}
 use Rattle.nla_frame.specs.declared.error.Cause.TheVariants as cause
 use Rattle.nla_frame.specs.declared.error.Family.TheVariants as family
