@@ -10,6 +10,8 @@ pub mod Lists
 pub mod Members
 pub mod PeerLaws
 pub mod Peers
+pub mod ReadingLaws
+pub mod Readings
 pub mod RowLaws
 pub mod Rows
 pub mod SelfList
