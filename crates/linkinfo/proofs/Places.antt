@@ -1,4 +1,4 @@
--- What is read is what is framed and means so, and the kinds in force are found by place.
+-- The kinds in force are found by place, and unknown attributes are kept.
 use Rattle.std.proofs.Common.{◌≡◌, ℕ, zero, suc, Bool, true, false, cond, eqb, ◌||◌, List, [], ◌∷◌, map, refl, sym, ap, subst, ◌∙◌, Result, Ok, Err, Option, Some, None}
 use Rattle.std.proofs.Common.{arith}
 use Rattle.std.specs.Prelude.{◌↔◌}
@@ -36,34 +36,6 @@ use Rattle.linkinfo.specs.declared.walk.LinkInfoItem.{LinkInfoItem}
 use Rattle.linkinfo.proofs.Items.{name_read, unknown_from_six}
 
 module _ {P : Type 0} (peer : Ghosts P) where
-  abbrev good : List (LinkInfoOf P) → Result (List (LinkInfoOf P)) DecodeError
-  good xs = Ok xs
-
-  good_same : (xs ys : List (LinkInfoOf P)) → good xs ≡ good ys → xs ≡ ys
-  good_same xs ys e = cc
-
-  means_each : (t : InForce) (front : List Attribute) (xs : List (LinkInfoOf P)) → values_from peer t (pieces_of front []) ≡ Ok xs → MeansEach peer t front xs
-  means_each t [] [] e = tt
-  means_each t [] (x ∷ xs) e = absurd cc
-  means_each t (a ∷ more) xs e =
-      let p = reads (link_meaning peer) force_after t a (pieces_of more []) xs e in
-      subst (λ (ys : List (LinkInfoOf P)). MeansEach peer t (a ∷ more) ys) (sym p.whole) (p.first, means_each (force_after t a) more p.xs p.others)
-
-  each_read : (t : InForce) (front : List Attribute) (xs : List (LinkInfoOf P)) → MeansEach peer t front xs → values_from peer t (pieces_of front []) ≡ Ok xs
-  each_read t [] [] h = refl
-  each_read t [] (x ∷ xs) h = absurd h
-  each_read t (a ∷ more) [] h = absurd h
-  each_read t (a ∷ more) (x ∷ xs) h = together (link_meaning peer) force_after t a (pieces_of more []) x xs h.0 (each_read (force_after t a) more xs h.1)
-
-  pub reading_means : (s : List ℕ) (xs : List (LinkInfoOf P)) → IsBytes s → (reading peer s ≡ Ok xs) ↔ Means peer s xs
-  unfolding reading
-  reading_means s xs bytes = (
-    λ e. let u = accepted (link_meaning peer) force_after none_in_force s xs bytes e in (u.front, u.frames, means_each none_in_force u.front xs u.values_are),
-    λ h.
-        ap (λ (ps : List (Result Attribute ℕ)). values_from peer none_in_force ps) (pieces_only s h.0 [] h.1)
-        ∙ each_read none_in_force h.0 xs h.2,
-  )
-
   pub unknown_is_kept : (t : InForce) (a : Attribute) → role_at t a ≡ role.Unknown → link_meaning peer t a ≡ Ok (link_other (kept a))
   unfolding meaning_in
   unknown_is_kept t a e = ap (λ (r : Role). row_meaning family.LinkInfo link_other (link_row peer r) a) e

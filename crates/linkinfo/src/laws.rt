@@ -1,12 +1,14 @@
 //! Laws of the list, each the contract of a function without code.
 
-ghost use Rattle.std.specs.Prelude.{◌≡◌, ◌↔◌, List, Some, Ok};
+ghost use Rattle.std.specs.Prelude.{◌≡◌, ◌↔◌, List, Some, Ok, Err};
 ghost use Rattle.std.specs.Iterator.{Yields};
 ghost use Rattle.nla_frame.specs.Attribute.{Attribute};
 ghost use Rattle.nla_frame.specs.Kept.{kept};
+ghost use Rattle.nla_frame.specs.declared.error.DecodeError.{DecodeError};
+ghost use Rattle.linkinfo_table.specs.Readings.{IsDecided};
 ghost use Rattle.linkinfo.specs.Items.{link_meaning, link_other};
 ghost use Rattle.linkinfo.specs.Roles.{none_in_force, role_at};
-ghost use Rattle.linkinfo.specs.Strings.{Means, MeansEach, force_behind_all, last_kind, last_port, reading};
+ghost use Rattle.linkinfo.specs.Strings.{IsFaulty, Means, MeansEach, force_behind_all, last_kind, last_port, reading};
 ghost use Rattle.linkinfo.specs.Walks.{LinkWalk, Moves, TagsByPlace, given, link_walk};
 ghost use Rattle.linkinfo.specs.declared.role.InForce.{InForce};
 ghost use Rattle.linkinfo.specs.declared.walk.LinkInfoItem.{LinkInfoItem};
@@ -15,9 +17,13 @@ ghost use Rattle.linkinfo.specs.declared.role.Role.TheVariants as role;
 use crate::link_info::LinkInfoOf;
 use linkinfo_table::LinkPeer;
 
-/// What a string reads as is what it means: values of the attributes that it frames, each under the kinds in force before it.
+/// A string reads as it means: the attributes that it frames mean the values, each under the kinds in force before it; or, by `Frames` or
+/// `Broken`, those before one without a meaning mean values, and the fault is that one's; or all mean values, and the fault of a rest without
+/// a header is (Frame, 0, Header). Each string means one list or has one fault, and never both.
 pub fn framed<P: LinkPeer>(bytes: &[u8])
-    ensures { (xs : List (LinkInfoOf P)) → (reading P.LinkPeer.own bytes.now ≡ Ok xs) ↔ Means P.LinkPeer.own bytes.now xs }
+    ensures means { (xs : List (LinkInfoOf P)) → (reading P.LinkPeer.own bytes.now ≡ Ok xs) ↔ Means P.LinkPeer.own bytes.now xs }
+    ensures faulty { (e : DecodeError) → (reading P.LinkPeer.own bytes.now ≡ Err e) ↔ IsFaulty P.LinkPeer.own bytes.now e }
+    ensures decided { IsDecided (Means P.LinkPeer.own bytes.now) (IsFaulty P.LinkPeer.own bytes.now) }
 {}
 
 /// Behind attributes that each have a meaning, whatever follows them, the kind in force is that of the last name, and the port kind in force
