@@ -19,7 +19,8 @@ use Rattle.linkinfo_numbers.specs.declared.names.PortTag.{PortTag}
 use Rattle.linkinfo_numbers.specs.Kind.{kind_of_name, text_of_kind, text_of_kind-kind_of_name, tag_of_name, tag_of_kind-kind_of_name}
 use Rattle.linkinfo_numbers.specs.PortKind.{port_kind_of_name, text_of_port_kind, text_of_port_kind-port_kind_of_name, port_tag_of_name, tag_of_port_kind-port_kind_of_name}
 use Rattle.linkinfo_numbers.specs.Name.{name_attribute}
-use Rattle.linkinfo_shapes.specs.Shapes.{means, stripped, text_of}
+use Rattle.nla_frame.specs.Payload.{stripped}
+use Rattle.linkinfo_shapes.specs.Shapes.{means, text_of}
 use Rattle.linkinfo_shapes.specs.declared.shape.Shape.TheVariants.{Name, Raw}
 use Rattle.linkinfo.specs.Families.{AreFamilies, Families}
 use Rattle.linkinfo_table.specs.FamilyRows.{own, RowOwes}

@@ -9,7 +9,8 @@ use Rattle.nla_frame.specs.declared.error.Cause.{Cause}
 use Rattle.nla_frame.specs.declared.error.Cause.TheVariants as cause
 use Rattle.nla_frame.specs.declared.error.Family.TheVariants as family
 use Rattle.nla_frame.specs.declared.error.DecodeError.{DecodeError}
-use Rattle.linkinfo_shapes.specs.Shapes.{IsAccepted, means, needs_memory, stripped}
+use Rattle.nla_frame.specs.Payload.{stripped}
+use Rattle.linkinfo_shapes.specs.Shapes.{IsAccepted, means, needs_memory}
 use Rattle.linkinfo_shapes.specs.declared.shape.Shape.TheVariants.{Name}
 use Rattle.linkinfo_table.specs.FamilyRows.{own}
 use Rattle.linkinfo_table.specs.Rows.{labelled}

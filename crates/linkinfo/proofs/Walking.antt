@@ -34,6 +34,7 @@ own_fault attributes after force failed a e going passes fault =
       seen = 1;
       fault = subst (λ (ps : List (Result Attribute ℕ)). FaultOf force ps e 1) (sym parts) (fault, refl);
       failed = refl;
+      force = refl;
       examined = passes.examined;
       room = omega (arith, ap (λ (f : Bool). length (left (walk attributes force f))) going, passes.room);
     }
@@ -56,6 +57,7 @@ no_header attributes after force failed e going moves =
       seen = seen (unread attributes);
       fault = subst (λ (ps : List (Result Attribute ℕ)). FaultOf force ps e (seen (unread attributes))) (sym parts) (is, refl);
       failed = refl;
+      force = refl;
       examined = fails.examined;
       room = omega (arith, ap length unread_is, seen_room (unread attributes));
     }

@@ -1,15 +1,15 @@
 -- What a byte string means as a list of link info attributes, and when two strings mean the same.
 use Rattle.std.specs.Prelude.{◌≡◌, ◌==◌, ◌||◌, ℕ, Bool, false, if◌then◌else◌, List, [], ◌∷◌, Option, Some, None, Result, Ok, Err}
 use Rattle.nla_frame.specs.Attribute.{Attribute, masked}
-use Rattle.nla_frame.specs.Framing.{Frames}
 use Rattle.nla_frame.specs.Pieces.{pieces}
 use Rattle.nla_frame.specs.declared.error.DecodeError.{DecodeError}
 use Rattle.linkinfo_numbers.specs.declared.names.KindTag.{KindTag}
 use Rattle.linkinfo_numbers.specs.declared.names.PortTag.{PortTag}
 use Rattle.linkinfo_numbers.specs.Kind.{tag_of_kind, tag_of_name}
 use Rattle.linkinfo_numbers.specs.PortKind.{port_tag_of_name, tag_of_port_kind}
-use Rattle.linkinfo_shapes.specs.Shapes.{stripped}
+use Rattle.nla_frame.specs.Payload.{stripped}
 use Rattle.linkinfo.specs.Families.{Families}
+use Rattle.linkinfo_table.specs.Readings.{HasFault, MeanEach, MeansList, state_behind}
 use Rattle.linkinfo_table.specs.Lists.{values_under, headers_under, alike_under, memory_under, well_under}
 use Rattle.linkinfo.specs.declared.link_info.LinkInfoOf.{LinkInfoOf}
 use Rattle.linkinfo.specs.declared.link_info.LinkInfoOf.TheVariants as info
@@ -72,19 +72,19 @@ WellFormed peer xs = well_under (link_well peer) force_behind none_in_force xs
 
 -- each attribute means its value, under the kinds in force that those before it leave
 abbrev pub MeansEach : {P : Type 0} → Families P → InForce → List Attribute → List (LinkInfoOf P) → Type 0
-MeansEach peer t [] [] = Unit {0}
-MeansEach peer t [] (x ∷ xs) = ⊥
-MeansEach peer t (a ∷ more) [] = ⊥
-MeansEach peer t (a ∷ more) (x ∷ xs) = (link_meaning peer t a ≡ Ok x) × MeansEach peer (force_after t a) more xs
+MeansEach peer t attributes xs = MeanEach (link_meaning peer) force_after t attributes xs
 
 -- the string frames attributes that mean the values
 abbrev pub Means : {P : Type 0} → Families P → List ℕ → List (LinkInfoOf P) → Type 0
-Means peer s xs = (attributes : List Attribute) × Frames s attributes × MeansEach peer none_in_force attributes xs
+Means peer s xs = MeansList (link_meaning peer) force_after none_in_force s xs
+
+-- the string has the fault of an attribute without a meaning behind those that have one, or else that of a rest without a header
+abbrev pub IsFaulty : {P : Type 0} → Families P → List ℕ → DecodeError → Type 0
+IsFaulty peer s e = HasFault (link_meaning peer) force_after none_in_force s e
 
 -- the kinds in force behind attributes
 abbrev pub force_behind_all : InForce → List Attribute → InForce
-force_behind_all t [] = t
-force_behind_all t (a ∷ more) = force_behind_all (force_after t a) more
+force_behind_all t front = state_behind force_after t front
 
 -- ---- the kinds in force, by place
 

@@ -1,7 +1,7 @@
 -- Going over the attributes of a list with the kinds in force before each.
-use Rattle.std.specs.Prelude.{◌≡◌, ◌≤◌, ℕ, ◌+◌, ◌*◌, Bool, true, false, if◌then◌else◌, List, [], ◌∷◌, length, slice_range, Option, Some, None, Result, Ok, Err}
+use Rattle.std.specs.Prelude.{◌≡◌, ◌≤◌, ℕ, ◌+◌, ◌*◌, min, Bool, true, false, if◌then◌else◌, List, [], ◌∷◌, length, map, slice_range, Option, Some, None, Result, Ok, Err}
 use Rattle.std.specs.Iterator.{YieldsFirst}
-use Rattle.nla_frame.specs.Attribute.{Attribute, IsAttribute}
+use Rattle.nla_frame.specs.Attribute.{Attribute, IsAttribute, aligned}
 use Rattle.nla_frame.specs.Error.{header_fault}
 use Rattle.nla_frame.specs.Pieces.{pieces}
 use Rattle.nla_frame.specs.Walk.{Walk, unread}
@@ -10,6 +10,7 @@ use Rattle.linkinfo.specs.declared.role.InForce.{InForce}
 use Rattle.linkinfo.specs.declared.role.Role.{Role}
 use Rattle.linkinfo.specs.declared.walk.LinkInfoItem.{LinkInfoItem}
 use Rattle.linkinfo.specs.Roles.{behind, none_in_force, role_at}
+use Rattle.linkinfo.specs.Strings.{last_kind, last_port}
 
 -- the attributes that are gone over, the kinds in force before the next one, and whether a fault was met
 pub record LinkWalk : Type 0 where
@@ -40,6 +41,10 @@ walk_items t ((Ok a) ∷ more) = item_or_fault a (behind t a) (λ u. walk_items 
 abbrev pub items_left : LinkWalk → List (Result Attribute DecodeError)
 items_left w = walk_items w.force (pieces (left w))
 
+-- where the header behind an attribute is looked for: after its padding, or at the end
+abbrev pub next_place : LinkWalk → Attribute → ℕ
+next_place s a = min (length s.attributes.source) (s.attributes.place + aligned (4 + length a.value))
+
 -- One step: an attribute without a fault of its own, ..
 pub record Enters (s : LinkWalk) (a : Attribute) (r : Role) (t : LinkWalk) : Type 0 where
   pub pieces_are : pieces (left s) ≡ Ok a ∷ pieces (left t)
@@ -47,6 +52,7 @@ pub record Enters (s : LinkWalk) (a : Attribute) (r : Role) (t : LinkWalk) : Typ
   pub role : r ≡ role_at s.force a
   pub behind : behind s.force a ≡ Ok t.force
   pub value_is : a.value ≡ slice_range s.attributes.source (s.attributes.place + 4) (s.attributes.place + (4 + length a.value))
+  pub place : t.attributes.place ≡ next_place s a
   pub examined : t.attributes.examined ≡ s.attributes.examined + 1
   pub room : length (left t) + (4 + length a.value) ≤ length (left s)
 
@@ -60,6 +66,7 @@ pub record Stops (s : LinkWalk) (e : DecodeError) (t : LinkWalk) : Type 0 where
   pub seen : ℕ
   pub fault : FaultOf s.force (pieces (left s)) e seen
   pub failed : t.failed ≡ true
+  pub force : t.force ≡ s.force
   pub examined : t.attributes.examined ≡ s.attributes.examined + seen
   pub room : 4 * seen ≤ length (left s)
 
@@ -82,16 +89,21 @@ abbrev pub item_of_answers : Option (Result LinkInfoItem DecodeError) → Option
 item_of_answers None = None
 item_of_answers (Some r) = Some (item_of_answer r)
 
--- an item is the slice of the source at its place, with the kinds in force before it
-pub record ItemAt (s : LinkWalk) (item : LinkInfoItem) : Type 0 where
+-- An item is the slice of the source at its place, with the kinds in force before it. Behind it those are in force that it leaves, and the next
+-- header is looked for after its padding, or at the end.
+pub record ItemAt (s : LinkWalk) (item : LinkInfoItem) (t : LinkWalk) : Type 0 where
   pub place : item.place ≡ s.attributes.place
   pub value_is : item.value.now ≡ slice_range s.attributes.source (item.place + 4) (item.place + (4 + length item.value.now))
   pub kind_tag : item.kind_tag ≡ s.force.kind
   pub port_tag : item.port_tag ≡ s.force.port
+  pub behind : behind s.force (attribute_of_item item) ≡ Ok t.force
+  pub passes : t.attributes.place ≡ next_place s (attribute_of_item item)
 
-abbrev pub Holds : LinkWalk → Option (Result LinkInfoItem DecodeError) → Type 0
-Holds s (Some (Ok item)) = ItemAt s item
-Holds s _ = Unit {0}
+-- a fault leaves the kinds in force as they are, and the end leaves everything
+abbrev pub Holds : LinkWalk → Option (Result LinkInfoItem DecodeError) → LinkWalk → Type 0
+Holds s None t = t ≡ s
+Holds s (Some (Ok item)) t = ItemAt s item t
+Holds s (Some (Err e)) t = (t.failed ≡ true) × (t.force ≡ s.force)
 
 -- the headers that a step looks at
 abbrev pub seen_of : Option (Result LinkInfoItem DecodeError) → LinkWalk → ℕ → Type 0
@@ -99,9 +111,22 @@ seen_of None s n = n ≡ s.attributes.examined
 seen_of (Some (Ok item)) s n = n ≡ s.attributes.examined + 1
 seen_of (Some (Err e)) s n = (k : ℕ) × FaultOf s.force (pieces (left s)) e k × (n ≡ s.attributes.examined + k)
 
--- one call gives the first of the items left, stays on its string, and counts each header that it looks at
+-- One call gives the first of the items left, stays on its string, keeps the kinds in force behind what it gives, and counts each header that it
+-- looks at.
 pub record Moves (s : LinkWalk) (r : Option (Result LinkInfoItem DecodeError)) (t : LinkWalk) : Type 0 where
   pub gives : YieldsFirst items_left s (item_of_answers r) t
-  pub holds : Holds s r
+  pub holds : Holds s r t
   pub source : t.attributes.source ≡ s.attributes.source
   pub examined : seen_of r s t.attributes.examined
+
+-- ---- the items that calls gave, from the beginning of a string
+
+-- the tags of an item are those found by place, among the items before it
+pub record TagsByPlace (before : List LinkInfoItem) (item : LinkInfoItem) : Type 0 where
+  pub kind_tag : item.kind_tag ≡ last_kind (map attribute_of_item before)
+  pub port_tag : item.port_tag ≡ last_port (map attribute_of_item before)
+
+-- what calls answer that each give an item
+abbrev pub given : List LinkInfoItem → List (Result LinkInfoItem DecodeError)
+given [] = []
+given (item ∷ more) = Ok item ∷ given more

@@ -1,29 +1,43 @@
 //! Laws of the list, each the contract of a function without code.
 
-ghost use Rattle.std.specs.Prelude.{◌≡◌, ◌≢◌, ◌↔◌, Err, List, Ok, ◌++◌};
+ghost use Rattle.std.specs.Prelude.{◌≡◌, ◌≢◌, ◌↔◌, List, Some, Ok, Err};
+ghost use Rattle.std.specs.Iterator.{Yields};
 ghost use Rattle.nla_frame.specs.Attribute.{Attribute};
 ghost use Rattle.nla_frame.specs.Error.{memory_fault};
-ghost use Rattle.nla_frame.specs.Framing.{Frames};
 ghost use Rattle.nla_frame.specs.Kept.{kept};
+ghost use Rattle.nla_frame.specs.declared.error.DecodeError.{DecodeError};
+ghost use Rattle.linkinfo_table.specs.Readings.{IsDecided};
 ghost use Rattle.linkinfo.specs.Items.{link_meaning, link_other};
 ghost use Rattle.linkinfo.specs.Roles.{none_in_force, role_at};
-ghost use Rattle.linkinfo.specs.Strings.{Means, MeansEach, force_behind_all, last_kind, last_port, reading};
+ghost use Rattle.linkinfo.specs.Strings.{IsFaulty, Means, MeansEach, force_behind_all, last_kind, last_port, reading};
+ghost use Rattle.linkinfo.specs.Walks.{LinkWalk, Moves, TagsByPlace, given, link_walk};
 ghost use Rattle.linkinfo.specs.declared.role.InForce.{InForce};
+ghost use Rattle.linkinfo.specs.declared.walk.LinkInfoItem.{LinkInfoItem};
 ghost use Rattle.linkinfo.specs.declared.role.Role.TheVariants as role;
 
 use crate::families::{DataFamilies, families_lawful};
 use crate::link_info::LinkInfoOf;
 use linkinfo_table::LinkPeer;
 
-/// What a string reads as is what it means: values of the attributes that it frames, each under the kinds in force before it.
+/// A string reads as it means: the attributes that it frames mean the values, each under the kinds in force before it; or, by `Frames` or
+/// `Broken`, those before one without a meaning mean values, and the fault is that one's; or all mean values, and the fault of a rest without
+/// a header is (Frame, 0, Header). Each string means one list or has one fault, and never both.
 pub fn framed<P: LinkPeer>(bytes: &[u8])
-    ensures { (xs : List (LinkInfoOf P)) → (reading ⟦<P as DataFamilies>⟧.families bytes.now ≡ Ok xs) ↔ Means ⟦<P as DataFamilies>⟧.families bytes.now xs }
+    ensures means { (xs : List (LinkInfoOf P)) → (reading ⟦<P as DataFamilies>⟧.families bytes.now ≡ Ok xs) ↔ Means ⟦<P as DataFamilies>⟧.families bytes.now xs }
+    ensures faulty { (e : DecodeError) → (reading ⟦<P as DataFamilies>⟧.families bytes.now ≡ Err e) ↔ IsFaulty ⟦<P as DataFamilies>⟧.families bytes.now e }
+    ensures decided { IsDecided (Means ⟦<P as DataFamilies>⟧.families bytes.now) (IsFaulty ⟦<P as DataFamilies>⟧.families bytes.now) }
 {}
 
-/// In an accepted string the kind in force is that of the last name before, and the port kind in force that of the last port name before,
-/// unless port data stands between.
-pub fn in_force<P: LinkPeer>(bytes: &[u8])
-    ensures { (front more : List Attribute) (xs : List (LinkInfoOf P)) → Frames bytes.now (front ++ more) → MeansEach ⟦<P as DataFamilies>⟧.families none_in_force (front ++ more) xs → force_behind_all none_in_force front ≡ record { kind = last_kind front; port = last_port front } }
+/// Behind attributes that each have a meaning, whatever follows them, the kind in force is that of the last name, and the port kind in force
+/// that of the last port name, unless port data stands behind it.
+pub fn in_force<P: LinkPeer>()
+    ensures { (front : List Attribute) (xs : List (LinkInfoOf P)) → MeansEach ⟦<P as DataFamilies>⟧.families none_in_force front xs → force_behind_all none_in_force front ≡ record { kind = last_kind front; port = last_port front } }
+{}
+
+/// In every string, accepted or not, the tags of an item of a walk are those found by place: of the last name among the items before it, and
+/// of the last port name, unless port data stands behind it.
+pub fn tags_by_place(bytes: &[u8])
+    ensures { (before : List LinkInfoItem) (item : LinkInfoItem) (u v : LinkWalk) → Yields Moves (link_walk bytes.now) (given before) u → Moves u (Some (Ok item)) v → TagsByPlace before item }
 {}
 
 /// An attribute of an unknown type is kept with its 16-bit type and its payload.

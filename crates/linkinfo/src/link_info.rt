@@ -7,7 +7,7 @@ use crate::port_data::InfoPortData;
 use crate::xstats::LinkXstats;
 use linkinfo_numbers::{InfoKind, InfoPortKind};
 use linkinfo_table::LinkPeer;
-use nla_frame::{Bytes, DefaultNla, Emitable, Nla};
+use nla_frame::{Bytes, DefaultNla, Emitable, ExactEq, Nla};
 
 /// `IFLA_INFO_XSTATS`.
 const IFLA_INFO_XSTATS: u16 = 3;
@@ -80,4 +80,24 @@ impl<P: LinkPeer> Nla for LinkInfoOf<P> {
             LinkInfoOf::Other(nla) => nla.fit_len(),
         }
     }
+}
+
+impl<P: ExactEq> ExactEq for LinkInfoOf<P> {
+    ghost use Rattle.linkinfo.specs.declared.link_info.LinkInfoOf.TheVariants as info;
+    ghost use Rattle.linkinfo.specs.Equal.{apart, under};
+    ghost use Rattle.linkinfo.specs.contracts.xstats.LinkXstatsExactEq.TheImpl.Laws.{exact-law as xstats_exact};
+    ghost use Rattle.linkinfo_numbers.specs.contracts.kind.InfoKindExactEq.TheImpl.Laws.{exact-law as kind_exact};
+    ghost use Rattle.linkinfo.specs.DataEqual.{data_decides};
+    ghost use Rattle.linkinfo_numbers.specs.contracts.port_kind.InfoPortKindExactEq.TheImpl.Laws.{exact-law as port_kind_exact};
+    ghost use Rattle.linkinfo.specs.contracts.port_data.InfoPortDataExactEq.TheImpl.Laws.{exact-law as port_data_exact};
+    ghost use Rattle.nla_frame.specs.contracts.default_nla.DefaultNlaExactEq.TheImpl.Laws.{exact-law as kept_exact};
+
+    ghost exact = { elim [
+      | info.Xstats x ↦ elim [ info.Xstats y ↦ under (λ v. info.Xstats v) (λ e. cc) (xstats_exact x y) | _ ↦ apart (λ e. cc) ]
+      | info.Kind x ↦ elim [ info.Kind y ↦ under (λ v. info.Kind v) (λ e. cc) (kind_exact x y) | _ ↦ apart (λ e. cc) ]
+      | info.Data x ↦ elim [ info.Data y ↦ under (λ v. info.Data v) (λ e. cc) (data_decides P.ExactEq P.PartialEq x y) | _ ↦ apart (λ e. cc) ]
+      | info.PortKind x ↦ elim [ info.PortKind y ↦ under (λ v. info.PortKind v) (λ e. cc) (port_kind_exact x y) | _ ↦ apart (λ e. cc) ]
+      | info.PortData x ↦ elim [ info.PortData y ↦ under (λ v. info.PortData v) (λ e. cc) (port_data_exact x y) | _ ↦ apart (λ e. cc) ]
+      | info.Other x ↦ elim [ info.Other y ↦ under (λ v. info.Other v) (λ e. cc) (kept_exact x y) | _ ↦ apart (λ e. cc) ]
+    ] };
 }

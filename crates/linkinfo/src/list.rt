@@ -21,7 +21,7 @@ use crate::link_info::LinkInfoOf;
 use crate::role::{InForce, behind, role_of};
 use crate::walk::LinkInfoWalk;
 use linkinfo_table::LinkPeer;
-use nla_frame::{Bytes, DecodeError, HeaderCount, Nlas, next_piece};
+use nla_frame::{Bytes, DecodeError, ExactEq, HeaderCount, Nlas, next_piece};
 use std::alloc::Global;
 
 /// Reads the attributes that a walk has not gone over. The headers that the walk looks at are not counted here.
@@ -120,6 +120,15 @@ pub struct VecLinkInfoOf<P>(pub Nlas<LinkInfoOf<P>>);
 
 /// The list with peers kept as bytes.
 pub type VecLinkInfo = VecLinkInfoOf<Bytes>;
+
+impl<P: ExactEq> ExactEq for VecLinkInfoOf<P> {
+    ghost use Rattle.std.specs.Prelude.{refl};
+    ghost use Rattle.std.specs.Cmp.Lexicographic.{pointwise_decides};
+    ghost use Rattle.nla_frame.specs.Derived.{fields_decide};
+    ghost use Rattle.linkinfo.specs.LinkEqual.{link_decides};
+
+    ghost exact = { fields_decide (λ list. list.0) (λ items. record { 0 = items }) (λ list. refl) (pointwise_decides (link_decides P.ExactEq P.PartialEq)) };
+}
 
 impl<P: LinkPeer> VecLinkInfoOf<P> {
     /// Reads the list that the bytes frame, and counts each header with four present bytes that is looked at, at all depths. Asks for a

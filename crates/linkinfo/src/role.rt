@@ -6,7 +6,7 @@ ghost use Rattle.linkinfo.specs.Roles.{behind_role, fault_of_item, name_meaning,
 
 use linkinfo_numbers::{KindTag, PortTag, port_tag_of_name, tag_of_name};
 use linkinfo_table::{Shape, read_datum};
-use nla_frame::{Cause, DecodeError, Family, NlaBuffer};
+use nla_frame::{Cause, DecodeError, ExactEq, Family, NlaBuffer};
 
 const IFLA_INFO_KIND: u16 = 1;
 
@@ -23,6 +23,16 @@ const IFLA_INFO_SLAVE_DATA: u16 = 5;
 pub struct InForce {
     pub(crate) kind: Option<KindTag>,
     pub(crate) port: Option<PortTag>,
+}
+
+impl ExactEq for InForce {
+    ghost use Rattle.std.specs.Prelude.{refl};
+    ghost use Rattle.nla_frame.specs.Derived.{fields_decide, two_fields};
+    ghost use Rattle.linkinfo.specs.Equal.{option_decides};
+    ghost use Rattle.linkinfo_numbers.specs.contracts.names.KindTagExactEq.TheImpl.Laws.{exact-law as kind_exact};
+    ghost use Rattle.linkinfo_numbers.specs.contracts.names.PortTagExactEq.TheImpl.Laws.{exact-law as port_exact};
+
+    ghost exact = { fields_decide (λ t. (t.kind, t.port)) (λ z. record { kind = z.0; port = z.1 }) (λ t. refl) (two_fields (option_decides kind_exact) (option_decides port_exact)) };
 }
 
 impl InForce {

@@ -6,7 +6,7 @@ ghost use Rattle.linkinfo.specs.Walks.{Advances, Moves, items_left, link_walk};
 
 use crate::role::{InForce, Role, behind, role_of};
 use linkinfo_numbers::{KindTag, PortTag};
-use nla_frame::{DecodeError, NlaBuffer, NlasIterator};
+use nla_frame::{DecodeError, ExactEq, NlaBuffer, NlasIterator};
 use std::marker::Model;
 
 /// An attribute of the list, borrowed from its bytes.
@@ -28,7 +28,7 @@ pub struct LinkInfoItem<'a> {
 ///
 /// It ends after its first fault: (Frame, 0, Header) where a header is not accepted, (LinkInfo, type, Order) where data, statistics
 /// or port data have no kind in force, and (LinkInfo, type, Utf8) where a name is not UTF-8.
-#[derive(Debug, Drop)]
+#[derive(Debug, PartialEq, Eq, Clone, Drop)]
 pub struct LinkInfoWalk<'a> {
     attributes: NlasIterator<'a>,
     force: InForce,
@@ -41,6 +41,8 @@ impl<'a> Model for LinkInfoWalk<'a> {
     ghost Value = { LinkWalk };
 
     ghost view = { λ w. record { attributes = w.attributes; force = w.force; failed = w.failed } };
+
+    ghost inverse = { λ w. record { attributes = w.attributes; force = w.force; failed = w.failed } };
 }
 
 impl<'a> LinkInfoWalk<'a> {
@@ -114,4 +116,14 @@ impl<'a> Iterator for LinkInfoWalk<'a> {
             Err(fault) => Some(Err(fault)),
         }
     }
+}
+
+impl ExactEq for LinkInfoWalk<'_> {
+    ghost use Rattle.std.specs.Prelude.{refl};
+    ghost use Rattle.std.specs.Cmp.{booleans_Decides};
+    ghost use Rattle.nla_frame.specs.Derived.{fields_decide, two_fields};
+    ghost use Rattle.nla_frame.specs.Same.{same_walk_decides};
+    ghost use Rattle.linkinfo.specs.contracts.role.InForceExactEq.TheImpl.Laws.{exact-law as force_exact};
+
+    ghost exact = { fields_decide (λ w. (w.attributes, (w.force, w.failed))) (λ z. record { attributes = z.0; force = z.1.0; failed = z.1.1 }) (λ w. refl) (two_fields same_walk_decides (two_fields force_exact booleans_Decides)) };
 }

@@ -1,17 +1,12 @@
 -- Names in attributes: a text, and one zero byte behind it.
-use Rattle.std.specs.Prelude.{◌≡◌, ◌-◌, ◌<◌, ◌==◌, ℕ, Bool, true, false, if◌then◌else◌, List, [], ◌∷◌, ◌++◌, length, take, drop, Result, Ok, Err}
-use Rattle.std.specs.Prelude.{refl}
-use Rattle.std.specs.Str.{bytes_eq, is_utf8}
-use Rattle.std.proofs.Common.{arith, sym, ap, ◌∙◌, eq-eqb, length-append}
-use Rattle.std.proofs.Math.Seq.{take-append_seam, drop-append_seam}
+use Rattle.std.specs.Prelude.{◌≡◌, ◌<◌, ◌==◌, ℕ, Bool, true, false, if◌then◌else◌, List, [], ◌∷◌, ◌++◌, Result, Ok, Err, refl}
+use Rattle.std.specs.Str.{is_utf8}
+use Rattle.std.proofs.Common.{arith, sym, ap, ◌∙◌, eq-eqb}
 use Rattle.nla_frame.specs.Attribute.{Attribute, masked}
+use Rattle.nla_frame.specs.Payload.{stripped, stripped-closed}
 use Rattle.nla_frame.specs.declared.error.Family.TheVariants as family
 use Rattle.nla_frame.specs.declared.error.Cause.TheVariants as cause
 use Rattle.nla_frame.specs.declared.error.DecodeError.{DecodeError}
-
--- the payload without its last byte, where that is zero
-abbrev pub name_in : List ℕ → List ℕ
-name_in payload = if bytes_eq (drop (length payload - 1) payload) (0 ∷ []) then take (length payload - 1) payload else payload
 
 -- an attribute of another type
 abbrev pub wrong_type : ℕ → DecodeError
@@ -25,22 +20,12 @@ bad_name kind = record { family = family.LinkInfo; kind = kind; cause = cause.Ut
 abbrev pub name_of : ℕ → Attribute → Result (List ℕ) DecodeError
 name_of kind a =
     if masked a.kind == kind
-    then (if is_utf8 (name_in a.value) then Ok (name_in a.value) else Err (bad_name kind))
+    then (if is_utf8 (stripped a.value) then Ok (stripped a.value) else Err (bad_name kind))
     else Err (wrong_type (masked a.kind))
 
 -- the attribute of this type that holds a name
 abbrev pub name_attribute : ℕ → List ℕ → Attribute
 name_attribute kind name = record { kind = kind; value = name ++ 0 ∷ [] }
-
-last_of : (name : List ℕ) → length (name ++ 0 ∷ []) - 1 ≡ length name
-last_of name = simp length-append (omega arith)
-
--- a name reads back from the payload that holds it
-pub name_in-zero : (name : List ℕ) → name_in (name ++ 0 ∷ []) ≡ name
-name_in-zero name =
-    let cut : ℕ → List ℕ = λ n. if bytes_eq (drop n (name ++ 0 ∷ [])) (0 ∷ []) then take n (name ++ 0 ∷ []) else name ++ 0 ∷ [] in
-    let whole : cut (length name) ≡ name = rw (drop-append_seam name (0 ∷ [])) (take-append_seam name (0 ∷ [])) in
-    ap cut (last_of name) ∙ whole
 
 -- a name of UTF-8 reads back from its attribute
 pub name_of-name_attribute : (kind : ℕ) (name : List ℕ) → kind < 16384 → is_utf8 name ≡ true →
@@ -48,7 +33,7 @@ pub name_of-name_attribute : (kind : ℕ) (name : List ℕ) → kind < 16384 →
 name_of-name_attribute kind name small utf8 =
     let same : masked kind ≡ kind = omega arith in
     let here : (masked kind == kind) ≡ true = eq-eqb (masked kind) kind same in
-    rw (here, name_in-zero name, utf8) refl
+    rw (here, stripped-closed name, utf8) refl
 
 utf8_choice : (name got : List ℕ) (fault : DecodeError) (b : Bool) → b ≡ is_utf8 name → (if b then Ok name else Err fault) ≡ Ok got →
     is_utf8 got ≡ true
@@ -63,5 +48,5 @@ type_choice name got fault false e = cc
 -- a name that an attribute holds is UTF-8
 pub name_of_is_utf8 : (kind : ℕ) (a : Attribute) (name : List ℕ) → name_of kind a ≡ Ok name → is_utf8 name ≡ true
 name_of_is_utf8 kind a name e =
-    utf8_choice (name_in a.value) name (bad_name kind) (is_utf8 (name_in a.value)) refl
-    (type_choice (if is_utf8 (name_in a.value) then Ok (name_in a.value) else Err (bad_name kind)) name (wrong_type (masked a.kind)) (masked a.kind == kind) e)
+    utf8_choice (stripped a.value) name (bad_name kind) (is_utf8 (stripped a.value)) refl
+    (type_choice (if is_utf8 (stripped a.value) then Ok (stripped a.value) else Err (bad_name kind)) name (wrong_type (masked a.kind)) (masked a.kind == kind) e)

@@ -2,25 +2,17 @@
 
 ghost use Rattle.std.specs.Prelude.{◌≡◌, ◌+◌, ◌≤◌, [], ◌∷◌, ◌++◌, Ok, Err, SomeIff, MatchResult, length};
 ghost use Rattle.nla_frame.specs.Attribute.{Fits};
-ghost use Rattle.linkinfo_numbers.specs.Name.{name_in, name_of, name_attribute};
+ghost use Rattle.linkinfo_numbers.specs.Name.{name_of, name_attribute};
 
-use nla_frame::{Cause, DecodeError, Family, NlaBuffer};
+use nla_frame::{Cause, DecodeError, Family, NlaBuffer, without_nul};
 
 /// The longest name that an attribute holds: its payload has a NUL more, and at most 65531 bytes.
 const NAME_LEN_MAX: usize = 65530;
 
-/// The payload without one closing NUL, where there is one.
-fn without_nul(payload: &[u8]) -> &[u8]
-    ensures { result.now ≡ name_in payload.now }
-{
-    payload.strip_suffix(&[0]).unwrap_or(payload)
-}
-
 /// The name that an attribute of this type holds.
 ///
 /// Refused as (LinkInfo, the attribute's type, WrongType) where it has another type, and as (LinkInfo, type, Utf8) where the name
-/// is
-/// not UTF-8.
+/// is not UTF-8.
 pub(crate) fn name_of<'a>(nla: &NlaBuffer<'a>, kind: u16) -> Result<&'a str, DecodeError>
     ensures { MatchResult result (λ name. name_of kind nla.now ≡ Ok name.now) (λ fault. name_of kind nla.now ≡ Err fault) }
 {

@@ -14,13 +14,13 @@ use Rattle.std.proofs.lemmas.Int.{to_z-of_z, of_z-to_z}
 use Rattle.std.proofs.lemmas.Nat.{le_bytes_2, le_bytes_4, le_bytes_8, be_bytes_2, be_bytes_4, be_bytes_8, from_le_bytes-to_le_bytes_2, from_le_bytes-to_le_bytes_4, from_le_bytes-to_le_bytes_8, from_be_bytes-to_be_bytes_2, from_be_bytes-to_be_bytes_4, from_be_bytes-to_be_bytes_8}
 use Rattle.std.proofs.lemmas.Bool.{eqb-true, eq-eqb, cases_Bool, cond-true, cond-false, ne_eqb, false≢true}
 use Rattle.std.proofs.lemmas.Slice.Eq.{bytes_eq-Decides}
-use Rattle.std.proofs.lemmas.List.{take_at, take-append-drop, length-take-le, length-drop, length-append, get_or-append-add}
+use Rattle.std.proofs.lemmas.List.{take-append-drop, length-take-le, length-drop}
 use Rattle.nla_frame.specs.Attribute.{IsBytes}
-use Rattle.nla_frame.specs.Payload.{of_length, ip_of, ipv4_of, ipv6_of}
+use Rattle.nla_frame.specs.Payload.{of_length, ip_of, ipv4_of, ipv6_of, stripped, stripped-closed}
 use Rattle.nla_frame.proofs.ByteLists.{IsBytes-drop, IsBytes-take, IsBytes-nil, IsBytes-cons, IsBytes-append}
 use Rattle.nla_frame.specs.declared.error.Cause.{Cause}
 use Rattle.nla_frame.specs.declared.error.Cause.TheVariants as cause
-use Rattle.linkinfo_shapes.specs.Shapes.{Carrier, stripped, text_of, of_version, means, verdict, IsAccepted, truth_number, canon, IsIpv4, IsIpv6, IsIp, Holds, is_zero, payload_alike, needs_memory}
+use Rattle.linkinfo_shapes.specs.Shapes.{Carrier, text_of, of_version, means, verdict, IsAccepted, truth_number, canon, IsIpv4, IsIpv6, IsIp, Holds, is_zero, payload_alike, needs_memory}
 use Rattle.linkinfo_shapes.specs.declared.shape.Shape.{Shape}
 use Rattle.linkinfo_shapes.specs.declared.shape.Shape.TheVariants.{U8, Le16, Le32, Le64, Be16, Be32, Be64, I32, Truth, TruthOne, Mark, Name, V4, V6, GeneveV4, GeneveV6, Ip, Mac, BePair, FlagPair, EmptyOrByte, Scrub, Raw, SelfList, Peer}
 
@@ -117,14 +117,6 @@ text_of_err s c e = elim (cases_Bool (is_utf8 s)) [
 
 utf8_memory : cause.Utf8 ≡ cause.Memory → ⊥
 utf8_memory e = cc
-
-stripped-closed : (s : List ℕ) → stripped (s ++ 0 ∷ []) ≡ s
-unfolding stripped
-stripped-closed s =
-    let size : length (s ++ 0 ∷ []) - 1 ≡ length s = omega (arith, length-append s (0 ∷ [])) in
-    let last : slice_index (s ++ 0 ∷ []) (length s + 0) ≡ 0 = get_or-append-add s (0 ∷ []) 0 0 in
-    let last' : slice_index (s ++ 0 ∷ []) (length (s ++ 0 ∷ []) - 1) ≡ 0 = ap (λ (n : ℕ). slice_index (s ++ 0 ∷ []) n) (size ∙ omega arith) ∙ last in
-    cond-true (eqb (slice_index (s ++ 0 ∷ []) (length (s ++ 0 ∷ []) - 1)) 0) _ _ (eq-eqb _ _ last') ∙ take_at s (0 ∷ []) _ (sym size)
 
 IsBytes-stripped : (p : List ℕ) → IsBytes p → IsBytes (stripped p)
 unfolding stripped

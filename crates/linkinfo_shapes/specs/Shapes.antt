@@ -1,5 +1,5 @@
 -- The shapes of payloads: what a payload means, the one payload that is written, which payloads are alike.
-use Rattle.std.specs.Prelude.{◌≡◌, ℕ, ◌-◌, ◌^◌, ◌<◌, ◌==◌, ℤ, Bool, true, false, not, if◌then◌else◌, List, [], ◌∷◌, ◌++◌, length, take, drop, slice_index, Option, Some, None, Result, Ok, Err, IsOk, FitsSigned}
+use Rattle.std.specs.Prelude.{◌≡◌, ℕ, ◌^◌, ◌<◌, ◌==◌, ℤ, Bool, true, false, not, if◌then◌else◌, List, [], ◌∷◌, ◌++◌, length, take, drop, slice_index, Option, Some, None, Result, Ok, Err, IsOk, FitsSigned}
 use Rattle.std.specs.Bool.{beq}
 use Rattle.std.specs.Int.{w16, w32, w64, cast_signed, cast_unsigned, from_be_bytes, from_le_bytes, to_be_bytes, to_le_bytes}
 use Rattle.std.specs.Net.Addr.{octets_of}
@@ -9,7 +9,7 @@ use Rattle.std.specs.declared.net.ip_addr.IpAddr.TheVariants as ip
 use Rattle.std.specs.declared.net.ipv4_addr.Ipv4Addr.{Ipv4Addr}
 use Rattle.std.specs.declared.net.ipv6_addr.Ipv6Addr.{Ipv6Addr}
 use Rattle.nla_frame.specs.Attribute.{IsBytes}
-use Rattle.nla_frame.specs.Payload.{of_length, ip_of, ipv4_of, ipv6_of}
+use Rattle.nla_frame.specs.Payload.{of_length, ip_of, ipv4_of, ipv6_of, stripped}
 use Rattle.nla_frame.specs.declared.error.Cause.{Cause}
 use Rattle.nla_frame.specs.declared.error.Cause.TheVariants as cause
 use Rattle.linkinfo_shapes.specs.declared.shape.Shape.{Shape}
@@ -48,10 +48,6 @@ Carrier Scrub = Bool
 Carrier Raw = List ℕ
 Carrier SelfList = Unit {0}
 Carrier Peer = Unit {0}
-
--- the bytes without one closing zero, where there is one
-unfoldable pub stripped : List ℕ → List ℕ
-stripped payload = if slice_index payload (length payload - 1) == 0 then take (length payload - 1) payload else payload
 
 -- the text of a name, or the cause Utf8
 abbrev pub text_of : List ℕ → Result (List ℕ) Cause

@@ -1,6 +1,6 @@
 //! Laws of the shapes, each the contract of a function without code.
 
-ghost use Rattle.std.specs.Prelude.{◌≡◌, ◌≢◌, ◌↔◌, ℕ, List, true, false, Ok, Err};
+ghost use Rattle.std.specs.Prelude.{◌≡◌, ◌≢◌, ◌↔◌, IsTrue, ℕ, List, true, false, Ok, Err};
 ghost use Rattle.nla_frame.specs.Attribute.{IsBytes};
 ghost use Rattle.nla_frame.specs.declared.error.Cause.{Cause};
 ghost use Rattle.nla_frame.specs.declared.error.Cause.TheVariants as cause;
@@ -8,6 +8,7 @@ ghost use Rattle.linkinfo_shapes.specs.Data.{ReadsAs, Suits, Value, unwrap, valu
 ghost use Rattle.linkinfo_shapes.specs.Shapes.{Carrier, Holds, IsAccepted, canon, means, needs_memory, payload_alike};
 ghost use Rattle.linkinfo_shapes.specs.declared.datum.Datum.{Datum};
 
+use crate::datum::Datum;
 use crate::shape::Shape;
 
 /// What a payload means is a datum that its Rust type can hold. The payload that is written for such a datum is bytes, and means it.
@@ -40,4 +41,9 @@ pub fn data()
     ensures one_value { (shape : Shape) (x : Carrier shape) → Holds shape x → Suits shape (wrap shape x) }
     ensures its_datum { (shape : Shape) (x : Carrier shape) → unwrap shape (wrap shape x) ≡ x }
     ensures its_value { (shape : Shape) (value : Value) → Suits shape value → wrap shape (unwrap shape value) ≡ value }
+{}
+
+/// `==` of two data answers true exactly where both hold the same, whatever the places that they borrow from.
+pub fn equal_data()
+    ensures { (a b : Datum) → IsTrue (⟦<Datum<'static> as PartialEq>⟧.eq a b) ↔ (value_of a ≡ value_of b) }
 {}

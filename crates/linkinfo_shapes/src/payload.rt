@@ -8,7 +8,7 @@ use crate::datum::Datum;
 use crate::readers::*;
 use crate::shape::Shape;
 use crate::writers::*;
-use nla_frame::Cause;
+use nla_frame::{Cause, without_nul};
 
 /// The most bytes that the length field of an attribute can count.
 const PAYLOAD_LEN_MAX: usize = 65531;
@@ -80,7 +80,7 @@ fn is_alike(shape: Shape, a: &[u8], b: &[u8]) -> bool
         Shape::Truth => (first_byte(a) == 0) == (first_byte(b) == 0),
         Shape::TruthOne => (first_byte(a) == 1) == (first_byte(b) == 1),
         Shape::Mark => true,
-        Shape::Name => strip(a) == strip(b),
+        Shape::Name => without_nul(a) == without_nul(b),
         Shape::Scrub => is_zero(a) == is_zero(b),
         _ => a == b,
     }

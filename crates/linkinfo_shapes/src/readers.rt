@@ -3,27 +3,15 @@
 
 ghost use Rattle.std.specs.Prelude.{◌≡◌};
 ghost use Rattle.linkinfo_shapes.specs.Data.{ReadsAs};
-ghost use Rattle.linkinfo_shapes.specs.Shapes.{stripped};
 
 use crate::datum::Datum;
 use crate::shape::Shape;
 use nla_frame::{
     Cause, parse_i32, parse_ip, parse_ipv4_addr, parse_ipv6_addr, parse_mac, parse_u8, parse_u16,
-    parse_u16_be, parse_u32, parse_u32_be, parse_u64, parse_u64_be,
+    parse_u16_be, parse_u32, parse_u32_be, parse_u64, parse_u64_be, without_nul,
 };
 use std::net::IpAddr;
 use std::str;
-
-/// The bytes without one closing zero, where there is one.
-#[tactic(auto, unfolding(crate::specs::Shapes::stripped))]
-pub fn strip(payload: &[u8]) -> &[u8]
-    ensures { result.now ≡ stripped payload.now }
-{
-    match payload {
-        [text @ .., 0] => text,
-        _ => payload,
-    }
-}
 
 pub fn read_u8(payload: &[u8]) -> Result<Datum<'_>, Cause>
     ensures { ReadsAs Shape.U8 payload.now result }
@@ -94,7 +82,7 @@ pub fn read_mark(payload: &[u8]) -> Result<Datum<'_>, Cause>
 pub fn read_name(payload: &[u8]) -> Result<Datum<'_>, Cause>
     ensures { ReadsAs Shape.Name payload.now result }
 {
-    match str::from_utf8(strip(payload)) {
+    match str::from_utf8(without_nul(payload)) {
         Ok(text) => Ok(Datum::Text(text)),
         Err(_) => Err(Cause::Utf8),
     }

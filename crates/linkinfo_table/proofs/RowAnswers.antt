@@ -14,7 +14,8 @@ use Rattle.nla_frame.specs.declared.default_nla.DefaultNla.{DefaultNla}
 use Rattle.linkinfo_shapes.specs.declared.shape.Shape.{Shape}
 use Rattle.linkinfo_shapes.specs.declared.shape.Shape.TheVariants.{Name, Raw}
 use Rattle.linkinfo_shapes.specs.declared.datum.Datum.{Datum}
-use Rattle.linkinfo_shapes.specs.Shapes.{stripped, IsPlain, IsAccepted, Carrier, means, payload_alike, needs_memory, verdict as shape_verdict}
+use Rattle.nla_frame.specs.Payload.{stripped}
+use Rattle.linkinfo_shapes.specs.Shapes.{IsPlain, IsAccepted, Carrier, means, payload_alike, needs_memory, verdict as shape_verdict}
 use Rattle.linkinfo_shapes.specs.ShapeLaws.{accepted}
 use Rattle.linkinfo_shapes.specs.Data.{value_of, unwrap, ReadsAs}
 use Rattle.linkinfo_shapes.specs.DataLaws.{read_means, read_suits}

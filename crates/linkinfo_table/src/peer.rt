@@ -19,6 +19,12 @@ pub enum PeerFault {
     Memory,
 }
 
+impl ExactEq for PeerFault {
+    ghost use Rattle.std.proofs.Common.{rules};
+
+    ghost exact = { Prim.search rules };
+}
+
 /// The other end of a link that comes in pairs: what stands in `VETH_INFO_PEER` (include/uapi/linux/veth.h), `VXCAN_INFO_PEER`
 /// (include/uapi/linux/can/vxcan.h) and `IFLA_NETKIT_PEER_INFO`.
 pub trait LinkPeer: Sized + Eq + ExactEq + Drop {

@@ -61,6 +61,20 @@ cause_name cause.Depth = codes "depth"
 cause_name cause.Memory = codes "memory"
 cause_name cause.Peer = codes "peer"
 
+-- a cause's number
+abbrev pub cause_number : Cause → ℕ
+cause_number cause.Header = 1
+cause_number cause.Length = 2
+cause_number cause.Utf8 = 3
+cause_number cause.Order = 4
+cause_number cause.AddressKind = 5
+cause_number cause.Word = 6
+cause_number cause.WrongType = 7
+cause_number cause.Kind = 8
+cause_number cause.Depth = 9
+cause_number cause.Memory = 10
+cause_number cause.Peer = 11
+
 -- family, type in decimal, cause
 abbrev pub error_text : DecodeError → List ℕ
 error_text error = family_name error.family ++ codes " " ++ decimal error.kind ++ codes " " ++ cause_name error.cause

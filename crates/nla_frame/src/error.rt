@@ -1,7 +1,7 @@
 //! Why bytes were not read: a family, an attribute type and a cause.
 
 ghost use Rattle.std.specs.Prelude.{◌≡◌};
-ghost use Rattle.nla_frame.specs.Error.{family_name, cause_name, error_text, memory_fault};
+ghost use Rattle.nla_frame.specs.Error.{family_name, cause_name, cause_number, error_text, memory_fault};
 
 use std::alloc::{AllocError, AllocFailed};
 use std::error::Error;
@@ -108,7 +108,7 @@ impl fmt::Display for Family {
     }
 }
 
-/// What is wrong with the bytes, or that memory ran out. `cause as u8` is its number, from 1 to 11.
+/// What is wrong with the bytes, or that memory ran out. Each cause has a number (`Cause::number`).
 #[derive(Clone, Copy, Debug, PartialEq, Eq)]
 pub enum Cause {
     /// No attribute begins here: fewer than four bytes, a length field below four, or one above the bytes that are there.
@@ -136,6 +136,13 @@ pub enum Cause {
 }
 
 impl Cause {
+    /// Its number, from 1 to 11, as `cause as u8` gives it.
+    pub fn number(self) -> u8
+        ensures { result ≡ cause_number self }
+    {
+        self as u8
+    }
+
     fn name(self) -> &'static str
         ensures { result.now ≡ cause_name self }
     {

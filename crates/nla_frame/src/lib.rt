@@ -30,7 +30,7 @@ pub use iterator::NlasIterator;
 pub use nlas::Nlas;
 pub use parsers::{
     parse_i32, parse_ip, parse_ipv4_addr, parse_ipv6_addr, parse_mac, parse_u8, parse_u16,
-    parse_u16_be, parse_u32, parse_u32_be, parse_u64, parse_u64_be,
+    parse_u16_be, parse_u32, parse_u32_be, parse_u64, parse_u64_be, without_nul,
 };
 pub use text::Text;
 pub use traits::{Emitable, Nla, Parseable, ParseableParametrized};

@@ -1,8 +1,8 @@
-//! Numbers and addresses read from payloads.
+//! Numbers, addresses and names read from payloads.
 
 ghost use Rattle.std.specs.Prelude.{◌≡◌, slice_index};
 ghost use Rattle.std.specs.Int.{w16, w32, w64, cast_signed, from_be_bytes, from_le_bytes};
-ghost use Rattle.nla_frame.specs.Payload.{of_length, ip_of, ipv4_of, ipv6_of};
+ghost use Rattle.nla_frame.specs.Payload.{of_length, ip_of, ipv4_of, ipv6_of, stripped};
 
 use crate::error::Cause;
 use std::net::{IpAddr, Ipv4Addr, Ipv6Addr};
@@ -102,5 +102,16 @@ pub fn parse_ip(payload: &[u8]) -> Result<IpAddr, Cause>
     match payload.len() {
         4 => Ok(IpAddr::V4(parse_ipv4_addr(payload)?)),
         _ => Ok(IpAddr::V6(parse_ipv6_addr(payload)?)),
+    }
+}
+
+/// The bytes of a name: the payload without one closing NUL, where there is one.
+#[tactic(auto, unfolding(crate::specs::Payload::stripped))]
+pub fn without_nul(payload: &[u8]) -> &[u8]
+    ensures { result.now ≡ stripped payload.now }
+{
+    match payload {
+        [name @ .., 0] => name,
+        _ => payload,
     }
 }

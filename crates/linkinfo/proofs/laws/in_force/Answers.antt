@@ -3,4 +3,4 @@ use Rattle.linkinfo.proofs.laws.in_force.Goals as goal
 use Rattle.linkinfo.specs.PeerFamilies.{families_of}
 
 pub returns : goal.returns
-returns g c = λ front more xs frames h. in_force_by_place (families_of g.row.P g.P.LinkPeer) front more xs h
+returns g c = λ front xs h. in_force_by_place (families_of g.row.P g.P.LinkPeer) front xs h

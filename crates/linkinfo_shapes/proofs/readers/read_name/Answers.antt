@@ -6,7 +6,7 @@ use Rattle.nla_frame.specs.declared.error.Cause.{Cause}
 use Rattle.nla_frame.specs.declared.error.Cause.TheVariants.{Utf8}
 use Rattle.linkinfo_shapes.specs.declared.shape.Shape.TheVariants.{Name}
 use Rattle.linkinfo_shapes.specs.Data.{ReadsAs, reads, wrapped, Suits, text, Value}
-use Rattle.linkinfo_shapes.specs.Shapes.{stripped}
+use Rattle.nla_frame.specs.Payload.{stripped}
 use Rattle.linkinfo_shapes.proofs.readers.read_name.Goals as goal
 
 reads_text : (p q s : List ℕ) → q ≡ stripped p → s ≡ q → IsUtf8 q → reads Name p ≡ Ok (text s)
@@ -23,8 +23,8 @@ reads_no_text p q e n =
 
 pub returns-in-Ok : goal.returns-in-Ok
 unfolding ReadsAs Suits
-returns-in-Ok c = (reads_text _ _ _ c.strip.ensures c.in-Ok.ensures.cases.0 c.in-Ok.ensures.cases.1, tt)
+returns-in-Ok c = (reads_text _ _ _ c.without_nul.ensures c.in-Ok.ensures.cases.0 c.in-Ok.ensures.cases.1, tt)
 
 pub returns-in-Err : goal.returns-in-Err
 unfolding ReadsAs
-returns-in-Err c = reads_no_text _ _ c.strip.ensures c.in-Err.ensures.cases.0
+returns-in-Err c = reads_no_text _ _ c.without_nul.ensures c.in-Err.ensures.cases.0
