@@ -13,8 +13,6 @@ mod iterator;
 pub mod laws;
 mod nlas;
 mod parsers;
-#[cfg(test)]
-mod tests;
 mod text;
 mod traits;
 

@@ -1,6 +1,7 @@
 //! Strings and the attributes that they frame.
 
-use crate::{
+use super::check_equality;
+use nla_frame::{
     Cause, DecodeError, DefaultNla, Family, HeaderCount, NlaBuffer, NlasIterator, Parseable, laws,
     next_piece,
 };
@@ -15,7 +16,7 @@ const HEADER_FAULT: DecodeError = DecodeError {
 };
 
 /// What an iterator gives of a string until it ends, and what it says of itself then.
-#[derive(Drop)]
+#[derive(Debug, PartialEq, Drop)]
 struct Walked {
     attributes: Vec<DefaultNla>,
     fault: Option<DecodeError>,
@@ -72,6 +73,18 @@ fn steps(alloc: Global, bytes: &[u8]) -> Result<Walked, DecodeError> {
     })
 }
 
+/// Attributes of these types and values.
+fn attributes_of(
+    alloc: Global,
+    attributes: &[(u16, &[u8])],
+) -> Result<Vec<DefaultNla>, DecodeError> {
+    let mut list = Vec::new(alloc);
+    for (kind, value) in attributes {
+        list.push(DefaultNla::new(*kind, value.to_vec(alloc)?))?;
+    }
+    Ok(list)
+}
+
 /// What a string frames: its attributes, its fault, the headers looked at, and where an iterator stands at the end.
 fn check_walk(
     rt: &impl Abort,
@@ -80,31 +93,20 @@ fn check_walk(
     attributes: &[(u16, &[u8])],
     ends: (Option<DecodeError>, usize, usize),
 ) -> Result<(), DecodeError> {
-    check_walked(rt, &walk(alloc, bytes)?, bytes, attributes, ends);
-    check_walked(rt, &steps(alloc, bytes)?, bytes, attributes, ends);
+    let (fault, examined, place) = ends;
+    let wanted = Walked {
+        attributes: attributes_of(alloc, attributes)?,
+        fault,
+        examined,
+        place,
+    };
+    check_walked(rt, bytes, &walk(alloc, bytes)?, &wanted);
+    check_walked(rt, bytes, &steps(alloc, bytes)?, &wanted);
     Ok(())
 }
 
-fn check_walked(
-    rt: &impl Abort,
-    walked: &Walked,
-    bytes: &[u8],
-    attributes: &[(u16, &[u8])],
-    ends: (Option<DecodeError>, usize, usize),
-) {
-    assert_eq!(rt;
-        walked.attributes.len(),
-        attributes.len(),
-        "attributes of {bytes:?}"
-    );
-    for (found, wanted) in walked.attributes.iter().zip(attributes) {
-        assert_eq!(rt; found.kind, wanted.0, "a type in {bytes:?}");
-        assert_eq!(rt; found.value.as_slice(), wanted.1, "a value in {bytes:?}");
-    }
-    let (fault, examined, place) = ends;
-    assert_eq!(rt; walked.fault, fault, "the fault of {bytes:?}");
-    assert_eq!(rt; walked.examined, examined, "headers of {bytes:?}");
-    assert_eq!(rt; walked.place, place, "the place in {bytes:?}");
+fn check_walked(rt: &impl Abort, bytes: &[u8], walked: &Walked, wanted: &Walked) {
+    assert_eq!(rt; (bytes, walked), (bytes, wanted));
 }
 
 #[test]
@@ -215,8 +217,7 @@ fn frames_the_longest_value(rt: HostRuntime) -> Result<(), Fail> {
     assert_eq!(rt; NlaBuffer::new_checked(&bytes).err(), Some(HEADER_FAULT));
     bytes.push(97)?;
     let nla = NlaBuffer::new_checked(&bytes)?;
-    assert_eq!(rt; nla.length(), 65535);
-    assert_eq!(rt; nla.value().len(), 65531);
+    assert_eq!(rt; (nla.length(), nla.value().len()), (65535, 65531));
     Ok(())
 }
 
@@ -224,28 +225,40 @@ fn frames_the_longest_value(rt: HostRuntime) -> Result<(), Fail> {
 fn reads_one_attribute(rt: HostRuntime) -> Result<(), Fail> {
     let bytes = [6, 0, 1, 0xc0, 7, 8, 0, 0];
     let nla = NlaBuffer::new_checked(&bytes)?;
-    assert_eq!(rt; nla.kind(), 1);
-    assert_eq!(rt; nla.raw_kind(), 0xc001);
-    assert_eq!(rt; nla.length(), 6);
-    assert_eq!(rt; nla.value(), [7, 8].as_slice());
+    assert_eq!(rt;
+        (nla.kind(), nla.raw_kind(), nla.length(), nla.value()),
+        (1, 0xc001, 6, [7, 8].as_slice())
+    );
+    let mut count = HeaderCount::new();
+    let same = NlaBuffer::new_counted(&bytes, &mut count)?;
+    let other = NlaBuffer::new_checked(&[6, 0, 1, 0x40, 7, 8])?;
+    check_equality(&rt, &nla, &same, &other)
+}
 
+/// Whether the bytes begin with an attribute, and what a count of four headers is after that was looked at.
+fn counted(bytes: &[u8]) -> (bool, usize) {
     let mut count = HeaderCount::default();
     count.add(4);
-    let same = NlaBuffer::new_counted(&bytes, &mut count)?;
-    assert_eq!(rt; count.get(), 5);
-    assert!(rt; nla == same);
-    assert!(rt; nla.clone()? == same);
-    assert!(rt; NlaBuffer::new_counted(&bytes[..5], &mut count).is_err());
-    assert_eq!(rt; count.get(), 6);
-    assert!(rt; NlaBuffer::new_counted(&bytes[..3], &mut count).is_err());
-    assert_eq!(rt; count.get(), 6);
-    assert!(rt; nla != NlaBuffer::new_checked(&[6, 0, 1, 0x40, 7, 8])?);
+    let is_attribute = NlaBuffer::new_counted(bytes, &mut count).is_ok();
+    (is_attribute, count.get())
+}
 
+#[test]
+fn counts_headers(rt: HostRuntime) {
+    let bytes = [6, 0, 1, 0xc0, 7, 8, 0, 0];
+    assert_eq!(rt;
+        [counted(&bytes), counted(&bytes[..5]), counted(&bytes[..3])],
+        [(true, 5), (false, 5), (false, 4)]
+    );
+}
+
+#[test]
+fn clones_iterators(rt: HostRuntime) -> Result<(), Fail> {
+    let bytes = [6, 0, 1, 0xc0, 7, 8, 0, 0];
     let iterator = NlasIterator::new(&bytes);
     let mut moved = iterator.clone()?;
-    assert!(rt; iterator == moved);
     assert!(rt; moved.next().is_some());
-    assert!(rt; iterator != moved);
+    check_equality(&rt, &iterator, &NlasIterator::new(&bytes), &moved)?;
     laws::framing(&bytes);
     Ok(())
 }

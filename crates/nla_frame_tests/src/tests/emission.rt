@@ -1,6 +1,6 @@
 //! Attributes written into buffers.
 
-use crate::{
+use nla_frame::{
     Bytes, DefaultNla, Emitable, Nla, emit_nlas, nlas_buffer_len, nlas_fit_len, put_frame,
 };
 use std::test::Fail;
@@ -23,32 +23,32 @@ impl Emitable for Plain {
 
 #[test]
 fn emits_one_attribute(rt: HostRuntime) -> Result<(), Fail> {
-    let alloc = rt.alloc();
-    let nla = DefaultNla::new(0x8009, vec![in alloc; 1u8, 2]?);
-    assert_eq!(rt; nla.kind(), 0x8009);
-    assert_eq!(rt; nla.fit_len(), Some(2));
+    let nla = DefaultNla::new(0x8009, vec![in rt.alloc(); 1u8, 2]?);
     assert!(rt; nla.value.len() == 2);
-    assert_eq!(rt; nla.value_len(), 2);
-    assert_eq!(rt; nla.buffer_len(), 8);
+    assert_eq!(rt;
+        (nla.kind(), nla.fit_len(), nla.value_len(), nla.buffer_len()),
+        (0x8009, Some(2), 2, 8)
+    );
 
     let mut value = [255; 2];
     nla.emit_value(&mut value);
-    assert_eq!(rt; value.as_slice(), [1, 2].as_slice());
+    assert_eq!(rt; value, [1, 2]);
 
     // Padding is zero whatever stood in the buffer, and the bytes behind stay.
     let mut buffer = [255; 11];
     nla.emit(&mut buffer);
-    assert_eq!(rt;
-        buffer.as_slice(),
-        [6, 0, 9, 0x80, 1, 2, 0, 0, 255, 255, 255].as_slice()
-    );
+    assert_eq!(rt; buffer, [6, 0, 9, 0x80, 1, 2, 0, 0, 255, 255, 255]);
+    Ok(())
+}
 
-    let plain = Plain(Bytes::new(vec![in alloc; 5u8, 6]?));
+#[test]
+fn emits_bytes_without_a_header(rt: HostRuntime) -> Result<(), Fail> {
+    let plain = Plain(Bytes::new(vec![in rt.alloc(); 5u8, 6]?));
     assert!(rt; plain.0.len() == 2);
     assert_eq!(rt; plain.buffer_len(), 2);
     let mut buffer = [255; 3];
     plain.emit(&mut buffer);
-    assert_eq!(rt; buffer.as_slice(), [5, 6, 255].as_slice());
+    assert_eq!(rt; buffer, [5, 6, 255]);
     Ok(())
 }
 
@@ -63,31 +63,34 @@ fn emits_lists(rt: HostRuntime) -> Result<(), Fail> {
         DefaultNla::new(2, vec![in alloc]?),
         DefaultNla::new(3, vec![in alloc; 1u8, 2, 3, 4]?),
     ];
-    let Some(len) = nlas_fit_len(&list) else {
-        panic!(&rt; "the list fits");
-    };
-    assert_eq!(rt; len, 20);
+    assert!(rt; nlas_fit_len(&list) == Some(20));
     assert_eq!(rt; nlas_buffer_len(&list), 20);
     let mut buffer = [255; 23];
     emit_nlas(&list, &mut buffer);
-    let string = [
-        5, 0, 1, 0, 7, 0, 0, 0, 4, 0, 2, 0, 8, 0, 3, 0, 1, 2, 3, 4, 255, 255, 255,
-    ];
-    assert_eq!(rt; buffer.as_slice(), string.as_slice());
+    assert_eq!(rt;
+        buffer,
+        [
+            5, 0, 1, 0, 7, 0, 0, 0, 4, 0, 2, 0, 8, 0, 3, 0, 1, 2, 3, 4, 255, 255, 255
+        ]
+    );
     Ok(())
 }
 
 #[test]
 fn fits_up_to_65531_bytes(rt: HostRuntime) -> Result<(), Fail> {
     let alloc = rt.alloc();
-    let longest = DefaultNla::new(9, vec![in alloc; 97u8; 65531]?);
-    assert_eq!(rt; longest.fit_len(), Some(65531));
-    assert_eq!(rt; nlas_fit_len(&[longest]), Some(65536));
-    let longer = DefaultNla::new(9, vec![in alloc; 97u8; 65532]?);
-    assert_eq!(rt; longer.fit_len(), None);
+    let longest = [DefaultNla::new(9, vec![in alloc; 97u8; 65531]?)];
+    let longer = [
+        DefaultNla::new(1, vec![in alloc]?),
+        DefaultNla::new(9, vec![in alloc; 97u8; 65532]?),
+    ];
     assert_eq!(rt;
-        nlas_fit_len(&[DefaultNla::new(1, vec![in alloc]?), longer]),
-        None
+        [longest[0].fit_len(), longer[1].fit_len()],
+        [Some(65531), None]
+    );
+    assert_eq!(rt;
+        [nlas_fit_len(&longest), nlas_fit_len(&longer)],
+        [Some(65536), None]
     );
     Ok(())
 }

@@ -1,0 +1,33 @@
+//! Tests over worked strings: what the contracts call a value, a length or a text is what the format says.
+
+mod emission;
+mod framing;
+mod numbers;
+mod values;
+
+use nla_frame::{ExactEq, is_equal};
+use std::process::Abort;
+use std::test::Fail;
+
+/// The value is equal to its clone and to `same`, and not to `other`, by `==` and by `is_equal`.
+fn check_equality<T: ExactEq + Clone + Drop>(
+    rt: &impl Abort,
+    value: &T,
+    same: &T,
+    other: &T,
+) -> Result<(), Fail> {
+    let clone = value.clone()?;
+    assert_eq!(rt;
+        [clone == *same, *value == *same, *value == *other],
+        [true, true, false]
+    );
+    assert_eq!(rt;
+        [
+            is_equal(&clone, value),
+            is_equal(value, same),
+            is_equal(value, other)
+        ],
+        [true, true, false]
+    );
+    Ok(())
+}

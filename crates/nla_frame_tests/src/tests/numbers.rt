@@ -1,0 +1,116 @@
+//! Numbers and addresses in payloads.
+
+use nla_frame::*;
+use std::net::{IpAddr, Ipv4Addr, Ipv6Addr};
+
+/// The unsigned numbers in the first bytes, little-endian and then big-endian.
+fn numbers_in(bytes: &[u8; 8]) -> Result<[u64; 7], Cause> {
+    Ok([
+        u64::from(parse_u8(&bytes[..1])?),
+        u64::from(parse_u16(&bytes[..2])?),
+        u64::from(parse_u32(&bytes[..4])?),
+        parse_u64(bytes)?,
+        u64::from(parse_u16_be(&bytes[..2])?),
+        u64::from(parse_u32_be(&bytes[..4])?),
+        parse_u64_be(bytes)?,
+    ])
+}
+
+#[test]
+fn parses_numbers(rt: HostRuntime) {
+    let wanted = [
+        0x81,
+        0x0281,
+        0x0403_0281,
+        0x8807_0605_0403_0281,
+        0x8102,
+        0x8102_0304,
+        0x8102_0304_0506_0788,
+    ];
+    assert_eq!(rt; numbers_in(&[0x81, 2, 3, 4, 5, 6, 7, 0x88]), Ok(wanted));
+    assert_eq!(rt;
+        [parse_i32(&[255, 255, 255, 255]), parse_i32(&[0, 0, 0, 128])],
+        [Ok(-1), Ok(i32::MIN)]
+    );
+}
+
+#[test]
+fn parses_addresses(rt: HostRuntime) {
+    let mac = [0x81, 2, 3, 4, 5, 6];
+    assert_eq!(rt; parse_mac(&mac), Ok(mac));
+    let four = [10, 0, 0, 1];
+    let v4 = Ipv4Addr::new(10, 0, 0, 1);
+    let sixteen = [0x20, 1, 0x0d, 0xb8, 0, 0, 0, 0, 0, 0, 0, 0, 0, 0, 0, 1];
+    let v6 = Ipv6Addr::new(0x2001, 0x0db8, 0, 0, 0, 0, 0, 1);
+    assert_eq!(rt; parse_ipv4_addr(&four), Ok(v4));
+    assert_eq!(rt; parse_ipv6_addr(&sixteen), Ok(v6));
+    assert_eq!(rt;
+        [parse_ip(&four), parse_ip(&sixteen)],
+        [Ok(IpAddr::V4(v4)), Ok(IpAddr::V6(v6))]
+    );
+}
+
+/// Whether the payload is read as u8, u16, u32, u64, i32, big-endian u16, u32 and u64, hardware, IP, IPv4 and IPv6 address.
+fn accepted(payload: &[u8]) -> [bool; 12] {
+    [
+        parse_u8(payload).is_ok(),
+        parse_u16(payload).is_ok(),
+        parse_u32(payload).is_ok(),
+        parse_u64(payload).is_ok(),
+        parse_i32(payload).is_ok(),
+        parse_u16_be(payload).is_ok(),
+        parse_u32_be(payload).is_ok(),
+        parse_u64_be(payload).is_ok(),
+        parse_mac(payload).is_ok(),
+        parse_ip(payload).is_ok(),
+        parse_ipv4_addr(payload).is_ok(),
+        parse_ipv6_addr(payload).is_ok(),
+    ]
+}
+
+#[test]
+fn refuses_other_lengths(rt: HostRuntime) {
+    let bytes = [0; 17];
+    for len in 0..=17 {
+        let (two, four, eight, sixteen) = (len == 2, len == 4, len == 8, len == 16);
+        let wanted = [
+            len == 1,
+            two,
+            four,
+            eight,
+            four,
+            two,
+            four,
+            eight,
+            len == 6,
+            four || sixteen,
+            four,
+            sixteen,
+        ];
+        assert_eq!(rt; (len, accepted(&bytes[..len])), (len, wanted));
+    }
+    assert_eq!(rt; parse_u32(&bytes[..3]), Err(Cause::Length));
+    assert_eq!(rt; parse_ip(&bytes[..5]), Err(Cause::Length));
+}
+
+#[test]
+fn emits_numbers(rt: HostRuntime) {
+    let mut buffers = [[255; 9]; 7];
+    emit_u16(&mut buffers[0], 0x0102);
+    emit_u16_be(&mut buffers[1], 0x0102);
+    emit_u32(&mut buffers[2], 0x0102_0304);
+    emit_u32_be(&mut buffers[3], 0x0102_0304);
+    emit_i32(&mut buffers[4], -2);
+    emit_u64(&mut buffers[5], 0x0102_0304_0506_0708);
+    emit_u64_be(&mut buffers[6], 0x0102_0304_0506_0708);
+    let wanted = [
+        [2, 1, 255, 255, 255, 255, 255, 255, 255],
+        [1, 2, 255, 255, 255, 255, 255, 255, 255],
+        [4, 3, 2, 1, 255, 255, 255, 255, 255],
+        [1, 2, 3, 4, 255, 255, 255, 255, 255],
+        [254, 255, 255, 255, 255, 255, 255, 255, 255],
+        [8, 7, 6, 5, 4, 3, 2, 1, 255],
+        [1, 2, 3, 4, 5, 6, 7, 8, 255],
+    ];
+    assert_eq!(rt; buffers, wanted);
+}
