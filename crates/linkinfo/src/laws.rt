@@ -1,6 +1,6 @@
 //! Laws of the list, each the contract of a function without code.
 
-ghost use Rattle.std.specs.Prelude.{◌≡◌, ◌≢◌, ◌↔◌, List, Some, Ok, Err};
+ghost use Rattle.std.specs.Prelude.{◌≡◌, ◌≢◌, ◌↔◌, ℕ, List, Some, Ok, Err};
 ghost use Rattle.std.specs.Iterator.{Yields};
 ghost use Rattle.nla_frame.specs.Attribute.{Attribute};
 ghost use Rattle.nla_frame.specs.Error.{memory_fault};
@@ -46,8 +46,8 @@ pub fn unknown_kept<P: LinkPeer>()
 {}
 
 /// No string means want of memory: an answer (Frame, 0, Memory) of `VecLinkInfoOf::parse` comes of a refused allocation alone.
-pub fn no_memory<P: LinkPeer>(bytes: &[u8])
-    ensures { reading ⟦<P as DataFamilies>⟧.families bytes.now ≢ Err memory_fault }
+pub fn no_memory<P: LinkPeer>()
+    ensures { (s : List ℕ) → reading ⟦<P as DataFamilies>⟧.families s ≢ Err memory_fault }
 {
     families_lawful::<P>();
 }

@@ -1,10 +1,17 @@
 //! What follows from the definitions of the answers. These functions do nothing: each is there for its contract.
 
-ghost use Rattle.std.specs.Prelude.{◌≡◌, ◌≢◌, ◌⊎◌, ◌↔◌, ℕ, ◌<◌, ◌*◌, List, [], ◌∷◌, ◌++◌, length, codes, Some, IsTrue, All};
+ghost use Rattle.std.specs.Prelude.{◌≡◌, ◌≢◌, ◌⊎◌, ◌↔◌, ℕ, ◌<◌, ◌*◌, List, [], ◌∷◌, ◌++◌, length, codes, Err, Some, IsTrue, All};
 ghost use Rattle.std.specs.List.{AllPass};
 ghost use Rattle.hex.specs.Hex.{IsBytes, encode_upper, is_hex_digit};
+ghost use Rattle.nla_frame.specs.Answers.{verdict};
 ghost use Rattle.nla_frame.specs.Attribute.{Attribute, ListFits};
+ghost use Rattle.nla_frame.specs.Error.{memory_fault};
+ghost use Rattle.linkinfo.specs.BytesPeer.{bytes_peer};
+ghost use Rattle.linkinfo.specs.Comparing.{same_answer};
+ghost use Rattle.linkinfo.specs.Strings.{alike_strings, reading};
 ghost use Rattle.linkinfo_tool.specs.Answers.{answer_of, bad_line, bytes_of, canon_answer, check_answer, comparison_answer, line_answer, list_fits, word_of};
+
+use linkinfo::Bytes;
 
 /// An input is answered line by line, each line on its own.
 pub fn line_by_line()
@@ -41,3 +48,12 @@ pub fn hex_words()
 pub fn fitting()
     ensures { (attributes : List Attribute) → IsTrue (list_fits attributes) ↔ ListFits attributes }
 {}
+
+/// No answer is want of memory: none of the faults that `check`, `canon` and `same` write is.
+pub fn no_memory()
+    ensures check { (s : List ℕ) → verdict (reading bytes_peer s) ≢ Err memory_fault }
+    ensures canon { (s : List ℕ) → reading bytes_peer s ≢ Err memory_fault }
+    ensures same { (a b : List ℕ) → same_answer (reading bytes_peer a) (reading bytes_peer b) (alike_strings bytes_peer a b) ≢ Err memory_fault }
+{
+    linkinfo::laws::no_memory::<Bytes>();
+}

@@ -3,4 +3,4 @@ use Rattle.linkinfo.proofs.laws.no_memory.Goals as goal
 use Rattle.linkinfo.specs.PeerFamilies.{families_of}
 
 pub returns : goal.returns
-returns g c = reading_no_memory (families_of g.row.P g.P.LinkPeer) c.families_lawful.ensures c.args.bytes.now
+returns g c = λ s. reading_no_memory (families_of g.row.P g.P.LinkPeer) c.families_lawful.ensures s
