@@ -1,6 +1,6 @@
 //! Laws of the list, each the contract of a function without code.
 
-ghost use Rattle.std.specs.Prelude.{◌≡◌, ◌↔◌, List, Some, Ok, Err};
+ghost use Rattle.std.specs.Prelude.{◌≡◌, ◌↔◌, IsTrue, List, Some, Ok, Err};
 ghost use Rattle.std.specs.Iterator.{Yields};
 ghost use Rattle.nla_frame.specs.Attribute.{Attribute};
 ghost use Rattle.nla_frame.specs.Kept.{kept};
@@ -9,12 +9,12 @@ ghost use Rattle.linkinfo_table.specs.Readings.{IsDecided};
 ghost use Rattle.linkinfo.specs.Items.{link_meaning, link_other};
 ghost use Rattle.linkinfo.specs.Roles.{none_in_force, role_at};
 ghost use Rattle.linkinfo.specs.Strings.{IsFaulty, Means, MeansEach, force_behind_all, last_kind, last_port, reading};
-ghost use Rattle.linkinfo.specs.Walks.{LinkWalk, Moves, TagsByPlace, given, link_walk};
+ghost use Rattle.linkinfo.specs.Walks.{LinkWalk, Moves, TagsByPlace, given, held, link_walk};
 ghost use Rattle.linkinfo.specs.declared.role.InForce.{InForce};
-ghost use Rattle.linkinfo.specs.declared.walk.LinkInfoItem.{LinkInfoItem};
 ghost use Rattle.linkinfo.specs.declared.role.Role.TheVariants as role;
 
 use crate::link_info::LinkInfoOf;
+use crate::walk::LinkInfoItem;
 use linkinfo_table::LinkPeer;
 
 /// A string reads as it means: the attributes that it frames mean the values, each under the kinds in force before it; or, by `Frames` or
@@ -41,4 +41,9 @@ pub fn tags_by_place(bytes: &[u8])
 /// An attribute of an unknown type is kept with its 16-bit type and its payload.
 pub fn unknown_kept<P: LinkPeer>()
     ensures { (t : InForce) (a : Attribute) → role_at t a ≡ role.Unknown → link_meaning P.LinkPeer.own t a ≡ Ok (link_other (kept a)) }
+{}
+
+/// `==` of two items of a walk answers true exactly where both hold the same, whatever the places that their values are borrowed from.
+pub fn equal_items()
+    ensures { (a b : LinkInfoItem) → IsTrue (⟦<LinkInfoItem<'static> as PartialEq>⟧.eq a b) ↔ (held a ≡ held b) }
 {}
