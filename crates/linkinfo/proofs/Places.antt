@@ -1,7 +1,6 @@
 -- The kinds in force are found by place, and unknown attributes are kept.
-use Rattle.std.proofs.Common.{◌≡◌, ℕ, zero, suc, Bool, true, false, cond, eqb, ◌||◌, List, [], ◌∷◌, map, refl, sym, ap, subst, ◌∙◌, Result, Ok, Err, Option, Some, None}
+use Rattle.std.proofs.Common.{◌≡◌, ℕ, zero, suc, Bool, true, false, cond, eqb, ◌||◌, List, [], ◌∷◌, map, refl, sym, ap, ◌∙◌, Result, Ok, Err, Option, Some, None}
 use Rattle.std.proofs.Common.{arith}
-use Rattle.std.specs.Prelude.{◌↔◌}
 use Rattle.std.specs.Iterator.{Yields}
 use Rattle.std.specs.Str.{is_utf8}
 use Rattle.std.proofs.lemmas.Bool.{ne_eqb}
@@ -11,16 +10,13 @@ use Rattle.linkinfo_numbers.specs.Kind.{kind_of_name, tag_of_name}
 use Rattle.linkinfo_numbers.specs.PortKind.{port_kind_of_name, port_tag_of_name}
 use Rattle.linkinfo_shapes.specs.Shapes.{means}
 use Rattle.linkinfo_shapes.specs.declared.shape.Shape.TheVariants.{Name}
-use Rattle.nla_frame.specs.Attribute.{Attribute, IsBytes, masked}
+use Rattle.nla_frame.specs.Attribute.{Attribute, masked}
 use Rattle.nla_frame.specs.Kept.{kept}
 use Rattle.nla_frame.specs.Payload.{stripped}
-use Rattle.nla_frame.specs.Pieces.{pieces_of}
 use Rattle.nla_frame.specs.declared.error.Cause.TheVariants as cause
 use Rattle.nla_frame.specs.declared.error.Family.TheVariants as family
 use Rattle.nla_frame.specs.declared.error.DecodeError.{DecodeError}
-use Rattle.nla_frame.proofs.Stepping.{pieces_only}
 use Rattle.linkinfo.specs.Families.{Families}
-use Rattle.linkinfo_table.specs.ListLaws.{reads, together, accepted}
 use Rattle.linkinfo_table.specs.FamilyRows.{own}
 use Rattle.linkinfo_table.specs.Rows.{labelled, meaning_in, row_meaning}
 use Rattle.linkinfo.specs.declared.link_info.LinkInfoOf.{LinkInfoOf}
@@ -30,7 +26,7 @@ use Rattle.linkinfo.specs.declared.role.Role.{Role}
 use Rattle.linkinfo.specs.declared.role.Role.TheVariants as role
 use Rattle.linkinfo.specs.Items.{link_meaning, link_other, link_row}
 use Rattle.linkinfo.specs.Roles.{behind, behind_role, name_meaning, name_or_fault, none_in_force, role_at, role_of, role_under, with_name}
-use Rattle.linkinfo.specs.Strings.{or_stay, force_after, values_from, reading, MeansEach, Means, force_behind_all, first_or, last_kind, names_or_uses, last_port}
+use Rattle.linkinfo.specs.Strings.{or_stay, force_after, MeansEach, force_behind_all, first_or, last_kind, names_or_uses, last_port}
 use Rattle.linkinfo.specs.Walks.{LinkWalk, Moves, TagsByPlace, attribute_of_item, given, link_walk}
 use Rattle.linkinfo.specs.declared.walk.LinkInfoItem.{LinkInfoItem}
 use Rattle.linkinfo.proofs.Items.{name_read, unknown_from_six}

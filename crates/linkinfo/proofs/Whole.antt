@@ -1,6 +1,6 @@
 -- The laws of whole strings: what is read is well formed, a canonical string reads back exactly where its list is well formed, strings read one
 -- behind another, and alike strings mean the same.
-use Rattle.std.proofs.Common.{◌≡◌, ℕ, zero, suc, ◌*◌, ◌≤◌, ◌%◌, Bool, true, List, [], ◌∷◌, ◌++◌, length, map, refl, sym, ap, subst, ◌∙◌, Result, Ok, Err, Option, Some, None}
+use Rattle.std.proofs.Common.{◌≡◌, ℕ, zero, suc, ◌*◌, ◌≤◌, ◌%◌, Bool, true, false, Decides, List, [], ◌∷◌, ◌++◌, length, map, refl, sym, ap, subst, ◌∙◌, Result, Ok, Err, Option, Some, None}
 use Rattle.std.specs.Prelude.{◌≢◌, ◌↔◌, IfOk, IsOk, IsTrue}
 use Rattle.std.specs.List.{AllByRecursion}
 use Rattle.nla_frame.specs.Answers.{verdict}
@@ -138,6 +138,28 @@ module _ {P : Type 0} (peer : Families P) (law : AreFamilies peer) where
       (sym (e ∙ ap (λ (s : Result (List (LinkInfoOf P)) DecodeError). same_answer s (reading peer q) (alike_strings peer p q)) h
       ∙ ap (λ (t : Result (List (LinkInfoOf P)) DecodeError). same_answer (ok_of xs) t (alike_strings peer p q)) k))
       (same_canonical p q xs ys bp bq h k f g)
+
+  list_same : (xs ys : List (LinkInfoOf P)) → ok_of xs ≡ ok_of ys → xs ≡ ys
+  list_same xs ys e = cc
+
+  same_truth : (a b : Bool) → (a ≡ true → b ≡ true) → (b ≡ true → a ≡ true) → a ≡ b
+  same_truth true true f g = refl
+  same_truth true false f g = sym (f refl)
+  same_truth false true f g = g refl
+  same_truth false false f g = refl
+
+  -- where both are accepted, what is answered is what a test of equality of the two lists answers
+  pub same_values : (p q : List ℕ) (r : Result Bool DecodeError) (xs ys : List (LinkInfoOf P)) (b : Bool) → IsBytes p → IsBytes q →
+      r ≡ same_answer (reading peer p) (reading peer q) (alike_strings peer p q) → reading peer p ≡ Ok xs → reading peer q ≡ Ok ys → Decides b (xs ≡ ys) → r ≡ Ok b
+  same_values p q r xs ys b bp bq e h k d =
+      let is : r ≡ Ok (alike_strings peer p q) =
+      e ∙ ap (λ (s : Result (List (LinkInfoOf P)) DecodeError). same_answer s (reading peer q) (alike_strings peer p q)) h
+      ∙ ap (λ (t : Result (List (LinkInfoOf P)) DecodeError). same_answer (ok_of xs) t (alike_strings peer p q)) k in
+      let equal : IsTrue (alike_strings peer p q) ↔ (reading peer p ≡ reading peer q) =
+      subst (λ (z : Result Bool DecodeError). IfOk z (λ same. IsTrue same ↔ (reading peer p ≡ reading peer q))) is (same_equal p q r bp bq e) in
+      is
+      ∙ ap (λ (z : Bool). let s : Result Bool DecodeError = Ok z in s)
+      (same_truth (alike_strings peer p q) b (λ t. d.1 (list_same xs ys (sym h ∙ equal.0 t ∙ k))) (λ t. equal.1 (h ∙ ap ok_of (d.0 t) ∙ sym k)))
 
   -- ---- one string behind another
 

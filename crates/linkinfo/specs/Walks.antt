@@ -6,6 +6,8 @@ use Rattle.nla_frame.specs.Error.{header_fault}
 use Rattle.nla_frame.specs.Pieces.{pieces}
 use Rattle.nla_frame.specs.Walk.{Walk, unread}
 use Rattle.nla_frame.specs.declared.error.DecodeError.{DecodeError}
+use Rattle.linkinfo_numbers.specs.declared.names.KindTag.{KindTag}
+use Rattle.linkinfo_numbers.specs.declared.names.PortTag.{PortTag}
 use Rattle.linkinfo.specs.declared.role.InForce.{InForce}
 use Rattle.linkinfo.specs.declared.role.Role.{Role}
 use Rattle.linkinfo.specs.declared.walk.LinkInfoItem.{LinkInfoItem}
@@ -130,3 +132,15 @@ pub record TagsByPlace (before : List LinkInfoItem) (item : LinkInfoItem) : Type
 abbrev pub given : List LinkInfoItem → List (Result LinkInfoItem DecodeError)
 given [] = []
 given (item ∷ more) = Ok item ∷ given more
+
+-- ---- what an item holds, whatever the place that its value is borrowed from
+
+pub record HeldItem : Type 0 where
+  pub place : ℕ
+  pub raw_kind : ℕ
+  pub value : List ℕ
+  pub kind_tag : Option KindTag
+  pub port_tag : Option PortTag
+
+abbrev pub held : LinkInfoItem → HeldItem
+held item = record { place = item.place; raw_kind = item.raw_kind; value = item.value.now; kind_tag = item.kind_tag; port_tag = item.port_tag }

@@ -1,6 +1,6 @@
 //! Laws of the list, each the contract of a function without code.
 
-ghost use Rattle.std.specs.Prelude.{◌≡◌, ◌≢◌, ◌↔◌, ℕ, List, Some, Ok, Err};
+ghost use Rattle.std.specs.Prelude.{◌≡◌, ◌≢◌, ◌↔◌, ℕ, IsTrue, List, Some, Ok, Err};
 ghost use Rattle.std.specs.Iterator.{Yields};
 ghost use Rattle.nla_frame.specs.Attribute.{Attribute};
 ghost use Rattle.nla_frame.specs.Error.{memory_fault};
@@ -10,13 +10,13 @@ ghost use Rattle.linkinfo_table.specs.Readings.{IsDecided};
 ghost use Rattle.linkinfo.specs.Items.{link_meaning, link_other};
 ghost use Rattle.linkinfo.specs.Roles.{none_in_force, role_at};
 ghost use Rattle.linkinfo.specs.Strings.{IsFaulty, Means, MeansEach, force_behind_all, last_kind, last_port, reading};
-ghost use Rattle.linkinfo.specs.Walks.{LinkWalk, Moves, TagsByPlace, given, link_walk};
+ghost use Rattle.linkinfo.specs.Walks.{LinkWalk, Moves, TagsByPlace, given, held, link_walk};
 ghost use Rattle.linkinfo.specs.declared.role.InForce.{InForce};
-ghost use Rattle.linkinfo.specs.declared.walk.LinkInfoItem.{LinkInfoItem};
 ghost use Rattle.linkinfo.specs.declared.role.Role.TheVariants as role;
 
 use crate::families::{DataFamilies, families_lawful};
 use crate::link_info::LinkInfoOf;
+use crate::walk::LinkInfoItem;
 use linkinfo_table::LinkPeer;
 
 /// A string reads as it means: the attributes that it frames mean the values, each under the kinds in force before it; or, by `Frames` or
@@ -51,3 +51,8 @@ pub fn no_memory<P: LinkPeer>()
 {
     families_lawful::<P>();
 }
+
+/// `==` of two items of a walk answers true exactly where both hold the same, whatever the places that their values are borrowed from.
+pub fn equal_items()
+    ensures { (a b : LinkInfoItem) → IsTrue (⟦<LinkInfoItem<'static> as PartialEq>⟧.eq a b) ↔ (held a ≡ held b) }
+{}

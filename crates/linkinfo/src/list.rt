@@ -229,6 +229,9 @@ pub fn same_of<P: LinkPeer>(a: &[u8], b: &[u8]) -> Result<bool, DecodeError>
     // Alike strings are those that mean the same list.
     ensures equal { IfOk result (λ same. IsTrue same ↔ (reading ⟦<P as DataFamilies>⟧.families a.now ≡ reading ⟦<P as DataFamilies>⟧.families b.now)) }
 
+    // `==` of what two strings read as is what is answered.
+    ensures values { (x y : VecLinkInfoOf P) → reading ⟦<P as DataFamilies>⟧.families a.now ≡ Ok x.0 → reading ⟦<P as DataFamilies>⟧.families b.now ≡ Ok y.0 → result ≡ Ok (⟦<VecLinkInfoOf<P> as PartialEq>⟧.eq x y) }
+
     // Where both lists fit, alike strings are those of one canonical string.
     ensures canonical { (xs ys : List (LinkInfoOf P)) → reading ⟦<P as DataFamilies>⟧.families a.now ≡ Ok xs → reading ⟦<P as DataFamilies>⟧.families b.now ≡ Ok ys → AllByRecursion Fits (map (link_attribute ⟦<P as DataFamilies>⟧.families) xs) → AllByRecursion Fits (map (link_attribute ⟦<P as DataFamilies>⟧.families) ys) → IfOk result (λ same. IsTrue same ↔ (list_string (map (link_attribute ⟦<P as DataFamilies>⟧.families) xs) ≡ list_string (map (link_attribute ⟦<P as DataFamilies>⟧.families) ys))) }
 {
@@ -260,7 +263,15 @@ pub fn check_counted(bytes: &[u8], count: &mut HeaderCount) -> Result<(), Decode
 pub fn same(a: &[u8], b: &[u8]) -> Result<bool, DecodeError>
     ensures answer { result ≡ same_answer (reading bytes_peer a.now) (reading bytes_peer b.now) (alike_strings bytes_peer a.now b.now) }
     ensures no_memory { result ≢ Err memory_fault }
+
+    // Alike strings are those that mean the same list.
     ensures equal { IfOk result (λ same. IsTrue same ↔ (reading bytes_peer a.now ≡ reading bytes_peer b.now)) }
+
+    // `==` of what two strings read as is what is answered.
+    ensures values { (x y : VecLinkInfoOf Bytes) → reading bytes_peer a.now ≡ Ok x.0 → reading bytes_peer b.now ≡ Ok y.0 → result ≡ Ok (⟦<VecLinkInfoOf<Bytes> as PartialEq>⟧.eq x y) }
+
+    // Where both lists fit, alike strings are those of one canonical string.
+    ensures canonical { (xs ys : List (LinkInfoOf Bytes)) → reading bytes_peer a.now ≡ Ok xs → reading bytes_peer b.now ≡ Ok ys → AllByRecursion Fits (map (link_attribute bytes_peer) xs) → AllByRecursion Fits (map (link_attribute bytes_peer) ys) → IfOk result (λ same. IsTrue same ↔ (list_string (map (link_attribute bytes_peer) xs) ≡ list_string (map (link_attribute bytes_peer) ys))) }
 {
     same_of::<Bytes>(a, b)
 }

@@ -6,12 +6,13 @@ ghost use Rattle.linkinfo_tool.specs.Answers.{answer_of};
 ghost use Rattle.linkinfo_tool.specs.Streams.{AppendsBeginning, GivesAll};
 
 use crate::answers::answer;
+use nla_frame::ExactEq;
 use std::alloc::Global;
 use std::io::{Read, Write};
 use thiserror::Error;
 
 /// Why a run ended without its whole answer.
-#[derive(Debug, Drop, PartialEq, Eq, Error)]
+#[derive(Clone, Debug, Drop, PartialEq, Eq, Error)]
 pub enum RunError {
     /// A read failed, or `MOST_READS` reads did not meet the end. Nothing was written.
     #[error("read")]
@@ -22,6 +23,12 @@ pub enum RunError {
     /// An allocation was refused. Nothing was written.
     #[error("memory")]
     Memory,
+}
+
+impl ExactEq for RunError {
+    ghost use Rattle.std.proofs.Common.{rules};
+
+    ghost exact = { Prim.search rules };
 }
 
 /// The most reads that one run makes.
