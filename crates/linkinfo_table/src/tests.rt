@@ -1,7 +1,7 @@
 //! Peers of plain bytes; the calls of families are tested where families are.
 
-use crate::{LinkPeer, PeerFault};
-use nla_frame::Bytes;
+use crate::{Datum, Found, LinkPeer, Part, PeerFault, Shape};
+use nla_frame::{Bytes, DefaultNla};
 use std::test::Fail;
 
 #[test]
@@ -26,5 +26,27 @@ fn bytes_are_peers(rt: HostRuntime) -> Result<(), Fail> {
     let longer = Bytes::new(vec![in alloc; 0u8; 65532]?);
     assert_eq!(rt; LinkPeer::fit_len(&longer), None);
     assert!(rt; PeerFault::Refused != PeerFault::Memory);
+    Ok(())
+}
+
+#[test]
+fn parts_compare_by_what_they_hold(rt: HostRuntime) -> Result<(), Fail> {
+    let alloc = rt.alloc();
+    let text = [b'a', b'b'];
+    let same = [b'a', b'b'];
+    let found = Found::Typed(1, Datum::Bytes(&text));
+    assert!(rt; found == Found::Typed(1, Datum::Bytes(&same)));
+    assert!(rt; found != Found::Typed(2, Datum::Bytes(&same)));
+    assert!(rt; found != Found::Typed(1, Datum::Bytes(&same[..1])));
+    assert!(rt; found.clone()? == found);
+    let kept = DefaultNla::new(7, vec![in alloc; 1u8]?);
+    let other = DefaultNla::new(7, vec![in alloc; 1u8]?);
+    assert!(rt; Part::Kept(&kept) == Part::Kept(&other));
+    assert!(rt; Found::Kept(kept) == Found::Kept(other));
+    assert!(rt; Part::Custom == Part::Custom);
+    let part = Part::Typed(1, Shape::Raw, Datum::Bytes(&text));
+    assert!(rt; part == Part::Typed(1, Shape::Raw, Datum::Bytes(&same)));
+    assert!(rt; part != Part::Typed(1, Shape::Name, Datum::Bytes(&same)));
+    assert!(rt; part != Part::Custom);
     Ok(())
 }

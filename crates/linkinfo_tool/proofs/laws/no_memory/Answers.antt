@@ -1,4 +1,4 @@
-use Rattle.std.proofs.Common.{◌≡◌, List, Result, Ok, Err, Bool, ap}
+use Rattle.std.proofs.Common.{◌≡◌, Result, Ok, Err, Bool, ap}
 use Rattle.std.specs.Prelude.{◌≢◌}
 use Rattle.nla_frame.specs.Answers.{verdict}
 use Rattle.nla_frame.specs.Error.{memory_fault}
