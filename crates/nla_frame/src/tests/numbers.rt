@@ -100,3 +100,11 @@ fn emits_numbers(rt: HostRuntime) {
     emit_u64_be(&mut buffer, 0x0102_0304_0506_0708);
     assert_eq!(rt; buffer.as_slice(), [1, 2, 3, 4, 5, 6, 7, 8, 255].as_slice());
 }
+
+#[test]
+fn takes_one_nul_off_a_name(rt: HostRuntime) {
+    assert_eq!(rt; without_nul(b"vrf\0"), b"vrf".as_slice());
+    assert_eq!(rt; without_nul(b"vrf\0\0"), b"vrf\0".as_slice());
+    assert_eq!(rt; without_nul(b"vrf"), b"vrf".as_slice());
+    assert!(rt; without_nul(b"").is_empty());
+}

@@ -29,6 +29,8 @@ fn displays_errors(rt: HostRuntime) -> Result<(), Fail> {
     );
     assert_eq!(rt; Cause::Header as u8, 1);
     assert_eq!(rt; Cause::Memory as u8, 10);
+    assert_eq!(rt; Cause::Depth.number(), 9);
+    assert_eq!(rt; Cause::Peer.number(), 11);
     let memory = DecodeError {
         family: Family::Frame,
         kind: 0,
