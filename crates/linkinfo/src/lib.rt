@@ -146,6 +146,7 @@ pub use nla_frame::parse_u32;
 pub use nla_frame::parse_u32_be;
 pub use nla_frame::parse_u64;
 pub use nla_frame::parse_u64_be;
+pub use nla_frame::without_nul;
 pub use port_data::InfoPortData;
 pub use walk::LinkInfoItem;
 pub use walk::LinkInfoWalk;

@@ -278,6 +278,7 @@ fn displays_errors(rt: HostRuntime) -> Result<(), Fail> {
         (RunError::Memory, "memory"),
     ] {
         assert_eq!(rt; error.to_string(rt.alloc())?.as_str(), text);
+        assert_eq!(rt; error.clone()?, error);
     }
     Ok(())
 }

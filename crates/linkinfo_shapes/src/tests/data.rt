@@ -32,6 +32,7 @@ fn takes_data_apart(rt: HostRuntime) {
     assert!(rt; !is_equal(&Shape::Raw, &Shape::Name));
     laws::shapes();
     laws::data();
+    laws::equal_data();
 }
 
 #[test]

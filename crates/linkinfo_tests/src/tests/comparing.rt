@@ -4,7 +4,7 @@ use super::assertions::bytes_of;
 use super::worked::{
     DATA_TWICE, LATER_KIND, OTHER_PORT, PFCP, PFCP_NO_NUL, PORT_DATA, VETH, VETH_TAIL, XFRM, XSTATS,
 };
-use linkinfo::{HeaderCount, same, same_counted};
+use linkinfo::{HeaderCount, VecLinkInfo, same, same_counted};
 use std::test::Fail;
 
 #[test]
@@ -44,6 +44,9 @@ fn compares_strings(rt: HostRuntime) -> Result<(), Fail> {
         let mut count = HeaderCount::new();
         let counted = same_counted(&first, &second, &mut count);
         assert_eq!(rt; counted, Ok(wanted), "{a} and {b}");
+        let x = VecLinkInfo::parse(alloc, &first)?;
+        let y = VecLinkInfo::parse(alloc, &second)?;
+        assert_eq!(rt; x == y, wanted, "{a} and {b}");
     }
     Ok(())
 }

@@ -9,7 +9,9 @@ use std::test::Fail;
 fn laws_leave_a_string_accepted(rt: HostRuntime) -> Result<(), Fail> {
     let bytes = bytes_of(&rt, rt.alloc(), XFRM)?;
     laws::framed::<Bytes>(&bytes);
-    laws::in_force::<BitPeer>(&bytes);
+    laws::in_force::<BitPeer>();
+    laws::tags_by_place(&bytes);
+    laws::equal_items();
     laws::unknown_kept::<Bytes>();
     assert_eq!(rt; check(&bytes), Ok(()));
     Ok(())

@@ -117,3 +117,18 @@ fn walks_end_at_faults(rt: HostRuntime) {
     assert_walk(&rt, &[4, 0, 3, 0, 4, 0, 9, 0], &[], Some(order), 1);
     assert_walk(&rt, &[8, 0, 1], &[], Some(HEADER_FAULT), 0);
 }
+
+#[test]
+fn compares_and_clones_walks(rt: HostRuntime) -> Result<(), Fail> {
+    let bytes = bytes_of(&rt, rt.alloc(), DATA_TWICE)?;
+    let mut walk = LinkInfoWalk::new(&bytes);
+    walk.next();
+    let mut copy = walk.clone()?;
+    assert!(rt; copy == walk);
+    assert!(rt; copy != LinkInfoWalk::new(&bytes));
+    walk.next();
+    assert!(rt; copy != walk);
+    copy.next();
+    assert!(rt; copy == walk);
+    Ok(())
+}
