@@ -19,8 +19,6 @@ mod names;
 mod netkit;
 mod port_kind;
 mod rmnet;
-#[cfg(test)]
-mod tests;
 mod tunnel;
 mod vxlan;
 mod word;

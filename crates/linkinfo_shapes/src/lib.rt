@@ -8,8 +8,6 @@ mod payload;
 mod readers;
 mod shape;
 mod table;
-#[cfg(test)]
-mod tests;
 mod writers;
 
 pub use datum::Datum;

@@ -114,3 +114,21 @@ fn emits_numbers(rt: HostRuntime) {
     ];
     assert_eq!(rt; buffers, wanted);
 }
+
+#[test]
+fn takes_one_nul_off_a_name(rt: HostRuntime) {
+    assert_eq!(rt;
+        [
+            without_nul(b"vrf\0"),
+            without_nul(b"vrf\0\0"),
+            without_nul(b"vrf"),
+            without_nul(b"")
+        ],
+        [
+            b"vrf".as_slice(),
+            b"vrf\0".as_slice(),
+            b"vrf".as_slice(),
+            b"".as_slice()
+        ]
+    );
+}

@@ -41,6 +41,7 @@ fn displays_errors(rt: HostRuntime) -> Result<(), Fail> {
 #[test]
 fn numbers_causes(rt: HostRuntime) {
     assert_eq!(rt; [Cause::Header as u8, Cause::Memory as u8], [1, 10]);
+    assert_eq!(rt; [Cause::Depth.number(), Cause::Peer.number()], [9, 11]);
 }
 
 #[test]

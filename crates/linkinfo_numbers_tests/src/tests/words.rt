@@ -1,6 +1,6 @@
 //! Texts of values, and values of words.
 
-use crate::{
+use linkinfo_numbers::{
     AmtMode, ErSpanDir, GeneveDf, GreEncapType, GtpRole, IpVlanMode, MacVlanMode, NetkitMode,
     NetkitPolicy, NetkitScrub, TunnelEncapType, VxlanDf,
 };

@@ -1,6 +1,6 @@
 //! Each number type over all its named numbers, the numbers beside them, and the largest number.
 
-use crate::{
+use linkinfo_numbers::{
     AmtMode, ErSpanDir, EthernetProtocol, GeneveDf, GreEncapType, GtpRole, IpProtocol, IpVlanMode,
     IpoibMode, MacSecCipherId, MacSecOffload, MacSecValidate, MacVlanMacAddressMode, MacVlanMode,
     NetkitMode, NetkitPolicy, NetkitScrub, TunnelEncapType, VxlanDf,
@@ -231,8 +231,10 @@ fn numbers_of_references_and_scrubs(rt: HostRuntime) {
         (3, GreEncapType::Other(3)),
         (u16::MAX, GreEncapType::Other(u16::MAX)),
     ] {
-        assert_eq!(rt; GreEncapType::from(number), value);
-        assert_eq!(rt; u16::from(&value), number);
+        assert_eq!(rt;
+            (GreEncapType::from(number), u16::from(&value)),
+            (value, number)
+        );
     }
     for (number, value) in [
         (0, ErSpanDir::Ingress),
@@ -240,8 +242,10 @@ fn numbers_of_references_and_scrubs(rt: HostRuntime) {
         (2, ErSpanDir::Other(2)),
         (u8::MAX, ErSpanDir::Other(u8::MAX)),
     ] {
-        assert_eq!(rt; ErSpanDir::from(number), value);
-        assert_eq!(rt; u8::from(&value), number);
+        assert_eq!(rt;
+            (ErSpanDir::from(number), u8::from(&value)),
+            (value, number)
+        );
     }
     for (number, value, again) in [
         (0, NetkitScrub::None, 0),
@@ -250,10 +254,17 @@ fn numbers_of_references_and_scrubs(rt: HostRuntime) {
         (5, NetkitScrub::Default, 1),
         (u32::MAX, NetkitScrub::Default, 1),
     ] {
-        assert_eq!(rt; NetkitScrub::from(number), value);
-        assert_eq!(rt; u32::from(value), again);
+        assert_eq!(rt;
+            (number, NetkitScrub::from(number), u32::from(value)),
+            (number, value, again)
+        );
     }
-    assert_eq!(rt; GtpRole::default(), GtpRole::Ggsn);
-    assert_eq!(rt; GreEncapType::default(), GreEncapType::None);
-    assert_eq!(rt; ErSpanDir::default(), ErSpanDir::Ingress);
+    assert_eq!(rt;
+        (
+            GtpRole::default(),
+            GreEncapType::default(),
+            ErSpanDir::default()
+        ),
+        (GtpRole::Ggsn, GreEncapType::None, ErSpanDir::Ingress)
+    );
 }

@@ -1,0 +1,160 @@
+//! Flag sets: the named bits, and every number of their width as a set.
+
+use bitflags::Flags;
+use linkinfo_numbers::{
+    GreEncapFlags, GreIOFlags, InfoRmNetFlags, Ip6TunnelFlags, IpVlanFlags, KeepsEveryBit,
+    MacVlanFlags, RmNetFlags, TunnelEncapFlags, bits_again,
+};
+use nla_frame::is_equal;
+use std::collections::hash_map::DefaultHasher;
+use std::hash::{Hash, Hasher};
+
+#[test]
+fn named_bits_of_gre(rt: HostRuntime) {
+    assert_eq!(rt;
+        [
+            GreIOFlags::Checksum.bits(),
+            GreIOFlags::Routing.bits(),
+            GreIOFlags::Key.bits(),
+            GreIOFlags::Seq.bits(),
+            GreIOFlags::Strict0.bits(),
+            GreIOFlags::Rec.bits(),
+            GreIOFlags::Ack.bits(),
+            GreIOFlags::Flags.bits(),
+            GreIOFlags::Version.bits(),
+        ],
+        [
+            0x8000, 0x4000, 0x2000, 0x1000, 0x0800, 0x0700, 0x0080, 0x0078, 0x0007
+        ]
+    );
+    assert_eq!(rt;
+        [
+            GreEncapFlags::Checksum.bits(),
+            GreEncapFlags::Checksum6.bits(),
+            GreEncapFlags::RemoteChecksum.bits(),
+        ],
+        [1, 2, 4]
+    );
+}
+
+#[test]
+fn named_bits_of_tunnels(rt: HostRuntime) {
+    assert_eq!(rt;
+        [
+            TunnelEncapFlags::CSum.bits(),
+            TunnelEncapFlags::CSum6.bits(),
+            TunnelEncapFlags::RemCSum.bits(),
+        ],
+        [1, 2, 4]
+    );
+    assert_eq!(rt;
+        [
+            Ip6TunnelFlags::IgnEncapLimit.bits(),
+            Ip6TunnelFlags::UseOrigTclass.bits(),
+            Ip6TunnelFlags::UseOrigFlowlabel.bits(),
+            Ip6TunnelFlags::Mip6Dev.bits(),
+            Ip6TunnelFlags::RcvDscpCopy.bits(),
+            Ip6TunnelFlags::UseOrigFwMark.bits(),
+            Ip6TunnelFlags::AllowLocalRemote.bits(),
+            Ip6TunnelFlags::CapXmit.bits(),
+            Ip6TunnelFlags::CapRcv.bits(),
+            Ip6TunnelFlags::CapPerPacket.bits(),
+        ],
+        [
+            0x1, 0x2, 0x4, 0x8, 0x10, 0x20, 0x40, 0x10000, 0x20000, 0x40000
+        ]
+    );
+}
+
+#[test]
+fn named_bits_of_devices(rt: HostRuntime) {
+    assert_eq!(rt;
+        [
+            IpVlanFlags::Private.bits(),
+            IpVlanFlags::Vepa.bits(),
+            MacVlanFlags::NoPromisc.bits(),
+            MacVlanFlags::NoDst.bits(),
+        ],
+        [1, 2, 1, 2]
+    );
+    assert_eq!(rt;
+        [
+            RmNetFlags::IngressDeaggregation.bits(),
+            RmNetFlags::IngressCommands.bits(),
+            RmNetFlags::IngressMapCksumV4.bits(),
+            RmNetFlags::EgressMapCksumV4.bits(),
+            RmNetFlags::IngressMapCksumV5.bits(),
+            RmNetFlags::EgressMapCksumV5.bits(),
+        ],
+        [1, 2, 4, 8, 16, 32]
+    );
+}
+
+#[test]
+fn every_number_is_a_set(rt: HostRuntime) {
+    for bits in [0u16, 1, 0x0006, 0x0007, 0x0008, 0xa000, 0x7fff, u16::MAX] {
+        let kept = (Some(bits), bits);
+        assert_eq!(rt;
+            [
+                bits_again::<GreIOFlags>(bits),
+                bits_again::<GreEncapFlags>(bits),
+                bits_again::<TunnelEncapFlags>(bits),
+                bits_again::<IpVlanFlags>(bits),
+                bits_again::<MacVlanFlags>(bits),
+            ],
+            [kept; 5]
+        );
+    }
+    for bits in [0u32, 1, 0x3f, 0x40, 0x0007_0000, 0x0008_0000, u32::MAX] {
+        let kept = (Some(bits), bits);
+        assert_eq!(rt;
+            [
+                bits_again::<Ip6TunnelFlags>(bits),
+                bits_again::<RmNetFlags>(bits)
+            ],
+            [kept; 2]
+        );
+    }
+}
+
+#[test]
+fn sets_of_bits(rt: HostRuntime) {
+    let checksum_and_key = GreIOFlags::from_bits_retain(0xa000);
+    assert_eq!(rt; checksum_and_key.bits(), 0xa000);
+    assert!(rt; checksum_and_key == GreIOFlags::Checksum.union(GreIOFlags::Key));
+    assert!(rt; !checksum_and_key.contains(GreIOFlags::Seq));
+    assert!(rt; is_equal(&GreIOFlags::default(), &GreIOFlags::empty()));
+    assert!(rt; is_equal(&GreEncapFlags::default(), &GreEncapFlags::empty()));
+    assert!(rt; is_equal(&IpVlanFlags::default(), &IpVlanFlags::empty()));
+}
+
+#[test]
+fn flags_under_a_mask(rt: HostRuntime) {
+    let flags = RmNetFlags::from_bits_retain(1);
+    let mask = RmNetFlags::from_bits_retain(255);
+    let both = InfoRmNetFlags::new(flags, mask);
+    assert_eq!(rt; (both.flags.bits(), both.mask.bits()), (1, 255));
+    assert!(rt; both != InfoRmNetFlags::new(mask, flags));
+}
+
+fn hash_of<T: Hash>(value: &T) -> u64 {
+    let mut hasher = DefaultHasher::new();
+    value.hash(&mut hasher);
+    hasher.finish()
+}
+
+#[test]
+fn equal_sets_hash_alike(rt: HostRuntime) {
+    let made = TunnelEncapFlags::CSum.union(TunnelEncapFlags::RemCSum);
+    assert_eq!(rt;
+        hash_of(&made),
+        hash_of(&TunnelEncapFlags::from_bits_retain(5))
+    );
+    assert!(rt; hash_of(&made) != hash_of(&TunnelEncapFlags::CSum));
+    let made = Ip6TunnelFlags::Mip6Dev.union(Ip6TunnelFlags::CapRcv);
+    assert_eq!(rt;
+        hash_of(&made),
+        hash_of(&Ip6TunnelFlags::from_bits_retain(0x20008))
+    );
+    assert!(rt; hash_of(&made) != hash_of(&Ip6TunnelFlags::Mip6Dev));
+}

@@ -1,0 +1,5 @@
+//! Tests of `linkinfo_shapes`, by its public calls alone: a crate with tests is proved twice, so these stand in one of their own.
+#![tactic(auto)]
+
+#[cfg(test)]
+mod tests;

@@ -1,0 +1,126 @@
+//! What a family takes out of data.
+
+use linkinfo_shapes::{Datum, Shape, laws};
+use nla_frame::is_equal;
+use std::net::{IpAddr, Ipv4Addr, Ipv6Addr};
+
+#[test]
+fn takes_numbers_apart(rt: HostRuntime) {
+    let numbers = [
+        u64::from(Datum::Number(255).u8_or_zero()),
+        u64::from(Datum::Number(65535).u16_or_zero()),
+        u64::from(Datum::Number(0xffff_ffff).u32_or_zero()),
+        Datum::Number(u64::MAX).u64_or_zero(),
+    ];
+    assert_eq!(rt; numbers, [255, 65535, 0xffff_ffff, u64::MAX]);
+    assert_eq!(rt;
+        (
+            Datum::Signed(-2).i32_or_zero(),
+            Datum::Truth(true).bool_or_false()
+        ),
+        (-2, true)
+    );
+    assert_eq!(rt;
+        (
+            Datum::Pair(65535, 1).u16_pair_or_zeros(),
+            Datum::Pair(65536, 1).u32_pair_or_zeros()
+        ),
+        ((65535, 1), (65536, 1))
+    );
+    assert_eq!(rt;
+        [Datum::Number(0).byte_or_none(), Datum::Empty.byte_or_none()],
+        [Some(0), None]
+    );
+}
+
+#[test]
+fn takes_addresses_and_bytes_apart(rt: HostRuntime) {
+    let v4 = Ipv4Addr::new(10, 0, 0, 1);
+    let v6 = Ipv6Addr::new(0x2001, 0x0db8, 0, 0, 0, 0, 0, 1);
+    assert_eq!(rt;
+        (
+            Datum::V4(v4).ipv4_or_unspecified(),
+            Datum::V6(v6).ipv6_or_unspecified()
+        ),
+        (v4, v6)
+    );
+    assert_eq!(rt;
+        [
+            Datum::V4(v4).ip_or_unspecified(),
+            Datum::V6(v6).ip_or_unspecified()
+        ],
+        [IpAddr::V4(v4), IpAddr::V6(v6)]
+    );
+    let mac = [2, 0, 0, 0, 0, 1];
+    assert_eq!(rt; Datum::Mac(mac).mac_or_zeros(), mac);
+    assert_eq!(rt;
+        (
+            Datum::Text("a").text_or_empty(),
+            Datum::Bytes(&[7]).bytes_or_empty()
+        ),
+        ("a", [7].as_slice())
+    );
+}
+
+#[test]
+fn shapes_are_compared(rt: HostRuntime) {
+    assert_eq!(rt;
+        [
+            is_equal(&Shape::Raw, &Shape::Raw),
+            is_equal(&Shape::Raw, &Shape::Name)
+        ],
+        [true, false]
+    );
+    laws::shapes();
+    laws::data();
+    laws::equal_data();
+}
+
+/// The numbers that a family takes out of a datum: of 8, 16, 32 bits, and signed.
+fn numbers_of(datum: Datum<'_>) -> [i64; 4] {
+    [
+        i64::from(datum.u8_or_zero()),
+        i64::from(datum.u16_or_zero()),
+        i64::from(datum.u32_or_zero()),
+        i64::from(datum.i32_or_zero()),
+    ]
+}
+
+#[test]
+fn takes_nothing_from_other_data(rt: HostRuntime) {
+    for datum in [Datum::Empty, Datum::Number(1 << 40), Datum::Truth(false)] {
+        assert_eq!(rt;
+            (
+                numbers_of(datum),
+                datum.u16_pair_or_zeros(),
+                datum.byte_or_none()
+            ),
+            ([0; 4], (0, 0), None)
+        );
+        assert_eq!(rt;
+            (
+                datum.bool_or_false(),
+                datum.text_or_empty(),
+                datum.bytes_or_empty()
+            ),
+            (false, "", [].as_slice())
+        );
+        assert_eq!(rt;
+            (
+                datum.ipv4_or_unspecified(),
+                datum.ipv6_or_unspecified(),
+                datum.mac_or_zeros()
+            ),
+            (Ipv4Addr::UNSPECIFIED, Ipv6Addr::UNSPECIFIED, [0; 6])
+        );
+    }
+    let nothing = Datum::Empty;
+    assert_eq!(rt;
+        (
+            nothing.u64_or_zero(),
+            nothing.u32_pair_or_zeros(),
+            nothing.ip_or_unspecified()
+        ),
+        (0, (0, 0), IpAddr::V6(Ipv6Addr::UNSPECIFIED))
+    );
+}
