@@ -134,6 +134,7 @@ module _ {X : Type 0} (f : Family) (other : DefaultNla → X) (attribute : X →
         plain = λ h. absurd h;
         list = λ _. (128 - levels, subst (λ (n : ℕ). HoldsList attribute a (values (meaning_in f other (λ k. level n k)) (pieces a.value)) (labelled f (masked a.kind) label (inside (values (meaning_in f other (λ k. level levels k)) (pieces a.value))))) (omega (arith, below)) (go (values (meaning_in f other (λ k. level levels k)) (pieces a.value))));
         peer = λ h. absurd (list_no_peer h);
+        peer_typed = λ h. absurd (list_no_peer h);
       }
         where
           go : (r : Result (List X) DecodeError) → HoldsList attribute a r (labelled f (masked a.kind) label (inside r))

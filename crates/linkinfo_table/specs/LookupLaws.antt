@@ -30,10 +30,16 @@ list_no_peer e = absurd cc
 abbrev bad : {X : Type 0} → DecodeError → Result X DecodeError
 bad e = Err e
 
+abbrev good : {X : Type 0} → X → Result X DecodeError
+good x = Ok x
+
 module _ {C F : Type 0} (f : Family) (other : DefaultNla → F) (canonical attribute : F → Attribute) (written : (x : F) → attribute x ≡ canonical x)
     (meaning : C → Attribute → Result F DecodeError) where
   bad_same : (d e : DecodeError) → bad {X = F} d ≡ bad e → d ≡ e
   bad_same d e h = cc
+
+  good_same : (x y : F) → good x ≡ good y → x ≡ y
+  good_same x y h = cc
 
   pub row_says : (r : FamilyRow F) (a : Attribute) → IsUnnested r → RowOwes canonical (masked a.kind) (row_of r) →
       LookupSays f other attribute meaning a (lookup_of r) (row_meaning f other (row_of r) a)
@@ -41,6 +47,7 @@ module _ {C F : Type 0} (f : Family) (other : DefaultNla → F) (canonical attri
     plain = λ _. go (means shape a.value);
     list = λ e. absurd (subst IsPlain e plain);
     peer = λ e. absurd (subst IsPlain e plain);
+    peer_typed = λ e. absurd (subst IsPlain e plain);
   }
     where
       go : (m : Result (Carrier shape) Cause) → MeansDatum f attribute a shape m (labelled f (masked a.kind) label (own m))
@@ -50,8 +57,13 @@ module _ {C F : Type 0} (f : Family) (other : DefaultNla → F) (canonical attri
     plain = λ p. absurd (subst IsPlain peer.0 p);
     list = λ e. absurd (list_no_peer (sym e ∙ peer.0));
     peer = λ e d h. go (codec.means a.value) (peer.1 a.value) d h;
+    peer_typed = λ e x h. kind_of (codec.means a.value) x h;
   }
     where
+      kind_of : (m : Result codec.Carrier Fault) → (x : F) → labelled f (masked a.kind) label m ≡ Ok x → (attribute x).kind ≡ masked a.kind
+      kind_of (Ok u) x h = ap (λ (z : F). (attribute z).kind) (good_same x (label u) (sym h)) ∙ ap (λ (b : Attribute). b.kind) (written (label u) ∙ owes.keeps u)
+      kind_of (Err fault) x h = absurd cc
+
       go : (m : Result codec.Carrier Fault) → ((fault : Fault) → m ≡ Err fault → fault ≡ Own cause.Peer) → (d : DecodeError) →
           labelled f (masked a.kind) label m ≡ Err d → d ≡ own_fault f a cause.Peer
       go (Ok u) only d h = absurd cc

@@ -32,13 +32,14 @@ HoldsList {X = X} attribute a (Ok xs) m = (x : X) × (m ≡ Ok x) × (attribute 
 HoldsList attribute a (Err e) m = m ≡ Err e
 
 -- What the shape of its type says of the meaning `m` of an attribute, where `meaning c` is what attributes of the family mean under `c`: a shape of
--- the table is what the payload is read by; an address list is a list of the family's attributes, under some context; of a peer the only
--- fault is the cause Peer.
+-- the table is what the payload is read by; an address list is a list of the family's attributes, under some context; a peer is typed by
+-- the masked type, and its only fault is the cause Peer.
 pub record ShapeSays {C X : Type 0} (family : Family) (attribute : X → Attribute) (meaning : C → Attribute → Result X DecodeError) (a : Attribute) (shape : Shape)
     (m : Result X DecodeError) : Type 0 where
   pub plain : IsPlain shape → MeansDatum family attribute a shape (means shape a.value) m
   pub list : shape ≡ SelfList → (c : C) × HoldsList attribute a (values (meaning c) (pieces a.value)) m
   pub peer : shape ≡ Peer → (e : DecodeError) → m ≡ Err e → e ≡ own_fault family a cause.Peer
+  pub peer_typed : shape ≡ Peer → (x : X) → m ≡ Ok x → (attribute x).kind ≡ masked a.kind
 
 -- a refusal is the attribute's own fault, and an attribute of an unknown type is kept
 abbrev pub LookupSays : {C X : Type 0} → Family → (DefaultNla → X) → (X → Attribute) → (C → Attribute → Result X DecodeError) → Attribute → Lookup → Result X DecodeError → Type 0
