@@ -1,13 +1,13 @@
 //! Rows of netkit links.
 
-use super::{
-    UNLISTED, has_one_length, has_shapes, is_emitted, is_kept, is_list, is_not_parsed, is_parsed,
-    is_read, is_refused, is_row, unlisted,
+use super::rows::{
+    UNLISTED, error, has_one_length, has_shapes, is_emitted, is_kept, is_list, is_not_parsed,
+    is_parsed, is_read, is_refused, is_row, unlisted,
 };
-use crate::{BitPeer, InfoNetkit, InfoNetkitOf};
 use linkinfo_numbers::{NetkitMode, NetkitPolicy, NetkitScrub};
+use linkinfo_peers::{BitPeer, InfoNetkit, InfoNetkitOf};
 use linkinfo_table::{LinkPeer, Shape};
-use nla_frame::{Bytes, Cause, DecodeError, Family};
+use nla_frame::{Bytes, Cause, Family};
 use std::alloc::Global;
 use std::process::Abort;
 use std::test::Fail;
@@ -32,13 +32,13 @@ fn has_row<P: LinkPeer>(
     value: &InfoNetkitOf<P>,
 ) -> Result<(), Fail> {
     is_parsed(rt, alloc, bytes, value)?;
-    is_row(rt, alloc, bytes, value)?;
-    has_one_length::<InfoNetkitOf<P>>(rt, alloc, bytes)
+    is_row(rt, alloc, (), bytes, value)?;
+    has_one_length::<InfoNetkitOf<P>>(rt, alloc, (), bytes)
 }
 
 /// Each row beside the peer's, and what is kept of a type without one.
 fn has_rows<P: LinkPeer + Clone>(rt: &impl Abort, alloc: Global) -> Result<(), Fail> {
-    has_shapes::<InfoNetkitOf<P>>(rt, &ROWS);
+    has_shapes::<InfoNetkitOf<P>>(rt, (), &ROWS);
     has_row::<P>(
         rt,
         alloc,
@@ -113,7 +113,7 @@ fn has_rows<P: LinkPeer + Clone>(rt: &impl Abort, alloc: Global) -> Result<(), F
     )?;
     let kept = InfoNetkitOf::<P>::Other(unlisted(alloc)?);
     is_parsed(rt, alloc, &UNLISTED, &kept)?;
-    is_kept(rt, alloc, &kept)
+    is_kept(rt, alloc, (), &kept)
 }
 
 #[test]
@@ -142,19 +142,15 @@ fn worked_netkit(rt: HostRuntime) -> Result<(), Fail> {
         ),
     ] {
         is_parsed(&rt, alloc, &bytes, &value)?;
-        is_read(&rt, alloc, &bytes, &value)?;
+        is_read(&rt, alloc, (), &bytes, &value)?;
     }
     is_emitted(&rt, &InfoNetkit::Primary(true), &[5, 0, 2, 0, 1, 0, 0, 0])?;
     is_emitted(&rt, &InfoNetkit::Headroom(5), &[6, 0, 8, 0, 5, 0, 0, 0])?;
     let scrub = InfoNetkit::Scrub(NetkitScrub::Default);
-    is_list(&rt, alloc, &[8, 0, 6, 0, 1, 0, 0, 0], &[scrub])?;
+    is_list(&rt, alloc, (), &[8, 0, 6, 0, 1, 0, 0, 0], &[scrub])?;
 
     let wide = [8, 0, 8, 0, 5, 0, 0, 0];
-    is_refused::<InfoNetkit>(&rt, alloc, &wide, Cause::Length)?;
-    let fault = DecodeError {
-        family: Family::Netkit,
-        kind: 8,
-        cause: Cause::Length,
-    };
+    is_refused::<InfoNetkit>(&rt, alloc, (), &wide, Cause::Length)?;
+    let fault = error(Family::Netkit, 8, Cause::Length);
     is_not_parsed::<InfoNetkit>(&rt, alloc, &wide, fault)
 }

@@ -1,59 +1,46 @@
 //! Rows of Geneve tunnels.
 
-use super::{UNLISTED, has_one_length, is_kept, is_mark, is_parsed, is_refused, is_row, unlisted};
-use crate::InfoGeneve;
+use super::rows::{
+    UNLISTED, has_one_length, is_kept, is_mark, is_parsed, is_refused, is_row, unlisted,
+};
 use linkinfo_numbers::GeneveDf;
+use linkinfo_tunnels::InfoGeneve;
 use nla_frame::Cause;
 use std::net::{Ipv4Addr, Ipv6Addr};
 use std::test::Fail;
+
+/// Canonical attributes, and what they mean.
+const ROWS: [(&[u8], InfoGeneve); 10] = [
+    (&[8, 0, 1, 0, 4, 3, 2, 1], InfoGeneve::Id(0x0102_0304)),
+    (&[5, 0, 3, 0, 64, 0, 0, 0], InfoGeneve::Ttl(0x40)),
+    (&[5, 0, 4, 0, 64, 0, 0, 0], InfoGeneve::Tos(0x40)),
+    (&[6, 0, 5, 0, 1, 2, 0, 0], InfoGeneve::Port(0x0102)),
+    (&[5, 0, 8, 0, 1, 0, 0, 0], InfoGeneve::UdpCsum(true)),
+    (&[5, 0, 9, 0, 1, 0, 0, 0], InfoGeneve::UdpZeroCsum6Tx(true)),
+    (&[5, 0, 10, 0, 1, 0, 0, 0], InfoGeneve::UdpZeroCsum6Rx(true)),
+    (&[8, 0, 11, 0, 1, 2, 3, 4], InfoGeneve::Label(0x0102_0304)),
+    (&[5, 0, 12, 0, 1, 0, 0, 0], InfoGeneve::TtlInherit(true)),
+    (&[5, 0, 13, 0, 1, 0, 0, 0], InfoGeneve::Df(GeneveDf::Set)),
+];
 
 #[test]
 fn rows_of_geneve(rt: HostRuntime) -> Result<(), Fail> {
     let alloc = rt.alloc();
     let v4 = Ipv4Addr::new(10, 0, 0, 1);
     let v6 = Ipv6Addr::new(0xfe80, 0, 0, 0, 0, 0, 0, 2);
+    for (bytes, value) in ROWS {
+        is_parsed(&rt, alloc, bytes, &value)?;
+        is_row(&rt, alloc, (), bytes, &value)?;
+        has_one_length::<InfoGeneve>(&rt, alloc, (), bytes)?;
+    }
     for (bytes, value) in [
-        (
-            [8, 0, 1, 0, 4, 3, 2, 1].as_slice(),
-            InfoGeneve::Id(0x0102_0304),
-        ),
         ([8, 0, 2, 0, 10, 0, 0, 1].as_slice(), InfoGeneve::Remote(v4)),
-        ([5, 0, 3, 0, 64, 0, 0, 0].as_slice(), InfoGeneve::Ttl(0x40)),
-        ([5, 0, 4, 0, 64, 0, 0, 0].as_slice(), InfoGeneve::Tos(0x40)),
-        (
-            [6, 0, 5, 0, 1, 2, 0, 0].as_slice(),
-            InfoGeneve::Port(0x0102),
-        ),
         (
             [
                 20, 0, 7, 0, 0xfe, 0x80, 0, 0, 0, 0, 0, 0, 0, 0, 0, 0, 0, 0, 0, 2,
             ]
             .as_slice(),
             InfoGeneve::Remote6(v6),
-        ),
-        (
-            [5, 0, 8, 0, 1, 0, 0, 0].as_slice(),
-            InfoGeneve::UdpCsum(true),
-        ),
-        (
-            [5, 0, 9, 0, 1, 0, 0, 0].as_slice(),
-            InfoGeneve::UdpZeroCsum6Tx(true),
-        ),
-        (
-            [5, 0, 10, 0, 1, 0, 0, 0].as_slice(),
-            InfoGeneve::UdpZeroCsum6Rx(true),
-        ),
-        (
-            [8, 0, 11, 0, 1, 2, 3, 4].as_slice(),
-            InfoGeneve::Label(0x0102_0304),
-        ),
-        (
-            [5, 0, 12, 0, 1, 0, 0, 0].as_slice(),
-            InfoGeneve::TtlInherit(true),
-        ),
-        (
-            [5, 0, 13, 0, 1, 0, 0, 0].as_slice(),
-            InfoGeneve::Df(GeneveDf::Set),
         ),
         ([8, 0, 17, 0, 10, 0, 0, 1].as_slice(), InfoGeneve::Local(v4)),
         (
@@ -76,7 +63,6 @@ fn rows_of_geneve(rt: HostRuntime) -> Result<(), Fail> {
         is_mark(&rt, alloc, (), kind, &value)?;
     }
     let kept = InfoGeneve::Other(unlisted(alloc)?);
-    assert!(rt; kept.clone()? == kept);
     is_parsed(&rt, alloc, &UNLISTED, &kept)?;
     is_kept(&rt, alloc, (), &kept)
 }

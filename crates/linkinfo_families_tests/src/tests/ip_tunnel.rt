@@ -1,11 +1,13 @@
 //! Rows of IP tunnels, and their flags by the kind of the link.
 
-use super::{UNLISTED, has_one_length, is_kept, is_mark, is_refused, is_row, unlisted};
-use crate::InfoIpTunnel;
+use super::rows::{
+    UNLISTED, error, has_one_length, is_kept, is_mark, is_refused, is_row, unlisted,
+};
 use bitflags::Flags;
 use linkinfo_numbers::{
     InfoKind, Ip6TunnelFlags, IpProtocol, KindTag, TunnelEncapFlags, TunnelEncapType,
 };
+use linkinfo_tunnels::InfoIpTunnel;
 use nla_frame::{Cause, DecodeError, Family, NlaBuffer, ParseableParametrized};
 use std::alloc::Global;
 use std::net::{IpAddr, Ipv4Addr, Ipv6Addr};
@@ -15,16 +17,56 @@ fn parsed(alloc: Global, bytes: &[u8], kind: &InfoKind) -> Result<InfoIpTunnel, 
     InfoIpTunnel::parse_with_param(alloc, &NlaBuffer::new_checked(bytes)?, kind)
 }
 
+/// Canonical attributes, and what they mean.
+const ROWS: [(&[u8], InfoIpTunnel); 14] = [
+    (&[8, 0, 1, 0, 4, 3, 2, 1], InfoIpTunnel::Link(0x0102_0304)),
+    (&[5, 0, 4, 0, 64, 0, 0, 0], InfoIpTunnel::Ttl(0x40)),
+    (&[5, 0, 5, 0, 64, 0, 0, 0], InfoIpTunnel::Tos(0x40)),
+    (&[5, 0, 6, 0, 64, 0, 0, 0], InfoIpTunnel::EncapLimit(0x40)),
+    (
+        &[8, 0, 7, 0, 1, 2, 3, 4],
+        InfoIpTunnel::FlowInfo(0x0102_0304),
+    ),
+    (
+        &[5, 0, 9, 0, 41, 0, 0, 0],
+        InfoIpTunnel::Protocol(IpProtocol::Ipv6),
+    ),
+    (&[5, 0, 10, 0, 1, 0, 0, 0], InfoIpTunnel::PMtuDisc(true)),
+    (
+        &[6, 0, 13, 0, 2, 1, 0, 0],
+        InfoIpTunnel::Ipv6RdPrefixLen(0x0102),
+    ),
+    (
+        &[6, 0, 14, 0, 2, 1, 0, 0],
+        InfoIpTunnel::Ipv6RdRelayPrefixLen(0x0102),
+    ),
+    (
+        &[6, 0, 15, 0, 3, 0, 0, 0],
+        InfoIpTunnel::EncapType(TunnelEncapType::Mpls),
+    ),
+    (
+        &[6, 0, 16, 0, 2, 0, 0, 0],
+        InfoIpTunnel::EncapFlags(TunnelEncapFlags::CSum6),
+    ),
+    (&[6, 0, 17, 0, 1, 2, 0, 0], InfoIpTunnel::EncapSPort(0x0102)),
+    (&[6, 0, 18, 0, 1, 2, 0, 0], InfoIpTunnel::EncapDPort(0x0102)),
+    (
+        &[8, 0, 20, 0, 4, 3, 2, 1],
+        InfoIpTunnel::FwMark(0x0102_0304),
+    ),
+];
+
 #[test]
 fn rows_of_ip_tunnel(rt: HostRuntime) -> Result<(), Fail> {
     let alloc = rt.alloc();
     let v4 = Ipv4Addr::new(10, 0, 0, 1);
     let v6 = Ipv6Addr::new(0xfe80, 0, 0, 0, 0, 0, 0, 2);
+    for (bytes, value) in ROWS {
+        assert!(rt; parsed(alloc, bytes, &InfoKind::Ip6Tnl)? == *&value);
+        is_row(&rt, alloc, KindTag::IpIp, bytes, &value)?;
+        has_one_length::<InfoIpTunnel>(&rt, alloc, KindTag::Other, bytes)?;
+    }
     for (bytes, value) in [
-        (
-            [8, 0, 1, 0, 4, 3, 2, 1].as_slice(),
-            InfoIpTunnel::Link(0x0102_0304),
-        ),
         (
             [8, 0, 2, 0, 10, 0, 0, 1].as_slice(),
             InfoIpTunnel::Local(IpAddr::V4(v4)),
@@ -48,30 +90,6 @@ fn rows_of_ip_tunnel(rt: HostRuntime) -> Result<(), Fail> {
             InfoIpTunnel::Remote(IpAddr::V6(v6)),
         ),
         (
-            [5, 0, 4, 0, 64, 0, 0, 0].as_slice(),
-            InfoIpTunnel::Ttl(0x40),
-        ),
-        (
-            [5, 0, 5, 0, 64, 0, 0, 0].as_slice(),
-            InfoIpTunnel::Tos(0x40),
-        ),
-        (
-            [5, 0, 6, 0, 64, 0, 0, 0].as_slice(),
-            InfoIpTunnel::EncapLimit(0x40),
-        ),
-        (
-            [8, 0, 7, 0, 1, 2, 3, 4].as_slice(),
-            InfoIpTunnel::FlowInfo(0x0102_0304),
-        ),
-        (
-            [5, 0, 9, 0, 41, 0, 0, 0].as_slice(),
-            InfoIpTunnel::Protocol(IpProtocol::Ipv6),
-        ),
-        (
-            [5, 0, 10, 0, 1, 0, 0, 0].as_slice(),
-            InfoIpTunnel::PMtuDisc(true),
-        ),
-        (
             [
                 20, 0, 11, 0, 0xfe, 0x80, 0, 0, 0, 0, 0, 0, 0, 0, 0, 0, 0, 0, 0, 2,
             ]
@@ -81,34 +99,6 @@ fn rows_of_ip_tunnel(rt: HostRuntime) -> Result<(), Fail> {
         (
             [8, 0, 12, 0, 10, 0, 0, 1].as_slice(),
             InfoIpTunnel::Ipv6RdRelayPrefix(v4),
-        ),
-        (
-            [6, 0, 13, 0, 2, 1, 0, 0].as_slice(),
-            InfoIpTunnel::Ipv6RdPrefixLen(0x0102),
-        ),
-        (
-            [6, 0, 14, 0, 2, 1, 0, 0].as_slice(),
-            InfoIpTunnel::Ipv6RdRelayPrefixLen(0x0102),
-        ),
-        (
-            [6, 0, 15, 0, 3, 0, 0, 0].as_slice(),
-            InfoIpTunnel::EncapType(TunnelEncapType::Mpls),
-        ),
-        (
-            [6, 0, 16, 0, 2, 0, 0, 0].as_slice(),
-            InfoIpTunnel::EncapFlags(TunnelEncapFlags::CSum6),
-        ),
-        (
-            [6, 0, 17, 0, 1, 2, 0, 0].as_slice(),
-            InfoIpTunnel::EncapSPort(0x0102),
-        ),
-        (
-            [6, 0, 18, 0, 1, 2, 0, 0].as_slice(),
-            InfoIpTunnel::EncapDPort(0x0102),
-        ),
-        (
-            [8, 0, 20, 0, 4, 3, 2, 1].as_slice(),
-            InfoIpTunnel::FwMark(0x0102_0304),
         ),
     ] {
         assert!(rt; parsed(alloc, bytes, &InfoKind::Ip6Tnl)? == value);
@@ -123,7 +113,6 @@ fn rows_of_ip_tunnel(rt: HostRuntime) -> Result<(), Fail> {
         &InfoIpTunnel::CollectMetadata,
     )?;
     let kept = InfoIpTunnel::Other(unlisted(alloc)?);
-    assert!(rt; kept.clone()? == kept);
     assert!(rt; parsed(alloc, &UNLISTED, &InfoKind::SitTun)? == kept);
     is_kept(&rt, alloc, KindTag::Ip6Tnl, &kept)
 }
@@ -150,11 +139,7 @@ fn flags_by_kind(rt: HostRuntime) -> Result<(), Fail> {
         (InfoKind::Vrf, two, Cause::Kind),
         (InfoKind::Vti6, four, Cause::Kind),
     ] {
-        let fault = DecodeError {
-            family: Family::IpTunnel,
-            kind: 8,
-            cause,
-        };
+        let fault = error(Family::IpTunnel, 8, cause);
         assert_eq!(rt; parsed(alloc, &bytes, &kind).err(), Some(fault));
         is_refused::<InfoIpTunnel>(&rt, alloc, kind.tag(), &bytes, cause)?;
     }

@@ -1,0 +1,84 @@
+//! Rows of GRE tunnels over IPv4.
+
+use super::rows::{
+    UNLISTED, has_one_length, is_emitted, is_kept, is_mark, is_parsed, is_row, unlisted,
+};
+use linkinfo_numbers::{ErSpanDir, GreEncapFlags, GreEncapType, GreIOFlags};
+use linkinfo_tunnels::InfoGre;
+use nla_frame::DefaultNla;
+use std::net::Ipv4Addr;
+use std::test::Fail;
+
+/// Canonical attributes, and what they mean.
+const ROWS: [(&[u8], InfoGre); 17] = [
+    (&[8, 0, 1, 0, 4, 3, 2, 1], InfoGre::Link(0x0102_0304)),
+    (&[6, 0, 2, 0, 32, 0, 0, 0], InfoGre::IFlags(GreIOFlags::Key)),
+    (&[6, 0, 3, 0, 32, 0, 0, 0], InfoGre::OFlags(GreIOFlags::Key)),
+    (&[8, 0, 4, 0, 1, 2, 3, 4], InfoGre::IKey(0x0102_0304)),
+    (&[8, 0, 5, 0, 1, 2, 3, 4], InfoGre::OKey(0x0102_0304)),
+    (&[5, 0, 8, 0, 64, 0, 0, 0], InfoGre::Ttl(0x40)),
+    (&[5, 0, 9, 0, 64, 0, 0, 0], InfoGre::Tos(0x40)),
+    (&[5, 0, 10, 0, 1, 0, 0, 0], InfoGre::PathMTUDiscovery(true)),
+    (
+        &[6, 0, 14, 0, 2, 0, 0, 0],
+        InfoGre::EncapType(GreEncapType::Gue),
+    ),
+    (
+        &[6, 0, 15, 0, 4, 0, 0, 0],
+        InfoGre::EncapFlags(GreEncapFlags::RemoteChecksum),
+    ),
+    (&[6, 0, 16, 0, 1, 2, 0, 0], InfoGre::SourcePort(0x0102)),
+    (&[6, 0, 17, 0, 1, 2, 0, 0], InfoGre::DestinationPort(0x0102)),
+    (&[8, 0, 20, 0, 4, 3, 2, 1], InfoGre::FwMask(0x0102_0304)),
+    (
+        &[8, 0, 21, 0, 4, 3, 2, 1],
+        InfoGre::ErSpanIndex(0x0102_0304),
+    ),
+    (&[5, 0, 22, 0, 64, 0, 0, 0], InfoGre::ErSpanVer(0x40)),
+    (
+        &[5, 0, 23, 0, 1, 0, 0, 0],
+        InfoGre::ErSpanDir(ErSpanDir::Egress),
+    ),
+    (&[6, 0, 24, 0, 2, 1, 0, 0], InfoGre::ErSpanHwId(0x0102)),
+];
+
+#[test]
+fn rows_of_gre(rt: HostRuntime) -> Result<(), Fail> {
+    let alloc = rt.alloc();
+    let v4 = Ipv4Addr::new(10, 0, 0, 1);
+    for (bytes, value) in ROWS {
+        is_parsed(&rt, alloc, bytes, &value)?;
+        is_row(&rt, alloc, (), bytes, &value)?;
+        has_one_length::<InfoGre>(&rt, alloc, (), bytes)?;
+    }
+    for (bytes, value) in [
+        ([8, 0, 6, 0, 10, 0, 0, 1].as_slice(), InfoGre::Local(v4)),
+        ([8, 0, 7, 0, 10, 0, 0, 1].as_slice(), InfoGre::Remote(v4)),
+    ] {
+        is_parsed(&rt, alloc, bytes, &value)?;
+        is_row(&rt, alloc, (), bytes, &value)?;
+        has_one_length::<InfoGre>(&rt, alloc, (), bytes)?;
+    }
+    for (kind, value) in [(18, InfoGre::CollectMetadata)] {
+        is_parsed(&rt, alloc, &[4, 0, kind, 0], &value)?;
+        is_mark(&rt, alloc, (), kind, &value)?;
+    }
+    let kept = InfoGre::Other(unlisted(alloc)?);
+    is_parsed(&rt, alloc, &UNLISTED, &kept)?;
+    is_kept(&rt, alloc, (), &kept)
+}
+
+#[test]
+fn worked_gre(rt: HostRuntime) -> Result<(), Fail> {
+    let alloc = rt.alloc();
+    // Path MTU discovery is true for 1 alone.
+    let discovery = InfoGre::PathMTUDiscovery(false);
+    is_parsed(&rt, alloc, &[5, 0, 10, 0, 2, 0, 0, 0], &discovery)?;
+    is_emitted(&rt, &discovery, &[5, 0, 10, 0, 0, 0, 0, 0])?;
+    // Types without a row here, two of which have one over IPv6.
+    for kind in [11, 12, 13, 19] {
+        let kept = DefaultNla::new(u16::from(kind), Vec::new(alloc));
+        is_parsed(&rt, alloc, &[4, 0, kind, 0], &InfoGre::Other(kept))?;
+    }
+    Ok(())
+}
