@@ -5,7 +5,8 @@ mod framing;
 mod numbers;
 mod values;
 
-use nla_frame::{ExactEq, is_equal};
+use nla_frame::{DecodeError, DefaultNla, ExactEq, is_equal};
+use std::alloc::Global;
 use std::process::Abort;
 use std::test::Fail;
 
@@ -30,4 +31,16 @@ fn check_equality<T: ExactEq + Clone + Drop>(
         [true, true, false]
     );
     Ok(())
+}
+
+/// Attributes of these types and values.
+fn attributes_of(
+    alloc: Global,
+    attributes: &[(u16, &[u8])],
+) -> Result<Vec<DefaultNla>, DecodeError> {
+    let mut list = Vec::new(alloc);
+    for (kind, value) in attributes {
+        list.push(DefaultNla::new(*kind, value.to_vec(alloc)?))?;
+    }
+    Ok(list)
 }

@@ -7,7 +7,7 @@ use std::process::Abort;
 use std::test::Fail;
 
 /// The kinds by their names.
-const KINDS: [(&str, KindTag); 46] = [
+const KINDS: &[(&str, KindTag)] = &[
     ("dummy", KindTag::Dummy),
     ("ifb", KindTag::Ifb),
     ("bridge", KindTag::Bridge),
@@ -57,7 +57,7 @@ const KINDS: [(&str, KindTag); 46] = [
 ];
 
 /// Names of no kind, each beside one of a kind.
-const OTHERS: [&str; 14] = [
+const OTHERS: &[&str] = &[
     "",
     "a",
     "si",
@@ -75,7 +75,7 @@ const OTHERS: [&str; 14] = [
 ];
 
 /// Names of port kinds, and others.
-const PORT_KINDS: [(&str, PortTag); 11] = [
+const PORT_KINDS: &[(&str, PortTag)] = &[
     ("bond", PortTag::Bond),
     ("bridge", PortTag::Bridge),
     ("vrf", PortTag::Vrf),
@@ -122,7 +122,7 @@ fn known_kinds(rt: HostRuntime) -> Result<(), Fail> {
     let alloc = rt.alloc();
     for (name, tag) in KINDS {
         let kind = InfoKind::from_text(alloc, name)?;
-        is_named(&rt, alloc, &kind, name, tag)?;
+        is_named(&rt, alloc, &kind, name, *tag)?;
     }
     is_same(&rt, &InfoKind::from_text(alloc, "sit")?, &InfoKind::SitTun)?;
     assert!(rt; InfoKind::SitTun == InfoKind::SitTun.clone()?);
@@ -158,7 +158,7 @@ fn port_kinds(rt: HostRuntime) -> Result<(), Fail> {
                 port_tag_of_name(name.as_bytes()),
                 kind.fit_len()
             ),
-            (name, tag, tag, Some(name.len() + 1))
+            (*name, *tag, *tag, Some(name.len() + 1))
         );
         is_same(&rt, &kind, &kind)?;
     }

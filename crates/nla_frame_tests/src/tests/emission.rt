@@ -1,5 +1,6 @@
 //! Attributes written into buffers.
 
+use super::attributes_of;
 use nla_frame::{
     Bytes, DefaultNla, Emitable, Nla, emit_nlas, nlas_buffer_len, nlas_fit_len, put_frame,
 };
@@ -54,15 +55,10 @@ fn emits_bytes_without_a_header(rt: HostRuntime) -> Result<(), Fail> {
 
 #[test]
 fn emits_lists(rt: HostRuntime) -> Result<(), Fail> {
-    let alloc = rt.alloc();
     let none: [DefaultNla; 0] = [];
     assert_eq!(rt; nlas_fit_len(&none), Some(0));
 
-    let list = [
-        DefaultNla::new(1, vec![in alloc; 7u8]?),
-        DefaultNla::new(2, vec![in alloc]?),
-        DefaultNla::new(3, vec![in alloc; 1u8, 2, 3, 4]?),
-    ];
+    let list = attributes_of(rt.alloc(), &[(1, &[7]), (2, &[]), (3, &[1, 2, 3, 4])])?;
     assert!(rt; nlas_fit_len(&list) == Some(20));
     assert_eq!(rt; nlas_buffer_len(&list), 20);
     let mut buffer = [255; 23];

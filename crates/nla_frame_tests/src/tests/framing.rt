@@ -1,6 +1,6 @@
 //! Strings and the attributes that they frame.
 
-use super::check_equality;
+use super::{attributes_of, check_equality};
 use nla_frame::{
     Cause, DecodeError, DefaultNla, Family, HeaderCount, NlaBuffer, NlasIterator, Parseable, laws,
     next_piece,
@@ -71,18 +71,6 @@ fn steps(alloc: Global, bytes: &[u8]) -> Result<Walked, DecodeError> {
         examined: count.get(),
         place: bytes.len().saturating_sub(rest.len()),
     })
-}
-
-/// Attributes of these types and values.
-fn attributes_of(
-    alloc: Global,
-    attributes: &[(u16, &[u8])],
-) -> Result<Vec<DefaultNla>, DecodeError> {
-    let mut list = Vec::new(alloc);
-    for (kind, value) in attributes {
-        list.push(DefaultNla::new(*kind, value.to_vec(alloc)?))?;
-    }
-    Ok(list)
 }
 
 /// What a string frames: its attributes, its fault, the headers looked at, and where an iterator stands at the end.
