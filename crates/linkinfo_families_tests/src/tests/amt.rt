@@ -1,6 +1,6 @@
 //! Rows of AMT tunnels.
 
-use super::rows::{UNLISTED, has_one_length, is_kept, is_parsed, is_refused, is_row, unlisted};
+use super::rows::{UNLISTED, has_rows, has_rows_of, is_refused, is_row, keeps_unlisted, unlisted};
 use linkinfo_numbers::AmtMode;
 use linkinfo_tunnels::InfoAmt;
 use nla_frame::Cause;
@@ -16,58 +16,42 @@ const ROWS: [(&[u8], InfoAmt); 5] = [
     (&[8, 0, 8, 0, 4, 3, 2, 1], InfoAmt::MaxTunnels(0x0102_0304)),
 ];
 
+/// Canonical attributes of 10.0.0.1 and fe80::2, local, remote and for discovery.
+const ADDRESSES: &[&[u8]] = &[
+    &[8, 0, 5, 0, 10, 0, 0, 1],
+    &[
+        20, 0, 5, 0, 0xfe, 0x80, 0, 0, 0, 0, 0, 0, 0, 0, 0, 0, 0, 0, 0, 2,
+    ],
+    &[8, 0, 6, 0, 10, 0, 0, 1],
+    &[
+        20, 0, 6, 0, 0xfe, 0x80, 0, 0, 0, 0, 0, 0, 0, 0, 0, 0, 0, 0, 0, 2,
+    ],
+    &[8, 0, 7, 0, 10, 0, 0, 1],
+    &[
+        20, 0, 7, 0, 0xfe, 0x80, 0, 0, 0, 0, 0, 0, 0, 0, 0, 0, 0, 0, 0, 2,
+    ],
+];
+
 #[test]
 fn rows_of_amt(rt: HostRuntime) -> Result<(), Fail> {
     let alloc = rt.alloc();
-    let v4 = Ipv4Addr::new(10, 0, 0, 1);
-    let v6 = Ipv6Addr::new(0xfe80, 0, 0, 0, 0, 0, 0, 2);
-    for (bytes, value) in ROWS {
-        is_parsed(&rt, alloc, bytes, &value)?;
-        is_row(&rt, alloc, (), bytes, &value)?;
-        has_one_length::<InfoAmt>(&rt, alloc, (), bytes)?;
-    }
-    for (bytes, value) in [
-        (
-            [8, 0, 5, 0, 10, 0, 0, 1].as_slice(),
-            InfoAmt::LocalIp(IpAddr::V4(v4)),
-        ),
-        (
-            [
-                20, 0, 5, 0, 0xfe, 0x80, 0, 0, 0, 0, 0, 0, 0, 0, 0, 0, 0, 0, 0, 2,
-            ]
-            .as_slice(),
-            InfoAmt::LocalIp(IpAddr::V6(v6)),
-        ),
-        (
-            [8, 0, 6, 0, 10, 0, 0, 1].as_slice(),
-            InfoAmt::RemoteIp(IpAddr::V4(v4)),
-        ),
-        (
-            [
-                20, 0, 6, 0, 0xfe, 0x80, 0, 0, 0, 0, 0, 0, 0, 0, 0, 0, 0, 0, 0, 2,
-            ]
-            .as_slice(),
-            InfoAmt::RemoteIp(IpAddr::V6(v6)),
-        ),
-        (
-            [8, 0, 7, 0, 10, 0, 0, 1].as_slice(),
-            InfoAmt::DiscoveryIp(IpAddr::V4(v4)),
-        ),
-        (
-            [
-                20, 0, 7, 0, 0xfe, 0x80, 0, 0, 0, 0, 0, 0, 0, 0, 0, 0, 0, 0, 0, 2,
-            ]
-            .as_slice(),
-            InfoAmt::DiscoveryIp(IpAddr::V6(v6)),
-        ),
-    ] {
-        is_parsed(&rt, alloc, bytes, &value)?;
-        is_row(&rt, alloc, (), bytes, &value)?;
-        has_one_length::<InfoAmt>(&rt, alloc, (), bytes)?;
-    }
-    let kept = InfoAmt::Other(unlisted(alloc)?);
-    is_parsed(&rt, alloc, &UNLISTED, &kept)?;
-    is_kept(&rt, alloc, (), &kept)
+    has_rows(&rt, alloc, &ROWS)?;
+    keeps_unlisted(&rt, alloc, (), &UNLISTED, &InfoAmt::Other(unlisted(alloc)?))
+}
+
+#[test]
+fn addresses_of_amt(rt: HostRuntime) -> Result<(), Fail> {
+    let v4 = IpAddr::V4(Ipv4Addr::new(10, 0, 0, 1));
+    let v6 = IpAddr::V6(Ipv6Addr::new(0xfe80, 0, 0, 0, 0, 0, 0, 2));
+    let values = [
+        InfoAmt::LocalIp(v4),
+        InfoAmt::LocalIp(v6),
+        InfoAmt::RemoteIp(v4),
+        InfoAmt::RemoteIp(v6),
+        InfoAmt::DiscoveryIp(v4),
+        InfoAmt::DiscoveryIp(v6),
+    ];
+    has_rows_of(&rt, rt.alloc(), ADDRESSES, &values)
 }
 
 #[test]

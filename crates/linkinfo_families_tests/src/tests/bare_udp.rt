@@ -1,8 +1,6 @@
 //! Rows of Bare UDP tunnels.
 
-use super::rows::{
-    UNLISTED, has_one_length, is_kept, is_list, is_mark, is_parsed, is_refused, is_row, unlisted,
-};
+use super::rows::{UNLISTED, has_marks, has_rows, is_list, is_refused, keeps_unlisted, unlisted};
 use linkinfo_numbers::EthernetProtocol;
 use linkinfo_tunnels::InfoBareUdp;
 use nla_frame::Cause;
@@ -21,18 +19,15 @@ const ROWS: [(&[u8], InfoBareUdp); 3] = [
 #[test]
 fn rows_of_bare_udp(rt: HostRuntime) -> Result<(), Fail> {
     let alloc = rt.alloc();
-    for (bytes, value) in ROWS {
-        is_parsed(&rt, alloc, bytes, &value)?;
-        is_row(&rt, alloc, (), bytes, &value)?;
-        has_one_length::<InfoBareUdp>(&rt, alloc, (), bytes)?;
-    }
-    for (kind, value) in [(4, InfoBareUdp::MultiprotoMode)] {
-        is_parsed(&rt, alloc, &[4, 0, kind, 0], &value)?;
-        is_mark(&rt, alloc, (), kind, &value)?;
-    }
-    let kept = InfoBareUdp::Other(unlisted(alloc)?);
-    is_parsed(&rt, alloc, &UNLISTED, &kept)?;
-    is_kept(&rt, alloc, (), &kept)
+    has_rows(&rt, alloc, &ROWS)?;
+    has_marks(&rt, alloc, &[(&[4, 0, 4, 0], InfoBareUdp::MultiprotoMode)])?;
+    keeps_unlisted(
+        &rt,
+        alloc,
+        (),
+        &UNLISTED,
+        &InfoBareUdp::Other(unlisted(alloc)?),
+    )
 }
 
 #[test]

@@ -1,7 +1,7 @@
 //! Rows of Geneve tunnels.
 
 use super::rows::{
-    UNLISTED, has_one_length, is_kept, is_mark, is_parsed, is_refused, is_row, unlisted,
+    UNLISTED, has_marks, has_rows, has_rows_of, is_refused, keeps_unlisted, unlisted,
 };
 use linkinfo_numbers::GeneveDf;
 use linkinfo_tunnels::InfoGeneve;
@@ -23,48 +23,49 @@ const ROWS: [(&[u8], InfoGeneve); 10] = [
     (&[5, 0, 13, 0, 1, 0, 0, 0], InfoGeneve::Df(GeneveDf::Set)),
 ];
 
+/// Canonical attributes of 10.0.0.1 and fe80::2, remote and local.
+const ADDRESSES: &[&[u8]] = &[
+    &[8, 0, 2, 0, 10, 0, 0, 1],
+    &[
+        20, 0, 7, 0, 0xfe, 0x80, 0, 0, 0, 0, 0, 0, 0, 0, 0, 0, 0, 0, 0, 2,
+    ],
+    &[8, 0, 17, 0, 10, 0, 0, 1],
+    &[
+        20, 0, 18, 0, 0xfe, 0x80, 0, 0, 0, 0, 0, 0, 0, 0, 0, 0, 0, 0, 0, 2,
+    ],
+];
+
+/// Canonical attributes of presence flags, and what they mean.
+const MARKS: [(&[u8], InfoGeneve); 2] = [
+    (&[4, 0, 6, 0], InfoGeneve::CollectMetadata),
+    (&[4, 0, 14, 0], InfoGeneve::InnerProtoInherit),
+];
+
 #[test]
 fn rows_of_geneve(rt: HostRuntime) -> Result<(), Fail> {
     let alloc = rt.alloc();
+    has_rows(&rt, alloc, &ROWS)?;
+    has_marks(&rt, alloc, &MARKS)?;
+    keeps_unlisted(
+        &rt,
+        alloc,
+        (),
+        &UNLISTED,
+        &InfoGeneve::Other(unlisted(alloc)?),
+    )
+}
+
+#[test]
+fn addresses_of_geneve(rt: HostRuntime) -> Result<(), Fail> {
     let v4 = Ipv4Addr::new(10, 0, 0, 1);
     let v6 = Ipv6Addr::new(0xfe80, 0, 0, 0, 0, 0, 0, 2);
-    for (bytes, value) in ROWS {
-        is_parsed(&rt, alloc, bytes, &value)?;
-        is_row(&rt, alloc, (), bytes, &value)?;
-        has_one_length::<InfoGeneve>(&rt, alloc, (), bytes)?;
-    }
-    for (bytes, value) in [
-        ([8, 0, 2, 0, 10, 0, 0, 1].as_slice(), InfoGeneve::Remote(v4)),
-        (
-            [
-                20, 0, 7, 0, 0xfe, 0x80, 0, 0, 0, 0, 0, 0, 0, 0, 0, 0, 0, 0, 0, 2,
-            ]
-            .as_slice(),
-            InfoGeneve::Remote6(v6),
-        ),
-        ([8, 0, 17, 0, 10, 0, 0, 1].as_slice(), InfoGeneve::Local(v4)),
-        (
-            [
-                20, 0, 18, 0, 0xfe, 0x80, 0, 0, 0, 0, 0, 0, 0, 0, 0, 0, 0, 0, 0, 2,
-            ]
-            .as_slice(),
-            InfoGeneve::Local6(v6),
-        ),
-    ] {
-        is_parsed(&rt, alloc, bytes, &value)?;
-        is_row(&rt, alloc, (), bytes, &value)?;
-        has_one_length::<InfoGeneve>(&rt, alloc, (), bytes)?;
-    }
-    for (kind, value) in [
-        (6, InfoGeneve::CollectMetadata),
-        (14, InfoGeneve::InnerProtoInherit),
-    ] {
-        is_parsed(&rt, alloc, &[4, 0, kind, 0], &value)?;
-        is_mark(&rt, alloc, (), kind, &value)?;
-    }
-    let kept = InfoGeneve::Other(unlisted(alloc)?);
-    is_parsed(&rt, alloc, &UNLISTED, &kept)?;
-    is_kept(&rt, alloc, (), &kept)
+    let values = [
+        InfoGeneve::Remote(v4),
+        InfoGeneve::Remote6(v6),
+        InfoGeneve::Local(v4),
+        InfoGeneve::Local6(v6),
+    ];
+    has_rows_of(&rt, rt.alloc(), ADDRESSES, &values)
 }
 
 #[test]

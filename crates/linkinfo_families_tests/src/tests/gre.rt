@@ -1,7 +1,7 @@
 //! Rows of GRE tunnels over IPv4.
 
 use super::rows::{
-    UNLISTED, has_one_length, is_emitted, is_kept, is_mark, is_parsed, is_row, unlisted,
+    UNLISTED, has_marks, has_rows, has_rows_of, is_parsed, is_rewritten, keeps_unlisted, unlisted,
 };
 use linkinfo_numbers::{ErSpanDir, GreEncapFlags, GreEncapType, GreIOFlags};
 use linkinfo_tunnels::InfoGre;
@@ -45,27 +45,19 @@ const ROWS: [(&[u8], InfoGre); 17] = [
 #[test]
 fn rows_of_gre(rt: HostRuntime) -> Result<(), Fail> {
     let alloc = rt.alloc();
+    has_rows(&rt, alloc, &ROWS)?;
+    has_marks(&rt, alloc, &[(&[4, 0, 18, 0], InfoGre::CollectMetadata)])?;
+    keeps_unlisted(&rt, alloc, (), &UNLISTED, &InfoGre::Other(unlisted(alloc)?))
+}
+
+/// Canonical attributes of 10.0.0.1, local and remote.
+const ADDRESSES: &[&[u8]] = &[&[8, 0, 6, 0, 10, 0, 0, 1], &[8, 0, 7, 0, 10, 0, 0, 1]];
+
+#[test]
+fn addresses_of_gre(rt: HostRuntime) -> Result<(), Fail> {
     let v4 = Ipv4Addr::new(10, 0, 0, 1);
-    for (bytes, value) in ROWS {
-        is_parsed(&rt, alloc, bytes, &value)?;
-        is_row(&rt, alloc, (), bytes, &value)?;
-        has_one_length::<InfoGre>(&rt, alloc, (), bytes)?;
-    }
-    for (bytes, value) in [
-        ([8, 0, 6, 0, 10, 0, 0, 1].as_slice(), InfoGre::Local(v4)),
-        ([8, 0, 7, 0, 10, 0, 0, 1].as_slice(), InfoGre::Remote(v4)),
-    ] {
-        is_parsed(&rt, alloc, bytes, &value)?;
-        is_row(&rt, alloc, (), bytes, &value)?;
-        has_one_length::<InfoGre>(&rt, alloc, (), bytes)?;
-    }
-    for (kind, value) in [(18, InfoGre::CollectMetadata)] {
-        is_parsed(&rt, alloc, &[4, 0, kind, 0], &value)?;
-        is_mark(&rt, alloc, (), kind, &value)?;
-    }
-    let kept = InfoGre::Other(unlisted(alloc)?);
-    is_parsed(&rt, alloc, &UNLISTED, &kept)?;
-    is_kept(&rt, alloc, (), &kept)
+    let values = [InfoGre::Local(v4), InfoGre::Remote(v4)];
+    has_rows_of(&rt, rt.alloc(), ADDRESSES, &values)
 }
 
 #[test]
@@ -73,8 +65,8 @@ fn worked_gre(rt: HostRuntime) -> Result<(), Fail> {
     let alloc = rt.alloc();
     // Path MTU discovery is true for 1 alone.
     let discovery = InfoGre::PathMTUDiscovery(false);
-    is_parsed(&rt, alloc, &[5, 0, 10, 0, 2, 0, 0, 0], &discovery)?;
-    is_emitted(&rt, &discovery, &[5, 0, 10, 0, 0, 0, 0, 0])?;
+    let two = [5, 0, 10, 0, 2, 0, 0, 0];
+    is_rewritten(&rt, alloc, &two, &discovery, &[5, 0, 10, 0, 0, 0, 0, 0])?;
     // Types without a row here, two of which have one over IPv6.
     for kind in [11, 12, 13, 19] {
         let kept = DefaultNla::new(u16::from(kind), Vec::new(alloc));

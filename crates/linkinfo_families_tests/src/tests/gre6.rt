@@ -1,6 +1,8 @@
 //! Rows of GRE tunnels over IPv6.
 
-use super::rows::{UNLISTED, has_one_length, is_kept, is_mark, is_parsed, is_row, unlisted};
+use super::rows::{
+    UNLISTED, has_marks, has_rows, has_rows_of, is_parsed, keeps_unlisted, unlisted,
+};
 use linkinfo_numbers::{ErSpanDir, GreEncapFlags, GreEncapType, GreIOFlags};
 use linkinfo_tunnels::InfoGre6;
 use nla_frame::DefaultNla;
@@ -53,39 +55,32 @@ const ROWS: [(&[u8], InfoGre6); 18] = [
 #[test]
 fn rows_of_gre6(rt: HostRuntime) -> Result<(), Fail> {
     let alloc = rt.alloc();
+    has_rows(&rt, alloc, &ROWS)?;
+    has_marks(&rt, alloc, &[(&[4, 0, 18, 0], InfoGre6::CollectMetadata)])?;
+    keeps_unlisted(
+        &rt,
+        alloc,
+        (),
+        &UNLISTED,
+        &InfoGre6::Other(unlisted(alloc)?),
+    )
+}
+
+/// Canonical attributes of fe80::2, local and remote.
+const ADDRESSES: &[&[u8]] = &[
+    &[
+        20, 0, 6, 0, 0xfe, 0x80, 0, 0, 0, 0, 0, 0, 0, 0, 0, 0, 0, 0, 0, 2,
+    ],
+    &[
+        20, 0, 7, 0, 0xfe, 0x80, 0, 0, 0, 0, 0, 0, 0, 0, 0, 0, 0, 0, 0, 2,
+    ],
+];
+
+#[test]
+fn addresses_of_gre6(rt: HostRuntime) -> Result<(), Fail> {
     let v6 = Ipv6Addr::new(0xfe80, 0, 0, 0, 0, 0, 0, 2);
-    for (bytes, value) in ROWS {
-        is_parsed(&rt, alloc, bytes, &value)?;
-        is_row(&rt, alloc, (), bytes, &value)?;
-        has_one_length::<InfoGre6>(&rt, alloc, (), bytes)?;
-    }
-    for (bytes, value) in [
-        (
-            [
-                20, 0, 6, 0, 0xfe, 0x80, 0, 0, 0, 0, 0, 0, 0, 0, 0, 0, 0, 0, 0, 2,
-            ]
-            .as_slice(),
-            InfoGre6::Local(v6),
-        ),
-        (
-            [
-                20, 0, 7, 0, 0xfe, 0x80, 0, 0, 0, 0, 0, 0, 0, 0, 0, 0, 0, 0, 0, 2,
-            ]
-            .as_slice(),
-            InfoGre6::Remote(v6),
-        ),
-    ] {
-        is_parsed(&rt, alloc, bytes, &value)?;
-        is_row(&rt, alloc, (), bytes, &value)?;
-        has_one_length::<InfoGre6>(&rt, alloc, (), bytes)?;
-    }
-    for (kind, value) in [(18, InfoGre6::CollectMetadata)] {
-        is_parsed(&rt, alloc, &[4, 0, kind, 0], &value)?;
-        is_mark(&rt, alloc, (), kind, &value)?;
-    }
-    let kept = InfoGre6::Other(unlisted(alloc)?);
-    is_parsed(&rt, alloc, &UNLISTED, &kept)?;
-    is_kept(&rt, alloc, (), &kept)
+    let values = [InfoGre6::Local(v6), InfoGre6::Remote(v6)];
+    has_rows_of(&rt, rt.alloc(), ADDRESSES, &values)
 }
 
 #[test]

@@ -1,6 +1,6 @@
 //! Rows of GTP tunnels.
 
-use super::rows::{UNLISTED, has_one_length, is_kept, is_list, is_parsed, is_row, unlisted};
+use super::rows::{UNLISTED, has_rows, has_rows_of, is_list, keeps_unlisted, unlisted};
 use linkinfo_numbers::GtpRole;
 use linkinfo_tunnels::InfoGtp;
 use std::net::{Ipv4Addr, Ipv6Addr};
@@ -19,30 +19,24 @@ const ROWS: [(&[u8], InfoGtp); 6] = [
 #[test]
 fn rows_of_gtp(rt: HostRuntime) -> Result<(), Fail> {
     let alloc = rt.alloc();
+    has_rows(&rt, alloc, &ROWS)?;
+    keeps_unlisted(&rt, alloc, (), &UNLISTED, &InfoGtp::Other(unlisted(alloc)?))
+}
+
+/// Canonical attributes of the local addresses 10.0.0.1 and fe80::2.
+const ADDRESSES: &[&[u8]] = &[
+    &[8, 0, 7, 0, 10, 0, 0, 1],
+    &[
+        20, 0, 8, 0, 0xfe, 0x80, 0, 0, 0, 0, 0, 0, 0, 0, 0, 0, 0, 0, 0, 2,
+    ],
+];
+
+#[test]
+fn addresses_of_gtp(rt: HostRuntime) -> Result<(), Fail> {
     let v4 = Ipv4Addr::new(10, 0, 0, 1);
     let v6 = Ipv6Addr::new(0xfe80, 0, 0, 0, 0, 0, 0, 2);
-    for (bytes, value) in ROWS {
-        is_parsed(&rt, alloc, bytes, &value)?;
-        is_row(&rt, alloc, (), bytes, &value)?;
-        has_one_length::<InfoGtp>(&rt, alloc, (), bytes)?;
-    }
-    for (bytes, value) in [
-        ([8, 0, 7, 0, 10, 0, 0, 1].as_slice(), InfoGtp::Local(v4)),
-        (
-            [
-                20, 0, 8, 0, 0xfe, 0x80, 0, 0, 0, 0, 0, 0, 0, 0, 0, 0, 0, 0, 0, 2,
-            ]
-            .as_slice(),
-            InfoGtp::Local6(v6),
-        ),
-    ] {
-        is_parsed(&rt, alloc, bytes, &value)?;
-        is_row(&rt, alloc, (), bytes, &value)?;
-        has_one_length::<InfoGtp>(&rt, alloc, (), bytes)?;
-    }
-    let kept = InfoGtp::Other(unlisted(alloc)?);
-    is_parsed(&rt, alloc, &UNLISTED, &kept)?;
-    is_kept(&rt, alloc, (), &kept)
+    let values = [InfoGtp::Local(v4), InfoGtp::Local6(v6)];
+    has_rows_of(&rt, rt.alloc(), ADDRESSES, &values)
 }
 
 #[test]

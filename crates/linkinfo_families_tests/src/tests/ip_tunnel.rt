@@ -11,10 +11,18 @@ use linkinfo_tunnels::InfoIpTunnel;
 use nla_frame::{Cause, DecodeError, Family, NlaBuffer, ParseableParametrized};
 use std::alloc::Global;
 use std::net::{IpAddr, Ipv4Addr, Ipv6Addr};
+use std::process::Abort;
 use std::test::Fail;
 
 fn parsed(alloc: Global, bytes: &[u8], kind: &InfoKind) -> Result<InfoIpTunnel, DecodeError> {
     InfoIpTunnel::parse_with_param(alloc, &NlaBuffer::new_checked(bytes)?, kind)
+}
+
+/// The attribute is the canonical one of the value, whatever the kind, and takes payloads of its length alone.
+fn has_row(rt: &impl Abort, alloc: Global, bytes: &[u8], value: &InfoIpTunnel) -> Result<(), Fail> {
+    assert!(rt; parsed(alloc, bytes, &InfoKind::Ip6Tnl)? == *value);
+    is_row(rt, alloc, KindTag::IpIp, bytes, value)?;
+    has_one_length::<InfoIpTunnel>(rt, alloc, KindTag::Other, bytes)
 }
 
 /// Canonical attributes, and what they mean.
@@ -59,91 +67,107 @@ const ROWS: [(&[u8], InfoIpTunnel); 14] = [
 #[test]
 fn rows_of_ip_tunnel(rt: HostRuntime) -> Result<(), Fail> {
     let alloc = rt.alloc();
+    for (bytes, value) in &ROWS {
+        has_row(&rt, alloc, bytes, value)?;
+    }
+    Ok(())
+}
+
+/// Canonical attributes of 10.0.0.1 and fe80::2.
+const ADDRESSES: &[&[u8]] = &[
+    &[8, 0, 2, 0, 10, 0, 0, 1],
+    &[
+        20, 0, 2, 0, 0xfe, 0x80, 0, 0, 0, 0, 0, 0, 0, 0, 0, 0, 0, 0, 0, 2,
+    ],
+    &[8, 0, 3, 0, 10, 0, 0, 1],
+    &[
+        20, 0, 3, 0, 0xfe, 0x80, 0, 0, 0, 0, 0, 0, 0, 0, 0, 0, 0, 0, 0, 2,
+    ],
+    &[
+        20, 0, 11, 0, 0xfe, 0x80, 0, 0, 0, 0, 0, 0, 0, 0, 0, 0, 0, 0, 0, 2,
+    ],
+    &[8, 0, 12, 0, 10, 0, 0, 1],
+];
+
+#[test]
+fn addresses_of_ip_tunnel(rt: HostRuntime) -> Result<(), Fail> {
     let v4 = Ipv4Addr::new(10, 0, 0, 1);
     let v6 = Ipv6Addr::new(0xfe80, 0, 0, 0, 0, 0, 0, 2);
-    for (bytes, value) in ROWS {
-        assert!(rt; parsed(alloc, bytes, &InfoKind::Ip6Tnl)? == *&value);
-        is_row(&rt, alloc, KindTag::IpIp, bytes, &value)?;
-        has_one_length::<InfoIpTunnel>(&rt, alloc, KindTag::Other, bytes)?;
+    let values = [
+        InfoIpTunnel::Local(IpAddr::V4(v4)),
+        InfoIpTunnel::Local(IpAddr::V6(v6)),
+        InfoIpTunnel::Remote(IpAddr::V4(v4)),
+        InfoIpTunnel::Remote(IpAddr::V6(v6)),
+        InfoIpTunnel::Ipv6RdPrefix(v6),
+        InfoIpTunnel::Ipv6RdRelayPrefix(v4),
+    ];
+    for (bytes, value) in ADDRESSES.iter().zip(&values) {
+        has_row(&rt, rt.alloc(), bytes, value)?;
     }
-    for (bytes, value) in [
-        (
-            [8, 0, 2, 0, 10, 0, 0, 1].as_slice(),
-            InfoIpTunnel::Local(IpAddr::V4(v4)),
-        ),
-        (
-            [
-                20, 0, 2, 0, 0xfe, 0x80, 0, 0, 0, 0, 0, 0, 0, 0, 0, 0, 0, 0, 0, 2,
-            ]
-            .as_slice(),
-            InfoIpTunnel::Local(IpAddr::V6(v6)),
-        ),
-        (
-            [8, 0, 3, 0, 10, 0, 0, 1].as_slice(),
-            InfoIpTunnel::Remote(IpAddr::V4(v4)),
-        ),
-        (
-            [
-                20, 0, 3, 0, 0xfe, 0x80, 0, 0, 0, 0, 0, 0, 0, 0, 0, 0, 0, 0, 0, 2,
-            ]
-            .as_slice(),
-            InfoIpTunnel::Remote(IpAddr::V6(v6)),
-        ),
-        (
-            [
-                20, 0, 11, 0, 0xfe, 0x80, 0, 0, 0, 0, 0, 0, 0, 0, 0, 0, 0, 0, 0, 2,
-            ]
-            .as_slice(),
-            InfoIpTunnel::Ipv6RdPrefix(v6),
-        ),
-        (
-            [8, 0, 12, 0, 10, 0, 0, 1].as_slice(),
-            InfoIpTunnel::Ipv6RdRelayPrefix(v4),
-        ),
-    ] {
-        assert!(rt; parsed(alloc, bytes, &InfoKind::Ip6Tnl)? == value);
-        is_row(&rt, alloc, KindTag::IpIp, bytes, &value)?;
-        has_one_length::<InfoIpTunnel>(&rt, alloc, KindTag::Other, bytes)?;
-    }
-    is_mark(
-        &rt,
-        alloc,
-        KindTag::SitTun,
-        19,
-        &InfoIpTunnel::CollectMetadata,
-    )?;
+    Ok(())
+}
+
+#[test]
+fn marks_and_other_types_of_ip_tunnel(rt: HostRuntime) -> Result<(), Fail> {
+    let alloc = rt.alloc();
+    let mark = InfoIpTunnel::CollectMetadata;
+    is_mark(&rt, alloc, KindTag::SitTun, &[4, 0, 19, 0], &mark)?;
     let kept = InfoIpTunnel::Other(unlisted(alloc)?);
     assert!(rt; parsed(alloc, &UNLISTED, &InfoKind::SitTun)? == kept);
     is_kept(&rt, alloc, KindTag::Ip6Tnl, &kept)
 }
 
+/// Flags of two bytes.
+const TWO: [u8; 8] = [6, 0, 8, 0, 0, 16, 0, 0];
+
+/// Flags of four bytes.
+const FOUR: [u8; 8] = [8, 0, 8, 0, 1, 0, 1, 0];
+
+/// Inside a link of this kind the flags are the value, and take payloads of its length alone.
+fn has_flags(
+    rt: &impl Abort,
+    alloc: Global,
+    kind: &InfoKind,
+    bytes: &[u8],
+    value: &InfoIpTunnel,
+) -> Result<(), Fail> {
+    assert!(rt; parsed(alloc, bytes, kind)? == *value);
+    is_row(rt, alloc, kind.tag(), bytes, value)?;
+    has_one_length::<InfoIpTunnel>(rt, alloc, kind.tag(), bytes)
+}
+
 #[test]
 fn flags_by_kind(rt: HostRuntime) -> Result<(), Fail> {
     let alloc = rt.alloc();
-    let two = [6, 0, 8, 0, 0, 16, 0, 0];
-    let four = [8, 0, 8, 0, 1, 0, 1, 0];
-    let flags = InfoIpTunnel::Ipv6Flags(Ip6TunnelFlags::from_bits_retain(0x0001_0001));
-    for (kind, bytes, value) in [
-        (InfoKind::IpIp, two, InfoIpTunnel::Ipv4Flags(16)),
-        (InfoKind::SitTun, two, InfoIpTunnel::Ipv6SitFlags(16)),
-        (InfoKind::Ip6Tnl, four, flags),
-    ] {
-        assert!(rt; parsed(alloc, &bytes, &kind)? == value);
-        is_row(&rt, alloc, kind.tag(), &bytes, &value)?;
-        has_one_length::<InfoIpTunnel>(&rt, alloc, kind.tag(), &bytes)?;
-    }
-    for (kind, bytes, cause) in [
-        (InfoKind::IpIp, four, Cause::Length),
-        (InfoKind::SitTun, four, Cause::Length),
-        (InfoKind::Ip6Tnl, two, Cause::Length),
-        (InfoKind::Vrf, two, Cause::Kind),
-        (InfoKind::Vti6, four, Cause::Kind),
-    ] {
-        let fault = error(Family::IpTunnel, 8, cause);
-        assert_eq!(rt; parsed(alloc, &bytes, &kind).err(), Some(fault));
-        is_refused::<InfoIpTunnel>(&rt, alloc, kind.tag(), &bytes, cause)?;
-    }
-    Ok(())
+    let v4 = InfoIpTunnel::Ipv4Flags(16);
+    has_flags(&rt, alloc, &InfoKind::IpIp, &TWO, &v4)?;
+    let sit = InfoIpTunnel::Ipv6SitFlags(16);
+    has_flags(&rt, alloc, &InfoKind::SitTun, &TWO, &sit)?;
+    let v6 = InfoIpTunnel::Ipv6Flags(Ip6TunnelFlags::from_bits_retain(0x0001_0001));
+    has_flags(&rt, alloc, &InfoKind::Ip6Tnl, &FOUR, &v6)
+}
+
+/// Inside a link of this kind the flags are refused.
+fn refuses_flags(
+    rt: &impl Abort,
+    alloc: Global,
+    kind: &InfoKind,
+    bytes: &[u8],
+    cause: Cause,
+) -> Result<(), Fail> {
+    let fault = error(Family::IpTunnel, 8, cause);
+    assert_eq!(rt; parsed(alloc, bytes, kind).err(), Some(fault));
+    is_refused::<InfoIpTunnel>(rt, alloc, kind.tag(), bytes, cause)
+}
+
+#[test]
+fn flags_refused_by_kind(rt: HostRuntime) -> Result<(), Fail> {
+    let alloc = rt.alloc();
+    refuses_flags(&rt, alloc, &InfoKind::IpIp, &FOUR, Cause::Length)?;
+    refuses_flags(&rt, alloc, &InfoKind::SitTun, &FOUR, Cause::Length)?;
+    refuses_flags(&rt, alloc, &InfoKind::Ip6Tnl, &TWO, Cause::Length)?;
+    refuses_flags(&rt, alloc, &InfoKind::Vrf, &TWO, Cause::Kind)?;
+    refuses_flags(&rt, alloc, &InfoKind::Vti6, &FOUR, Cause::Kind)
 }
 
 #[test]

@@ -1,6 +1,6 @@
 //! Rows of IP over InfiniBand.
 
-use super::rows::{UNLISTED, has_one_length, is_kept, is_list, is_parsed, is_row, unlisted};
+use super::rows::{UNLISTED, has_rows, is_list, keeps_unlisted, unlisted};
 use linkinfo_devices::InfoIpoib;
 use linkinfo_numbers::IpoibMode;
 use std::test::Fail;
@@ -26,14 +26,14 @@ const ROWS: [(&[u8], InfoIpoib); 5] = [
 #[test]
 fn rows_of_ipoib(rt: HostRuntime) -> Result<(), Fail> {
     let alloc = rt.alloc();
-    for (bytes, value) in ROWS {
-        is_parsed(&rt, alloc, bytes, &value)?;
-        is_row(&rt, alloc, (), bytes, &value)?;
-        has_one_length::<InfoIpoib>(&rt, alloc, (), bytes)?;
-    }
-    let kept = InfoIpoib::Other(unlisted(alloc)?);
-    is_parsed(&rt, alloc, &UNLISTED, &kept)?;
-    is_kept(&rt, alloc, (), &kept)
+    has_rows(&rt, alloc, &ROWS)?;
+    keeps_unlisted(
+        &rt,
+        alloc,
+        (),
+        &UNLISTED,
+        &InfoIpoib::Other(unlisted(alloc)?),
+    )
 }
 
 #[test]

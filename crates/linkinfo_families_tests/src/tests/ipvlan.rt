@@ -1,6 +1,6 @@
 //! Rows of ipvlan and ipvtap links.
 
-use super::rows::{UNLISTED, has_one_length, is_kept, is_list, is_parsed, is_row, unlisted};
+use super::rows::{UNLISTED, has_row, has_rows, is_list, keeps_unlisted, unlisted};
 use bitflags::Flags;
 use linkinfo_devices::{InfoIpVlan, InfoIpVtap};
 use linkinfo_numbers::{IpVlanFlags, IpVlanMode};
@@ -24,20 +24,16 @@ const ROWS_OF_IPVLAN: [(&[u8], InfoIpVlan); 5] = [
 #[test]
 fn rows_of_ipvlan(rt: HostRuntime) -> Result<(), Fail> {
     let alloc = rt.alloc();
-    let every = IpVlanFlags::from_bits_retain(0x8003);
-    for (bytes, value) in ROWS_OF_IPVLAN {
-        is_parsed(&rt, alloc, bytes, &value)?;
-        is_row(&rt, alloc, (), bytes, &value)?;
-        has_one_length::<InfoIpVlan>(&rt, alloc, (), bytes)?;
-    }
-    for (bytes, value) in [([6, 0, 2, 0, 3, 0x80, 0, 0], InfoIpVlan::Flags(every))] {
-        is_parsed(&rt, alloc, &bytes, &value)?;
-        is_row(&rt, alloc, (), &bytes, &value)?;
-        has_one_length::<InfoIpVlan>(&rt, alloc, (), &bytes)?;
-    }
-    let kept = InfoIpVlan::Other(unlisted(alloc)?);
-    is_parsed(&rt, alloc, &UNLISTED, &kept)?;
-    is_kept(&rt, alloc, (), &kept)
+    has_rows(&rt, alloc, &ROWS_OF_IPVLAN)?;
+    let every = InfoIpVlan::Flags(IpVlanFlags::from_bits_retain(0x8003));
+    has_row(&rt, alloc, &[6, 0, 2, 0, 3, 0x80, 0, 0], &every)?;
+    keeps_unlisted(
+        &rt,
+        alloc,
+        (),
+        &UNLISTED,
+        &InfoIpVlan::Other(unlisted(alloc)?),
+    )
 }
 
 /// Canonical attributes, and what they mean.
@@ -58,20 +54,16 @@ const ROWS_OF_IPVTAP: [(&[u8], InfoIpVtap); 5] = [
 #[test]
 fn rows_of_ipvtap(rt: HostRuntime) -> Result<(), Fail> {
     let alloc = rt.alloc();
-    let every = IpVlanFlags::from_bits_retain(0x8003);
-    for (bytes, value) in ROWS_OF_IPVTAP {
-        is_parsed(&rt, alloc, bytes, &value)?;
-        is_row(&rt, alloc, (), bytes, &value)?;
-        has_one_length::<InfoIpVtap>(&rt, alloc, (), bytes)?;
-    }
-    for (bytes, value) in [([6, 0, 2, 0, 3, 0x80, 0, 0], InfoIpVtap::Flags(every))] {
-        is_parsed(&rt, alloc, &bytes, &value)?;
-        is_row(&rt, alloc, (), &bytes, &value)?;
-        has_one_length::<InfoIpVtap>(&rt, alloc, (), &bytes)?;
-    }
-    let kept = InfoIpVtap::Other(unlisted(alloc)?);
-    is_parsed(&rt, alloc, &UNLISTED, &kept)?;
-    is_kept(&rt, alloc, (), &kept)
+    has_rows(&rt, alloc, &ROWS_OF_IPVTAP)?;
+    let every = InfoIpVtap::Flags(IpVlanFlags::from_bits_retain(0x8003));
+    has_row(&rt, alloc, &[6, 0, 2, 0, 3, 0x80, 0, 0], &every)?;
+    keeps_unlisted(
+        &rt,
+        alloc,
+        (),
+        &UNLISTED,
+        &InfoIpVtap::Other(unlisted(alloc)?),
+    )
 }
 
 #[test]

@@ -1,6 +1,6 @@
 //! Rows of MACsec links.
 
-use super::rows::{UNLISTED, has_one_length, is_kept, is_list, is_parsed, is_row, unlisted};
+use super::rows::{UNLISTED, has_rows, is_list, is_parsed, keeps_unlisted, unlisted};
 use linkinfo_devices::InfoMacSec;
 use linkinfo_numbers::{MacSecCipherId, MacSecOffload, MacSecValidate};
 use nla_frame::DefaultNla;
@@ -51,14 +51,14 @@ const ROWS: [(&[u8], InfoMacSec); 17] = [
 #[test]
 fn rows_of_macsec(rt: HostRuntime) -> Result<(), Fail> {
     let alloc = rt.alloc();
-    for (bytes, value) in ROWS {
-        is_parsed(&rt, alloc, bytes, &value)?;
-        is_row(&rt, alloc, (), bytes, &value)?;
-        has_one_length::<InfoMacSec>(&rt, alloc, (), bytes)?;
-    }
-    let kept = InfoMacSec::Other(unlisted(alloc)?);
-    is_parsed(&rt, alloc, &UNLISTED, &kept)?;
-    is_kept(&rt, alloc, (), &kept)
+    has_rows(&rt, alloc, &ROWS)?;
+    keeps_unlisted(
+        &rt,
+        alloc,
+        (),
+        &UNLISTED,
+        &InfoMacSec::Other(unlisted(alloc)?),
+    )
 }
 
 #[test]

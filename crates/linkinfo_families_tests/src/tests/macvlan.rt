@@ -1,6 +1,6 @@
 //! Rows of macvlan and macvtap links.
 
-use super::rows::{UNLISTED, has_one_length, is_kept, is_parsed, is_row, unlisted};
+use super::rows::{UNLISTED, has_one_length, is_parsed, is_row, keeps_unlisted, unlisted};
 use bitflags::Flags;
 use linkinfo_devices::{InfoMacVlan, InfoMacVtap};
 use linkinfo_numbers::{MacVlanFlags, MacVlanMacAddressMode, MacVlanMode};
@@ -24,6 +24,21 @@ where
     for lists in [0, 127, 128, 255] {
         is_row(rt, alloc, lists, bytes, value)?;
         has_one_length::<F>(rt, alloc, lists, bytes)?;
+    }
+    Ok(())
+}
+
+/// Each attribute is the canonical one of its value, inside any number of lists.
+fn has_rows_everywhere<'a, F>(
+    rt: &impl Abort,
+    alloc: Global,
+    rows: &[(&'a [u8], F)],
+) -> Result<(), Fail>
+where
+    F: LinkFamily<Context = u8> + Parseable<NlaBuffer<'a>> + ExactEq,
+{
+    for (bytes, value) in rows {
+        is_row_everywhere(rt, alloc, bytes, value)?;
     }
     Ok(())
 }
@@ -80,19 +95,16 @@ const ROWS_OF_MACVLAN: [(&[u8], InfoMacVlan); 12] = [
 #[test]
 fn rows_of_macvlan(rt: HostRuntime) -> Result<(), Fail> {
     let alloc = rt.alloc();
-    let every = MacVlanFlags::from_bits_retain(0x8003);
-    for (bytes, value) in ROWS_OF_MACVLAN {
-        is_row_everywhere(&rt, alloc, bytes, &value)?;
-    }
-    for (bytes, value) in [(
-        [6, 0, 2, 0, 3, 0x80, 0, 0].as_slice(),
-        InfoMacVlan::Flags(every),
-    )] {
-        is_row_everywhere(&rt, alloc, bytes, &value)?;
-    }
-    let kept = InfoMacVlan::Other(unlisted(alloc)?);
-    is_parsed(&rt, alloc, &UNLISTED, &kept)?;
-    is_kept(&rt, alloc, 128, &kept)
+    has_rows_everywhere(&rt, alloc, &ROWS_OF_MACVLAN)?;
+    let every = InfoMacVlan::Flags(MacVlanFlags::from_bits_retain(0x8003));
+    is_row_everywhere(&rt, alloc, &[6, 0, 2, 0, 3, 0x80, 0, 0], &every)?;
+    keeps_unlisted(
+        &rt,
+        alloc,
+        128,
+        &UNLISTED,
+        &InfoMacVlan::Other(unlisted(alloc)?),
+    )
 }
 
 /// Canonical attributes, and what they mean.
@@ -143,17 +155,14 @@ const ROWS_OF_MACVTAP: [(&[u8], InfoMacVtap); 11] = [
 #[test]
 fn rows_of_macvtap(rt: HostRuntime) -> Result<(), Fail> {
     let alloc = rt.alloc();
-    let every = MacVlanFlags::from_bits_retain(0x8003);
-    for (bytes, value) in ROWS_OF_MACVTAP {
-        is_row_everywhere(&rt, alloc, bytes, &value)?;
-    }
-    for (bytes, value) in [(
-        [6, 0, 2, 0, 3, 0x80, 0, 0].as_slice(),
-        InfoMacVtap::Flags(every),
-    )] {
-        is_row_everywhere(&rt, alloc, bytes, &value)?;
-    }
-    let kept = InfoMacVtap::Other(unlisted(alloc)?);
-    is_parsed(&rt, alloc, &UNLISTED, &kept)?;
-    is_kept(&rt, alloc, 128, &kept)
+    has_rows_everywhere(&rt, alloc, &ROWS_OF_MACVTAP)?;
+    let every = InfoMacVtap::Flags(MacVlanFlags::from_bits_retain(0x8003));
+    is_row_everywhere(&rt, alloc, &[6, 0, 2, 0, 3, 0x80, 0, 0], &every)?;
+    keeps_unlisted(
+        &rt,
+        alloc,
+        128,
+        &UNLISTED,
+        &InfoMacVtap::Other(unlisted(alloc)?),
+    )
 }

@@ -172,16 +172,17 @@ pub(super) fn has_one_length<F: LinkFamily>(
     Ok(())
 }
 
-/// A presence flag of this type: its canonical attribute is empty, and any payload means the same.
+/// A presence flag: its canonical attribute is empty, and any payload means the same.
 pub(super) fn is_mark<F: LinkFamily + ExactEq>(
     rt: &impl Abort,
     alloc: Global,
     ctx: F::Context,
-    kind: u8,
+    bytes: &[u8],
     value: &F,
 ) -> Result<(), Fail> {
-    is_row(rt, alloc, ctx, &[4, 0, kind, 0], value)?;
-    is_read(rt, alloc, ctx, &[5, 0, kind, 0, 7, 0, 0, 0], value)
+    assert!(rt; bytes.len() == 4);
+    is_row(rt, alloc, ctx, bytes, value)?;
+    is_read(rt, alloc, ctx, &[5, 0, bytes[2], 0, 7, 0, 0, 0], value)
 }
 
 /// `UNLISTED` is kept as the value: its flag bits count. A clone is equal.
@@ -207,6 +208,97 @@ pub(super) fn is_parsed<'a, F: Parseable<NlaBuffer<'a>> + ExactEq + Drop>(
     let read = F::parse(alloc, &NlaBuffer::new_checked(bytes)?)?;
     assert!(rt; is_equal(&read, value));
     Ok(())
+}
+
+/// The attribute is the canonical one of the value, is parsed as it, and takes payloads of its length alone.
+pub(super) fn has_row<'a, F>(
+    rt: &impl Abort,
+    alloc: Global,
+    bytes: &'a [u8],
+    value: &F,
+) -> Result<(), Fail>
+where
+    F: LinkFamily<Context = ()> + Parseable<NlaBuffer<'a>> + ExactEq,
+{
+    is_parsed(rt, alloc, bytes, value)?;
+    is_row(rt, alloc, (), bytes, value)?;
+    has_one_length::<F>(rt, alloc, (), bytes)
+}
+
+/// Each attribute is the row's of its value.
+pub(super) fn has_rows<'a, F>(
+    rt: &impl Abort,
+    alloc: Global,
+    rows: &[(&'a [u8], F)],
+) -> Result<(), Fail>
+where
+    F: LinkFamily<Context = ()> + Parseable<NlaBuffer<'a>> + ExactEq,
+{
+    for (bytes, value) in rows {
+        has_row(rt, alloc, bytes, value)?;
+    }
+    Ok(())
+}
+
+/// Each attribute is the row's of the value at its place.
+pub(super) fn has_rows_of<'a, F>(
+    rt: &impl Abort,
+    alloc: Global,
+    attributes: &[&'a [u8]],
+    values: &[F],
+) -> Result<(), Fail>
+where
+    F: LinkFamily<Context = ()> + Parseable<NlaBuffer<'a>> + ExactEq,
+{
+    assert!(rt; attributes.len() == values.len());
+    for (bytes, value) in attributes.iter().zip(values) {
+        has_row(rt, alloc, bytes, value)?;
+    }
+    Ok(())
+}
+
+/// Each attribute is the canonical one of a presence flag, and is parsed as its value.
+pub(super) fn has_marks<'a, F>(
+    rt: &impl Abort,
+    alloc: Global,
+    rows: &[(&'a [u8], F)],
+) -> Result<(), Fail>
+where
+    F: LinkFamily<Context = ()> + Parseable<NlaBuffer<'a>> + ExactEq,
+{
+    for (bytes, value) in rows {
+        is_parsed(rt, alloc, bytes, value)?;
+        is_mark(rt, alloc, (), bytes, value)?;
+    }
+    Ok(())
+}
+
+/// The attribute, which is `UNLISTED`, is parsed and kept as the value.
+pub(super) fn keeps_unlisted<'a, F>(
+    rt: &impl Abort,
+    alloc: Global,
+    ctx: F::Context,
+    bytes: &'a [u8],
+    value: &F,
+) -> Result<(), Fail>
+where
+    F: LinkFamily + Parseable<NlaBuffer<'a>> + ExactEq + Clone,
+{
+    assert!(rt; bytes == UNLISTED.as_slice());
+    is_parsed(rt, alloc, bytes, value)?;
+    is_kept(rt, alloc, ctx, value)
+}
+
+/// The attribute is parsed as the value, which is emitted as the canonical one.
+pub(super) fn is_rewritten<'a, F: Parseable<NlaBuffer<'a>> + Nla + ExactEq + Drop>(
+    rt: &impl Abort,
+    alloc: Global,
+    bytes: &'a [u8],
+    value: &F,
+    canonical: &[u8],
+) -> Result<(), Fail> {
+    is_parsed(rt, alloc, bytes, value)?;
+    is_emitted(rt, value, canonical)
 }
 
 /// `parse` refuses the attribute with this fault.

@@ -1,12 +1,15 @@
 //! Rows of VXLAN tunnels.
 
 use super::rows::{
-    UNLISTED, has_one_length, is_emitted, is_kept, is_mark, is_parsed, is_refused, is_row, unlisted,
+    UNLISTED, has_marks, has_rows, has_rows_of, is_parsed, is_refused, is_rewritten, is_row,
+    keeps_unlisted, unlisted,
 };
 use linkinfo_numbers::VxlanDf;
 use linkinfo_tunnels::InfoVxlan;
 use nla_frame::Cause;
+use std::alloc::Global;
 use std::net::{Ipv4Addr, Ipv6Addr};
+use std::process::Abort;
 use std::test::Fail;
 
 /// Canonical attributes, and what they mean.
@@ -48,88 +51,97 @@ const ROWS: [(&[u8], InfoVxlan); 26] = [
     (&[5, 0, 34, 0, 1, 0, 0, 0], InfoVxlan::McRoute(true)),
 ];
 
+/// Canonical attributes of presence flags, and what they mean.
+const MARKS: [(&[u8], InfoVxlan); 3] = [
+    (&[4, 0, 23, 0], InfoVxlan::Gbp),
+    (&[4, 0, 24, 0], InfoVxlan::RemCsumNoPartial),
+    (&[4, 0, 27, 0], InfoVxlan::Gpe),
+];
+
 #[test]
 fn rows_of_vxlan(rt: HostRuntime) -> Result<(), Fail> {
     let alloc = rt.alloc();
-    let v4 = Ipv4Addr::new(10, 0, 0, 1);
-    let v6 = Ipv6Addr::new(0xfe80, 0, 0, 0, 0, 0, 0, 2);
-    for (bytes, value) in ROWS {
-        is_parsed(&rt, alloc, bytes, &value)?;
-        is_row(&rt, alloc, (), bytes, &value)?;
-        has_one_length::<InfoVxlan>(&rt, alloc, (), bytes)?;
-    }
-    for (bytes, value) in [
-        ([8, 0, 2, 0, 10, 0, 0, 1].as_slice(), InfoVxlan::Group(v4)),
-        ([8, 0, 4, 0, 10, 0, 0, 1].as_slice(), InfoVxlan::Local(v4)),
-        (
-            [
-                20, 0, 16, 0, 0xfe, 0x80, 0, 0, 0, 0, 0, 0, 0, 0, 0, 0, 0, 0, 0, 2,
-            ]
-            .as_slice(),
-            InfoVxlan::Group6(v6),
-        ),
-        (
-            [
-                20, 0, 17, 0, 0xfe, 0x80, 0, 0, 0, 0, 0, 0, 0, 0, 0, 0, 0, 0, 0, 2,
-            ]
-            .as_slice(),
-            InfoVxlan::Local6(v6),
-        ),
-    ] {
-        is_parsed(&rt, alloc, bytes, &value)?;
-        is_row(&rt, alloc, (), bytes, &value)?;
-        has_one_length::<InfoVxlan>(&rt, alloc, (), bytes)?;
-    }
-    for (kind, value) in [
-        (23, InfoVxlan::Gbp),
-        (24, InfoVxlan::RemCsumNoPartial),
-        (27, InfoVxlan::Gpe),
-    ] {
-        is_parsed(&rt, alloc, &[4, 0, kind, 0], &value)?;
-        is_mark(&rt, alloc, (), kind, &value)?;
-    }
-    let kept = InfoVxlan::Other(unlisted(alloc)?);
-    is_parsed(&rt, alloc, &UNLISTED, &kept)?;
-    is_kept(&rt, alloc, (), &kept)
+    has_rows(&rt, alloc, &ROWS)?;
+    has_marks(&rt, alloc, &MARKS)?;
+    keeps_unlisted(
+        &rt,
+        alloc,
+        (),
+        &UNLISTED,
+        &InfoVxlan::Other(unlisted(alloc)?),
+    )
 }
 
-/// Attributes, and what they mean.
-const WORKED_OF_VXLAN: [(&[u8], InfoVxlan); 3] = [
-    (&[6, 0, 15, 0, 0x12, 0xb5, 0, 0], InfoVxlan::Port(4789)),
-    // The low port may be above the high one.
-    (&[8, 0, 10, 0, 0, 2, 0, 1], InfoVxlan::PortRange((2, 1))),
-    (&[5, 0, 28, 0, 0, 0, 0, 0], InfoVxlan::TtlInherit(0)),
+/// Canonical attributes of 10.0.0.1 and fe80::2, of the group and local.
+const ADDRESSES: &[&[u8]] = &[
+    &[8, 0, 2, 0, 10, 0, 0, 1],
+    &[8, 0, 4, 0, 10, 0, 0, 1],
+    &[
+        20, 0, 16, 0, 0xfe, 0x80, 0, 0, 0, 0, 0, 0, 0, 0, 0, 0, 0, 0, 0, 2,
+    ],
+    &[
+        20, 0, 17, 0, 0xfe, 0x80, 0, 0, 0, 0, 0, 0, 0, 0, 0, 0, 0, 0, 0, 2,
+    ],
 ];
+
+#[test]
+fn addresses_of_vxlan(rt: HostRuntime) -> Result<(), Fail> {
+    let v4 = Ipv4Addr::new(10, 0, 0, 1);
+    let v6 = Ipv6Addr::new(0xfe80, 0, 0, 0, 0, 0, 0, 2);
+    let values = [
+        InfoVxlan::Group(v4),
+        InfoVxlan::Local(v4),
+        InfoVxlan::Group6(v6),
+        InfoVxlan::Local6(v6),
+    ];
+    has_rows_of(&rt, rt.alloc(), ADDRESSES, &values)
+}
+
+/// The attribute is the canonical one of the value, and is parsed as it.
+fn is_parsed_row(
+    rt: &impl Abort,
+    alloc: Global,
+    bytes: &[u8],
+    value: &InfoVxlan,
+) -> Result<(), Fail> {
+    is_parsed(rt, alloc, bytes, value)?;
+    is_row(rt, alloc, (), bytes, value)
+}
 
 #[test]
 fn worked_vxlan(rt: HostRuntime) -> Result<(), Fail> {
     let alloc = rt.alloc();
-    for (bytes, value) in WORKED_OF_VXLAN {
-        is_parsed(&rt, alloc, bytes, &value)?;
-        is_row(&rt, alloc, (), bytes, &value)?;
-    }
+    let port = [6, 0, 15, 0, 0x12, 0xb5, 0, 0];
+    is_parsed_row(&rt, alloc, &port, &InfoVxlan::Port(4789))?;
+    // The low port may be above the high one.
+    let range = [8, 0, 10, 0, 0, 2, 0, 1];
+    is_parsed_row(&rt, alloc, &range, &InfoVxlan::PortRange((2, 1)))?;
     // The only type of which a payload may be empty or a byte.
+    let zero = [5, 0, 28, 0, 0, 0, 0, 0];
+    is_parsed_row(&rt, alloc, &zero, &InfoVxlan::TtlInherit(0))?;
     is_row(&rt, alloc, (), &[4, 0, 28, 0], &InfoVxlan::TtlInheritFlag)?;
     let long = [6, 0, 28, 0, 0, 0, 0, 0];
-    is_refused::<InfoVxlan>(&rt, alloc, (), &long, Cause::Length)?;
+    is_refused::<InfoVxlan>(&rt, alloc, (), &long, Cause::Length)
+}
 
+#[test]
+fn truths_of_vxlan(rt: HostRuntime) -> Result<(), Fail> {
+    let alloc = rt.alloc();
     // Every nonzero byte is true, and is written as 1.
-    for (byte, kind, value) in [
-        (2, 7, InfoVxlan::Learning(true)),
-        (7, 25, InfoVxlan::CollectMetadata(true)),
-    ] {
-        is_parsed(&rt, alloc, &[5, 0, kind, 0, byte, 0, 0, 0], &value)?;
-        is_emitted(&rt, &value, &[5, 0, kind, 0, 1, 0, 0, 0])?;
-    }
-    Ok(())
+    let two = [5, 0, 7, 0, 2, 0, 0, 0];
+    let learning = InfoVxlan::Learning(true);
+    is_rewritten(&rt, alloc, &two, &learning, &[5, 0, 7, 0, 1, 0, 0, 0])?;
+    let seven = [5, 0, 25, 0, 7, 0, 0, 0];
+    let collect = InfoVxlan::CollectMetadata(true);
+    is_rewritten(&rt, alloc, &seven, &collect, &[5, 0, 25, 0, 1, 0, 0, 0])
 }
 
 #[test]
 fn worked_flags_of_vxlan(rt: HostRuntime) -> Result<(), Fail> {
     let alloc = rt.alloc();
     // A flag stands whatever its payload, and is written without one.
-    is_parsed(&rt, alloc, &[5, 0, 23, 0, 7, 0, 0, 0], &InfoVxlan::Gbp)?;
-    is_emitted(&rt, &InfoVxlan::Gbp, &[4, 0, 23, 0])?;
+    let seven = [5, 0, 23, 0, 7, 0, 0, 0];
+    is_rewritten(&rt, alloc, &seven, &InfoVxlan::Gbp, &[4, 0, 23, 0])?;
     let bits = InfoVxlan::ReservedBits(1);
     is_row(
         &rt,
