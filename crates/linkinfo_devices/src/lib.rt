@@ -11,8 +11,6 @@ mod nested_calls;
 mod nested_emission;
 mod nested_family;
 mod rmnet;
-#[cfg(test)]
-mod tests;
 mod vrf;
 mod xfrm;
 

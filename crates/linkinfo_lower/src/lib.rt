@@ -10,8 +10,6 @@ mod bridge_port;
 mod can;
 mod dsa;
 mod hsr;
-#[cfg(test)]
-mod tests;
 mod vlan;
 
 pub use bond::InfoBond;

@@ -9,8 +9,6 @@ mod peer_calls;
 mod peer_family;
 mod pfcp;
 mod team_port;
-#[cfg(test)]
-mod tests;
 mod tun;
 mod veth;
 mod vxcan;

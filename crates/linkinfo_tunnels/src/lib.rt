@@ -8,8 +8,6 @@ mod gre;
 mod gre6;
 mod gtp;
 mod ip_tunnel;
-#[cfg(test)]
-mod tests;
 mod vti;
 mod vxlan;
 

@@ -1,6 +1,6 @@
 //! Peers of one bit; the calls of the families with a peer are tested over both peers beside them.
 
-use crate::BitPeer;
+use linkinfo_peers::BitPeer;
 use linkinfo_table::{LinkPeer, PeerFault};
 use nla_frame::is_equal;
 use std::test::Fail;

@@ -1,10 +1,10 @@
 //! Rows of B.A.T.M.A.N. links.
 
-use super::{
+use super::rows::{
     UNLISTED, are_same, has_shapes, is_emitted, is_kept, is_list, is_parsed, is_read, is_refused,
     is_row, unlisted,
 };
-use crate::InfoBatAdv;
+use linkinfo_peers::InfoBatAdv;
 use linkinfo_table::Shape;
 use nla_frame::{Cause, Text};
 use std::test::Fail;
@@ -17,15 +17,15 @@ const BATMAN_IV: [u8; 16] = [
 #[test]
 fn rows_of_batadv(rt: HostRuntime) -> Result<(), Fail> {
     let alloc = rt.alloc();
-    has_shapes::<InfoBatAdv>(&rt, &[(1, Shape::Name)]);
+    has_shapes::<InfoBatAdv>(&rt, (), &[(1, Shape::Name)]);
     let name = InfoBatAdv::AlgoName(Text::copy_of(alloc, "BATMAN_IV")?);
     is_parsed(&rt, alloc, &BATMAN_IV, &name)?;
-    is_row(&rt, alloc, &BATMAN_IV, &name)?;
+    is_row(&rt, alloc, (), &BATMAN_IV, &name)?;
     assert!(rt; name.clone()? == name);
-    is_list(&rt, alloc, &BATMAN_IV, &[name])?;
+    is_list(&rt, alloc, (), &BATMAN_IV, &[name])?;
     let kept = InfoBatAdv::Other(unlisted(alloc)?);
     is_parsed(&rt, alloc, &UNLISTED, &kept)?;
-    is_kept(&rt, alloc, &kept)
+    is_kept(&rt, alloc, (), &kept)
 }
 
 #[test]
@@ -36,19 +36,19 @@ fn worked_batadv(rt: HostRuntime) -> Result<(), Fail> {
     two_zeros[0] = 15;
     let name = InfoBatAdv::AlgoName(Text::copy_of(alloc, "BATMAN_IV\0")?);
     is_parsed(&rt, alloc, &two_zeros, &name)?;
-    is_row(&rt, alloc, &two_zeros, &name)?;
-    assert!(rt; !are_same::<InfoBatAdv>(&rt, &BATMAN_IV, &two_zeros)?);
+    is_row(&rt, alloc, (), &two_zeros, &name)?;
+    assert!(rt; !are_same::<InfoBatAdv>(&rt, (), &BATMAN_IV, &two_zeros)?);
 
     // Without one the name is the same, and is written with one.
     let mut no_zero = BATMAN_IV;
     no_zero[0] = 13;
     let name = InfoBatAdv::AlgoName(Text::copy_of(alloc, "BATMAN_IV")?);
-    is_read(&rt, alloc, &no_zero, &name)?;
-    assert!(rt; are_same::<InfoBatAdv>(&rt, &BATMAN_IV, &no_zero)?);
+    is_read(&rt, alloc, (), &no_zero, &name)?;
+    assert!(rt; are_same::<InfoBatAdv>(&rt, (), &BATMAN_IV, &no_zero)?);
     is_emitted(&rt, &name, &BATMAN_IV)?;
 
     let empty = InfoBatAdv::AlgoName(Text::copy_of(alloc, "")?);
-    is_read(&rt, alloc, &[4, 0, 1, 0], &empty)?;
-    is_row(&rt, alloc, &[5, 0, 1, 0, 0, 0, 0, 0], &empty)?;
-    is_refused::<InfoBatAdv>(&rt, alloc, &[6, 0, 1, 0, 0xc3, 0x28], Cause::Utf8)
+    is_read(&rt, alloc, (), &[4, 0, 1, 0], &empty)?;
+    is_row(&rt, alloc, (), &[5, 0, 1, 0, 0, 0, 0, 0], &empty)?;
+    is_refused::<InfoBatAdv>(&rt, alloc, (), &[6, 0, 1, 0, 0xc3, 0x28], Cause::Utf8)
 }

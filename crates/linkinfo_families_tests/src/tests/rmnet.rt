@@ -1,10 +1,8 @@
 //! Rows of links to Qualcomm modems.
 
-use super::rows::{
-    UNLISTED, has_one_length, is_kept, is_list, is_parsed, is_refused, is_row, unlisted,
-};
-use crate::InfoRmNet;
+use super::rows::{UNLISTED, has_row, is_list, is_parsed, is_refused, keeps_unlisted, unlisted};
 use bitflags::Flags;
+use linkinfo_devices::InfoRmNet;
 use linkinfo_numbers::{InfoRmNetFlags, RmNetFlags};
 use nla_frame::Cause;
 use std::test::Fail;
@@ -19,24 +17,17 @@ fn flags_under(flags: u32, mask: u32) -> InfoRmNet {
 #[test]
 fn rows_of_rmnet(rt: HostRuntime) -> Result<(), Fail> {
     let alloc = rt.alloc();
-    for (bytes, value) in [
-        (
-            [6, 0, 1, 0, 2, 1, 0, 0].as_slice(),
-            InfoRmNet::MuxId(0x0102),
-        ),
-        (
-            [12, 0, 2, 0, 4, 3, 2, 1, 8, 7, 6, 5].as_slice(),
-            flags_under(0x0102_0304, 0x0506_0708),
-        ),
-    ] {
-        is_parsed(&rt, alloc, bytes, &value)?;
-        is_row(&rt, alloc, (), bytes, &value)?;
-        has_one_length::<InfoRmNet>(&rt, alloc, (), bytes)?;
-    }
-    let kept = InfoRmNet::Other(unlisted(alloc)?);
-    assert!(rt; kept.clone()? == kept);
-    is_parsed(&rt, alloc, &UNLISTED, &kept)?;
-    is_kept(&rt, alloc, (), &kept)
+    let id = InfoRmNet::MuxId(0x0102);
+    has_row(&rt, alloc, &[6, 0, 1, 0, 2, 1, 0, 0], &id)?;
+    let flags = flags_under(0x0102_0304, 0x0506_0708);
+    has_row(&rt, alloc, &[12, 0, 2, 0, 4, 3, 2, 1, 8, 7, 6, 5], &flags)?;
+    keeps_unlisted(
+        &rt,
+        alloc,
+        (),
+        &UNLISTED,
+        &InfoRmNet::Other(unlisted(alloc)?),
+    )
 }
 
 #[test]

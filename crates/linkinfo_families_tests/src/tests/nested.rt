@@ -1,11 +1,10 @@
 //! Address lists inside address lists.
 
-use super::error;
-use crate::nested_family::NestedFamily;
-use crate::{InfoMacVlan, InfoMacVtap};
-use linkinfo_table::{
-    LinkFamily, Lookup, RowFamily, Shape, laws, list_check, list_read, list_same,
+use super::rows::{
+    error, is_emitted, is_not_parsed, is_parsed, is_refused, list_checked, lists_same,
 };
+use linkinfo_devices::{InfoMacVlan, InfoMacVtap};
+use linkinfo_table::{LinkFamily, Lookup, Shape, laws, list_read};
 use nla_frame::{
     Cause, ExactEq, Family, HeaderCount, Nla, NlaBuffer, Nlas, Parseable, emit_nlas, is_equal,
     nlas_buffer_len, nlas_fit_len,
@@ -16,6 +15,23 @@ use std::test::Fail;
 
 /// The most lists in a chain whose first list fits.
 const LONGEST_CHAIN: u16 = 16383;
+
+/// A family of which a value may hold a list of values.
+trait HoldsLists: Sized + Drop {
+    fn from_list(items: Nlas<Self>) -> Self;
+}
+
+impl HoldsLists for InfoMacVlan {
+    fn from_list(items: Nlas<InfoMacVlan>) -> InfoMacVlan {
+        InfoMacVlan::MacAddrData(items)
+    }
+}
+
+impl HoldsLists for InfoMacVtap {
+    fn from_list(items: Nlas<InfoMacVtap>) -> InfoMacVtap {
+        InfoMacVtap::MacAddrData(items)
+    }
+}
 
 /// The string of a chain of address lists, each of which holds the next alone, and the last one nothing.
 fn chain(rt: &impl Abort, alloc: Global, lists: u16) -> Result<Vec<u8>, AllocError> {
@@ -29,14 +45,14 @@ fn chain(rt: &impl Abort, alloc: Global, lists: u16) -> Result<Vec<u8>, AllocErr
 }
 
 /// A list that holds one value alone.
-fn list_of<F: NestedFamily>(alloc: Global, value: F) -> Result<F, AllocError> {
+fn list_of<F: HoldsLists>(alloc: Global, value: F) -> Result<F, AllocError> {
     let mut items = Vec::new(alloc);
     items.push(value)?;
     Ok(F::from_list(Nlas::new(items)))
 }
 
 /// The value of such a chain.
-fn chain_value<F: NestedFamily>(alloc: Global, lists: u16) -> Result<F, AllocError> {
+fn chain_value<F: HoldsLists>(alloc: Global, lists: u16) -> Result<F, AllocError> {
     let mut value = F::from_list(Nlas::new(Vec::new(alloc)));
     for _ in 1..lists {
         value = list_of(alloc, value)?;
@@ -47,14 +63,15 @@ fn chain_value<F: NestedFamily>(alloc: Global, lists: u16) -> Result<F, AllocErr
 /// A chain of at most 128 lists is read as its value by each call, with a header for each list, and written as it came.
 fn is_chain<F>(rt: &impl Abort, alloc: Global, lists: u16) -> Result<(), Fail>
 where
-    F: NestedFamily + LinkFamily<Context = u8> + Nla + ExactEq,
+    F: HoldsLists + LinkFamily<Context = u8> + Nla + ExactEq,
 {
     let bytes = chain(rt, alloc, lists)?;
     let value: F = chain_value(alloc, lists)?;
     assert!(rt; bytes.len() < 1000);
-    let mut count = HeaderCount::new();
-    assert_eq!(rt; list_check::<F>(bytes.as_slice(), 0, &mut count), Ok(()));
-    assert!(rt; count.get() == usize::from(lists));
+    assert_eq!(rt;
+        list_checked::<F>(rt, 0, bytes.as_slice()),
+        (Ok(()), usize::from(lists))
+    );
     let mut count = HeaderCount::new();
     let read: Vec<F> = list_read(alloc, bytes.as_slice(), 0, &mut count)?;
     assert!(rt; count.get() == usize::from(lists));
@@ -76,13 +93,10 @@ fn chains_of_at_most_128_lists(rt: HostRuntime) -> Result<(), Fail> {
         is_chain::<InfoMacVlan>(&rt, alloc, lists)?;
         is_chain::<InfoMacVtap>(&rt, alloc, lists)?;
         let bytes = chain(&rt, alloc, lists)?;
-        let nla = NlaBuffer::new_checked(bytes.as_slice())?;
         let value: InfoMacVlan = chain_value(alloc, lists)?;
-        let read = InfoMacVlan::parse(alloc, &nla)?;
-        assert!(rt; is_equal(&read, &value));
+        is_parsed(&rt, alloc, bytes.as_slice(), &value)?;
         let value: InfoMacVtap = chain_value(alloc, lists)?;
-        let read = InfoMacVtap::parse(alloc, &nla)?;
-        assert!(rt; is_equal(&read, &value));
+        is_parsed(&rt, alloc, bytes.as_slice(), &value)?;
     }
     Ok(())
 }
@@ -96,32 +110,24 @@ fn chain_of_129_lists(rt: HostRuntime) -> Result<(), Fail> {
     let bytes = chain(&rt, alloc, 129)?;
     assert!(rt; bytes.len() == 516);
     assert_eq!(rt; &bytes.as_slice()[..4], [4, 2, 5, 0].as_slice());
-    let nla = NlaBuffer::new_checked(bytes.as_slice())?;
     let deep = error(Family::MacVlan, 5, Cause::Depth);
-    assert_eq!(rt; InfoMacVlan::parse(alloc, &nla).err(), Some(deep));
-    let mut count = HeaderCount::new();
+    is_not_parsed::<InfoMacVlan>(&rt, alloc, bytes.as_slice(), deep)?;
     assert_eq!(rt;
-        list_check::<InfoMacVlan>(bytes.as_slice(), 0, &mut count),
-        Err(deep)
+        list_checked::<InfoMacVlan>(&rt, 0, bytes.as_slice()),
+        (Err(deep), 129)
     );
-    assert_eq!(rt; count.get(), 129);
     let deep = error(Family::MacVtap, 5, Cause::Depth);
-    assert_eq!(rt; InfoMacVtap::parse(alloc, &nla).err(), Some(deep));
-    Ok(())
+    is_not_parsed::<InfoMacVtap>(&rt, alloc, bytes.as_slice(), deep)
 }
 
 /// Inside 127 lists a list may stand, inside 128 it is refused before its payload is looked at.
 fn has_most_lists<F>(rt: &impl Abort, alloc: Global) -> Result<(), Fail>
 where
-    F: NestedFamily + LinkFamily<Context = u8>,
+    F: HoldsLists + LinkFamily<Context = u8>,
 {
-    let family = <F as LinkFamily>::FAMILY;
-    let deep = error(family, 5, Cause::Depth);
-    let list = Lookup::Is(Shape::SelfList);
-    assert!(rt; <F as LinkFamily>::shape(0, 5) == list);
-    assert!(rt; <F as LinkFamily>::shape(127, 5) == list);
-    assert!(rt; <F as LinkFamily>::shape(128, 5) == Lookup::Refused(Cause::Depth));
-    assert!(rt; <F as LinkFamily>::shape(255, 5) == Lookup::Refused(Cause::Depth));
+    for lists in [0, 127] {
+        assert!(rt; <F as LinkFamily>::shape(lists, 5) == Lookup::Is(Shape::SelfList));
+    }
     // A list that holds a stray byte, with flag bits in its type.
     let bytes = [5, 0, 5, 0xc0, 1, 0, 0, 0];
     let nla = NlaBuffer::new_checked(&bytes)?;
@@ -131,22 +137,18 @@ where
         Err(error(Family::Frame, 0, Cause::Header))
     );
     for lists in [128, 255] {
-        let mut count = HeaderCount::new();
-        assert_eq!(rt; F::check_value(&nla, lists, &mut count), Err(deep));
-        assert_eq!(rt; count.get(), 0);
-        let mut count = HeaderCount::new();
-        assert_eq!(rt; F::read(alloc, &nla, lists, &mut count).err(), Some(deep));
-        assert_eq!(rt; count.get(), 0);
+        assert!(rt; <F as LinkFamily>::shape(lists, 5) == Lookup::Refused(Cause::Depth));
+        is_refused::<F>(rt, alloc, lists, &bytes, Cause::Depth)?;
     }
     // Inside 127 lists it may be empty, and may not hold another.
-    let mut count = HeaderCount::new();
-    assert_eq!(rt; list_check::<F>(&[4, 0, 5, 0], 127, &mut count), Ok(()));
-    let mut count = HeaderCount::new();
+    let deep = error(<F as LinkFamily>::FAMILY, 5, Cause::Depth);
     assert_eq!(rt;
-        list_check::<F>(&[8, 0, 5, 0, 4, 0, 5, 0], 127, &mut count),
-        Err(deep)
+        [
+            list_checked::<F>(rt, 127, &[4, 0, 5, 0]),
+            list_checked::<F>(rt, 127, &[8, 0, 5, 0, 4, 0, 5, 0]),
+        ],
+        [(Ok(()), 1), (Err(deep), 2)]
     );
-    assert_eq!(rt; count.get(), 2);
     Ok(())
 }
 
@@ -164,87 +166,78 @@ fn worked_lists(rt: HostRuntime) -> Result<(), Fail> {
     let value = list_of(alloc, address)?;
     let padded = [16, 0, 5, 0, 10, 0, 4, 0, 2, 0, 0, 0, 0, 1, 0, 0];
     let bare = [14, 0, 5, 0, 10, 0, 4, 0, 2, 0, 0, 0, 0, 1];
-    let read = InfoMacVlan::parse(alloc, &NlaBuffer::new_checked(&padded)?)?;
-    assert!(rt; is_equal(&read, &value));
-    let read = InfoMacVlan::parse(alloc, &NlaBuffer::new_checked(&bare)?)?;
-    assert!(rt; is_equal(&read, &value));
-    assert_eq!(rt; value.kind(), 5);
-    assert_eq!(rt; value.fit_len(), Some(12));
+    is_parsed(&rt, alloc, &padded, &value)?;
+    is_parsed(&rt, alloc, &bare, &value)?;
+    is_emitted(&rt, &value, &padded)?;
+    assert!(rt; value.fit_len() == Some(12));
     assert!(rt; value.value_len() == 12);
-    let mut buffer = [255; 17];
-    assert!(rt; value.buffer_len() == 16);
-    value.emit(&mut buffer);
-    assert_eq!(rt; &buffer[..16], padded.as_slice());
-    assert_eq!(rt; buffer[16], 255);
     let mut payload = [255; 12];
     value.emit_value(&mut payload);
     assert_eq!(rt; payload.as_slice(), &padded[4..]);
+    Ok(())
+}
 
-    let mut count = HeaderCount::new();
-    assert!(rt; list_check::<InfoMacVlan>(&padded, 0, &mut count).is_ok());
-    let mut count = HeaderCount::new();
-    assert!(rt; list_check::<InfoMacVlan>(&bare, 0, &mut count).is_ok());
-    let mut count = HeaderCount::new();
-    assert!(rt; list_same::<InfoMacVlan>(&padded, &bare, 0, &mut count));
-    assert_eq!(rt; count.get(), 4);
+#[test]
+fn worked_strings_of_lists(rt: HostRuntime) -> Result<(), Fail> {
+    let alloc = rt.alloc();
+    let padded = [16, 0, 5, 0, 10, 0, 4, 0, 2, 0, 0, 0, 0, 1, 0, 0];
+    let bare = [14, 0, 5, 0, 10, 0, 4, 0, 2, 0, 0, 0, 0, 1];
+    assert_eq!(rt;
+        lists_same::<InfoMacVlan>(&rt, 0, &padded, &bare),
+        (true, 4)
+    );
     laws::reading_back::<InfoMacVlan>(&padded, 0);
     laws::reading_back::<InfoMacVtap>(&padded, 0);
 
     let short = [12, 0, 5, 0, 5, 0, 4, 0, 1, 0, 0, 0];
-    let read = InfoMacVtap::parse(alloc, &NlaBuffer::new_checked(&short)?);
-    assert_eq!(rt; read.err(), Some(error(Family::MacVtap, 4, Cause::Length)));
+    let fault = error(Family::MacVtap, 4, Cause::Length);
+    is_not_parsed::<InfoMacVtap>(&rt, alloc, &short, fault)?;
     let broken = [8, 0, 5, 0, 5, 0, 4, 0];
-    let read = InfoMacVtap::parse(alloc, &NlaBuffer::new_checked(&broken)?);
-    assert_eq!(rt; read.err(), Some(error(Family::Frame, 0, Cause::Header)));
-    Ok(())
-}
-
-/// Whether two accepted lists are the same, with the headers that were looked at for the answer.
-fn same_lists<F>(rt: &impl Abort, a: &[u8], b: &[u8]) -> (bool, usize)
-where
-    F: NestedFamily + LinkFamily<Context = u8>,
-{
-    assert!(rt; a.len() < 1000);
-    assert!(rt; b.len() < 1000);
-    let mut count = HeaderCount::new();
-    assert!(rt; list_check::<F>(a, 0, &mut count).is_ok());
-    let mut count = HeaderCount::new();
-    assert!(rt; list_check::<F>(b, 0, &mut count).is_ok());
-    let mut count = HeaderCount::new();
-    let same = list_same::<F>(a, b, 0, &mut count);
-    (same, count.get())
+    let fault = error(Family::Frame, 0, Cause::Header);
+    is_not_parsed::<InfoMacVtap>(&rt, alloc, &broken, fault)
 }
 
 fn are_compared<F>(rt: &impl Abort, alloc: Global) -> Result<(), Fail>
 where
-    F: NestedFamily + LinkFamily<Context = u8>,
+    F: HoldsLists + LinkFamily<Context = u8>,
 {
     // Two lists inside each other, the inner one of a count.
     let plain = [16, 0, 5, 0, 12, 0, 5, 0, 8, 0, 6, 0, 7, 0, 0, 0];
     // Flag bits of types with a row do not count, at each level.
     let marked = [16, 0, 5, 0x80, 12, 0, 5, 0x40, 8, 0, 6, 0xc0, 7, 0, 0, 0];
-    assert_eq!(rt; same_lists::<F>(rt, &plain, &marked), (true, 6));
     // The innermost value does, and how many attributes there are.
     let other = [16, 0, 5, 0, 12, 0, 5, 0, 8, 0, 6, 0, 8, 0, 0, 0];
-    assert!(rt; !same_lists::<F>(rt, &plain, &other).0);
     let more = [20, 0, 5, 0, 16, 0, 5, 0, 8, 0, 6, 0, 7, 0, 0, 0, 4, 0, 5, 0];
-    assert!(rt; !same_lists::<F>(rt, &plain, &more).0);
-    assert!(rt; !same_lists::<F>(rt, &more, &plain).0);
     // So do flag bits and padding's neighbours of a type without a row.
     let kept = [12, 0, 5, 0, 5, 0, 10, 0, 1, 0, 0, 0];
     let kept_marked = [12, 0, 5, 0, 5, 0, 10, 0x80, 1, 0, 0, 0];
     let kept_padded = [12, 0, 5, 0, 5, 0, 10, 0, 1, 9, 9, 9];
-    assert!(rt; !same_lists::<F>(rt, &kept, &kept_marked).0);
-    assert_eq!(rt; same_lists::<F>(rt, &kept, &kept_padded), (true, 4));
     // A list is not the same as an attribute of another type.
-    assert!(rt; !same_lists::<F>(rt, &plain, &[8, 0, 6, 0, 7, 0, 0, 0]).0);
-    assert!(rt; !same_lists::<F>(rt, &[8, 0, 6, 0, 7, 0, 0, 0], &plain).0);
+    let number = [8, 0, 6, 0, 7, 0, 0, 0];
+    assert_eq!(rt;
+        [
+            lists_same::<F>(rt, 0, &plain, &marked),
+            lists_same::<F>(rt, 0, &kept, &kept_padded),
+        ],
+        [(true, 6), (true, 4)]
+    );
+    assert_eq!(rt;
+        [
+            lists_same::<F>(rt, 0, &plain, &other).0,
+            lists_same::<F>(rt, 0, &plain, &more).0,
+            lists_same::<F>(rt, 0, &more, &plain).0,
+            lists_same::<F>(rt, 0, &kept, &kept_marked).0,
+            lists_same::<F>(rt, 0, &plain, &number).0,
+            lists_same::<F>(rt, 0, &number, &plain).0,
+        ],
+        [false; 6]
+    );
     for lists in [1, 2, 127, 128] {
         let a = chain(rt, alloc, lists)?;
         let headers = 2 * usize::from(lists);
-        assert!(rt; same_lists::<F>(rt, a.as_slice(), a.as_slice()) == (true, headers));
+        assert!(rt; lists_same::<F>(rt, 0, a.as_slice(), a.as_slice()) == (true, headers));
         let b = chain(rt, alloc, lists - 1)?;
-        assert!(rt; !same_lists::<F>(rt, a.as_slice(), b.as_slice()).0);
+        assert!(rt; !lists_same::<F>(rt, 0, a.as_slice(), b.as_slice()).0);
     }
     Ok(())
 }
@@ -259,22 +252,26 @@ fn lists_inside_lists_are_compared(rt: HostRuntime) -> Result<(), Fail> {
 /// Values of lists are equal exactly where what they hold is, and so are their clones.
 fn are_equal_by_items<F>(rt: &impl Abort, alloc: Global, one: F, other: F) -> Result<(), Fail>
 where
-    F: NestedFamily + ExactEq + Clone,
+    F: HoldsLists + Nla + ExactEq + Clone,
 {
     let list = list_of(alloc, one.clone()?)?;
     let same = list_of(alloc, one.clone()?)?;
     let differs = list_of(alloc, other)?;
     let empty = F::from_list(Nlas::new(Vec::new(alloc)));
-    assert!(rt; is_equal(&list, &same));
-    assert!(rt; !is_equal(&list, &differs));
-    assert!(rt; !is_equal(&list, &empty));
-    assert!(rt; !is_equal(&list, &one));
+    assert_eq!(rt; [list.kind() == 5, one.kind() == 5], [true, false]);
+    assert_eq!(rt;
+        [
+            is_equal(&list, &same),
+            is_equal(&list, &differs),
+            is_equal(&list, &empty),
+            is_equal(&list, &one),
+        ],
+        [true, false, false, false]
+    );
     let deep: F = chain_value(alloc, 128)?;
     let deeper: F = chain_value(alloc, 129)?;
     assert!(rt; is_equal(&deep, &deep.clone()?));
     assert!(rt; !is_equal(&deep, &deeper));
-    assert!(rt; list.list().is_some());
-    assert!(rt; one.list().is_none());
     Ok(())
 }
 
@@ -298,7 +295,7 @@ fn lists_inside_lists_are_equal(rt: HostRuntime) -> Result<(), Fail> {
 /// A value may be deeper than what is well formed: it is measured and written all the same, and is not read back.
 fn is_written_at_any_depth<F>(rt: &impl Abort, alloc: Global, lists: u16) -> Result<(), Fail>
 where
-    F: NestedFamily + LinkFamily<Context = u8> + Nla,
+    F: HoldsLists + LinkFamily<Context = u8> + Nla,
 {
     let mut items: Vec<F> = Vec::new(alloc);
     items.push(chain_value(alloc, lists)?)?;
@@ -309,9 +306,10 @@ where
     emit_nlas(items.as_slice(), buffer.as_mut_slice());
     assert!(rt; buffer.as_slice() == bytes.as_slice());
     let deep = error(<F as LinkFamily>::FAMILY, 5, Cause::Depth);
-    let mut count = HeaderCount::new();
-    assert_eq!(rt; list_check::<F>(bytes.as_slice(), 0, &mut count), Err(deep));
-    assert_eq!(rt; count.get(), 129);
+    assert_eq!(rt;
+        list_checked::<F>(rt, 0, bytes.as_slice()),
+        (Err(deep), 129)
+    );
     Ok(())
 }
 

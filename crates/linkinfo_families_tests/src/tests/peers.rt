@@ -1,11 +1,14 @@
 //! Both peers through each call of the families with a peer.
 
-use super::{
-    UNLISTED, are_same, has_shapes, is_emitted, is_kept, is_list, is_not_parsed, is_parsed,
-    is_read, is_refused, lists_same, same_with_flags, unlisted,
+use super::rows::{
+    UNLISTED, are_same, error, first_checked, has_shapes, is_emitted, is_kept, is_list,
+    is_not_parsed, is_parsed, is_read, is_refused, list_checked, lists_same, same_with_flags,
+    unlisted,
 };
-use crate::{BitPeer, InfoNetkit, InfoNetkitOf, InfoVeth, InfoVethOf, InfoVxcan, InfoVxcanOf};
-use linkinfo_table::{LinkFamily, Shape, first_check, first_read, first_same, list_check};
+use linkinfo_peers::{
+    BitPeer, InfoNetkit, InfoNetkitOf, InfoVeth, InfoVethOf, InfoVxcan, InfoVxcanOf,
+};
+use linkinfo_table::{LinkFamily, Shape, first_check, first_read, first_same};
 use nla_frame::{Bytes, Cause, DecodeError, ExactEq, Family, HeaderCount, Nla, is_equal};
 use std::alloc::{AllocError, Global};
 use std::process::Abort;
@@ -40,11 +43,7 @@ const LIST_OF_BITS: [u8; 16] = [5, 0, 1, 0, 1, 0, 0, 0, 5, 0, 1, 0, 0, 0, 0, 0];
 
 /// The fault of a peer that is refused.
 fn refused(family: Family) -> DecodeError {
-    DecodeError {
-        family,
-        kind: 1,
-        cause: Cause::Peer,
-    }
+    error(family, 1, Cause::Peer)
 }
 
 fn no_bytes(alloc: Global) -> Result<Bytes, AllocError> {
@@ -63,9 +62,9 @@ fn has_peer<F: LinkFamily<Context = ()> + ExactEq + Clone>(
     value: &F,
     canonical: &[u8],
 ) -> Result<(), Fail> {
-    is_read(rt, alloc, bytes, value)?;
-    assert!(rt; same_with_flags::<F>(rt, bytes)?);
-    assert!(rt; are_same::<F>(rt, bytes, canonical)?);
+    is_read(rt, alloc, (), bytes, value)?;
+    assert!(rt; same_with_flags::<F>(rt, (), bytes)?);
+    assert!(rt; are_same::<F>(rt, (), bytes, canonical)?);
     assert!(rt; is_equal(&value.clone()?, value));
     is_emitted(rt, value, canonical)
 }
@@ -80,14 +79,14 @@ fn has_peers_of_bytes<F: LinkFamily<Context = ()> + ExactEq + Clone>(
     has_peer(rt, alloc, &EMPTY, empty, &EMPTY)?;
     has_peer(rt, alloc, &TWO, two, &TWO)?;
     assert!(rt; !is_equal(empty, two));
-    assert!(rt; !are_same::<F>(rt, &SEVEN, &NINE)?);
-    assert!(rt; !are_same::<F>(rt, &EMPTY, &TWO)?);
+    assert!(rt; !are_same::<F>(rt, (), &SEVEN, &NINE)?);
+    assert!(rt; !are_same::<F>(rt, (), &EMPTY, &TWO)?);
     assert_eq!(rt;
-        lists_same::<F>(rt, &SEVEN, &[5, 0, 1, 0x80, 7, 0, 0, 0]),
+        lists_same::<F>(rt, (), &SEVEN, &[5, 0, 1, 0x80, 7, 0, 0, 0]),
         (true, 2)
     );
-    assert!(rt; !lists_same::<F>(rt, &SEVEN, &NINE).0);
-    assert!(rt; !lists_same::<F>(rt, &SEVEN, &[5, 0, 39, 0, 7]).0);
+    assert!(rt; !lists_same::<F>(rt, (), &SEVEN, &NINE).0);
+    assert!(rt; !lists_same::<F>(rt, (), &SEVEN, &[5, 0, 39, 0, 7]).0);
     has_first(rt, alloc, two)
 }
 
@@ -103,13 +102,13 @@ fn has_peers_of_bits<F: LinkFamily<Context = ()> + ExactEq + Clone>(
     has_peer(rt, alloc, &ZERO, clear, &ZERO)?;
     assert!(rt; !is_equal(set, clear));
     // Of another length, a payload is refused by the peer and not by the family.
-    is_refused::<F>(rt, alloc, &TWO, Cause::Peer)?;
-    is_refused::<F>(rt, alloc, &EMPTY, Cause::Peer)?;
-    assert!(rt; !are_same::<F>(rt, &SEVEN, &ZERO)?);
-    assert_eq!(rt; lists_same::<F>(rt, &SEVEN, &NINE), (true, 2));
-    assert!(rt; !lists_same::<F>(rt, &SEVEN, &ZERO).0);
-    assert!(rt; !lists_same::<F>(rt, &SEVEN, &[5, 0, 39, 0, 7]).0);
-    assert!(rt; !lists_same::<F>(rt, &[5, 0, 39, 0, 7], &SEVEN).0);
+    is_refused::<F>(rt, alloc, (), &TWO, Cause::Peer)?;
+    is_refused::<F>(rt, alloc, (), &EMPTY, Cause::Peer)?;
+    assert!(rt; !are_same::<F>(rt, (), &SEVEN, &ZERO)?);
+    assert_eq!(rt; lists_same::<F>(rt, (), &SEVEN, &NINE), (true, 2));
+    assert!(rt; !lists_same::<F>(rt, (), &SEVEN, &ZERO).0);
+    assert!(rt; !lists_same::<F>(rt, (), &SEVEN, &[5, 0, 39, 0, 7]).0);
+    assert!(rt; !lists_same::<F>(rt, (), &[5, 0, 39, 0, 7], &SEVEN).0);
     refuses_two_bytes::<F>(rt);
     Ok(())
 }
@@ -136,35 +135,37 @@ where
 /// A peer of `aa bb` is no bit, so lists and first attributes that begin with one are refused.
 fn refuses_two_bytes<F: LinkFamily<Context = ()>>(rt: &impl Abort) {
     let fault = refused(F::FAMILY);
-    let mut count = HeaderCount::new();
-    assert_eq!(rt; first_check::<F>(&TAIL, (), &mut count), Err(fault));
-    let mut count = HeaderCount::new();
-    assert_eq!(rt; list_check::<F>(&TAIL, (), &mut count), Err(fault));
-    assert_eq!(rt; count.get(), 1);
+    assert_eq!(rt;
+        [
+            first_checked::<F>(rt, (), &TAIL),
+            list_checked::<F>(rt, (), &TAIL)
+        ],
+        [(Err(fault), 1), (Err(fault), 1)]
+    );
 }
 
 #[test]
 fn veth_with_peers_of_bytes(rt: HostRuntime) -> Result<(), Fail> {
     let alloc = rt.alloc();
-    has_shapes::<InfoVeth>(&rt, &[(1, Shape::Peer)]);
+    has_shapes::<InfoVeth>(&rt, (), &[(1, Shape::Peer)]);
     let empty = InfoVeth::Peer(no_bytes(alloc)?);
     is_parsed(&rt, alloc, &EMPTY, &empty)?;
     let two = InfoVeth::Peer(two_bytes(alloc)?);
     is_parsed(&rt, alloc, &TWO, &two)?;
     has_peers_of_bytes(&rt, alloc, &empty, &two)?;
-    is_list(&rt, alloc, &LIST_OF_BYTES, &[empty, two])
+    is_list(&rt, alloc, (), &LIST_OF_BYTES, &[empty, two])
 }
 
 #[test]
 fn veth_with_peers_of_bits(rt: HostRuntime) -> Result<(), Fail> {
     let alloc = rt.alloc();
-    has_shapes::<InfoVethOf<BitPeer>>(&rt, &[(1, Shape::Peer)]);
+    has_shapes::<InfoVethOf<BitPeer>>(&rt, (), &[(1, Shape::Peer)]);
     let set = InfoVethOf::Peer(BitPeer(true));
     is_parsed(&rt, alloc, &SEVEN, &set)?;
     is_not_parsed::<InfoVethOf<BitPeer>>(&rt, alloc, &TWO, refused(Family::Veth))?;
     let clear = InfoVethOf::Peer(BitPeer(false));
     has_peers_of_bits(&rt, alloc, &set, &clear)?;
-    is_list(&rt, alloc, &LIST_OF_BITS, &[set, clear])
+    is_list(&rt, alloc, (), &LIST_OF_BITS, &[set, clear])
 }
 
 #[test]
@@ -172,32 +173,37 @@ fn types_of_veth_without_a_row(rt: HostRuntime) -> Result<(), Fail> {
     let alloc = rt.alloc();
     let kept = InfoVeth::Other(unlisted(alloc)?);
     is_parsed(&rt, alloc, &UNLISTED, &kept)?;
-    is_kept(&rt, alloc, &kept)?;
-    is_kept(&rt, alloc, &InfoVethOf::<BitPeer>::Other(unlisted(alloc)?))
+    is_kept(&rt, alloc, (), &kept)?;
+    is_kept(
+        &rt,
+        alloc,
+        (),
+        &InfoVethOf::<BitPeer>::Other(unlisted(alloc)?),
+    )
 }
 
 #[test]
 fn vxcan_with_peers_of_bytes(rt: HostRuntime) -> Result<(), Fail> {
     let alloc = rt.alloc();
-    has_shapes::<InfoVxcan>(&rt, &[(1, Shape::Peer)]);
+    has_shapes::<InfoVxcan>(&rt, (), &[(1, Shape::Peer)]);
     let empty = InfoVxcan::Peer(no_bytes(alloc)?);
     is_parsed(&rt, alloc, &EMPTY, &empty)?;
     let two = InfoVxcan::Peer(two_bytes(alloc)?);
     is_parsed(&rt, alloc, &TWO, &two)?;
     has_peers_of_bytes(&rt, alloc, &empty, &two)?;
-    is_list(&rt, alloc, &LIST_OF_BYTES, &[empty, two])
+    is_list(&rt, alloc, (), &LIST_OF_BYTES, &[empty, two])
 }
 
 #[test]
 fn vxcan_with_peers_of_bits(rt: HostRuntime) -> Result<(), Fail> {
     let alloc = rt.alloc();
-    has_shapes::<InfoVxcanOf<BitPeer>>(&rt, &[(1, Shape::Peer)]);
+    has_shapes::<InfoVxcanOf<BitPeer>>(&rt, (), &[(1, Shape::Peer)]);
     let set = InfoVxcanOf::Peer(BitPeer(true));
     is_parsed(&rt, alloc, &SEVEN, &set)?;
     is_not_parsed::<InfoVxcanOf<BitPeer>>(&rt, alloc, &TWO, refused(Family::Vxcan))?;
     let clear = InfoVxcanOf::Peer(BitPeer(false));
     has_peers_of_bits(&rt, alloc, &set, &clear)?;
-    is_list(&rt, alloc, &LIST_OF_BITS, &[set, clear])
+    is_list(&rt, alloc, (), &LIST_OF_BITS, &[set, clear])
 }
 
 #[test]
@@ -205,8 +211,13 @@ fn types_of_vxcan_without_a_row(rt: HostRuntime) -> Result<(), Fail> {
     let alloc = rt.alloc();
     let kept = InfoVxcan::Other(unlisted(alloc)?);
     is_parsed(&rt, alloc, &UNLISTED, &kept)?;
-    is_kept(&rt, alloc, &kept)?;
-    is_kept(&rt, alloc, &InfoVxcanOf::<BitPeer>::Other(unlisted(alloc)?))
+    is_kept(&rt, alloc, (), &kept)?;
+    is_kept(
+        &rt,
+        alloc,
+        (),
+        &InfoVxcanOf::<BitPeer>::Other(unlisted(alloc)?),
+    )
 }
 
 #[test]
@@ -217,7 +228,7 @@ fn netkit_with_peers_of_bytes(rt: HostRuntime) -> Result<(), Fail> {
     let two = InfoNetkit::Peer(two_bytes(alloc)?);
     is_parsed(&rt, alloc, &TWO, &two)?;
     has_peers_of_bytes(&rt, alloc, &empty, &two)?;
-    is_list(&rt, alloc, &LIST_OF_BYTES, &[empty, two])
+    is_list(&rt, alloc, (), &LIST_OF_BYTES, &[empty, two])
 }
 
 #[test]
@@ -228,7 +239,7 @@ fn netkit_with_peers_of_bits(rt: HostRuntime) -> Result<(), Fail> {
     is_not_parsed::<InfoNetkitOf<BitPeer>>(&rt, alloc, &TWO, refused(Family::Netkit))?;
     let clear = InfoNetkitOf::Peer(BitPeer(false));
     has_peers_of_bits(&rt, alloc, &set, &clear)?;
-    is_list(&rt, alloc, &LIST_OF_BITS, &[set, clear])
+    is_list(&rt, alloc, (), &LIST_OF_BITS, &[set, clear])
 }
 
 #[test]

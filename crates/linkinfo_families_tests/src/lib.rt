@@ -1,0 +1,6 @@
+//! Tests of the families of attributes, each by its public calls: a crate with tests is proved twice, so those of all families stand in this one,
+//! over the same helpers.
+#![tactic(auto)]
+
+#[cfg(test)]
+mod tests;

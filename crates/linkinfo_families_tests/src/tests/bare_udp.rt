@@ -1,0 +1,44 @@
+//! Rows of Bare UDP tunnels.
+
+use super::rows::{UNLISTED, has_marks, has_rows, is_list, is_refused, keeps_unlisted, unlisted};
+use linkinfo_numbers::EthernetProtocol;
+use linkinfo_tunnels::InfoBareUdp;
+use nla_frame::Cause;
+use std::test::Fail;
+
+/// Canonical attributes, and what they mean.
+const ROWS: [(&[u8], InfoBareUdp); 3] = [
+    (&[6, 0, 1, 0, 1, 2, 0, 0], InfoBareUdp::Port(0x0102)),
+    (
+        &[6, 0, 2, 0, 0x88, 71, 0, 0],
+        InfoBareUdp::Ethertype(EthernetProtocol::MplsUc),
+    ),
+    (&[6, 0, 3, 0, 2, 1, 0, 0], InfoBareUdp::SrcPortMin(0x0102)),
+];
+
+#[test]
+fn rows_of_bare_udp(rt: HostRuntime) -> Result<(), Fail> {
+    let alloc = rt.alloc();
+    has_rows(&rt, alloc, &ROWS)?;
+    has_marks(&rt, alloc, &[(&[4, 0, 4, 0], InfoBareUdp::MultiprotoMode)])?;
+    keeps_unlisted(
+        &rt,
+        alloc,
+        (),
+        &UNLISTED,
+        &InfoBareUdp::Other(unlisted(alloc)?),
+    )
+}
+
+#[test]
+fn worked_bare_udp(rt: HostRuntime) -> Result<(), Fail> {
+    let alloc = rt.alloc();
+    let short = [5, 0, 3, 0, 7, 0, 0, 0];
+    is_refused::<InfoBareUdp>(&rt, alloc, (), &short, Cause::Length)?;
+    let data = [6, 0, 1, 0, 0x19, 0xeb, 0, 0, 6, 0, 2, 0, 0x88, 0x47, 0, 0];
+    let wanted = [
+        InfoBareUdp::Port(6635),
+        InfoBareUdp::Ethertype(EthernetProtocol::MplsUc),
+    ];
+    is_list(&rt, alloc, (), &data, &wanted)
+}

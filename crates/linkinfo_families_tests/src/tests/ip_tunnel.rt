@@ -1,0 +1,181 @@
+//! Rows of IP tunnels, and their flags by the kind of the link.
+
+use super::rows::{
+    UNLISTED, error, has_one_length, is_kept, is_mark, is_refused, is_row, unlisted,
+};
+use bitflags::Flags;
+use linkinfo_numbers::{
+    InfoKind, Ip6TunnelFlags, IpProtocol, KindTag, TunnelEncapFlags, TunnelEncapType,
+};
+use linkinfo_tunnels::InfoIpTunnel;
+use nla_frame::{Cause, DecodeError, Family, NlaBuffer, ParseableParametrized};
+use std::alloc::Global;
+use std::net::{IpAddr, Ipv4Addr, Ipv6Addr};
+use std::process::Abort;
+use std::test::Fail;
+
+fn parsed(alloc: Global, bytes: &[u8], kind: &InfoKind) -> Result<InfoIpTunnel, DecodeError> {
+    InfoIpTunnel::parse_with_param(alloc, &NlaBuffer::new_checked(bytes)?, kind)
+}
+
+/// The attribute is the canonical one of the value, whatever the kind, and takes payloads of its length alone.
+fn has_row(rt: &impl Abort, alloc: Global, bytes: &[u8], value: &InfoIpTunnel) -> Result<(), Fail> {
+    assert!(rt; parsed(alloc, bytes, &InfoKind::Ip6Tnl)? == *value);
+    is_row(rt, alloc, KindTag::IpIp, bytes, value)?;
+    has_one_length::<InfoIpTunnel>(rt, alloc, KindTag::Other, bytes)
+}
+
+/// Canonical attributes, and what they mean.
+const ROWS: [(&[u8], InfoIpTunnel); 14] = [
+    (&[8, 0, 1, 0, 4, 3, 2, 1], InfoIpTunnel::Link(0x0102_0304)),
+    (&[5, 0, 4, 0, 64, 0, 0, 0], InfoIpTunnel::Ttl(0x40)),
+    (&[5, 0, 5, 0, 64, 0, 0, 0], InfoIpTunnel::Tos(0x40)),
+    (&[5, 0, 6, 0, 64, 0, 0, 0], InfoIpTunnel::EncapLimit(0x40)),
+    (
+        &[8, 0, 7, 0, 1, 2, 3, 4],
+        InfoIpTunnel::FlowInfo(0x0102_0304),
+    ),
+    (
+        &[5, 0, 9, 0, 41, 0, 0, 0],
+        InfoIpTunnel::Protocol(IpProtocol::Ipv6),
+    ),
+    (&[5, 0, 10, 0, 1, 0, 0, 0], InfoIpTunnel::PMtuDisc(true)),
+    (
+        &[6, 0, 13, 0, 2, 1, 0, 0],
+        InfoIpTunnel::Ipv6RdPrefixLen(0x0102),
+    ),
+    (
+        &[6, 0, 14, 0, 2, 1, 0, 0],
+        InfoIpTunnel::Ipv6RdRelayPrefixLen(0x0102),
+    ),
+    (
+        &[6, 0, 15, 0, 3, 0, 0, 0],
+        InfoIpTunnel::EncapType(TunnelEncapType::Mpls),
+    ),
+    (
+        &[6, 0, 16, 0, 2, 0, 0, 0],
+        InfoIpTunnel::EncapFlags(TunnelEncapFlags::CSum6),
+    ),
+    (&[6, 0, 17, 0, 1, 2, 0, 0], InfoIpTunnel::EncapSPort(0x0102)),
+    (&[6, 0, 18, 0, 1, 2, 0, 0], InfoIpTunnel::EncapDPort(0x0102)),
+    (
+        &[8, 0, 20, 0, 4, 3, 2, 1],
+        InfoIpTunnel::FwMark(0x0102_0304),
+    ),
+];
+
+#[test]
+fn rows_of_ip_tunnel(rt: HostRuntime) -> Result<(), Fail> {
+    let alloc = rt.alloc();
+    for (bytes, value) in &ROWS {
+        has_row(&rt, alloc, bytes, value)?;
+    }
+    Ok(())
+}
+
+/// Canonical attributes of 10.0.0.1 and fe80::2.
+const ADDRESSES: &[&[u8]] = &[
+    &[8, 0, 2, 0, 10, 0, 0, 1],
+    &[
+        20, 0, 2, 0, 0xfe, 0x80, 0, 0, 0, 0, 0, 0, 0, 0, 0, 0, 0, 0, 0, 2,
+    ],
+    &[8, 0, 3, 0, 10, 0, 0, 1],
+    &[
+        20, 0, 3, 0, 0xfe, 0x80, 0, 0, 0, 0, 0, 0, 0, 0, 0, 0, 0, 0, 0, 2,
+    ],
+    &[
+        20, 0, 11, 0, 0xfe, 0x80, 0, 0, 0, 0, 0, 0, 0, 0, 0, 0, 0, 0, 0, 2,
+    ],
+    &[8, 0, 12, 0, 10, 0, 0, 1],
+];
+
+#[test]
+fn addresses_of_ip_tunnel(rt: HostRuntime) -> Result<(), Fail> {
+    let v4 = Ipv4Addr::new(10, 0, 0, 1);
+    let v6 = Ipv6Addr::new(0xfe80, 0, 0, 0, 0, 0, 0, 2);
+    let values = [
+        InfoIpTunnel::Local(IpAddr::V4(v4)),
+        InfoIpTunnel::Local(IpAddr::V6(v6)),
+        InfoIpTunnel::Remote(IpAddr::V4(v4)),
+        InfoIpTunnel::Remote(IpAddr::V6(v6)),
+        InfoIpTunnel::Ipv6RdPrefix(v6),
+        InfoIpTunnel::Ipv6RdRelayPrefix(v4),
+    ];
+    for (bytes, value) in ADDRESSES.iter().zip(&values) {
+        has_row(&rt, rt.alloc(), bytes, value)?;
+    }
+    Ok(())
+}
+
+#[test]
+fn marks_and_other_types_of_ip_tunnel(rt: HostRuntime) -> Result<(), Fail> {
+    let alloc = rt.alloc();
+    let mark = InfoIpTunnel::CollectMetadata;
+    is_mark(&rt, alloc, KindTag::SitTun, &[4, 0, 19, 0], &mark)?;
+    let kept = InfoIpTunnel::Other(unlisted(alloc)?);
+    assert!(rt; parsed(alloc, &UNLISTED, &InfoKind::SitTun)? == kept);
+    is_kept(&rt, alloc, KindTag::Ip6Tnl, &kept)
+}
+
+/// Flags of two bytes.
+const TWO: [u8; 8] = [6, 0, 8, 0, 0, 16, 0, 0];
+
+/// Flags of four bytes.
+const FOUR: [u8; 8] = [8, 0, 8, 0, 1, 0, 1, 0];
+
+/// Inside a link of this kind the flags are the value, and take payloads of its length alone.
+fn has_flags(
+    rt: &impl Abort,
+    alloc: Global,
+    kind: &InfoKind,
+    bytes: &[u8],
+    value: &InfoIpTunnel,
+) -> Result<(), Fail> {
+    assert!(rt; parsed(alloc, bytes, kind)? == *value);
+    is_row(rt, alloc, kind.tag(), bytes, value)?;
+    has_one_length::<InfoIpTunnel>(rt, alloc, kind.tag(), bytes)
+}
+
+#[test]
+fn flags_by_kind(rt: HostRuntime) -> Result<(), Fail> {
+    let alloc = rt.alloc();
+    let v4 = InfoIpTunnel::Ipv4Flags(16);
+    has_flags(&rt, alloc, &InfoKind::IpIp, &TWO, &v4)?;
+    let sit = InfoIpTunnel::Ipv6SitFlags(16);
+    has_flags(&rt, alloc, &InfoKind::SitTun, &TWO, &sit)?;
+    let v6 = InfoIpTunnel::Ipv6Flags(Ip6TunnelFlags::from_bits_retain(0x0001_0001));
+    has_flags(&rt, alloc, &InfoKind::Ip6Tnl, &FOUR, &v6)
+}
+
+/// Inside a link of this kind the flags are refused.
+fn refuses_flags(
+    rt: &impl Abort,
+    alloc: Global,
+    kind: &InfoKind,
+    bytes: &[u8],
+    cause: Cause,
+) -> Result<(), Fail> {
+    let fault = error(Family::IpTunnel, 8, cause);
+    assert_eq!(rt; parsed(alloc, bytes, kind).err(), Some(fault));
+    is_refused::<InfoIpTunnel>(rt, alloc, kind.tag(), bytes, cause)
+}
+
+#[test]
+fn flags_refused_by_kind(rt: HostRuntime) -> Result<(), Fail> {
+    let alloc = rt.alloc();
+    refuses_flags(&rt, alloc, &InfoKind::IpIp, &FOUR, Cause::Length)?;
+    refuses_flags(&rt, alloc, &InfoKind::SitTun, &FOUR, Cause::Length)?;
+    refuses_flags(&rt, alloc, &InfoKind::Ip6Tnl, &TWO, Cause::Length)?;
+    refuses_flags(&rt, alloc, &InfoKind::Vrf, &TWO, Cause::Kind)?;
+    refuses_flags(&rt, alloc, &InfoKind::Vti6, &FOUR, Cause::Kind)
+}
+
+#[test]
+fn worked_ip_tunnel(rt: HostRuntime) -> Result<(), Fail> {
+    let alloc = rt.alloc();
+    let protocol = parsed(alloc, &[5, 0, 9, 0, 0x29, 0, 0, 0], &InfoKind::IpIp)?;
+    assert!(rt; protocol == InfoIpTunnel::Protocol(IpProtocol::Ipv6));
+    let discovery = parsed(alloc, &[5, 0, 10, 0, 2, 0, 0, 0], &InfoKind::SitTun)?;
+    assert!(rt; discovery == InfoIpTunnel::PMtuDisc(true));
+    Ok(())
+}

@@ -1,0 +1,393 @@
+//! What tests of families ask of attributes, values and lists.
+
+use linkinfo_table::{
+    LinkFamily, Lookup, Shape, first_check, laws, list_check, list_read, list_same,
+};
+use nla_frame::{
+    Cause, DecodeError, DefaultNla, ExactEq, Family, HeaderCount, Nla, NlaBuffer, Parseable,
+    emit_nlas, is_equal, nlas_buffer_len, nlas_fit_len,
+};
+use std::alloc::{AllocError, Global};
+use std::process::Abort;
+use std::test::Fail;
+
+/// An attribute of one byte and a type that no family here has, flag bits included.
+pub(super) const UNLISTED: [u8; 8] = [5, 0, 0xff, 0x80, 1, 0, 0, 0];
+
+/// What `UNLISTED` is kept as.
+pub(super) fn unlisted(alloc: Global) -> Result<DefaultNla, AllocError> {
+    Ok(DefaultNla::new(0x80ff, vec![in alloc; 1u8]?))
+}
+
+pub(super) fn error(family: Family, kind: u16, cause: Cause) -> DecodeError {
+    DecodeError {
+        family,
+        kind,
+        cause,
+    }
+}
+
+/// The family has these shapes by masked type, and no other row up to 39.
+pub(super) fn has_shapes<F: LinkFamily>(rt: &impl Abort, ctx: F::Context, rows: &[(u16, Shape)]) {
+    for kind in 0..40 {
+        let mut wanted = Lookup::Unknown;
+        for row in rows {
+            if row.0 == kind {
+                wanted = Lookup::Is(row.1);
+            }
+        }
+        assert!(rt; F::shape(ctx, kind) == wanted);
+    }
+}
+
+/// The attribute is read as the value, with no header inside.
+pub(super) fn is_read<F: LinkFamily + ExactEq>(
+    rt: &impl Abort,
+    alloc: Global,
+    ctx: F::Context,
+    bytes: &[u8],
+    value: &F,
+) -> Result<(), Fail> {
+    assert!(rt; bytes.len() <= 24);
+    let nla = NlaBuffer::new_checked(bytes)?;
+    let mut count = HeaderCount::new();
+    let read = F::read(alloc, &nla, ctx, &mut count)?;
+    assert!(rt; is_equal(&read, value));
+    let mut count = HeaderCount::new();
+    let checked = F::check_value(&nla, ctx, &mut count);
+    assert_eq!(rt; (bytes, checked, count.get()), (bytes, Ok(()), 0));
+    Ok(())
+}
+
+/// The attribute is refused with this cause, under the name of the family and its type, and no header inside is looked at.
+pub(super) fn is_refused<F: LinkFamily>(
+    rt: &impl Abort,
+    alloc: Global,
+    ctx: F::Context,
+    bytes: &[u8],
+    cause: Cause,
+) -> Result<(), Fail> {
+    assert!(rt; bytes.len() <= 28);
+    let nla = NlaBuffer::new_checked(bytes)?;
+    let mut checking = HeaderCount::new();
+    let checked = F::check_value(&nla, ctx, &mut checking);
+    let mut reading = HeaderCount::new();
+    let read = F::read(alloc, &nla, ctx, &mut reading);
+    let fault = Some(error(F::FAMILY, nla.kind(), cause));
+    assert_eq!(rt;
+        (
+            bytes,
+            checked.err(),
+            read.err(),
+            checking.get(),
+            reading.get()
+        ),
+        (bytes, fault, fault, 0, 0)
+    );
+    Ok(())
+}
+
+/// The value is emitted as these bytes, and nothing behind them is changed.
+pub(super) fn is_emitted<F: Nla>(rt: &impl Abort, value: &F, bytes: &[u8]) -> Result<(), Fail> {
+    let len = bytes.len();
+    assert!(rt; len <= 24);
+    let nla = NlaBuffer::new_checked(bytes)?;
+    let fits = value.fit_len() == Some(nla.value().len());
+    assert!(rt; fits);
+    assert_eq!(rt;
+        (value.kind(), value.value_len()),
+        (nla.raw_kind(), nla.value().len())
+    );
+    let written = value.buffer_len();
+    assert!(rt; written == len);
+    let mut buffer = [255; 27];
+    value.emit(&mut buffer);
+    assert_eq!(rt; &buffer[..len], bytes);
+    assert_eq!(rt; &buffer[len..], &[255; 27][len..]);
+    Ok(())
+}
+
+/// Whether two accepted attributes are the same. Asks that they are accepted.
+pub(super) fn are_same<F: LinkFamily>(
+    rt: &impl Abort,
+    ctx: F::Context,
+    a: &[u8],
+    b: &[u8],
+) -> Result<bool, Fail> {
+    assert!(rt; a.len() <= 24 && b.len() <= 24);
+    let a = NlaBuffer::new_checked(a)?;
+    let b = NlaBuffer::new_checked(b)?;
+    let mut count = HeaderCount::new();
+    assert!(rt; F::check_value(&a, ctx, &mut count).is_ok());
+    let mut count = HeaderCount::new();
+    assert!(rt; F::check_value(&b, ctx, &mut count).is_ok());
+    let mut count = HeaderCount::new();
+    Ok(F::same_value(&a, &b, ctx, &mut count))
+}
+
+/// Whether the attribute is the same with other flag bits in its type. Asks for one that is accepted.
+pub(super) fn same_with_flags<F: LinkFamily>(
+    rt: &impl Abort,
+    ctx: F::Context,
+    bytes: &[u8],
+) -> Result<bool, Fail> {
+    let len = bytes.len();
+    assert!(rt; 4 <= len && len <= 24);
+    let mut marked = [0; 24];
+    marked[..len].copy_from_slice(bytes);
+    marked[3] ^= 0x40;
+    are_same::<F>(rt, ctx, bytes, &marked)
+}
+
+/// The canonical attribute of a row's datum: its flag bits do not count.
+pub(super) fn is_row<F: LinkFamily + ExactEq>(
+    rt: &impl Abort,
+    alloc: Global,
+    ctx: F::Context,
+    bytes: &[u8],
+    value: &F,
+) -> Result<(), Fail> {
+    is_read(rt, alloc, ctx, bytes, value)?;
+    assert!(rt; same_with_flags::<F>(rt, ctx, bytes)?);
+    is_emitted(rt, value, bytes)
+}
+
+/// The attribute with a payload of one byte more, and of one byte less, is refused with the cause Length.
+pub(super) fn has_one_length<F: LinkFamily>(
+    rt: &impl Abort,
+    alloc: Global,
+    ctx: F::Context,
+    bytes: &[u8],
+) -> Result<(), Fail> {
+    let len = bytes.len();
+    assert!(rt; 5 <= len && len <= 24);
+    let mut attribute = [0; 28];
+    attribute[..len].copy_from_slice(bytes);
+    let length = attribute[0];
+    assert!(rt; 5 <= length && length <= 24);
+    for other in [length - 1, length + 1] {
+        attribute[0] = other;
+        is_refused::<F>(rt, alloc, ctx, &attribute, Cause::Length)?;
+    }
+    Ok(())
+}
+
+/// A presence flag: its canonical attribute is empty, and any payload means the same.
+pub(super) fn is_mark<F: LinkFamily + ExactEq>(
+    rt: &impl Abort,
+    alloc: Global,
+    ctx: F::Context,
+    bytes: &[u8],
+    value: &F,
+) -> Result<(), Fail> {
+    assert!(rt; bytes.len() == 4);
+    is_row(rt, alloc, ctx, bytes, value)?;
+    is_read(rt, alloc, ctx, &[5, 0, bytes[2], 0, 7, 0, 0, 0], value)
+}
+
+/// `UNLISTED` is kept as the value: its flag bits count. A clone is equal.
+pub(super) fn is_kept<F: LinkFamily + ExactEq + Clone>(
+    rt: &impl Abort,
+    alloc: Global,
+    ctx: F::Context,
+    value: &F,
+) -> Result<(), Fail> {
+    is_read(rt, alloc, ctx, &UNLISTED, value)?;
+    assert!(rt; is_equal(&value.clone()?, value));
+    assert!(rt; !same_with_flags::<F>(rt, ctx, &UNLISTED)?);
+    is_emitted(rt, value, &UNLISTED)
+}
+
+/// `parse` reads the attribute as the value.
+pub(super) fn is_parsed<'a, F: Parseable<NlaBuffer<'a>> + ExactEq + Drop>(
+    rt: &impl Abort,
+    alloc: Global,
+    bytes: &'a [u8],
+    value: &F,
+) -> Result<(), Fail> {
+    let read = F::parse(alloc, &NlaBuffer::new_checked(bytes)?)?;
+    assert!(rt; is_equal(&read, value));
+    Ok(())
+}
+
+/// The attribute is the canonical one of the value, is parsed as it, and takes payloads of its length alone.
+pub(super) fn has_row<'a, F>(
+    rt: &impl Abort,
+    alloc: Global,
+    bytes: &'a [u8],
+    value: &F,
+) -> Result<(), Fail>
+where
+    F: LinkFamily<Context = ()> + Parseable<NlaBuffer<'a>> + ExactEq,
+{
+    is_parsed(rt, alloc, bytes, value)?;
+    is_row(rt, alloc, (), bytes, value)?;
+    has_one_length::<F>(rt, alloc, (), bytes)
+}
+
+/// Each attribute is the row's of its value.
+pub(super) fn has_rows<'a, F>(
+    rt: &impl Abort,
+    alloc: Global,
+    rows: &[(&'a [u8], F)],
+) -> Result<(), Fail>
+where
+    F: LinkFamily<Context = ()> + Parseable<NlaBuffer<'a>> + ExactEq,
+{
+    for (bytes, value) in rows {
+        has_row(rt, alloc, bytes, value)?;
+    }
+    Ok(())
+}
+
+/// Each attribute is the row's of the value at its place.
+pub(super) fn has_rows_of<'a, F>(
+    rt: &impl Abort,
+    alloc: Global,
+    attributes: &[&'a [u8]],
+    values: &[F],
+) -> Result<(), Fail>
+where
+    F: LinkFamily<Context = ()> + Parseable<NlaBuffer<'a>> + ExactEq,
+{
+    assert!(rt; attributes.len() == values.len());
+    for (bytes, value) in attributes.iter().zip(values) {
+        has_row(rt, alloc, bytes, value)?;
+    }
+    Ok(())
+}
+
+/// Each attribute is the canonical one of a presence flag, and is parsed as its value.
+pub(super) fn has_marks<'a, F>(
+    rt: &impl Abort,
+    alloc: Global,
+    rows: &[(&'a [u8], F)],
+) -> Result<(), Fail>
+where
+    F: LinkFamily<Context = ()> + Parseable<NlaBuffer<'a>> + ExactEq,
+{
+    for (bytes, value) in rows {
+        is_parsed(rt, alloc, bytes, value)?;
+        is_mark(rt, alloc, (), bytes, value)?;
+    }
+    Ok(())
+}
+
+/// The attribute, which is `UNLISTED`, is parsed and kept as the value.
+pub(super) fn keeps_unlisted<'a, F>(
+    rt: &impl Abort,
+    alloc: Global,
+    ctx: F::Context,
+    bytes: &'a [u8],
+    value: &F,
+) -> Result<(), Fail>
+where
+    F: LinkFamily + Parseable<NlaBuffer<'a>> + ExactEq + Clone,
+{
+    assert!(rt; bytes == UNLISTED.as_slice());
+    is_parsed(rt, alloc, bytes, value)?;
+    is_kept(rt, alloc, ctx, value)
+}
+
+/// The attribute is parsed as the value, which is emitted as the canonical one.
+pub(super) fn is_rewritten<'a, F: Parseable<NlaBuffer<'a>> + Nla + ExactEq + Drop>(
+    rt: &impl Abort,
+    alloc: Global,
+    bytes: &'a [u8],
+    value: &F,
+    canonical: &[u8],
+) -> Result<(), Fail> {
+    is_parsed(rt, alloc, bytes, value)?;
+    is_emitted(rt, value, canonical)
+}
+
+/// `parse` refuses the attribute with this fault.
+pub(super) fn is_not_parsed<'a, F: Parseable<NlaBuffer<'a>> + Drop>(
+    rt: &impl Abort,
+    alloc: Global,
+    bytes: &'a [u8],
+    fault: DecodeError,
+) -> Result<(), Fail> {
+    let read = F::parse(alloc, &NlaBuffer::new_checked(bytes)?);
+    assert_eq!(rt; (bytes, read.err()), (bytes, Some(fault)));
+    Ok(())
+}
+
+/// What `list_check` answers, with the headers that were looked at for it.
+pub(super) fn list_checked<F: LinkFamily>(
+    rt: &impl Abort,
+    ctx: F::Context,
+    bytes: &[u8],
+) -> (Result<(), DecodeError>, usize) {
+    assert!(rt; bytes.len() < 100_000);
+    let mut count = HeaderCount::new();
+    let checked = list_check::<F>(bytes, ctx, &mut count);
+    (checked, count.get())
+}
+
+/// The fault that `list_read` answers, if any, with the headers that were looked at for it.
+pub(super) fn list_fault<F: LinkFamily>(
+    rt: &impl Abort,
+    alloc: Global,
+    ctx: F::Context,
+    bytes: &[u8],
+) -> (Option<DecodeError>, usize) {
+    assert!(rt; bytes.len() < 100_000);
+    let mut count = HeaderCount::new();
+    let read: Result<Vec<F>, DecodeError> = list_read(alloc, bytes, ctx, &mut count);
+    (read.err(), count.get())
+}
+
+/// What `first_check` answers, with the headers that were looked at for it.
+pub(super) fn first_checked<F: LinkFamily>(
+    rt: &impl Abort,
+    ctx: F::Context,
+    bytes: &[u8],
+) -> (Result<(), DecodeError>, usize) {
+    assert!(rt; bytes.len() < 100_000);
+    let mut count = HeaderCount::new();
+    let checked = first_check::<F>(bytes, ctx, &mut count);
+    (checked, count.get())
+}
+
+/// Whether two accepted lists are the same, with the headers that were looked at for the answer.
+pub(super) fn lists_same<F: LinkFamily>(
+    rt: &impl Abort,
+    ctx: F::Context,
+    a: &[u8],
+    b: &[u8],
+) -> (bool, usize) {
+    assert!(rt; a.len() < 1000 && b.len() < 1000);
+    let mut count = HeaderCount::new();
+    assert!(rt; list_check::<F>(a, ctx, &mut count).is_ok());
+    let mut count = HeaderCount::new();
+    assert!(rt; list_check::<F>(b, ctx, &mut count).is_ok());
+    let mut count = HeaderCount::new();
+    let same = list_same::<F>(a, b, ctx, &mut count);
+    (same, count.get())
+}
+
+/// The list is read as the values, and is what is emitted for them.
+pub(super) fn is_list<F: LinkFamily + ExactEq>(
+    rt: &impl Abort,
+    alloc: Global,
+    ctx: F::Context,
+    bytes: &[u8],
+    values: &[F],
+) -> Result<(), Fail> {
+    let len = bytes.len();
+    assert!(rt; len <= 24);
+    laws::reading_back::<F>(bytes, ctx);
+    let mut count = HeaderCount::new();
+    let read: Vec<F> = list_read(alloc, bytes, ctx, &mut count)?;
+    assert!(rt; read.as_slice() == values);
+    assert!(rt; count.get() == values.len());
+    let fits = nlas_fit_len(values) == Some(len);
+    assert!(rt; fits);
+    assert!(rt; nlas_buffer_len(values) == len);
+    let mut buffer = [255; 27];
+    emit_nlas(values, &mut buffer);
+    assert_eq!(rt; &buffer[..len], bytes);
+    assert_eq!(rt; &buffer[len..], &[255; 27][len..]);
+    Ok(())
+}
