@@ -20,6 +20,7 @@ mod peers;
 mod rmnet;
 mod rowless;
 mod rows;
+mod table;
 mod vti;
 mod vxlan;
 mod wwan;

@@ -15,8 +15,6 @@ mod peer;
 mod row_family;
 mod rowless;
 mod rows;
-#[cfg(test)]
-mod tests;
 mod unnested;
 
 pub use family::LinkFamily;

@@ -1,6 +1,6 @@
-//! Peers of plain bytes; the calls of families are tested where families are.
+//! Peers of plain bytes, and what was read of attributes and what values show.
 
-use crate::{Datum, Found, LinkPeer, Part, PeerFault, Shape};
+use linkinfo_table::{Datum, Found, LinkPeer, Part, PeerFault, Shape};
 use nla_frame::{Bytes, DefaultNla};
 use std::test::Fail;
 
