@@ -28,25 +28,40 @@ fn rows_of_batadv(rt: HostRuntime) -> Result<(), Fail> {
     is_kept(&rt, alloc, (), &kept)
 }
 
+/// The same with a second zero byte.
+const TWO_ZEROS: [u8; 16] = [
+    15, 0, 1, 0, b'B', b'A', b'T', b'M', b'A', b'N', b'_', b'I', b'V', 0, 0, 0,
+];
+
+/// The same without a closing zero byte.
+const NO_ZERO: [u8; 16] = [
+    13, 0, 1, 0, b'B', b'A', b'T', b'M', b'A', b'N', b'_', b'I', b'V', 0, 0, 0,
+];
+
+#[test]
+fn two_zeros_of_batadv(rt: HostRuntime) -> Result<(), Fail> {
+    let alloc = rt.alloc();
+    // One closing zero byte is taken off, and no more.
+    let name = InfoBatAdv::AlgoName(Text::copy_of(alloc, "BATMAN_IV\0")?);
+    is_parsed(&rt, alloc, &TWO_ZEROS, &name)?;
+    is_row(&rt, alloc, (), &TWO_ZEROS, &name)?;
+    assert!(rt; !are_same::<InfoBatAdv>(&rt, (), &BATMAN_IV, &TWO_ZEROS)?);
+    Ok(())
+}
+
+#[test]
+fn no_zero_of_batadv(rt: HostRuntime) -> Result<(), Fail> {
+    let alloc = rt.alloc();
+    // Without one the name is the same, and is written with one.
+    let name = InfoBatAdv::AlgoName(Text::copy_of(alloc, "BATMAN_IV")?);
+    is_read(&rt, alloc, (), &NO_ZERO, &name)?;
+    assert!(rt; are_same::<InfoBatAdv>(&rt, (), &BATMAN_IV, &NO_ZERO)?);
+    is_emitted(&rt, &name, &BATMAN_IV)
+}
+
 #[test]
 fn worked_batadv(rt: HostRuntime) -> Result<(), Fail> {
     let alloc = rt.alloc();
-    // One closing zero byte is taken off, and no more.
-    let mut two_zeros = BATMAN_IV;
-    two_zeros[0] = 15;
-    let name = InfoBatAdv::AlgoName(Text::copy_of(alloc, "BATMAN_IV\0")?);
-    is_parsed(&rt, alloc, &two_zeros, &name)?;
-    is_row(&rt, alloc, (), &two_zeros, &name)?;
-    assert!(rt; !are_same::<InfoBatAdv>(&rt, (), &BATMAN_IV, &two_zeros)?);
-
-    // Without one the name is the same, and is written with one.
-    let mut no_zero = BATMAN_IV;
-    no_zero[0] = 13;
-    let name = InfoBatAdv::AlgoName(Text::copy_of(alloc, "BATMAN_IV")?);
-    is_read(&rt, alloc, (), &no_zero, &name)?;
-    assert!(rt; are_same::<InfoBatAdv>(&rt, (), &BATMAN_IV, &no_zero)?);
-    is_emitted(&rt, &name, &BATMAN_IV)?;
-
     let empty = InfoBatAdv::AlgoName(Text::copy_of(alloc, "")?);
     is_read(&rt, alloc, (), &[4, 0, 1, 0], &empty)?;
     is_row(&rt, alloc, (), &[5, 0, 1, 0, 0, 0, 0, 0], &empty)?;

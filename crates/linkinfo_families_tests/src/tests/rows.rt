@@ -87,6 +87,14 @@ pub(super) fn is_refused<F: LinkFamily>(
     Ok(())
 }
 
+/// A buffer of 255s was overwritten by these bytes, and nothing behind them is changed.
+fn begins_with(rt: &impl Abort, buffer: &[u8; 27], bytes: &[u8]) {
+    let len = bytes.len();
+    assert!(rt; len <= 24);
+    assert_eq!(rt; &buffer[..len], bytes);
+    assert_eq!(rt; &buffer[len..], &[255; 27][len..]);
+}
+
 /// The value is emitted as these bytes, and nothing behind them is changed.
 pub(super) fn is_emitted<F: Nla>(rt: &impl Abort, value: &F, bytes: &[u8]) -> Result<(), Fail> {
     let len = bytes.len();
@@ -102,8 +110,7 @@ pub(super) fn is_emitted<F: Nla>(rt: &impl Abort, value: &F, bytes: &[u8]) -> Re
     assert!(rt; written == len);
     let mut buffer = [255; 27];
     value.emit(&mut buffer);
-    assert_eq!(rt; &buffer[..len], bytes);
-    assert_eq!(rt; &buffer[len..], &[255; 27][len..]);
+    begins_with(rt, &buffer, bytes);
     Ok(())
 }
 
@@ -387,7 +394,6 @@ pub(super) fn is_list<F: LinkFamily + ExactEq>(
     assert!(rt; nlas_buffer_len(values) == len);
     let mut buffer = [255; 27];
     emit_nlas(values, &mut buffer);
-    assert_eq!(rt; &buffer[..len], bytes);
-    assert_eq!(rt; &buffer[len..], &[255; 27][len..]);
+    begins_with(rt, &buffer, bytes);
     Ok(())
 }
