@@ -1,0 +1,68 @@
+-- Data of links: what a payload means under a kind.
+use Rattle.linkinfo_numbers.specs.declared.names.KindTag.{KindTag}
+use Rattle.linkinfo_numbers.specs.declared.names.KindTag.TheVariants as tag
+use Rattle.linkinfo_data.specs.declared.data.DataFamily.{DataFamily}
+use Rattle.linkinfo_data.specs.declared.data.DataFamily.TheVariants as of
+use Rattle.linkinfo_data.specs.declared.devices.DeviceFamily.TheVariants as device
+use Rattle.linkinfo_data.specs.declared.lower.LowerFamily.TheVariants as lower
+use Rattle.linkinfo_data.specs.declared.peers.PeeredFamily.TheVariants as peered
+use Rattle.linkinfo_data.specs.declared.tunnels.TunnelFamily.TheVariants as tunnel
+use Rattle.linkinfo_data.specs.declared.info_data.InfoDataOf.{InfoDataOf}
+use Rattle.linkinfo_data.specs.declared.info_data.InfoDataOf.TheVariants as info
+use Rattle.linkinfo_data.specs.DeviceData.{devices_data_of}
+use Rattle.linkinfo_data.specs.Families.{Families}
+use Rattle.linkinfo_data.specs.LowerData.{lower_data_of}
+use Rattle.linkinfo_data.specs.Payloads.{Payload, as_bytes}
+use Rattle.linkinfo_data.specs.PeerData.{peers_data_of}
+use Rattle.linkinfo_data.specs.TunnelData.{tunnels_data_of}
+
+-- the family of a kind's data
+abbrev pub family_of : KindTag → DataFamily
+family_of tag.Bridge = of.Lower lower.Bridge
+family_of tag.Tun = of.Peered peered.Tun
+family_of tag.Vlan = of.Lower lower.Vlan
+family_of tag.Veth = of.Peered peered.Veth
+family_of tag.Vxlan = of.Tunnel tunnel.Vxlan
+family_of tag.Bond = of.Lower lower.Bond
+family_of tag.IpVlan = of.Device device.IpVlan
+family_of tag.IpVtap = of.Device device.IpVtap
+family_of tag.MacVlan = of.Device device.MacVlan
+family_of tag.MacVtap = of.Device device.MacVtap
+family_of tag.GreTap = of.Tunnel tunnel.GreTap
+family_of tag.GreTap6 = of.Tunnel tunnel.GreTap6
+family_of tag.IpIp = of.Tunnel (tunnel.IpTunnel tag.IpIp)
+family_of tag.Ip6Tnl = of.Tunnel (tunnel.IpTunnel tag.Ip6Tnl)
+family_of tag.SitTun = of.Tunnel (tunnel.IpTunnel tag.SitTun)
+family_of tag.GreTun = of.Tunnel tunnel.GreTun
+family_of tag.GreTun6 = of.Tunnel tunnel.GreTun6
+family_of tag.Vti = of.Tunnel tunnel.Vti
+family_of tag.Vti6 = of.Tunnel tunnel.Vti
+family_of tag.Vrf = of.Device device.Vrf
+family_of tag.Gtp = of.Tunnel tunnel.Gtp
+family_of tag.Ipoib = of.Device device.Ipoib
+family_of tag.Wireguard = of.Peered peered.Wireguard
+family_of tag.Xfrm = of.Device device.Xfrm
+family_of tag.MacSec = of.Device device.MacSec
+family_of tag.Hsr = of.Lower lower.Hsr
+family_of tag.Geneve = of.Tunnel tunnel.Geneve
+family_of tag.Netkit = of.Peered peered.Netkit
+family_of tag.Vxcan = of.Peered peered.Vxcan
+family_of tag.Amt = of.Tunnel tunnel.Amt
+family_of tag.BatAdv = of.Peered peered.BatAdv
+family_of tag.BareUdp = of.Tunnel tunnel.BareUdp
+family_of tag.Wwan = of.Peered peered.Wwan
+family_of tag.Can = of.Lower lower.Can
+family_of tag.Dsa = of.Lower lower.Dsa
+family_of tag.ErSpan = of.Tunnel tunnel.ErSpan
+family_of tag.Ip6ErSpan = of.Tunnel tunnel.Ip6ErSpan
+family_of tag.Pfcp = of.Peered peered.Pfcp
+family_of tag.RmNet = of.Device device.RmNet
+family_of _ = of.Raw
+
+-- what payloads mean as data of a family, and the variant that holds it
+abbrev pub data_of : {P : Type 0} → Families P → DataFamily → Payload (InfoDataOf P)
+data_of families (of.Lower f) = lower_data_of f
+data_of families (of.Device f) = devices_data_of f
+data_of families (of.Tunnel f) = tunnels_data_of f
+data_of families (of.Peered f) = peers_data_of families f
+data_of families of.Raw = as_bytes (λ bytes. info.Other bytes)

@@ -1,0 +1,15 @@
+pub mod BytesPeer
+pub mod Data
+pub mod DataEqual
+pub mod DeviceData
+pub mod Equal
+pub mod Families
+pub mod InfoData
+pub mod Lawful
+pub mod LowerData
+pub mod Payloads
+pub mod PeerData
+pub mod PeerFamilies
+pub mod Plain
+pub mod PortData
+pub mod TunnelData

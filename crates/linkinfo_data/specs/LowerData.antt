@@ -1,0 +1,15 @@
+-- Data of bridge, vlan, bond, hsr, can and dsa links: what payloads mean by each family, and the variant that holds it.
+use Rattle.linkinfo_data.specs.declared.info_data.InfoDataOf.{InfoDataOf}
+use Rattle.linkinfo_data.specs.declared.info_data.InfoDataOf.TheVariants as info
+use Rattle.linkinfo_data.specs.declared.lower.LowerFamily.{LowerFamily}
+use Rattle.linkinfo_data.specs.declared.lower.LowerFamily.TheVariants as of
+use Rattle.linkinfo_data.specs.Payloads.{Payload, as_list}
+use Rattle.linkinfo_data.specs.Plain.{plain}
+
+abbrev pub lower_data_of : {P : Type 0} → LowerFamily → Payload (InfoDataOf P)
+lower_data_of of.Bridge = as_list plain.bridge (λ xs. info.Bridge xs)
+lower_data_of of.Vlan = as_list plain.vlan (λ xs. info.Vlan xs)
+lower_data_of of.Bond = as_list plain.bond (λ xs. info.Bond xs)
+lower_data_of of.Hsr = as_list plain.hsr (λ xs. info.Hsr xs)
+lower_data_of of.Can = as_list plain.can (λ xs. info.Can xs)
+lower_data_of of.Dsa = as_list plain.dsa (λ xs. info.Dsa xs)

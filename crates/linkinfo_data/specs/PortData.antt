@@ -1,0 +1,39 @@
+-- Data of ports: what a payload means under a port kind.
+use Rattle.std.specs.Prelude.{ℕ, List, map}
+use Rattle.nla_frame.specs.Attribute.{Attribute, list_string}
+use Rattle.linkinfo_numbers.specs.declared.names.PortTag.{PortTag}
+use Rattle.linkinfo_numbers.specs.declared.names.PortTag.TheVariants as tag
+use Rattle.linkinfo_data.specs.declared.port_data.InfoPortData.{InfoPortData}
+use Rattle.linkinfo_data.specs.declared.port_data.InfoPortData.TheVariants as info
+use Rattle.linkinfo_data.specs.declared.port_data.PortFamily.{PortFamily}
+use Rattle.linkinfo_data.specs.declared.port_data.PortFamily.TheVariants as of
+use Rattle.linkinfo_data.specs.Payloads.{Payload, as_list, as_bytes}
+use Rattle.linkinfo_data.specs.Plain.{plain}
+
+-- the family of a port kind's data
+abbrev pub port_family_of : PortTag → PortFamily
+port_family_of tag.Bond = of.Bond
+port_family_of tag.Bridge = of.Bridge
+port_family_of tag.Vrf = of.Vrf
+port_family_of tag.Team = of.Team
+port_family_of _ = of.Raw
+
+-- what payloads mean as port data of a family, and the variant that holds it
+abbrev pub port_data_of : PortFamily → Payload InfoPortData
+port_data_of of.Bond = as_list plain.bond_port (λ xs. info.BondPort xs)
+port_data_of of.Bridge = as_list plain.bridge_port (λ xs. info.BridgePort xs)
+port_data_of of.Vrf = as_list plain.vrf_port (λ xs. info.VrfPort xs)
+port_data_of of.Team = as_list plain.team_port (λ xs. info.TeamPort xs)
+port_data_of of.Raw = as_bytes (λ bytes. info.Other bytes)
+
+-- the canonical payload of port data
+abbrev pub port_data_payload : InfoPortData → List ℕ
+port_data_payload (info.BondPort xs) = list_string (map plain.bond_port.attribute xs)
+port_data_payload (info.BridgePort xs) = list_string (map plain.bridge_port.attribute xs)
+port_data_payload (info.VrfPort xs) = list_string (map plain.vrf_port.attribute xs)
+port_data_payload (info.TeamPort xs) = list_string (map plain.team_port.attribute xs)
+port_data_payload (info.Other bytes) = bytes
+
+-- the canonical attribute of port data
+abbrev pub port_data_attribute : InfoPortData → Attribute
+port_data_attribute d = record { kind = 5; value = port_data_payload d }

@@ -1,0 +1,22 @@
+-- Data of tunnels: what payloads mean by each family, and the variant that holds it.
+use Rattle.linkinfo_data.specs.declared.info_data.InfoDataOf.{InfoDataOf}
+use Rattle.linkinfo_data.specs.declared.info_data.InfoDataOf.TheVariants as info
+use Rattle.linkinfo_data.specs.declared.tunnels.TunnelFamily.{TunnelFamily}
+use Rattle.linkinfo_data.specs.declared.tunnels.TunnelFamily.TheVariants as of
+use Rattle.linkinfo_data.specs.Payloads.{Payload, as_list}
+use Rattle.linkinfo_data.specs.Plain.{plain}
+
+abbrev pub tunnels_data_of : {P : Type 0} → TunnelFamily → Payload (InfoDataOf P)
+tunnels_data_of of.Vxlan = as_list plain.vxlan (λ xs. info.Vxlan xs)
+tunnels_data_of of.GreTap = as_list plain.gre (λ xs. info.GreTap xs)
+tunnels_data_of of.GreTap6 = as_list plain.gre6 (λ xs. info.GreTap6 xs)
+tunnels_data_of (of.IpTunnel tag) = as_list (plain.ip_tunnel tag) (λ xs. info.IpTunnel xs)
+tunnels_data_of of.GreTun = as_list plain.gre (λ xs. info.GreTun xs)
+tunnels_data_of of.GreTun6 = as_list plain.gre6 (λ xs. info.GreTun6 xs)
+tunnels_data_of of.Vti = as_list plain.vti (λ xs. info.Vti xs)
+tunnels_data_of of.Gtp = as_list plain.gtp (λ xs. info.Gtp xs)
+tunnels_data_of of.Geneve = as_list plain.geneve (λ xs. info.Geneve xs)
+tunnels_data_of of.Amt = as_list plain.amt (λ xs. info.Amt xs)
+tunnels_data_of of.BareUdp = as_list plain.bare_udp (λ xs. info.BareUdp xs)
+tunnels_data_of of.ErSpan = as_list plain.gre (λ xs. info.ErSpan xs)
+tunnels_data_of of.Ip6ErSpan = as_list plain.gre6 (λ xs. info.Ip6ErSpan xs)

@@ -1,0 +1,154 @@
+//! Which family the data of a kind has, and data read, checked and compared by it.
+
+ghost use Rattle.std.specs.Prelude.{◌≡◌};
+ghost use Rattle.nla_frame.specs.Answers.{CertainUnless, Gives};
+ghost use Rattle.linkinfo_numbers.specs.Kind.{tag_of_kind};
+ghost use Rattle.linkinfo_data.specs.Data.{data_of, family_of};
+
+use crate::devices::DeviceFamily;
+use crate::families::DataFamilies;
+use crate::info_data::InfoDataOf;
+use crate::lower::LowerFamily;
+use crate::payload_family::PayloadFamily;
+use crate::peers::PeeredFamily;
+use crate::tunnels::TunnelFamily;
+use linkinfo_numbers::{InfoKind, KindTag};
+use linkinfo_table::LinkPeer;
+use nla_frame::{Bytes, DecodeError, HeaderCount};
+use std::alloc::Global;
+
+/// The family of the attributes in a kind's data.
+#[derive(Clone, Copy, Debug, PartialEq, Eq)]
+pub enum DataFamily {
+    /// One of `linkinfo_lower`.
+    Lower(LowerFamily),
+    /// One of `linkinfo_devices`.
+    Device(DeviceFamily),
+    /// One of `linkinfo_tunnels`.
+    Tunnel(TunnelFamily),
+    /// One of `linkinfo_peers`.
+    Peered(PeeredFamily),
+    /// None: the data is bytes.
+    Raw,
+}
+
+/// The family of the data of a kind.
+pub fn family_of(tag: KindTag) -> DataFamily
+    ensures { result ≡ family_of tag }
+{
+    match tag {
+        KindTag::Bridge => DataFamily::Lower(LowerFamily::Bridge),
+        KindTag::Tun => DataFamily::Peered(PeeredFamily::Tun),
+        KindTag::Vlan => DataFamily::Lower(LowerFamily::Vlan),
+        KindTag::Veth => DataFamily::Peered(PeeredFamily::Veth),
+        KindTag::Vxlan => DataFamily::Tunnel(TunnelFamily::Vxlan),
+        KindTag::Bond => DataFamily::Lower(LowerFamily::Bond),
+        KindTag::IpVlan => DataFamily::Device(DeviceFamily::IpVlan),
+        KindTag::IpVtap => DataFamily::Device(DeviceFamily::IpVtap),
+        KindTag::MacVlan => DataFamily::Device(DeviceFamily::MacVlan),
+        KindTag::MacVtap => DataFamily::Device(DeviceFamily::MacVtap),
+        KindTag::GreTap => DataFamily::Tunnel(TunnelFamily::GreTap),
+        KindTag::GreTap6 => DataFamily::Tunnel(TunnelFamily::GreTap6),
+        KindTag::IpIp | KindTag::Ip6Tnl | KindTag::SitTun => DataFamily::Tunnel(
+            TunnelFamily::IpTunnel(tag),
+        ),
+        KindTag::GreTun => DataFamily::Tunnel(TunnelFamily::GreTun),
+        KindTag::GreTun6 => DataFamily::Tunnel(TunnelFamily::GreTun6),
+        KindTag::Vti | KindTag::Vti6 => DataFamily::Tunnel(TunnelFamily::Vti),
+        KindTag::Vrf => DataFamily::Device(DeviceFamily::Vrf),
+        KindTag::Gtp => DataFamily::Tunnel(TunnelFamily::Gtp),
+        KindTag::Ipoib => DataFamily::Device(DeviceFamily::Ipoib),
+        KindTag::Wireguard => DataFamily::Peered(PeeredFamily::Wireguard),
+        KindTag::Xfrm => DataFamily::Device(DeviceFamily::Xfrm),
+        KindTag::MacSec => DataFamily::Device(DeviceFamily::MacSec),
+        KindTag::Hsr => DataFamily::Lower(LowerFamily::Hsr),
+        KindTag::Geneve => DataFamily::Tunnel(TunnelFamily::Geneve),
+        KindTag::Netkit => DataFamily::Peered(PeeredFamily::Netkit),
+        KindTag::Vxcan => DataFamily::Peered(PeeredFamily::Vxcan),
+        KindTag::Amt => DataFamily::Tunnel(TunnelFamily::Amt),
+        KindTag::BatAdv => DataFamily::Peered(PeeredFamily::BatAdv),
+        KindTag::BareUdp => DataFamily::Tunnel(TunnelFamily::BareUdp),
+        KindTag::Wwan => DataFamily::Peered(PeeredFamily::Wwan),
+        KindTag::Can => DataFamily::Lower(LowerFamily::Can),
+        KindTag::Dsa => DataFamily::Lower(LowerFamily::Dsa),
+        KindTag::ErSpan => DataFamily::Tunnel(TunnelFamily::ErSpan),
+        KindTag::Ip6ErSpan => DataFamily::Tunnel(TunnelFamily::Ip6ErSpan),
+        KindTag::Pfcp => DataFamily::Peered(PeeredFamily::Pfcp),
+        KindTag::RmNet => DataFamily::Device(DeviceFamily::RmNet),
+        _ => DataFamily::Raw,
+    }
+}
+
+impl<P: LinkPeer> PayloadFamily<InfoDataOf<P>> for DataFamily {
+    ghost data_of = { data_of ⟦<P as DataFamilies>⟧.families };
+
+    fn read(
+        self,
+        alloc: Global,
+        payload: &[u8],
+        count: &mut HeaderCount,
+    ) -> Result<InfoDataOf<P>, DecodeError> {
+        match self {
+            DataFamily::Lower(family) => family.read(alloc, payload, count),
+            DataFamily::Device(family) => family.read(alloc, payload, count),
+            DataFamily::Tunnel(family) => family.read(alloc, payload, count),
+            DataFamily::Peered(family) => family.read(alloc, payload, count),
+            DataFamily::Raw => Ok(InfoDataOf::Other(Bytes::copy_of(alloc, payload)?)),
+        }
+    }
+
+    fn check(self, payload: &[u8], count: &mut HeaderCount) -> Result<(), DecodeError> {
+        match self {
+            DataFamily::Lower(family) => <LowerFamily as PayloadFamily<InfoDataOf<P>>>::check(
+                family, payload, count,
+            ),
+            DataFamily::Device(family) => <DeviceFamily as PayloadFamily<InfoDataOf<P>>>::check(
+                family, payload, count,
+            ),
+            DataFamily::Tunnel(family) => <TunnelFamily as PayloadFamily<InfoDataOf<P>>>::check(
+                family, payload, count,
+            ),
+            DataFamily::Peered(family) => <PeeredFamily as PayloadFamily<InfoDataOf<P>>>::check(
+                family, payload, count,
+            ),
+            DataFamily::Raw => Ok(()),
+        }
+    }
+
+    fn same(self, a: &[u8], b: &[u8], count: &mut HeaderCount) -> bool {
+        match self {
+            DataFamily::Lower(family) => <LowerFamily as PayloadFamily<InfoDataOf<P>>>::same(
+                family, a, b, count,
+            ),
+            DataFamily::Device(family) => <DeviceFamily as PayloadFamily<InfoDataOf<P>>>::same(
+                family, a, b, count,
+            ),
+            DataFamily::Tunnel(family) => <TunnelFamily as PayloadFamily<InfoDataOf<P>>>::same(
+                family, a, b, count,
+            ),
+            DataFamily::Peered(family) => <PeeredFamily as PayloadFamily<InfoDataOf<P>>>::same(
+                family, a, b, count,
+            ),
+            DataFamily::Raw => a == b,
+        }
+    }
+}
+
+impl<P: LinkPeer> InfoDataOf<P> {
+    /// Reads a payload as data of a kind: as the attributes of its family, or as bytes where it has none, as under
+    /// `InfoKind::Other` whatever its text. Of the data of veth and vxcan the first attribute alone is read.
+    ///
+    /// The fault is that of the first attribute in byte order that has no header or no meaning. An answer other than
+    /// (Frame, 0, Memory) is what the payload means.
+    pub fn parse_with_param(
+        alloc: Global,
+        payload: &[u8],
+        kind: &InfoKind,
+    ) -> Result<InfoDataOf<P>, DecodeError>
+        ensures answer { Gives (λ value. value) result ((data_of ⟦<P as DataFamilies>⟧.families (family_of (tag_of_kind kind.now))).means payload.now) }
+        ensures certain { CertainUnless ((data_of ⟦<P as DataFamilies>⟧.families (family_of (tag_of_kind kind.now))).needs_memory payload.now) (λ value. value) result ((data_of ⟦<P as DataFamilies>⟧.families (family_of (tag_of_kind kind.now))).means payload.now) }
+    {
+        let mut count = HeaderCount::new();
+        family_of(kind.tag()).read(alloc, payload, &mut count)
+    }
+}

@@ -1,0 +1,88 @@
+//! Data of ipvlan, ipvtap, macvlan, macvtap, vrf, ipoib, xfrm, macsec and rmnet links.
+
+ghost use Rattle.linkinfo_data.specs.DeviceData.{devices_data_of};
+
+use crate::info_data::InfoDataOf;
+use crate::payload_family::PayloadFamily;
+use crate::written::read_nlas;
+use linkinfo_devices::{
+    InfoIpVlan, InfoIpVtap, InfoIpoib, InfoMacSec, InfoMacVlan, InfoMacVtap, InfoRmNet, InfoVrf,
+    InfoXfrm,
+};
+use linkinfo_table::{LinkPeer, list_check, list_same};
+use nla_frame::{DecodeError, HeaderCount};
+use std::alloc::Global;
+
+/// The families of ipvlan, ipvtap, macvlan, macvtap, vrf, ipoib, xfrm, macsec and rmnet links.
+#[derive(Clone, Copy, Debug, PartialEq, Eq)]
+pub enum DeviceFamily {
+    /// That of `ipvlan`.
+    IpVlan,
+    /// That of `ipvtap`.
+    IpVtap,
+    /// That of `macvlan`.
+    MacVlan,
+    /// That of `macvtap`.
+    MacVtap,
+    /// That of `vrf`.
+    Vrf,
+    /// That of `ipoib`.
+    Ipoib,
+    /// That of `xfrm`.
+    Xfrm,
+    /// That of `macsec`.
+    MacSec,
+    /// That of `rmnet`.
+    RmNet,
+}
+
+impl<P: LinkPeer> PayloadFamily<InfoDataOf<P>> for DeviceFamily {
+    ghost data_of = { λ family. devices_data_of family };
+
+    fn read(
+        self,
+        alloc: Global,
+        payload: &[u8],
+        count: &mut HeaderCount,
+    ) -> Result<InfoDataOf<P>, DecodeError> {
+        Ok(match self {
+            DeviceFamily::IpVlan => InfoDataOf::IpVlan(read_nlas(alloc, payload, (), count)?),
+            DeviceFamily::IpVtap => InfoDataOf::IpVtap(read_nlas(alloc, payload, (), count)?),
+            DeviceFamily::MacVlan => InfoDataOf::MacVlan(read_nlas(alloc, payload, 0, count)?),
+            DeviceFamily::MacVtap => InfoDataOf::MacVtap(read_nlas(alloc, payload, 0, count)?),
+            DeviceFamily::Vrf => InfoDataOf::Vrf(read_nlas(alloc, payload, (), count)?),
+            DeviceFamily::Ipoib => InfoDataOf::Ipoib(read_nlas(alloc, payload, (), count)?),
+            DeviceFamily::Xfrm => InfoDataOf::Xfrm(read_nlas(alloc, payload, (), count)?),
+            DeviceFamily::MacSec => InfoDataOf::MacSec(read_nlas(alloc, payload, (), count)?),
+            DeviceFamily::RmNet => InfoDataOf::RmNet(read_nlas(alloc, payload, (), count)?),
+        })
+    }
+
+    fn check(self, payload: &[u8], count: &mut HeaderCount) -> Result<(), DecodeError> {
+        match self {
+            DeviceFamily::IpVlan => list_check::<InfoIpVlan>(payload, (), count),
+            DeviceFamily::IpVtap => list_check::<InfoIpVtap>(payload, (), count),
+            DeviceFamily::MacVlan => list_check::<InfoMacVlan>(payload, 0, count),
+            DeviceFamily::MacVtap => list_check::<InfoMacVtap>(payload, 0, count),
+            DeviceFamily::Vrf => list_check::<InfoVrf>(payload, (), count),
+            DeviceFamily::Ipoib => list_check::<InfoIpoib>(payload, (), count),
+            DeviceFamily::Xfrm => list_check::<InfoXfrm>(payload, (), count),
+            DeviceFamily::MacSec => list_check::<InfoMacSec>(payload, (), count),
+            DeviceFamily::RmNet => list_check::<InfoRmNet>(payload, (), count),
+        }
+    }
+
+    fn same(self, a: &[u8], b: &[u8], count: &mut HeaderCount) -> bool {
+        match self {
+            DeviceFamily::IpVlan => list_same::<InfoIpVlan>(a, b, (), count),
+            DeviceFamily::IpVtap => list_same::<InfoIpVtap>(a, b, (), count),
+            DeviceFamily::MacVlan => list_same::<InfoMacVlan>(a, b, 0, count),
+            DeviceFamily::MacVtap => list_same::<InfoMacVtap>(a, b, 0, count),
+            DeviceFamily::Vrf => list_same::<InfoVrf>(a, b, (), count),
+            DeviceFamily::Ipoib => list_same::<InfoIpoib>(a, b, (), count),
+            DeviceFamily::Xfrm => list_same::<InfoXfrm>(a, b, (), count),
+            DeviceFamily::MacSec => list_same::<InfoMacSec>(a, b, (), count),
+            DeviceFamily::RmNet => list_same::<InfoRmNet>(a, b, (), count),
+        }
+    }
+}

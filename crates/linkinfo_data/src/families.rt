@@ -1,0 +1,206 @@
+//! What the families of data and of port data say of their attributes: a line each.
+
+ghost use Rattle.linkinfo_lower.specs.declared.bridge.InfoBridge.{InfoBridge};
+ghost use Rattle.linkinfo_lower.specs.declared.vlan.InfoVlan.{InfoVlan};
+ghost use Rattle.linkinfo_lower.specs.declared.bond.InfoBond.{InfoBond};
+ghost use Rattle.linkinfo_lower.specs.declared.hsr.InfoHsr.{InfoHsr};
+ghost use Rattle.linkinfo_lower.specs.declared.can.InfoCan.{InfoCan};
+ghost use Rattle.linkinfo_lower.specs.declared.dsa.InfoDsa.{InfoDsa};
+ghost use Rattle.linkinfo_lower.specs.declared.bridge_port.InfoBridgePort.{InfoBridgePort};
+ghost use Rattle.linkinfo_lower.specs.declared.bond_port.InfoBondPort.{InfoBondPort};
+ghost use Rattle.linkinfo_devices.specs.declared.ipvlan.InfoIpVlan.{InfoIpVlan};
+ghost use Rattle.linkinfo_devices.specs.declared.ipvtap.InfoIpVtap.{InfoIpVtap};
+ghost use Rattle.linkinfo_devices.specs.declared.macvlan.InfoMacVlan.{InfoMacVlan};
+ghost use Rattle.linkinfo_devices.specs.declared.macvtap.InfoMacVtap.{InfoMacVtap};
+ghost use Rattle.linkinfo_devices.specs.declared.vrf.InfoVrf.{InfoVrf};
+ghost use Rattle.linkinfo_devices.specs.declared.ipoib.InfoIpoib.{InfoIpoib};
+ghost use Rattle.linkinfo_devices.specs.declared.xfrm.InfoXfrm.{InfoXfrm};
+ghost use Rattle.linkinfo_devices.specs.declared.macsec.InfoMacSec.{InfoMacSec};
+ghost use Rattle.linkinfo_devices.specs.declared.rmnet.InfoRmNet.{InfoRmNet};
+ghost use Rattle.linkinfo_tunnels.specs.declared.vxlan.InfoVxlan.{InfoVxlan};
+ghost use Rattle.linkinfo_tunnels.specs.declared.gre.InfoGre.{InfoGre};
+ghost use Rattle.linkinfo_tunnels.specs.declared.gre6.InfoGre6.{InfoGre6};
+ghost use Rattle.linkinfo_tunnels.specs.declared.ip_tunnel.InfoIpTunnel.{InfoIpTunnel};
+ghost use Rattle.linkinfo_tunnels.specs.declared.vti.InfoVti.{InfoVti};
+ghost use Rattle.linkinfo_tunnels.specs.declared.gtp.InfoGtp.{InfoGtp};
+ghost use Rattle.linkinfo_tunnels.specs.declared.geneve.InfoGeneve.{InfoGeneve};
+ghost use Rattle.linkinfo_tunnels.specs.declared.amt.InfoAmt.{InfoAmt};
+ghost use Rattle.linkinfo_tunnels.specs.declared.bare_udp.InfoBareUdp.{InfoBareUdp};
+ghost use Rattle.linkinfo_peers.specs.declared.tun.InfoTun.{InfoTun};
+ghost use Rattle.linkinfo_peers.specs.declared.wireguard.InfoWireguard.{InfoWireguard};
+ghost use Rattle.linkinfo_peers.specs.declared.batadv.InfoBatAdv.{InfoBatAdv};
+ghost use Rattle.linkinfo_peers.specs.declared.wwan.InfoWwan.{InfoWwan};
+ghost use Rattle.linkinfo_peers.specs.declared.pfcp.InfoPfcp.{InfoPfcp};
+ghost use Rattle.linkinfo_peers.specs.declared.team_port.InfoTeamPort.{InfoTeamPort};
+ghost use Rattle.linkinfo_numbers.specs.declared.names.KindTag.{KindTag};
+ghost use Rattle.linkinfo_table.specs.Members.{Members};
+ghost use Rattle.linkinfo_data.specs.Families.{Families};
+
+use linkinfo_devices::{
+    InfoIpVlan, InfoIpVtap, InfoIpoib, InfoMacSec, InfoMacVlan, InfoMacVtap, InfoRmNet, InfoVrf,
+    InfoVrfPort, InfoXfrm,
+};
+use linkinfo_lower::{
+    InfoBond, InfoBondPort, InfoBridge, InfoBridgePort, InfoCan, InfoDsa, InfoHsr, InfoVlan,
+};
+use linkinfo_peers::{
+    InfoBatAdv, InfoNetkitOf, InfoPfcp, InfoTeamPort, InfoTun, InfoVethOf, InfoVxcanOf,
+    InfoWireguard, InfoWwan,
+};
+use linkinfo_table::{LinkPeer, ListedFamily};
+use linkinfo_tunnels::{
+    InfoAmt, InfoBareUdp, InfoGeneve, InfoGre, InfoGre6, InfoGtp, InfoIpTunnel, InfoVti, InfoVxlan,
+};
+
+/// What each family without a peer says of its attributes; of `ipip`, `ip6tnl` and `sit` by the tag of the kind.
+pub trait PlainFamilies {
+    ghost bridge: { Members InfoBridge };
+
+    ghost vlan: { Members InfoVlan };
+
+    ghost bond: { Members InfoBond };
+
+    ghost hsr: { Members InfoHsr };
+
+    ghost can: { Members InfoCan };
+
+    ghost dsa: { Members InfoDsa };
+
+    ghost bridge_port: { Members InfoBridgePort };
+
+    ghost bond_port: { Members InfoBondPort };
+
+    ghost ip_vlan: { Members InfoIpVlan };
+
+    ghost ip_vtap: { Members InfoIpVtap };
+
+    ghost mac_vlan: { Members InfoMacVlan };
+
+    ghost mac_vtap: { Members InfoMacVtap };
+
+    ghost vrf: { Members InfoVrf };
+
+    ghost vrf_port: { Members InfoVrf };
+
+    ghost ipoib: { Members InfoIpoib };
+
+    ghost xfrm: { Members InfoXfrm };
+
+    ghost mac_sec: { Members InfoMacSec };
+
+    ghost rm_net: { Members InfoRmNet };
+
+    ghost vxlan: { Members InfoVxlan };
+
+    ghost gre: { Members InfoGre };
+
+    ghost gre6: { Members InfoGre6 };
+
+    ghost ip_tunnel: { KindTag → Members InfoIpTunnel };
+
+    ghost vti: { Members InfoVti };
+
+    ghost gtp: { Members InfoGtp };
+
+    ghost geneve: { Members InfoGeneve };
+
+    ghost amt: { Members InfoAmt };
+
+    ghost bare_udp: { Members InfoBareUdp };
+
+    ghost tun: { Members InfoTun };
+
+    ghost wireguard: { Members InfoWireguard };
+
+    ghost bat_adv: { Members InfoBatAdv };
+
+    ghost wwan: { Members InfoWwan };
+
+    ghost pfcp: { Members InfoPfcp };
+
+    ghost team_port: { Members InfoTeamPort };
+}
+
+/// Stands for the families without a peer in what is said of them.
+pub struct Plain;
+
+impl PlainFamilies for Plain {
+    ghost bridge = { ⟦<InfoBridge as ListedFamily>⟧.members tt };
+
+    ghost vlan = { ⟦<InfoVlan as ListedFamily>⟧.members tt };
+
+    ghost bond = { ⟦<InfoBond as ListedFamily>⟧.members tt };
+
+    ghost hsr = { ⟦<InfoHsr as ListedFamily>⟧.members tt };
+
+    ghost can = { ⟦<InfoCan as ListedFamily>⟧.members tt };
+
+    ghost dsa = { ⟦<InfoDsa as ListedFamily>⟧.members tt };
+
+    ghost bridge_port = { ⟦<InfoBridgePort as ListedFamily>⟧.members tt };
+
+    ghost bond_port = { ⟦<InfoBondPort as ListedFamily>⟧.members tt };
+
+    ghost ip_vlan = { ⟦<InfoIpVlan as ListedFamily>⟧.members tt };
+
+    ghost ip_vtap = { ⟦<InfoIpVtap as ListedFamily>⟧.members tt };
+
+    ghost mac_vlan = { ⟦<InfoMacVlan as ListedFamily>⟧.members 0 };
+
+    ghost mac_vtap = { ⟦<InfoMacVtap as ListedFamily>⟧.members 0 };
+
+    ghost vrf = { ⟦<InfoVrf as ListedFamily>⟧.members tt };
+
+    ghost vrf_port = { ⟦<InfoVrfPort as ListedFamily>⟧.members tt };
+
+    ghost ipoib = { ⟦<InfoIpoib as ListedFamily>⟧.members tt };
+
+    ghost xfrm = { ⟦<InfoXfrm as ListedFamily>⟧.members tt };
+
+    ghost mac_sec = { ⟦<InfoMacSec as ListedFamily>⟧.members tt };
+
+    ghost rm_net = { ⟦<InfoRmNet as ListedFamily>⟧.members tt };
+
+    ghost vxlan = { ⟦<InfoVxlan as ListedFamily>⟧.members tt };
+
+    ghost gre = { ⟦<InfoGre as ListedFamily>⟧.members tt };
+
+    ghost gre6 = { ⟦<InfoGre6 as ListedFamily>⟧.members tt };
+
+    ghost ip_tunnel = { ⟦<InfoIpTunnel as ListedFamily>⟧.members };
+
+    ghost vti = { ⟦<InfoVti as ListedFamily>⟧.members tt };
+
+    ghost gtp = { ⟦<InfoGtp as ListedFamily>⟧.members tt };
+
+    ghost geneve = { ⟦<InfoGeneve as ListedFamily>⟧.members tt };
+
+    ghost amt = { ⟦<InfoAmt as ListedFamily>⟧.members tt };
+
+    ghost bare_udp = { ⟦<InfoBareUdp as ListedFamily>⟧.members tt };
+
+    ghost tun = { ⟦<InfoTun as ListedFamily>⟧.members tt };
+
+    ghost wireguard = { ⟦<InfoWireguard as ListedFamily>⟧.members tt };
+
+    ghost bat_adv = { ⟦<InfoBatAdv as ListedFamily>⟧.members tt };
+
+    ghost wwan = { ⟦<InfoWwan as ListedFamily>⟧.members tt };
+
+    ghost pfcp = { ⟦<InfoPfcp as ListedFamily>⟧.members tt };
+
+    ghost team_port = { ⟦<InfoTeamPort as ListedFamily>⟧.members tt };
+}
+
+/// What each family with a peer says of its attributes, with peers of this type. Every peer has them, and no other type.
+pub trait DataFamilies: LinkPeer {
+    ghost families: { Families Self };
+}
+
+impl<P: LinkPeer> DataFamilies for P {
+    ghost families = { record {
+      veth = ⟦<InfoVethOf<P> as ListedFamily>⟧.members tt;
+      netkit = ⟦<InfoNetkitOf<P> as ListedFamily>⟧.members tt;
+      vxcan = ⟦<InfoVxcanOf<P> as ListedFamily>⟧.members tt;
+    } };
+}

@@ -1,0 +1,247 @@
+//! The data of a link: `IFLA_INFO_DATA`, include/uapi/linux/if_link.h.
+
+use crate::families::DataFamilies;
+use crate::fits::fitting;
+use crate::written::{emit_list, emit_one, list_fit_len, list_len, one_fit_len, one_len};
+use linkinfo_devices::{
+    InfoIpVlan, InfoIpVtap, InfoIpoib, InfoMacSec, InfoMacVlan, InfoMacVtap, InfoRmNet, InfoVrf,
+    InfoXfrm,
+};
+use linkinfo_lower::{InfoBond, InfoBridge, InfoCan, InfoDsa, InfoHsr, InfoVlan};
+use linkinfo_peers::{
+    InfoBatAdv, InfoNetkitOf, InfoPfcp, InfoTun, InfoVethOf, InfoVxcanOf, InfoWireguard, InfoWwan,
+};
+use linkinfo_table::LinkPeer;
+use linkinfo_tunnels::{
+    InfoAmt, InfoBareUdp, InfoGeneve, InfoGre, InfoGre6, InfoGtp, InfoIpTunnel, InfoVti, InfoVxlan,
+};
+use nla_frame::{Bytes, ExactEq, Nla, Nlas};
+
+/// `IFLA_INFO_DATA`.
+const IFLA_INFO_DATA: u16 = 2;
+
+/// The data of a link: attributes of the family of its kind, or the bytes.
+#[derive(Debug, PartialEq, Eq, Clone, Drop)]
+pub enum InfoDataOf<P> {
+    /// Of `bridge`.
+    Bridge(Nlas<InfoBridge>),
+    /// Of `tun`.
+    Tun(Nlas<InfoTun>),
+    /// Of `vlan`.
+    Vlan(Nlas<InfoVlan>),
+    /// Of `veth`: the first attribute alone.
+    Veth(InfoVethOf<P>),
+    /// Of `vxlan`.
+    Vxlan(Nlas<InfoVxlan>),
+    /// Of `bond`.
+    Bond(Nlas<InfoBond>),
+    /// Of `ipvlan`.
+    IpVlan(Nlas<InfoIpVlan>),
+    /// Of `ipvtap`.
+    IpVtap(Nlas<InfoIpVtap>),
+    /// Of `macvlan`.
+    MacVlan(Nlas<InfoMacVlan>),
+    /// Of `macvtap`.
+    MacVtap(Nlas<InfoMacVtap>),
+    /// Of `gretap`.
+    GreTap(Nlas<InfoGre>),
+    /// Of `ip6gretap`.
+    GreTap6(Nlas<InfoGre6>),
+    /// Of `ipip`, `ip6tnl` and `sit`.
+    IpTunnel(Nlas<InfoIpTunnel>),
+    /// Of `gre`.
+    GreTun(Nlas<InfoGre>),
+    /// Of `ip6gre`.
+    GreTun6(Nlas<InfoGre6>),
+    /// Of `vti` and `vti6`.
+    Vti(Nlas<InfoVti>),
+    /// Of `vrf`.
+    Vrf(Nlas<InfoVrf>),
+    /// Of `gtp`.
+    Gtp(Nlas<InfoGtp>),
+    /// Of `ipoib`.
+    Ipoib(Nlas<InfoIpoib>),
+    /// Of `wireguard`.
+    Wireguard(Nlas<InfoWireguard>),
+    /// Of `xfrm`.
+    Xfrm(Nlas<InfoXfrm>),
+    /// Of `macsec`.
+    MacSec(Nlas<InfoMacSec>),
+    /// Of `hsr`.
+    Hsr(Nlas<InfoHsr>),
+    /// Of `geneve`.
+    Geneve(Nlas<InfoGeneve>),
+    /// Of `netkit`.
+    Netkit(Nlas<InfoNetkitOf<P>>),
+    /// Of `vxcan`: the first attribute alone.
+    Vxcan(InfoVxcanOf<P>),
+    /// Of `amt`.
+    Amt(Nlas<InfoAmt>),
+    /// Of `batadv`.
+    BatAdv(Nlas<InfoBatAdv>),
+    /// Of `bareudp`.
+    BareUdp(Nlas<InfoBareUdp>),
+    /// Of `wwan`.
+    Wwan(Nlas<InfoWwan>),
+    /// Of `can`.
+    Can(Nlas<InfoCan>),
+    /// Of `dsa`.
+    Dsa(Nlas<InfoDsa>),
+    /// Of `erspan`.
+    ErSpan(Nlas<InfoGre>),
+    /// Of `ip6erspan`.
+    Ip6ErSpan(Nlas<InfoGre6>),
+    /// Of `pfcp`.
+    Pfcp(Nlas<InfoPfcp>),
+    /// Of `rmnet`.
+    RmNet(Nlas<InfoRmNet>),
+    /// Of a kind without a family.
+    Other(Bytes),
+}
+
+/// The data of a link, with peers kept as bytes.
+pub type InfoData = InfoDataOf<Bytes>;
+
+/// Matches data, each variant once: by `$list` where it holds a list of attributes, by `$first` where it holds one, and by `$bytes`.
+macro_rules! of_data {
+    ($data:expr, $it:ident => $list:expr, $first:expr, $bytes:expr) => {
+        match $data {
+            InfoDataOf::Bridge($it) => $list,
+            InfoDataOf::Tun($it) => $list,
+            InfoDataOf::Vlan($it) => $list,
+            InfoDataOf::Veth($it) => $first,
+            InfoDataOf::Vxlan($it) => $list,
+            InfoDataOf::Bond($it) => $list,
+            InfoDataOf::IpVlan($it) => $list,
+            InfoDataOf::IpVtap($it) => $list,
+            InfoDataOf::MacVlan($it) => $list,
+            InfoDataOf::MacVtap($it) => $list,
+            InfoDataOf::GreTap($it) => $list,
+            InfoDataOf::GreTap6($it) => $list,
+            InfoDataOf::IpTunnel($it) => $list,
+            InfoDataOf::GreTun($it) => $list,
+            InfoDataOf::GreTun6($it) => $list,
+            InfoDataOf::Vti($it) => $list,
+            InfoDataOf::Vrf($it) => $list,
+            InfoDataOf::Gtp($it) => $list,
+            InfoDataOf::Ipoib($it) => $list,
+            InfoDataOf::Wireguard($it) => $list,
+            InfoDataOf::Xfrm($it) => $list,
+            InfoDataOf::MacSec($it) => $list,
+            InfoDataOf::Hsr($it) => $list,
+            InfoDataOf::Geneve($it) => $list,
+            InfoDataOf::Netkit($it) => $list,
+            InfoDataOf::Vxcan($it) => $first,
+            InfoDataOf::Amt($it) => $list,
+            InfoDataOf::BatAdv($it) => $list,
+            InfoDataOf::BareUdp($it) => $list,
+            InfoDataOf::Wwan($it) => $list,
+            InfoDataOf::Can($it) => $list,
+            InfoDataOf::Dsa($it) => $list,
+            InfoDataOf::ErSpan($it) => $list,
+            InfoDataOf::Ip6ErSpan($it) => $list,
+            InfoDataOf::Pfcp($it) => $list,
+            InfoDataOf::RmNet($it) => $list,
+            InfoDataOf::Other($it) => $bytes,
+        }
+    };
+}
+
+/// Written with the type 2. Data of a family is its attributes' strings, one after another.
+impl<P: LinkPeer> Nla for InfoDataOf<P> {
+    ghost use Rattle.linkinfo_data.specs.InfoData.{data_attribute};
+
+    ghost attribute = { data_attribute ⟦<P as DataFamilies>⟧.families };
+
+    fn value_len(&self) -> usize {
+        of_data!(self, it => list_len(it), one_len(it), it.len())
+    }
+
+    fn kind(&self) -> u16 {
+        IFLA_INFO_DATA
+    }
+
+    fn emit_value(&self, buffer: &mut [u8]) {
+        of_data!(self, it => emit_list(it, buffer), emit_one(it, buffer), buffer.copy_from_slice(it.as_slice()))
+    }
+
+    fn fit_len(&self) -> Option<usize> {
+        of_data!(self, it => list_fit_len(it), one_fit_len(it), fitting(it.len()))
+    }
+}
+
+impl<P: ExactEq> ExactEq for InfoDataOf<P> {
+    ghost use Rattle.std.specs.Cmp.Lexicographic.{bytes_decides, pointwise_decides};
+    ghost use Rattle.linkinfo_data.specs.declared.info_data.InfoDataOf.TheVariants as info;
+    ghost use Rattle.linkinfo_data.specs.Equal.{apart, under};
+    ghost use Rattle.linkinfo_lower.specs.contracts.bridge.InfoBridgeExactEq.TheImpl.Laws as bridge;
+    ghost use Rattle.linkinfo_peers.specs.contracts.tun.InfoTunExactEq.TheImpl.Laws as tun;
+    ghost use Rattle.linkinfo_lower.specs.contracts.vlan.InfoVlanExactEq.TheImpl.Laws as vlan;
+    ghost use Rattle.linkinfo_tunnels.specs.contracts.vxlan.InfoVxlanExactEq.TheImpl.Laws as vxlan;
+    ghost use Rattle.linkinfo_lower.specs.contracts.bond.InfoBondExactEq.TheImpl.Laws as bond;
+    ghost use Rattle.linkinfo_devices.specs.contracts.ipvlan.InfoIpVlanExactEq.TheImpl.Laws as ip_vlan;
+    ghost use Rattle.linkinfo_devices.specs.contracts.ipvtap.InfoIpVtapExactEq.TheImpl.Laws as ip_vtap;
+    ghost use Rattle.linkinfo_devices.specs.contracts.macvlan.InfoMacVlanExactEq.TheImpl.Laws as mac_vlan;
+    ghost use Rattle.linkinfo_devices.specs.contracts.macvtap.InfoMacVtapExactEq.TheImpl.Laws as mac_vtap;
+    ghost use Rattle.linkinfo_tunnels.specs.contracts.gre.InfoGreExactEq.TheImpl.Laws as gre;
+    ghost use Rattle.linkinfo_tunnels.specs.contracts.gre6.InfoGre6ExactEq.TheImpl.Laws as gre6;
+    ghost use Rattle.linkinfo_tunnels.specs.contracts.ip_tunnel.InfoIpTunnelExactEq.TheImpl.Laws as ip_tunnel;
+    ghost use Rattle.linkinfo_tunnels.specs.contracts.vti.InfoVtiExactEq.TheImpl.Laws as vti;
+    ghost use Rattle.linkinfo_devices.specs.contracts.vrf.InfoVrfExactEq.TheImpl.Laws as vrf;
+    ghost use Rattle.linkinfo_tunnels.specs.contracts.gtp.InfoGtpExactEq.TheImpl.Laws as gtp;
+    ghost use Rattle.linkinfo_devices.specs.contracts.ipoib.InfoIpoibExactEq.TheImpl.Laws as ipoib;
+    ghost use Rattle.linkinfo_peers.specs.contracts.wireguard.InfoWireguardExactEq.TheImpl.Laws as wireguard;
+    ghost use Rattle.linkinfo_devices.specs.contracts.xfrm.InfoXfrmExactEq.TheImpl.Laws as xfrm;
+    ghost use Rattle.linkinfo_devices.specs.contracts.macsec.InfoMacSecExactEq.TheImpl.Laws as mac_sec;
+    ghost use Rattle.linkinfo_lower.specs.contracts.hsr.InfoHsrExactEq.TheImpl.Laws as hsr;
+    ghost use Rattle.linkinfo_tunnels.specs.contracts.geneve.InfoGeneveExactEq.TheImpl.Laws as geneve;
+    ghost use Rattle.linkinfo_tunnels.specs.contracts.amt.InfoAmtExactEq.TheImpl.Laws as amt;
+    ghost use Rattle.linkinfo_peers.specs.contracts.batadv.InfoBatAdvExactEq.TheImpl.Laws as bat_adv;
+    ghost use Rattle.linkinfo_tunnels.specs.contracts.bare_udp.InfoBareUdpExactEq.TheImpl.Laws as bare_udp;
+    ghost use Rattle.linkinfo_peers.specs.contracts.wwan.InfoWwanExactEq.TheImpl.Laws as wwan;
+    ghost use Rattle.linkinfo_lower.specs.contracts.can.InfoCanExactEq.TheImpl.Laws as can;
+    ghost use Rattle.linkinfo_lower.specs.contracts.dsa.InfoDsaExactEq.TheImpl.Laws as dsa;
+    ghost use Rattle.linkinfo_peers.specs.contracts.pfcp.InfoPfcpExactEq.TheImpl.Laws as pfcp;
+    ghost use Rattle.linkinfo_devices.specs.contracts.rmnet.InfoRmNetExactEq.TheImpl.Laws as rm_net;
+    ghost use Rattle.std.proofs.Common.{rules};
+
+    ghost exact = { elim [
+      | info.Bridge x ↦ elim [ info.Bridge y ↦ under (λ v. info.Bridge v) (λ e. cc) (pointwise_decides bridge.exact-law x y) | _ ↦ apart (λ e. cc) ]
+      | info.Tun x ↦ elim [ info.Tun y ↦ under (λ v. info.Tun v) (λ e. cc) (pointwise_decides tun.exact-law x y) | _ ↦ apart (λ e. cc) ]
+      | info.Vlan x ↦ elim [ info.Vlan y ↦ under (λ v. info.Vlan v) (λ e. cc) (pointwise_decides vlan.exact-law x y) | _ ↦ apart (λ e. cc) ]
+      | info.Veth x ↦ elim [ info.Veth y ↦ under (λ v. info.Veth v) (λ e. cc) (Prim.search (rules, P.exact)) | _ ↦ apart (λ e. cc) ]
+      | info.Vxlan x ↦ elim [ info.Vxlan y ↦ under (λ v. info.Vxlan v) (λ e. cc) (pointwise_decides vxlan.exact-law x y) | _ ↦ apart (λ e. cc) ]
+      | info.Bond x ↦ elim [ info.Bond y ↦ under (λ v. info.Bond v) (λ e. cc) (pointwise_decides bond.exact-law x y) | _ ↦ apart (λ e. cc) ]
+      | info.IpVlan x ↦ elim [ info.IpVlan y ↦ under (λ v. info.IpVlan v) (λ e. cc) (pointwise_decides ip_vlan.exact-law x y) | _ ↦ apart (λ e. cc) ]
+      | info.IpVtap x ↦ elim [ info.IpVtap y ↦ under (λ v. info.IpVtap v) (λ e. cc) (pointwise_decides ip_vtap.exact-law x y) | _ ↦ apart (λ e. cc) ]
+      | info.MacVlan x ↦ elim [ info.MacVlan y ↦ under (λ v. info.MacVlan v) (λ e. cc) (pointwise_decides mac_vlan.exact-law x y) | _ ↦ apart (λ e. cc) ]
+      | info.MacVtap x ↦ elim [ info.MacVtap y ↦ under (λ v. info.MacVtap v) (λ e. cc) (pointwise_decides mac_vtap.exact-law x y) | _ ↦ apart (λ e. cc) ]
+      | info.GreTap x ↦ elim [ info.GreTap y ↦ under (λ v. info.GreTap v) (λ e. cc) (pointwise_decides gre.exact-law x y) | _ ↦ apart (λ e. cc) ]
+      | info.GreTap6 x ↦ elim [ info.GreTap6 y ↦ under (λ v. info.GreTap6 v) (λ e. cc) (pointwise_decides gre6.exact-law x y) | _ ↦ apart (λ e. cc) ]
+      | info.IpTunnel x ↦ elim [ info.IpTunnel y ↦ under (λ v. info.IpTunnel v) (λ e. cc) (pointwise_decides ip_tunnel.exact-law x y) | _ ↦ apart (λ e. cc) ]
+      | info.GreTun x ↦ elim [ info.GreTun y ↦ under (λ v. info.GreTun v) (λ e. cc) (pointwise_decides gre.exact-law x y) | _ ↦ apart (λ e. cc) ]
+      | info.GreTun6 x ↦ elim [ info.GreTun6 y ↦ under (λ v. info.GreTun6 v) (λ e. cc) (pointwise_decides gre6.exact-law x y) | _ ↦ apart (λ e. cc) ]
+      | info.Vti x ↦ elim [ info.Vti y ↦ under (λ v. info.Vti v) (λ e. cc) (pointwise_decides vti.exact-law x y) | _ ↦ apart (λ e. cc) ]
+      | info.Vrf x ↦ elim [ info.Vrf y ↦ under (λ v. info.Vrf v) (λ e. cc) (pointwise_decides vrf.exact-law x y) | _ ↦ apart (λ e. cc) ]
+      | info.Gtp x ↦ elim [ info.Gtp y ↦ under (λ v. info.Gtp v) (λ e. cc) (pointwise_decides gtp.exact-law x y) | _ ↦ apart (λ e. cc) ]
+      | info.Ipoib x ↦ elim [ info.Ipoib y ↦ under (λ v. info.Ipoib v) (λ e. cc) (pointwise_decides ipoib.exact-law x y) | _ ↦ apart (λ e. cc) ]
+      | info.Wireguard x ↦ elim [ info.Wireguard y ↦ under (λ v. info.Wireguard v) (λ e. cc) (pointwise_decides wireguard.exact-law x y) | _ ↦ apart (λ e. cc) ]
+      | info.Xfrm x ↦ elim [ info.Xfrm y ↦ under (λ v. info.Xfrm v) (λ e. cc) (pointwise_decides xfrm.exact-law x y) | _ ↦ apart (λ e. cc) ]
+      | info.MacSec x ↦ elim [ info.MacSec y ↦ under (λ v. info.MacSec v) (λ e. cc) (pointwise_decides mac_sec.exact-law x y) | _ ↦ apart (λ e. cc) ]
+      | info.Hsr x ↦ elim [ info.Hsr y ↦ under (λ v. info.Hsr v) (λ e. cc) (pointwise_decides hsr.exact-law x y) | _ ↦ apart (λ e. cc) ]
+      | info.Geneve x ↦ elim [ info.Geneve y ↦ under (λ v. info.Geneve v) (λ e. cc) (pointwise_decides geneve.exact-law x y) | _ ↦ apart (λ e. cc) ]
+      | info.Netkit x ↦ elim [ info.Netkit y ↦ under (λ v. info.Netkit v) (λ e. cc) (pointwise_decides (λ a b. Prim.search (rules, P.exact)) x y) | _ ↦ apart (λ e. cc) ]
+      | info.Vxcan x ↦ elim [ info.Vxcan y ↦ under (λ v. info.Vxcan v) (λ e. cc) (Prim.search (rules, P.exact)) | _ ↦ apart (λ e. cc) ]
+      | info.Amt x ↦ elim [ info.Amt y ↦ under (λ v. info.Amt v) (λ e. cc) (pointwise_decides amt.exact-law x y) | _ ↦ apart (λ e. cc) ]
+      | info.BatAdv x ↦ elim [ info.BatAdv y ↦ under (λ v. info.BatAdv v) (λ e. cc) (pointwise_decides bat_adv.exact-law x y) | _ ↦ apart (λ e. cc) ]
+      | info.BareUdp x ↦ elim [ info.BareUdp y ↦ under (λ v. info.BareUdp v) (λ e. cc) (pointwise_decides bare_udp.exact-law x y) | _ ↦ apart (λ e. cc) ]
+      | info.Wwan x ↦ elim [ info.Wwan y ↦ under (λ v. info.Wwan v) (λ e. cc) (pointwise_decides wwan.exact-law x y) | _ ↦ apart (λ e. cc) ]
+      | info.Can x ↦ elim [ info.Can y ↦ under (λ v. info.Can v) (λ e. cc) (pointwise_decides can.exact-law x y) | _ ↦ apart (λ e. cc) ]
+      | info.Dsa x ↦ elim [ info.Dsa y ↦ under (λ v. info.Dsa v) (λ e. cc) (pointwise_decides dsa.exact-law x y) | _ ↦ apart (λ e. cc) ]
+      | info.ErSpan x ↦ elim [ info.ErSpan y ↦ under (λ v. info.ErSpan v) (λ e. cc) (pointwise_decides gre.exact-law x y) | _ ↦ apart (λ e. cc) ]
+      | info.Ip6ErSpan x ↦ elim [ info.Ip6ErSpan y ↦ under (λ v. info.Ip6ErSpan v) (λ e. cc) (pointwise_decides gre6.exact-law x y) | _ ↦ apart (λ e. cc) ]
+      | info.Pfcp x ↦ elim [ info.Pfcp y ↦ under (λ v. info.Pfcp v) (λ e. cc) (pointwise_decides pfcp.exact-law x y) | _ ↦ apart (λ e. cc) ]
+      | info.RmNet x ↦ elim [ info.RmNet y ↦ under (λ v. info.RmNet v) (λ e. cc) (pointwise_decides rm_net.exact-law x y) | _ ↦ apart (λ e. cc) ]
+      | info.Other x ↦ elim [ info.Other y ↦ under (λ v. info.Other v) (λ e. cc) (bytes_decides x y) | _ ↦ apart (λ e. cc) ]
+    ] };
+}

@@ -1,0 +1,70 @@
+//! Data of bridge, vlan, bond, hsr, can and dsa links.
+
+ghost use Rattle.linkinfo_data.specs.LowerData.{lower_data_of};
+
+use crate::info_data::InfoDataOf;
+use crate::payload_family::PayloadFamily;
+use crate::written::read_nlas;
+use linkinfo_lower::{InfoBond, InfoBridge, InfoCan, InfoDsa, InfoHsr, InfoVlan};
+use linkinfo_table::{LinkPeer, list_check, list_same};
+use nla_frame::{DecodeError, HeaderCount};
+use std::alloc::Global;
+
+/// The families of bridge, vlan, bond, hsr, can and dsa links.
+#[derive(Clone, Copy, Debug, PartialEq, Eq)]
+pub enum LowerFamily {
+    /// That of `bridge`.
+    Bridge,
+    /// That of `vlan`.
+    Vlan,
+    /// That of `bond`.
+    Bond,
+    /// That of `hsr`.
+    Hsr,
+    /// That of `can`.
+    Can,
+    /// That of `dsa`.
+    Dsa,
+}
+
+impl<P: LinkPeer> PayloadFamily<InfoDataOf<P>> for LowerFamily {
+    ghost data_of = { λ family. lower_data_of family };
+
+    fn read(
+        self,
+        alloc: Global,
+        payload: &[u8],
+        count: &mut HeaderCount,
+    ) -> Result<InfoDataOf<P>, DecodeError> {
+        Ok(match self {
+            LowerFamily::Bridge => InfoDataOf::Bridge(read_nlas(alloc, payload, (), count)?),
+            LowerFamily::Vlan => InfoDataOf::Vlan(read_nlas(alloc, payload, (), count)?),
+            LowerFamily::Bond => InfoDataOf::Bond(read_nlas(alloc, payload, (), count)?),
+            LowerFamily::Hsr => InfoDataOf::Hsr(read_nlas(alloc, payload, (), count)?),
+            LowerFamily::Can => InfoDataOf::Can(read_nlas(alloc, payload, (), count)?),
+            LowerFamily::Dsa => InfoDataOf::Dsa(read_nlas(alloc, payload, (), count)?),
+        })
+    }
+
+    fn check(self, payload: &[u8], count: &mut HeaderCount) -> Result<(), DecodeError> {
+        match self {
+            LowerFamily::Bridge => list_check::<InfoBridge>(payload, (), count),
+            LowerFamily::Vlan => list_check::<InfoVlan>(payload, (), count),
+            LowerFamily::Bond => list_check::<InfoBond>(payload, (), count),
+            LowerFamily::Hsr => list_check::<InfoHsr>(payload, (), count),
+            LowerFamily::Can => list_check::<InfoCan>(payload, (), count),
+            LowerFamily::Dsa => list_check::<InfoDsa>(payload, (), count),
+        }
+    }
+
+    fn same(self, a: &[u8], b: &[u8], count: &mut HeaderCount) -> bool {
+        match self {
+            LowerFamily::Bridge => list_same::<InfoBridge>(a, b, (), count),
+            LowerFamily::Vlan => list_same::<InfoVlan>(a, b, (), count),
+            LowerFamily::Bond => list_same::<InfoBond>(a, b, (), count),
+            LowerFamily::Hsr => list_same::<InfoHsr>(a, b, (), count),
+            LowerFamily::Can => list_same::<InfoCan>(a, b, (), count),
+            LowerFamily::Dsa => list_same::<InfoDsa>(a, b, (), count),
+        }
+    }
+}

@@ -1,0 +1,41 @@
+//! Payloads that are read, checked and compared by a family chosen among several.
+
+ghost use Rattle.std.specs.Prelude.{◌≡◌, ◌+◌, ◌*◌, ◌/◌, ◌<◌, ◌≤◌, ◌^◌, IsOk, length};
+ghost use Rattle.std.specs.Bool.{OnTrue};
+ghost use Rattle.nla_frame.specs.Answers.{CertainUnless, Gives, OnAnswer, verdict};
+ghost use Rattle.linkinfo_data.specs.Payloads.{Payload};
+
+use nla_frame::{DecodeError, HeaderCount};
+use std::alloc::Global;
+
+/// A choice of a family: what a payload means as data of the family chosen.
+pub trait PayloadFamily<D: Drop>: Copy {
+    /// What payloads mean by each choice.
+    ghost data_of: { Self → Payload D };
+
+    /// Reads a payload. An answer other than (Frame, 0, Memory) is what it means.
+    fn read(self, alloc: Global, payload: &[u8], count: &mut HeaderCount) -> Result<D, DecodeError>
+        requires { count.old + length payload.now / 4 < 2 ^ 64 }
+        ensures answer { Gives (λ value. value) result ((data_of self).means payload.now) }
+        ensures certain { CertainUnless ((data_of self).needs_memory payload.now) (λ value. value) result ((data_of self).means payload.now) }
+        ensures counted { OnAnswer result (count.new ≡ count.old + (data_of self).headers payload.now) }
+        ensures rises { count.old ≤ count.new }
+        ensures quarter { 4 * count.new ≤ 4 * count.old + length payload.now };
+
+    /// Whether `read` would succeed, or the payload's fault. Takes no memory.
+    fn check(self, payload: &[u8], count: &mut HeaderCount) -> Result<(), DecodeError>
+        requires { count.old + length payload.now / 4 < 2 ^ 64 }
+        ensures answer { result ≡ verdict ((data_of self).means payload.now) }
+        ensures counted { count.new ≡ count.old + (data_of self).headers payload.now }
+        ensures quarter { 4 * count.new ≤ 4 * count.old + length payload.now };
+
+    /// Whether two payloads mean the same data. Asks that each means some, and takes no memory.
+    fn same(self, a: &[u8], b: &[u8], count: &mut HeaderCount) -> bool
+        requires first { IsOk ((data_of self).means a.now) }
+        requires second { IsOk ((data_of self).means b.now) }
+        requires room { count.old + (length a.now + length b.now) / 4 < 2 ^ 64 }
+        ensures same { result ≡ (data_of self).alike a.now b.now }
+        ensures counted { OnTrue result (count.new ≡ count.old + ((data_of self).headers a.now + (data_of self).headers b.now)) }
+        ensures rises { count.old ≤ count.new }
+        ensures quarter { 4 * count.new ≤ 4 * count.old + (length a.now + length b.now) };
+}

@@ -1,0 +1,83 @@
+//! Data of links with a peer, and of tun, wireguard, batadv, wwan and pfcp links.
+
+ghost use Rattle.linkinfo_data.specs.PeerData.{peers_data_of};
+
+use crate::families::DataFamilies;
+use crate::info_data::InfoDataOf;
+use crate::payload_family::PayloadFamily;
+use crate::written::read_nlas;
+use linkinfo_peers::{
+    InfoBatAdv, InfoNetkitOf, InfoPfcp, InfoTun, InfoVethOf, InfoVxcanOf, InfoWireguard, InfoWwan,
+};
+use linkinfo_table::{LinkPeer, first_check, first_read, first_same, list_check, list_same};
+use nla_frame::{DecodeError, HeaderCount};
+use std::alloc::Global;
+
+/// The families of links with a peer, and of tun, wireguard, batadv, wwan and pfcp links.
+#[derive(Clone, Copy, Debug, PartialEq, Eq)]
+pub enum PeeredFamily {
+    /// That of `tun`.
+    Tun,
+    /// That of `veth`.
+    Veth,
+    /// That of `wireguard`.
+    Wireguard,
+    /// That of `netkit`.
+    Netkit,
+    /// That of `vxcan`.
+    Vxcan,
+    /// That of `batadv`.
+    BatAdv,
+    /// That of `wwan`.
+    Wwan,
+    /// That of `pfcp`.
+    Pfcp,
+}
+
+impl<P: LinkPeer> PayloadFamily<InfoDataOf<P>> for PeeredFamily {
+    ghost data_of = { λ family. peers_data_of ⟦<P as DataFamilies>⟧.families family };
+
+    fn read(
+        self,
+        alloc: Global,
+        payload: &[u8],
+        count: &mut HeaderCount,
+    ) -> Result<InfoDataOf<P>, DecodeError> {
+        Ok(match self {
+            PeeredFamily::Tun => InfoDataOf::Tun(read_nlas(alloc, payload, (), count)?),
+            PeeredFamily::Veth => InfoDataOf::Veth(first_read(alloc, payload, (), count)?),
+            PeeredFamily::Wireguard => InfoDataOf::Wireguard(read_nlas(alloc, payload, (), count)?),
+            PeeredFamily::Netkit => InfoDataOf::Netkit(read_nlas(alloc, payload, (), count)?),
+            PeeredFamily::Vxcan => InfoDataOf::Vxcan(first_read(alloc, payload, (), count)?),
+            PeeredFamily::BatAdv => InfoDataOf::BatAdv(read_nlas(alloc, payload, (), count)?),
+            PeeredFamily::Wwan => InfoDataOf::Wwan(read_nlas(alloc, payload, (), count)?),
+            PeeredFamily::Pfcp => InfoDataOf::Pfcp(read_nlas(alloc, payload, (), count)?),
+        })
+    }
+
+    fn check(self, payload: &[u8], count: &mut HeaderCount) -> Result<(), DecodeError> {
+        match self {
+            PeeredFamily::Tun => list_check::<InfoTun>(payload, (), count),
+            PeeredFamily::Veth => first_check::<InfoVethOf<P>>(payload, (), count),
+            PeeredFamily::Wireguard => list_check::<InfoWireguard>(payload, (), count),
+            PeeredFamily::Netkit => list_check::<InfoNetkitOf<P>>(payload, (), count),
+            PeeredFamily::Vxcan => first_check::<InfoVxcanOf<P>>(payload, (), count),
+            PeeredFamily::BatAdv => list_check::<InfoBatAdv>(payload, (), count),
+            PeeredFamily::Wwan => list_check::<InfoWwan>(payload, (), count),
+            PeeredFamily::Pfcp => list_check::<InfoPfcp>(payload, (), count),
+        }
+    }
+
+    fn same(self, a: &[u8], b: &[u8], count: &mut HeaderCount) -> bool {
+        match self {
+            PeeredFamily::Tun => list_same::<InfoTun>(a, b, (), count),
+            PeeredFamily::Veth => first_same::<InfoVethOf<P>>(a, b, (), count),
+            PeeredFamily::Wireguard => list_same::<InfoWireguard>(a, b, (), count),
+            PeeredFamily::Netkit => list_same::<InfoNetkitOf<P>>(a, b, (), count),
+            PeeredFamily::Vxcan => first_same::<InfoVxcanOf<P>>(a, b, (), count),
+            PeeredFamily::BatAdv => list_same::<InfoBatAdv>(a, b, (), count),
+            PeeredFamily::Wwan => list_same::<InfoWwan>(a, b, (), count),
+            PeeredFamily::Pfcp => list_same::<InfoPfcp>(a, b, (), count),
+        }
+    }
+}

@@ -1,0 +1,83 @@
+//! Payloads that are the string of a list of attributes, or of one.
+
+ghost use Rattle.std.specs.Prelude.{◌≡◌, ◌+◌, ◌*◌, ◌/◌, ◌<◌, ◌≤◌, ◌^◌, SomeIff, length, map};
+ghost use Rattle.nla_frame.specs.Answers.{CertainUnless, Gives, OnAnswer};
+ghost use Rattle.nla_frame.specs.Attribute.{canonical_string, list_string};
+ghost use Rattle.nla_frame.specs.Pieces.{pieces};
+ghost use Rattle.linkinfo_table.specs.Lists.{headers_of, memory_of, values};
+
+use crate::fits::fitting;
+use linkinfo_table::{LinkFamily, list_read};
+use nla_frame::{DecodeError, HeaderCount, Nla, Nlas, emit_nlas, nlas_buffer_len, nlas_fit_len};
+use std::alloc::Global;
+
+/// Reads the attributes that a payload frames.
+pub(crate) fn read_nlas<F: LinkFamily>(
+    alloc: Global,
+    payload: &[u8],
+    ctx: F::Context,
+    count: &mut HeaderCount,
+) -> Result<Nlas<F>, DecodeError>
+    requires { count.old + length payload.now / 4 < 2 ^ 64 }
+    ensures answer { Gives (λ list. list) result (values (F.meaning ctx) (pieces payload.now)) }
+    ensures certain { CertainUnless (memory_of (F.meaning ctx) (F.needs_memory ctx) (pieces payload.now)) (λ list. list) result (values (F.meaning ctx) (pieces payload.now)) }
+    ensures counted { OnAnswer result (count.new ≡ count.old + headers_of (F.meaning ctx) (F.headers ctx) (pieces payload.now)) }
+    ensures rises { count.old ≤ count.new }
+    ensures quarter { 4 * count.new ≤ 4 * count.old + length payload.now }
+{
+    Ok(Nlas::new(list_read(alloc, payload, ctx, count)?))
+}
+
+/// The length of the list's string. Asks that a payload of it fits.
+#[tactic(auto, using(nla_frame::proofs::Emitting::list_fits))]
+pub(crate) fn list_len<T: Nla>(list: &Nlas<T>) -> usize
+    requires { length (list_string (map T.attribute list.now)) ≤ 65531 }
+    ensures { result ≡ length (list_string (map T.attribute list.now)) }
+{
+    nlas_buffer_len(list.as_slice())
+}
+
+/// Writes the list's string. Asks that a payload of it fits, and a buffer of its length.
+#[tactic(auto, using(nla_frame::proofs::Emitting::list_fits))]
+pub(crate) fn emit_list<T: Nla>(list: &Nlas<T>, buffer: &mut [u8])
+    requires fits { length (list_string (map T.attribute list.now)) ≤ 65531 }
+    requires exact { length buffer.old ≡ length (list_string (map T.attribute list.now)) }
+    ensures { buffer.new ≡ list_string (map T.attribute list.now) }
+{
+    emit_nlas(list.as_slice(), buffer)
+}
+
+/// The length of the list's string where a payload of it fits, and else `None`.
+#[tactic(auto, using(nla_frame::proofs::Emitting::list_fits))]
+pub(crate) fn list_fit_len<T: Nla>(list: &Nlas<T>) -> Option<usize>
+    ensures { SomeIff result (length (list_string (map T.attribute list.now)) ≤ 65531) (length (list_string (map T.attribute list.now))) }
+{
+    fitting(nlas_fit_len(list.as_slice())?)
+}
+
+/// The length of the attribute's string. Asks that a payload of it fits.
+#[tactic(auto, using(nla_frame::proofs::Emitting::one_fits))]
+pub(crate) fn one_len<T: Nla>(nla: &T) -> usize
+    requires { length (canonical_string (T.attribute nla.now)) ≤ 65531 }
+    ensures { result ≡ length (canonical_string (T.attribute nla.now)) }
+{
+    nla.buffer_len()
+}
+
+/// Writes the attribute's string. Asks that a payload of it fits, and a buffer of its length.
+#[tactic(auto, using(nla_frame::proofs::Emitting::one_fits))]
+pub(crate) fn emit_one<T: Nla>(nla: &T, buffer: &mut [u8])
+    requires fits { length (canonical_string (T.attribute nla.now)) ≤ 65531 }
+    requires exact { length buffer.old ≡ length (canonical_string (T.attribute nla.now)) }
+    ensures { buffer.new ≡ canonical_string (T.attribute nla.now) }
+{
+    nla.emit(buffer)
+}
+
+/// The length of the attribute's string where a payload of it fits, and else `None`.
+#[tactic(auto, using(nla_frame::proofs::Emitting::one_fits))]
+pub(crate) fn one_fit_len<T: Nla>(nla: &T) -> Option<usize>
+    ensures { SomeIff result (length (canonical_string (T.attribute nla.now)) ≤ 65531) (length (canonical_string (T.attribute nla.now))) }
+{
+    fitting(4 + nla.fit_len()?.next_multiple_of(4))
+}
