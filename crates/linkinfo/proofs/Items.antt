@@ -22,7 +22,8 @@ use Rattle.linkinfo_numbers.specs.Name.{name_attribute}
 use Rattle.nla_frame.specs.Payload.{stripped}
 use Rattle.linkinfo_shapes.specs.Shapes.{means, text_of}
 use Rattle.linkinfo_shapes.specs.declared.shape.Shape.TheVariants.{Name, Raw}
-use Rattle.linkinfo.specs.Families.{AreFamilies, Families}
+use Rattle.linkinfo_data.specs.Families.{Families}
+use Rattle.linkinfo_data.specs.Lawful.{AreLawful}
 use Rattle.linkinfo_table.specs.FamilyRows.{own, RowOwes}
 use Rattle.linkinfo_table.specs.FlatLaws.{rows_no_memory}
 use Rattle.linkinfo_table.specs.FamilyRowLaws.{owed, shape_is_codec}
@@ -34,8 +35,8 @@ use Rattle.linkinfo.specs.declared.link_info.LinkInfoOf.TheVariants as info
 use Rattle.linkinfo.specs.declared.role.InForce.{InForce}
 use Rattle.linkinfo.specs.declared.role.Role.{Role}
 use Rattle.linkinfo.specs.declared.role.Role.TheVariants as role
-use Rattle.linkinfo.specs.Data.{data_of, data_is_codec, family_of}
-use Rattle.linkinfo.specs.PortData.{port_data_of, port_data_is_codec, port_family_of}
+use Rattle.linkinfo_data.specs.Data.{data_of, family_of}
+use Rattle.linkinfo_data.specs.PortData.{port_data_of, port_family_of}
 use Rattle.linkinfo.specs.Items.{link_attribute, link_other, link_row, link_rows, link_meaning, link_headers, link_alike, link_well}
 use Rattle.linkinfo.specs.Roles.{behind_role, name_meaning, name_or_fault, role_of, role_at, role_under, with_name}
 use Rattle.linkinfo.specs.Strings.{or_stay, force_after, force_behind}
@@ -87,9 +88,9 @@ module _ {P : Type 0} (peer : Families P) where
   not_memory : cause.Order ≢ cause.Memory
   not_memory e = absurd cc
 
-  module _ (law : AreFamilies peer) where
+  module _ (law : AreLawful peer) where
     data_owes : (o : Option KindTag) → RowOwes attribute 2 (link_row peer (role_under o (λ tag. role.Data tag)))
-    data_owes (Some tag) = record { low = lit< tt; codec = data_is_codec peer law (family_of tag); keeps = λ d. refl; same = λ x y _ _ e. cc }
+    data_owes (Some tag) = record { low = lit< tt; codec = law.link (family_of tag); keeps = λ d. refl; same = λ x y _ _ e. cc }
     data_owes None = not_memory
 
     xstats_owes : (o : Option KindTag) → RowOwes attribute 3 (link_row peer (role_under o (λ _. role.Xstats)))
@@ -97,7 +98,7 @@ module _ {P : Type 0} (peer : Families P) where
     xstats_owes None = not_memory
 
     port_data_owes : (o : Option PortTag) → RowOwes attribute 5 (link_row peer (role_under o (λ tag. role.PortData tag)))
-    port_data_owes (Some tag) = record { low = lit< tt; codec = port_data_is_codec peer law (port_family_of tag); keeps = λ d. refl; same = λ x y _ _ e. cc }
+    port_data_owes (Some tag) = record { low = lit< tt; codec = law.port (port_family_of tag); keeps = λ d. refl; same = λ x y _ _ e. cc }
     port_data_owes None = not_memory
 
     link_owes : (t : InForce) (n : ℕ) → RowOwes attribute n (link_rows peer t n)

@@ -5,7 +5,7 @@ use Rattle.std.specs.Bool.{OnTrue}
 use Rattle.nla_frame.specs.Attribute.{Attribute, masked}
 use Rattle.nla_frame.specs.Pieces.{pieces}
 use Rattle.nla_frame.specs.declared.error.DecodeError.{DecodeError}
-use Rattle.linkinfo.specs.Families.{Families}
+use Rattle.linkinfo_data.specs.Families.{Families}
 use Rattle.linkinfo_table.specs.Lists.{◌>>=◌, if_read}
 use Rattle.linkinfo_table.specs.Rows.{row_alike, row_headers, alike_in}
 use Rattle.linkinfo.specs.declared.link_info.LinkInfoOf.{LinkInfoOf}

@@ -16,7 +16,7 @@ use Rattle.nla_frame.specs.Payload.{stripped}
 use Rattle.nla_frame.specs.declared.error.Cause.TheVariants as cause
 use Rattle.nla_frame.specs.declared.error.Family.TheVariants as family
 use Rattle.nla_frame.specs.declared.error.DecodeError.{DecodeError}
-use Rattle.linkinfo.specs.Families.{Families}
+use Rattle.linkinfo_data.specs.Families.{Families}
 use Rattle.linkinfo_table.specs.FamilyRows.{own}
 use Rattle.linkinfo_table.specs.Rows.{labelled, meaning_in, row_meaning}
 use Rattle.linkinfo.specs.declared.link_info.LinkInfoOf.{LinkInfoOf}

@@ -9,7 +9,7 @@ use Rattle.nla_frame.specs.declared.error.Family.TheVariants as family
 use Rattle.nla_frame.specs.declared.error.DecodeError.{DecodeError}
 use Rattle.linkinfo_numbers.specs.Kind.{kind_of_name}
 use Rattle.linkinfo_numbers.specs.PortKind.{port_kind_of_name}
-use Rattle.linkinfo.specs.Families.{Families}
+use Rattle.linkinfo_data.specs.Families.{Families}
 use Rattle.linkinfo_table.specs.Lists.{◌>>=◌, if_read, behind as front}
 use Rattle.linkinfo_table.specs.Rows.{meaning_in, headers_inside, memory_in, row_meaning, row_headers, row_needs_memory}
 use Rattle.linkinfo.specs.declared.link_info.LinkInfoOf.{LinkInfoOf}

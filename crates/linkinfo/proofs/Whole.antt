@@ -14,7 +14,8 @@ use Rattle.linkinfo_numbers.specs.declared.names.KindTag.{KindTag}
 use Rattle.linkinfo_numbers.specs.declared.names.PortTag.{PortTag}
 use Rattle.linkinfo_numbers.specs.Kind.{tag_of_name}
 use Rattle.linkinfo_numbers.specs.PortKind.{port_tag_of_name}
-use Rattle.linkinfo.specs.Families.{AreFamilies, Families}
+use Rattle.linkinfo_data.specs.Families.{Families}
+use Rattle.linkinfo_data.specs.Lawful.{AreLawful}
 use Rattle.linkinfo_table.specs.ListLaws.{no_memory, quarter, lists_alike, read_is_well, well_is_read, canonical_law, append_law}
 use Rattle.linkinfo_table.specs.Rows.{meaning_in, row_meaning}
 use Rattle.linkinfo.specs.declared.link_info.LinkInfoOf.{LinkInfoOf}
@@ -35,7 +36,7 @@ IsBytes-right : (x y : List ℕ) → IsBytes (x ++ y) → IsBytes y
 IsBytes-right [] y h = h
 IsBytes-right (b ∷ x) y h = IsBytes-right x y (λ i. h (suc i))
 
-module _ {P : Type 0} (peer : Families P) (law : AreFamilies peer) where
+module _ {P : Type 0} (peer : Families P) (law : AreLawful peer) where
   abbrev attribute : LinkInfoOf P → Attribute
   attribute = link_attribute peer
 

@@ -9,7 +9,7 @@ use Rattle.nla_frame.specs.declared.error.DecodeError.{DecodeError}
 use Rattle.linkinfo_numbers.specs.Kind.{kind_attribute, kind_of_name}
 use Rattle.linkinfo_numbers.specs.PortKind.{port_kind_attribute, port_kind_of_name}
 use Rattle.linkinfo_shapes.specs.declared.shape.Shape.TheVariants.{Name, Raw}
-use Rattle.linkinfo.specs.Families.{Families}
+use Rattle.linkinfo_data.specs.Families.{Families}
 use Rattle.linkinfo_table.specs.FamilyRows.{shape_codec}
 use Rattle.linkinfo_table.specs.Rows.{Row, Is, Refused, Unknown, meaning_in, alike_in, headers_inside, memory_in, WellFormed}
 use Rattle.linkinfo.specs.declared.link_info.LinkInfoOf.{LinkInfoOf}
@@ -18,9 +18,10 @@ use Rattle.linkinfo.specs.declared.role.InForce.{InForce}
 use Rattle.linkinfo.specs.declared.role.Role.{Role}
 use Rattle.linkinfo.specs.declared.role.Role.TheVariants as role
 use Rattle.linkinfo.specs.declared.xstats.LinkXstats.TheVariants as xstats
-use Rattle.linkinfo.specs.Data.{data_attribute, data_of, data_payload, family_of}
-use Rattle.linkinfo.specs.Payloads.{payload_codec}
-use Rattle.linkinfo.specs.PortData.{port_data_attribute, port_data_of, port_data_payload, port_family_of}
+use Rattle.linkinfo_data.specs.Data.{data_of, family_of}
+use Rattle.linkinfo_data.specs.InfoData.{data_attribute, data_payload}
+use Rattle.linkinfo_data.specs.Payloads.{payload_codec}
+use Rattle.linkinfo_data.specs.PortData.{port_data_attribute, port_data_of, port_data_payload, port_family_of}
 use Rattle.linkinfo.specs.Roles.{role_of}
 use Rattle.linkinfo.specs.Xstats.{xstats_bytes}
 

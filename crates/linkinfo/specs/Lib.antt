@@ -1,15 +1,6 @@
-pub mod BytesPeer
 pub mod Comparing
-pub mod Data
-pub mod DataEqual
-pub mod Equal
-pub mod Families
 pub mod Items
 pub mod LinkEqual
-pub mod Payloads
-pub mod PeerFamilies
-pub mod PortData
-pub mod Ports
 pub mod Roles
 pub mod Strings
 pub mod Walks

@@ -8,7 +8,7 @@ use Rattle.linkinfo_numbers.specs.declared.names.PortTag.{PortTag}
 use Rattle.linkinfo_numbers.specs.Kind.{tag_of_kind, tag_of_name}
 use Rattle.linkinfo_numbers.specs.PortKind.{port_tag_of_name, tag_of_port_kind}
 use Rattle.nla_frame.specs.Payload.{stripped}
-use Rattle.linkinfo.specs.Families.{Families}
+use Rattle.linkinfo_data.specs.Families.{Families}
 use Rattle.linkinfo_table.specs.Readings.{HasFault, MeanEach, MeansList, state_behind}
 use Rattle.linkinfo_table.specs.Lists.{values_under, headers_under, alike_under, memory_under, well_under}
 use Rattle.linkinfo.specs.declared.link_info.LinkInfoOf.{LinkInfoOf}

@@ -10,14 +10,10 @@ ghost use Rattle.linkinfo.specs.Items.{link_other, link_row};
 ghost use Rattle.linkinfo.specs.Roles.{behind_role, none_in_force};
 ghost use Rattle.nla_frame.specs.Attribute.{masked};
 
-use crate::data::{InfoDataOf, check_data, family_of, read_data, same_data};
-use crate::families::DataFamilies;
 use crate::link_info::LinkInfoOf;
-use crate::port_data::{
-    InfoPortData, check_port_data, port_family_of, read_port_data, same_port_data,
-};
 use crate::role::{Role, fault, name_in};
 use crate::xstats::LinkXstats;
+use linkinfo_data::{DataFamilies, InfoDataOf, PayloadFamily, family_of, port_family_of};
 use linkinfo_numbers::{InfoKind, InfoPortKind};
 use linkinfo_table::{LinkPeer, Shape, shape_same};
 use nla_frame::{Bytes, Cause, DecodeError, DefaultNla, HeaderCount, Nla, NlaBuffer, Parseable};
@@ -40,7 +36,7 @@ pub(crate) fn read_item<P: LinkPeer>(
     match role {
         Role::Kind => Ok(LinkInfoOf::Kind(InfoKind::from_text(alloc, name_in(nla)?)?)),
         Role::Data(tag) => {
-            let data = read_data(alloc, nla.value(), family_of(tag), count)?;
+            let data = family_of(tag).read(alloc, nla.value(), count)?;
             Ok(LinkInfoOf::Data(data))
         }
         Role::Xstats => {
@@ -52,7 +48,7 @@ pub(crate) fn read_item<P: LinkPeer>(
             Ok(LinkInfoOf::PortKind(kind))
         }
         Role::PortData(tag) => {
-            let data = read_port_data(alloc, nla.value(), port_family_of(tag), count)?;
+            let data = port_family_of(tag).read(alloc, nla.value(), count)?;
             Ok(LinkInfoOf::PortData(data))
         }
         Role::Misplaced => Err(fault(nla, Cause::Order)),
@@ -75,10 +71,14 @@ pub(crate) fn check_item<P: LinkPeer>(
 {
     match role {
         Role::Kind => Ok(()),
-        Role::Data(tag) => check_data::<P>(nla.value(), family_of(tag), count),
+        Role::Data(tag) => PayloadFamily::<InfoDataOf<P>>::check(
+            family_of(tag),
+            nla.value(),
+            count,
+        ),
         Role::Xstats => Ok(()),
         Role::PortKind => Ok(()),
-        Role::PortData(tag) => check_port_data(nla.value(), port_family_of(tag), count),
+        Role::PortData(tag) => port_family_of(tag).check(nla.value(), count),
         Role::Misplaced => Err(fault(nla, Cause::Order)),
         Role::Unknown => Ok(()),
     }
@@ -103,12 +103,13 @@ pub(crate) fn same_item<P: LinkPeer>(
     match role {
         Role::Kind => same_kind && shape_same(Shape::Name, a.value(), b.value()),
         Role::Data(tag) => {
-            same_kind && same_data::<P>(a.value(), b.value(), family_of(tag), count)
+            same_kind
+                && PayloadFamily::<InfoDataOf<P>>::same(family_of(tag), a.value(), b.value(), count)
         }
         Role::Xstats => same_kind && a.value() == b.value(),
         Role::PortKind => same_kind && shape_same(Shape::Name, a.value(), b.value()),
         Role::PortData(tag) => {
-            same_kind && same_port_data(a.value(), b.value(), port_family_of(tag), count)
+            same_kind && port_family_of(tag).same(a.value(), b.value(), count)
         }
         Role::Misplaced => false,
         Role::Unknown => b.raw_kind() == a.raw_kind() && a.value() == b.value(),

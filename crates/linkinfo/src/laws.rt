@@ -14,9 +14,10 @@ ghost use Rattle.linkinfo.specs.Walks.{LinkWalk, Moves, TagsByPlace, given, held
 ghost use Rattle.linkinfo.specs.declared.role.InForce.{InForce};
 ghost use Rattle.linkinfo.specs.declared.role.Role.TheVariants as role;
 
-use crate::families::{DataFamilies, families_lawful};
 use crate::link_info::LinkInfoOf;
 use crate::walk::LinkInfoItem;
+use linkinfo_data::DataFamilies;
+use linkinfo_data::laws::families_lawful;
 use linkinfo_table::LinkPeer;
 
 /// A string reads as it means: the attributes that it frames mean the values, each under the kinds in force before it; or, by `Frames` or

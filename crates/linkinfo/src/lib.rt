@@ -1,24 +1,20 @@
 //! The list of link info attributes: what stands inside `IFLA_LINKINFO`, with all names of the crates below.
 #![tactic(auto)]
 
-mod data;
-mod families;
-mod fits;
 mod item;
 pub mod laws;
 mod link_info;
 mod list;
-mod port_data;
-mod ports;
 mod role;
 mod walk;
 mod xstats;
 
-pub use data::InfoData;
-pub use data::InfoDataOf;
-pub use families::DataFamilies;
 pub use link_info::LinkInfo;
 pub use link_info::LinkInfoOf;
+pub use linkinfo_data::DataFamilies;
+pub use linkinfo_data::InfoData;
+pub use linkinfo_data::InfoDataOf;
+pub use linkinfo_data::InfoPortData;
 pub use linkinfo_devices::InfoVrf;
 pub use linkinfo_devices::InfoVrfPort;
 pub use linkinfo_devices::InfoXfrm;
@@ -147,7 +143,6 @@ pub use nla_frame::parse_u32_be;
 pub use nla_frame::parse_u64;
 pub use nla_frame::parse_u64_be;
 pub use nla_frame::without_nul;
-pub use port_data::InfoPortData;
 pub use walk::LinkInfoItem;
 pub use walk::LinkInfoWalk;
 pub use xstats::LinkXstats;

@@ -1,10 +1,7 @@
 //! Attributes of the list inside `IFLA_LINKINFO`, include/uapi/linux/if_link.h.
 
-use crate::data::InfoDataOf;
-use crate::families::DataFamilies;
-use crate::fits::fitting;
-use crate::port_data::InfoPortData;
 use crate::xstats::LinkXstats;
+use linkinfo_data::{DataFamilies, InfoDataOf, InfoPortData, fitting};
 use linkinfo_numbers::{InfoKind, InfoPortKind};
 use linkinfo_table::LinkPeer;
 use nla_frame::{Bytes, DefaultNla, Emitable, ExactEq, Nla};
@@ -84,12 +81,12 @@ impl<P: LinkPeer> Nla for LinkInfoOf<P> {
 
 impl<P: ExactEq> ExactEq for LinkInfoOf<P> {
     ghost use Rattle.linkinfo.specs.declared.link_info.LinkInfoOf.TheVariants as info;
-    ghost use Rattle.linkinfo.specs.Equal.{apart, under};
+    ghost use Rattle.linkinfo_data.specs.Equal.{apart, under};
     ghost use Rattle.linkinfo.specs.contracts.xstats.LinkXstatsExactEq.TheImpl.Laws.{exact-law as xstats_exact};
     ghost use Rattle.linkinfo_numbers.specs.contracts.kind.InfoKindExactEq.TheImpl.Laws.{exact-law as kind_exact};
-    ghost use Rattle.linkinfo.specs.DataEqual.{data_decides};
+    ghost use Rattle.linkinfo_data.specs.DataEqual.{data_decides};
     ghost use Rattle.linkinfo_numbers.specs.contracts.port_kind.InfoPortKindExactEq.TheImpl.Laws.{exact-law as port_kind_exact};
-    ghost use Rattle.linkinfo.specs.contracts.port_data.InfoPortDataExactEq.TheImpl.Laws.{exact-law as port_data_exact};
+    ghost use Rattle.linkinfo_data.specs.contracts.port_data.InfoPortDataExactEq.TheImpl.Laws.{exact-law as port_data_exact};
     ghost use Rattle.nla_frame.specs.contracts.default_nla.DefaultNlaExactEq.TheImpl.Laws.{exact-law as kept_exact};
 
     ghost exact = { elim [

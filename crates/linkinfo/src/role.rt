@@ -28,7 +28,7 @@ pub struct InForce {
 impl ExactEq for InForce {
     ghost use Rattle.std.specs.Prelude.{refl};
     ghost use Rattle.nla_frame.specs.Derived.{fields_decide, two_fields};
-    ghost use Rattle.linkinfo.specs.Equal.{option_decides};
+    ghost use Rattle.linkinfo_data.specs.Equal.{option_decides};
     ghost use Rattle.linkinfo_numbers.specs.contracts.names.KindTagExactEq.TheImpl.Laws.{exact-law as kind_exact};
     ghost use Rattle.linkinfo_numbers.specs.contracts.names.PortTagExactEq.TheImpl.Laws.{exact-law as port_exact};
 

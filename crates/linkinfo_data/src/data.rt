@@ -99,16 +99,16 @@ impl<P: LinkPeer> PayloadFamily<InfoDataOf<P>> for DataFamily {
 
     fn check(self, payload: &[u8], count: &mut HeaderCount) -> Result<(), DecodeError> {
         match self {
-            DataFamily::Lower(family) => <LowerFamily as PayloadFamily<InfoDataOf<P>>>::check(
+            DataFamily::Lower(family) => PayloadFamily::<InfoDataOf<P>>::check(
                 family, payload, count,
             ),
-            DataFamily::Device(family) => <DeviceFamily as PayloadFamily<InfoDataOf<P>>>::check(
+            DataFamily::Device(family) => PayloadFamily::<InfoDataOf<P>>::check(
                 family, payload, count,
             ),
-            DataFamily::Tunnel(family) => <TunnelFamily as PayloadFamily<InfoDataOf<P>>>::check(
+            DataFamily::Tunnel(family) => PayloadFamily::<InfoDataOf<P>>::check(
                 family, payload, count,
             ),
-            DataFamily::Peered(family) => <PeeredFamily as PayloadFamily<InfoDataOf<P>>>::check(
+            DataFamily::Peered(family) => PayloadFamily::<InfoDataOf<P>>::check(
                 family, payload, count,
             ),
             DataFamily::Raw => Ok(()),
@@ -117,18 +117,10 @@ impl<P: LinkPeer> PayloadFamily<InfoDataOf<P>> for DataFamily {
 
     fn same(self, a: &[u8], b: &[u8], count: &mut HeaderCount) -> bool {
         match self {
-            DataFamily::Lower(family) => <LowerFamily as PayloadFamily<InfoDataOf<P>>>::same(
-                family, a, b, count,
-            ),
-            DataFamily::Device(family) => <DeviceFamily as PayloadFamily<InfoDataOf<P>>>::same(
-                family, a, b, count,
-            ),
-            DataFamily::Tunnel(family) => <TunnelFamily as PayloadFamily<InfoDataOf<P>>>::same(
-                family, a, b, count,
-            ),
-            DataFamily::Peered(family) => <PeeredFamily as PayloadFamily<InfoDataOf<P>>>::same(
-                family, a, b, count,
-            ),
+            DataFamily::Lower(family) => PayloadFamily::<InfoDataOf<P>>::same(family, a, b, count),
+            DataFamily::Device(family) => PayloadFamily::<InfoDataOf<P>>::same(family, a, b, count),
+            DataFamily::Tunnel(family) => PayloadFamily::<InfoDataOf<P>>::same(family, a, b, count),
+            DataFamily::Peered(family) => PayloadFamily::<InfoDataOf<P>>::same(family, a, b, count),
             DataFamily::Raw => a == b,
         }
     }

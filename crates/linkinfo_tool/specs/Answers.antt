@@ -7,7 +7,7 @@ use Rattle.nla_frame.specs.Answers.{verdict}
 use Rattle.nla_frame.specs.Attribute.{Attribute, list_string}
 use Rattle.nla_frame.specs.Error.{error_text}
 use Rattle.nla_frame.specs.declared.error.DecodeError.{DecodeError}
-use Rattle.linkinfo.specs.BytesPeer.{bytes_peer}
+use Rattle.linkinfo_data.specs.BytesPeer.{bytes_peer}
 use Rattle.nla_frame.specs.declared.bytes.Bytes.{Bytes}
 use Rattle.linkinfo.specs.Comparing.{same_answer}
 use Rattle.linkinfo.specs.Items.{link_attribute}

@@ -4,7 +4,7 @@ ghost use Rattle.std.specs.Prelude.{◌≡◌, ◌≢◌, ◌++◌, [], ◌∷�
 ghost use Rattle.hex.specs.Hex.{encode_lower};
 ghost use Rattle.nla_frame.specs.Attribute.{ListFits, list_string};
 ghost use Rattle.nla_frame.specs.Error.{memory_fault};
-ghost use Rattle.linkinfo.specs.BytesPeer.{bytes_peer};
+ghost use Rattle.linkinfo_data.specs.BytesPeer.{bytes_peer};
 ghost use Rattle.linkinfo.specs.Items.{link_attribute};
 ghost use Rattle.linkinfo_tool.specs.Answers.{answer_of, bad_line, bytes_of, canon_answer, canonical_text, check_answer, comparison_answer, fault_text, line_answer, on_two, words_answer};
 ghost use Rattle.linkinfo_tool.specs.Lines.{words_of};

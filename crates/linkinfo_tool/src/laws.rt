@@ -6,7 +6,7 @@ ghost use Rattle.hex.specs.Hex.{IsBytes, encode_upper, is_hex_digit};
 ghost use Rattle.nla_frame.specs.Answers.{verdict};
 ghost use Rattle.nla_frame.specs.Attribute.{Attribute, ListFits};
 ghost use Rattle.nla_frame.specs.Error.{memory_fault};
-ghost use Rattle.linkinfo.specs.BytesPeer.{bytes_peer};
+ghost use Rattle.linkinfo_data.specs.BytesPeer.{bytes_peer};
 ghost use Rattle.linkinfo.specs.Comparing.{same_answer};
 ghost use Rattle.linkinfo.specs.Strings.{alike_strings, reading};
 ghost use Rattle.linkinfo_tool.specs.Answers.{answer_of, bad_line, bytes_of, canon_answer, check_answer, comparison_answer, line_answer, list_fits, word_of};

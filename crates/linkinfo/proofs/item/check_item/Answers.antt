@@ -11,7 +11,7 @@ use Rattle.linkinfo.specs.Items.{link_other, link_row}
 use Rattle.linkinfo.specs.Roles.{behind_role, none_in_force}
 use Rattle.linkinfo.proofs.Naming.{name_checked, with_name_ok}
 use Rattle.linkinfo.proofs.item.check_item.Goals as goal
-use Rattle.linkinfo.specs.PeerFamilies.{families_of}
+use Rattle.linkinfo_data.specs.PeerFamilies.{families_of}
 
 pub returns-in-Kind-clause-answer : goal.returns-in-Kind-clause-answer
 returns-in-Kind-clause-answer g c =

@@ -8,7 +8,7 @@ use Rattle.linkinfo.specs.declared.role.Role.{Role}
 use Rattle.linkinfo.specs.Items.{link_other, link_row}
 use Rattle.linkinfo.proofs.Naming.{named_ok, named_err, name_needs, not_both}
 use Rattle.linkinfo.proofs.item.read_item.Goals as goal
-use Rattle.linkinfo.specs.PeerFamilies.{families_of}
+use Rattle.linkinfo_data.specs.PeerFamilies.{families_of}
 
 pub returns-in_err-name_in-in-Kind-clause-answer : goal.returns-in_err-name_in-in-Kind-clause-answer
 returns-in_err-name_in-in-Kind-clause-answer g c =

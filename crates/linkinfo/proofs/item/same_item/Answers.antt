@@ -9,7 +9,7 @@ use Rattle.linkinfo.specs.declared.role.Role.{Role}
 use Rattle.linkinfo.specs.Items.{link_other, link_row}
 use Rattle.linkinfo.proofs.Naming.{accepted_name}
 use Rattle.linkinfo.proofs.item.same_item.Goals as goal
-use Rattle.linkinfo.specs.PeerFamilies.{families_of}
+use Rattle.linkinfo_data.specs.PeerFamilies.{families_of}
 
 pub shape_same-requires-clause-first : goal.shape_same-requires-clause-first
 shape_same-requires-clause-first g c =

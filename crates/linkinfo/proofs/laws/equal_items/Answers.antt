@@ -4,7 +4,7 @@ use Rattle.std.proofs.lemmas.Bool.Decides.{Decides-eqb}
 use Rattle.linkinfo_numbers.specs.contracts.names.KindTagExactEq.TheImpl.Laws.{exact-law as kind_exact}
 use Rattle.linkinfo_numbers.specs.contracts.names.PortTagExactEq.TheImpl.Laws.{exact-law as port_exact}
 use Rattle.nla_frame.specs.Derived.{fields_decide, two_fields}
-use Rattle.linkinfo.specs.Equal.{option_decides}
+use Rattle.linkinfo_data.specs.Equal.{option_decides}
 use Rattle.linkinfo.specs.Walks.{held}
 use Rattle.linkinfo.proofs.laws.equal_items.Goals as goal
 

@@ -4,7 +4,7 @@ use Rattle.linkinfo.specs.Items.{link_meaning}
 use Rattle.linkinfo.specs.Roles.{none_in_force}
 use Rattle.linkinfo.specs.Strings.{force_after, reading}
 use Rattle.linkinfo.proofs.laws.framed.Goals as goal
-use Rattle.linkinfo.specs.PeerFamilies.{families_of}
+use Rattle.linkinfo_data.specs.PeerFamilies.{families_of}
 
 pub returns-clause-means : goal.returns-clause-means
 unfolding reading

@@ -5,7 +5,7 @@ use Rattle.linkinfo.specs.Strings.{headers_from}
 use Rattle.linkinfo.specs.Walks.{left}
 use Rattle.linkinfo.proofs.Steps.{entered, stopped, checked_value, checked_fault, checked_on, checked_off}
 use Rattle.linkinfo.proofs.list.check_rest.Goals as goal
-use Rattle.linkinfo.specs.PeerFamilies.{families_of}
+use Rattle.linkinfo_data.specs.PeerFamilies.{families_of}
 
 pub returns-in_err-nla-clause-answer : goal.returns-in_err-nla-clause-answer
 returns-in_err-nla-clause-answer g c =

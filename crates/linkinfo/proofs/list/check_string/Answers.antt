@@ -1,6 +1,6 @@
 use Rattle.linkinfo.proofs.Whole.{checked_no_memory}
 use Rattle.linkinfo.proofs.list.check_string.Goals as goal
-use Rattle.linkinfo.specs.PeerFamilies.{families_of}
+use Rattle.linkinfo_data.specs.PeerFamilies.{families_of}
 use Rattle.linkinfo.specs.Strings.{reading}
 
 pub returns-clause-no_memory : goal.returns-clause-no_memory

@@ -4,7 +4,7 @@ use Rattle.linkinfo.specs.Strings.{headers_from}
 use Rattle.linkinfo.specs.Walks.{left}
 use Rattle.linkinfo.proofs.Steps.{entered, stopped, on_value, on_fault, on_fault_unless, counted_fault, headers_on, needs_off, value_needs}
 use Rattle.linkinfo.proofs.list.read_rest.Goals as goal
-use Rattle.linkinfo.specs.PeerFamilies.{families_of}
+use Rattle.linkinfo_data.specs.PeerFamilies.{families_of}
 
 pub returns-in_err-nla-clause-answer : goal.returns-in_err-nla-clause-answer
 returns-in_err-nla-clause-answer g c = let stop = stopped (families_of g.row.P g.P.LinkPeer) _ _ _ (rw c.in_err-nla.was at c.in-Some.ensures.step) in search rules

@@ -4,7 +4,7 @@ use Rattle.linkinfo_table.specs.Lists.{behind}
 use Rattle.linkinfo.specs.Strings.{headers_from, memory_from, values_from}
 use Rattle.linkinfo.specs.Walks.{left}
 use Rattle.linkinfo.proofs.list.read_rest.Given as goal
-use Rattle.linkinfo.specs.PeerFamilies.{families_of}
+use Rattle.linkinfo_data.specs.PeerFamilies.{families_of}
 
 abbrev pub invariant-loop-next : goal.invariant-loop-next
 invariant-loop-next g l =

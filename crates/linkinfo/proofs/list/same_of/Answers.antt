@@ -3,7 +3,7 @@ use Rattle.std.specs.Cmp.Lexicographic.{pointwise_decides}
 use Rattle.linkinfo.specs.contracts.link_info.LinkInfoOfExactEq.TheImpl.Laws as link
 use Rattle.linkinfo.proofs.Whole.{same_equal, same_answered, same_values}
 use Rattle.linkinfo.proofs.list.same_of.Goals as goal
-use Rattle.linkinfo.specs.PeerFamilies.{families_of}
+use Rattle.linkinfo_data.specs.PeerFamilies.{families_of}
 
 pub returns-clause-equal : goal.returns-clause-equal
 returns-clause-equal g c =

@@ -6,7 +6,7 @@ use Rattle.linkinfo.specs.declared.role.InForce.{InForce}
 use Rattle.linkinfo.specs.Strings.{values_from, headers_from, alike_from}
 use Rattle.linkinfo.proofs.Pairs.{paired, entered_is, apart, along, on_true}
 use Rattle.linkinfo.proofs.list.same_strings.Goals as goal
-use Rattle.linkinfo.specs.PeerFamilies.{families_of}
+use Rattle.linkinfo_data.specs.PeerFamilies.{families_of}
 
 pub same_item-requires-clause-first : goal.same_item-requires-clause-first
 same_item-requires-clause-first g c =

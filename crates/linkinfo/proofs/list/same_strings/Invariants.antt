@@ -4,7 +4,7 @@ use Rattle.nla_frame.specs.Pieces.{pieces}
 use Rattle.linkinfo.specs.Roles.{none_in_force}
 use Rattle.linkinfo.specs.Strings.{alike_from, headers_from, values_from}
 use Rattle.linkinfo.proofs.list.same_strings.Given as goal
-use Rattle.linkinfo.specs.PeerFamilies.{families_of}
+use Rattle.linkinfo_data.specs.PeerFamilies.{families_of}
 
 abbrev pub invariant-loop-next : goal.invariant-loop-next
 invariant-loop-next g l =

@@ -3,7 +3,7 @@ use Rattle.std.specs.Prelude.{◌≢◌}
 use Rattle.nla_frame.specs.Answers.{verdict}
 use Rattle.nla_frame.specs.Error.{memory_fault}
 use Rattle.nla_frame.specs.declared.error.DecodeError.{DecodeError}
-use Rattle.linkinfo.specs.BytesPeer.{bytes_peer}
+use Rattle.linkinfo_data.specs.BytesPeer.{bytes_peer}
 use Rattle.linkinfo.specs.Comparing.{same_answer}
 use Rattle.linkinfo.specs.Strings.{alike_strings, reading}
 use Rattle.linkinfo_tool.proofs.laws.no_memory.Goals as goal

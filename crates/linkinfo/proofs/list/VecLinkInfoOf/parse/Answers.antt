@@ -1,7 +1,7 @@
 use Rattle.std.proofs.Common.{arith}
 use Rattle.linkinfo.proofs.Whole.{reading_is_well, canonical_reading, appended_reading}
 use Rattle.linkinfo.proofs.list.VecLinkInfoOf.parse.Goals as goal
-use Rattle.linkinfo.specs.PeerFamilies.{families_of}
+use Rattle.linkinfo_data.specs.PeerFamilies.{families_of}
 
 pub returns-clause-well_formed : goal.returns-clause-well_formed
 returns-clause-well_formed g c = λ xs e. reading_is_well (families_of g.row.P g.P.LinkPeer) c.families_lawful.ensures c.args.bytes.now xs (λ i. omega (arith, c.type_inv.bytes i)) e

@@ -1,7 +1,7 @@
 use Rattle.std.proofs.Common.{rules, ◌≡◌, Ok, Err, List}
 use Rattle.nla_frame.specs.Answers.{Gives}
 use Rattle.nla_frame.specs.declared.bytes.Bytes.{Bytes}
-use Rattle.linkinfo.specs.BytesPeer.{bytes_peer}
+use Rattle.linkinfo_data.specs.BytesPeer.{bytes_peer}
 use Rattle.linkinfo.specs.Strings.{reading}
 use Rattle.linkinfo.specs.declared.link_info.LinkInfoOf.{LinkInfoOf}
 use Rattle.linkinfo_tool.proofs.answers.Answers.push_canon.Goals as goal

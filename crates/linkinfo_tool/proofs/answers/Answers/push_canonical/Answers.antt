@@ -1,6 +1,6 @@
 use Rattle.std.proofs.Common.{rules, ◌≡◌, ◌≢◌, length, map, ◌∙◌, sym}
 use Rattle.nla_frame.specs.Attribute.{list_string}
-use Rattle.linkinfo.specs.BytesPeer.{bytes_peer}
+use Rattle.linkinfo_data.specs.BytesPeer.{bytes_peer}
 use Rattle.linkinfo.specs.Items.{link_attribute}
 use Rattle.linkinfo_tool.proofs.Fits.{canonical_text-fits, canonical_text-unfit, word_of-none, word_of-some}
 use Rattle.linkinfo_tool.proofs.answers.Answers.push_canonical.Goals as goal
