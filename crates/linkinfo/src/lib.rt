@@ -1,4 +1,7 @@
-//! The list of link info attributes: what stands inside `IFLA_LINKINFO`, with all names of the crates below.
+//! The list of link info attributes: what stands inside `IFLA_LINKINFO`, include/uapi/linux/if_link.h.
+//!
+//! All names that a user needs are here, in four groups: for who reads, writes and compares lists; for who builds the data of a link; for who goes
+//! over attributes by hand; and for who writes a family of attributes, or a peer, of one's own.
 #![tactic(auto)]
 
 mod item;
@@ -9,140 +12,68 @@ mod role;
 mod walk;
 mod xstats;
 
-pub use link_info::LinkInfo;
-pub use link_info::LinkInfoOf;
-pub use linkinfo_data::DataFamilies;
-pub use linkinfo_data::InfoData;
-pub use linkinfo_data::InfoDataOf;
-pub use linkinfo_data::InfoPortData;
-pub use linkinfo_devices::InfoVrf;
-pub use linkinfo_devices::InfoVrfPort;
-pub use linkinfo_devices::InfoXfrm;
-pub use linkinfo_numbers::AmtMode;
-pub use linkinfo_numbers::ErSpanDir;
-pub use linkinfo_numbers::EthernetProtocol;
-pub use linkinfo_numbers::GeneveDf;
-pub use linkinfo_numbers::GreEncapFlags;
-pub use linkinfo_numbers::GreEncapType;
-pub use linkinfo_numbers::GreIOFlags;
-pub use linkinfo_numbers::GtpRole;
-pub use linkinfo_numbers::InfoKind;
-pub use linkinfo_numbers::InfoPortKind;
-pub use linkinfo_numbers::InfoRmNetFlags;
-pub use linkinfo_numbers::Ip6TunnelFlags;
-pub use linkinfo_numbers::IpProtocol;
-pub use linkinfo_numbers::IpVlanFlags;
-pub use linkinfo_numbers::IpVlanMode;
-pub use linkinfo_numbers::IpVtapFlags;
-pub use linkinfo_numbers::IpVtapMode;
-pub use linkinfo_numbers::IpoibMode;
-pub use linkinfo_numbers::KeepsEveryBit;
-pub use linkinfo_numbers::KindTag;
-pub use linkinfo_numbers::MacSecCipherId;
-pub use linkinfo_numbers::MacSecOffload;
-pub use linkinfo_numbers::MacSecValidate;
-pub use linkinfo_numbers::MacVlanFlags;
-pub use linkinfo_numbers::MacVlanMacAddressMode;
-pub use linkinfo_numbers::MacVlanMode;
-pub use linkinfo_numbers::MacVtapFlags;
-pub use linkinfo_numbers::MacVtapMacAddressMode;
-pub use linkinfo_numbers::MacVtapMode;
-pub use linkinfo_numbers::NetkitMode;
-pub use linkinfo_numbers::NetkitPolicy;
-pub use linkinfo_numbers::NetkitScrub;
-pub use linkinfo_numbers::PortTag;
-pub use linkinfo_numbers::RmNetFlags;
-pub use linkinfo_numbers::TunnelEncapFlags;
-pub use linkinfo_numbers::TunnelEncapType;
-pub use linkinfo_numbers::VxlanDf;
-pub use linkinfo_numbers::bits_again;
-pub use linkinfo_numbers::port_tag_of_name;
-pub use linkinfo_numbers::tag_of_name;
-pub use linkinfo_peers::BitPeer;
-pub use linkinfo_peers::InfoVeth;
-pub use linkinfo_peers::InfoVethOf;
-pub use linkinfo_table::Datum;
-pub use linkinfo_table::FlatFamily;
-pub use linkinfo_table::Found;
-pub use linkinfo_table::LinkFamily;
-pub use linkinfo_table::LinkPeer;
-pub use linkinfo_table::ListedFamily;
-pub use linkinfo_table::Lookup;
-pub use linkinfo_table::Part;
-pub use linkinfo_table::PeerFault;
-pub use linkinfo_table::RowFamily;
-pub use linkinfo_table::Shape;
-pub use linkinfo_table::UnnestedFamily;
-pub use linkinfo_table::datum_len;
-pub use linkinfo_table::first_check;
-pub use linkinfo_table::first_read;
-pub use linkinfo_table::first_same;
-pub use linkinfo_table::list_check;
-pub use linkinfo_table::list_read;
-pub use linkinfo_table::list_same;
-pub use linkinfo_table::read_datum;
-pub use linkinfo_table::row_check;
-pub use linkinfo_table::row_emit_value;
-pub use linkinfo_table::row_fit_len;
-pub use linkinfo_table::row_kind;
-pub use linkinfo_table::row_read;
-pub use linkinfo_table::row_same;
-pub use linkinfo_table::row_value_len;
-pub use linkinfo_table::shape_check;
-pub use linkinfo_table::shape_same;
-pub use linkinfo_table::table_lookup;
-pub use linkinfo_table::table_shape;
-pub use linkinfo_table::write_datum;
-pub use list::VecLinkInfo;
-pub use list::VecLinkInfoOf;
-pub use list::check;
-pub use list::check_counted;
-pub use list::check_counted_of;
-pub use list::check_of;
-pub use list::same;
-pub use list::same_counted;
-pub use list::same_counted_of;
-pub use list::same_of;
-pub use nla_frame::Bytes;
-pub use nla_frame::Cause;
-pub use nla_frame::DecodeError;
-pub use nla_frame::DefaultNla;
-pub use nla_frame::Emitable;
-pub use nla_frame::ExactEq;
-pub use nla_frame::Family;
-pub use nla_frame::HeaderCount;
-pub use nla_frame::Nla;
-pub use nla_frame::NlaBuffer;
-pub use nla_frame::Nlas;
-pub use nla_frame::NlasIterator;
-pub use nla_frame::Parseable;
-pub use nla_frame::ParseableParametrized;
-pub use nla_frame::Text;
-pub use nla_frame::emit_i32;
-pub use nla_frame::emit_nlas;
-pub use nla_frame::emit_u16;
-pub use nla_frame::emit_u16_be;
-pub use nla_frame::emit_u32;
-pub use nla_frame::emit_u32_be;
-pub use nla_frame::emit_u64;
-pub use nla_frame::emit_u64_be;
-pub use nla_frame::is_equal;
-pub use nla_frame::next_piece;
-pub use nla_frame::nlas_buffer_len;
-pub use nla_frame::nlas_fit_len;
-pub use nla_frame::parse_i32;
-pub use nla_frame::parse_ip;
-pub use nla_frame::parse_ipv4_addr;
-pub use nla_frame::parse_ipv6_addr;
-pub use nla_frame::parse_mac;
-pub use nla_frame::parse_u8;
-pub use nla_frame::parse_u16;
-pub use nla_frame::parse_u16_be;
-pub use nla_frame::parse_u32;
-pub use nla_frame::parse_u32_be;
-pub use nla_frame::parse_u64;
-pub use nla_frame::parse_u64_be;
-pub use nla_frame::without_nul;
-pub use walk::LinkInfoItem;
-pub use walk::LinkInfoWalk;
+// For who reads, writes and compares lists.
+pub use link_info::{LinkInfo, LinkInfoOf};
+pub use linkinfo_data::{InfoData, InfoDataOf, InfoPortData};
+pub use linkinfo_numbers::{
+    InfoKind, InfoPortKind, KindTag, PortTag, port_tag_of_name, tag_of_name,
+};
+pub use list::{
+    VecLinkInfo, VecLinkInfoOf, check, check_counted, check_counted_of, check_of, same,
+    same_counted, same_counted_of, same_of,
+};
+pub use nla_frame::{
+    Bytes, Cause, DecodeError, DefaultNla, Emitable, ExactEq, Family, HeaderCount, Nla, Nlas,
+    Parseable, ParseableParametrized, Text, emit_nlas, is_equal, nlas_buffer_len, nlas_fit_len,
+};
+pub use walk::{LinkInfoItem, LinkInfoWalk};
 pub use xstats::LinkXstats;
+
+// For who builds the data of a link or of a port: the attributes of each family, and their numbers and flags.
+pub use linkinfo_devices::{
+    InfoIpVlan, InfoIpVtap, InfoIpoib, InfoMacSec, InfoMacVlan, InfoMacVtap, InfoRmNet, InfoVrf,
+    InfoVrfPort, InfoXfrm,
+};
+pub use linkinfo_lower::{
+    InfoBond, InfoBondPort, InfoBridge, InfoBridgePort, InfoCan, InfoDsa, InfoHsr, InfoVlan,
+};
+pub use linkinfo_numbers::{
+    AmtMode, ErSpanDir, EthernetProtocol, GeneveDf, GreEncapFlags, GreEncapType, GreIOFlags,
+    GtpRole, InfoRmNetFlags, Ip6TunnelFlags, IpProtocol, IpVlanFlags, IpVlanMode, IpVtapFlags,
+    IpVtapMode, IpoibMode, KeepsEveryBit, MacSecCipherId, MacSecOffload, MacSecValidate,
+    MacVlanFlags, MacVlanMacAddressMode, MacVlanMode, MacVtapFlags, MacVtapMacAddressMode,
+    MacVtapMode, NetkitMode, NetkitPolicy, NetkitScrub, RmNetFlags, TunnelEncapFlags,
+    TunnelEncapType, VxlanDf, bits_again,
+};
+pub use linkinfo_peers::{
+    InfoBatAdv, InfoNetkit, InfoNetkitOf, InfoPfcp, InfoTeamPort, InfoTun, InfoVeth, InfoVethOf,
+    InfoVxcan, InfoVxcanOf, InfoWireguard, InfoWwan,
+};
+pub use linkinfo_tunnels::{
+    InfoAmt, InfoBareUdp, InfoGeneve, InfoGre, InfoGre6, InfoGtp, InfoIpTunnel, InfoVti, InfoVxlan,
+};
+
+// For who goes over attributes by hand: one attribute in a slice, an iterator, numbers and addresses in payloads.
+pub use nla_frame::{
+    NlaBuffer, NlasIterator, emit_i32, emit_u16, emit_u16_be, emit_u32, emit_u32_be, emit_u64,
+    emit_u64_be, next_piece, parse_i32, parse_ip, parse_ipv4_addr, parse_ipv6_addr, parse_mac,
+    parse_u8, parse_u16, parse_u16_be, parse_u32, parse_u32_be, parse_u64, parse_u64_be, put_frame,
+    without_nul,
+};
+
+// For who writes a family of attributes, or the peer of veth, vxcan and netkit links, of one's own.
+pub use linkinfo_data::DataFamilies;
+pub use linkinfo_peers::BitPeer;
+pub use linkinfo_table::{
+    Datum, FlatFamily, Found, LinkFamily, LinkPeer, ListedFamily, Lookup, Part, PeerFault,
+    RowFamily, RowlessFamily, Shape, UnnestedFamily, datum_len, first_check, first_read,
+    first_same, list_check, list_read, list_same, parts, read_datum, row_check, row_emit_value,
+    row_fit_len, row_kind, row_read, row_same, row_value_len, shape_check, shape_same,
+    table_lookup, table_shape, write_datum,
+};
+
+// What follows from the contracts, by layer: functions without code, each there for its contract. Those of the list are `laws`.
+pub use linkinfo_numbers::laws as number_laws;
+pub use linkinfo_shapes::laws as shape_laws;
+pub use linkinfo_table::laws as family_laws;
+pub use nla_frame::laws as frame_laws;
