@@ -1,6 +1,7 @@
 pub mod Items
 pub mod Naming
 pub mod Pairs
+pub mod Pfcp
 pub mod Places
 pub mod Steps
 pub mod Walking

@@ -19,6 +19,7 @@ use Rattle.linkinfo.specs.declared.role.Role.{Role}
 use Rattle.linkinfo.specs.declared.role.Role.TheVariants as role
 use Rattle.linkinfo.specs.declared.xstats.LinkXstats.TheVariants as xstats
 use Rattle.linkinfo_data.specs.Data.{data_of, family_of}
+use Rattle.linkinfo_data.specs.declared.data.DataFamily.{DataFamily}
 use Rattle.linkinfo_data.specs.InfoData.{data_attribute, data_payload}
 use Rattle.linkinfo_data.specs.Payloads.{payload_codec}
 use Rattle.linkinfo_data.specs.PortData.{port_data_attribute, port_data_of, port_data_payload, port_family_of}
@@ -38,11 +39,15 @@ link_attribute peer (info.Other nla) = attribute_of nla
 abbrev pub link_other : {P : Type 0} → DefaultNla → LinkInfoOf P
 link_other nla = info.Other nla
 
+-- data as attributes of a family
+abbrev pub data_row : {P : Type 0} → Families P → DataFamily → Row (LinkInfoOf P)
+data_row peer f = Is (record { codec = payload_codec (data_of peer f) (data_payload peer); label = λ d. info.Data d })
+
 -- Names are those of kinds, statistics are bytes, and data is read under the kind in force. What is misplaced is refused, and an unknown
 -- type is kept.
 abbrev pub link_row : {P : Type 0} → Families P → Role → Row (LinkInfoOf P)
 link_row peer role.Kind = Is (record { codec = shape_codec Name; label = λ name. info.Kind (kind_of_name name) })
-link_row peer (role.Data tag) = Is (record { codec = payload_codec (data_of peer (family_of tag)) (data_payload peer); label = λ d. info.Data d })
+link_row peer (role.Data tag) = data_row peer (family_of tag)
 link_row peer role.Xstats = Is (record { codec = shape_codec Raw; label = λ bytes. info.Xstats (xstats.Other bytes) })
 link_row peer role.PortKind = Is (record { codec = shape_codec Name; label = λ name. info.PortKind (port_kind_of_name name) })
 link_row peer (role.PortData tag) = Is (record { codec = payload_codec (port_data_of (port_family_of tag)) port_data_payload; label = λ d. info.PortData d })

@@ -1,3 +1,4 @@
+pub mod BeforePfcp
 pub mod Comparing
 pub mod Items
 pub mod LinkEqual

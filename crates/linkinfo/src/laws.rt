@@ -1,15 +1,16 @@
 //! Laws of the list, each the contract of a function without code.
 
-ghost use Rattle.std.specs.Prelude.{◌≡◌, ◌≢◌, ◌↔◌, ℕ, IsTrue, List, Some, Ok, Err};
+ghost use Rattle.std.specs.Prelude.{◌≡◌, ◌≢◌, ◌↔◌, ℕ, IsOk, IsTrue, List, Some, Ok, Err};
 ghost use Rattle.std.specs.Iterator.{Yields};
 ghost use Rattle.nla_frame.specs.Attribute.{Attribute};
 ghost use Rattle.nla_frame.specs.Error.{memory_fault};
 ghost use Rattle.nla_frame.specs.Kept.{kept};
 ghost use Rattle.nla_frame.specs.declared.error.DecodeError.{DecodeError};
 ghost use Rattle.linkinfo_table.specs.Readings.{IsDecided};
+ghost use Rattle.linkinfo.specs.BeforePfcp.{HasNoPfcpData, alike_strings_before, reading_before};
 ghost use Rattle.linkinfo.specs.Items.{link_meaning, link_other};
 ghost use Rattle.linkinfo.specs.Roles.{none_in_force, role_at};
-ghost use Rattle.linkinfo.specs.Strings.{IsFaulty, Means, MeansEach, force_behind_all, last_kind, last_port, reading};
+ghost use Rattle.linkinfo.specs.Strings.{IsFaulty, Means, MeansEach, alike_strings, force_behind_all, last_kind, last_port, reading};
 ghost use Rattle.linkinfo.specs.Walks.{LinkWalk, Moves, TagsByPlace, given, held, link_walk};
 ghost use Rattle.linkinfo.specs.declared.role.InForce.{InForce};
 ghost use Rattle.linkinfo.specs.declared.role.Role.TheVariants as role;
@@ -56,4 +57,15 @@ pub fn no_memory<P: LinkPeer>()
 /// `==` of two items of a walk answers true exactly where both hold the same, whatever the places that their values are borrowed from.
 pub fn equal_items()
     ensures { (a b : LinkInfoItem) → IsTrue (⟦<LinkInfoItem<'static> as PartialEq>⟧.eq a b) ↔ (held a ≡ held b) }
+{}
+
+/// What changed when `pfcp` gained a family, against the list as it was read when data under `pfcp` was bytes: every string that is accepted was
+/// accepted; and a string without data under `pfcp` has the same acceptance, value and fault, and is alike to the same strings.
+///
+/// A value of that time is moved by `InfoData::parse_with_param` on its payload under `InfoKind::Pfcp`.
+pub fn pfcp<P: LinkPeer>(bytes: &[u8])
+    ensures accepted { IsOk (reading ⟦<P as DataFamilies>⟧.families bytes.now) → IsOk (reading_before ⟦<P as DataFamilies>⟧.families bytes.now) }
+    ensures elsewhere { HasNoPfcpData bytes.now → reading ⟦<P as DataFamilies>⟧.families bytes.now ≡ reading_before ⟦<P as DataFamilies>⟧.families bytes.now }
+    ensures alike { HasNoPfcpData bytes.now → (other : List ℕ) → alike_strings ⟦<P as DataFamilies>⟧.families bytes.now other ≡ alike_strings_before ⟦<P as DataFamilies>⟧.families bytes.now other }
+    ensures alike_to { HasNoPfcpData bytes.now → (other : List ℕ) → alike_strings ⟦<P as DataFamilies>⟧.families other bytes.now ≡ alike_strings_before ⟦<P as DataFamilies>⟧.families other bytes.now }
 {}

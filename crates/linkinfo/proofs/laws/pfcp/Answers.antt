@@ -1,0 +1,23 @@
+use Rattle.nla_frame.specs.Pieces.{pieces}
+use Rattle.linkinfo.specs.BeforePfcp.{HasNoPfcpData, alike_strings_before, reading_before}
+use Rattle.linkinfo.specs.Roles.{none_in_force}
+use Rattle.linkinfo.specs.Strings.{alike_strings, reading}
+use Rattle.linkinfo.proofs.Pfcp.{accepted_before, alike_first, alike_second, read_before}
+use Rattle.linkinfo.proofs.laws.pfcp.Goals as goal
+use Rattle.linkinfo_data.specs.PeerFamilies.{families_of}
+
+pub returns-clause-accepted : goal.returns-clause-accepted
+unfolding reading reading_before
+returns-clause-accepted g c = λ e. accepted_before (families_of g.row.P g.P.LinkPeer) none_in_force (pieces c.args.bytes.now) e
+
+pub returns-clause-elsewhere : goal.returns-clause-elsewhere
+unfolding reading reading_before HasNoPfcpData
+returns-clause-elsewhere g c = λ e. read_before (families_of g.row.P g.P.LinkPeer) none_in_force (pieces c.args.bytes.now) e
+
+pub returns-clause-alike : goal.returns-clause-alike
+unfolding alike_strings alike_strings_before HasNoPfcpData
+returns-clause-alike g c = λ e other. alike_first (families_of g.row.P g.P.LinkPeer) none_in_force (pieces c.args.bytes.now) (pieces other) e
+
+pub returns-clause-alike_to : goal.returns-clause-alike_to
+unfolding alike_strings alike_strings_before HasNoPfcpData
+returns-clause-alike_to g c = λ e other. alike_second (families_of g.row.P g.P.LinkPeer) none_in_force (pieces other) (pieces c.args.bytes.now) e
