@@ -1,8 +1,6 @@
 //! Which family the data of a kind has, and data read, checked and compared by it.
 
 ghost use Rattle.std.specs.Prelude.{◌≡◌};
-ghost use Rattle.nla_frame.specs.Answers.{CertainUnless, Gives};
-ghost use Rattle.linkinfo_numbers.specs.Kind.{tag_of_kind};
 ghost use Rattle.linkinfo_data.specs.Data.{data_of, family_of};
 
 use crate::devices::DeviceFamily;
@@ -12,7 +10,7 @@ use crate::lower::LowerFamily;
 use crate::payload_family::PayloadFamily;
 use crate::peers::PeeredFamily;
 use crate::tunnels::TunnelFamily;
-use linkinfo_numbers::{InfoKind, KindTag};
+use linkinfo_numbers::KindTag;
 use linkinfo_table::LinkPeer;
 use nla_frame::{Bytes, DecodeError, HeaderCount};
 use std::alloc::Global;
@@ -123,24 +121,5 @@ impl<P: LinkPeer> PayloadFamily<InfoDataOf<P>> for DataFamily {
             DataFamily::Peered(family) => PayloadFamily::<InfoDataOf<P>>::same(family, a, b, count),
             DataFamily::Raw => a == b,
         }
-    }
-}
-
-impl<P: LinkPeer> InfoDataOf<P> {
-    /// Reads a payload as data of a kind: as the attributes of its family, or as bytes where it has none, as under
-    /// `InfoKind::Other` whatever its text. Of the data of veth and vxcan the first attribute alone is read.
-    ///
-    /// The fault is that of the first attribute in byte order that has no header or no meaning. An answer other than
-    /// (Frame, 0, Memory) is what the payload means.
-    pub fn parse_with_param(
-        alloc: Global,
-        payload: &[u8],
-        kind: &InfoKind,
-    ) -> Result<InfoDataOf<P>, DecodeError>
-        ensures answer { Gives (λ value. value) result ((data_of ⟦<P as DataFamilies>⟧.families (family_of (tag_of_kind kind.now))).means payload.now) }
-        ensures certain { CertainUnless ((data_of ⟦<P as DataFamilies>⟧.families (family_of (tag_of_kind kind.now))).needs_memory payload.now) (λ value. value) result ((data_of ⟦<P as DataFamilies>⟧.families (family_of (tag_of_kind kind.now))).means payload.now) }
-    {
-        let mut count = HeaderCount::new();
-        family_of(kind.tag()).read(alloc, payload, &mut count)
     }
 }

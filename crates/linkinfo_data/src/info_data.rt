@@ -1,13 +1,20 @@
 //! The data of a link: `IFLA_INFO_DATA`, include/uapi/linux/if_link.h.
 
+ghost use Rattle.nla_frame.specs.Answers.{CertainUnless, Gives};
+ghost use Rattle.linkinfo_numbers.specs.Kind.{tag_of_kind};
+ghost use Rattle.linkinfo_data.specs.Data.{data_of, family_of};
+
+use crate::data::family_of;
 use crate::families::DataFamilies;
 use crate::fits::fitting;
+use crate::payload_family::PayloadFamily;
 use crate::written::{emit_list, emit_one, list_fit_len, list_len, one_fit_len, one_len};
 use linkinfo_devices::{
     InfoIpVlan, InfoIpVtap, InfoIpoib, InfoMacSec, InfoMacVlan, InfoMacVtap, InfoRmNet, InfoVrf,
     InfoXfrm,
 };
 use linkinfo_lower::{InfoBond, InfoBridge, InfoCan, InfoDsa, InfoHsr, InfoVlan};
+use linkinfo_numbers::InfoKind;
 use linkinfo_peers::{
     InfoBatAdv, InfoNetkitOf, InfoPfcp, InfoTun, InfoVethOf, InfoVxcanOf, InfoWireguard, InfoWwan,
 };
@@ -15,7 +22,8 @@ use linkinfo_table::LinkPeer;
 use linkinfo_tunnels::{
     InfoAmt, InfoBareUdp, InfoGeneve, InfoGre, InfoGre6, InfoGtp, InfoIpTunnel, InfoVti, InfoVxlan,
 };
-use nla_frame::{Bytes, ExactEq, Nla, Nlas};
+use nla_frame::{Bytes, DecodeError, ExactEq, HeaderCount, Nla, Nlas};
+use std::alloc::Global;
 
 /// `IFLA_INFO_DATA`.
 const IFLA_INFO_DATA: u16 = 2;
@@ -101,6 +109,25 @@ pub enum InfoDataOf<P> {
 
 /// The data of a link, with peers kept as bytes.
 pub type InfoData = InfoDataOf<Bytes>;
+
+impl<P: LinkPeer> InfoDataOf<P> {
+    /// Reads a payload as data of a kind: as the attributes of its family, or as bytes where it has none, as under
+    /// `InfoKind::Other` whatever its text. Of the data of veth and vxcan the first attribute alone is read.
+    ///
+    /// The fault is that of the first attribute in byte order that has no header or no meaning. An answer other than
+    /// (Frame, 0, Memory) is what the payload means.
+    pub fn parse_with_param(
+        alloc: Global,
+        payload: &[u8],
+        kind: &InfoKind,
+    ) -> Result<InfoDataOf<P>, DecodeError>
+        ensures answer { Gives (λ value. value) result ((data_of ⟦<P as DataFamilies>⟧.families (family_of (tag_of_kind kind.now))).means payload.now) }
+        ensures certain { CertainUnless ((data_of ⟦<P as DataFamilies>⟧.families (family_of (tag_of_kind kind.now))).needs_memory payload.now) (λ value. value) result ((data_of ⟦<P as DataFamilies>⟧.families (family_of (tag_of_kind kind.now))).means payload.now) }
+    {
+        let mut count = HeaderCount::new();
+        family_of(kind.tag()).read(alloc, payload, &mut count)
+    }
+}
 
 /// Matches data, each variant once: by `$list` where it holds a list of attributes, by `$first` where it holds one, and by `$bytes`.
 macro_rules! of_data {
