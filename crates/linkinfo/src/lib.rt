@@ -1,6 +1,7 @@
 //! The list of link info attributes: what stands inside `IFLA_LINKINFO`, with all names of the crates below.
 #![tactic(auto)]
 
+mod collection;
 mod data;
 mod families;
 mod fits;
@@ -122,6 +123,7 @@ pub use nla_frame::NlasIterator;
 pub use nla_frame::Parseable;
 pub use nla_frame::ParseableParametrized;
 pub use nla_frame::Text;
+pub use nla_frame::ToVecError;
 pub use nla_frame::emit_i32;
 pub use nla_frame::emit_nlas;
 pub use nla_frame::emit_u16;
@@ -134,6 +136,7 @@ pub use nla_frame::is_equal;
 pub use nla_frame::next_piece;
 pub use nla_frame::nlas_buffer_len;
 pub use nla_frame::nlas_fit_len;
+pub use nla_frame::nlas_to_vec;
 pub use nla_frame::parse_i32;
 pub use nla_frame::parse_ip;
 pub use nla_frame::parse_ipv4_addr;

@@ -114,7 +114,8 @@ fn check_string<P: LinkPeer>(bytes: &[u8], count: &mut HeaderCount) -> Result<()
 
 /// The attributes inside `IFLA_LINKINFO`, include/uapi/linux/if_link.h, with peers of type `P`.
 ///
-/// The list is emitted with `nlas_fit_len`, `nlas_buffer_len` and `emit_nlas` of its items.
+/// It is made of a `Vec` by `From`, gone over by `iter` or a `for`, and written by `to_vec`; into a buffer that is there already, by
+/// `nlas_fit_len`, `nlas_buffer_len` and `emit_nlas` of `as_slice`.
 #[derive(Debug, PartialEq, Eq, Clone, Drop)]
 pub struct VecLinkInfoOf<P>(pub Nlas<LinkInfoOf<P>>);
 
