@@ -1,6 +1,6 @@
 //! The list as a collection of its attributes: made from them, gone over, and written.
 
-ghost use Rattle.std.specs.Prelude.{◌≡◌, ◌↔◌, ◌^◌, ◌<◌, [], Err, IfOk, IsOk, IsTrue, length, map};
+ghost use Rattle.std.specs.Prelude.{◌≡◌, ◌↔◌, ◌^◌, ◌<◌, [], Err, IfOk, IsOk, OnOk, IsTrue, length, map};
 ghost use Rattle.std.specs.Iterator.Adapters.{IterYieldsInOrder, IterYieldsInReverse};
 ghost use Rattle.std.specs.Slice.Iter.{iter_rest};
 ghost use Rattle.nla_frame.specs.Attribute.{ListFits, list_string};
@@ -67,7 +67,7 @@ impl<P: LinkPeer> VecLinkInfoOf<P> {
     /// ```
     pub fn to_vec(&self, alloc: Global) -> Result<Vec<u8>, ToVecError>
         ensures string { IfOk result (λ bytes. bytes.items ≡ list_string (map (link_attribute ⟦<P as DataFamilies>⟧.families) self.now.0)) }
-        ensures fits { IsOk result → ListFits (map (link_attribute ⟦<P as DataFamilies>⟧.families) self.now.0) }
+        ensures fits { OnOk result (ListFits (map (link_attribute ⟦<P as DataFamilies>⟧.families) self.now.0)) }
         ensures unfit { (result ≡ Err refused.Unfit) ↔ ¬ ListFits (map (link_attribute ⟦<P as DataFamilies>⟧.families) self.now.0) }
         ensures certain { self.now.0 ≡ [] → IsOk result }
     {

@@ -1,6 +1,6 @@
 //! The canonical string of a list, in one call.
 
-ghost use Rattle.std.specs.Prelude.{◌≡◌, ◌↔◌, [], Err, IfOk, IsOk, map};
+ghost use Rattle.std.specs.Prelude.{◌≡◌, ◌↔◌, [], Err, IfOk, IsOk, OnOk, map};
 ghost use Rattle.nla_frame.specs.Attribute.{ListFits, list_string};
 ghost use Rattle.nla_frame.specs.Error.{to_vec_error_name};
 ghost use Rattle.nla_frame.specs.declared.to_vec.ToVecError.TheVariants as refused;
@@ -62,7 +62,7 @@ impl ExactEq for ToVecError {
 /// ```
 pub fn nlas_to_vec<T: Nla>(alloc: Global, items: &[T]) -> Result<Vec<u8>, ToVecError>
     ensures string { IfOk result (λ bytes. bytes.items ≡ list_string (map T.attribute items.now)) }
-    ensures fits { IsOk result → ListFits (map T.attribute items.now) }
+    ensures fits { OnOk result (ListFits (map T.attribute items.now)) }
     ensures unfit { (result ≡ Err refused.Unfit) ↔ ¬ ListFits (map T.attribute items.now) }
     ensures certain { items.now ≡ [] → IsOk result }
 {
