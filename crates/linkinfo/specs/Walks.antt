@@ -1,5 +1,5 @@
 -- Going over the attributes of a list with the kinds in force before each.
-use Rattle.std.specs.Prelude.{◌≡◌, ◌≤◌, ℕ, ◌+◌, ◌*◌, min, Bool, true, false, if◌then◌else◌, List, [], ◌∷◌, length, map, slice_range, Option, Some, None, Result, Ok, Err}
+use Rattle.std.specs.Prelude.{◌≡◌, ◌≤◌, ℕ, ◌+◌, ◌*◌, min, false, if◌then◌else◌, List, [], ◌∷◌, length, map, slice_range, Option, Some, None, is_some, unwrap_or, Result, Ok, Err}
 use Rattle.std.specs.Iterator.{YieldsFirst}
 use Rattle.nla_frame.specs.Attribute.{Attribute, IsAttribute, aligned}
 use Rattle.nla_frame.specs.Error.{header_fault}
@@ -14,19 +14,23 @@ use Rattle.linkinfo.specs.declared.walk.LinkInfoItem.{LinkInfoItem}
 use Rattle.linkinfo.specs.Roles.{behind, none_in_force, role_at}
 use Rattle.linkinfo.specs.Strings.{last_kind, last_port}
 
--- the attributes that are gone over, the kinds in force before the next one, and whether a fault was met
+-- the attributes that are gone over, the kinds in force before the next one, and where the attribute at fault begins, once a fault was met
 pub record LinkWalk : Type 0 where
   pub attributes : Walk
   pub force : InForce
-  pub failed : Bool
+  pub fault : Option ℕ
 
 -- before the first attribute of a string
 abbrev pub link_walk : List ℕ → LinkWalk
-link_walk s = record { attributes = record { source = s; place = 0; examined = 0; failed = false }; force = none_in_force; failed = false }
+link_walk s = record { attributes = record { source = s; place = 0; examined = 0; failed = false }; force = none_in_force; fault = None }
 
 -- the bytes that it has not gone over
 abbrev pub left : LinkWalk → List ℕ
-left w = if w.failed then [] else unread w.attributes
+left w = if is_some w.fault then [] else unread w.attributes
+
+-- where the next header is looked for, or where the attribute at fault begins
+abbrev pub place_of : LinkWalk → ℕ
+place_of w = unwrap_or w.fault w.attributes.place
 
 -- an attribute is an item, and the walk goes on behind it, where it has no fault of its own
 abbrev pub item_or_fault : Attribute → Result InForce DecodeError → (InForce → List (Result Attribute DecodeError)) → List (Result Attribute DecodeError)
@@ -45,7 +49,7 @@ items_left w = walk_items w.force (pieces (left w))
 
 -- where the header behind an attribute is looked for: after its padding, or at the end
 abbrev pub next_place : LinkWalk → Attribute → ℕ
-next_place s a = min (length s.attributes.source) (s.attributes.place + aligned (4 + length a.value))
+next_place s a = min (length s.attributes.source) (place_of s + aligned (4 + length a.value))
 
 -- One step: an attribute without a fault of its own, ..
 pub record Enters (s : LinkWalk) (a : Attribute) (r : Role) (t : LinkWalk) : Type 0 where
@@ -53,8 +57,8 @@ pub record Enters (s : LinkWalk) (a : Attribute) (r : Role) (t : LinkWalk) : Typ
   pub attribute : IsAttribute a
   pub role : r ≡ role_at s.force a
   pub behind : behind s.force a ≡ Ok t.force
-  pub value_is : a.value ≡ slice_range s.attributes.source (s.attributes.place + 4) (s.attributes.place + (4 + length a.value))
-  pub place : t.attributes.place ≡ next_place s a
+  pub value_is : a.value ≡ slice_range s.attributes.source (place_of s + 4) (place_of s + (4 + length a.value))
+  pub place : place_of t ≡ next_place s a
   pub examined : t.attributes.examined ≡ s.attributes.examined + 1
   pub room : length (left t) + (4 + length a.value) ≤ length (left s)
 
@@ -67,7 +71,7 @@ FaultOf t ((Ok a) ∷ more) e n = (behind t a ≡ Err e) × (n ≡ 1)
 pub record Stops (s : LinkWalk) (e : DecodeError) (t : LinkWalk) : Type 0 where
   pub seen : ℕ
   pub fault : FaultOf s.force (pieces (left s)) e seen
-  pub failed : t.failed ≡ true
+  pub at : t.fault ≡ Some (place_of s)
   pub force : t.force ≡ s.force
   pub examined : t.attributes.examined ≡ s.attributes.examined + seen
   pub room : 4 * seen ≤ length (left s)
@@ -94,18 +98,18 @@ item_of_answers (Some r) = Some (item_of_answer r)
 -- An item is the slice of the source at its place, with the kinds in force before it. Behind it those are in force that it leaves, and the next
 -- header is looked for after its padding, or at the end.
 pub record ItemAt (s : LinkWalk) (item : LinkInfoItem) (t : LinkWalk) : Type 0 where
-  pub place : item.place ≡ s.attributes.place
+  pub place : item.place ≡ place_of s
   pub value_is : item.value.now ≡ slice_range s.attributes.source (item.place + 4) (item.place + (4 + length item.value.now))
   pub kind_tag : item.kind_tag ≡ s.force.kind
   pub port_tag : item.port_tag ≡ s.force.port
   pub behind : behind s.force (attribute_of_item item) ≡ Ok t.force
-  pub passes : t.attributes.place ≡ next_place s (attribute_of_item item)
+  pub passes : place_of t ≡ next_place s (attribute_of_item item)
 
--- a fault leaves the kinds in force as they are, and the end leaves everything
+-- a fault is that of the attribute where the walk stands, and leaves the kinds in force as they are; the end leaves everything
 abbrev pub Holds : LinkWalk → Option (Result LinkInfoItem DecodeError) → LinkWalk → Type 0
 Holds s None t = t ≡ s
 Holds s (Some (Ok item)) t = ItemAt s item t
-Holds s (Some (Err e)) t = (t.failed ≡ true) × (t.force ≡ s.force)
+Holds s (Some (Err e)) t = (t.fault ≡ Some (place_of s)) × (t.force ≡ s.force)
 
 -- the headers that a step looks at
 abbrev pub seen_of : Option (Result LinkInfoItem DecodeError) → LinkWalk → ℕ → Type 0

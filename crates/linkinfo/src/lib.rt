@@ -4,6 +4,7 @@
 //! over attributes by hand; and for who writes a family of attributes, or a peer, of one's own.
 #![tactic(auto)]
 
+mod collection;
 mod item;
 pub mod laws;
 mod link_info;
@@ -24,7 +25,8 @@ pub use list::{
 };
 pub use nla_frame::{
     Bytes, Cause, DecodeError, DefaultNla, Emitable, ExactEq, Family, HeaderCount, Nla, Nlas,
-    Parseable, ParseableParametrized, Text, emit_nlas, is_equal, nlas_buffer_len, nlas_fit_len,
+    Parseable, ParseableParametrized, Text, ToVecError, emit_nlas, is_equal, nlas_buffer_len,
+    nlas_fit_len, nlas_to_vec,
 };
 pub use walk::{LinkInfoItem, LinkInfoWalk};
 pub use xstats::LinkXstats;

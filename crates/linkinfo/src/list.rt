@@ -1,12 +1,15 @@
-//! The list inside `IFLA_LINKINFO`: read, checked and compared.
+//! The list inside `IFLA_LINKINFO`: read, checked, compared and written.
 
 ghost use Rattle.std.specs.Prelude.{◌≡◌, ◌≢◌, ◌↔◌, ◌+◌, ◌*◌, ◌/◌, ◌<◌, ◌≤◌, ◌^◌, IsOk, IsTrue, length};
 ghost use Rattle.std.specs.Bool.{OnTrue};
 ghost use Rattle.nla_frame.specs.Answers.{CertainUnless, Gives, OnAnswer, verdict};
 ghost use Rattle.nla_frame.specs.Error.{memory_fault};
 ghost use Rattle.nla_frame.specs.Pieces.{pieces};
-ghost use Rattle.nla_frame.specs.Attribute.{Fits, list_string};
-ghost use Rattle.std.specs.Prelude.{ℕ, List, ◌++◌, ◌%◌, map, Err, IfOk, Ok};
+ghost use Rattle.nla_frame.specs.Attribute.{Fits, ListFits, list_string};
+ghost use Rattle.nla_frame.specs.declared.to_vec.ToVecError.TheVariants as refused;
+ghost use Rattle.std.specs.Iterator.Adapters.{IterYieldsInOrder, IterYieldsInReverse};
+ghost use Rattle.std.specs.Slice.Iter.{iter_rest};
+ghost use Rattle.std.specs.Prelude.{ℕ, List, [], ◌++◌, ◌%◌, map, Err, IfOk, Ok, OnOk};
 ghost use Rattle.std.specs.List.{AllByRecursion};
 ghost use Rattle.linkinfo_data.specs.BytesPeer.{bytes_peer};
 ghost use Rattle.linkinfo.specs.Comparing.{same_answer, same_counts};
@@ -22,8 +25,11 @@ use crate::walk::LinkInfoWalk;
 use linkinfo_data::DataFamilies;
 use linkinfo_data::laws::families_lawful;
 use linkinfo_table::LinkPeer;
-use nla_frame::{Bytes, DecodeError, ExactEq, HeaderCount, Nlas, next_piece};
+use nla_frame::{
+    Bytes, DecodeError, ExactEq, HeaderCount, Nlas, ToVecError, next_piece, nlas_to_vec,
+};
 use std::alloc::Global;
+use std::slice;
 
 /// Reads the attributes that a walk has not gone over. The headers that the walk looks at are not counted here.
 
@@ -115,7 +121,8 @@ fn check_string<P: LinkPeer>(bytes: &[u8], count: &mut HeaderCount) -> Result<()
 
 /// The attributes inside `IFLA_LINKINFO`, include/uapi/linux/if_link.h, with peers of type `P`.
 ///
-/// The list is emitted with `nlas_fit_len`, `nlas_buffer_len` and `emit_nlas` of its items.
+/// It is made of a `Vec` by `From`, gone over by `iter` or a `for`, and written by `to_vec`; into a buffer that is there already, by
+/// `nlas_fit_len`, `nlas_buffer_len` and `emit_nlas` of `as_slice`.
 #[derive(Debug, PartialEq, Eq, Clone, Drop)]
 pub struct VecLinkInfoOf<P>(pub Nlas<LinkInfoOf<P>>);
 
@@ -129,6 +136,46 @@ impl<P: ExactEq> ExactEq for VecLinkInfoOf<P> {
     ghost use Rattle.linkinfo.specs.LinkEqual.{link_decides};
 
     ghost exact = { fields_decide (λ list. list.0) (λ items. record { 0 = items }) (λ list. refl) (pointwise_decides (link_decides P.ExactEq P.PartialEq)) };
+}
+
+impl<P> VecLinkInfoOf<P> {
+    /// The `Vec` that holds the attributes.
+    pub fn into_vec(self) -> Vec<LinkInfoOf<P>>
+        ensures { result.items ≡ self.0 }
+    {
+        self.0.into_vec()
+    }
+
+    /// The attributes.
+    pub fn as_slice(&self) -> &[LinkInfoOf<P>]
+        ensures { result.now ≡ self.now.0 }
+    {
+        self.0.as_slice()
+    }
+
+    /// Goes over the attributes in order, borrowed.
+    pub fn iter(&self) -> slice::Iter<'_, LinkInfoOf<P>>
+        ensures rest { iter_rest result ≡ self.now.0 }
+        ensures bound { length (iter_rest result) < 2 ^ 64 }
+        ensures runs { IterYieldsInOrder (LinkInfoOf P) }
+        ensures runs_back { IterYieldsInReverse (LinkInfoOf P) }
+    {
+        self.0.iter()
+    }
+
+    /// How many attributes there are.
+    pub fn len(&self) -> usize
+        ensures { result ≡ length self.now.0 }
+    {
+        self.0.len()
+    }
+
+    /// Whether there are none.
+    pub fn is_empty(&self) -> bool
+        ensures { IsTrue result ↔ (self.now.0 ≡ []) }
+    {
+        self.0.is_empty()
+    }
 }
 
 impl<P: LinkPeer> VecLinkInfoOf<P> {
@@ -176,6 +223,24 @@ impl<P: LinkPeer> VecLinkInfoOf<P> {
         families_lawful::<P>();
         let mut count = HeaderCount::new();
         VecLinkInfoOf::parse_counted(alloc, bytes, &mut count)
+    }
+
+    /// The canonical string of the list.
+    ///
+    /// Refused as `Unfit` exactly where the list does not fit, before any memory is asked for, and as `Memory` where an allocation was
+    /// refused. The empty list takes no memory.
+    ///
+    /// ```text
+    /// let list = VecLinkInfo::from(vec![in alloc; LinkInfo::Kind(InfoKind::Xfrm)]?);
+    /// let bytes = list.to_vec(alloc)?;
+    /// ```
+    pub fn to_vec(&self, alloc: Global) -> Result<Vec<u8>, ToVecError>
+        ensures string { IfOk result (λ bytes. bytes.items ≡ list_string (map (link_attribute ⟦<P as DataFamilies>⟧.families) self.now.0)) }
+        ensures fits { OnOk result (ListFits (map (link_attribute ⟦<P as DataFamilies>⟧.families) self.now.0)) }
+        ensures unfit { (result ≡ Err refused.Unfit) ↔ ¬ ListFits (map (link_attribute ⟦<P as DataFamilies>⟧.families) self.now.0) }
+        ensures certain { self.now.0 ≡ [] → IsOk result }
+    {
+        nlas_to_vec(alloc, self.as_slice())
     }
 }
 

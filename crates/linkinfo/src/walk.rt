@@ -2,7 +2,7 @@
 
 ghost use Rattle.std.specs.Prelude.{◌≡◌, ◌*◌, ◌≤◌, length};
 ghost use Rattle.std.specs.Iterator.{item_count};
-ghost use Rattle.linkinfo.specs.Walks.{Advances, Moves, items_left, link_walk};
+ghost use Rattle.linkinfo.specs.Walks.{Advances, Moves, items_left, link_walk, place_of};
 
 use crate::role::{InForce, Role, behind, role_of};
 use linkinfo_numbers::{KindTag, PortTag};
@@ -32,7 +32,8 @@ pub struct LinkInfoItem<'a> {
 pub struct LinkInfoWalk<'a> {
     attributes: NlasIterator<'a>,
     force: InForce,
-    failed: bool,
+    /// Where the attribute at fault stands, once a fault was met.
+    fault: Option<usize>,
 }
 
 impl<'a> Model for LinkInfoWalk<'a> {
@@ -40,9 +41,9 @@ impl<'a> Model for LinkInfoWalk<'a> {
 
     ghost Value = { LinkWalk };
 
-    ghost view = { λ w. record { attributes = w.attributes; force = w.force; failed = w.failed } };
+    ghost view = { λ w. record { attributes = w.attributes; force = w.force; fault = w.fault } };
 
-    ghost inverse = { λ w. record { attributes = w.attributes; force = w.force; failed = w.failed } };
+    ghost inverse = { λ w. record { attributes = w.attributes; force = w.force; fault = w.fault } };
 }
 
 impl<'a> LinkInfoWalk<'a> {
@@ -53,7 +54,7 @@ impl<'a> LinkInfoWalk<'a> {
         LinkInfoWalk {
             attributes: NlasIterator::new(bytes),
             force: InForce::none(),
-            failed: false,
+            fault: None,
         }
     }
 
@@ -65,14 +66,26 @@ impl<'a> LinkInfoWalk<'a> {
         self.attributes.examined()
     }
 
+    /// Where the walk stands, in bytes from the front of the list: where the next header is looked for; the number of bytes after the last
+    /// attribute; after a fault where the attribute at fault begins.
+    pub fn place(&self) -> usize
+        ensures { result ≡ place_of self.now }
+    {
+        match self.fault {
+            Some(place) => place,
+            None => self.attributes.place(),
+        }
+    }
+
     /// The next attribute, with its role under the kinds in force before it.
     pub(crate) fn advance(&mut self) -> Option<Result<(NlaBuffer<'a>, Role), DecodeError>>
         ensures step { Advances self.old result self.new }
         ensures source { self.new.attributes.source ≡ self.old.attributes.source }
     {
-        if self.failed {
+        if self.fault.is_some() {
             return None;
         }
+        let place = self.attributes.place();
         match self.attributes.next()? {
             Ok(nla) => {
                 let role = role_of(self.force, nla.kind());
@@ -82,13 +95,13 @@ impl<'a> LinkInfoWalk<'a> {
                         Some(Ok((nla, role)))
                     }
                     Err(fault) => {
-                        self.failed = true;
+                        self.fault = Some(place);
                         Some(Err(fault))
                     }
                 }
             }
             Err(fault) => {
-                self.failed = true;
+                self.fault = Some(place);
                 Some(Err(fault))
             }
         }
@@ -103,7 +116,7 @@ impl<'a> Iterator for LinkInfoWalk<'a> {
     ghost remaining = { item_count items_left };
 
     fn next(&mut self) -> Option<Result<LinkInfoItem<'a>, DecodeError>> {
-        let place = self.attributes.place();
+        let place = self.place();
         let before = self.force;
         match self.advance()? {
             Ok((nla, _)) => Some(Ok(LinkInfoItem {
@@ -120,10 +133,11 @@ impl<'a> Iterator for LinkInfoWalk<'a> {
 
 impl ExactEq for LinkInfoWalk<'_> {
     ghost use Rattle.std.specs.Prelude.{refl};
-    ghost use Rattle.std.specs.Cmp.{booleans_Decides};
+    ghost use Rattle.std.proofs.lemmas.Bool.Decides.{Decides-eqb};
     ghost use Rattle.nla_frame.specs.Derived.{fields_decide, two_fields};
     ghost use Rattle.nla_frame.specs.Same.{same_walk_decides};
+    ghost use Rattle.linkinfo_data.specs.Equal.{option_decides};
     ghost use Rattle.linkinfo.specs.contracts.role.InForceExactEq.TheImpl.Laws.{exact-law as force_exact};
 
-    ghost exact = { fields_decide (λ w. (w.attributes, (w.force, w.failed))) (λ z. record { attributes = z.0; force = z.1.0; failed = z.1.1 }) (λ w. refl) (two_fields same_walk_decides (two_fields force_exact booleans_Decides)) };
+    ghost exact = { fields_decide (λ w. (w.attributes, (w.force, w.fault))) (λ z. record { attributes = z.0; force = z.1.0; fault = z.1.1 }) (λ w. refl) (two_fields same_walk_decides (two_fields force_exact (option_decides Decides-eqb))) };
 }

@@ -1,9 +1,9 @@
 -- When a list's canonical string is answered.
-use Rattle.std.proofs.Common.{◌≡◌, ◌≢◌, ℕ, ◌^◌, ◌≤◌, Bool, true, false, nat_le, if◌then◌else◌, List, [], ◌∷◌, length, refl, ap, arith}
+use Rattle.std.proofs.Common.{◌≡◌, ◌==◌, ℕ, ◌^◌, ◌≤◌, Bool, true, false, nat_le, if◌then◌else◌, List, [], ◌∷◌, length, refl, sym, ap, ◌∙◌, arith}
 use Rattle.std.specs.Prelude.{codes}
 use Rattle.std.specs.Bool.{Decides}
 use Rattle.std.specs.List.{AllByRecursion, list_all}
-use Rattle.std.proofs.lemmas.Bool.Decides.{Decides-and, Decides-like, Decides-ltb, nat_tests}
+use Rattle.std.proofs.lemmas.Bool.Decides.{Decides-and, Decides-eqb, Decides-like, Decides-ltb, nat_tests}
 use Rattle.hex.specs.Hex.{encode_lower}
 use Rattle.nla_frame.specs.Attribute.{Attribute, Fits, ListFits, list_string}
 use Rattle.linkinfo_tool.specs.Answers.{canonical_text, list_fits, word_of}
@@ -20,9 +20,25 @@ list_fits_decides attributes =
     Decides-like _ (λ p. record { each = p.0; total = p.1 }) (λ f. (f.each, f.total))
     (Decides-and _ _ (each_decides attributes) (Decides-ltb (length (list_string attributes)) (2 ^ 64)))
 
-pub canonical_text-fits : (attributes : List Attribute) → ListFits attributes → canonical_text attributes ≡ word_of (list_string attributes)
+canonical_text-fits : (attributes : List Attribute) → ListFits attributes → canonical_text attributes ≡ word_of (list_string attributes)
 canonical_text-fits attributes h =
     ap (λ (b : Bool). if b then word_of (list_string attributes) else codes "unfit") ((list_fits_decides attributes).1 h)
+
+word_of-none : (bytes : List ℕ) → (length bytes == 0) ≡ true → word_of bytes ≡ codes "-"
+word_of-none [] h = refl
+word_of-none (b ∷ bytes) h = absurd (omega (arith, (Decides-eqb (length (b ∷ bytes)) 0).0 h))
+
+word_of-some : (bytes : List ℕ) → (length bytes == 0) ≡ false → word_of bytes ≡ encode_lower bytes
+word_of-some [] h = absurd cc
+word_of-some (b ∷ bytes) h = refl
+
+pub canonical_text-none : (attributes : List Attribute) (bytes : List ℕ) → ListFits attributes → bytes ≡ list_string attributes → (length bytes == 0) ≡ true →
+    canonical_text attributes ≡ codes "-"
+canonical_text-none attributes bytes fits string none = canonical_text-fits attributes fits ∙ (ap word_of (sym string) ∙ word_of-none bytes none)
+
+pub canonical_text-some : (attributes : List Attribute) (bytes : List ℕ) → ListFits attributes → bytes ≡ list_string attributes → (length bytes == 0) ≡ false →
+    canonical_text attributes ≡ encode_lower bytes
+canonical_text-some attributes bytes fits string some = canonical_text-fits attributes fits ∙ (ap word_of (sym string) ∙ word_of-some bytes some)
 
 pub canonical_text-unfit : (attributes : List Attribute) → ¬ ListFits attributes → canonical_text attributes ≡ codes "unfit"
 canonical_text-unfit attributes h =
@@ -33,11 +49,3 @@ canonical_text-unfit attributes h =
     no_from_not : (b : Bool) → (b ≡ true → ⊥) → b ≡ false
     no_from_not true h = absurd (h refl)
     no_from_not false h = refl
-
-pub word_of-none : (bytes : List ℕ) → length bytes ≡ 0 → word_of bytes ≡ codes "-"
-word_of-none [] h = refl
-word_of-none (b ∷ bytes) h = absurd (omega arith)
-
-pub word_of-some : (bytes : List ℕ) → length bytes ≢ 0 → word_of bytes ≡ encode_lower bytes
-word_of-some [] h = absurd (h refl)
-word_of-some (b ∷ bytes) h = refl

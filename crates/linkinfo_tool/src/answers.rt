@@ -1,8 +1,7 @@
 //! The answers to the lines of an input.
 
-ghost use Rattle.std.specs.Prelude.{◌≡◌, ◌≢◌, ◌++◌, [], ◌∷◌, if◌then◌else◌, Some, None, IfOk, OnOk, length, map};
+ghost use Rattle.std.specs.Prelude.{◌≡◌, ◌≢◌, ◌++◌, [], ◌∷◌, if◌then◌else◌, Some, None, IfOk, OnOk, map};
 ghost use Rattle.hex.specs.Hex.{encode_lower};
-ghost use Rattle.nla_frame.specs.Attribute.{ListFits, list_string};
 ghost use Rattle.nla_frame.specs.Error.{memory_fault};
 ghost use Rattle.linkinfo_data.specs.BytesPeer.{bytes_peer};
 ghost use Rattle.linkinfo.specs.Items.{link_attribute};
@@ -10,7 +9,7 @@ ghost use Rattle.linkinfo_tool.specs.Answers.{answer_of, bad_line, bytes_of, can
 ghost use Rattle.linkinfo_tool.specs.Lines.{words_of};
 
 use crate::lines::{cut, first_line};
-use linkinfo::{Cause, DecodeError, LinkInfo, VecLinkInfo, emit_nlas, nlas_fit_len};
+use linkinfo::{Cause, DecodeError, ToVecError, VecLinkInfo};
 use std::alloc::{AllocError, Global};
 use std::io::Write;
 
@@ -34,7 +33,7 @@ struct Answers {
     alloc: Global,
     /// The answers.
     text: Vec<u8>,
-    /// What a word names, and then the canonical string.
+    /// What a word names.
     bytes: Vec<u8>,
     /// What the second word of a comparison names.
     second: Vec<u8>,
@@ -108,25 +107,23 @@ impl Answers {
             return self.push_bad_line();
         }
         match VecLinkInfo::parse(self.alloc, &self.bytes) {
-            Ok(list) => self.push_canonical(list.0.as_slice()),
+            Ok(list) => self.push_canonical(&list),
             Err(fault) if fault.cause == Cause::Memory => Err(AllocError),
             Err(fault) => self.push_fault(fault),
         }
     }
 
-    /// Adds the canonical string of the items in hex, or that they do not fit.
-    fn push_canonical(&mut self, items: &[LinkInfo]) -> Result<(), AllocError>
+    /// Adds the canonical string of the list in hex, or that it does not fit.
+    fn push_canonical(&mut self, list: &VecLinkInfo) -> Result<(), AllocError>
         ensures { OnOk result (self.new.text.items
-            ≡ self.old.text.items ++ canonical_text (map (link_attribute bytes_peer) items.now)) }
+            ≡ self.old.text.items ++ canonical_text (map (link_attribute bytes_peer) list.now.0)) }
     {
-        let Some(len) = nlas_fit_len(items) else {
-            return self.text.extend_from_slice(b"unfit");
-        };
-        if len == 0 {
-            return self.text.extend_from_slice(b"-");
+        match list.to_vec(self.alloc) {
+            Ok(bytes) if bytes.is_empty() => self.text.extend_from_slice(b"-"),
+            Ok(bytes) => push_hex(&bytes, &mut self.text),
+            Err(ToVecError::Unfit) => self.text.extend_from_slice(b"unfit"),
+            Err(ToVecError::Memory) => Err(AllocError),
         }
-        write_canonical(items, len, &mut self.bytes)?;
-        push_hex(&self.bytes, &mut self.text)
     }
 
     /// `same HEX HEX`: whether the two lists mean the same.
@@ -184,17 +181,6 @@ fn read_hex(word: &[u8], bytes: &mut Vec<u8>) -> Result<bool, AllocError>
     }
     bytes.resize(word.len() / 2, 0)?;
     Ok(hex::decode_to_slice(word, bytes.as_mut_slice()).is_ok())
-}
-
-/// Makes the buffer the canonical string of the items. Asks that the items fit and that this is its length.
-fn write_canonical(items: &[LinkInfo], len: usize, bytes: &mut Vec<u8>) -> Result<(), AllocError>
-    requires fits { ListFits (map (link_attribute bytes_peer) items.now) }
-    requires exact { len ≡ length (list_string (map (link_attribute bytes_peer) items.now)) }
-    ensures { OnOk result (bytes.new.items ≡ list_string (map (link_attribute bytes_peer) items.now)) }
-{
-    bytes.resize(len, 0)?;
-    emit_nlas(items, bytes);
-    Ok(())
 }
 
 /// Adds the bytes in lower case hex.

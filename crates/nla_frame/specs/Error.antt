@@ -6,6 +6,8 @@ use Rattle.nla_frame.specs.declared.error.Family.TheVariants as family
 use Rattle.nla_frame.specs.declared.error.Cause.{Cause}
 use Rattle.nla_frame.specs.declared.error.Cause.TheVariants as cause
 use Rattle.nla_frame.specs.declared.error.DecodeError.{DecodeError}
+use Rattle.nla_frame.specs.declared.to_vec.ToVecError.{ToVecError}
+use Rattle.nla_frame.specs.declared.to_vec.ToVecError.TheVariants as to_vec
 
 -- a family's name in lower case
 abbrev pub family_name : Family → List ℕ
@@ -86,3 +88,8 @@ header_fault = record { family = family.Frame; kind = 0; cause = cause.Header }
 -- an allocation was refused
 abbrev pub memory_fault : DecodeError
 memory_fault = record { family = family.Frame; kind = 0; cause = cause.Memory }
+
+-- why a list was not written, in lower case
+abbrev pub to_vec_error_name : ToVecError → List ℕ
+to_vec_error_name to_vec.Unfit = codes "unfit"
+to_vec_error_name to_vec.Memory = codes "memory"

@@ -14,6 +14,7 @@ pub mod laws;
 mod nlas;
 mod parsers;
 mod text;
+mod to_vec;
 mod traits;
 
 pub use buffer::{NlaBuffer, next_piece};
@@ -31,4 +32,5 @@ pub use parsers::{
     parse_u16_be, parse_u32, parse_u32_be, parse_u64, parse_u64_be, without_nul,
 };
 pub use text::Text;
+pub use to_vec::{ToVecError, nlas_to_vec};
 pub use traits::{Emitable, Nla, Parseable, ParseableParametrized};

@@ -1,10 +1,13 @@
 //! Lists that a value owns.
 
-ghost use Rattle.std.specs.Prelude.{◌≡◌, ◌↔◌, [], IsTrue, length};
+ghost use Rattle.std.specs.Prelude.{◌≡◌, ◌↔◌, ◌^◌, ◌<◌, [], IsTrue, length};
+ghost use Rattle.std.specs.Iterator.Adapters.{IterYieldsInOrder, IterYieldsInReverse};
+ghost use Rattle.std.specs.Slice.Iter.{iter_rest};
 
 use crate::exact_eq::ExactEq;
 use std::alloc::AllocError;
 use std::marker::Model;
+use std::{slice, vec};
 
 /// Attributes one after another, as the list of them. A type may hold a list of itself.
 #[derive(Debug, Drop)]
@@ -45,6 +48,22 @@ impl<T> Nlas<T> {
         self.items.as_slice()
     }
 
+    /// Goes over the items in order, borrowed.
+    ///
+    /// ```text
+    /// for nla in list.iter() {
+    ///     total += nla.buffer_len();
+    /// }
+    /// ```
+    pub fn iter(&self) -> slice::Iter<'_, T>
+        ensures rest { iter_rest result ≡ self.now }
+        ensures bound { length (iter_rest result) < 2 ^ 64 }
+        ensures runs { IterYieldsInOrder T }
+        ensures runs_back { IterYieldsInReverse T }
+    {
+        self.as_slice().iter()
+    }
+
     /// How many items there are.
     pub fn len(&self) -> usize
         ensures { result ≡ length self.now }
@@ -65,6 +84,41 @@ impl<T> From<Vec<T>> for Nlas<T> {
 
     fn from(items: Vec<T>) -> Nlas<T> {
         Nlas::new(items)
+    }
+}
+
+/// Goes over the items in order, and gives each away.
+impl<T: Drop> IntoIterator for Nlas<T> {
+    ghost use Rattle.std.specs.Prelude.{◌≡◌, ◌^◌, ◌<◌, length};
+    ghost use Rattle.std.specs.Iterator.Runs.{EveryRun, ItemsAre};
+    ghost use Rattle.std.specs.Vec.Iter.{into_iter_items, into_iter_len, into_iter_steps};
+    ghost use Rattle.std.specs.declared.alloc.Global.{Global};
+
+    type Item = T;
+
+    type IntoIter = vec::IntoIter<T>;
+
+    ghost into_iter_gives = { λ list it. (into_iter_items it ≡ list) × (into_iter_len it ≡ length list) × (into_iter_len it < 2 ^ 64) × EveryRun (into_iter_steps {X = T} {Z = Global}) (λ p. ItemsAre p (into_iter_items p.from)) };
+
+    fn into_iter(self) -> vec::IntoIter<T> {
+        self.into_vec().into_iter()
+    }
+}
+
+/// Goes over the items in order, borrowed, as `iter` does.
+impl<'a, T> IntoIterator for &'a Nlas<T> {
+    ghost use Rattle.std.specs.Prelude.{◌≡◌, ◌^◌, ◌<◌, length};
+    ghost use Rattle.std.specs.Iterator.Adapters.{IterYieldsInOrder};
+    ghost use Rattle.std.specs.Slice.Iter.{iter_rest};
+
+    type Item = &'a T;
+
+    type IntoIter = slice::Iter<'a, T>;
+
+    ghost into_iter_gives = { λ list it. (iter_rest it ≡ list.now) × (length (iter_rest it) < 2 ^ 64) × IterYieldsInOrder T };
+
+    fn into_iter(self) -> slice::Iter<'a, T> {
+        self.iter()
     }
 }
 

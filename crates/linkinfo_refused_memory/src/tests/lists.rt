@@ -1,8 +1,8 @@
-//! Lists that are read.
+//! Lists that are read and written.
 
-use super::answers::{assert_reads, read_at_last};
-use linkinfo::{LinkInfo, VecLinkInfo, nlas_fit_len};
-use linkinfo_numbers::InfoKind;
+use super::answers::{assert_reads, read_at_last, tell_refused};
+use linkinfo::{LinkInfo, ToVecError, VecLinkInfo, nlas_fit_len, nlas_to_vec};
+use linkinfo_numbers::{InfoKind, InfoPortKind};
 
 /// The kind veth and its data, the last two bytes of which are a peer.
 const VETH: [u8; 24] = [
@@ -126,4 +126,30 @@ fn reads_a_name_that_does_not_fit(rt: HostRuntime) {
         panic!(&rt; "one kind of the long name");
     };
     assert_eq!(rt; name.as_bytes(), &bytes[4..]);
+}
+
+#[test]
+fn writes_a_list_at_last(rt: HostRuntime) {
+    let items = [
+        LinkInfo::Kind(InfoKind::Vrf),
+        LinkInfo::PortKind(InfoPortKind::Vrf),
+    ];
+    let string = [
+        8, 0, 1, 0, b'v', b'r', b'f', 0, 8, 0, 4, 0, b'v', b'r', b'f', 0,
+    ];
+    let answer = match nlas_to_vec(rt.alloc(), &items) {
+        Err(refused) => {
+            assert_eq!(rt; refused, ToVecError::Memory);
+            tell_refused(&rt);
+            nlas_to_vec(rt.alloc(), &items)
+        }
+        written => written,
+    };
+    assert!(rt; answer.is_ok_and(|bytes| bytes.as_slice() == string.as_slice()));
+}
+
+#[test]
+fn writes_the_empty_list_without_memory(rt: HostRuntime) {
+    let none: [LinkInfo; 0] = [];
+    assert!(rt; nlas_to_vec(rt.alloc(), &none).is_ok());
 }

@@ -7,7 +7,7 @@ use super::worked::{
 };
 use linkinfo::{
     Bytes, DefaultNla, InfoData, InfoKind, InfoPortData, InfoPortKind, InfoVeth, InfoVrf, InfoXfrm,
-    LinkInfo, LinkXstats, Nlas, Text, VecLinkInfo, check, nlas_fit_len,
+    LinkInfo, LinkXstats, Nla, Nlas, Text, VecLinkInfo, check, nlas_fit_len,
 };
 use std::alloc::{AllocError, Global};
 use std::test::Fail;
@@ -147,5 +147,40 @@ fn lists_display_for_debugging(rt: HostRuntime) -> Result<(), Fail> {
         text.as_str(),
         "VecLinkInfoOf(Nlas { items: [Kind(Pfcp)] })"
     );
+    Ok(())
+}
+
+#[test]
+fn writes_a_list_in_one_call(rt: HostRuntime) -> Result<(), Fail> {
+    let alloc = rt.alloc();
+    let list = VecLinkInfo::from(vec![in alloc;
+        LinkInfo::Kind(InfoKind::Xfrm),
+        xfrm(vec![in alloc; InfoXfrm::Link(2), InfoXfrm::IfId(10)]?),
+    ]?);
+    let written = list.to_vec(alloc)?;
+    assert!(rt; written == bytes_of(&rt, alloc, XFRM)?);
+    let empty = VecLinkInfo::from(vec![in alloc;]?);
+    assert_eq!(rt; empty.to_vec(alloc)?.len(), 0);
+    Ok(())
+}
+
+#[test]
+fn goes_over_a_list(rt: HostRuntime) -> Result<(), Fail> {
+    let alloc = rt.alloc();
+    let list = VecLinkInfo::parse(alloc, &bytes_of(&rt, alloc, LATER_KIND)?)?;
+    assert_eq!(rt; (list.len(), list.is_empty()), (3, false));
+    assert_eq!(rt; VecLinkInfo::parse(alloc, &[])?.is_empty(), true);
+    let mut kinds = Vec::new(alloc);
+    for item in &list {
+        kinds.push(item.kind())?;
+    }
+    assert_eq!(rt; kinds.as_slice(), [1, 1, 2].as_slice());
+    assert_eq!(rt; list.iter().rev().next(), list.as_slice().last());
+    let mut items = Vec::new(alloc);
+    for item in list.clone()? {
+        items.push(item)?;
+    }
+    assert!(rt; VecLinkInfo::from(items) == list);
+    assert_eq!(rt; list.into_vec().len(), 3);
     Ok(())
 }

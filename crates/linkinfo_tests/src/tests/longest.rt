@@ -2,7 +2,9 @@
 
 use super::assertions::{HEADER_FAULT, assert_attribute, assert_emitted, assert_refused, list_of};
 use super::fronts::assert_fronts;
-use linkinfo::{DefaultNla, InfoKind, LinkInfo, Nla, Text, VecLinkInfo, check, nlas_fit_len, same};
+use linkinfo::{
+    DefaultNla, InfoKind, LinkInfo, Nla, Text, ToVecError, VecLinkInfo, check, nlas_fit_len, same,
+};
 use std::alloc::{AllocError, Global};
 use std::test::Fail;
 
@@ -52,7 +54,8 @@ fn name_that_does_not_fit(rt: HostRuntime) -> Result<(), Fail> {
     assert_eq!(rt; check(&string), Ok(()));
     assert_eq!(rt; same(&string, &string), Ok(true));
     let read = VecLinkInfo::parse(alloc, &string)?;
-    assert_eq!(rt; nlas_fit_len(read.0.as_slice()), None);
+    assert_eq!(rt; nlas_fit_len(read.as_slice()), None);
+    assert_eq!(rt; read.to_vec(alloc).err(), Some(ToVecError::Unfit));
     assert!(rt; read == list_of(vec![in alloc; LinkInfo::Kind(kind)]?));
     assert_fronts(&rt, alloc, &string);
     Ok(())

@@ -39,7 +39,8 @@ fn reads_bits(rt: HostRuntime) -> Result<(), Fail> {
     assert_eq!(rt; count.get(), 3);
     let canonical = "09000100 76657468 00000000 0c000200 05000100 01000000";
     let canonical = bytes_of(&rt, alloc, canonical)?;
-    assert_emitted(&rt, alloc, wanted.0.as_slice(), &canonical)?;
+    assert_emitted(&rt, alloc, wanted.as_slice(), &canonical)?;
+    assert!(rt; wanted.to_vec(alloc)? == canonical);
     Ok(())
 }
 

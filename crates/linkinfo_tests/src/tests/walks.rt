@@ -6,27 +6,35 @@ use linkinfo::{Cause, DecodeError, KindTag, LinkInfoItem, LinkInfoWalk, PortTag}
 use std::process::Abort;
 use std::test::Fail;
 
-/// The items that a walk gives, the fault that it ends with, and how many headers it looks at.
+/// The items that a walk gives, the fault that it ends with, the place where it ends, and how many headers it looks at.
 fn assert_walk(
     rt: &impl Abort,
     bytes: &[u8],
     items: &[LinkInfoItem<'_>],
     fault: Option<DecodeError>,
+    end: usize,
     examined: usize,
 ) {
     let mut walk = LinkInfoWalk::new(bytes);
     assert_eq!(rt; walk.examined(), 0);
     for wanted in items {
+        assert_eq!(rt; walk.place(), wanted.place, "the place in {bytes:?}");
         let Some(Ok(item)) = walk.next() else {
             panic!(rt; "an item at {wanted:?} of {bytes:?}");
         };
         assert!(rt; item == *wanted, "{item:?} in {bytes:?}");
     }
+    assert_eq!(rt;
+        walk.place(),
+        end,
+        "the place behind the items of {bytes:?}"
+    );
     match fault {
         Some(fault) => assert!(rt; walk.next() == Some(Err(fault)), "the fault of {bytes:?}"),
         None => assert!(rt; walk.next().is_none(), "the end of {bytes:?}"),
     }
     assert!(rt; walk.next().is_none(), "the end of {bytes:?}");
+    assert_eq!(rt; walk.place(), end, "the place at the end of {bytes:?}");
     assert_eq!(rt; walk.examined(), examined, "headers of {bytes:?}");
 }
 
@@ -60,13 +68,13 @@ fn under_port(port: PortTag, item: LinkInfoItem<'_>) -> LinkInfoItem<'_> {
 #[test]
 fn walks_over_kinds_and_data(rt: HostRuntime) -> Result<(), Fail> {
     let alloc = rt.alloc();
-    assert_walk(&rt, &[], &[], None, 0);
+    assert_walk(&rt, &[], &[], None, 0, 0);
     let items = [
         item(0, 1, b"xfrm\0"),
         under(KindTag::Xfrm, item(12, 2, &[])),
         under(KindTag::Xfrm, item(16, 2, &[8, 0, 2, 0, 5, 0, 0, 0])),
     ];
-    assert_walk(&rt, &bytes_of(&rt, alloc, DATA_TWICE)?, &items, None, 3);
+    assert_walk(&rt, &bytes_of(&rt, alloc, DATA_TWICE)?, &items, None, 28, 3);
 
     // A payload is not looked at, so the fault is that of the stray byte.
     let items = [
@@ -74,7 +82,7 @@ fn walks_over_kinds_and_data(rt: HostRuntime) -> Result<(), Fail> {
         under(KindTag::Vrf, item(8, 2, &[5, 0, 1, 0, 7])),
     ];
     let bytes = bytes_of(&rt, alloc, FIRST_FAULT)?;
-    assert_walk(&rt, &bytes, &items, Some(HEADER_FAULT), 2);
+    assert_walk(&rt, &bytes, &items, Some(HEADER_FAULT), 20, 2);
     Ok(())
 }
 
@@ -87,7 +95,7 @@ fn walks_over_ports(rt: HostRuntime) -> Result<(), Fail> {
     ];
     let bytes = bytes_of(&rt, alloc, SECOND_PORT_DATA)?;
     let order = link_fault(5, Cause::Order);
-    assert_walk(&rt, &bytes, &items, Some(order), 3);
+    assert_walk(&rt, &bytes, &items, Some(order), 12, 3);
     Ok(())
 }
 
@@ -103,7 +111,7 @@ fn walks_with_both_kinds_in_force(rt: HostRuntime) {
         under(KindTag::Vrf, port_data),
         under(KindTag::Vrf, item(20, 2, &[])),
     ];
-    assert_walk(&rt, &bytes, &items, None, 4);
+    assert_walk(&rt, &bytes, &items, None, 24, 4);
 }
 
 #[test]
@@ -112,10 +120,10 @@ fn walks_end_at_faults(rt: HostRuntime) {
     let marked = item(0, 0x8009, &[7]);
     let bytes = [5, 0, 9, 0x80, 7, 0, 0, 0, 6, 0, 1, 0x80, 0xc3, 0x28];
     let utf8 = link_fault(1, Cause::Utf8);
-    assert_walk(&rt, &bytes, &[marked], Some(utf8), 2);
+    assert_walk(&rt, &bytes, &[marked], Some(utf8), 8, 2);
     let order = link_fault(3, Cause::Order);
-    assert_walk(&rt, &[4, 0, 3, 0, 4, 0, 9, 0], &[], Some(order), 1);
-    assert_walk(&rt, &[8, 0, 1], &[], Some(HEADER_FAULT), 0);
+    assert_walk(&rt, &[4, 0, 3, 0, 4, 0, 9, 0], &[], Some(order), 0, 1);
+    assert_walk(&rt, &[8, 0, 1], &[], Some(HEADER_FAULT), 0, 0);
 }
 
 #[test]

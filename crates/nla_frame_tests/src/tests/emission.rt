@@ -2,7 +2,8 @@
 
 use super::attributes_of;
 use nla_frame::{
-    Bytes, DefaultNla, Emitable, Nla, emit_nlas, nlas_buffer_len, nlas_fit_len, put_frame,
+    Bytes, DefaultNla, Emitable, Nla, ToVecError, emit_nlas, nlas_buffer_len, nlas_fit_len,
+    nlas_to_vec, put_frame,
 };
 use std::test::Fail;
 
@@ -73,6 +74,20 @@ fn emits_lists(rt: HostRuntime) -> Result<(), Fail> {
 }
 
 #[test]
+fn writes_lists_in_one_call(rt: HostRuntime) -> Result<(), Fail> {
+    let alloc = rt.alloc();
+    let none: [DefaultNla; 0] = [];
+    assert_eq!(rt; nlas_to_vec(alloc, &none)?.len(), 0);
+
+    let list = attributes_of(alloc, &[(1, &[7]), (2, &[]), (3, &[1, 2, 3, 4])])?;
+    assert_eq!(rt;
+        nlas_to_vec(alloc, &list)?.as_slice(),
+        [5, 0, 1, 0, 7, 0, 0, 0, 4, 0, 2, 0, 8, 0, 3, 0, 1, 2, 3, 4].as_slice()
+    );
+    Ok(())
+}
+
+#[test]
 fn fits_up_to_65531_bytes(rt: HostRuntime) -> Result<(), Fail> {
     let alloc = rt.alloc();
     let longest = [DefaultNla::new(9, vec![in alloc; 97u8; 65531]?)];
@@ -88,6 +103,8 @@ fn fits_up_to_65531_bytes(rt: HostRuntime) -> Result<(), Fail> {
         [nlas_fit_len(&longest), nlas_fit_len(&longer)],
         [Some(65536), None]
     );
+    assert_eq!(rt; nlas_to_vec(alloc, &longest)?.len(), 65536);
+    assert_eq!(rt; nlas_to_vec(alloc, &longer).err(), Some(ToVecError::Unfit));
     Ok(())
 }
 

@@ -1,7 +1,9 @@
 //! Errors, and values that own memory.
 
 use super::check_equality;
-use nla_frame::{Bytes, Cause, DecodeError, DefaultNla, Family, NlaBuffer, Nlas, Parseable, Text};
+use nla_frame::{
+    Bytes, Cause, DecodeError, DefaultNla, Family, NlaBuffer, Nlas, Parseable, Text, ToVecError,
+};
 use std::alloc::{AllocError, AllocFailed, Global};
 use std::fmt::Display;
 use std::process::Abort;
@@ -35,7 +37,9 @@ fn displays_errors(rt: HostRuntime) -> Result<(), Fail> {
     };
     is_displayed(&rt, alloc, &error, "linkinfo 2 order")?;
     is_displayed(&rt, alloc, &Family::BareUdp, "bareudp")?;
-    is_displayed(&rt, alloc, &Cause::AddressKind, "addresskind")
+    is_displayed(&rt, alloc, &Cause::AddressKind, "addresskind")?;
+    is_displayed(&rt, alloc, &ToVecError::Unfit, "unfit")?;
+    is_displayed(&rt, alloc, &ToVecError::Memory, "memory")
 }
 
 #[test]
@@ -56,6 +60,7 @@ fn want_of_memory_is_a_fault(rt: HostRuntime) {
         [DecodeError::from(AllocError), DecodeError::from(refused)],
         [memory, memory]
     );
+    assert_eq!(rt; ToVecError::from(AllocError), ToVecError::Memory);
 }
 
 #[test]
@@ -109,6 +114,24 @@ fn keeps_lists(rt: HostRuntime) -> Result<(), Fail> {
     let other = Nlas::new(vec![in alloc; 1u32, 3]?);
     check_equality(&rt, &numbers, &same, &other)?;
     assert_eq!(rt; numbers.into_vec().as_slice(), [1, 2].as_slice());
+    Ok(())
+}
+
+#[test]
+fn goes_over_lists(rt: HostRuntime) -> Result<(), Fail> {
+    let alloc = rt.alloc();
+    let numbers = Nlas::new(vec![in alloc; 3u32, 1, 2]?);
+    assert_eq!(rt; numbers.iter().rev().next(), Some(&2));
+    let mut borrowed = Vec::new(alloc);
+    for number in &numbers {
+        borrowed.push(*number)?;
+    }
+    let mut owned = Vec::new(alloc);
+    for number in numbers {
+        owned.push(number)?;
+    }
+    assert_eq!(rt; borrowed.as_slice(), [3, 1, 2].as_slice());
+    assert_eq!(rt; owned.as_slice(), [3, 1, 2].as_slice());
     Ok(())
 }
 

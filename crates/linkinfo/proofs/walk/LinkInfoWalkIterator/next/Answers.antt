@@ -6,7 +6,7 @@ returns-in-Err-clause-steps c =
     let stops = rw c.in-Err.is at c.in_ok-nla.ensures.step in
     record {
       gives = stops_gives _ _ _ stops;
-      holds = (stops.failed, stops.force);
+      holds = (stops.at, stops.force);
       source = c.advance.ensures.source;
       examined = (stops.seen, stops.fault, stops.examined);
     }

@@ -1,0 +1,54 @@
+//! The list as a collection of its attributes: made of them, and gone over.
+
+ghost use Rattle.std.specs.Prelude.{◌≡◌};
+
+use crate::link_info::LinkInfoOf;
+use crate::list::VecLinkInfoOf;
+use nla_frame::Nlas;
+use std::{slice, vec};
+
+/// The list of the attributes, which are taken over as they are.
+impl<P> From<Vec<LinkInfoOf<P>>> for VecLinkInfoOf<P> {
+    ghost from_gives = { λ items list. list.0 ≡ items.items };
+
+    fn from(items: Vec<LinkInfoOf<P>>) -> VecLinkInfoOf<P> {
+        VecLinkInfoOf(Nlas::new(items))
+    }
+}
+
+/// Goes over the attributes in order, and gives each away.
+impl<P: Drop> IntoIterator for VecLinkInfoOf<P> {
+    ghost use Rattle.std.specs.Prelude.{◌≡◌, ◌^◌, ◌<◌, length};
+    ghost use Rattle.std.specs.Iterator.Runs.{EveryRun, ItemsAre};
+    ghost use Rattle.std.specs.Vec.Iter.{into_iter_items, into_iter_len, into_iter_steps};
+    ghost use Rattle.std.specs.declared.alloc.Global.{Global};
+    ghost use Rattle.linkinfo.specs.declared.link_info.LinkInfoOf.{LinkInfoOf};
+
+    type Item = LinkInfoOf<P>;
+
+    type IntoIter = vec::IntoIter<LinkInfoOf<P>>;
+
+    ghost into_iter_gives = { λ list it. (into_iter_items it ≡ list.0) × (into_iter_len it ≡ length list.0) × (into_iter_len it < 2 ^ 64) × EveryRun (into_iter_steps {X = LinkInfoOf P} {Z = Global}) (λ p. ItemsAre p (into_iter_items p.from)) };
+
+    fn into_iter(self) -> vec::IntoIter<LinkInfoOf<P>> {
+        self.0.into_iter()
+    }
+}
+
+/// Goes over the attributes in order, borrowed, as `iter` does.
+impl<'a, P> IntoIterator for &'a VecLinkInfoOf<P> {
+    ghost use Rattle.std.specs.Prelude.{◌≡◌, ◌^◌, ◌<◌, length};
+    ghost use Rattle.std.specs.Iterator.Adapters.{IterYieldsInOrder};
+    ghost use Rattle.std.specs.Slice.Iter.{iter_rest};
+    ghost use Rattle.linkinfo.specs.declared.link_info.LinkInfoOf.{LinkInfoOf};
+
+    type Item = &'a LinkInfoOf<P>;
+
+    type IntoIter = slice::Iter<'a, LinkInfoOf<P>>;
+
+    ghost into_iter_gives = { λ list it. (iter_rest it ≡ list.now.0) × (length (iter_rest it) < 2 ^ 64) × IterYieldsInOrder (LinkInfoOf P) };
+
+    fn into_iter(self) -> slice::Iter<'a, LinkInfoOf<P>> {
+        self.iter()
+    }
+}
