@@ -12,5 +12,6 @@ mod lists;
 mod longest;
 mod payloads;
 mod peers;
+mod readme;
 mod walks;
 mod worked;
