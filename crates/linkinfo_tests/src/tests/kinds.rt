@@ -2,6 +2,7 @@
 //! made by the table of rows. Values are written as `Debug` writes them.
 
 use super::assertions::{assert_emitted, bytes_of};
+use super::fronts::assert_fronts;
 use linkinfo::{DecodeError, VecLinkInfo, check, same};
 use std::alloc::Global;
 use std::process::Abort;
@@ -220,6 +221,52 @@ const CANONICAL: &[(&str, &str, &str)] = &[
         "06000400 78000000 05000500 08000000",
         r#"[PortKind(Other(Text { text: "x" })), PortData(Other(Bytes { bytes: [7] }))]"#,
     ),
+    // Attributes worked by the table of rows.
+    (
+        "0b000100 69703667 72650000 14000200 05000a00 01000000 06000e00 02000000",
+        "0b000100 69703667 72650000 14000200 05000a00 00000000 06000e00 02000000",
+        "[Kind(GreTun6), Data(GreTun6(Nlas { items: [Other(DefaultNla { kind: 10, value: Bytes { bytes: [1] } }), EncapType(Gue)] }))]",
+    ),
+    (
+        "09000100 69706970 00000000 0c000200 05000900 29000000",
+        "09000100 69706970 00000000 0c000200 05000900 04000000",
+        "[Kind(IpIp), Data(IpTunnel(Nlas { items: [Protocol(Ipv6)] }))]",
+    ),
+    (
+        "0b000100 69703674 6e6c0000 0c000200 08000800 01000100",
+        "0b000100 69703674 6e6c0000 0c000200 08000800 01000000",
+        "[Kind(Ip6Tnl), Data(IpTunnel(Nlas { items: [Ipv6Flags(Ip6TunnelFlags(65537))] }))]",
+    ),
+    (
+        "08000100 76746900 14000200 08000200 00000001 08000100 01000000",
+        "08000100 76746900 14000200 08000200 01000000 08000100 01000000",
+        "[Kind(Vti), Data(Vti(Nlas { items: [IKey(1), Link(1)] }))]",
+    ),
+    (
+        "08000100 67747000 0c000200 08000700 0a000001",
+        "08000100 67747000 0c000200 08000700 0a000002",
+        "[Kind(Gtp), Data(Gtp(Nlas { items: [Local(10.0.0.1)] }))]",
+    ),
+    (
+        "0b000100 6d616373 65630000 14000200 0c000400 01000001 00c28000 04000e00",
+        "0b000100 6d616373 65630000 14000200 0c000400 01000001 00c28000 04000e80",
+        "[Kind(MacSec), Data(MacSec(Nlas { items: [CipherSuite(GcmAes128), Other(DefaultNla { kind: 14, value: Bytes { bytes: [] } })] }))]",
+    ),
+    (
+        "0a000100 726d6e65 74000000 10000200 0c000200 01000000 ff000000",
+        "0a000100 726d6e65 74000000 10000200 0c000200 03000000 ff000000",
+        "[Kind(RmNet), Data(RmNet(Nlas { items: [Flags(InfoRmNetFlags { flags: RmNetFlags(1), mask: RmNetFlags(255) })] }))]",
+    ),
+    (
+        "0b000100 62617461 64760000 14000200 0f000100 4241544d 414e5f49 56000000",
+        "0b000100 62617461 64760000 14000200 0e000100 4241544d 414e5f49 56000000",
+        r#"[Kind(BatAdv), Data(BatAdv(Nlas { items: [AlgoName(Text { text: "BATMAN_IV\0" })] }))]"#,
+    ),
+    (
+        "09000100 76657468 00000000 08000200 04000100",
+        "09000100 76657468 00000000 08000200 04000200",
+        "[Kind(Veth), Data(Veth(Peer(Bytes { bytes: [] })))]",
+    ),
 ];
 
 /// Strings; the canonical strings of the same lists; strings that differ from them in one value; and what the first are read as.
@@ -300,6 +347,37 @@ const REWRITTEN: &[(&str, &str, &str, &str)] = &[
         "18000100 626f6e64 696e675f 756e6b6e 6f776e5f 6b696e64 05000200 08000000",
         r#"[Kind(Other(Text { text: "bonding_unknown_kind" })), Data(Other(Bytes { bytes: [7] }))]"#,
     ),
+    // Attributes worked by the table of rows.
+    (
+        "0a000100 76786c61 6e000000 44000200 04001c00 05001c00 00000000 05000700 02000000 08000a00 00020001 06000f00 12b50000 05001900 07000000 05001700 07000000 0c002100 00000000 00000001",
+        "0a000100 76786c61 6e000000 40000200 04001c00 05001c00 00000000 05000700 01000000 08000a00 00020001 06000f00 12b50000 05001900 01000000 04001700 0c002100 00000000 00000001",
+        "0a000100 76786c61 6e000000 44000200 04001c00 05001c00 00000000 05000700 02000000 08000a00 00020001 06000f00 12b50000 05001900 07000000 05001700 07000000 0c002100 00000000 00000002",
+        "[Kind(Vxlan), Data(Vxlan(Nlas { items: [TtlInheritFlag, TtlInherit(0), Learning(true), PortRange((2, 1)), Port(4789), CollectMetadata(true), Gbp, ReservedBits(1)] }))]",
+    ),
+    (
+        "08000100 67726500 18000200 05000a00 02000000 06000200 20000000 04000d00",
+        "08000100 67726500 18000200 05000a00 00000000 06000200 20000000 04000d00",
+        "08000100 67726500 18000200 05000a00 02000000 06000200 30000000 04000d00",
+        "[Kind(GreTun), Data(GreTun(Nlas { items: [PathMTUDiscovery(false), IFlags(GreIOFlags(8192)), Other(DefaultNla { kind: 13, value: Bytes { bytes: [] } })] }))]",
+    ),
+    (
+        "08000100 73697400 0c000200 05000a00 02000000",
+        "08000100 73697400 0c000200 05000a00 01000000",
+        "08000100 73697400 0c000200 05000a00 00000000",
+        "[Kind(SitTun), Data(IpTunnel(Nlas { items: [PMtuDisc(true)] }))]",
+    ),
+    (
+        "0c000100 6d616376 6c616e00 1c000200 0e000500 0a000400 02000000 00010000 08000900 ffffffff",
+        "0c000100 6d616376 6c616e00 1c000200 10000500 0a000400 02000000 00010000 08000900 ffffffff",
+        "0c000100 6d616376 6c616e00 1c000200 0e000500 0a000400 02000000 00010000 08000900 feffffff",
+        "[Kind(MacVlan), Data(MacVlan(Nlas { items: [MacAddrData(Nlas { items: [MacAddr([2, 0, 0, 0, 0, 1])] }), BcCutoff(-1)] }))]",
+    ),
+    (
+        "0b000100 6e65746b 69740000 14000200 05000200 03000000 08000300 07000000",
+        "0b000100 6e65746b 69740000 14000200 05000200 01000000 08000300 07000000",
+        "0b000100 6e65746b 69740000 14000200 05000200 00000000 08000300 07000000",
+        "[Kind(Netkit), Data(Netkit(Nlas { items: [Primary(true), Policy(Redirect)] }))]",
+    ),
 ];
 
 /// The string is read as the value, which is emitted as the canonical string.
@@ -359,6 +437,18 @@ fn lists_that_are_rewritten(rt: HostRuntime) -> Result<(), Fail> {
     for (string, canonical, changed, value) in REWRITTEN {
         assert_value(&rt, alloc, string, canonical, value)?;
         assert_changed(&rt, alloc, string, changed)?;
+    }
+    Ok(())
+}
+
+#[test]
+fn fronts_of_each_kind(rt: HostRuntime) -> Result<(), Fail> {
+    let alloc = rt.alloc();
+    for (string, ..) in CANONICAL {
+        assert_fronts(&rt, alloc, &bytes_of(&rt, alloc, string)?);
+    }
+    for (string, ..) in REWRITTEN {
+        assert_fronts(&rt, alloc, &bytes_of(&rt, alloc, string)?);
     }
     Ok(())
 }
