@@ -1,5 +1,5 @@
-//! A list of each kind and of each port kind. The strings are what a kernel, `ip` (with the kind's name not closed, or closed), or pyroute2 wrote, or
-//! made by the table of rows. Values are written as `Debug` writes them.
+//! A list of each kind and of each port kind. The strings are what a kernel, `ip` or pyroute2 wrote, or are made by the rows of the tables. Values are
+//! written as `Debug` writes them.
 
 use super::assertions::{assert_emitted, bytes_of};
 use super::fronts::assert_fronts;
@@ -8,9 +8,14 @@ use std::alloc::Global;
 use std::process::Abort;
 use std::test::Fail;
 
-/// Canonical strings; strings that differ from them in one value; and what the first are read as.
-const CANONICAL: &[(&str, &str, &str)] = &[
-    // Tunnels.
+/// A canonical string, one that differs from it in one value, and what the first is read as.
+type Canonical = (&'static str, &'static str, &'static str);
+
+/// A string, the canonical one of the same list, one that differs from it in one value, and what the first is read as.
+type Rewritten = (&'static str, &'static str, &'static str, &'static str);
+
+/// Tunnels, by their canonical strings.
+const TUNNELS: &[Canonical] = &[
     (
         "0a000100 76786c61 6e000000 24000200 05001900 01000000 05001e00 01000000 05000700 00000000 06000f00 12b50000",
         "0a000100 76786c61 6e000000 24000200 05001900 01000000 05001e00 01000000 05000700 01000000 06000f00 12b50000",
@@ -76,7 +81,10 @@ const CANONICAL: &[(&str, &str, &str)] = &[
         "0c000100 62617265 75647000 1c000200 06000100 19eb0000 06000200 88480000 06000300 00c00000",
         "[Kind(BareUdp), Data(BareUdp(Nlas { items: [Port(6635), Ethertype(MplsUc), SrcPortMin(49152)] }))]",
     ),
-    // Devices of Ethernet and others.
+];
+
+/// Devices, by their canonical strings.
+const DEVICES: &[Canonical] = &[
     (
         "08000100 76726600 0c000200 08000100 0a000000",
         "08000100 76726600 0c000200 08000100 0b000000",
@@ -102,7 +110,10 @@ const CANONICAL: &[(&str, &str, &str)] = &[
         "0a000100 726d6e65 74000000 18000200 06000100 05000000 0c000200 01000000 0f000000",
         "[Kind(RmNet), Data(RmNet(Nlas { items: [MuxId(5), Flags(InfoRmNetFlags { flags: RmNetFlags(1), mask: RmNetFlags(255) })] }))]",
     ),
-    // Links with a peer, and other families without a lower layer.
+];
+
+/// Links with a peer and their like, by their canonical strings.
+const PEERS: &[Canonical] = &[
     (
         "0b000100 6e65746b 69740000 24000200 08000500 01000000 08000300 07000000 06000800 05000000 05000100 aa000000",
         "0b000100 6e65746b 69740000 24000200 08000500 01000000 08000300 07000000 06000800 05000000 05000100 ab000000",
@@ -128,7 +139,10 @@ const CANONICAL: &[(&str, &str, &str)] = &[
         "09000100 70666370 00000000 0c000200 08000180 02000000",
         "[Kind(Pfcp), Data(Pfcp(Nlas { items: [Other(DefaultNla { kind: 32769, value: Bytes { bytes: [1, 0, 0, 0] } })] }))]",
     ),
-    // Links whose attributes are of the layer below.
+];
+
+/// Links whose attributes are those of the layer below, by their canonical strings.
+const LOWER: &[Canonical] = &[
     (
         "0b000100 62726964 67650000 14000200 08000100 dc050000 08000200 c8000000",
         "0b000100 62726964 67650000 14000200 08000100 dc050000 08000200 c9000000",
@@ -159,7 +173,10 @@ const CANONICAL: &[(&str, &str, &str)] = &[
         "08000100 64736100 0c000200 08000100 03000000",
         "[Kind(Dsa), Data(Dsa(Nlas { items: [Other(DefaultNla { kind: 1, value: Bytes { bytes: [2, 0, 0, 0] } })] }))]",
     ),
-    // Kinds without a family, known and unknown.
+];
+
+/// Links whose data is bytes, by their canonical strings.
+const BYTES: &[Canonical] = &[
     (
         "0a000100 64756d6d 79000000 05000200 07000000",
         "0a000100 64756d6d 79000000 05000200 08000000",
@@ -195,7 +212,10 @@ const CANONICAL: &[(&str, &str, &str)] = &[
         "0b000100 6c6f7770 616e0000",
         r#"[Kind(Other(Text { text: "ovpn" }))]"#,
     ),
-    // Ports.
+];
+
+/// Ports, by their canonical strings.
+const PORTS: &[Canonical] = &[
     (
         "09000400 626f6e64 00000000 14000500 06000500 03000000 08000900 05000000",
         "09000400 626f6e64 00000000 14000500 06000500 04000000 08000900 05000000",
@@ -221,7 +241,10 @@ const CANONICAL: &[(&str, &str, &str)] = &[
         "06000400 78000000 05000500 08000000",
         r#"[PortKind(Other(Text { text: "x" })), PortData(Other(Bytes { bytes: [7] }))]"#,
     ),
-    // Attributes worked by the table of rows.
+];
+
+/// Further attributes, by their canonical strings.
+const ATTRIBUTES: &[Canonical] = &[
     (
         "0b000100 69703667 72650000 14000200 05000a00 01000000 06000e00 02000000",
         "0b000100 69703667 72650000 14000200 05000a00 00000000 06000e00 02000000",
@@ -269,9 +292,8 @@ const CANONICAL: &[(&str, &str, &str)] = &[
     ),
 ];
 
-/// Strings; the canonical strings of the same lists; strings that differ from them in one value; and what the first are read as.
-const REWRITTEN: &[(&str, &str, &str, &str)] = &[
-    // Tunnels.
+/// Links and ports, by strings that are not canonical: some names are not closed, and the last padding is absent.
+const REWRITTEN: &[Rewritten] = &[
     (
         "07000100 76746900 24000200 08000200 01000001 08000300 00000008 08000400 0a000001 08000600 00000000",
         "08000100 76746900 24000200 08000200 01000001 08000300 00000008 08000400 0a000001 08000600 00000000",
@@ -290,7 +312,6 @@ const REWRITTEN: &[(&str, &str, &str, &str)] = &[
         "07000100 616d7400 34000200 08000100 00000000 08000500 0a000001 08000700 0a00000a 08000400 02000000 06000300 08dc0000 06000200 08dc0000",
         "[Kind(Amt), Data(Amt(Nlas { items: [Mode(Gateway), LocalIp(10.0.0.1), DiscoveryIp(10.0.0.9), Link(2), GatewayPort(2268), RelayPort(2268)] }))]",
     ),
-    // Devices of Ethernet and others.
     (
         "08000100 7866726d 14000200 08000200 34120000 08000100 02000000",
         "09000100 7866726d 00000000 14000200 08000200 34120000 08000100 02000000",
@@ -315,7 +336,6 @@ const REWRITTEN: &[(&str, &str, &str, &str)] = &[
         "0b000100 6d616376 74617000 18000200 08000300 00000000 0a000400 02000000 00010000",
         "[Kind(MacVtap), Data(MacVtap(Nlas { items: [MacAddrMode(Del), MacAddr([2, 0, 0, 0, 0, 1])] }))]",
     ),
-    // Links with a peer, and other families without a lower layer.
     (
         "08000100 76657468 20000200 1c000100 00000000 00000000 00000000 00000000 07000300 74310000",
         "09000100 76657468 00000000 20000200 1c000100 00000000 00000000 00000000 00000000 07000300 74310000",
@@ -334,7 +354,6 @@ const REWRITTEN: &[(&str, &str, &str, &str)] = &[
         "0a000100 62617461 64760000 14000200 0d000100 4241544d 414e5f57 00000000",
         r#"[Kind(BatAdv), Data(BatAdv(Nlas { items: [AlgoName(Text { text: "BATMAN_V" })] }))]"#,
     ),
-    // Kinds without a family, known and unknown.
     (
         "0d000100 6e657464 65767369 6d000000 05000200 07000000",
         "0e000100 6e657464 65767369 6d000000 05000200 07000000",
@@ -347,7 +366,10 @@ const REWRITTEN: &[(&str, &str, &str, &str)] = &[
         "18000100 626f6e64 696e675f 756e6b6e 6f776e5f 6b696e64 05000200 08000000",
         r#"[Kind(Other(Text { text: "bonding_unknown_kind" })), Data(Other(Bytes { bytes: [7] }))]"#,
     ),
-    // Attributes worked by the table of rows.
+];
+
+/// Further attributes, by strings that are not canonical: numbers are read as truths, and payloads as flags.
+const REWRITTEN_ATTRIBUTES: &[Rewritten] = &[
     (
         "0a000100 76786c61 6e000000 44000200 04001c00 05001c00 00000000 05000700 02000000 08000a00 00020001 06000f00 12b50000 05001900 07000000 05001700 07000000 0c002100 00000000 00000001",
         "0a000100 76786c61 6e000000 40000200 04001c00 05001c00 00000000 05000700 01000000 08000a00 00020001 06000f00 12b50000 05001900 01000000 04001700 0c002100 00000000 00000001",
@@ -404,7 +426,7 @@ fn assert_value(
     Ok(())
 }
 
-/// The strings are read as two values.
+/// The strings are read as two values, and the fronts of the first as they are checked.
 fn assert_changed(
     rt: &impl Abort,
     alloc: Global,
@@ -418,37 +440,76 @@ fn assert_changed(
         (text, equal, same(&a, &b), same(&b, &a)),
         (text, false, Ok(false), Ok(false))
     );
+    assert_fronts(rt, alloc, &a);
     Ok(())
 }
 
-#[test]
-fn lists_of_each_kind(rt: HostRuntime) -> Result<(), Fail> {
-    let alloc = rt.alloc();
-    for (string, changed, value) in CANONICAL {
-        assert_value(&rt, alloc, string, string, value)?;
-        assert_changed(&rt, alloc, string, changed)?;
-    }
-    Ok(())
-}
-
-#[test]
-fn lists_that_are_rewritten(rt: HostRuntime) -> Result<(), Fail> {
-    let alloc = rt.alloc();
-    for (string, canonical, changed, value) in REWRITTEN {
-        assert_value(&rt, alloc, string, canonical, value)?;
-        assert_changed(&rt, alloc, string, changed)?;
+fn assert_canonical(rt: &impl Abort, alloc: Global, rows: &[Canonical]) -> Result<(), DecodeError> {
+    for (string, changed, value) in rows {
+        assert_value(rt, alloc, string, string, value)?;
+        assert_changed(rt, alloc, string, changed)?;
     }
     Ok(())
 }
 
+fn assert_rewritten(rt: &impl Abort, alloc: Global, rows: &[Rewritten]) -> Result<(), DecodeError> {
+    for (string, canonical, changed, value) in rows {
+        assert_value(rt, alloc, string, canonical, value)?;
+        assert_changed(rt, alloc, string, changed)?;
+    }
+    Ok(())
+}
+
 #[test]
-fn fronts_of_each_kind(rt: HostRuntime) -> Result<(), Fail> {
-    let alloc = rt.alloc();
-    for (string, ..) in CANONICAL {
-        assert_fronts(&rt, alloc, &bytes_of(&rt, alloc, string)?);
-    }
-    for (string, ..) in REWRITTEN {
-        assert_fronts(&rt, alloc, &bytes_of(&rt, alloc, string)?);
-    }
+fn canonical_lists_of_tunnels(rt: HostRuntime) -> Result<(), Fail> {
+    assert_canonical(&rt, rt.alloc(), TUNNELS)?;
+    Ok(())
+}
+
+#[test]
+fn canonical_lists_of_devices(rt: HostRuntime) -> Result<(), Fail> {
+    assert_canonical(&rt, rt.alloc(), DEVICES)?;
+    Ok(())
+}
+
+#[test]
+fn canonical_lists_of_peers(rt: HostRuntime) -> Result<(), Fail> {
+    assert_canonical(&rt, rt.alloc(), PEERS)?;
+    Ok(())
+}
+
+#[test]
+fn canonical_lists_of_the_layer_below(rt: HostRuntime) -> Result<(), Fail> {
+    assert_canonical(&rt, rt.alloc(), LOWER)?;
+    Ok(())
+}
+
+#[test]
+fn canonical_lists_of_bytes(rt: HostRuntime) -> Result<(), Fail> {
+    assert_canonical(&rt, rt.alloc(), BYTES)?;
+    Ok(())
+}
+
+#[test]
+fn canonical_lists_of_ports(rt: HostRuntime) -> Result<(), Fail> {
+    assert_canonical(&rt, rt.alloc(), PORTS)?;
+    Ok(())
+}
+
+#[test]
+fn canonical_lists_of_further_attributes(rt: HostRuntime) -> Result<(), Fail> {
+    assert_canonical(&rt, rt.alloc(), ATTRIBUTES)?;
+    Ok(())
+}
+
+#[test]
+fn rewritten_lists(rt: HostRuntime) -> Result<(), Fail> {
+    assert_rewritten(&rt, rt.alloc(), REWRITTEN)?;
+    Ok(())
+}
+
+#[test]
+fn rewritten_lists_of_further_attributes(rt: HostRuntime) -> Result<(), Fail> {
+    assert_rewritten(&rt, rt.alloc(), REWRITTEN_ATTRIBUTES)?;
     Ok(())
 }
