@@ -5,4 +5,5 @@ mod attributes;
 mod faults;
 mod lists;
 mod names;
+mod payloads;
 mod without_memory;

@@ -1,14 +1,22 @@
 //! Single attributes that are read.
 
 use super::answers::{MEMORY, tell_refused};
-use linkinfo::{BitPeer, InfoVeth, InfoVethOf, InfoVrf, InfoXfrm, LinkFamily};
-use linkinfo_numbers::InfoPortKind;
-use nla_frame::{DecodeError, DefaultNla, HeaderCount, Nla, NlaBuffer, Parseable};
+use linkinfo::{
+    BitPeer, DecodeError, DefaultNla, HeaderCount, InfoAmt, InfoBareUdp, InfoBatAdv, InfoBond,
+    InfoBondPort, InfoBridge, InfoBridgePort, InfoCan, InfoDsa, InfoGeneve, InfoGre, InfoGre6,
+    InfoGtp, InfoHsr, InfoIpTunnel, InfoIpVlan, InfoIpVtap, InfoIpoib, InfoKind, InfoMacSec,
+    InfoMacVlan, InfoMacVtap, InfoNetkit, InfoPfcp, InfoPortKind, InfoRmNet, InfoTeamPort, InfoTun,
+    InfoVeth, InfoVethOf, InfoVlan, InfoVrf, InfoVti, InfoVxcan, InfoVxlan, InfoWireguard,
+    InfoWwan, InfoXfrm, KindTag, LinkFamily, Nla, NlaBuffer, Parseable, ParseableParametrized,
+};
 use std::alloc::Global;
 use std::process::Abort;
 
 /// An attribute of a type that no family has.
 const UNKNOWN: [u8; 5] = [5, 0, 255, 0, 1];
+
+/// What it is emitted as.
+const KEPT: [u8; 8] = [5, 0, 255, 0, 1, 0, 0, 0];
 
 /// The attribute at the front of a string.
 fn attribute<'a>(rt: &impl Abort, bytes: &'a [u8]) -> NlaBuffer<'a> {
@@ -34,18 +42,19 @@ fn parse_at_last<'a, T: Parseable<NlaBuffer<'a>>>(
 }
 
 /// The same of a family's `read`, of an attribute of less than 1000 bytes.
-fn read_at_last<F: LinkFamily<Context = ()>>(
+fn read_at_last<F: LinkFamily>(
     rt: &(impl Abort + Print),
     alloc: Global,
     nla: &NlaBuffer<'_>,
+    ctx: F::Context,
 ) -> Result<F, DecodeError> {
     assert!(rt; nla.value().len() < 1000);
     let mut count = HeaderCount::new();
-    match F::read(alloc, nla, (), &mut count) {
+    match F::read(alloc, nla, ctx, &mut count) {
         Err(MEMORY) => {
             tell_refused(rt);
             let mut count = HeaderCount::new();
-            F::read(alloc, nla, (), &mut count)
+            F::read(alloc, nla, ctx, &mut count)
         }
         answer => answer,
     }
@@ -73,36 +82,109 @@ fn assert_kept<'a, F: LinkFamily<Context = ()> + Parseable<NlaBuffer<'a>>>(
     alloc: Global,
     nla: &NlaBuffer<'a>,
 ) {
-    let kept = [5, 0, 255, 0, 1, 0, 0, 0];
-    assert_written(rt, parse_at_last::<F>(rt, alloc, nla), &kept);
-    assert_written(rt, read_at_last::<F>(rt, alloc, nla), &kept);
+    assert_written(rt, parse_at_last::<F>(rt, alloc, nla), &KEPT);
+    assert_written(rt, read_at_last::<F>(rt, alloc, nla, ()), &KEPT);
 }
 
 #[test]
 fn keeps_attributes_without_a_family(rt: HostRuntime) {
     let nla = attribute(&rt, &UNKNOWN);
     let answer = parse_at_last::<DefaultNla>(&rt, rt.alloc(), &nla);
-    assert_written(&rt, answer, &[5, 0, 255, 0, 1, 0, 0, 0]);
+    assert_written(&rt, answer, &KEPT);
 }
 
 #[test]
-fn keeps_attributes_of_xfrm(rt: HostRuntime) {
-    assert_kept::<InfoXfrm>(&rt, rt.alloc(), &attribute(&rt, &UNKNOWN));
+fn keeps_attributes_of_tunnels_over_udp(rt: HostRuntime) {
+    let nla = attribute(&rt, &UNKNOWN);
+    assert_kept::<InfoVxlan>(&rt, rt.alloc(), &nla);
+    assert_kept::<InfoGeneve>(&rt, rt.alloc(), &nla);
+    assert_kept::<InfoBareUdp>(&rt, rt.alloc(), &nla);
+    assert_kept::<InfoGtp>(&rt, rt.alloc(), &nla);
+    assert_kept::<InfoAmt>(&rt, rt.alloc(), &nla);
 }
 
 #[test]
-fn keeps_attributes_of_vrf(rt: HostRuntime) {
-    assert_kept::<InfoVrf>(&rt, rt.alloc(), &attribute(&rt, &UNKNOWN));
+fn keeps_attributes_of_tunnels(rt: HostRuntime) {
+    let nla = attribute(&rt, &UNKNOWN);
+    assert_kept::<InfoGre>(&rt, rt.alloc(), &nla);
+    assert_kept::<InfoGre6>(&rt, rt.alloc(), &nla);
+    assert_kept::<InfoVti>(&rt, rt.alloc(), &nla);
+    assert_kept::<InfoIpoib>(&rt, rt.alloc(), &nla);
+    assert_kept::<InfoWwan>(&rt, rt.alloc(), &nla);
 }
 
 #[test]
-fn keeps_attributes_of_veth(rt: HostRuntime) {
-    assert_kept::<InfoVeth>(&rt, rt.alloc(), &attribute(&rt, &UNKNOWN));
+fn keeps_attributes_of_devices(rt: HostRuntime) {
+    let nla = attribute(&rt, &UNKNOWN);
+    assert_kept::<InfoXfrm>(&rt, rt.alloc(), &nla);
+    assert_kept::<InfoVrf>(&rt, rt.alloc(), &nla);
+    assert_kept::<InfoIpVlan>(&rt, rt.alloc(), &nla);
+    assert_kept::<InfoIpVtap>(&rt, rt.alloc(), &nla);
+    assert_kept::<InfoMacSec>(&rt, rt.alloc(), &nla);
+    assert_kept::<InfoRmNet>(&rt, rt.alloc(), &nla);
 }
 
 #[test]
-fn keeps_attributes_beside_bits(rt: HostRuntime) {
-    assert_kept::<InfoVethOf<BitPeer>>(&rt, rt.alloc(), &attribute(&rt, &UNKNOWN));
+fn keeps_attributes_of_peers(rt: HostRuntime) {
+    let nla = attribute(&rt, &UNKNOWN);
+    assert_kept::<InfoVeth>(&rt, rt.alloc(), &nla);
+    assert_kept::<InfoVxcan>(&rt, rt.alloc(), &nla);
+    assert_kept::<InfoNetkit>(&rt, rt.alloc(), &nla);
+    assert_kept::<InfoVethOf<BitPeer>>(&rt, rt.alloc(), &nla);
+    assert_kept::<InfoBatAdv>(&rt, rt.alloc(), &nla);
+    assert_kept::<InfoTun>(&rt, rt.alloc(), &nla);
+}
+
+#[test]
+fn keeps_attributes_of_bonds_and_bridges(rt: HostRuntime) {
+    let nla = attribute(&rt, &UNKNOWN);
+    assert_kept::<InfoBond>(&rt, rt.alloc(), &nla);
+    assert_kept::<InfoBondPort>(&rt, rt.alloc(), &nla);
+    assert_kept::<InfoBridge>(&rt, rt.alloc(), &nla);
+    assert_kept::<InfoBridgePort>(&rt, rt.alloc(), &nla);
+    assert_kept::<InfoTeamPort>(&rt, rt.alloc(), &nla);
+    assert_kept::<InfoVlan>(&rt, rt.alloc(), &nla);
+}
+
+#[test]
+fn keeps_attributes_without_rows(rt: HostRuntime) {
+    let nla = attribute(&rt, &UNKNOWN);
+    assert_kept::<InfoCan>(&rt, rt.alloc(), &nla);
+    assert_kept::<InfoHsr>(&rt, rt.alloc(), &nla);
+    assert_kept::<InfoDsa>(&rt, rt.alloc(), &nla);
+    assert_kept::<InfoWireguard>(&rt, rt.alloc(), &nla);
+    assert_kept::<InfoPfcp>(&rt, rt.alloc(), &nla);
+}
+
+/// What `parse_with_param` answers under `IpIp` where it is not refused memory.
+fn tunnel_at_last(
+    rt: &(impl Abort + Print),
+    alloc: Global,
+    nla: &NlaBuffer<'_>,
+) -> Result<InfoIpTunnel, DecodeError> {
+    match InfoIpTunnel::parse_with_param(alloc, nla, &InfoKind::IpIp) {
+        Err(MEMORY) => {
+            tell_refused(rt);
+            InfoIpTunnel::parse_with_param(alloc, nla, &InfoKind::IpIp)
+        }
+        answer => answer,
+    }
+}
+
+#[test]
+fn keeps_attributes_by_context(rt: HostRuntime) {
+    let alloc = rt.alloc();
+    let nla = attribute(&rt, &UNKNOWN);
+    assert_written(&rt, tunnel_at_last(&rt, alloc, &nla), &KEPT);
+    assert_written(
+        &rt,
+        read_at_last::<InfoIpTunnel>(&rt, alloc, &nla, KindTag::IpIp),
+        &KEPT,
+    );
+    assert_written(&rt, parse_at_last::<InfoMacVlan>(&rt, alloc, &nla), &KEPT);
+    assert_written(&rt, read_at_last::<InfoMacVlan>(&rt, alloc, &nla, 0), &KEPT);
+    assert_written(&rt, parse_at_last::<InfoMacVtap>(&rt, alloc, &nla), &KEPT);
+    assert_written(&rt, read_at_last::<InfoMacVtap>(&rt, alloc, &nla, 0), &KEPT);
 }
 
 #[test]

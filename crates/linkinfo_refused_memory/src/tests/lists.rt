@@ -114,6 +114,159 @@ fn reads_marked_kinds(rt: HostRuntime) {
 }
 
 #[test]
+fn reads_gtp(rt: HostRuntime) {
+    let bytes = [
+        8, 0, 1, 0, 103, 116, 112, 0, 28, 0, 2, 0, 5, 0, 5, 0, 1, 0, 0, 0, 8, 0, 4, 0, 1, 0, 0, 0,
+        8, 0, 3, 0, 0, 4, 0, 0,
+    ];
+    assert_reads(&rt, rt.alloc(), &bytes, &bytes);
+}
+
+#[test]
+fn reads_bareudp(rt: HostRuntime) {
+    let bytes = [
+        12, 0, 1, 0, 98, 97, 114, 101, 117, 100, 112, 0, 20, 0, 2, 0, 6, 0, 1, 0, 25, 235, 0, 0, 6,
+        0, 2, 0, 136, 71, 0, 0,
+    ];
+    assert_reads(&rt, rt.alloc(), &bytes, &bytes);
+}
+
+#[test]
+fn reads_flags_of_ipip(rt: HostRuntime) {
+    let bytes = [
+        9, 0, 1, 0, 105, 112, 105, 112, 0, 0, 0, 0, 12, 0, 2, 0, 6, 0, 8, 0, 0, 16, 0, 0,
+    ];
+    assert_reads(&rt, rt.alloc(), &bytes, &bytes);
+}
+
+#[test]
+fn reads_flags_of_sit(rt: HostRuntime) {
+    let bytes = [
+        8, 0, 1, 0, 115, 105, 116, 0, 12, 0, 2, 0, 6, 0, 8, 0, 0, 16, 0, 0,
+    ];
+    assert_reads(&rt, rt.alloc(), &bytes, &bytes);
+}
+
+#[test]
+fn reads_scrubbing(rt: HostRuntime) {
+    let bytes = [
+        11, 0, 1, 0, 110, 101, 116, 107, 105, 116, 0, 0, 12, 0, 2, 0, 8, 0, 6, 0, 5, 0, 0, 0,
+    ];
+    let canonical = [
+        11, 0, 1, 0, 110, 101, 116, 107, 105, 116, 0, 0, 12, 0, 2, 0, 8, 0, 6, 0, 1, 0, 0, 0,
+    ];
+    assert_reads(&rt, rt.alloc(), &bytes, &canonical);
+}
+
+#[test]
+fn reads_lists_inside_macvlan(rt: HostRuntime) {
+    let bytes = [
+        12, 0, 1, 0, 109, 97, 99, 118, 108, 97, 110, 0, 18, 0, 2, 0, 14, 0, 5, 0, 10, 0, 4, 0, 2,
+        0, 0, 0, 0, 1,
+    ];
+    let canonical = [
+        12, 0, 1, 0, 109, 97, 99, 118, 108, 97, 110, 0, 20, 0, 2, 0, 16, 0, 5, 0, 10, 0, 4, 0, 2,
+        0, 0, 0, 0, 1, 0, 0,
+    ];
+    assert_reads(&rt, rt.alloc(), &bytes, &canonical);
+}
+
+#[test]
+fn reads_vti6(rt: HostRuntime) {
+    let bytes = [
+        9, 0, 1, 0, 118, 116, 105, 54, 0, 0, 0, 0, 12, 0, 2, 0, 8, 0, 2, 0, 0, 0, 0, 9,
+    ];
+    assert_reads(&rt, rt.alloc(), &bytes, &bytes);
+}
+
+#[test]
+fn reads_ipvtap(rt: HostRuntime) {
+    let bytes = [
+        11, 0, 1, 0, 105, 112, 118, 116, 97, 112, 0, 0, 20, 0, 2, 0, 6, 0, 1, 0, 0, 0, 0, 0, 6, 0,
+        2, 0, 2, 0, 0, 0,
+    ];
+    assert_reads(&rt, rt.alloc(), &bytes, &bytes);
+}
+
+#[test]
+fn reads_ipvlan(rt: HostRuntime) {
+    let bytes = [
+        11, 0, 1, 0, 105, 112, 118, 108, 97, 110, 0, 0, 20, 0, 2, 0, 6, 0, 1, 0, 0, 0, 0, 0, 6, 0,
+        2, 0, 2, 0, 0, 0,
+    ];
+    assert_reads(&rt, rt.alloc(), &bytes, &bytes);
+}
+
+#[test]
+fn reads_ipvlan_without_flags(rt: HostRuntime) {
+    let bytes = [
+        11, 0, 1, 0, 105, 112, 118, 108, 97, 110, 0, 0, 20, 0, 2, 0, 6, 0, 1, 0, 0, 0, 0, 0, 6, 0,
+        2, 0, 0, 0, 0, 0,
+    ];
+    assert_reads(&rt, rt.alloc(), &bytes, &bytes);
+}
+
+#[test]
+fn reads_ipoib(rt: HostRuntime) {
+    let bytes = [
+        10, 0, 1, 0, 105, 112, 111, 105, 98, 0, 0, 0, 20, 0, 2, 0, 6, 0, 1, 0, 1, 128, 0, 0, 6, 0,
+        2, 0, 1, 0, 0, 0,
+    ];
+    assert_reads(&rt, rt.alloc(), &bytes, &bytes);
+}
+
+#[test]
+fn reads_batadv(rt: HostRuntime) {
+    let bytes = [
+        11, 0, 1, 0, 98, 97, 116, 97, 100, 118, 0, 0, 20, 0, 2, 0, 14, 0, 1, 0, 66, 65, 84, 77, 65,
+        78, 95, 73, 86, 0, 0, 0,
+    ];
+    assert_reads(&rt, rt.alloc(), &bytes, &bytes);
+}
+
+#[test]
+fn reads_bond_ports(rt: HostRuntime) {
+    let bytes = [
+        9, 0, 4, 0, 98, 111, 110, 100, 0, 0, 0, 0, 12, 0, 5, 0, 8, 0, 1, 0, 1, 2, 3, 4,
+    ];
+    assert_reads(&rt, rt.alloc(), &bytes, &bytes);
+}
+
+#[test]
+fn reads_pfcp(rt: HostRuntime) {
+    let bytes = [
+        9, 0, 1, 0, 112, 102, 99, 112, 0, 0, 0, 0, 12, 0, 2, 0, 8, 0, 1, 128, 1, 0, 0, 0,
+    ];
+    assert_reads(&rt, rt.alloc(), &bytes, &bytes);
+}
+
+#[test]
+fn reads_pfcp_without_padding(rt: HostRuntime) {
+    let bytes = [
+        9, 0, 1, 0, 112, 102, 99, 112, 0, 0, 0, 0, 9, 0, 2, 0, 5, 0, 1, 0, 7, 0, 0, 0,
+    ];
+    let canonical = [
+        9, 0, 1, 0, 112, 102, 99, 112, 0, 0, 0, 0, 12, 0, 2, 0, 5, 0, 1, 0, 7, 0, 0, 0,
+    ];
+    assert_reads(&rt, rt.alloc(), &bytes, &canonical);
+}
+
+#[test]
+fn reads_empty_pfcp(rt: HostRuntime) {
+    let bytes = [9, 0, 1, 0, 112, 102, 99, 112, 0, 0, 0, 0, 4, 0, 2, 0];
+    assert_reads(&rt, rt.alloc(), &bytes, &bytes);
+}
+
+#[test]
+fn reads_a_chain_of_lists(rt: HostRuntime) {
+    let bytes = [
+        12, 0, 1, 0, b'm', b'a', b'c', b'v', b'l', b'a', b'n', 0, 32, 0, 2, 0, 28, 0, 5, 0, 24, 0,
+        5, 0, 20, 0, 5, 0, 16, 0, 5, 0, 12, 0, 5, 0, 8, 0, 5, 0, 4, 0, 5, 0,
+    ];
+    assert_reads(&rt, rt.alloc(), &bytes, &bytes);
+}
+
+#[test]
 fn reads_a_name_that_does_not_fit(rt: HostRuntime) {
     let mut bytes = [b'a'; 65535];
     bytes[..4].copy_from_slice(&[255, 255, 1, 0]);

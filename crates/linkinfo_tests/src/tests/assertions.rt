@@ -2,7 +2,8 @@
 
 use linkinfo::{
     Cause, DecodeError, Family, HeaderCount, LinkInfo, LinkInfoOf, LinkPeer, Nla, Nlas,
-    VecLinkInfo, VecLinkInfoOf, check, emit_nlas, nlas_buffer_len, nlas_fit_len, same,
+    VecLinkInfo, VecLinkInfoOf, check, check_counted, emit_nlas, nlas_buffer_len, nlas_fit_len,
+    same,
 };
 use std::alloc::{AllocError, Global};
 use std::process::Abort;
@@ -101,6 +102,25 @@ pub fn assert_refused(rt: &impl Abort, alloc: Global, bytes: &[u8], fault: Decod
     assert_eq!(rt; read.err(), Some(fault), "reading {bytes:?}");
     assert_eq!(rt; same(bytes, &[]), Err(fault), "comparing {bytes:?}");
     assert_eq!(rt; same(&[], bytes), Err(fault), "comparing {bytes:?}");
+}
+
+/// Checking and reading the string each look at this many headers, and answer this fault or none.
+pub fn assert_headers(
+    rt: &impl Abort,
+    alloc: Global,
+    bytes: &[u8],
+    fault: Option<DecodeError>,
+    headers: usize,
+) {
+    let mut checking = HeaderCount::new();
+    let checked = check_counted(bytes, &mut checking);
+    let mut reading = HeaderCount::new();
+    let read = VecLinkInfo::parse_counted(alloc, bytes, &mut reading);
+    assert_eq!(rt;
+        (checked.err(), read.err(), checking.get(), reading.get()),
+        (fault, fault, headers, headers),
+        "headers of {bytes:?}"
+    );
 }
 
 /// The attribute is emitted as the string, with its type, and its payload by itself.

@@ -1,10 +1,10 @@
 //! How many headers are looked at.
 
-use super::assertions::{bytes_of, link_fault};
+use super::assertions::{assert_headers, bytes_of, link_fault};
 use super::worked::{
     DATA_TWICE, FIRST_FAULT, PFCP, PFCP_NO_NUL, SECOND_PORT_DATA, VETH_TAIL, XFRM,
 };
-use linkinfo::{Cause, DecodeError, Family, HeaderCount, VecLinkInfo, check_counted, same_counted};
+use linkinfo::{Cause, DecodeError, Family, HeaderCount, same_counted};
 use std::test::Fail;
 
 #[test]
@@ -26,14 +26,7 @@ fn counts_of_one_string(rt: HostRuntime) -> Result<(), Fail> {
     ] {
         let bytes = bytes_of(&rt, alloc, text)?;
         assert_eq!(rt; bytes.len() / 4, allowed, "the quarter of {text}");
-        let mut count = HeaderCount::new();
-        let checked = check_counted(&bytes, &mut count);
-        assert_eq!(rt; checked.err(), fault, "checking {text}");
-        assert_eq!(rt; count.get(), headers, "headers of {text}");
-        let mut count = HeaderCount::new();
-        let read = VecLinkInfo::parse_counted(alloc, &bytes, &mut count);
-        assert_eq!(rt; read.err(), fault, "reading {text}");
-        assert_eq!(rt; count.get(), headers, "headers of {text}");
+        assert_headers(&rt, alloc, &bytes, fault, headers);
     }
     Ok(())
 }

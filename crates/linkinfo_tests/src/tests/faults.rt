@@ -1,7 +1,7 @@
 //! Strings that are refused.
 
 use super::assertions::{HEADER_FAULT, assert_refused, bytes_of, link_fault};
-use super::worked::{FIRST_FAULT, SECOND_PORT_DATA, VETH_EMPTY, XFRM};
+use super::worked::{FIRST_FAULT, IP6TNL_SHORT_FLAGS, SECOND_PORT_DATA, VETH_EMPTY, XFRM};
 use linkinfo::{Cause, DecodeError, Family, VecLinkInfo, check, same};
 use std::test::Fail;
 
@@ -89,6 +89,98 @@ fn accepted_fronts_of_one_string(rt: HostRuntime) -> Result<(), Fail> {
         } else {
             assert_refused(&rt, alloc, front, HEADER_FAULT);
         }
+    }
+    Ok(())
+}
+
+/// Links whose data is refused: the family, the type and the cause of the fault.
+const REFUSED_DATA: &[(&str, Family, u16, Cause)] = &[
+    (IP6TNL_SHORT_FLAGS, Family::IpTunnel, 8, Cause::Length),
+    (
+        "09000100 69706970 00000000 0c000200 08000800 01000100",
+        Family::IpTunnel,
+        8,
+        Cause::Length,
+    ),
+    (
+        "0c000100 62617265 75647000 0c000200 05000300 07000000",
+        Family::BareUdp,
+        3,
+        Cause::Length,
+    ),
+    (
+        "0b000100 67656e65 76650000 18000200 14000200 00000000 00000000 00000000 00000000",
+        Family::Geneve,
+        2,
+        Cause::AddressKind,
+    ),
+    (
+        "0b000100 67656e65 76650000 0c000200 06000200 01020000",
+        Family::Geneve,
+        2,
+        Cause::Length,
+    ),
+    (
+        "0a000100 726d6e65 74000000 14000200 0d000200 01020304 05060708 09000000",
+        Family::RmNet,
+        2,
+        Cause::Length,
+    ),
+    (
+        "0a000100 76786c61 6e000000 0c000200 06001c00 00000000",
+        Family::Vxlan,
+        28,
+        Cause::Length,
+    ),
+    (
+        "08000100 616d7400 0c000200 06000500 01020000",
+        Family::Amt,
+        5,
+        Cause::Length,
+    ),
+    (
+        "0b000100 6e65746b 69740000 0c000200 08000800 05000000",
+        Family::Netkit,
+        8,
+        Cause::Length,
+    ),
+    (
+        "0c000100 6d616376 74617000 10000200 0c000500 05000400 01000000",
+        Family::MacVtap,
+        4,
+        Cause::Length,
+    ),
+    (
+        "0b000100 62617461 64760000 0a000200 06000100 c328",
+        Family::BatAdv,
+        1,
+        Cause::Utf8,
+    ),
+    (
+        "0c000100 6d616376 74617000 0c000200 08000500 05000400",
+        Family::Frame,
+        0,
+        Cause::Header,
+    ),
+    (
+        "09000100 7866726d 00000000 09000200 04000900 00",
+        Family::Frame,
+        0,
+        Cause::Header,
+    ),
+];
+
+#[test]
+fn refuses_data_of_families(rt: HostRuntime) -> Result<(), Fail> {
+    let alloc = rt.alloc();
+    for (text, family, kind, cause) in REFUSED_DATA {
+        let bytes = bytes_of(&rt, alloc, text)?;
+        let fault = DecodeError {
+            family: *family,
+            kind: *kind,
+            cause: *cause,
+        };
+        assert_refused(&rt, alloc, &bytes, fault);
     }
     Ok(())
 }

@@ -6,6 +6,7 @@ use linkinfo::{
     InfoKind, InfoPortData, InfoPortKind, InfoVeth, InfoVethOf, InfoVrf, InfoXfrm, LinkXstats,
     NlaBuffer, Nlas, ParseableParametrized, Text, is_equal,
 };
+use std::alloc::Global;
 use std::test::Fail;
 
 /// An attribute of type 1 of four bytes, and one of type 2.
@@ -20,15 +21,35 @@ fn length_fault(family: Family) -> DecodeError {
     }
 }
 
+/// A payload read as data of a kind.
+fn read_data(alloc: Global, payload: &[u8], kind: &InfoKind) -> Result<InfoData, DecodeError> {
+    InfoData::parse_with_param(alloc, payload, kind)
+}
+
+/// A payload read as data of a port kind.
+fn read_port_data(
+    alloc: Global,
+    payload: &[u8],
+    kind: &InfoPortKind,
+) -> Result<InfoPortData, DecodeError> {
+    InfoPortData::parse_with_param(alloc, payload, kind)
+}
+
 #[test]
-fn data_of_families(rt: HostRuntime) -> Result<(), Fail> {
+fn data_of_xfrm(rt: HostRuntime) -> Result<(), Fail> {
     let alloc = rt.alloc();
     let items = vec![in alloc; InfoXfrm::Link(2), InfoXfrm::IfId(10)]?;
-    let read = InfoData::parse_with_param(alloc, &TWO, &InfoKind::Xfrm)?;
+    let read = read_data(alloc, &TWO, &InfoKind::Xfrm)?;
     assert!(rt; read == InfoData::Xfrm(Nlas::new(items)));
+    Ok(())
+}
+
+#[test]
+fn data_of_vrf(rt: HostRuntime) -> Result<(), Fail> {
+    let alloc = rt.alloc();
     let kept = DefaultNla::new(2, vec![in alloc; 10u8, 0, 0, 0]?);
     let items = vec![in alloc; InfoVrf::TableId(2), InfoVrf::Other(kept)]?;
-    let read = InfoData::parse_with_param(alloc, &TWO, &InfoKind::Vrf)?;
+    let read = read_data(alloc, &TWO, &InfoKind::Vrf)?;
     assert!(rt; read == InfoData::Vrf(Nlas::new(items)));
     Ok(())
 }
@@ -37,10 +58,15 @@ fn data_of_families(rt: HostRuntime) -> Result<(), Fail> {
 fn data_of_peers(rt: HostRuntime) -> Result<(), Fail> {
     let alloc = rt.alloc();
     let peer = InfoVeth::Peer(Bytes::new(vec![in alloc; 2u8, 0, 0, 0]?));
-    let read = InfoData::parse_with_param(alloc, &TWO, &InfoKind::Veth)?;
+    let read = read_data(alloc, &TWO, &InfoKind::Veth)?;
     assert!(rt; read == InfoData::Veth(peer));
+    Ok(())
+}
+
+#[test]
+fn data_of_bits(rt: HostRuntime) -> Result<(), Fail> {
     let bit = [5, 0, 1, 0, 7];
-    let read = InfoDataOf::<BitPeer>::parse_with_param(alloc, &bit, &InfoKind::Veth)?;
+    let read = InfoDataOf::<BitPeer>::parse_with_param(rt.alloc(), &bit, &InfoKind::Veth)?;
     assert!(rt; read == InfoDataOf::Veth(InfoVethOf::Peer(BitPeer(true))));
     Ok(())
 }
@@ -52,7 +78,7 @@ fn data_without_a_family(rt: HostRuntime) -> Result<(), Fail> {
     // A kind of an unknown name has no family, whatever the text.
     let unknown = InfoKind::Other(Text::copy_of(alloc, "xfrm")?);
     for kind in [InfoKind::Dummy, unknown] {
-        let read = InfoData::parse_with_param(alloc, &TWO[..5], &kind)?;
+        let read = read_data(alloc, &TWO[..5], &kind)?;
         let bytes = Bytes::copy_of(alloc, &[8, 0, 1, 0, 2])?;
         assert!(rt; read == InfoData::Other(bytes));
     }
@@ -63,15 +89,20 @@ fn data_without_a_family(rt: HostRuntime) -> Result<(), Fail> {
 fn faults_of_data(rt: HostRuntime) -> Result<(), Fail> {
     let alloc = rt.alloc();
     let short = [5, 0, 1, 0, 7];
-    let xfrm = InfoData::parse_with_param(alloc, &short, &InfoKind::Xfrm);
-    assert_eq!(rt; xfrm.err(), Some(length_fault(Family::Xfrm)));
-    let vrf = InfoData::parse_with_param(alloc, &short, &InfoKind::Vrf);
-    assert_eq!(rt; vrf.err(), Some(length_fault(Family::Vrf)));
-    let veth = InfoData::parse_with_param(alloc, &[], &InfoKind::Veth);
-    assert_eq!(rt; veth.err(), Some(HEADER_FAULT));
-    let xfrm = InfoData::parse_with_param(alloc, &[7], &InfoKind::Xfrm);
-    assert_eq!(rt; xfrm.err(), Some(HEADER_FAULT));
-    let none = InfoData::parse_with_param(alloc, &[], &InfoKind::Xfrm)?;
+    let xfrm = read_data(alloc, &short, &InfoKind::Xfrm).err();
+    let vrf = read_data(alloc, &short, &InfoKind::Vrf).err();
+    assert_eq!(rt; xfrm, Some(length_fault(Family::Xfrm)));
+    assert_eq!(rt; vrf, Some(length_fault(Family::Vrf)));
+    Ok(())
+}
+
+#[test]
+fn data_of_no_attributes(rt: HostRuntime) -> Result<(), Fail> {
+    let alloc = rt.alloc();
+    let veth = read_data(alloc, &[], &InfoKind::Veth).err();
+    let stray = read_data(alloc, &[7], &InfoKind::Xfrm).err();
+    assert_eq!(rt; (veth, stray), (Some(HEADER_FAULT), Some(HEADER_FAULT)));
+    let none = read_data(alloc, &[], &InfoKind::Xfrm)?;
     assert!(rt; none == InfoData::Xfrm(Nlas::new(vec![in alloc;]?)));
     Ok(())
 }
@@ -81,14 +112,14 @@ fn port_data_by_kind(rt: HostRuntime) -> Result<(), Fail> {
     let alloc = rt.alloc();
     let items = vec![in alloc; InfoVrf::TableId(5)]?;
     let table = [8, 0, 1, 0, 5, 0, 0, 0];
-    let read = InfoPortData::parse_with_param(alloc, &table, &InfoPortKind::Vrf)?;
+    let read = read_port_data(alloc, &table, &InfoPortKind::Vrf)?;
     assert!(rt; is_equal(&read, &InfoPortData::VrfPort(Nlas::new(items))));
     for name in ["x", "vrf"] {
         let other = InfoPortKind::Other(Text::copy_of(alloc, name)?);
-        let read = InfoPortData::parse_with_param(alloc, &[7], &other)?;
+        let read = read_port_data(alloc, &[7], &other)?;
         assert!(rt; read == InfoPortData::Other(Bytes::copy_of(alloc, &[7])?));
     }
-    let short = InfoPortData::parse_with_param(alloc, &[5, 0, 1, 0, 7], &InfoPortKind::Vrf);
+    let short = read_port_data(alloc, &[5, 0, 1, 0, 7], &InfoPortKind::Vrf);
     assert_eq!(rt; short.err(), Some(length_fault(Family::Vrf)));
     Ok(())
 }

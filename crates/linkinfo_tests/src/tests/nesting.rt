@@ -1,0 +1,89 @@
+//! Address lists inside address lists.
+
+use super::assertions::{assert_emitted, assert_headers};
+use super::fronts::assert_fronts;
+use linkinfo::{Cause, DecodeError, Family, InfoData, InfoMacVlan, LinkInfo, VecLinkInfo, same};
+use std::alloc::{AllocError, Global};
+use std::process::Abort;
+use std::test::Fail;
+
+/// The fault of a list inside 128 others.
+const TOO_DEEP: DecodeError = DecodeError {
+    family: Family::MacVlan,
+    kind: 5,
+    cause: Cause::Depth,
+};
+
+/// How deep a chain is, the header of its data, how many headers are looked at, and the fault.
+const CHAINS: &[(u16, [u8; 4], usize, Option<DecodeError>)] = &[
+    (100, [0x94, 1, 2, 0], 102, None),
+    (128, [4, 2, 2, 0], 130, None),
+    (129, [8, 2, 2, 0], 131, Some(TOO_DEEP)),
+    (16382, [0xfc, 0xff, 2, 0], 131, Some(TOO_DEEP)),
+];
+
+/// A macvlan link whose data is a chain of address lists, this many levels deep, of which the last one is empty.
+fn chain(rt: &impl Abort, alloc: Global, depth: u16) -> Result<Vec<u8>, AllocError> {
+    assert!(rt; depth <= 16382);
+    let kind = [12, 0, 1, 0, b'm', b'a', b'c', b'v', b'l', b'a', b'n', 0];
+    let mut bytes = Vec::from_array(alloc, kind)?;
+    let data_len = 4 + 4 * depth;
+    bytes.extend_from_slice(&data_len.to_le_bytes())?;
+    bytes.extend_from_slice(&[2, 0])?;
+    for below in 0..depth {
+        let list_len = 4 * (depth - below);
+        bytes.extend_from_slice(&list_len.to_le_bytes())?;
+        bytes.extend_from_slice(&[5, 0])?;
+    }
+    Ok(bytes)
+}
+
+#[test]
+fn counts_of_chains(rt: HostRuntime) -> Result<(), Fail> {
+    let alloc = rt.alloc();
+    for (depth, header, headers, fault) in CHAINS {
+        let bytes = chain(&rt, alloc, *depth)?;
+        assert!(rt; bytes.len() > 16);
+        assert_eq!(rt; &bytes[12..16], header.as_slice());
+        assert_headers(&rt, alloc, &bytes, *fault, *headers);
+    }
+    Ok(())
+}
+
+#[test]
+fn every_front_of_a_chain(rt: HostRuntime) -> Result<(), Fail> {
+    let alloc = rt.alloc();
+    for (depth, ..) in CHAINS {
+        assert_fronts(&rt, alloc, &chain(&rt, alloc, *depth)?);
+    }
+    Ok(())
+}
+
+/// How many lists are in one another, each alone.
+fn depth_of(items: &[InfoMacVlan]) -> usize {
+    let mut items = items;
+    for depth in 0..1000 {
+        let [InfoMacVlan::MacAddrData(inner)] = items else {
+            return depth;
+        };
+        items = inner.as_slice();
+    }
+    1000
+}
+
+#[test]
+fn chains_are_canonical(rt: HostRuntime) -> Result<(), Fail> {
+    let alloc = rt.alloc();
+    for depth in [100, 128] {
+        let bytes = chain(&rt, alloc, depth)?;
+        let read = VecLinkInfo::parse(alloc, &bytes)?;
+        assert_emitted(&rt, alloc, read.0.as_slice(), &bytes)?;
+        let [LinkInfo::Kind(_), LinkInfo::Data(InfoData::MacVlan(items))] = read.0.as_slice() else {
+            panic!(&rt; "a macvlan link of {depth} lists");
+        };
+        assert_eq!(rt; depth_of(items.as_slice()), usize::from(depth));
+    }
+    let longer = chain(&rt, alloc, 101)?;
+    assert_eq!(rt; same(&longer, &chain(&rt, alloc, 100)?), Ok(false));
+    Ok(())
+}
