@@ -45,10 +45,20 @@ fn data_without_a_family_is_written(rt: HostRuntime) -> Result<(), Fail> {
     let value = InfoData::Other(Bytes::copy_of(alloc, &[7])?);
     assert!(rt; value.clone()? == value);
     assert_written(&rt, alloc, value, "05000200 07000000")?;
-    let longest = InfoData::Other(Bytes::new(vec![in alloc; 0u8; 65531]?));
-    assert_eq!(rt; longest.fit_len(), Some(65531));
-    let longer = InfoData::Other(Bytes::new(vec![in alloc; 0u8; 65532]?));
-    assert_eq!(rt; longer.fit_len(), None);
+    Ok(())
+}
+
+/// How long data of this many bytes is written, where it fits.
+fn len_of_bytes(alloc: Global, count: usize) -> Result<Option<usize>, AllocError> {
+    let value = InfoData::Other(Bytes::new(vec![in alloc; 0u8; count]?));
+    Ok(value.fit_len())
+}
+
+#[test]
+fn longest_data_fits(rt: HostRuntime) -> Result<(), Fail> {
+    let alloc = rt.alloc();
+    assert_eq!(rt; len_of_bytes(alloc, 65531)?, Some(65531));
+    assert_eq!(rt; len_of_bytes(alloc, 65532)?, None);
     Ok(())
 }
 

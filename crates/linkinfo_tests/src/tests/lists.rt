@@ -43,23 +43,38 @@ fn reads_kinds(rt: HostRuntime) -> Result<(), Fail> {
 #[test]
 fn reads_data(rt: HostRuntime) -> Result<(), Fail> {
     let alloc = rt.alloc();
-    let items = vec![in alloc;
-        LinkInfo::Kind(InfoKind::Xfrm),
-        xfrm(vec![in alloc; InfoXfrm::Link(2), InfoXfrm::IfId(10)]?),
-    ]?;
+    let data = xfrm(vec![in alloc; InfoXfrm::Link(2), InfoXfrm::IfId(10)]?);
+    let items = vec![in alloc; LinkInfo::Kind(InfoKind::Xfrm), data]?;
     assert_reads(&rt, alloc, XFRM, items, XFRM)?;
-    let items = vec![in alloc;
-        LinkInfo::Kind(InfoKind::Xfrm),
-        xfrm(vec![in alloc;]?),
-        xfrm(vec![in alloc; InfoXfrm::IfId(5)]?),
-    ]?;
+    Ok(())
+}
+
+#[test]
+fn reads_data_twice(rt: HostRuntime) -> Result<(), Fail> {
+    let alloc = rt.alloc();
+    let first = xfrm(vec![in alloc;]?);
+    let second = xfrm(vec![in alloc; InfoXfrm::IfId(5)]?);
+    let items = vec![in alloc; LinkInfo::Kind(InfoKind::Xfrm), first, second]?;
     assert_reads(&rt, alloc, DATA_TWICE, items, DATA_TWICE)?;
+    Ok(())
+}
+
+#[test]
+fn reads_data_of_a_later_kind(rt: HostRuntime) -> Result<(), Fail> {
+    let alloc = rt.alloc();
+    let data = xfrm(vec![in alloc;]?);
     let items = vec![in alloc;
         LinkInfo::Kind(InfoKind::Vrf),
         LinkInfo::Kind(InfoKind::Xfrm),
-        xfrm(vec![in alloc;]?),
+        data,
     ]?;
     assert_reads(&rt, alloc, LATER_KIND, items, LATER_KIND)?;
+    Ok(())
+}
+
+#[test]
+fn reads_the_first_attribute_alone(rt: HostRuntime) -> Result<(), Fail> {
+    let alloc = rt.alloc();
     let peer = InfoVeth::Peer(Bytes::new(vec![in alloc; 0xaau8, 0xbb]?));
     let items = vec![in alloc;
         LinkInfo::Kind(InfoKind::Veth),
