@@ -6,6 +6,9 @@ use Rattle.nla_frame.specs.Attribute.{Attribute, masked}
 use Rattle.nla_frame.specs.declared.error.DecodeError.{DecodeError}
 use Rattle.nla_frame.specs.declared.error.Family.TheVariants as family
 use Rattle.linkinfo_numbers.specs.declared.names.KindTag.{KindTag}
+use Rattle.linkinfo_numbers.specs.declared.names.KindTag.TheVariants as tag
+use Rattle.linkinfo_data.specs.declared.info_data.InfoDataOf.TheVariants as held
+use Rattle.linkinfo.specs.declared.link_info.LinkInfoOf.TheVariants as info
 use Rattle.linkinfo_data.specs.Data.{family_of}
 use Rattle.linkinfo_data.specs.Families.{Families}
 use Rattle.linkinfo_data.specs.declared.data.DataFamily.{DataFamily}
@@ -23,7 +26,18 @@ use Rattle.linkinfo.specs.declared.role.Role.TheVariants as role
 use Rattle.linkinfo.proofs.Items.{link_alike_after, role_alike_after, same_role}
 use Rattle.linkinfo.proofs.Steps.{meaning_is}
 
+tag_is : (t : KindTag) → is_pfcp t ≡ true → t ≡ tag.Pfcp
+tag_is tag.Pfcp e = refl
+tag_is _ e = absurd cc
+
+pub pfcp_role : (r : Role) → is_pfcp_data r ≡ true → r ≡ role.Data tag.Pfcp
+pfcp_role (role.Data t) e = ap (λ (s : KindTag). let r : Role = role.Data s in r) (tag_is t e)
+pfcp_role _ e = absurd cc
+
 module _ {P : Type 0} (peer : Families P) where
+  pub bytes_before : (t : InForce) (a : Attribute) → role_at t a ≡ role.Data tag.Pfcp → meaning_before peer t a ≡ Ok (info.Data (held.Other a.value))
+  bytes_before t a e = ap (λ (r : Role). row_meaning family.LinkInfo link_other (row_before peer r) a) e
+
   means_by : DataFamily → Attribute → Result (LinkInfoOf P) DecodeError
   means_by f a = row_meaning family.LinkInfo link_other (data_row peer f) a
 

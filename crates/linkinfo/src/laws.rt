@@ -1,13 +1,17 @@
 //! Laws of the list, each the contract of a function without code.
 
-ghost use Rattle.std.specs.Prelude.{◌≡◌, ◌≢◌, ◌↔◌, ℕ, IsOk, IsTrue, List, Some, Ok, Err};
+ghost use Rattle.std.specs.Prelude.{◌≡◌, ◌≢◌, ◌↔◌, ℕ, IsOk, IsTrue, List, Some, Ok, Err, true};
 ghost use Rattle.std.specs.Iterator.{Yields};
 ghost use Rattle.nla_frame.specs.Attribute.{Attribute};
 ghost use Rattle.nla_frame.specs.Error.{memory_fault};
 ghost use Rattle.nla_frame.specs.Kept.{kept};
 ghost use Rattle.nla_frame.specs.declared.error.DecodeError.{DecodeError};
 ghost use Rattle.linkinfo_table.specs.Readings.{IsDecided};
-ghost use Rattle.linkinfo.specs.BeforePfcp.{HasNoPfcpData, alike_strings_before, reading_before};
+ghost use Rattle.linkinfo.specs.BeforePfcp.{HasNoPfcpData, alike_strings_before, is_pfcp_data, meaning_before, reading_before};
+ghost use Rattle.linkinfo.specs.declared.link_info.LinkInfoOf.TheVariants as info;
+ghost use Rattle.linkinfo_data.specs.declared.info_data.InfoDataOf.TheVariants as data_of;
+ghost use Rattle.linkinfo_numbers.specs.declared.names.KindTag.TheVariants as tag;
+ghost use Rattle.linkinfo.specs.declared.role.Role.{Role};
 ghost use Rattle.linkinfo.specs.Items.{link_meaning, link_other};
 ghost use Rattle.linkinfo.specs.Roles.{none_in_force, role_at};
 ghost use Rattle.linkinfo.specs.Strings.{IsFaulty, Means, MeansEach, alike_strings, force_behind_all, last_kind, last_port, reading};
@@ -59,11 +63,14 @@ pub fn equal_items()
     ensures { (a b : LinkInfoItem) → IsTrue (⟦<LinkInfoItem<'static> as PartialEq>⟧.eq a b) ↔ (held a ≡ held b) }
 {}
 
-/// What changed when `pfcp` gained a family, against the list as it was read when data under `pfcp` was bytes: every string that is accepted was
-/// accepted; and a string without data under `pfcp` has the same acceptance, value and fault, and is alike to the same strings.
+/// What changed when `pfcp` gained a family, against the list as it was read when data under `pfcp`, and under no other kind (`kind`), was its bytes
+/// (`bytes`): every string that is accepted was accepted; and a string without data under `pfcp` has the same acceptance, value and fault, and is
+/// alike to the same strings.
 ///
 /// A value of that time is moved by `InfoData::parse_with_param` on its payload under `InfoKind::Pfcp`.
 pub fn pfcp<P: LinkPeer>(bytes: &[u8])
+    ensures kind { (r : Role) → (is_pfcp_data r ≡ true) ↔ (r ≡ role.Data tag.Pfcp) }
+    ensures bytes { (t : InForce) (a : Attribute) → role_at t a ≡ role.Data tag.Pfcp → meaning_before ⟦<P as DataFamilies>⟧.families t a ≡ Ok (info.Data (data_of.Other a.value)) }
     ensures accepted { IsOk (reading ⟦<P as DataFamilies>⟧.families bytes.now) → IsOk (reading_before ⟦<P as DataFamilies>⟧.families bytes.now) }
     ensures elsewhere { HasNoPfcpData bytes.now → reading ⟦<P as DataFamilies>⟧.families bytes.now ≡ reading_before ⟦<P as DataFamilies>⟧.families bytes.now }
     ensures alike { HasNoPfcpData bytes.now → (other : List ℕ) → alike_strings ⟦<P as DataFamilies>⟧.families bytes.now other ≡ alike_strings_before ⟦<P as DataFamilies>⟧.families bytes.now other }

@@ -32,7 +32,6 @@ use std::alloc::Global;
 use std::slice;
 
 /// Reads the attributes that a walk has not gone over. The headers that the walk looks at are not counted here.
-
 fn read_rest<P: LinkPeer>(
     alloc: Global,
     walk: &mut LinkInfoWalk<'_>,

@@ -1,4 +1,4 @@
--- The canonical payload of data.
+-- The canonical payload of data. What an attribute of ipip, sit and ip6tnl is written as does not depend on the kind, so any tag stands for all three.
 use Rattle.std.specs.Prelude.{ℕ, List, map}
 use Rattle.nla_frame.specs.Attribute.{Attribute, canonical_string, list_string}
 use Rattle.linkinfo_numbers.specs.declared.names.KindTag.TheVariants as tag

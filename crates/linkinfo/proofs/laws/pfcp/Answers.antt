@@ -1,8 +1,11 @@
 use Rattle.nla_frame.specs.Pieces.{pieces}
-use Rattle.linkinfo.specs.BeforePfcp.{HasNoPfcpData, alike_strings_before, reading_before}
+use Rattle.std.specs.Prelude.{◌≡◌, Bool, true, refl}
+use Rattle.std.proofs.Common.{ap}
+use Rattle.linkinfo.specs.declared.role.Role.{Role}
+use Rattle.linkinfo.specs.BeforePfcp.{HasNoPfcpData, is_pfcp_data, alike_strings_before, reading_before}
 use Rattle.linkinfo.specs.Roles.{none_in_force}
 use Rattle.linkinfo.specs.Strings.{alike_strings, reading}
-use Rattle.linkinfo.proofs.Pfcp.{accepted_before, alike_first, alike_second, read_before}
+use Rattle.linkinfo.proofs.Pfcp.{accepted_before, alike_first, alike_second, bytes_before, pfcp_role, read_before}
 use Rattle.linkinfo.proofs.laws.pfcp.Goals as goal
 use Rattle.linkinfo_data.specs.PeerFamilies.{families_of}
 
@@ -21,3 +24,9 @@ returns-clause-alike g c = λ e other. alike_first (families_of g.row.P g.P.Link
 pub returns-clause-alike_to : goal.returns-clause-alike_to
 unfolding alike_strings alike_strings_before HasNoPfcpData
 returns-clause-alike_to g c = λ e other. alike_second (families_of g.row.P g.P.LinkPeer) none_in_force (pieces other) (pieces c.args.bytes.now) e
+
+pub returns-clause-kind : goal.returns-clause-kind
+returns-clause-kind g c = λ r. (pfcp_role r, λ e. ap (λ (s : Role). is_pfcp_data s) e)
+
+pub returns-clause-bytes : goal.returns-clause-bytes
+returns-clause-bytes g c = λ t a e. bytes_before (families_of g.row.P g.P.LinkPeer) t a e
