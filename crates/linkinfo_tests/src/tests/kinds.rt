@@ -426,7 +426,7 @@ fn assert_value(
     Ok(())
 }
 
-/// The strings are read as two values, and the fronts of the first as they are checked.
+/// The strings are read as two values. Each front of the first is read as it is checked.
 fn assert_changed(
     rt: &impl Abort,
     alloc: Global,
@@ -444,6 +444,7 @@ fn assert_changed(
     Ok(())
 }
 
+/// Each row is read, emitted and compared as `Canonical` says.
 fn assert_canonical(rt: &impl Abort, alloc: Global, rows: &[Canonical]) -> Result<(), DecodeError> {
     for (string, changed, value) in rows {
         assert_value(rt, alloc, string, string, value)?;
@@ -452,6 +453,7 @@ fn assert_canonical(rt: &impl Abort, alloc: Global, rows: &[Canonical]) -> Resul
     Ok(())
 }
 
+/// Each row is read, emitted and compared as `Rewritten` says.
 fn assert_rewritten(rt: &impl Abort, alloc: Global, rows: &[Rewritten]) -> Result<(), DecodeError> {
     for (string, canonical, changed, value) in rows {
         assert_value(rt, alloc, string, canonical, value)?;

@@ -14,12 +14,19 @@ const TOO_DEEP: DecodeError = DecodeError {
     cause: Cause::Depth,
 };
 
-/// How deep a chain is, the header of its data, how many headers are looked at, and the fault.
-const CHAINS: &[(u16, [u8; 4], usize, Option<DecodeError>)] = &[
-    (100, [0x94, 1, 2, 0], 102, None),
-    (128, [4, 2, 2, 0], 130, None),
-    (129, [8, 2, 2, 0], 131, Some(TOO_DEEP)),
-    (16382, [0xfc, 0xff, 2, 0], 131, Some(TOO_DEEP)),
+/// How deep a chain is, the headers of its data and of its first list, a quarter of its bytes, how many headers are looked at, and the
+/// fault.
+const CHAINS: &[(u16, [u8; 8], usize, usize, Option<DecodeError>)] = &[
+    (100, [0x94, 1, 2, 0, 0x90, 1, 5, 0], 104, 102, None),
+    (128, [4, 2, 2, 0, 0, 2, 5, 0], 132, 130, None),
+    (129, [8, 2, 2, 0, 4, 2, 5, 0], 133, 131, Some(TOO_DEEP)),
+    (
+        16382,
+        [0xfc, 0xff, 2, 0, 0xf8, 0xff, 5, 0],
+        16386,
+        131,
+        Some(TOO_DEEP),
+    ),
 ];
 
 /// A macvlan link whose data is a chain of address lists, this many levels deep, of which the last one is empty.
@@ -41,10 +48,11 @@ fn chain(rt: &impl Abort, alloc: Global, depth: u16) -> Result<Vec<u8>, AllocErr
 #[test]
 fn counts_of_chains(rt: HostRuntime) -> Result<(), Fail> {
     let alloc = rt.alloc();
-    for (depth, header, headers, fault) in CHAINS {
+    for (depth, begin, quarter, headers, fault) in CHAINS {
         let bytes = chain(&rt, alloc, *depth)?;
-        assert!(rt; bytes.len() > 16);
-        assert_eq!(rt; &bytes[12..16], header.as_slice());
+        assert!(rt; bytes.len() > 20);
+        assert_eq!(rt; &bytes[12..20], begin.as_slice());
+        assert_eq!(rt; bytes.len() / 4, *quarter);
         assert_headers(&rt, alloc, &bytes, *fault, *headers);
     }
     Ok(())
