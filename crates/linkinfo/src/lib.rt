@@ -1,7 +1,7 @@
 //! The list of link info attributes: what stands inside `IFLA_LINKINFO`, include/uapi/linux/if_link.h.
 //!
-//! All names that a user needs are here, in four groups: for who reads, writes and compares lists; for who builds the data of a link; for who goes
-//! over attributes by hand; and for who writes a family of attributes, or a peer, of one's own.
+//! All names that a user needs are here, in groups: for who reads, writes and compares lists; for who builds the data of a link; for who goes over
+//! attributes by hand; for who writes a family of attributes, a peer or a flag set of one's own; and the laws of each layer.
 #![tactic(auto)]
 
 mod collection;
@@ -31,7 +31,8 @@ pub use nla_frame::{
 pub use walk::{LinkInfoItem, LinkInfoWalk};
 pub use xstats::LinkXstats;
 
-// For who builds the data of a link or of a port: the attributes of each family, and their numbers and flags.
+// For who builds the data of a link or of a port: the attributes of each family, and their numbers and flags (`Flags` has their bits).
+pub use bitflags::Flags;
 pub use linkinfo_devices::{
     InfoIpVlan, InfoIpVtap, InfoIpoib, InfoMacSec, InfoMacVlan, InfoMacVtap, InfoRmNet, InfoVrf,
     InfoVrfPort, InfoXfrm,
@@ -42,10 +43,9 @@ pub use linkinfo_lower::{
 pub use linkinfo_numbers::{
     AmtMode, ErSpanDir, EthernetProtocol, GeneveDf, GreEncapFlags, GreEncapType, GreIOFlags,
     GtpRole, InfoRmNetFlags, Ip6TunnelFlags, IpProtocol, IpVlanFlags, IpVlanMode, IpVtapFlags,
-    IpVtapMode, IpoibMode, KeepsEveryBit, MacSecCipherId, MacSecOffload, MacSecValidate,
-    MacVlanFlags, MacVlanMacAddressMode, MacVlanMode, MacVtapFlags, MacVtapMacAddressMode,
-    MacVtapMode, NetkitMode, NetkitPolicy, NetkitScrub, RmNetFlags, TunnelEncapFlags,
-    TunnelEncapType, VxlanDf, bits_again,
+    IpVtapMode, IpoibMode, MacSecCipherId, MacSecOffload, MacSecValidate, MacVlanFlags,
+    MacVlanMacAddressMode, MacVlanMode, MacVtapFlags, MacVtapMacAddressMode, MacVtapMode,
+    NetkitMode, NetkitPolicy, NetkitScrub, RmNetFlags, TunnelEncapFlags, TunnelEncapType, VxlanDf,
 };
 pub use linkinfo_peers::{
     InfoBatAdv, InfoNetkit, InfoNetkitOf, InfoPfcp, InfoTeamPort, InfoTun, InfoVeth, InfoVethOf,
@@ -63,8 +63,10 @@ pub use nla_frame::{
     without_nul,
 };
 
-// For who writes a family of attributes, or the peer of veth, vxcan and netkit links, of one's own.
+// For who writes a family of attributes, the peer of veth, vxcan and netkit links, or a flag set, of one's own. Every peer has `DataFamilies` and every
+// family `ListedFamily`: they are there for contracts alone.
 pub use linkinfo_data::DataFamilies;
+pub use linkinfo_numbers::{KeepsEveryBit, bits_again};
 pub use linkinfo_peers::BitPeer;
 pub use linkinfo_table::{
     Datum, FlatFamily, Found, LinkFamily, LinkPeer, ListedFamily, Lookup, Part, PeerFault,

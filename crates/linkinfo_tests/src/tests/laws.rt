@@ -12,6 +12,8 @@ fn laws_leave_a_string_accepted(rt: HostRuntime) -> Result<(), Fail> {
     laws::in_force::<BitPeer>();
     laws::tags_by_place(&bytes);
     laws::equal_items();
+    laws::no_memory::<BitPeer>();
+    laws::pfcp::<Bytes>(&bytes);
     laws::unknown_kept::<Bytes>();
     assert_eq!(rt; check(&bytes), Ok(()));
     Ok(())
