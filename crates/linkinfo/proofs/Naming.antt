@@ -1,6 +1,6 @@
 -- The rows of names, from what their name is.
 use Rattle.std.proofs.Common.{◌≡◌, ℕ, Bool, true, false, List, refl, sym, ap, subst, ◌∙◌, Result, Ok, Err, inl, inr}
-use Rattle.std.specs.Prelude.{IsOk}
+use Rattle.std.specs.Prelude.{IsOk, if◌then◌else◌}
 use Rattle.std.specs.Str.{is_utf8}
 use Rattle.nla_frame.specs.Answers.{verdict}
 use Rattle.std.proofs.lemmas.Bool.{cases_Bool, cond-false}
@@ -76,6 +76,47 @@ name_needs a name e =
     never : (r : Result (List ℕ) Cause) → r ≡ no_text → name_or_fault a r ≡ Ok name → ⊥
     never (Ok n) h k = absurd cc
     never (Err c) h k = absurd cc
+
+-- ---- what is made of a name
+
+abbrev text_if : Bool → List ℕ → Result (List ℕ) Cause
+text_if b bytes = if b then Ok bytes else Err cause.Utf8
+
+-- it is made of the payload's bytes, where they are UTF-8
+pub made_of_bytes : {X : Type 0} (a : Attribute) (f : List ℕ → X) → is_utf8 (stripped a.value) ≡ true → with_name (name_meaning a) f ≡ Ok (f (stripped a.value))
+unfolding name_meaning
+made_of_bytes a f e = ap (λ (b : Bool). with_name (name_or_fault a (text_if b (stripped a.value))) f) e
+
+pub made_of_name : {X : Type 0} (a : Attribute) (f : List ℕ → X) (name : List ℕ) → name_meaning a ≡ Ok name → with_name (name_meaning a) f ≡ Ok (f (stripped a.value))
+made_of_name a f name e = made_of_bytes a f (name_needs a name e)
+
+pub made_of_none : {X : Type 0} (a : Attribute) (f : List ℕ → X) (d : DecodeError) → name_meaning a ≡ Err d → with_name (name_meaning a) f ≡ Err d
+made_of_none a f d e = ap (λ (r : Result (List ℕ) DecodeError). with_name r f) e
+
+module _ {K : Type 0} (f : List ℕ → K) where
+  -- of a known name, and of a name that is UTF-8
+  pub made_known : (a : Attribute) (bytes : List ℕ) (k : K) → bytes ≡ stripped a.value → is_utf8 bytes ≡ true → f bytes ≡ k → with_name (name_meaning a) f ≡ Ok k
+  made_known a bytes k is text e =
+      made_of_bytes a f (ap is_utf8 (sym is) ∙ text) ∙ ap (λ (x : K). let r : Result K DecodeError = Ok x in r) (ap f (sym is) ∙ e)
+
+  pub made_named : (a : Attribute) (name : List ℕ) (k : K) → name_meaning a ≡ Ok name → k ≡ f name → with_name (name_meaning a) f ≡ Ok k
+  made_named a name k e is =
+      ap (λ (r : Result (List ℕ) DecodeError). with_name r f) e ∙ ap (λ (x : K). let r : Result K DecodeError = Ok x in r) (sym is)
+
+module _ {K X : Type 0} (f : List ℕ → K) (label : K → X) where
+  pub made_ok : (a : Attribute) (k : K) → with_name (name_meaning a) f ≡ Ok k → named (λ name. label (f name)) a ≡ Ok (label k)
+  made_ok a k e = go (name_meaning a) refl e
+    where
+      go : (r : Result (List ℕ) DecodeError) → name_meaning a ≡ r → with_name r f ≡ Ok k → named (λ name. label (f name)) a ≡ Ok (label k)
+      go (Ok name) h is = let same : f name ≡ k = cc in named_ok (λ n. label (f n)) a name (label k) h (ap label same)
+      go (Err d) h is = absurd cc
+
+  pub made_err : (a : Attribute) (d : DecodeError) → with_name (name_meaning a) f ≡ Err d → named (λ name. label (f name)) a ≡ Err d
+  made_err a d e = go (name_meaning a) refl e
+    where
+      go : (r : Result (List ℕ) DecodeError) → name_meaning a ≡ r → with_name r f ≡ Err d → named (λ name. label (f name)) a ≡ Err d
+      go (Ok name) h is = absurd cc
+      go (Err x) h is = let same : x ≡ d = cc in named_err (λ n. label (f n)) a d (h ∙ ap (λ (z : DecodeError). let r : Result (List ℕ) DecodeError = Err z in r) same)
 
 pub not_both : (b : Bool) → b ≡ true → b ≡ false → ⊥
 not_both true h k = absurd cc

@@ -130,6 +130,21 @@ module _ {P : Type 0} (peer : Families P) (law : AreLawful peer) where
       go (Ok xs) (Err d) h k = tt
       go (Err d) t h k = tt
 
+  -- equal strings, of which the first has this verdict
+  pub same_of_equal : (p q : List ℕ) → IsBytes p → IsBytes q → p ≡ q → Ok tt ≡ verdict (reading peer p) →
+      Ok true ≡ same_answer (reading peer p) (reading peer q) (alike_strings peer p q)
+  same_of_equal p q bp bq e accepted = go (reading peer p) (reading peer q) refl refl accepted
+    where
+      go : (s t : Result (List (LinkInfoOf P)) DecodeError) → reading peer p ≡ s → reading peer q ≡ t → Ok tt ≡ verdict s → Ok true ≡ same_answer s t (alike_strings peer p q)
+      go (Ok xs) (Ok ys) h k v =
+          let lists : xs ≡ ys = ok_same xs ys (sym h ∙ ap (reading peer) e ∙ k) in
+          ap (λ (b : Bool). let r : Result Bool DecodeError = Ok b in r) (sym ((strings_alike p q xs ys bp bq h k).1 lists))
+      go (Ok xs) (Err d) h k v = absurd (apart (sym h ∙ ap (reading peer) e ∙ k))
+        where
+          apart : ok_of xs ≡ Err d → ⊥
+          apart z = cc
+      go (Err d) t h k v = absurd cc
+
   pub same_answered : (p q : List ℕ) (r : Result Bool DecodeError) (xs ys : List (LinkInfoOf P)) → IsBytes p → IsBytes q →
       r ≡ same_answer (reading peer p) (reading peer q) (alike_strings peer p q) → reading peer p ≡ Ok xs → reading peer q ≡ Ok ys →
       AllByRecursion Fits (map attribute xs) → AllByRecursion Fits (map attribute ys) →

@@ -47,9 +47,10 @@ name_or_fault a (Err c) = Err (fault_of_item a c)
 unfoldable pub name_meaning : Attribute → Result (List ℕ) DecodeError
 name_meaning a = name_or_fault a (means Name a.value)
 
-abbrev pub with_name : Result (List ℕ) DecodeError → (List ℕ → InForce) → Result InForce DecodeError
-with_name (Ok name) force = Ok (force name)
-with_name (Err e) force = Err e
+-- what is made of a name, or the fault of the name
+abbrev pub with_name : {X : Type 0} → Result (List ℕ) DecodeError → (List ℕ → X) → Result X DecodeError
+with_name (Ok name) made = Ok (made name)
+with_name (Err e) made = Err e
 
 -- a name is in force from then on, and port data uses its port kind up; the fault is that of the attribute itself
 abbrev pub behind_role : Role → InForce → Attribute → Result InForce DecodeError

@@ -7,16 +7,21 @@ ghost use Rattle.nla_frame.specs.Answers.{CertainUnless, Gives, OnAnswer, verdic
 ghost use Rattle.nla_frame.specs.declared.error.Family.TheVariants as family;
 ghost use Rattle.linkinfo_table.specs.Rows.{row_alike, row_headers, row_meaning, row_needs_memory};
 ghost use Rattle.linkinfo.specs.Items.{link_other, link_row};
-ghost use Rattle.linkinfo.specs.Roles.{behind_role, none_in_force};
+ghost use Rattle.linkinfo_numbers.specs.Kind.{kind_of_name};
+ghost use Rattle.linkinfo_numbers.specs.PortKind.{port_kind_of_name};
+ghost use Rattle.linkinfo_shapes.specs.Shapes.{needs_memory};
+ghost use Rattle.linkinfo.specs.Roles.{behind_role, name_meaning, none_in_force, with_name};
 ghost use Rattle.nla_frame.specs.Attribute.{masked};
 
 use crate::link_info::LinkInfoOf;
 use crate::role::{Role, fault, name_in};
 use crate::xstats::LinkXstats;
 use linkinfo_data::{DataFamilies, InfoDataOf, PayloadFamily, family_of, port_family_of};
-use linkinfo_numbers::{InfoKind, InfoPortKind};
+use linkinfo_numbers::{InfoKind, InfoPortKind, port_tag_of_name, tag_of_name};
 use linkinfo_table::{LinkPeer, Shape, shape_same};
-use nla_frame::{Bytes, Cause, DecodeError, DefaultNla, HeaderCount, Nla, NlaBuffer, Parseable};
+use nla_frame::{
+    Bytes, Cause, DecodeError, DefaultNla, HeaderCount, Nla, NlaBuffer, Parseable, without_nul,
+};
 use std::alloc::Global;
 
 /// Reads an attribute by its role.
@@ -34,7 +39,7 @@ pub(crate) fn read_item<P: LinkPeer>(
     ensures quarter { 4 * count.new ≤ 4 * count.old + length nla.now.value }
 {
     match role {
-        Role::Kind => Ok(LinkInfoOf::Kind(InfoKind::from_text(alloc, name_in(nla)?)?)),
+        Role::Kind => Ok(LinkInfoOf::Kind(read_kind(alloc, nla)?)),
         Role::Data(tag) => {
             let data = family_of(tag).read(alloc, nla.value(), count)?;
             Ok(LinkInfoOf::Data(data))
@@ -43,16 +48,35 @@ pub(crate) fn read_item<P: LinkPeer>(
             let bytes = Bytes::copy_of(alloc, nla.value())?;
             Ok(LinkInfoOf::Xstats(LinkXstats::Other(bytes)))
         }
-        Role::PortKind => {
-            let kind = InfoPortKind::from_text(alloc, name_in(nla)?)?;
-            Ok(LinkInfoOf::PortKind(kind))
-        }
+        Role::PortKind => Ok(LinkInfoOf::PortKind(read_port_kind(alloc, nla)?)),
         Role::PortData(tag) => {
             let data = port_family_of(tag).read(alloc, nla.value(), count)?;
             Ok(LinkInfoOf::PortData(data))
         }
         Role::Misplaced => Err(fault(nla, Cause::Order)),
         Role::Unknown => Ok(LinkInfoOf::Other(DefaultNla::parse(alloc, nla)?)),
+    }
+}
+
+/// The kind that an attribute names. A known name is known by its bytes, and takes no memory; only every other is tested for UTF-8 and copied.
+fn read_kind(alloc: Global, nla: &NlaBuffer<'_>) -> Result<InfoKind, DecodeError>
+    ensures answer { Gives (λ kind. kind) result (with_name (name_meaning nla.now) kind_of_name) }
+    ensures certain { CertainUnless (needs_memory Shape.Name nla.now.value) (λ kind. kind) result (with_name (name_meaning nla.now) kind_of_name) }
+{
+    match InfoKind::from_tag(tag_of_name(without_nul(nla.value()))) {
+        Some(kind) => Ok(kind),
+        None => Ok(InfoKind::from_text(alloc, name_in(nla)?)?),
+    }
+}
+
+/// The same of the port kind that an attribute names.
+fn read_port_kind(alloc: Global, nla: &NlaBuffer<'_>) -> Result<InfoPortKind, DecodeError>
+    ensures answer { Gives (λ kind. kind) result (with_name (name_meaning nla.now) port_kind_of_name) }
+    ensures certain { CertainUnless (needs_memory Shape.Name nla.now.value) (λ kind. kind) result (with_name (name_meaning nla.now) port_kind_of_name) }
+{
+    match InfoPortKind::from_tag(port_tag_of_name(without_nul(nla.value()))) {
+        Some(kind) => Ok(kind),
+        None => Ok(InfoPortKind::from_text(alloc, name_in(nla)?)?),
     }
 }
 

@@ -59,8 +59,8 @@ pub use linkinfo_tunnels::{
 pub use nla_frame::{
     NlaBuffer, NlasIterator, emit_i32, emit_u16, emit_u16_be, emit_u32, emit_u32_be, emit_u64,
     emit_u64_be, next_piece, parse_i32, parse_ip, parse_ipv4_addr, parse_ipv6_addr, parse_mac,
-    parse_u8, parse_u16, parse_u16_be, parse_u32, parse_u32_be, parse_u64, parse_u64_be, put_frame,
-    without_nul,
+    parse_u8, parse_u16, parse_u16_be, parse_u32, parse_u32_be, parse_u64, parse_u64_be,
+    put_attribute, put_attributes, put_frame, without_nul,
 };
 
 // For who writes a family of attributes, the peer of veth, vxcan and netkit links, or a flag set, of one's own. Every peer has `DataFamilies` and every
@@ -69,15 +69,17 @@ pub use linkinfo_data::DataFamilies;
 pub use linkinfo_numbers::{KeepsEveryBit, bits_again};
 pub use linkinfo_peers::BitPeer;
 pub use linkinfo_table::{
-    Datum, FlatFamily, Found, LinkFamily, LinkPeer, ListedFamily, Lookup, Part, PeerFault,
-    RowFamily, RowlessFamily, Shape, UnnestedFamily, datum_len, first_check, first_read,
-    first_same, list_check, list_read, list_same, parts, read_datum, row_check, row_emit_value,
-    row_fit_len, row_kind, row_read, row_same, row_value_len, shape_check, shape_same,
-    table_lookup, table_shape, write_datum,
+    Datum, FlatFamily, Found, LinkFamily, LinkPeer, ListedFamily, Lookup, Part, PeerFault, Place,
+    RowFamily, Rowless, Shape, TableFamily, UnnestedFamily, WrittenByTable, datum_len, first_check,
+    first_read, first_same, list_check, list_read, list_same, parts, read_datum, row_check,
+    row_emit_value, row_fit_len, row_kind, row_put, row_read, row_same, row_value_len, rowless,
+    shape_check, shape_same, table_lookup, table_shape, write_datum,
 };
 
 // What follows from the contracts, by layer: functions without code, each there for its contract. Those of the list are `laws`.
+pub use linkinfo_lower::laws as lower_laws;
 pub use linkinfo_numbers::laws as number_laws;
+pub use linkinfo_peers::laws as peer_laws;
 pub use linkinfo_shapes::laws as shape_laws;
 pub use linkinfo_table::laws as family_laws;
 pub use nla_frame::laws as frame_laws;

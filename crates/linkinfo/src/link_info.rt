@@ -56,15 +56,23 @@ impl<P: LinkPeer> Nla for LinkInfoOf<P> {
         }
     }
 
-    fn emit_value(&self, buffer: &mut [u8]) {
+    fn emit_payload(&self, buffer: &mut [u8]) -> usize {
         match self {
-            LinkInfoOf::Xstats(xstats) => xstats.emit(buffer),
-            LinkInfoOf::Kind(kind) => kind.emit_value(buffer),
-            LinkInfoOf::Data(data) => data.emit_value(buffer),
-            LinkInfoOf::PortKind(kind) => kind.emit_value(buffer),
-            LinkInfoOf::PortData(data) => data.emit_value(buffer),
-            LinkInfoOf::Other(nla) => nla.emit_value(buffer),
+            LinkInfoOf::Xstats(xstats) => {
+                xstats.emit(buffer);
+                xstats.buffer_len()
+            }
+            LinkInfoOf::Kind(kind) => kind.emit_payload(buffer),
+            LinkInfoOf::Data(data) => data.emit_payload(buffer),
+            LinkInfoOf::PortKind(kind) => kind.emit_payload(buffer),
+            LinkInfoOf::PortData(data) => data.emit_payload(buffer),
+            LinkInfoOf::Other(nla) => nla.emit_payload(buffer),
         }
+    }
+
+    #[tactic(auto, using(nla_frame::proofs::Emitting::whole))]
+    fn emit_value(&self, buffer: &mut [u8]) {
+        self.emit_payload(buffer);
     }
 
     fn fit_len(&self) -> Option<usize> {

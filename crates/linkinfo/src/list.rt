@@ -9,7 +9,7 @@ ghost use Rattle.nla_frame.specs.Attribute.{Fits, ListFits, list_string};
 ghost use Rattle.nla_frame.specs.declared.to_vec.ToVecError.TheVariants as refused;
 ghost use Rattle.std.specs.Iterator.Adapters.{IterYieldsInOrder, IterYieldsInReverse};
 ghost use Rattle.std.specs.Slice.Iter.{iter_rest};
-ghost use Rattle.std.specs.Prelude.{ℕ, List, [], ◌++◌, ◌%◌, map, Err, IfOk, Ok, OnOk};
+ghost use Rattle.std.specs.Prelude.{ℕ, List, [], ◌++◌, ◌%◌, map, Err, IfOk, Ok, OnOk, true};
 ghost use Rattle.std.specs.List.{AllByRecursion};
 ghost use Rattle.linkinfo_data.specs.BytesPeer.{bytes_peer};
 ghost use Rattle.linkinfo.specs.Comparing.{same_answer, same_counts};
@@ -285,6 +285,29 @@ pub fn same_counted_of<P: LinkPeer>(
     Ok(same_strings::<P>(a, b, count))
 }
 
+/// A law, without code: an accepted string means the same as one of equal bytes.
+fn equal_bytes_are_same<P: LinkPeer>(a: &[u8], b: &[u8])
+    ensures { a.now ≡ b.now → Ok tt ≡ verdict (reading ⟦<P as DataFamilies>⟧.families a.now) → Ok true ≡ same_answer (reading ⟦<P as DataFamilies>⟧.families a.now) (reading ⟦<P as DataFamilies>⟧.families b.now) (alike_strings ⟦<P as DataFamilies>⟧.families a.now b.now) }
+{
+    families_lawful::<P>();
+}
+
+/// The answer of `same_counted_of` where nothing is counted: equal strings mean the same list where the first means one.
+#[tactic(auto, unfolding(crate::specs::Strings::reading, crate::specs::Strings::alike_strings))]
+fn same_uncounted<P: LinkPeer>(a: &[u8], b: &[u8]) -> Result<bool, DecodeError>
+    ensures answer { result ≡ same_answer (reading ⟦<P as DataFamilies>⟧.families a.now) (reading ⟦<P as DataFamilies>⟧.families b.now) (alike_strings ⟦<P as DataFamilies>⟧.families a.now b.now) }
+    ensures no_memory { result ≢ Err memory_fault }
+{
+    equal_bytes_are_same::<P>(a, b);
+    check_of::<P>(a)?;
+    if a == b {
+        return Ok(true);
+    }
+    check_of::<P>(b)?;
+    let mut count = HeaderCount::new();
+    Ok(same_strings::<P>(a, b, &mut count))
+}
+
 /// Whether two strings mean the same list, with peers of type `P`: the first string's fault, else the second's, else whether they are alike.
 /// No value is made, so it also answers of lists that do not fit. Takes no memory.
 pub fn same_of<P: LinkPeer>(a: &[u8], b: &[u8]) -> Result<bool, DecodeError>
@@ -301,8 +324,7 @@ pub fn same_of<P: LinkPeer>(a: &[u8], b: &[u8]) -> Result<bool, DecodeError>
     ensures canonical { (xs ys : List (LinkInfoOf P)) → reading ⟦<P as DataFamilies>⟧.families a.now ≡ Ok xs → reading ⟦<P as DataFamilies>⟧.families b.now ≡ Ok ys → AllByRecursion Fits (map (link_attribute ⟦<P as DataFamilies>⟧.families) xs) → AllByRecursion Fits (map (link_attribute ⟦<P as DataFamilies>⟧.families) ys) → IfOk result (λ same. IsTrue same ↔ (list_string (map (link_attribute ⟦<P as DataFamilies>⟧.families) xs) ≡ list_string (map (link_attribute ⟦<P as DataFamilies>⟧.families) ys))) }
 {
     families_lawful::<P>();
-    let mut count = HeaderCount::new();
-    same_counted_of::<P>(a, b, &mut count)
+    same_uncounted::<P>(a, b)
 }
 
 /// `check_of`, with peers kept as bytes.

@@ -2,11 +2,13 @@
 
 ghost use Rattle.std.specs.Prelude.{◌≡◌, Ok, Err, MatchResult};
 ghost use Rattle.nla_frame.specs.Attribute.{masked};
-ghost use Rattle.linkinfo.specs.Roles.{behind_role, fault_of_item, name_meaning, role_of};
+ghost use Rattle.linkinfo_numbers.specs.Kind.{tag_of_name};
+ghost use Rattle.linkinfo_numbers.specs.PortKind.{port_tag_of_name};
+ghost use Rattle.linkinfo.specs.Roles.{behind_role, fault_of_item, name_meaning, role_of, with_name};
 
 use linkinfo_numbers::{KindTag, PortTag, port_tag_of_name, tag_of_name};
 use linkinfo_table::{Shape, read_datum};
-use nla_frame::{Cause, DecodeError, ExactEq, Family, NlaBuffer};
+use nla_frame::{Cause, DecodeError, ExactEq, Family, NlaBuffer, without_nul};
 
 const IFLA_INFO_KIND: u16 = 1;
 
@@ -68,6 +70,7 @@ pub enum Role {
 
 /// The role of an attribute of this masked type.
 #[tactic(auto, unfolding(crate::specs::Roles::role_of))]
+#[inline(always)]
 pub(crate) fn role_of(force: InForce, kind: u16) -> Role
     ensures { result ≡ role_of force kind }
 {
@@ -91,6 +94,7 @@ pub(crate) fn role_of(force: InForce, kind: u16) -> Role
 }
 
 /// The fault of an attribute of the list itself.
+#[inline(always)]
 pub(crate) fn fault(nla: &NlaBuffer<'_>, cause: Cause) -> DecodeError
     ensures { result ≡ fault_of_item nla.now cause }
 {
@@ -111,8 +115,38 @@ pub(crate) fn name_in<'a>(nla: &NlaBuffer<'a>) -> Result<&'a str, DecodeError>
     }
 }
 
+/// The tag of the kind that an attribute names, or the fault of `name_in`. A known name is known by its bytes; only every other is tested for
+/// UTF-8.
+#[inline(always)]
+fn kind_tag_in(nla: &NlaBuffer<'_>) -> Result<KindTag, DecodeError>
+    ensures { result ≡ with_name (name_meaning nla.now) tag_of_name }
+{
+    match tag_of_name(without_nul(nla.value())) {
+        KindTag::Other => {
+            name_in(nla)?;
+            Ok(KindTag::Other)
+        }
+        known => Ok(known),
+    }
+}
+
+/// The same of the port kind that an attribute names.
+#[inline(always)]
+fn port_tag_in(nla: &NlaBuffer<'_>) -> Result<PortTag, DecodeError>
+    ensures { result ≡ with_name (name_meaning nla.now) port_tag_of_name }
+{
+    match port_tag_of_name(without_nul(nla.value())) {
+        PortTag::Other => {
+            name_in(nla)?;
+            Ok(PortTag::Other)
+        }
+        known => Ok(known),
+    }
+}
+
 /// The kinds in force behind an attribute of this role, or the attribute's own fault: (LinkInfo, type, Order) for data or statistics without
 /// their kind, (LinkInfo, type, Utf8) for a name that is not UTF-8.
+#[inline(always)]
 pub(crate) fn behind(
     role: Role,
     force: InForce,
@@ -121,20 +155,14 @@ pub(crate) fn behind(
     ensures { result ≡ behind_role role force nla.now }
 {
     match role {
-        Role::Kind => {
-            let name = name_in(nla)?;
-            Ok(InForce {
-                kind: Some(tag_of_name(name.as_bytes())),
-                port: force.port,
-            })
-        }
-        Role::PortKind => {
-            let name = name_in(nla)?;
-            Ok(InForce {
-                kind: force.kind,
-                port: Some(port_tag_of_name(name.as_bytes())),
-            })
-        }
+        Role::Kind => Ok(InForce {
+            kind: Some(kind_tag_in(nla)?),
+            port: force.port,
+        }),
+        Role::PortKind => Ok(InForce {
+            kind: force.kind,
+            port: Some(port_tag_in(nla)?),
+        }),
         Role::PortData(_) => Ok(InForce {
             kind: force.kind,
             port: None,

@@ -78,6 +78,7 @@ impl<'a> LinkInfoWalk<'a> {
     }
 
     /// The next attribute, with its role under the kinds in force before it.
+    #[inline(always)]
     pub(crate) fn advance(&mut self) -> Option<Result<(NlaBuffer<'a>, Role), DecodeError>>
         ensures step { Advances self.old result self.new }
         ensures source { self.new.attributes.source ≡ self.old.attributes.source }

@@ -1,13 +1,5 @@
 //! What the families of data and of port data say of their attributes: a line each.
 
-ghost use Rattle.linkinfo_lower.specs.declared.bridge.InfoBridge.{InfoBridge};
-ghost use Rattle.linkinfo_lower.specs.declared.vlan.InfoVlan.{InfoVlan};
-ghost use Rattle.linkinfo_lower.specs.declared.bond.InfoBond.{InfoBond};
-ghost use Rattle.linkinfo_lower.specs.declared.hsr.InfoHsr.{InfoHsr};
-ghost use Rattle.linkinfo_lower.specs.declared.can.InfoCan.{InfoCan};
-ghost use Rattle.linkinfo_lower.specs.declared.dsa.InfoDsa.{InfoDsa};
-ghost use Rattle.linkinfo_lower.specs.declared.bridge_port.InfoBridgePort.{InfoBridgePort};
-ghost use Rattle.linkinfo_lower.specs.declared.bond_port.InfoBondPort.{InfoBondPort};
 ghost use Rattle.linkinfo_devices.specs.declared.ipvlan.InfoIpVlan.{InfoIpVlan};
 ghost use Rattle.linkinfo_devices.specs.declared.ipvtap.InfoIpVtap.{InfoIpVtap};
 ghost use Rattle.linkinfo_devices.specs.declared.macvlan.InfoMacVlan.{InfoMacVlan};
@@ -26,14 +18,11 @@ ghost use Rattle.linkinfo_tunnels.specs.declared.gtp.InfoGtp.{InfoGtp};
 ghost use Rattle.linkinfo_tunnels.specs.declared.geneve.InfoGeneve.{InfoGeneve};
 ghost use Rattle.linkinfo_tunnels.specs.declared.amt.InfoAmt.{InfoAmt};
 ghost use Rattle.linkinfo_tunnels.specs.declared.bare_udp.InfoBareUdp.{InfoBareUdp};
-ghost use Rattle.linkinfo_peers.specs.declared.tun.InfoTun.{InfoTun};
-ghost use Rattle.linkinfo_peers.specs.declared.wireguard.InfoWireguard.{InfoWireguard};
 ghost use Rattle.linkinfo_peers.specs.declared.batadv.InfoBatAdv.{InfoBatAdv};
 ghost use Rattle.linkinfo_peers.specs.declared.wwan.InfoWwan.{InfoWwan};
-ghost use Rattle.linkinfo_peers.specs.declared.pfcp.InfoPfcp.{InfoPfcp};
-ghost use Rattle.linkinfo_peers.specs.declared.team_port.InfoTeamPort.{InfoTeamPort};
 ghost use Rattle.linkinfo_numbers.specs.declared.names.KindTag.{KindTag};
 ghost use Rattle.linkinfo_table.specs.Members.{Members};
+ghost use Rattle.linkinfo_table.specs.declared.rowless.Rowless.{Rowless};
 ghost use Rattle.linkinfo_data.specs.Families.{Families};
 
 use linkinfo_devices::{
@@ -54,21 +43,21 @@ use linkinfo_tunnels::{
 
 /// What each family without a peer says of its attributes; of `ipip`, `ip6tnl` and `sit` by the tag of the kind.
 pub trait PlainFamilies {
-    ghost bridge: { Members InfoBridge };
+    ghost bridge: { Members (Rowless 3) };
 
-    ghost vlan: { Members InfoVlan };
+    ghost vlan: { Members (Rowless 11) };
 
-    ghost bond: { Members InfoBond };
+    ghost bond: { Members (Rowless 1) };
 
-    ghost hsr: { Members InfoHsr };
+    ghost hsr: { Members (Rowless 7) };
 
-    ghost can: { Members InfoCan };
+    ghost can: { Members (Rowless 5) };
 
-    ghost dsa: { Members InfoDsa };
+    ghost dsa: { Members (Rowless 6) };
 
-    ghost bridge_port: { Members InfoBridgePort };
+    ghost bridge_port: { Members (Rowless 4) };
 
-    ghost bond_port: { Members InfoBondPort };
+    ghost bond_port: { Members (Rowless 2) };
 
     ghost ip_vlan: { Members InfoIpVlan };
 
@@ -108,17 +97,17 @@ pub trait PlainFamilies {
 
     ghost bare_udp: { Members InfoBareUdp };
 
-    ghost tun: { Members InfoTun };
+    ghost tun: { Members (Rowless 10) };
 
-    ghost wireguard: { Members InfoWireguard };
+    ghost wireguard: { Members (Rowless 12) };
 
     ghost bat_adv: { Members InfoBatAdv };
 
     ghost wwan: { Members InfoWwan };
 
-    ghost pfcp: { Members InfoPfcp };
+    ghost pfcp: { Members (Rowless 8) };
 
-    ghost team_port: { Members InfoTeamPort };
+    ghost team_port: { Members (Rowless 9) };
 }
 
 /// Stands for the families without a peer in what is said of them.

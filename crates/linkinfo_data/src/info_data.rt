@@ -8,7 +8,7 @@ use crate::data::family_of;
 use crate::families::DataFamilies;
 use crate::fits::fitting;
 use crate::payload_family::PayloadFamily;
-use crate::written::{emit_list, emit_one, list_fit_len, list_len, one_fit_len, one_len};
+use crate::written::{list_fit_len, list_len, one_fit_len, one_len, put_bytes, put_list, put_one};
 use linkinfo_devices::{
     InfoIpVlan, InfoIpVtap, InfoIpoib, InfoMacSec, InfoMacVlan, InfoMacVtap, InfoRmNet, InfoVrf,
     InfoXfrm,
@@ -188,8 +188,13 @@ impl<P: LinkPeer> Nla for InfoDataOf<P> {
         IFLA_INFO_DATA
     }
 
+    fn emit_payload(&self, buffer: &mut [u8]) -> usize {
+        of_data!(self, it => put_list(it, buffer), put_one(it, buffer), put_bytes(it, buffer))
+    }
+
+    #[tactic(auto, using(nla_frame::proofs::Emitting::whole))]
     fn emit_value(&self, buffer: &mut [u8]) {
-        of_data!(self, it => emit_list(it, buffer), emit_one(it, buffer), buffer.copy_from_slice(it.as_slice()))
+        self.emit_payload(buffer);
     }
 
     fn fit_len(&self) -> Option<usize> {
@@ -201,11 +206,7 @@ impl<P: ExactEq> ExactEq for InfoDataOf<P> {
     ghost use Rattle.std.specs.Cmp.Lexicographic.{bytes_decides, pointwise_decides};
     ghost use Rattle.linkinfo_data.specs.declared.info_data.InfoDataOf.TheVariants as info;
     ghost use Rattle.linkinfo_data.specs.Equal.{apart, under};
-    ghost use Rattle.linkinfo_lower.specs.contracts.bridge.InfoBridgeExactEq.TheImpl.Laws as bridge;
-    ghost use Rattle.linkinfo_peers.specs.contracts.tun.InfoTunExactEq.TheImpl.Laws as tun;
-    ghost use Rattle.linkinfo_lower.specs.contracts.vlan.InfoVlanExactEq.TheImpl.Laws as vlan;
     ghost use Rattle.linkinfo_tunnels.specs.contracts.vxlan.InfoVxlanExactEq.TheImpl.Laws as vxlan;
-    ghost use Rattle.linkinfo_lower.specs.contracts.bond.InfoBondExactEq.TheImpl.Laws as bond;
     ghost use Rattle.linkinfo_devices.specs.contracts.ipvlan.InfoIpVlanExactEq.TheImpl.Laws as ip_vlan;
     ghost use Rattle.linkinfo_devices.specs.contracts.ipvtap.InfoIpVtapExactEq.TheImpl.Laws as ip_vtap;
     ghost use Rattle.linkinfo_devices.specs.contracts.macvlan.InfoMacVlanExactEq.TheImpl.Laws as mac_vlan;
@@ -217,28 +218,23 @@ impl<P: ExactEq> ExactEq for InfoDataOf<P> {
     ghost use Rattle.linkinfo_devices.specs.contracts.vrf.InfoVrfExactEq.TheImpl.Laws as vrf;
     ghost use Rattle.linkinfo_tunnels.specs.contracts.gtp.InfoGtpExactEq.TheImpl.Laws as gtp;
     ghost use Rattle.linkinfo_devices.specs.contracts.ipoib.InfoIpoibExactEq.TheImpl.Laws as ipoib;
-    ghost use Rattle.linkinfo_peers.specs.contracts.wireguard.InfoWireguardExactEq.TheImpl.Laws as wireguard;
     ghost use Rattle.linkinfo_devices.specs.contracts.xfrm.InfoXfrmExactEq.TheImpl.Laws as xfrm;
     ghost use Rattle.linkinfo_devices.specs.contracts.macsec.InfoMacSecExactEq.TheImpl.Laws as mac_sec;
-    ghost use Rattle.linkinfo_lower.specs.contracts.hsr.InfoHsrExactEq.TheImpl.Laws as hsr;
     ghost use Rattle.linkinfo_tunnels.specs.contracts.geneve.InfoGeneveExactEq.TheImpl.Laws as geneve;
     ghost use Rattle.linkinfo_tunnels.specs.contracts.amt.InfoAmtExactEq.TheImpl.Laws as amt;
     ghost use Rattle.linkinfo_peers.specs.contracts.batadv.InfoBatAdvExactEq.TheImpl.Laws as bat_adv;
     ghost use Rattle.linkinfo_tunnels.specs.contracts.bare_udp.InfoBareUdpExactEq.TheImpl.Laws as bare_udp;
     ghost use Rattle.linkinfo_peers.specs.contracts.wwan.InfoWwanExactEq.TheImpl.Laws as wwan;
-    ghost use Rattle.linkinfo_lower.specs.contracts.can.InfoCanExactEq.TheImpl.Laws as can;
-    ghost use Rattle.linkinfo_lower.specs.contracts.dsa.InfoDsaExactEq.TheImpl.Laws as dsa;
-    ghost use Rattle.linkinfo_peers.specs.contracts.pfcp.InfoPfcpExactEq.TheImpl.Laws as pfcp;
     ghost use Rattle.linkinfo_devices.specs.contracts.rmnet.InfoRmNetExactEq.TheImpl.Laws as rm_net;
     ghost use Rattle.std.proofs.Common.{rules};
 
     ghost exact = { elim [
-      | info.Bridge x ↦ elim [ info.Bridge y ↦ under (λ v. info.Bridge v) (λ e. cc) (pointwise_decides bridge.exact-law x y) | _ ↦ apart (λ e. cc) ]
-      | info.Tun x ↦ elim [ info.Tun y ↦ under (λ v. info.Tun v) (λ e. cc) (pointwise_decides tun.exact-law x y) | _ ↦ apart (λ e. cc) ]
-      | info.Vlan x ↦ elim [ info.Vlan y ↦ under (λ v. info.Vlan v) (λ e. cc) (pointwise_decides vlan.exact-law x y) | _ ↦ apart (λ e. cc) ]
+      | info.Bridge x ↦ elim [ info.Bridge y ↦ under (λ v. info.Bridge v) (λ e. cc) (pointwise_decides (λ a b. Prim.search rules) x y) | _ ↦ apart (λ e. cc) ]
+      | info.Tun x ↦ elim [ info.Tun y ↦ under (λ v. info.Tun v) (λ e. cc) (pointwise_decides (λ a b. Prim.search rules) x y) | _ ↦ apart (λ e. cc) ]
+      | info.Vlan x ↦ elim [ info.Vlan y ↦ under (λ v. info.Vlan v) (λ e. cc) (pointwise_decides (λ a b. Prim.search rules) x y) | _ ↦ apart (λ e. cc) ]
       | info.Veth x ↦ elim [ info.Veth y ↦ under (λ v. info.Veth v) (λ e. cc) (Prim.search (rules, P.exact)) | _ ↦ apart (λ e. cc) ]
       | info.Vxlan x ↦ elim [ info.Vxlan y ↦ under (λ v. info.Vxlan v) (λ e. cc) (pointwise_decides vxlan.exact-law x y) | _ ↦ apart (λ e. cc) ]
-      | info.Bond x ↦ elim [ info.Bond y ↦ under (λ v. info.Bond v) (λ e. cc) (pointwise_decides bond.exact-law x y) | _ ↦ apart (λ e. cc) ]
+      | info.Bond x ↦ elim [ info.Bond y ↦ under (λ v. info.Bond v) (λ e. cc) (pointwise_decides (λ a b. Prim.search rules) x y) | _ ↦ apart (λ e. cc) ]
       | info.IpVlan x ↦ elim [ info.IpVlan y ↦ under (λ v. info.IpVlan v) (λ e. cc) (pointwise_decides ip_vlan.exact-law x y) | _ ↦ apart (λ e. cc) ]
       | info.IpVtap x ↦ elim [ info.IpVtap y ↦ under (λ v. info.IpVtap v) (λ e. cc) (pointwise_decides ip_vtap.exact-law x y) | _ ↦ apart (λ e. cc) ]
       | info.MacVlan x ↦ elim [ info.MacVlan y ↦ under (λ v. info.MacVlan v) (λ e. cc) (pointwise_decides mac_vlan.exact-law x y) | _ ↦ apart (λ e. cc) ]
@@ -252,10 +248,10 @@ impl<P: ExactEq> ExactEq for InfoDataOf<P> {
       | info.Vrf x ↦ elim [ info.Vrf y ↦ under (λ v. info.Vrf v) (λ e. cc) (pointwise_decides vrf.exact-law x y) | _ ↦ apart (λ e. cc) ]
       | info.Gtp x ↦ elim [ info.Gtp y ↦ under (λ v. info.Gtp v) (λ e. cc) (pointwise_decides gtp.exact-law x y) | _ ↦ apart (λ e. cc) ]
       | info.Ipoib x ↦ elim [ info.Ipoib y ↦ under (λ v. info.Ipoib v) (λ e. cc) (pointwise_decides ipoib.exact-law x y) | _ ↦ apart (λ e. cc) ]
-      | info.Wireguard x ↦ elim [ info.Wireguard y ↦ under (λ v. info.Wireguard v) (λ e. cc) (pointwise_decides wireguard.exact-law x y) | _ ↦ apart (λ e. cc) ]
+      | info.Wireguard x ↦ elim [ info.Wireguard y ↦ under (λ v. info.Wireguard v) (λ e. cc) (pointwise_decides (λ a b. Prim.search rules) x y) | _ ↦ apart (λ e. cc) ]
       | info.Xfrm x ↦ elim [ info.Xfrm y ↦ under (λ v. info.Xfrm v) (λ e. cc) (pointwise_decides xfrm.exact-law x y) | _ ↦ apart (λ e. cc) ]
       | info.MacSec x ↦ elim [ info.MacSec y ↦ under (λ v. info.MacSec v) (λ e. cc) (pointwise_decides mac_sec.exact-law x y) | _ ↦ apart (λ e. cc) ]
-      | info.Hsr x ↦ elim [ info.Hsr y ↦ under (λ v. info.Hsr v) (λ e. cc) (pointwise_decides hsr.exact-law x y) | _ ↦ apart (λ e. cc) ]
+      | info.Hsr x ↦ elim [ info.Hsr y ↦ under (λ v. info.Hsr v) (λ e. cc) (pointwise_decides (λ a b. Prim.search rules) x y) | _ ↦ apart (λ e. cc) ]
       | info.Geneve x ↦ elim [ info.Geneve y ↦ under (λ v. info.Geneve v) (λ e. cc) (pointwise_decides geneve.exact-law x y) | _ ↦ apart (λ e. cc) ]
       | info.Netkit x ↦ elim [ info.Netkit y ↦ under (λ v. info.Netkit v) (λ e. cc) (pointwise_decides (λ a b. Prim.search (rules, P.exact)) x y) | _ ↦ apart (λ e. cc) ]
       | info.Vxcan x ↦ elim [ info.Vxcan y ↦ under (λ v. info.Vxcan v) (λ e. cc) (Prim.search (rules, P.exact)) | _ ↦ apart (λ e. cc) ]
@@ -263,11 +259,11 @@ impl<P: ExactEq> ExactEq for InfoDataOf<P> {
       | info.BatAdv x ↦ elim [ info.BatAdv y ↦ under (λ v. info.BatAdv v) (λ e. cc) (pointwise_decides bat_adv.exact-law x y) | _ ↦ apart (λ e. cc) ]
       | info.BareUdp x ↦ elim [ info.BareUdp y ↦ under (λ v. info.BareUdp v) (λ e. cc) (pointwise_decides bare_udp.exact-law x y) | _ ↦ apart (λ e. cc) ]
       | info.Wwan x ↦ elim [ info.Wwan y ↦ under (λ v. info.Wwan v) (λ e. cc) (pointwise_decides wwan.exact-law x y) | _ ↦ apart (λ e. cc) ]
-      | info.Can x ↦ elim [ info.Can y ↦ under (λ v. info.Can v) (λ e. cc) (pointwise_decides can.exact-law x y) | _ ↦ apart (λ e. cc) ]
-      | info.Dsa x ↦ elim [ info.Dsa y ↦ under (λ v. info.Dsa v) (λ e. cc) (pointwise_decides dsa.exact-law x y) | _ ↦ apart (λ e. cc) ]
+      | info.Can x ↦ elim [ info.Can y ↦ under (λ v. info.Can v) (λ e. cc) (pointwise_decides (λ a b. Prim.search rules) x y) | _ ↦ apart (λ e. cc) ]
+      | info.Dsa x ↦ elim [ info.Dsa y ↦ under (λ v. info.Dsa v) (λ e. cc) (pointwise_decides (λ a b. Prim.search rules) x y) | _ ↦ apart (λ e. cc) ]
       | info.ErSpan x ↦ elim [ info.ErSpan y ↦ under (λ v. info.ErSpan v) (λ e. cc) (pointwise_decides gre.exact-law x y) | _ ↦ apart (λ e. cc) ]
       | info.Ip6ErSpan x ↦ elim [ info.Ip6ErSpan y ↦ under (λ v. info.Ip6ErSpan v) (λ e. cc) (pointwise_decides gre6.exact-law x y) | _ ↦ apart (λ e. cc) ]
-      | info.Pfcp x ↦ elim [ info.Pfcp y ↦ under (λ v. info.Pfcp v) (λ e. cc) (pointwise_decides pfcp.exact-law x y) | _ ↦ apart (λ e. cc) ]
+      | info.Pfcp x ↦ elim [ info.Pfcp y ↦ under (λ v. info.Pfcp v) (λ e. cc) (pointwise_decides (λ a b. Prim.search rules) x y) | _ ↦ apart (λ e. cc) ]
       | info.RmNet x ↦ elim [ info.RmNet y ↦ under (λ v. info.RmNet v) (λ e. cc) (pointwise_decides rm_net.exact-law x y) | _ ↦ apart (λ e. cc) ]
       | info.Other x ↦ elim [ info.Other y ↦ under (λ v. info.Other v) (λ e. cc) (bytes_decides x y) | _ ↦ apart (λ e. cc) ]
     ] };

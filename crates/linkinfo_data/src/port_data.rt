@@ -7,7 +7,7 @@ ghost use Rattle.linkinfo_data.specs.PortData.{port_data_of, port_family_of};
 
 use crate::fits::fitting;
 use crate::payload_family::PayloadFamily;
-use crate::written::{emit_list, list_fit_len, list_len, read_nlas};
+use crate::written::{list_fit_len, list_len, put_bytes, put_list, read_nlas};
 use linkinfo_devices::InfoVrfPort;
 use linkinfo_lower::{InfoBondPort, InfoBridgePort};
 use linkinfo_numbers::{InfoPortKind, PortTag};
@@ -139,14 +139,19 @@ impl Nla for InfoPortData {
         IFLA_INFO_SLAVE_DATA
     }
 
-    fn emit_value(&self, buffer: &mut [u8]) {
+    fn emit_payload(&self, buffer: &mut [u8]) -> usize {
         match self {
-            InfoPortData::BondPort(list) => emit_list(list, buffer),
-            InfoPortData::BridgePort(list) => emit_list(list, buffer),
-            InfoPortData::VrfPort(list) => emit_list(list, buffer),
-            InfoPortData::TeamPort(list) => emit_list(list, buffer),
-            InfoPortData::Other(bytes) => buffer.copy_from_slice(bytes.as_slice()),
+            InfoPortData::BondPort(list) => put_list(list, buffer),
+            InfoPortData::BridgePort(list) => put_list(list, buffer),
+            InfoPortData::VrfPort(list) => put_list(list, buffer),
+            InfoPortData::TeamPort(list) => put_list(list, buffer),
+            InfoPortData::Other(bytes) => put_bytes(bytes, buffer),
         }
+    }
+
+    #[tactic(auto, using(nla_frame::proofs::Emitting::whole))]
+    fn emit_value(&self, buffer: &mut [u8]) {
+        self.emit_payload(buffer);
     }
 
     fn fit_len(&self) -> Option<usize> {
@@ -162,12 +167,10 @@ impl Nla for InfoPortData {
 
 impl ExactEq for InfoPortData {
     ghost use Rattle.std.specs.Cmp.Lexicographic.{bytes_decides, pointwise_decides};
-    ghost use Rattle.linkinfo_lower.specs.contracts.bond_port.InfoBondPortExactEq.TheImpl.Laws as bond_port;
-    ghost use Rattle.linkinfo_lower.specs.contracts.bridge_port.InfoBridgePortExactEq.TheImpl.Laws as bridge_port;
     ghost use Rattle.linkinfo_devices.specs.contracts.vrf.InfoVrfExactEq.TheImpl.Laws as vrf_port;
-    ghost use Rattle.linkinfo_peers.specs.contracts.team_port.InfoTeamPortExactEq.TheImpl.Laws as team_port;
     ghost use Rattle.nla_frame.specs.Derived.{derived_decides, one_field};
     ghost use Rattle.linkinfo_data.specs.contracts.port_data.InfoPortData.{enum};
+    ghost use Rattle.std.proofs.Common.{rules};
 
-    ghost exact = { derived_decides enum _ (one_field (pointwise_decides bond_port.exact-law), (one_field (pointwise_decides bridge_port.exact-law), (one_field (pointwise_decides vrf_port.exact-law), (one_field (pointwise_decides team_port.exact-law), (one_field bytes_decides, tt))))) };
+    ghost exact = { derived_decides enum _ (one_field (pointwise_decides (λ a b. Prim.search rules)), (one_field (pointwise_decides (λ a b. Prim.search rules)), (one_field (pointwise_decides vrf_port.exact-law), (one_field (pointwise_decides (λ a b. Prim.search rules)), (one_field bytes_decides, tt))))) };
 }

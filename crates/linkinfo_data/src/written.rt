@@ -1,6 +1,6 @@
 //! Payloads that are the string of a list of attributes, or of one.
 
-ghost use Rattle.std.specs.Prelude.{◌≡◌, ◌+◌, ◌*◌, ◌/◌, ◌<◌, ◌≤◌, ◌^◌, SomeIff, length, map};
+ghost use Rattle.std.specs.Prelude.{◌≡◌, ◌+◌, ◌*◌, ◌/◌, ◌<◌, ◌≤◌, ◌++◌, ◌^◌, SomeIff, drop, length, map};
 ghost use Rattle.nla_frame.specs.Answers.{CertainUnless, Gives, OnAnswer};
 ghost use Rattle.nla_frame.specs.Attribute.{canonical_string, list_string};
 ghost use Rattle.nla_frame.specs.Pieces.{pieces};
@@ -8,7 +8,10 @@ ghost use Rattle.linkinfo_table.specs.Lists.{headers_of, memory_of, values};
 
 use crate::fits::fitting;
 use linkinfo_table::{LinkFamily, list_read};
-use nla_frame::{DecodeError, HeaderCount, Nla, Nlas, emit_nlas, nlas_buffer_len, nlas_fit_len};
+use nla_frame::{
+    Bytes, DecodeError, HeaderCount, Nla, Nlas, nlas_buffer_len, nlas_fit_len, put_attribute,
+    put_attributes,
+};
 use std::alloc::Global;
 
 /// Reads the attributes that a payload frames.
@@ -37,14 +40,16 @@ pub(crate) fn list_len<T: Nla>(list: &Nlas<T>) -> usize
     nlas_buffer_len(list.as_slice())
 }
 
-/// Writes the list's string. Asks that a payload of it fits, and a buffer of its length.
+/// Writes the list's string at the front of the buffer, leaves the bytes behind it, and answers its length. Asks that a payload of it fits, and a
+/// buffer of at least its length.
 #[tactic(auto, using(nla_frame::proofs::Emitting::list_fits))]
-pub(crate) fn emit_list<T: Nla>(list: &Nlas<T>, buffer: &mut [u8])
+pub(crate) fn put_list<T: Nla>(list: &Nlas<T>, buffer: &mut [u8]) -> usize
     requires fits { length (list_string (map T.attribute list.now)) ≤ 65531 }
-    requires exact { length buffer.old ≡ length (list_string (map T.attribute list.now)) }
-    ensures { buffer.new ≡ list_string (map T.attribute list.now) }
+    requires room { length (list_string (map T.attribute list.now)) ≤ length buffer.old }
+    ensures taken { result ≡ length (list_string (map T.attribute list.now)) }
+    ensures written { buffer.new ≡ list_string (map T.attribute list.now) ++ drop (length (list_string (map T.attribute list.now))) buffer.old }
 {
-    emit_nlas(list.as_slice(), buffer)
+    put_attributes(list.as_slice(), buffer)
 }
 
 /// The length of the list's string where a payload of it fits, and else `None`.
@@ -64,14 +69,26 @@ pub(crate) fn one_len<T: Nla>(nla: &T) -> usize
     nla.buffer_len()
 }
 
-/// Writes the attribute's string. Asks that a payload of it fits, and a buffer of its length.
+/// Writes the attribute's string in the same way.
 #[tactic(auto, using(nla_frame::proofs::Emitting::one_fits))]
-pub(crate) fn emit_one<T: Nla>(nla: &T, buffer: &mut [u8])
+pub(crate) fn put_one<T: Nla>(nla: &T, buffer: &mut [u8]) -> usize
     requires fits { length (canonical_string (T.attribute nla.now)) ≤ 65531 }
-    requires exact { length buffer.old ≡ length (canonical_string (T.attribute nla.now)) }
-    ensures { buffer.new ≡ canonical_string (T.attribute nla.now) }
+    requires room { length (canonical_string (T.attribute nla.now)) ≤ length buffer.old }
+    ensures taken { result ≡ length (canonical_string (T.attribute nla.now)) }
+    ensures written { buffer.new ≡ canonical_string (T.attribute nla.now) ++ drop (length (canonical_string (T.attribute nla.now))) buffer.old }
 {
-    nla.emit(buffer)
+    put_attribute(nla, buffer)
+}
+
+/// Writes bytes in the same way.
+pub(crate) fn put_bytes(bytes: &Bytes, buffer: &mut [u8]) -> usize
+    requires { length bytes.now ≤ length buffer.old }
+    ensures taken { result ≡ length bytes.now }
+    ensures written { buffer.new ≡ bytes.now ++ drop (length bytes.now) buffer.old }
+{
+    let len = bytes.len();
+    buffer[..len].copy_from_slice(bytes.as_slice());
+    len
 }
 
 /// The length of the attribute's string where a payload of it fits, and else `None`.

@@ -13,12 +13,12 @@ use Rattle.linkinfo_numbers.specs.declared.macvlan.MacVlanMacAddressMode.{MacVla
 use Rattle.linkinfo_shapes.specs.Table.{found, mac_vlan_rows}
 use Rattle.linkinfo_shapes.specs.declared.shape.Shape.{Shape}
 use Rattle.linkinfo_shapes.specs.declared.shape.Shape.TheVariants.{Le32, Le16, Mac, I32, SelfList}
-use Rattle.linkinfo_table.specs.FamilyRows.{PlainRow, row, typed, table_row, row_of, lookup_of, lookup_in, EachKeeps, IsMadeOf, RowOwes, FamilyRow, SuitsFound}
+use Rattle.linkinfo_table.specs.FamilyRows.{PlainRow, row, typed, table_row, row_of, lookup_of, lookup_in, EachKeeps, Puts, RowOwes, FamilyRow, SuitsFound}
 use Rattle.linkinfo_table.specs.FamilyRowLaws.{table_lookup}
 use Rattle.linkinfo_table.specs.Lookups.{LookupSays}
 use Rattle.linkinfo_table.specs.Rows.{meaning_in}
 use Rattle.linkinfo_table.specs.Labels.{each_keeps}
-use Rattle.linkinfo_devices.specs.Nested.{nested_rows, nested_owes, nested_says, nested_lookup, nested_lookup_is, suits_plain, made_plain}
+use Rattle.linkinfo_devices.specs.Nested.{nested_rows, nested_owes, nested_says, nested_lookup, nested_lookup_is, suits_plain, puts_plain}
 use Rattle.linkinfo_table.specs.declared.found.Found.{Found}
 
 -- what a family makes of the data of its rows, and of a list
@@ -104,11 +104,12 @@ mac_lookup f attribute l c n =
     (λ k never. table_lookup (mac_plain_rows l) k
     ∙ ap lookup_in (sym (found_behind ((1, Le32) ∷ (2, Le16) ∷ (3, Le32) ∷ (4, Mac) ∷ []) (5, SelfList) ((6, Le32) ∷ (7, Le32) ∷ (8, Le32) ∷ (9, I32) ∷ []) k (ne_eqb k 5 never)))) c n
 
--- what was read of an attribute that holds no list, and the value made of it, by the plain rows alone
+-- what was read of an attribute that holds no list, and what a place holds once its value was put there, by the plain rows alone
 pub mac_suits : {X : Type 0} (f : Family) (attribute : X → Attribute) (l : MacLabels X) (c : ℕ) (read : Found) → SuitsFound (λ n. mac_rows f attribute l c n) read →
     SuitsFound (λ n. table_row (mac_plain_rows l) n) read
 mac_suits f attribute l c read suits = suits_plain f (λ d. l.other d) attribute (λ xs. l.mac_addr_data xs) (mac_plain_rows l) c read suits
 
-pub mac_made : {X : Type 0} (f : Family) (attribute : X → Attribute) (l : MacLabels X) (c : ℕ) (read : Found) (x : X) → SuitsFound (λ n. mac_rows f attribute l c n) read →
-    IsMadeOf (λ d. l.other d) (λ n. table_row (mac_plain_rows l) n) read x → IsMadeOf (λ d. l.other d) (λ n. mac_rows f attribute l c n) read x
-mac_made f attribute l c read x suits made = made_plain f (λ d. l.other d) attribute (λ xs. l.mac_addr_data xs) (mac_plain_rows l) c read x suits made
+pub mac_puts : {X H : Type 0} (f : Family) (attribute : X → Attribute) (l : MacLabels X) (with : X → H) (c : ℕ) (read : Found) (held : H) →
+    SuitsFound (λ n. mac_rows f attribute l c n) read → Puts with (λ d. l.other d) (λ n. table_row (mac_plain_rows l) n) read held →
+    Puts with (λ d. l.other d) (λ n. mac_rows f attribute l c n) read held
+mac_puts f attribute l with c read held suits puts = puts_plain f (λ d. l.other d) attribute (λ xs. l.mac_addr_data xs) (mac_plain_rows l) with c read held suits puts

@@ -7,11 +7,11 @@ use Rattle.nla_frame.specs.Kept.{attribute_of}
 use Rattle.linkinfo_numbers.specs.Macvlan.{mac_vlan_mode_number, mac_vlan_mac_address_mode_number}
 use Rattle.linkinfo_shapes.specs.declared.shape.Shape.TheVariants.{Le32, Le16, Mac, I32}
 use Rattle.nla_frame.specs.declared.error.Family.TheVariants as family
-use Rattle.linkinfo_table.specs.FamilyRows.{EachKeeps, FamilyRow, IsMadeOf, PlainRow, RowOwes, SuitsFound, lookup_in, lookup_of, row_of, table_row, typed}
+use Rattle.linkinfo_table.specs.FamilyRows.{EachKeeps, FamilyRow, Puts, PlainRow, RowOwes, SuitsFound, lookup_in, lookup_of, row_of, table_row, typed}
 use Rattle.linkinfo_table.specs.Lookups.{LookupSays}
 use Rattle.linkinfo_table.specs.Rows.{meaning_in}
 use Rattle.linkinfo_table.specs.declared.found.Found.{Found}
-use Rattle.linkinfo_devices.specs.MacRows.{MacLabels, MacLabelsKeep, mac_keeps, mac_lookup, mac_made, mac_owes, mac_plain_rows, mac_rows, mac_says, mac_suits}
+use Rattle.linkinfo_devices.specs.MacRows.{MacLabels, MacLabelsKeep, mac_keeps, mac_lookup, mac_puts, mac_owes, mac_plain_rows, mac_rows, mac_says, mac_suits}
 use Rattle.linkinfo_devices.specs.Nested.{nested_lookup}
 use Rattle.linkinfo_shapes.specs.Table.{shape_of}
 use Rattle.linkinfo_devices.specs.declared.macvtap.InfoMacVtap.{InfoMacVtap}
@@ -114,10 +114,10 @@ mac_vtap_says c a = mac_says family.MacVtap mac_vtap_attribute mac_vtap_labels m
 pub mac_vtap_lookup : (c n : ℕ) → lookup_of (mac_vtap_rows c n) ≡ nested_lookup c n (lookup_in (shape_of family.MacVtap n))
 mac_vtap_lookup c n = mac_lookup family.MacVtap mac_vtap_attribute mac_vtap_labels c n
 
--- what was read of an attribute that holds no list, and the value made of it, by the plain rows alone
+-- what was read of an attribute that holds no list, and what a place holds once its value was put there, by the plain rows alone
 pub mac_vtap_suits : (c : ℕ) (read : Found) → SuitsFound (λ n. mac_vtap_rows c n) read → SuitsFound (λ n. table_row mac_vtap_plain_rows n) read
 mac_vtap_suits c read suits = mac_suits family.MacVtap mac_vtap_attribute mac_vtap_labels c read suits
 
-pub mac_vtap_made : (c : ℕ) (read : Found) (x : InfoMacVtap) → SuitsFound (λ n. mac_vtap_rows c n) read →
-    IsMadeOf (λ d. macvtap.Other d) (λ n. table_row mac_vtap_plain_rows n) read x → IsMadeOf (λ d. macvtap.Other d) (λ n. mac_vtap_rows c n) read x
-mac_vtap_made c read x suits made = mac_made family.MacVtap mac_vtap_attribute mac_vtap_labels c read x suits made
+pub mac_vtap_puts : {H : Type 0} (with : InfoMacVtap → H) (c : ℕ) (read : Found) (held : H) → SuitsFound (λ n. mac_vtap_rows c n) read →
+    Puts with (λ d. macvtap.Other d) (λ n. table_row mac_vtap_plain_rows n) read held → Puts with (λ d. macvtap.Other d) (λ n. mac_vtap_rows c n) read held
+mac_vtap_puts with c read held suits puts = mac_puts family.MacVtap mac_vtap_attribute mac_vtap_labels with c read held suits puts

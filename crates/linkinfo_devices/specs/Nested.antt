@@ -14,7 +14,7 @@ use Rattle.linkinfo_shapes.specs.declared.shape.Shape.TheVariants as shape
 use Rattle.linkinfo_table.specs.declared.lookup.Lookup.{Lookup}
 use Rattle.linkinfo_table.specs.declared.lookup.Lookup.TheVariants as lookup
 use Rattle.linkinfo_table.specs.Rows.{Row, labelled, row_meaning, meaning_in, row_alike, alike_in, row_headers, headers_inside, row_needs_memory, memory_in}
-use Rattle.linkinfo_table.specs.FamilyRows.{FamilyRow, Plain, Custom, Refuses, Absent, row_of, row_if, lookup_of, IsFlat, IsLabelled, IsMadeOf, SuitsFound, SuitsRow, PlainRow, table_row, EachKeeps, RowOwes}
+use Rattle.linkinfo_table.specs.FamilyRows.{FamilyRow, Plain, Custom, Refuses, Absent, row_of, row_if, lookup_of, IsFlat, PutsLabelled, Puts, SuitsFound, SuitsRow, PlainRow, table_row, EachKeeps, RowOwes}
 use Rattle.linkinfo_table.specs.FamilyRowLaws.{owed, table_flat, table_owes}
 use Rattle.linkinfo_table.specs.RowLaws.{rows_quarter}
 use Rattle.linkinfo_table.specs.declared.found.Found.{Found}
@@ -192,7 +192,7 @@ module _ {X : Type 0} (f : Family) (other : DefaultNla → X) (attribute : X →
                 ∙ sym (ap (λ (b : Bool). if (n == 5) && b then lookup.Refused cause.Depth else table n) shallow ∙ ap (λ (b : Bool). if b && false then lookup.Refused cause.Depth else table n) e)
             by false e = elsewhere_is c n e
 
-  -- what was read of an attribute that holds no list, and the value that is made of it, by the rows of the table alone
+  -- what was read of an attribute that holds no list, and what a place holds once its value was put there, by the rows of the table alone
   pub suits_plain : (c : ℕ) (read : Found) → SuitsFound (λ n. nested_rows f other attribute label plain c n) read → SuitsFound (λ n. table_row plain n) read
   suits_plain c (found.Typed n datum) suits = go (128 - c) suits
     where
@@ -211,25 +211,25 @@ module _ {X : Type 0} (f : Family) (other : DefaultNla → X) (attribute : X →
           by false h = h
   suits_plain c (found.Kept nla) suits = tt
 
-  pub made_plain : (c : ℕ) (read : Found) (x : X) → SuitsFound (λ n. nested_rows f other attribute label plain c n) read →
-      IsMadeOf other (λ n. table_row plain n) read x → IsMadeOf other (λ n. nested_rows f other attribute label plain c n) read x
-  made_plain c (found.Typed n datum) x suits made = go (128 - c) suits
+  pub puts_plain : {H : Type 0} (with : X → H) (c : ℕ) (read : Found) (held : H) → SuitsFound (λ n. nested_rows f other attribute label plain c n) read →
+      Puts with other (λ n. table_row plain n) read held → Puts with other (λ n. nested_rows f other attribute label plain c n) read held
+  puts_plain with c (found.Typed n datum) held suits puts = go (128 - c) suits
     where
       go : (levels : ℕ) → SuitsRow (level_rows f other attribute 5 label (λ k. table_row plain k) levels n) (value_of datum) →
-          IsLabelled (level_rows f other attribute 5 label (λ k. table_row plain k) levels n) (value_of datum) x
+          PutsLabelled with (level_rows f other attribute 5 label (λ k. table_row plain k) levels n) (value_of datum) held
       go zero h = by (n == 5) h
         where
-          by : (b : Bool) → SuitsRow (row_if b (Refuses cause.Depth) (table_row plain n)) (value_of datum) → IsLabelled (row_if b (Refuses cause.Depth) (table_row plain n)) (value_of datum) x
+          by : (b : Bool) → SuitsRow (row_if b (Refuses cause.Depth) (table_row plain n)) (value_of datum) → PutsLabelled with (row_if b (Refuses cause.Depth) (table_row plain n)) (value_of datum) held
           by true h = absurd h
-          by false h = made
+          by false h = puts
       go (suc levels) h = by (n == 5) h
         where
           by : (b : Bool) →
               SuitsRow (row_if b (Custom shape.SelfList (inner_codec f other attribute 5 label (λ k. table_row plain k) (λ k. level levels k)) label) (table_row plain n)) (value_of datum) →
-              IsLabelled (row_if b (Custom shape.SelfList (inner_codec f other attribute 5 label (λ k. table_row plain k) (λ k. level levels k)) label) (table_row plain n)) (value_of datum) x
+              PutsLabelled with (row_if b (Custom shape.SelfList (inner_codec f other attribute 5 label (λ k. table_row plain k) (λ k. level levels k)) label) (table_row plain n)) (value_of datum) held
           by true h = absurd h
-          by false h = made
-  made_plain c (found.Kept nla) x suits made = made
+          by false h = puts
+  puts_plain with c (found.Kept nla) held suits puts = puts
 
 -- at most a quarter of a payload's bytes are headers, whatever the rows
 pub nested_quarter : {X : Type 0} (f : Family) (other : DefaultNla → X) (attribute : X → Attribute) (rows : ℕ → FamilyRow X) →

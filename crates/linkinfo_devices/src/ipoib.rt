@@ -1,26 +1,19 @@
 //! IP over InfiniBand.
 
 ghost use Rattle.linkinfo_devices.specs.declared.ipoib.InfoIpoib.TheVariants.{Other};
-ghost use Rattle.linkinfo_devices.specs.Ipoib.{ipoib_attribute, ipoib_keeps, ipoib_rows};
+ghost use Rattle.linkinfo_devices.specs.Ipoib.{ipoib_attribute, ipoib_keeps, ipoib_lookup, ipoib_rows};
 ghost use Rattle.linkinfo_table.specs.FamilyRows.{row_of, table_row};
 ghost use Rattle.linkinfo_table.specs.Rows.{meaning_in, memory_in};
-ghost use Rattle.linkinfo_table.specs.FamilyRowLaws.{table_flat, table_owes};
 ghost use Rattle.nla_frame.specs.declared.error.Family.TheVariants as family;
-ghost use Rattle.std.specs.Prelude.{false, refl};
+ghost use Rattle.std.specs.Prelude.{refl};
 
 use linkinfo_numbers::IpoibMode;
 use linkinfo_table::{
-    FlatFamily, Found, Lookup, Part, RowFamily, parts, row_emit_value, row_fit_len, row_kind,
-    row_read, row_value_len, table_lookup,
+    Found, Part, Place, TableFamily, WrittenByTable, part_by_rows, put_by_rows, row_emit_value,
+    row_fit_len, row_kind, row_read, row_value_len,
 };
 use nla_frame::{DecodeError, DefaultNla, ExactEq, Family, Nla, NlaBuffer, Parseable};
 use std::alloc::{AllocError, Global};
-
-const IFLA_IPOIB_PKEY: u16 = 1;
-
-const IFLA_IPOIB_MODE: u16 = 2;
-
-const IFLA_IPOIB_UMCAST: u16 = 3;
 
 /// An attribute of IP over InfiniBand: of a link of the kind `ipoib` (include/uapi/linux/if_link.h).
 #[derive(Debug, PartialEq, Eq, Clone, Drop)]
@@ -35,50 +28,45 @@ pub enum InfoIpoib {
     Other(DefaultNla),
 }
 
-impl RowFamily for InfoIpoib {
-    type Context = ();
+macro_rules! rows {
+    ($body:ident $given:tt) => {
+        $body! { InfoIpoib $given;
+            (IFLA_IPOIB_PKEY = 1, le16, Pkey),
+            (IFLA_IPOIB_MODE = 2, le16, Mode as IpoibMode),
+            (IFLA_IPOIB_UMCAST = 3, le16, UmCast),
+        }
+    };
+}
 
+impl TableFamily for InfoIpoib {
     const FAMILY: Family = Family::Ipoib;
 
     ghost FAMILY = { family.Ipoib };
 
-    ghost rows = { λ _ n. table_row ipoib_rows n };
+    ghost table = { ipoib_rows };
 
     ghost other = { λ nla. Other nla };
 
     ghost canonical = { ipoib_attribute };
 
-    ghost is_custom = { λ _. false };
-
-    ghost owes = { λ _ n. table_owes ipoib_attribute ipoib_rows ipoib_keeps n };
+    ghost keeps = { ipoib_keeps };
 
     ghost keeps_other = { λ _. refl };
 
-    #[tactic(auto, using(crate::specs::Ipoib::ipoib_lookup))]
-    fn shape(_ctx: (), kind: u16) -> Lookup {
-        table_lookup(Family::Ipoib, kind)
+    ghost in_table = { ipoib_lookup };
+
+    #[inline(always)]
+    fn put_found<P: Place<InfoIpoib>>(
+        place: &mut P,
+        alloc: Global,
+        found: Found<'_>,
+    ) -> Result<(), AllocError> {
+        rows!(put_by_rows(place, alloc, found))
     }
 
-    fn from_found(_alloc: Global, _ctx: (), found: Found<'_>) -> Result<InfoIpoib, AllocError> {
-        let (kind, datum) = match found {
-            Found::Typed(kind, datum) => (kind, datum),
-            Found::Kept(nla) => return Ok(InfoIpoib::Other(nla)),
-        };
-        Ok(match kind {
-            IFLA_IPOIB_PKEY => InfoIpoib::Pkey(datum.u16_or_zero()),
-            IFLA_IPOIB_MODE => InfoIpoib::Mode(IpoibMode::from(datum.u16_or_zero())),
-            IFLA_IPOIB_UMCAST => InfoIpoib::UmCast(datum.u16_or_zero()),
-            _ => unreachable!(),
-        })
-    }
-
+    #[inline(always)]
     fn to_part(&self) -> Part<'_> {
-        match self {
-            InfoIpoib::Pkey(number) => parts::le16(IFLA_IPOIB_PKEY, *number),
-            InfoIpoib::Mode(mode) => parts::le16(IFLA_IPOIB_MODE, u16::from(*mode)),
-            InfoIpoib::UmCast(number) => parts::le16(IFLA_IPOIB_UMCAST, *number),
-            InfoIpoib::Other(nla) => Part::Kept(nla),
-        }
+        rows!(part_by_rows self)
     }
 }
 
@@ -102,11 +90,7 @@ impl Nla for InfoIpoib {
     }
 }
 
-impl FlatFamily for InfoIpoib {
-    ghost flat = { λ _ n. table_flat ipoib_attribute ipoib_rows ipoib_keeps n };
-
-    ghost never_custom = { λ _. refl };
-
+impl WrittenByTable for InfoIpoib {
     ghost written = { λ _. refl };
 }
 

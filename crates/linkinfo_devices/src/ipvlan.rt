@@ -1,25 +1,20 @@
 //! ipvlan links.
 
 ghost use Rattle.linkinfo_devices.specs.declared.ipvlan.InfoIpVlan.TheVariants.{Other};
-ghost use Rattle.linkinfo_devices.specs.Ipvlan.{ip_vlan_attribute, ip_vlan_keeps, ip_vlan_rows};
+ghost use Rattle.linkinfo_devices.specs.Ipvlan.{ip_vlan_attribute, ip_vlan_keeps, ip_vlan_lookup, ip_vlan_rows};
 ghost use Rattle.linkinfo_table.specs.FamilyRows.{row_of, table_row};
 ghost use Rattle.linkinfo_table.specs.Rows.{meaning_in, memory_in};
-ghost use Rattle.linkinfo_table.specs.FamilyRowLaws.{table_flat, table_owes};
 ghost use Rattle.nla_frame.specs.declared.error.Family.TheVariants as family;
-ghost use Rattle.std.specs.Prelude.{false, refl};
+ghost use Rattle.std.specs.Prelude.{refl};
 
 use bitflags::Flags;
 use linkinfo_numbers::{IpVlanFlags, IpVlanMode};
 use linkinfo_table::{
-    FlatFamily, Found, Lookup, Part, RowFamily, parts, row_emit_value, row_fit_len, row_kind,
-    row_read, row_value_len, table_lookup,
+    Found, Part, Place, TableFamily, WrittenByTable, part_by_rows, put_by_rows, row_emit_value,
+    row_fit_len, row_kind, row_read, row_value_len,
 };
 use nla_frame::{DecodeError, DefaultNla, ExactEq, Family, Nla, NlaBuffer, Parseable};
 use std::alloc::{AllocError, Global};
-
-pub(crate) const IFLA_IPVLAN_MODE: u16 = 1;
-
-pub(crate) const IFLA_IPVLAN_FLAGS: u16 = 2;
 
 /// An attribute of an ipvlan link: of a link of the kind `ipvlan` (include/uapi/linux/if_link.h).
 #[derive(Debug, PartialEq, Eq, Clone, Drop)]
@@ -32,50 +27,44 @@ pub enum InfoIpVlan {
     Other(DefaultNla),
 }
 
-impl RowFamily for InfoIpVlan {
-    type Context = ();
+macro_rules! rows {
+    ($body:ident $given:tt) => {
+        $body! { InfoIpVlan $given;
+            (IFLA_IPVLAN_MODE = 1, le16, Mode as IpVlanMode),
+            (IFLA_IPVLAN_FLAGS = 2, le16, Flags as flags IpVlanFlags),
+        }
+    };
+}
 
+impl TableFamily for InfoIpVlan {
     const FAMILY: Family = Family::IpVlan;
 
     ghost FAMILY = { family.IpVlan };
 
-    ghost rows = { λ _ n. table_row ip_vlan_rows n };
+    ghost table = { ip_vlan_rows };
 
     ghost other = { λ nla. Other nla };
 
     ghost canonical = { ip_vlan_attribute };
 
-    ghost is_custom = { λ _. false };
-
-    ghost owes = { λ _ n. table_owes ip_vlan_attribute ip_vlan_rows ip_vlan_keeps n };
+    ghost keeps = { ip_vlan_keeps };
 
     ghost keeps_other = { λ _. refl };
 
-    #[tactic(auto, using(crate::specs::Ipvlan::ip_vlan_lookup))]
-    fn shape(_ctx: (), kind: u16) -> Lookup {
-        table_lookup(Family::IpVlan, kind)
+    ghost in_table = { ip_vlan_lookup };
+
+    #[inline(always)]
+    fn put_found<P: Place<InfoIpVlan>>(
+        place: &mut P,
+        alloc: Global,
+        found: Found<'_>,
+    ) -> Result<(), AllocError> {
+        rows!(put_by_rows(place, alloc, found))
     }
 
-    fn from_found(_alloc: Global, _ctx: (), found: Found<'_>) -> Result<InfoIpVlan, AllocError> {
-        let (kind, datum) = match found {
-            Found::Typed(kind, datum) => (kind, datum),
-            Found::Kept(nla) => return Ok(InfoIpVlan::Other(nla)),
-        };
-        Ok(match kind {
-            IFLA_IPVLAN_MODE => InfoIpVlan::Mode(IpVlanMode::from(datum.u16_or_zero())),
-            IFLA_IPVLAN_FLAGS => InfoIpVlan::Flags(IpVlanFlags::from_bits_retain(
-                datum.u16_or_zero(),
-            )),
-            _ => unreachable!(),
-        })
-    }
-
+    #[inline(always)]
     fn to_part(&self) -> Part<'_> {
-        match self {
-            InfoIpVlan::Mode(mode) => parts::le16(IFLA_IPVLAN_MODE, u16::from(*mode)),
-            InfoIpVlan::Flags(flags) => parts::le16(IFLA_IPVLAN_FLAGS, flags.bits()),
-            InfoIpVlan::Other(nla) => Part::Kept(nla),
-        }
+        rows!(part_by_rows self)
     }
 }
 
@@ -99,11 +88,7 @@ impl Nla for InfoIpVlan {
     }
 }
 
-impl FlatFamily for InfoIpVlan {
-    ghost flat = { λ _ n. table_flat ip_vlan_attribute ip_vlan_rows ip_vlan_keeps n };
-
-    ghost never_custom = { λ _. refl };
-
+impl WrittenByTable for InfoIpVlan {
     ghost written = { λ _. refl };
 }
 

@@ -1,19 +1,17 @@
 //! ipvtap links.
 
 ghost use Rattle.linkinfo_devices.specs.declared.ipvtap.InfoIpVtap.TheVariants.{Other};
-ghost use Rattle.linkinfo_devices.specs.Ipvtap.{ip_vtap_attribute, ip_vtap_keeps, ip_vtap_rows};
+ghost use Rattle.linkinfo_devices.specs.Ipvtap.{ip_vtap_attribute, ip_vtap_keeps, ip_vtap_lookup, ip_vtap_rows};
 ghost use Rattle.linkinfo_table.specs.FamilyRows.{row_of, table_row};
 ghost use Rattle.linkinfo_table.specs.Rows.{meaning_in, memory_in};
-ghost use Rattle.linkinfo_table.specs.FamilyRowLaws.{table_flat, table_owes};
 ghost use Rattle.nla_frame.specs.declared.error.Family.TheVariants as family;
-ghost use Rattle.std.specs.Prelude.{false, refl};
+ghost use Rattle.std.specs.Prelude.{refl};
 
-use crate::ipvlan::{IFLA_IPVLAN_FLAGS, IFLA_IPVLAN_MODE};
 use bitflags::Flags;
 use linkinfo_numbers::{IpVtapFlags, IpVtapMode};
 use linkinfo_table::{
-    FlatFamily, Found, Lookup, Part, RowFamily, parts, row_emit_value, row_fit_len, row_kind,
-    row_read, row_value_len, table_lookup,
+    Found, Part, Place, TableFamily, WrittenByTable, part_by_rows, put_by_rows, row_emit_value,
+    row_fit_len, row_kind, row_read, row_value_len,
 };
 use nla_frame::{DecodeError, DefaultNla, ExactEq, Family, Nla, NlaBuffer, Parseable};
 use std::alloc::{AllocError, Global};
@@ -29,50 +27,44 @@ pub enum InfoIpVtap {
     Other(DefaultNla),
 }
 
-impl RowFamily for InfoIpVtap {
-    type Context = ();
+macro_rules! rows {
+    ($body:ident $given:tt) => {
+        $body! { InfoIpVtap $given;
+            (IFLA_IPVLAN_MODE = 1, le16, Mode as IpVtapMode),
+            (IFLA_IPVLAN_FLAGS = 2, le16, Flags as flags IpVtapFlags),
+        }
+    };
+}
 
+impl TableFamily for InfoIpVtap {
     const FAMILY: Family = Family::IpVtap;
 
     ghost FAMILY = { family.IpVtap };
 
-    ghost rows = { λ _ n. table_row ip_vtap_rows n };
+    ghost table = { ip_vtap_rows };
 
     ghost other = { λ nla. Other nla };
 
     ghost canonical = { ip_vtap_attribute };
 
-    ghost is_custom = { λ _. false };
-
-    ghost owes = { λ _ n. table_owes ip_vtap_attribute ip_vtap_rows ip_vtap_keeps n };
+    ghost keeps = { ip_vtap_keeps };
 
     ghost keeps_other = { λ _. refl };
 
-    #[tactic(auto, using(crate::specs::Ipvtap::ip_vtap_lookup))]
-    fn shape(_ctx: (), kind: u16) -> Lookup {
-        table_lookup(Family::IpVtap, kind)
+    ghost in_table = { ip_vtap_lookup };
+
+    #[inline(always)]
+    fn put_found<P: Place<InfoIpVtap>>(
+        place: &mut P,
+        alloc: Global,
+        found: Found<'_>,
+    ) -> Result<(), AllocError> {
+        rows!(put_by_rows(place, alloc, found))
     }
 
-    fn from_found(_alloc: Global, _ctx: (), found: Found<'_>) -> Result<InfoIpVtap, AllocError> {
-        let (kind, datum) = match found {
-            Found::Typed(kind, datum) => (kind, datum),
-            Found::Kept(nla) => return Ok(InfoIpVtap::Other(nla)),
-        };
-        Ok(match kind {
-            IFLA_IPVLAN_MODE => InfoIpVtap::Mode(IpVtapMode::from(datum.u16_or_zero())),
-            IFLA_IPVLAN_FLAGS => InfoIpVtap::Flags(IpVtapFlags::from_bits_retain(
-                datum.u16_or_zero(),
-            )),
-            _ => unreachable!(),
-        })
-    }
-
+    #[inline(always)]
     fn to_part(&self) -> Part<'_> {
-        match self {
-            InfoIpVtap::Mode(mode) => parts::le16(IFLA_IPVLAN_MODE, u16::from(*mode)),
-            InfoIpVtap::Flags(flags) => parts::le16(IFLA_IPVLAN_FLAGS, flags.bits()),
-            InfoIpVtap::Other(nla) => Part::Kept(nla),
-        }
+        rows!(part_by_rows self)
     }
 }
 
@@ -96,11 +88,7 @@ impl Nla for InfoIpVtap {
     }
 }
 
-impl FlatFamily for InfoIpVtap {
-    ghost flat = { λ _ n. table_flat ip_vtap_attribute ip_vtap_rows ip_vtap_keeps n };
-
-    ghost never_custom = { λ _. refl };
-
+impl WrittenByTable for InfoIpVtap {
     ghost written = { λ _. refl };
 }
 

@@ -4,6 +4,7 @@
 mod ipoib;
 mod ipvlan;
 mod ipvtap;
+mod mac_rows;
 mod macsec;
 mod macvlan;
 mod macvtap;

@@ -1,48 +1,19 @@
 //! MACsec links.
 
 ghost use Rattle.linkinfo_devices.specs.declared.macsec.InfoMacSec.TheVariants.{Other};
-ghost use Rattle.linkinfo_devices.specs.Macsec.{mac_sec_attribute, mac_sec_keeps, mac_sec_rows};
+ghost use Rattle.linkinfo_devices.specs.Macsec.{mac_sec_attribute, mac_sec_keeps, mac_sec_lookup, mac_sec_rows};
 ghost use Rattle.linkinfo_table.specs.FamilyRows.{row_of, table_row};
 ghost use Rattle.linkinfo_table.specs.Rows.{meaning_in, memory_in};
-ghost use Rattle.linkinfo_table.specs.FamilyRowLaws.{table_flat, table_owes};
 ghost use Rattle.nla_frame.specs.declared.error.Family.TheVariants as family;
-ghost use Rattle.std.specs.Prelude.{false, refl};
+ghost use Rattle.std.specs.Prelude.{refl};
 
 use linkinfo_numbers::{MacSecCipherId, MacSecOffload, MacSecValidate};
 use linkinfo_table::{
-    FlatFamily, Found, Lookup, Part, RowFamily, parts, row_emit_value, row_fit_len, row_kind,
-    row_read, row_value_len, table_lookup,
+    Found, Part, Place, TableFamily, WrittenByTable, part_by_rows, put_by_rows, row_emit_value,
+    row_fit_len, row_kind, row_read, row_value_len,
 };
 use nla_frame::{DecodeError, DefaultNla, ExactEq, Family, Nla, NlaBuffer, Parseable};
 use std::alloc::{AllocError, Global};
-
-const IFLA_MACSEC_SCI: u16 = 1;
-
-const IFLA_MACSEC_PORT: u16 = 2;
-
-const IFLA_MACSEC_ICV_LEN: u16 = 3;
-
-const IFLA_MACSEC_CIPHER_SUITE: u16 = 4;
-
-const IFLA_MACSEC_WINDOW: u16 = 5;
-
-const IFLA_MACSEC_ENCODING_SA: u16 = 6;
-
-const IFLA_MACSEC_ENCRYPT: u16 = 7;
-
-const IFLA_MACSEC_PROTECT: u16 = 8;
-
-const IFLA_MACSEC_INC_SCI: u16 = 9;
-
-const IFLA_MACSEC_ES: u16 = 10;
-
-const IFLA_MACSEC_SCB: u16 = 11;
-
-const IFLA_MACSEC_REPLAY_PROTECT: u16 = 12;
-
-const IFLA_MACSEC_VALIDATION: u16 = 13;
-
-const IFLA_MACSEC_OFFLOAD: u16 = 15;
 
 /// An attribute of a MACsec link: of a link of the kind `macsec` (include/uapi/linux/if_link.h).
 #[derive(Debug, PartialEq, Eq, Clone, Drop)]
@@ -79,82 +50,56 @@ pub enum InfoMacSec {
     Other(DefaultNla),
 }
 
-impl RowFamily for InfoMacSec {
-    type Context = ();
+macro_rules! rows {
+    ($body:ident $given:tt) => {
+        $body! { InfoMacSec $given;
+            (IFLA_MACSEC_SCI = 1, le64, Sci),
+            (IFLA_MACSEC_PORT = 2, be16, Port),
+            (IFLA_MACSEC_ICV_LEN = 3, u8, IcvLen),
+            (IFLA_MACSEC_CIPHER_SUITE = 4, le64, CipherSuite as MacSecCipherId),
+            (IFLA_MACSEC_WINDOW = 5, le32, Window),
+            (IFLA_MACSEC_ENCODING_SA = 6, u8, EncodingSa),
+            (IFLA_MACSEC_ENCRYPT = 7, u8, Encrypt),
+            (IFLA_MACSEC_PROTECT = 8, u8, Protect),
+            (IFLA_MACSEC_INC_SCI = 9, u8, IncSci),
+            (IFLA_MACSEC_ES = 10, u8, Es),
+            (IFLA_MACSEC_SCB = 11, u8, Scb),
+            (IFLA_MACSEC_REPLAY_PROTECT = 12, u8, ReplayProtect),
+            (IFLA_MACSEC_VALIDATION = 13, u8, Validation as MacSecValidate),
+            (IFLA_MACSEC_OFFLOAD = 15, u8, Offload as MacSecOffload),
+        }
+    };
+}
 
+impl TableFamily for InfoMacSec {
     const FAMILY: Family = Family::MacSec;
 
     ghost FAMILY = { family.MacSec };
 
-    ghost rows = { λ _ n. table_row mac_sec_rows n };
+    ghost table = { mac_sec_rows };
 
     ghost other = { λ nla. Other nla };
 
     ghost canonical = { mac_sec_attribute };
 
-    ghost is_custom = { λ _. false };
-
-    ghost owes = { λ _ n. table_owes mac_sec_attribute mac_sec_rows mac_sec_keeps n };
+    ghost keeps = { mac_sec_keeps };
 
     ghost keeps_other = { λ _. refl };
 
-    #[tactic(auto, using(crate::specs::Macsec::mac_sec_lookup))]
-    fn shape(_ctx: (), kind: u16) -> Lookup {
-        table_lookup(Family::MacSec, kind)
+    ghost in_table = { mac_sec_lookup };
+
+    #[inline(always)]
+    fn put_found<P: Place<InfoMacSec>>(
+        place: &mut P,
+        alloc: Global,
+        found: Found<'_>,
+    ) -> Result<(), AllocError> {
+        rows!(put_by_rows(place, alloc, found))
     }
 
-    fn from_found(_alloc: Global, _ctx: (), found: Found<'_>) -> Result<InfoMacSec, AllocError> {
-        let (kind, datum) = match found {
-            Found::Typed(kind, datum) => (kind, datum),
-            Found::Kept(nla) => return Ok(InfoMacSec::Other(nla)),
-        };
-        Ok(match kind {
-            IFLA_MACSEC_SCI => InfoMacSec::Sci(datum.u64_or_zero()),
-            IFLA_MACSEC_PORT => InfoMacSec::Port(datum.u16_or_zero()),
-            IFLA_MACSEC_ICV_LEN => InfoMacSec::IcvLen(datum.u8_or_zero()),
-            IFLA_MACSEC_CIPHER_SUITE => InfoMacSec::CipherSuite(MacSecCipherId::from(
-                datum.u64_or_zero(),
-            )),
-            IFLA_MACSEC_WINDOW => InfoMacSec::Window(datum.u32_or_zero()),
-            IFLA_MACSEC_ENCODING_SA => InfoMacSec::EncodingSa(datum.u8_or_zero()),
-            IFLA_MACSEC_ENCRYPT => InfoMacSec::Encrypt(datum.u8_or_zero()),
-            IFLA_MACSEC_PROTECT => InfoMacSec::Protect(datum.u8_or_zero()),
-            IFLA_MACSEC_INC_SCI => InfoMacSec::IncSci(datum.u8_or_zero()),
-            IFLA_MACSEC_ES => InfoMacSec::Es(datum.u8_or_zero()),
-            IFLA_MACSEC_SCB => InfoMacSec::Scb(datum.u8_or_zero()),
-            IFLA_MACSEC_REPLAY_PROTECT => InfoMacSec::ReplayProtect(datum.u8_or_zero()),
-            IFLA_MACSEC_VALIDATION => InfoMacSec::Validation(MacSecValidate::from(
-                datum.u8_or_zero(),
-            )),
-            IFLA_MACSEC_OFFLOAD => InfoMacSec::Offload(MacSecOffload::from(datum.u8_or_zero())),
-            _ => unreachable!(),
-        })
-    }
-
+    #[inline(always)]
     fn to_part(&self) -> Part<'_> {
-        match self {
-            InfoMacSec::Sci(number) => parts::le64(IFLA_MACSEC_SCI, *number),
-            InfoMacSec::Port(number) => parts::be16(IFLA_MACSEC_PORT, *number),
-            InfoMacSec::IcvLen(number) => parts::u8(IFLA_MACSEC_ICV_LEN, *number),
-            InfoMacSec::CipherSuite(cipher) => parts::le64(
-                IFLA_MACSEC_CIPHER_SUITE,
-                u64::from(*cipher),
-            ),
-            InfoMacSec::Window(number) => parts::le32(IFLA_MACSEC_WINDOW, *number),
-            InfoMacSec::EncodingSa(number) => parts::u8(IFLA_MACSEC_ENCODING_SA, *number),
-            InfoMacSec::Encrypt(number) => parts::u8(IFLA_MACSEC_ENCRYPT, *number),
-            InfoMacSec::Protect(number) => parts::u8(IFLA_MACSEC_PROTECT, *number),
-            InfoMacSec::IncSci(number) => parts::u8(IFLA_MACSEC_INC_SCI, *number),
-            InfoMacSec::Es(number) => parts::u8(IFLA_MACSEC_ES, *number),
-            InfoMacSec::Scb(number) => parts::u8(IFLA_MACSEC_SCB, *number),
-            InfoMacSec::ReplayProtect(number) => parts::u8(IFLA_MACSEC_REPLAY_PROTECT, *number),
-            InfoMacSec::Validation(validation) => parts::u8(
-                IFLA_MACSEC_VALIDATION,
-                u8::from(*validation),
-            ),
-            InfoMacSec::Offload(offload) => parts::u8(IFLA_MACSEC_OFFLOAD, u8::from(*offload)),
-            InfoMacSec::Other(nla) => Part::Kept(nla),
-        }
+        rows!(part_by_rows self)
     }
 }
 
@@ -178,11 +123,7 @@ impl Nla for InfoMacSec {
     }
 }
 
-impl FlatFamily for InfoMacSec {
-    ghost flat = { λ _ n. table_flat mac_sec_attribute mac_sec_rows mac_sec_keeps n };
-
-    ghost never_custom = { λ _. refl };
-
+impl WrittenByTable for InfoMacSec {
     ghost written = { λ _. refl };
 }
 

@@ -3,38 +3,25 @@
 ghost use Rattle.linkinfo_devices.specs.MacVlan.{mac_vlan_attribute, mac_vlan_holds_list, mac_vlan_keep, mac_vlan_keeps, mac_vlan_owes, mac_vlan_plain_rows, mac_vlan_rows, mac_vlan_says};
 ghost use Rattle.linkinfo_devices.specs.Nested.{LendsList, flat_elsewhere, list_alike, list_headers, list_means, list_needs_memory, nested_quarter};
 ghost use Rattle.linkinfo_devices.specs.declared.macvlan.InfoMacVlan as macvlan;
-ghost use Rattle.linkinfo_table.specs.FamilyRows.{IsMadeOf, SuitsFound, found_needs_memory, lookup_of, row_of, table_row};
+ghost use Rattle.linkinfo_table.specs.FamilyRows.{Puts, SuitsFound, found_needs_memory, lookup_of, row_of, table_row};
 ghost use Rattle.linkinfo_table.specs.FlatLaws.{flat_alike_is, flat_no_memory, flat_read_well, flat_well_attribute, flat_well_reads};
 ghost use Rattle.linkinfo_table.specs.Rows.{WellFormed, alike_in, headers_inside, meaning_in, memory_in};
 ghost use Rattle.nla_frame.specs.declared.error.Family.TheVariants as family;
-ghost use Rattle.std.specs.Prelude.{◌≡◌, refl};
+ghost use Rattle.std.specs.Prelude.{◌≡◌, true, IsOk, OnOk, refl};
 
+use crate::mac_rows::mac_rows;
 use crate::nested_calls::{nested_check, nested_parse, nested_read, nested_same};
 use crate::nested_emission::{nested_emit_value, nested_fit_len, nested_kind, nested_value_len};
 use crate::nested_family::{NestedFamily, nested_shape};
 use bitflags::Flags;
 use linkinfo_numbers::{MacVlanFlags, MacVlanMacAddressMode, MacVlanMode};
-use linkinfo_table::{Found, LinkFamily, Lookup, Part, RowFamily, parts};
+use linkinfo_table::{
+    Found, LinkFamily, Lookup, Part, Place, RowFamily, part_by_rows, put_by_rows,
+};
 use nla_frame::{
     DecodeError, DefaultNla, ExactEq, Family, HeaderCount, Nla, NlaBuffer, Nlas, Parseable,
 };
 use std::alloc::{AllocError, Global};
-
-pub(crate) const IFLA_MACVLAN_MODE: u16 = 1;
-
-pub(crate) const IFLA_MACVLAN_FLAGS: u16 = 2;
-
-pub(crate) const IFLA_MACVLAN_MACADDR_MODE: u16 = 3;
-
-pub(crate) const IFLA_MACVLAN_MACADDR: u16 = 4;
-
-pub(crate) const IFLA_MACVLAN_MACADDR_COUNT: u16 = 6;
-
-pub(crate) const IFLA_MACVLAN_BC_QUEUE_LEN: u16 = 7;
-
-pub(crate) const IFLA_MACVLAN_BC_QUEUE_LEN_USED: u16 = 8;
-
-pub(crate) const IFLA_MACVLAN_BC_CUTOFF: u16 = 9;
 
 /// An attribute of a macvlan link (include/uapi/linux/if_link.h).
 #[derive(Debug, PartialEq, Eq, Clone, Drop)]
@@ -47,7 +34,7 @@ pub enum InfoMacVlan {
     MacAddrMode(MacVlanMacAddressMode),
     /// A source address (`IFLA_MACVLAN_MACADDR`).
     MacAddr([u8; 6]),
-    /// A list of attributes of a macvlan link, by custom of source addresses (`IFLA_MACVLAN_MACADDR_DATA`). A list inside 128 others is
+    /// A list of attributes of a macvlan link, as a rule its source addresses (`IFLA_MACVLAN_MACADDR_DATA`). A list inside 128 others is
     /// refused.
     MacAddrData(Nlas<InfoMacVlan>),
     /// How many source addresses there are (`IFLA_MACVLAN_MACADDR_COUNT`), native byte order.
@@ -62,30 +49,18 @@ pub enum InfoMacVlan {
     Other(DefaultNla),
 }
 
-/// The value of what was read of an attribute that holds no list.
-fn value_of(found: Found<'_>) -> InfoMacVlan
-    requires { SuitsFound (λ n. table_row (mac_vlan_plain_rows) n) found }
-    ensures { IsMadeOf (λ d. macvlan.Other d) (λ n. table_row (mac_vlan_plain_rows) n) found.entry result }
+/// Puts the value of what was read of an attribute that holds no list in a place.
+#[inline(always)]
+fn put_plain<P: Place<InfoMacVlan>>(
+    place: &mut P,
+    alloc: Global,
+    found: Found<'_>,
+) -> Result<(), AllocError>
+    requires { SuitsFound (λ n. table_row mac_vlan_plain_rows n) found }
+    ensures value { OnOk result (Puts (P.with place.old) (λ d. macvlan.Other d) (λ n. table_row mac_vlan_plain_rows n) found.entry (P.held place.new)) }
+    ensures certain { P.is_certain ≡ true → IsOk result }
 {
-    let (kind, datum) = match found {
-        Found::Typed(kind, datum) => (kind, datum),
-        Found::Kept(nla) => return InfoMacVlan::Other(nla),
-    };
-    match kind {
-        IFLA_MACVLAN_MODE => InfoMacVlan::Mode(MacVlanMode::from(datum.u32_or_zero())),
-        IFLA_MACVLAN_FLAGS => InfoMacVlan::Flags(MacVlanFlags::from_bits_retain(
-            datum.u16_or_zero(),
-        )),
-        IFLA_MACVLAN_MACADDR_MODE => InfoMacVlan::MacAddrMode(MacVlanMacAddressMode::from(
-            datum.u32_or_zero(),
-        )),
-        IFLA_MACVLAN_MACADDR => InfoMacVlan::MacAddr(datum.mac_or_zeros()),
-        IFLA_MACVLAN_MACADDR_COUNT => InfoMacVlan::MacAddrCount(datum.u32_or_zero()),
-        IFLA_MACVLAN_BC_QUEUE_LEN => InfoMacVlan::BcQueueLen(datum.u32_or_zero()),
-        IFLA_MACVLAN_BC_QUEUE_LEN_USED => InfoMacVlan::BcQueueLenUsed(datum.u32_or_zero()),
-        IFLA_MACVLAN_BC_CUTOFF => InfoMacVlan::BcCutoff(datum.i32_or_zero()),
-        _ => unreachable!(),
-    }
+    mac_rows!(InfoMacVlan put_by_rows (place, alloc, found))
 }
 
 impl RowFamily for InfoMacVlan {
@@ -112,27 +87,20 @@ impl RowFamily for InfoMacVlan {
         nested_shape(Family::MacVlan, lists, kind)
     }
 
-    #[tactic(auto, using(crate::specs::MacVlan::mac_vlan_suits, crate::specs::MacVlan::mac_vlan_made))]
-    fn from_found(_alloc: Global, _lists: u8, found: Found<'_>) -> Result<InfoMacVlan, AllocError> {
-        Ok(value_of(found))
+    #[tactic(auto, using(crate::specs::MacVlan::mac_vlan_suits, crate::specs::MacVlan::mac_vlan_puts))]
+    #[inline(always)]
+    fn put_found<P: Place<InfoMacVlan>>(
+        place: &mut P,
+        alloc: Global,
+        _lists: u8,
+        found: Found<'_>,
+    ) -> Result<(), AllocError> {
+        put_plain(place, alloc, found)
     }
 
+    #[inline(always)]
     fn to_part(&self) -> Part<'_> {
-        match self {
-            InfoMacVlan::Mode(mode) => parts::le32(IFLA_MACVLAN_MODE, u32::from(*mode)),
-            InfoMacVlan::Flags(flags) => parts::le16(IFLA_MACVLAN_FLAGS, flags.bits()),
-            InfoMacVlan::MacAddrMode(mode) => parts::le32(
-                IFLA_MACVLAN_MACADDR_MODE,
-                u32::from(*mode),
-            ),
-            InfoMacVlan::MacAddr(address) => parts::mac(IFLA_MACVLAN_MACADDR, *address),
-            InfoMacVlan::MacAddrData(_) => Part::Custom,
-            InfoMacVlan::MacAddrCount(count) => parts::le32(IFLA_MACVLAN_MACADDR_COUNT, *count),
-            InfoMacVlan::BcQueueLen(len) => parts::le32(IFLA_MACVLAN_BC_QUEUE_LEN, *len),
-            InfoMacVlan::BcQueueLenUsed(len) => parts::le32(IFLA_MACVLAN_BC_QUEUE_LEN_USED, *len),
-            InfoMacVlan::BcCutoff(receivers) => parts::i32(IFLA_MACVLAN_BC_CUTOFF, *receivers),
-            InfoMacVlan::Other(nla) => Part::Kept(nla),
-        }
+        mac_rows!(InfoMacVlan part_by_rows self)
     }
 }
 

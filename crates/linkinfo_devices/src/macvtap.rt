@@ -3,23 +3,21 @@
 ghost use Rattle.linkinfo_devices.specs.MacVtap.{mac_vtap_attribute, mac_vtap_holds_list, mac_vtap_keep, mac_vtap_keeps, mac_vtap_owes, mac_vtap_plain_rows, mac_vtap_rows, mac_vtap_says};
 ghost use Rattle.linkinfo_devices.specs.Nested.{LendsList, flat_elsewhere, list_alike, list_headers, list_means, list_needs_memory, nested_quarter};
 ghost use Rattle.linkinfo_devices.specs.declared.macvtap.InfoMacVtap as macvtap;
-ghost use Rattle.linkinfo_table.specs.FamilyRows.{IsMadeOf, SuitsFound, found_needs_memory, lookup_of, row_of, table_row};
+ghost use Rattle.linkinfo_table.specs.FamilyRows.{Puts, SuitsFound, found_needs_memory, lookup_of, row_of, table_row};
 ghost use Rattle.linkinfo_table.specs.FlatLaws.{flat_alike_is, flat_no_memory, flat_read_well, flat_well_attribute, flat_well_reads};
 ghost use Rattle.linkinfo_table.specs.Rows.{WellFormed, alike_in, headers_inside, meaning_in, memory_in};
 ghost use Rattle.nla_frame.specs.declared.error.Family.TheVariants as family;
-ghost use Rattle.std.specs.Prelude.{◌≡◌, refl};
+ghost use Rattle.std.specs.Prelude.{◌≡◌, true, IsOk, OnOk, refl};
 
-use crate::macvlan::{
-    IFLA_MACVLAN_BC_CUTOFF, IFLA_MACVLAN_BC_QUEUE_LEN, IFLA_MACVLAN_BC_QUEUE_LEN_USED,
-    IFLA_MACVLAN_FLAGS, IFLA_MACVLAN_MACADDR, IFLA_MACVLAN_MACADDR_COUNT,
-    IFLA_MACVLAN_MACADDR_MODE, IFLA_MACVLAN_MODE,
-};
+use crate::mac_rows::mac_rows;
 use crate::nested_calls::{nested_check, nested_parse, nested_read, nested_same};
 use crate::nested_emission::{nested_emit_value, nested_fit_len, nested_kind, nested_value_len};
 use crate::nested_family::{NestedFamily, nested_shape};
 use bitflags::Flags;
 use linkinfo_numbers::{MacVlanFlags, MacVlanMacAddressMode, MacVlanMode};
-use linkinfo_table::{Found, LinkFamily, Lookup, Part, RowFamily, parts};
+use linkinfo_table::{
+    Found, LinkFamily, Lookup, Part, Place, RowFamily, part_by_rows, put_by_rows,
+};
 use nla_frame::{
     DecodeError, DefaultNla, ExactEq, Family, HeaderCount, Nla, NlaBuffer, Nlas, Parseable,
 };
@@ -36,7 +34,7 @@ pub enum InfoMacVtap {
     MacAddrMode(MacVlanMacAddressMode),
     /// A source address (`IFLA_MACVLAN_MACADDR`).
     MacAddr([u8; 6]),
-    /// A list of attributes of a macvtap link, by custom of source addresses (`IFLA_MACVLAN_MACADDR_DATA`). A list inside 128 others is
+    /// A list of attributes of a macvtap link, as a rule its source addresses (`IFLA_MACVLAN_MACADDR_DATA`). A list inside 128 others is
     /// refused.
     MacAddrData(Nlas<InfoMacVtap>),
     /// How many source addresses there are (`IFLA_MACVLAN_MACADDR_COUNT`), native byte order.
@@ -51,30 +49,18 @@ pub enum InfoMacVtap {
     Other(DefaultNla),
 }
 
-/// The value of what was read of an attribute that holds no list.
-fn value_of(found: Found<'_>) -> InfoMacVtap
-    requires { SuitsFound (λ n. table_row (mac_vtap_plain_rows) n) found }
-    ensures { IsMadeOf (λ d. macvtap.Other d) (λ n. table_row (mac_vtap_plain_rows) n) found.entry result }
+/// Puts the value of what was read of an attribute that holds no list in a place.
+#[inline(always)]
+fn put_plain<P: Place<InfoMacVtap>>(
+    place: &mut P,
+    alloc: Global,
+    found: Found<'_>,
+) -> Result<(), AllocError>
+    requires { SuitsFound (λ n. table_row mac_vtap_plain_rows n) found }
+    ensures value { OnOk result (Puts (P.with place.old) (λ d. macvtap.Other d) (λ n. table_row mac_vtap_plain_rows n) found.entry (P.held place.new)) }
+    ensures certain { P.is_certain ≡ true → IsOk result }
 {
-    let (kind, datum) = match found {
-        Found::Typed(kind, datum) => (kind, datum),
-        Found::Kept(nla) => return InfoMacVtap::Other(nla),
-    };
-    match kind {
-        IFLA_MACVLAN_MODE => InfoMacVtap::Mode(MacVlanMode::from(datum.u32_or_zero())),
-        IFLA_MACVLAN_FLAGS => InfoMacVtap::Flags(MacVlanFlags::from_bits_retain(
-            datum.u16_or_zero(),
-        )),
-        IFLA_MACVLAN_MACADDR_MODE => InfoMacVtap::MacAddrMode(MacVlanMacAddressMode::from(
-            datum.u32_or_zero(),
-        )),
-        IFLA_MACVLAN_MACADDR => InfoMacVtap::MacAddr(datum.mac_or_zeros()),
-        IFLA_MACVLAN_MACADDR_COUNT => InfoMacVtap::MacAddrCount(datum.u32_or_zero()),
-        IFLA_MACVLAN_BC_QUEUE_LEN => InfoMacVtap::BcQueueLen(datum.u32_or_zero()),
-        IFLA_MACVLAN_BC_QUEUE_LEN_USED => InfoMacVtap::BcQueueLenUsed(datum.u32_or_zero()),
-        IFLA_MACVLAN_BC_CUTOFF => InfoMacVtap::BcCutoff(datum.i32_or_zero()),
-        _ => unreachable!(),
-    }
+    mac_rows!(InfoMacVtap put_by_rows (place, alloc, found))
 }
 
 impl RowFamily for InfoMacVtap {
@@ -101,27 +87,20 @@ impl RowFamily for InfoMacVtap {
         nested_shape(Family::MacVtap, lists, kind)
     }
 
-    #[tactic(auto, using(crate::specs::MacVtap::mac_vtap_suits, crate::specs::MacVtap::mac_vtap_made))]
-    fn from_found(_alloc: Global, _lists: u8, found: Found<'_>) -> Result<InfoMacVtap, AllocError> {
-        Ok(value_of(found))
+    #[tactic(auto, using(crate::specs::MacVtap::mac_vtap_suits, crate::specs::MacVtap::mac_vtap_puts))]
+    #[inline(always)]
+    fn put_found<P: Place<InfoMacVtap>>(
+        place: &mut P,
+        alloc: Global,
+        _lists: u8,
+        found: Found<'_>,
+    ) -> Result<(), AllocError> {
+        put_plain(place, alloc, found)
     }
 
+    #[inline(always)]
     fn to_part(&self) -> Part<'_> {
-        match self {
-            InfoMacVtap::Mode(mode) => parts::le32(IFLA_MACVLAN_MODE, u32::from(*mode)),
-            InfoMacVtap::Flags(flags) => parts::le16(IFLA_MACVLAN_FLAGS, flags.bits()),
-            InfoMacVtap::MacAddrMode(mode) => parts::le32(
-                IFLA_MACVLAN_MACADDR_MODE,
-                u32::from(*mode),
-            ),
-            InfoMacVtap::MacAddr(address) => parts::mac(IFLA_MACVLAN_MACADDR, *address),
-            InfoMacVtap::MacAddrData(_) => Part::Custom,
-            InfoMacVtap::MacAddrCount(count) => parts::le32(IFLA_MACVLAN_MACADDR_COUNT, *count),
-            InfoMacVtap::BcQueueLen(len) => parts::le32(IFLA_MACVLAN_BC_QUEUE_LEN, *len),
-            InfoMacVtap::BcQueueLenUsed(len) => parts::le32(IFLA_MACVLAN_BC_QUEUE_LEN_USED, *len),
-            InfoMacVtap::BcCutoff(receivers) => parts::i32(IFLA_MACVLAN_BC_CUTOFF, *receivers),
-            InfoMacVtap::Other(nla) => Part::Kept(nla),
-        }
+        mac_rows!(InfoMacVtap part_by_rows self)
     }
 }
 

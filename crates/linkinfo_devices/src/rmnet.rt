@@ -1,25 +1,20 @@
 //! Links to Qualcomm modems.
 
 ghost use Rattle.linkinfo_devices.specs.declared.rmnet.InfoRmNet.TheVariants.{Other};
-ghost use Rattle.linkinfo_devices.specs.Rmnet.{rm_net_attribute, rm_net_keeps, rm_net_rows};
+ghost use Rattle.linkinfo_devices.specs.Rmnet.{flags_under_mask, rm_net_attribute, rm_net_keeps, rm_net_lookup, rm_net_rows};
 ghost use Rattle.linkinfo_table.specs.FamilyRows.{row_of, table_row};
 ghost use Rattle.linkinfo_table.specs.Rows.{meaning_in, memory_in};
-ghost use Rattle.linkinfo_table.specs.FamilyRowLaws.{table_flat, table_owes};
 ghost use Rattle.nla_frame.specs.declared.error.Family.TheVariants as family;
-ghost use Rattle.std.specs.Prelude.{false, refl};
+ghost use Rattle.std.specs.Prelude.{◌≡◌, refl};
 
 use bitflags::Flags;
 use linkinfo_numbers::{InfoRmNetFlags, RmNetFlags};
 use linkinfo_table::{
-    FlatFamily, Found, Lookup, Part, RowFamily, parts, row_emit_value, row_fit_len, row_kind,
-    row_read, row_value_len, table_lookup,
+    Found, Part, Place, TableFamily, WrittenByTable, part_by_rows, put_by_rows, row_emit_value,
+    row_fit_len, row_kind, row_read, row_value_len,
 };
 use nla_frame::{DecodeError, DefaultNla, ExactEq, Family, Nla, NlaBuffer, Parseable};
 use std::alloc::{AllocError, Global};
-
-const IFLA_RMNET_MUX_ID: u16 = 1;
-
-const IFLA_RMNET_FLAGS: u16 = 2;
 
 /// An attribute of a link to a Qualcomm modem: of a link of the kind `rmnet` (include/uapi/linux/if_link.h).
 #[derive(Debug, PartialEq, Eq, Clone, Drop)]
@@ -32,59 +27,63 @@ pub enum InfoRmNet {
     Other(DefaultNla),
 }
 
-impl RowFamily for InfoRmNet {
-    type Context = ();
+macro_rules! rows {
+    ($body:ident $given:tt) => {
+        $body! { InfoRmNet $given;
+            (IFLA_RMNET_MUX_ID = 1, le16, MuxId),
+            (IFLA_RMNET_FLAGS = 2, flag_pair, Flags by flags_of, pair_of),
+        }
+    };
+}
 
+impl TableFamily for InfoRmNet {
     const FAMILY: Family = Family::RmNet;
 
     ghost FAMILY = { family.RmNet };
 
-    ghost rows = { λ _ n. table_row rm_net_rows n };
+    ghost table = { rm_net_rows };
 
     ghost other = { λ nla. Other nla };
 
     ghost canonical = { rm_net_attribute };
 
-    ghost is_custom = { λ _. false };
-
-    ghost owes = { λ _ n. table_owes rm_net_attribute rm_net_rows rm_net_keeps n };
+    ghost keeps = { rm_net_keeps };
 
     ghost keeps_other = { λ _. refl };
 
-    #[tactic(auto, using(crate::specs::Rmnet::rm_net_lookup))]
-    fn shape(_ctx: (), kind: u16) -> Lookup {
-        table_lookup(Family::RmNet, kind)
+    ghost in_table = { rm_net_lookup };
+
+    #[inline(always)]
+    fn put_found<P: Place<InfoRmNet>>(
+        place: &mut P,
+        alloc: Global,
+        found: Found<'_>,
+    ) -> Result<(), AllocError> {
+        rows!(put_by_rows(place, alloc, found))
     }
 
-    fn from_found(_alloc: Global, _ctx: (), found: Found<'_>) -> Result<InfoRmNet, AllocError> {
-        let (kind, datum) = match found {
-            Found::Typed(kind, datum) => (kind, datum),
-            Found::Kept(nla) => return Ok(InfoRmNet::Other(nla)),
-        };
-        Ok(match kind {
-            IFLA_RMNET_MUX_ID => InfoRmNet::MuxId(datum.u16_or_zero()),
-            IFLA_RMNET_FLAGS => {
-                let (flags, mask) = datum.u32_pair_or_zeros();
-                InfoRmNet::Flags(InfoRmNetFlags::new(
-                    RmNetFlags::from_bits_retain(flags),
-                    RmNetFlags::from_bits_retain(mask),
-                ))
-            }
-            _ => unreachable!(),
-        })
-    }
-
+    #[inline(always)]
     fn to_part(&self) -> Part<'_> {
-        match self {
-            InfoRmNet::MuxId(number) => parts::le16(IFLA_RMNET_MUX_ID, *number),
-            InfoRmNet::Flags(under) => parts::flag_pair(
-                IFLA_RMNET_FLAGS,
-                under.flags.bits(),
-                under.mask.bits(),
-            ),
-            InfoRmNet::Other(nla) => Part::Kept(nla),
-        }
+        rows!(part_by_rows self)
     }
+}
+
+/// The flags and their mask of two numbers.
+fn flags_of(pair: (u32, u32)) -> InfoRmNetFlags
+    ensures { result ≡ flags_under_mask pair }
+{
+    let (flags, mask) = pair;
+    InfoRmNetFlags::new(
+        RmNetFlags::from_bits_retain(flags),
+        RmNetFlags::from_bits_retain(mask),
+    )
+}
+
+/// The numbers of flags and their mask.
+fn pair_of(under: InfoRmNetFlags) -> (u32, u32)
+    ensures { result ≡ (under.flags.0, under.mask.0) }
+{
+    (under.flags.bits(), under.mask.bits())
 }
 
 impl Nla for InfoRmNet {
@@ -107,11 +106,7 @@ impl Nla for InfoRmNet {
     }
 }
 
-impl FlatFamily for InfoRmNet {
-    ghost flat = { λ _ n. table_flat rm_net_attribute rm_net_rows rm_net_keeps n };
-
-    ghost never_custom = { λ _. refl };
-
+impl WrittenByTable for InfoRmNet {
     ghost written = { λ _. refl };
 }
 

@@ -1,21 +1,18 @@
 //! Virtual routing and forwarding: `IFLA_VRF_UNSPEC` and on, and the same of its ports, include/uapi/linux/if_link.h.
 
 ghost use Rattle.linkinfo_devices.specs.declared.vrf.InfoVrf.TheVariants.{Other};
-ghost use Rattle.linkinfo_devices.specs.Vrf.{vrf_attribute, vrf_keeps, vrf_rows};
+ghost use Rattle.linkinfo_devices.specs.Vrf.{vrf_attribute, vrf_keeps, vrf_lookup, vrf_rows};
 ghost use Rattle.linkinfo_table.specs.FamilyRows.{row_of, table_row};
 ghost use Rattle.linkinfo_table.specs.Rows.{meaning_in, memory_in};
-ghost use Rattle.linkinfo_table.specs.FamilyRowLaws.{table_flat, table_owes};
 ghost use Rattle.nla_frame.specs.declared.error.Family.TheVariants as family;
-ghost use Rattle.std.specs.Prelude.{false, refl};
+ghost use Rattle.std.specs.Prelude.{refl};
 
 use linkinfo_table::{
-    Datum, FlatFamily, Found, Lookup, Part, RowFamily, Shape, row_emit_value, row_fit_len,
-    row_kind, row_read, row_value_len, table_lookup,
+    Found, Part, Place, TableFamily, WrittenByTable, part_by_rows, put_by_rows, row_emit_value,
+    row_fit_len, row_kind, row_read, row_value_len,
 };
 use nla_frame::{DecodeError, DefaultNla, ExactEq, Family, Nla, NlaBuffer, Parseable};
 use std::alloc::{AllocError, Global};
-
-const IFLA_VRF_TABLE: u16 = 1;
 
 /// An attribute of a vrf, or of a port of one.
 #[derive(Debug, PartialEq, Eq, Clone, Drop)]
@@ -29,50 +26,43 @@ pub enum InfoVrf {
 /// An attribute of a port of a vrf.
 pub type InfoVrfPort = InfoVrf;
 
-impl RowFamily for InfoVrf {
-    type Context = ();
+macro_rules! rows {
+    ($body:ident $given:tt) => {
+        $body! { InfoVrf $given;
+            (IFLA_VRF_TABLE = 1, le32, TableId),
+        }
+    };
+}
 
+impl TableFamily for InfoVrf {
     const FAMILY: Family = Family::Vrf;
 
     ghost FAMILY = { family.Vrf };
 
-    ghost rows = { λ _ n. table_row vrf_rows n };
+    ghost table = { vrf_rows };
 
     ghost other = { λ nla. Other nla };
 
     ghost canonical = { vrf_attribute };
 
-    ghost is_custom = { λ _. false };
-
-    ghost owes = { λ _ n. table_owes vrf_attribute vrf_rows vrf_keeps n };
+    ghost keeps = { vrf_keeps };
 
     ghost keeps_other = { λ _. refl };
 
-    #[tactic(auto, using(crate::specs::Vrf::vrf_lookup))]
-    fn shape(_ctx: (), kind: u16) -> Lookup {
-        table_lookup(Family::Vrf, kind)
+    ghost in_table = { vrf_lookup };
+
+    #[inline(always)]
+    fn put_found<P: Place<InfoVrf>>(
+        place: &mut P,
+        alloc: Global,
+        found: Found<'_>,
+    ) -> Result<(), AllocError> {
+        rows!(put_by_rows(place, alloc, found))
     }
 
-    fn from_found(_alloc: Global, _ctx: (), found: Found<'_>) -> Result<InfoVrf, AllocError> {
-        match found {
-            Found::Typed(IFLA_VRF_TABLE, datum) => Ok(InfoVrf::TableId(datum.u32_or_zero())),
-            Found::Typed(_, _) => unreachable!(),
-            Found::Kept(nla) => Ok(InfoVrf::Other(nla)),
-        }
-    }
-
-    #[tactic(auto, unfolding(linkinfo_shapes::specs::Data::Suits, linkinfo_shapes::specs::Data::written))]
+    #[inline(always)]
     fn to_part(&self) -> Part<'_> {
-        match self {
-            InfoVrf::TableId(table) => {
-                Part::Typed(
-                    IFLA_VRF_TABLE,
-                    Shape::Le32,
-                    Datum::Number(u64::from(*table)),
-                )
-            }
-            InfoVrf::Other(nla) => Part::Kept(nla),
-        }
+        rows!(part_by_rows self)
     }
 }
 
@@ -96,11 +86,7 @@ impl Nla for InfoVrf {
     }
 }
 
-impl FlatFamily for InfoVrf {
-    ghost flat = { λ _ n. table_flat vrf_attribute vrf_rows vrf_keeps n };
-
-    ghost never_custom = { λ _. refl };
-
+impl WrittenByTable for InfoVrf {
     ghost written = { λ _. refl };
 }
 

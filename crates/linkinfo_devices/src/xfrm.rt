@@ -1,23 +1,18 @@
 //! Xfrm interfaces: `IFLA_XFRM_UNSPEC` and on, include/uapi/linux/if_link.h.
 
 ghost use Rattle.linkinfo_devices.specs.declared.xfrm.InfoXfrm.TheVariants.{Other};
-ghost use Rattle.linkinfo_devices.specs.Xfrm.{xfrm_attribute, xfrm_keeps, xfrm_rows};
+ghost use Rattle.linkinfo_devices.specs.Xfrm.{xfrm_attribute, xfrm_keeps, xfrm_lookup, xfrm_rows};
 ghost use Rattle.linkinfo_table.specs.FamilyRows.{row_of, table_row};
 ghost use Rattle.linkinfo_table.specs.Rows.{meaning_in, memory_in};
-ghost use Rattle.linkinfo_table.specs.FamilyRowLaws.{table_flat, table_owes};
 ghost use Rattle.nla_frame.specs.declared.error.Family.TheVariants as family;
-ghost use Rattle.std.specs.Prelude.{false, refl};
+ghost use Rattle.std.specs.Prelude.{refl};
 
 use linkinfo_table::{
-    Datum, FlatFamily, Found, Lookup, Part, RowFamily, Shape, row_emit_value, row_fit_len,
-    row_kind, row_read, row_value_len, table_lookup,
+    Found, Part, Place, TableFamily, WrittenByTable, part_by_rows, put_by_rows, row_emit_value,
+    row_fit_len, row_kind, row_read, row_value_len,
 };
 use nla_frame::{DecodeError, DefaultNla, ExactEq, Family, Nla, NlaBuffer, Parseable};
 use std::alloc::{AllocError, Global};
-
-const IFLA_XFRM_LINK: u16 = 1;
-
-const IFLA_XFRM_IF_ID: u16 = 2;
 
 /// An attribute of an xfrm interface.
 #[derive(Debug, PartialEq, Eq, Clone, Drop)]
@@ -30,54 +25,44 @@ pub enum InfoXfrm {
     Other(DefaultNla),
 }
 
-impl RowFamily for InfoXfrm {
-    type Context = ();
+macro_rules! rows {
+    ($body:ident $given:tt) => {
+        $body! { InfoXfrm $given;
+            (IFLA_XFRM_LINK = 1, le32, Link),
+            (IFLA_XFRM_IF_ID = 2, le32, IfId),
+        }
+    };
+}
 
+impl TableFamily for InfoXfrm {
     const FAMILY: Family = Family::Xfrm;
 
     ghost FAMILY = { family.Xfrm };
 
-    ghost rows = { λ _ n. table_row xfrm_rows n };
+    ghost table = { xfrm_rows };
 
     ghost other = { λ nla. Other nla };
 
     ghost canonical = { xfrm_attribute };
 
-    ghost is_custom = { λ _. false };
-
-    ghost owes = { λ _ n. table_owes xfrm_attribute xfrm_rows xfrm_keeps n };
+    ghost keeps = { xfrm_keeps };
 
     ghost keeps_other = { λ _. refl };
 
-    #[tactic(auto, using(crate::specs::Xfrm::xfrm_lookup))]
-    fn shape(_ctx: (), kind: u16) -> Lookup {
-        table_lookup(Family::Xfrm, kind)
+    ghost in_table = { xfrm_lookup };
+
+    #[inline(always)]
+    fn put_found<P: Place<InfoXfrm>>(
+        place: &mut P,
+        alloc: Global,
+        found: Found<'_>,
+    ) -> Result<(), AllocError> {
+        rows!(put_by_rows(place, alloc, found))
     }
 
-    fn from_found(_alloc: Global, _ctx: (), found: Found<'_>) -> Result<InfoXfrm, AllocError> {
-        match found {
-            Found::Typed(IFLA_XFRM_LINK, datum) => Ok(InfoXfrm::Link(datum.u32_or_zero())),
-            Found::Typed(IFLA_XFRM_IF_ID, datum) => Ok(InfoXfrm::IfId(datum.u32_or_zero())),
-            Found::Typed(_, _) => unreachable!(),
-            Found::Kept(nla) => Ok(InfoXfrm::Other(nla)),
-        }
-    }
-
-    #[tactic(auto, unfolding(linkinfo_shapes::specs::Data::Suits, linkinfo_shapes::specs::Data::written))]
+    #[inline(always)]
     fn to_part(&self) -> Part<'_> {
-        match self {
-            InfoXfrm::Link(index) => {
-                Part::Typed(
-                    IFLA_XFRM_LINK,
-                    Shape::Le32,
-                    Datum::Number(u64::from(*index)),
-                )
-            }
-            InfoXfrm::IfId(id) => {
-                Part::Typed(IFLA_XFRM_IF_ID, Shape::Le32, Datum::Number(u64::from(*id)))
-            }
-            InfoXfrm::Other(nla) => Part::Kept(nla),
-        }
+        rows!(part_by_rows self)
     }
 }
 
@@ -101,11 +86,7 @@ impl Nla for InfoXfrm {
     }
 }
 
-impl FlatFamily for InfoXfrm {
-    ghost flat = { λ _ n. table_flat xfrm_attribute xfrm_rows xfrm_keeps n };
-
-    ghost never_custom = { λ _. refl };
-
+impl WrittenByTable for InfoXfrm {
     ghost written = { λ _. refl };
 }
 

@@ -1,5 +1,5 @@
 -- The names of link kinds.
-use Rattle.std.specs.Prelude.{◌≡◌, ◌==◌, ℕ, true, false, List, [], ◌∷◌, filter, length, codes, Option, Some, None, unwrap_or}
+use Rattle.std.specs.Prelude.{◌≡◌, ◌≢◌, ◌==◌, ℕ, true, false, List, [], ◌∷◌, filter, length, codes, Option, Some, None, unwrap_or}
 use Rattle.std.specs.Prelude.{is_none, ◌↔◌, Bool, Result, Ok, Err, refl}
 use Rattle.std.specs.List.{list_all, list_any}
 use Rattle.std.specs.Str.{is_utf8}
@@ -13,7 +13,7 @@ use Rattle.linkinfo_numbers.specs.declared.kind.InfoKind.{InfoKind}
 use Rattle.linkinfo_numbers.specs.declared.kind.InfoKind.TheVariants as kind
 use Rattle.linkinfo_numbers.specs.Table.{Table, IsTable, by_name, value_of, IsProper, apart_by, key-value_of, value_of-key, value_of_is_proper}
 use Rattle.linkinfo_numbers.specs.Name.{name_of, name_attribute, name_of-name_attribute, name_of_is_utf8}
-use Rattle.linkinfo_numbers.specs.Names.{Tags, IsTagged, tag_among, tag_at, tag-value_of, kind-tag_at, tag_at-key}
+use Rattle.linkinfo_numbers.specs.Names.{Tags, IsTagged, ascii_is_utf8, is_ascii, tag_among, tag_at, tag-value_of, kind-tag_at, tag_at-key}
 use Rattle.linkinfo_numbers.specs.Names.{tag_among-of_length, tag_among-other_length}
 
 -- the text of each kind
@@ -231,6 +231,15 @@ kind_of_name-tagged name k e = sym (kind-tag_at kind_table_holds kind_tags_hold 
 pub kind_of_name-untagged : (name : List ℕ) → kind_of_tag (tag_of_name name) ≡ None → kind_of_name name ≡ kind.Other name
 unfolding kind_of_name tag_of_name
 kind_of_name-untagged name e = sym (kind-tag_at kind_table_holds kind_tags_hold name) ∙ ap (λ o. unwrap_or o (kind.Other name)) e
+
+-- a name that has a tag is UTF-8
+known_is_ascii : (k : InfoKind) → tag_of_kind k ≢ tag.Other → is_ascii (text_of_kind k) ≡ true
+known_is_ascii = elim [ kind.Other name ↦ λ h. absurd (h refl) | _ ↦ λ h. refl ]
+
+pub tag_of_name-utf8 : (name : List ℕ) → tag_of_name name ≢ tag.Other → is_utf8 name ≡ true
+tag_of_name-utf8 name h =
+    ap is_utf8 (sym (text_of_kind-kind_of_name name))
+    ∙ ascii_is_utf8 _ (known_is_ascii (kind_of_name name) (λ e. h (sym (tag_of_kind-kind_of_name name) ∙ e)))
 
 -- the known kinds whose names have this length
 abbrev pub kinds_of_length : ℕ → List InfoKind

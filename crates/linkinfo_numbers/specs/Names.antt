@@ -4,8 +4,10 @@ use Rattle.std.specs.Prelude.{None, unwrap_or, refl}
 use Rattle.std.specs.Bool.{Decides}
 use Rattle.std.specs.Cmp.{first_so, second_so}
 use Rattle.std.specs.List.{list_all, list_any, AllByRecursion}
-use Rattle.std.proofs.Common.{◌⊎◌, inl, inr, sym, ap, ◌∙◌}
-use Rattle.std.proofs.lemmas.Bool.Decides.{Decides-eqb}
+use Rattle.std.specs.Str.{is_utf8}
+use Rattle.std.proofs.Common.{◌⊎◌, inl, inr, sym, ap, ◌∙◌, ◌<◌, zero, suc, ltb, get_or, lit<}
+use Rattle.std.proofs.lemmas.Bool.Decides.{Decides-eqb, Decides-ltb}
+use Rattle.std.proofs.lemmas.Str.{IsUtf8-from_ascii, is_utf8-from_IsUtf8}
 use Rattle.linkinfo_numbers.specs.Table.{Table, IsTable, IsProper, value_of, value_of-key, part_of_first, part_of_first-then}
 use Rattle.linkinfo_numbers.specs.Table.{part_of_first-missed, all_along}
 
@@ -113,3 +115,16 @@ pub tag_among-other_length : {T K : Type 0} (N : Table (List ℕ) K) (G : Tags T
 tag_among-other_length N G decides lengths ks name known unknown =
     part_of_first-missed (λ k. N.same (N.key k) name) G.tag (G.tag (N.other name)) ks
     (none_of_length N decides lengths ks name known unknown)
+
+-- ---- names of ASCII
+
+abbrev pub is_ascii : List ℕ → Bool
+is_ascii bytes = list_all (λ b. ltb b 128) bytes
+
+each_below : (bytes : List ℕ) → is_ascii bytes ≡ true → (i : ℕ) → get_or bytes i 0 < 128
+each_below [] h i = lit< tt
+each_below (b ∷ bytes) h zero = (Decides-ltb b 128).0 (first_so (ltb b 128) (is_ascii bytes) h)
+each_below (b ∷ bytes) h (suc i) = each_below bytes (second_so (ltb b 128) (is_ascii bytes) h) i
+
+pub ascii_is_utf8 : (bytes : List ℕ) → is_ascii bytes ≡ true → is_utf8 bytes ≡ true
+ascii_is_utf8 bytes h = is_utf8-from_IsUtf8 bytes (IsUtf8-from_ascii bytes (each_below bytes h))

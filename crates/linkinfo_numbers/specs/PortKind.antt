@@ -1,5 +1,5 @@
 -- The names of port kinds.
-use Rattle.std.specs.Prelude.{◌≡◌, ℕ, true, false, List, [], ◌∷◌, codes, Option, Some, None, unwrap_or, is_none, ◌↔◌, Bool, Result}
+use Rattle.std.specs.Prelude.{◌≡◌, ◌≢◌, ℕ, true, false, List, [], ◌∷◌, codes, Option, Some, None, unwrap_or, is_none, ◌↔◌, Bool, Result}
 use Rattle.std.specs.Prelude.{Ok, Err, refl}
 use Rattle.std.specs.Str.{is_utf8}
 use Rattle.std.proofs.Common.{inl, inr, sym, ap, subst, ◌∙◌, lit<}
@@ -12,7 +12,7 @@ use Rattle.linkinfo_numbers.specs.declared.port_kind.InfoPortKind.{InfoPortKind}
 use Rattle.linkinfo_numbers.specs.declared.port_kind.InfoPortKind.TheVariants as kind
 use Rattle.linkinfo_numbers.specs.Table.{Table, IsTable, by_name, value_of, IsProper, apart_by, key-value_of, value_of-key, value_of_is_proper}
 use Rattle.linkinfo_numbers.specs.Name.{name_of, name_attribute, name_of-name_attribute, name_of_is_utf8}
-use Rattle.linkinfo_numbers.specs.Names.{Tags, IsTagged, tag_at, tag-value_of, kind-tag_at, tag_at-key}
+use Rattle.linkinfo_numbers.specs.Names.{Tags, IsTagged, ascii_is_utf8, is_ascii, tag_at, tag-value_of, kind-tag_at, tag_at-key}
 
 -- the text of each kind
 abbrev pub text_of_port_kind : InfoPortKind → List ℕ
@@ -78,6 +78,15 @@ tag_of_port_kind-port_kind_of_name name = tag-value_of port_kind_table port_kind
 pub text_of_port_kind-port_kind_of_name : (name : List ℕ) → text_of_port_kind (port_kind_of_name name) ≡ name
 unfolding port_kind_of_name
 text_of_port_kind-port_kind_of_name name = key-value_of port_kind_table_holds name
+
+-- a name that has a tag is UTF-8
+known_is_ascii : (k : InfoPortKind) → tag_of_port_kind k ≢ tag.Other → is_ascii (text_of_port_kind k) ≡ true
+known_is_ascii = elim [ kind.Other name ↦ λ h. absurd (h refl) | _ ↦ λ h. refl ]
+
+pub port_tag_of_name-utf8 : (name : List ℕ) → port_tag_of_name name ≢ tag.Other → is_utf8 name ≡ true
+port_tag_of_name-utf8 name h =
+    ap is_utf8 (sym (text_of_port_kind-port_kind_of_name name))
+    ∙ ascii_is_utf8 _ (known_is_ascii (port_kind_of_name name) (λ e. h (sym (tag_of_port_kind-port_kind_of_name name) ∙ e)))
 
 -- the kind of the text of a kind is that kind exactly where it is not `Other` of a known name
 pub port_kind_of_name-text_of_port_kind : (k : InfoPortKind) →

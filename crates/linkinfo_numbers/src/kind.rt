@@ -119,7 +119,7 @@ impl InfoKind {
         ensures same_text { IfOk result (λ kind. text_of_kind kind ≡ text.now) }
         ensures known { tag_of_name text.now ≢ KindTag.Other → IsOk result }
     {
-        match kind_of_tag(tag_of_name(text.as_bytes())) {
+        match InfoKind::from_tag(tag_of_name(text.as_bytes())) {
             Some(kind) => Ok(kind),
             None => Ok(InfoKind::Other(Text::copy_of(alloc, text)?)),
         }
@@ -234,60 +234,60 @@ impl InfoKind {
             InfoKind::Other(text) => text.as_str(),
         }
     }
-}
 
-/// The kind of a tag, which `Other` alone does not have.
-fn kind_of_tag(tag: KindTag) -> Option<InfoKind>
-    ensures { result ≡ kind_of_tag tag }
-{
-    match tag {
-        KindTag::Dummy => Some(InfoKind::Dummy),
-        KindTag::Ifb => Some(InfoKind::Ifb),
-        KindTag::Bridge => Some(InfoKind::Bridge),
-        KindTag::Tun => Some(InfoKind::Tun),
-        KindTag::Nlmon => Some(InfoKind::Nlmon),
-        KindTag::Vlan => Some(InfoKind::Vlan),
-        KindTag::Veth => Some(InfoKind::Veth),
-        KindTag::Vxlan => Some(InfoKind::Vxlan),
-        KindTag::Bond => Some(InfoKind::Bond),
-        KindTag::IpVlan => Some(InfoKind::IpVlan),
-        KindTag::IpVtap => Some(InfoKind::IpVtap),
-        KindTag::MacVlan => Some(InfoKind::MacVlan),
-        KindTag::MacVtap => Some(InfoKind::MacVtap),
-        KindTag::GreTap => Some(InfoKind::GreTap),
-        KindTag::GreTap6 => Some(InfoKind::GreTap6),
-        KindTag::IpIp => Some(InfoKind::IpIp),
-        KindTag::Ip6Tnl => Some(InfoKind::Ip6Tnl),
-        KindTag::SitTun => Some(InfoKind::SitTun),
-        KindTag::GreTun => Some(InfoKind::GreTun),
-        KindTag::GreTun6 => Some(InfoKind::GreTun6),
-        KindTag::Vti => Some(InfoKind::Vti),
-        KindTag::Vti6 => Some(InfoKind::Vti6),
-        KindTag::Vrf => Some(InfoKind::Vrf),
-        KindTag::Gtp => Some(InfoKind::Gtp),
-        KindTag::Ipoib => Some(InfoKind::Ipoib),
-        KindTag::Wireguard => Some(InfoKind::Wireguard),
-        KindTag::Xfrm => Some(InfoKind::Xfrm),
-        KindTag::MacSec => Some(InfoKind::MacSec),
-        KindTag::Hsr => Some(InfoKind::Hsr),
-        KindTag::Geneve => Some(InfoKind::Geneve),
-        KindTag::Netkit => Some(InfoKind::Netkit),
-        KindTag::Vcan => Some(InfoKind::Vcan),
-        KindTag::Vxcan => Some(InfoKind::Vxcan),
-        KindTag::Amt => Some(InfoKind::Amt),
-        KindTag::BatAdv => Some(InfoKind::BatAdv),
-        KindTag::BareUdp => Some(InfoKind::BareUdp),
-        KindTag::Netdevsim => Some(InfoKind::Netdevsim),
-        KindTag::VirtWifi => Some(InfoKind::VirtWifi),
-        KindTag::Wwan => Some(InfoKind::Wwan),
-        KindTag::Can => Some(InfoKind::Can),
-        KindTag::Dsa => Some(InfoKind::Dsa),
-        KindTag::Team => Some(InfoKind::Team),
-        KindTag::ErSpan => Some(InfoKind::ErSpan),
-        KindTag::Ip6ErSpan => Some(InfoKind::Ip6ErSpan),
-        KindTag::Pfcp => Some(InfoKind::Pfcp),
-        KindTag::RmNet => Some(InfoKind::RmNet),
-        KindTag::Other => None,
+    /// The kind of this tag; `None` for `Other` alone, whose kind has a text.
+    pub fn from_tag(tag: KindTag) -> Option<InfoKind>
+        ensures { result ≡ kind_of_tag tag }
+    {
+        match tag {
+            KindTag::Dummy => Some(InfoKind::Dummy),
+            KindTag::Ifb => Some(InfoKind::Ifb),
+            KindTag::Bridge => Some(InfoKind::Bridge),
+            KindTag::Tun => Some(InfoKind::Tun),
+            KindTag::Nlmon => Some(InfoKind::Nlmon),
+            KindTag::Vlan => Some(InfoKind::Vlan),
+            KindTag::Veth => Some(InfoKind::Veth),
+            KindTag::Vxlan => Some(InfoKind::Vxlan),
+            KindTag::Bond => Some(InfoKind::Bond),
+            KindTag::IpVlan => Some(InfoKind::IpVlan),
+            KindTag::IpVtap => Some(InfoKind::IpVtap),
+            KindTag::MacVlan => Some(InfoKind::MacVlan),
+            KindTag::MacVtap => Some(InfoKind::MacVtap),
+            KindTag::GreTap => Some(InfoKind::GreTap),
+            KindTag::GreTap6 => Some(InfoKind::GreTap6),
+            KindTag::IpIp => Some(InfoKind::IpIp),
+            KindTag::Ip6Tnl => Some(InfoKind::Ip6Tnl),
+            KindTag::SitTun => Some(InfoKind::SitTun),
+            KindTag::GreTun => Some(InfoKind::GreTun),
+            KindTag::GreTun6 => Some(InfoKind::GreTun6),
+            KindTag::Vti => Some(InfoKind::Vti),
+            KindTag::Vti6 => Some(InfoKind::Vti6),
+            KindTag::Vrf => Some(InfoKind::Vrf),
+            KindTag::Gtp => Some(InfoKind::Gtp),
+            KindTag::Ipoib => Some(InfoKind::Ipoib),
+            KindTag::Wireguard => Some(InfoKind::Wireguard),
+            KindTag::Xfrm => Some(InfoKind::Xfrm),
+            KindTag::MacSec => Some(InfoKind::MacSec),
+            KindTag::Hsr => Some(InfoKind::Hsr),
+            KindTag::Geneve => Some(InfoKind::Geneve),
+            KindTag::Netkit => Some(InfoKind::Netkit),
+            KindTag::Vcan => Some(InfoKind::Vcan),
+            KindTag::Vxcan => Some(InfoKind::Vxcan),
+            KindTag::Amt => Some(InfoKind::Amt),
+            KindTag::BatAdv => Some(InfoKind::BatAdv),
+            KindTag::BareUdp => Some(InfoKind::BareUdp),
+            KindTag::Netdevsim => Some(InfoKind::Netdevsim),
+            KindTag::VirtWifi => Some(InfoKind::VirtWifi),
+            KindTag::Wwan => Some(InfoKind::Wwan),
+            KindTag::Can => Some(InfoKind::Can),
+            KindTag::Dsa => Some(InfoKind::Dsa),
+            KindTag::Team => Some(InfoKind::Team),
+            KindTag::ErSpan => Some(InfoKind::ErSpan),
+            KindTag::Ip6ErSpan => Some(InfoKind::Ip6ErSpan),
+            KindTag::Pfcp => Some(InfoKind::Pfcp),
+            KindTag::RmNet => Some(InfoKind::RmNet),
+            KindTag::Other => None,
+        }
     }
 }
 

@@ -36,7 +36,7 @@ impl InfoPortKind {
         ensures same_text { IfOk result (λ kind. text_of_port_kind kind ≡ text.now) }
         ensures known { port_tag_of_name text.now ≢ PortTag.Other → IsOk result }
     {
-        match kind_of_tag(port_tag_of_name(text.as_bytes())) {
+        match InfoPortKind::from_tag(port_tag_of_name(text.as_bytes())) {
             Some(kind) => Ok(kind),
             None => Ok(InfoPortKind::Other(Text::copy_of(alloc, text)?)),
         }
@@ -67,18 +67,18 @@ impl InfoPortKind {
             InfoPortKind::Other(text) => text.as_str(),
         }
     }
-}
 
-/// The kind of a tag, which `Other` alone does not have.
-fn kind_of_tag(tag: PortTag) -> Option<InfoPortKind>
-    ensures { result ≡ port_kind_of_tag tag }
-{
-    match tag {
-        PortTag::Bond => Some(InfoPortKind::Bond),
-        PortTag::Bridge => Some(InfoPortKind::Bridge),
-        PortTag::Vrf => Some(InfoPortKind::Vrf),
-        PortTag::Team => Some(InfoPortKind::Team),
-        PortTag::Other => None,
+    /// The kind of this tag; `None` for `Other` alone, whose kind has a text.
+    pub fn from_tag(tag: PortTag) -> Option<InfoPortKind>
+        ensures { result ≡ port_kind_of_tag tag }
+    {
+        match tag {
+            PortTag::Bond => Some(InfoPortKind::Bond),
+            PortTag::Bridge => Some(InfoPortKind::Bridge),
+            PortTag::Vrf => Some(InfoPortKind::Vrf),
+            PortTag::Team => Some(InfoPortKind::Team),
+            PortTag::Other => None,
+        }
     }
 }
 

@@ -4,18 +4,16 @@ ghost use Rattle.linkinfo_peers.specs.declared.batadv.InfoBatAdv.TheVariants.{Ot
 ghost use Rattle.linkinfo_peers.specs.Batadv.{batadv_attribute, batadv_keeps, batadv_rows};
 ghost use Rattle.linkinfo_table.specs.FamilyRows.{row_of, table_row};
 ghost use Rattle.linkinfo_table.specs.Rows.{meaning_in, memory_in};
-ghost use Rattle.linkinfo_table.specs.FamilyRowLaws.{table_flat, table_owes};
+ghost use Rattle.linkinfo_table.specs.FamilyRowLaws.{table_lookup};
 ghost use Rattle.nla_frame.specs.declared.error.Family.TheVariants as family;
-ghost use Rattle.std.specs.Prelude.{false, refl};
+ghost use Rattle.std.specs.Prelude.{refl};
 
 use linkinfo_table::{
-    FlatFamily, Found, Lookup, Part, RowFamily, parts, row_emit_value, row_fit_len, row_kind,
-    row_read, row_value_len, table_lookup,
+    Found, Part, Place, TableFamily, WrittenByTable, part_by_rows, put_by_rows, row_emit_value,
+    row_fit_len, row_kind, row_read, row_value_len,
 };
 use nla_frame::{DecodeError, DefaultNla, ExactEq, Family, Nla, NlaBuffer, Parseable, Text};
 use std::alloc::{AllocError, Global};
-
-const IFLA_BATADV_ALGO_NAME: u16 = 1;
 
 /// An attribute of a B.A.T.M.A.N. link: of a link of the kind `batadv`.
 #[derive(Debug, PartialEq, Eq, Clone, Drop)]
@@ -26,46 +24,43 @@ pub enum InfoBatAdv {
     Other(DefaultNla),
 }
 
-impl RowFamily for InfoBatAdv {
-    type Context = ();
+macro_rules! rows {
+    ($body:ident $given:tt) => {
+        $body! { InfoBatAdv $given;
+            (IFLA_BATADV_ALGO_NAME = 1, name, AlgoName),
+        }
+    };
+}
 
+impl TableFamily for InfoBatAdv {
     const FAMILY: Family = Family::BatAdv;
 
     ghost FAMILY = { family.BatAdv };
 
-    ghost rows = { λ _ n. table_row batadv_rows n };
+    ghost table = { batadv_rows };
 
     ghost other = { λ nla. Other nla };
 
     ghost canonical = { batadv_attribute };
 
-    ghost is_custom = { λ _. false };
-
-    ghost owes = { λ _ n. table_owes batadv_attribute batadv_rows batadv_keeps n };
+    ghost keeps = { batadv_keeps };
 
     ghost keeps_other = { λ _. refl };
 
-    #[tactic(auto, using(linkinfo_table::specs::FamilyRowLaws::table_lookup))]
-    fn shape(_ctx: (), kind: u16) -> Lookup {
-        table_lookup(Family::BatAdv, kind)
+    ghost in_table = { λ n. table_lookup batadv_rows n };
+
+    #[inline(always)]
+    fn put_found<P: Place<InfoBatAdv>>(
+        place: &mut P,
+        alloc: Global,
+        found: Found<'_>,
+    ) -> Result<(), AllocError> {
+        rows!(put_by_rows(place, alloc, found))
     }
 
-    fn from_found(alloc: Global, _ctx: (), found: Found<'_>) -> Result<InfoBatAdv, AllocError> {
-        match found {
-            Found::Typed(IFLA_BATADV_ALGO_NAME, datum) => {
-                let name = Text::copy_of(alloc, datum.text_or_empty())?;
-                Ok(InfoBatAdv::AlgoName(name))
-            }
-            Found::Typed(_, _) => unreachable!(),
-            Found::Kept(nla) => Ok(InfoBatAdv::Other(nla)),
-        }
-    }
-
+    #[inline(always)]
     fn to_part(&self) -> Part<'_> {
-        match self {
-            InfoBatAdv::AlgoName(name) => parts::name(IFLA_BATADV_ALGO_NAME, name.as_str()),
-            InfoBatAdv::Other(nla) => Part::Kept(nla),
-        }
+        rows!(part_by_rows self)
     }
 }
 
@@ -89,11 +84,7 @@ impl Nla for InfoBatAdv {
     }
 }
 
-impl FlatFamily for InfoBatAdv {
-    ghost flat = { λ _ n. table_flat batadv_attribute batadv_rows batadv_keeps n };
-
-    ghost never_custom = { λ _. refl };
-
+impl WrittenByTable for InfoBatAdv {
     ghost written = { λ _. refl };
 }
 

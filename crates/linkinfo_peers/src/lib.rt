@@ -4,24 +4,19 @@
 
 mod batadv;
 mod bit;
+pub mod laws;
 mod netkit;
 mod peer_calls;
 mod peer_family;
-mod pfcp;
-mod team_port;
-mod tun;
+mod rowless;
 mod veth;
 mod vxcan;
-mod wireguard;
 mod wwan;
 
 pub use batadv::InfoBatAdv;
 pub use bit::BitPeer;
 pub use netkit::{InfoNetkit, InfoNetkitOf};
-pub use pfcp::InfoPfcp;
-pub use team_port::InfoTeamPort;
-pub use tun::InfoTun;
+pub use rowless::{InfoPfcp, InfoTeamPort, InfoTun, InfoWireguard};
 pub use veth::{InfoVeth, InfoVethOf};
 pub use vxcan::{InfoVxcan, InfoVxcanOf};
-pub use wireguard::InfoWireguard;
 pub use wwan::InfoWwan;

@@ -14,26 +14,11 @@ use crate::peer_calls::{
 use crate::peer_family::PeerFamily;
 use linkinfo_numbers::{NetkitMode, NetkitPolicy, NetkitScrub};
 use linkinfo_table::{
-    Found, LinkPeer, Lookup, Part, RowFamily, UnnestedFamily, parts, table_lookup,
+    Found, LinkPeer, Lookup, Part, Place, RowFamily, UnnestedFamily, part_by_rows, put_by_rows,
+    table_lookup,
 };
 use nla_frame::{Bytes, DecodeError, DefaultNla, ExactEq, Family, Nla, NlaBuffer, Parseable};
 use std::alloc::{AllocError, Global};
-
-const IFLA_NETKIT_PRIMARY: u16 = 2;
-
-const IFLA_NETKIT_POLICY: u16 = 3;
-
-const IFLA_NETKIT_PEER_POLICY: u16 = 4;
-
-const IFLA_NETKIT_MODE: u16 = 5;
-
-const IFLA_NETKIT_SCRUB: u16 = 6;
-
-const IFLA_NETKIT_PEER_SCRUB: u16 = 7;
-
-const IFLA_NETKIT_HEADROOM: u16 = 8;
-
-const IFLA_NETKIT_TAILROOM: u16 = 9;
 
 /// An attribute of a netkit link, with a peer of type `P`.
 #[derive(Debug, PartialEq, Eq, Clone, Drop)]
@@ -63,6 +48,22 @@ pub enum InfoNetkitOf<P> {
 /// An attribute of a netkit link, whose peer is the bytes of its payload.
 pub type InfoNetkit = InfoNetkitOf<Bytes>;
 
+macro_rules! rows {
+    ($body:ident $given:tt) => {
+        $body! { InfoNetkitOf $given;
+            (IFLA_NETKIT_PEER_INFO = 1, custom, Peer),
+            (IFLA_NETKIT_PRIMARY = 2, truth, Primary),
+            (IFLA_NETKIT_POLICY = 3, le32, Policy as NetkitPolicy),
+            (IFLA_NETKIT_PEER_POLICY = 4, le32, PeerPolicy as NetkitPolicy),
+            (IFLA_NETKIT_MODE = 5, le32, Mode as NetkitMode),
+            (IFLA_NETKIT_SCRUB = 6, scrub, Scrub by scrub_of, is_by_default),
+            (IFLA_NETKIT_PEER_SCRUB = 7, scrub, PeerScrub by scrub_of, is_by_default),
+            (IFLA_NETKIT_HEADROOM = 8, le16, Headroom),
+            (IFLA_NETKIT_TAILROOM = 9, le16, Tailroom),
+        }
+    };
+}
+
 impl<P: LinkPeer> RowFamily for InfoNetkitOf<P> {
     type Context = ();
 
@@ -87,47 +88,19 @@ impl<P: LinkPeer> RowFamily for InfoNetkitOf<P> {
         table_lookup(Family::Netkit, kind)
     }
 
-    fn from_found(
-        _alloc: Global,
+    #[inline(always)]
+    fn put_found<L: Place<InfoNetkitOf<P>>>(
+        place: &mut L,
+        alloc: Global,
         _ctx: (),
         found: Found<'_>,
-    ) -> Result<InfoNetkitOf<P>, AllocError> {
-        let (kind, datum) = match found {
-            Found::Typed(kind, datum) => (kind, datum),
-            Found::Kept(nla) => return Ok(InfoNetkitOf::Other(nla)),
-        };
-        Ok(match kind {
-            IFLA_NETKIT_PRIMARY => InfoNetkitOf::Primary(datum.bool_or_false()),
-            IFLA_NETKIT_POLICY => InfoNetkitOf::Policy(NetkitPolicy::from(datum.u32_or_zero())),
-            IFLA_NETKIT_PEER_POLICY => {
-                InfoNetkitOf::PeerPolicy(NetkitPolicy::from(datum.u32_or_zero()))
-            }
-            IFLA_NETKIT_MODE => InfoNetkitOf::Mode(NetkitMode::from(datum.u32_or_zero())),
-            IFLA_NETKIT_SCRUB => InfoNetkitOf::Scrub(scrub_of(datum.bool_or_false())),
-            IFLA_NETKIT_PEER_SCRUB => InfoNetkitOf::PeerScrub(scrub_of(datum.bool_or_false())),
-            IFLA_NETKIT_HEADROOM => InfoNetkitOf::Headroom(datum.u16_or_zero()),
-            IFLA_NETKIT_TAILROOM => InfoNetkitOf::Tailroom(datum.u16_or_zero()),
-            _ => unreachable!(),
-        })
+    ) -> Result<(), AllocError> {
+        rows!(put_by_rows(place, alloc, found))
     }
 
+    #[inline(always)]
     fn to_part(&self) -> Part<'_> {
-        match self {
-            InfoNetkitOf::Peer(_) => Part::Custom,
-            InfoNetkitOf::Primary(primary) => parts::truth(IFLA_NETKIT_PRIMARY, *primary),
-            InfoNetkitOf::Policy(policy) => parts::le32(IFLA_NETKIT_POLICY, u32::from(*policy)),
-            InfoNetkitOf::PeerPolicy(policy) => {
-                parts::le32(IFLA_NETKIT_PEER_POLICY, u32::from(*policy))
-            }
-            InfoNetkitOf::Mode(mode) => parts::le32(IFLA_NETKIT_MODE, u32::from(*mode)),
-            InfoNetkitOf::Scrub(scrub) => parts::scrub(IFLA_NETKIT_SCRUB, is_by_default(*scrub)),
-            InfoNetkitOf::PeerScrub(scrub) => {
-                parts::scrub(IFLA_NETKIT_PEER_SCRUB, is_by_default(*scrub))
-            }
-            InfoNetkitOf::Headroom(bytes) => parts::le16(IFLA_NETKIT_HEADROOM, *bytes),
-            InfoNetkitOf::Tailroom(bytes) => parts::le16(IFLA_NETKIT_TAILROOM, *bytes),
-            InfoNetkitOf::Other(nla) => Part::Kept(nla),
-        }
+        rows!(part_by_rows self)
     }
 }
 

@@ -12,7 +12,9 @@ use crate::peer_calls::{
     peer_check, peer_emit_value, peer_fit_len, peer_kind, peer_read, peer_same, peer_value_len,
 };
 use crate::peer_family::PeerFamily;
-use linkinfo_table::{Found, LinkPeer, Lookup, Part, RowFamily, UnnestedFamily, table_lookup};
+use linkinfo_table::{
+    Found, LinkPeer, Lookup, Part, Place, RowFamily, UnnestedFamily, table_lookup,
+};
 use nla_frame::{Bytes, DecodeError, DefaultNla, ExactEq, Family, Nla, NlaBuffer, Parseable};
 use std::alloc::{AllocError, Global};
 
@@ -52,10 +54,16 @@ impl<P: LinkPeer> RowFamily for InfoVethOf<P> {
         table_lookup(Family::Veth, kind)
     }
 
-    fn from_found(_alloc: Global, _ctx: (), found: Found<'_>) -> Result<InfoVethOf<P>, AllocError> {
+    #[inline(always)]
+    fn put_found<L: Place<InfoVethOf<P>>>(
+        place: &mut L,
+        _alloc: Global,
+        _ctx: (),
+        found: Found<'_>,
+    ) -> Result<(), AllocError> {
         match found {
             Found::Typed(_, _) => unreachable!(),
-            Found::Kept(nla) => Ok(InfoVethOf::Other(nla)),
+            Found::Kept(nla) => place.put(InfoVethOf::Other(nla)),
         }
     }
 

@@ -12,7 +12,9 @@ use crate::peer_calls::{
     peer_check, peer_emit_value, peer_fit_len, peer_kind, peer_read, peer_same, peer_value_len,
 };
 use crate::peer_family::PeerFamily;
-use linkinfo_table::{Found, LinkPeer, Lookup, Part, RowFamily, UnnestedFamily, table_lookup};
+use linkinfo_table::{
+    Found, LinkPeer, Lookup, Part, Place, RowFamily, UnnestedFamily, table_lookup,
+};
 use nla_frame::{Bytes, DecodeError, DefaultNla, ExactEq, Family, Nla, NlaBuffer, Parseable};
 use std::alloc::{AllocError, Global};
 
@@ -52,14 +54,16 @@ impl<P: LinkPeer> RowFamily for InfoVxcanOf<P> {
         table_lookup(Family::Vxcan, kind)
     }
 
-    fn from_found(
+    #[inline(always)]
+    fn put_found<L: Place<InfoVxcanOf<P>>>(
+        place: &mut L,
         _alloc: Global,
         _ctx: (),
         found: Found<'_>,
-    ) -> Result<InfoVxcanOf<P>, AllocError> {
+    ) -> Result<(), AllocError> {
         match found {
             Found::Typed(_, _) => unreachable!(),
-            Found::Kept(nla) => Ok(InfoVxcanOf::Other(nla)),
+            Found::Kept(nla) => place.put(InfoVxcanOf::Other(nla)),
         }
     }
 

@@ -4,18 +4,16 @@ ghost use Rattle.linkinfo_peers.specs.declared.wwan.InfoWwan.TheVariants.{Other}
 ghost use Rattle.linkinfo_peers.specs.Wwan.{wwan_attribute, wwan_keeps, wwan_rows};
 ghost use Rattle.linkinfo_table.specs.FamilyRows.{row_of, table_row};
 ghost use Rattle.linkinfo_table.specs.Rows.{meaning_in, memory_in};
-ghost use Rattle.linkinfo_table.specs.FamilyRowLaws.{table_flat, table_owes};
+ghost use Rattle.linkinfo_table.specs.FamilyRowLaws.{table_lookup};
 ghost use Rattle.nla_frame.specs.declared.error.Family.TheVariants as family;
-ghost use Rattle.std.specs.Prelude.{false, refl};
+ghost use Rattle.std.specs.Prelude.{refl};
 
 use linkinfo_table::{
-    FlatFamily, Found, Lookup, Part, RowFamily, parts, row_emit_value, row_fit_len, row_kind,
-    row_read, row_value_len, table_lookup,
+    Found, Part, Place, TableFamily, WrittenByTable, part_by_rows, put_by_rows, row_emit_value,
+    row_fit_len, row_kind, row_read, row_value_len,
 };
 use nla_frame::{DecodeError, DefaultNla, ExactEq, Family, Nla, NlaBuffer, Parseable};
 use std::alloc::{AllocError, Global};
-
-const IFLA_WWAN_LINK_ID: u16 = 1;
 
 /// An attribute of a WWAN link: of a link of the kind `wwan`.
 #[derive(Debug, PartialEq, Eq, Clone, Drop)]
@@ -26,43 +24,43 @@ pub enum InfoWwan {
     Other(DefaultNla),
 }
 
-impl RowFamily for InfoWwan {
-    type Context = ();
+macro_rules! rows {
+    ($body:ident $given:tt) => {
+        $body! { InfoWwan $given;
+            (IFLA_WWAN_LINK_ID = 1, le32, LinkId),
+        }
+    };
+}
 
+impl TableFamily for InfoWwan {
     const FAMILY: Family = Family::Wwan;
 
     ghost FAMILY = { family.Wwan };
 
-    ghost rows = { λ _ n. table_row wwan_rows n };
+    ghost table = { wwan_rows };
 
     ghost other = { λ nla. Other nla };
 
     ghost canonical = { wwan_attribute };
 
-    ghost is_custom = { λ _. false };
-
-    ghost owes = { λ _ n. table_owes wwan_attribute wwan_rows wwan_keeps n };
+    ghost keeps = { wwan_keeps };
 
     ghost keeps_other = { λ _. refl };
 
-    #[tactic(auto, using(linkinfo_table::specs::FamilyRowLaws::table_lookup))]
-    fn shape(_ctx: (), kind: u16) -> Lookup {
-        table_lookup(Family::Wwan, kind)
+    ghost in_table = { λ n. table_lookup wwan_rows n };
+
+    #[inline(always)]
+    fn put_found<P: Place<InfoWwan>>(
+        place: &mut P,
+        alloc: Global,
+        found: Found<'_>,
+    ) -> Result<(), AllocError> {
+        rows!(put_by_rows(place, alloc, found))
     }
 
-    fn from_found(_alloc: Global, _ctx: (), found: Found<'_>) -> Result<InfoWwan, AllocError> {
-        match found {
-            Found::Typed(IFLA_WWAN_LINK_ID, datum) => Ok(InfoWwan::LinkId(datum.u32_or_zero())),
-            Found::Typed(_, _) => unreachable!(),
-            Found::Kept(nla) => Ok(InfoWwan::Other(nla)),
-        }
-    }
-
+    #[inline(always)]
     fn to_part(&self) -> Part<'_> {
-        match self {
-            InfoWwan::LinkId(id) => parts::le32(IFLA_WWAN_LINK_ID, *id),
-            InfoWwan::Other(nla) => Part::Kept(nla),
-        }
+        rows!(part_by_rows self)
     }
 }
 
@@ -86,11 +84,7 @@ impl Nla for InfoWwan {
     }
 }
 
-impl FlatFamily for InfoWwan {
-    ghost flat = { λ _ n. table_flat wwan_attribute wwan_rows wwan_keeps n };
-
-    ghost never_custom = { λ _. refl };
-
+impl WrittenByTable for InfoWwan {
     ghost written = { λ _. refl };
 }
 

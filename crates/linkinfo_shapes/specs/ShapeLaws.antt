@@ -1,6 +1,6 @@
 -- What holds of every shape: what is read is a datum, what is written is read again, alike payloads are those of one datum.
 use Rattle.std.proofs.Common.{◌≡◌, ◌≢◌, ℕ, zero, suc, ◌+◌, ◌-◌, ◌*◌, ◌/◌, ◌%◌, ◌^◌, ◌<◌, ◌↔◌, ◌⊎◌, inl, inr, Bool, true, false, not, cond, eqb, List, [], ◌∷◌, ◌++◌, length, take, drop, refl, sym, ap, subst, ◌∙◌, arith, Option, Some, None, Result, Ok, Err}
-use Rattle.std.specs.Prelude.{slice_index, IsOk}
+use Rattle.std.specs.Prelude.{slice_index, IsOk, ◌==◌, if◌then◌else◌}
 use Rattle.std.specs.Bool.{beq}
 use Rattle.std.specs.Int.{w16, w32, w64, cast_signed, cast_unsigned, from_be_bytes, from_le_bytes, to_be_bytes, to_le_bytes}
 use Rattle.std.specs.Net.Addr.{octets_of, segments_of}
@@ -20,7 +20,7 @@ use Rattle.nla_frame.specs.Payload.{of_length, ip_of, ipv4_of, ipv6_of, stripped
 use Rattle.nla_frame.proofs.ByteLists.{IsBytes-drop, IsBytes-take, IsBytes-nil, IsBytes-cons, IsBytes-append}
 use Rattle.nla_frame.specs.declared.error.Cause.{Cause}
 use Rattle.nla_frame.specs.declared.error.Cause.TheVariants as cause
-use Rattle.linkinfo_shapes.specs.Shapes.{Carrier, text_of, of_version, means, verdict, IsAccepted, truth_number, canon, IsIpv4, IsIpv6, IsIp, Holds, is_zero, payload_alike, needs_memory}
+use Rattle.linkinfo_shapes.specs.Shapes.{Carrier, accepted_length, text_of, of_version, means, verdict, IsAccepted, truth_number, canon, IsIpv4, IsIpv6, IsIp, Holds, is_zero, payload_alike, needs_memory}
 use Rattle.linkinfo_shapes.specs.declared.shape.Shape.{Shape}
 use Rattle.linkinfo_shapes.specs.declared.shape.Shape.TheVariants.{U8, Le16, Le32, Le64, Be16, Be32, Be64, I32, Truth, TruthOne, Mark, Name, V4, V6, GeneveV4, GeneveV6, Ip, Mac, BePair, FlagPair, EmptyOrByte, Scrub, Raw, SelfList, Peer}
 
@@ -507,6 +507,45 @@ means_alike EmptyOrByte p q x y h k e f = exact_alike EmptyOrByte p q x y h k e 
 means_alike Raw p q x y h k e f = exact_alike Raw p q x y h k e f refl
 means_alike SelfList p q x y h k e f = exact_alike SelfList p q x y h k e f refl
 means_alike Peer p q x y h k e f = exact_alike Peer p q x y h k e f refl
+
+-- ---- verdicts by lengths
+
+verdict_if : {X : Type 0} (b : Bool) (c : Cause) (x : X) → (if b then done tt else failed c) ≡ verdict (if b then done x else failed c)
+verdict_if true c x = refl
+verdict_if false c x = refl
+
+verdict_length : {X : Type 0} (m n : ℕ) (p : List ℕ) (x : X) → Some m ≡ Some n → of_length n p tt ≡ verdict (of_length m p x)
+verdict_length m n p x e = ap (λ (k : ℕ). of_length k p tt) (sym (same e)) ∙ verdict_if (length p == m) cause.Length x
+  where
+    same : Some m ≡ Some n → m ≡ n
+    same h = cc
+
+-- under a shape whose accepted payloads have one length, that length is what is asked
+pub verdict_fixed : (shape : Shape) (n : ℕ) (p : List ℕ) → accepted_length shape ≡ Some n → of_length n p tt ≡ verdict (means shape p)
+verdict_fixed U8 n p e = verdict_length 1 n p _ e
+verdict_fixed Le16 n p e = verdict_length 2 n p _ e
+verdict_fixed Le32 n p e = verdict_length 4 n p _ e
+verdict_fixed Le64 n p e = verdict_length 8 n p _ e
+verdict_fixed Be16 n p e = verdict_length 2 n p _ e
+verdict_fixed Be32 n p e = verdict_length 4 n p _ e
+verdict_fixed Be64 n p e = verdict_length 8 n p _ e
+verdict_fixed I32 n p e = verdict_length 4 n p _ e
+verdict_fixed Truth n p e = verdict_length 1 n p _ e
+verdict_fixed TruthOne n p e = verdict_length 1 n p _ e
+verdict_fixed V4 n p e = verdict_length 4 n p _ e
+verdict_fixed V6 n p e = verdict_length 16 n p _ e
+verdict_fixed Mac n p e = verdict_length 6 n p _ e
+verdict_fixed BePair n p e = verdict_length 4 n p _ e
+verdict_fixed FlagPair n p e = verdict_length 8 n p _ e
+verdict_fixed Scrub n p e = verdict_length 4 n p _ e
+verdict_fixed _ n p e = absurd cc
+
+pub verdict_version : {X : Type 0} (size other : ℕ) (p : List ℕ) (x : X) → of_version size other p tt ≡ verdict (of_version size other p x)
+verdict_version size other p x = by (length p == other)
+  where
+    by : (b : Bool) → (if b then failed cause.AddressKind else of_length size p tt) ≡ verdict (if b then failed cause.AddressKind else of_length size p x)
+    by true = refl
+    by false = verdict_if (length p == size) cause.Length x
 
 -- ---- the same of payloads that are known to be accepted
 

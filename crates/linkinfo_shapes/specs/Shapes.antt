@@ -90,6 +90,26 @@ abbrev pub verdict : {X : Type 0} → Result X Cause → Result (Unit {0}) Cause
 verdict (Ok x) = Ok tt
 verdict (Err e) = Err e
 
+-- the length of every accepted payload, where they have one length
+abbrev pub accepted_length : Shape → Option ℕ
+accepted_length U8 = Some 1
+accepted_length Le16 = Some 2
+accepted_length Le32 = Some 4
+accepted_length Le64 = Some 8
+accepted_length Be16 = Some 2
+accepted_length Be32 = Some 4
+accepted_length Be64 = Some 8
+accepted_length I32 = Some 4
+accepted_length Truth = Some 1
+accepted_length TruthOne = Some 1
+accepted_length V4 = Some 4
+accepted_length V6 = Some 16
+accepted_length Mac = Some 6
+accepted_length BePair = Some 4
+accepted_length FlagPair = Some 8
+accepted_length Scrub = Some 4
+accepted_length _ = None
+
 -- the payload means a datum
 unfoldable pub IsAccepted : Shape → List ℕ → Type 0
 IsAccepted shape payload = IsOk (means shape payload)

@@ -34,6 +34,7 @@ pub enum Datum<'a> {
 
 impl<'a> Datum<'a> {
     /// The number of a datum that suits `Shape::U8`, and else 0.
+    #[inline(always)]
     pub fn u8_or_zero(self) -> u8
         ensures { IsDatumOr Shape.U8 0 self.entry result }
     {
@@ -44,6 +45,7 @@ impl<'a> Datum<'a> {
     }
 
     /// The number of a datum that suits `Shape::Le16` or `Shape::Be16`, and else 0.
+    #[inline(always)]
     pub fn u16_or_zero(self) -> u16
         ensures le16 { IsDatumOr Shape.Le16 0 self.entry result }
         ensures be16 { IsDatumOr Shape.Be16 0 self.entry result }
@@ -55,6 +57,7 @@ impl<'a> Datum<'a> {
     }
 
     /// The number of a datum that suits `Shape::Le32` or `Shape::Be32`, and else 0.
+    #[inline(always)]
     pub fn u32_or_zero(self) -> u32
         ensures le32 { IsDatumOr Shape.Le32 0 self.entry result }
         ensures be32 { IsDatumOr Shape.Be32 0 self.entry result }
@@ -66,6 +69,7 @@ impl<'a> Datum<'a> {
     }
 
     /// The number of a datum that suits `Shape::Le64` or `Shape::Be64`, and else 0.
+    #[inline(always)]
     pub fn u64_or_zero(self) -> u64
         ensures le64 { IsDatumOr Shape.Le64 0 self.entry result }
         ensures be64 { IsDatumOr Shape.Be64 0 self.entry result }
@@ -77,6 +81,7 @@ impl<'a> Datum<'a> {
     }
 
     /// The number of a datum that suits `Shape::I32`, and else 0.
+    #[inline(always)]
     pub fn i32_or_zero(self) -> i32
         ensures { IsDatumOr Shape.I32 (pos 0) self.entry result }
     {
@@ -87,6 +92,7 @@ impl<'a> Datum<'a> {
     }
 
     /// What a datum says that suits `Shape::Truth`, `Shape::TruthOne` or `Shape::Scrub`, and else false.
+    #[inline(always)]
     pub fn bool_or_false(self) -> bool
         ensures truth { IsDatumOr Shape.Truth false self.entry result }
         ensures truth_one { IsDatumOr Shape.TruthOne false self.entry result }
@@ -99,6 +105,7 @@ impl<'a> Datum<'a> {
     }
 
     /// The text of a datum that suits `Shape::Name`, and else the empty text.
+    #[inline(always)]
     pub fn text_or_empty(self) -> &'a str
         ensures { IsDatumOr Shape.Name [] self.entry result.now }
     {
@@ -109,6 +116,7 @@ impl<'a> Datum<'a> {
     }
 
     /// The address of a datum that suits `Shape::V4` or `Shape::GeneveV4`, and else 0.0.0.0.
+    #[inline(always)]
     pub fn ipv4_or_unspecified(self) -> Ipv4Addr
         ensures v4 { IsDatumOr Shape.V4 Ipv4Addr.UNSPECIFIED self.entry result }
         ensures geneve_v4 { IsDatumOr Shape.GeneveV4 Ipv4Addr.UNSPECIFIED self.entry result }
@@ -120,6 +128,7 @@ impl<'a> Datum<'a> {
     }
 
     /// The address of a datum that suits `Shape::V6` or `Shape::GeneveV6`, and else `::`.
+    #[inline(always)]
     pub fn ipv6_or_unspecified(self) -> Ipv6Addr
         ensures v6 { IsDatumOr Shape.V6 Ipv6Addr.UNSPECIFIED self.entry result }
         ensures geneve_v6 { IsDatumOr Shape.GeneveV6 Ipv6Addr.UNSPECIFIED self.entry result }
@@ -131,6 +140,7 @@ impl<'a> Datum<'a> {
     }
 
     /// The address of a datum that suits `Shape::Ip`, and else `::`.
+    #[inline(always)]
     pub fn ip_or_unspecified(self) -> IpAddr
         ensures { IsDatumOr Shape.Ip (IpAddr.V6 Ipv6Addr.UNSPECIFIED) self.entry result }
     {
@@ -142,6 +152,7 @@ impl<'a> Datum<'a> {
     }
 
     /// The hardware address of a datum that suits `Shape::Mac`, and else six zeros.
+    #[inline(always)]
     pub fn mac_or_zeros(self) -> [u8; 6]
         ensures { IsDatumOr Shape.Mac (replicate 6 0) self.entry result }
     {
@@ -152,6 +163,7 @@ impl<'a> Datum<'a> {
     }
 
     /// The two numbers of a datum that suits `Shape::BePair`, and else two zeros.
+    #[inline(always)]
     pub fn u16_pair_or_zeros(self) -> (u16, u16)
         ensures { IsDatumOr Shape.BePair (0, 0) self.entry result }
     {
@@ -162,6 +174,7 @@ impl<'a> Datum<'a> {
     }
 
     /// Flags and mask of a datum that suits `Shape::FlagPair`, and else two zeros.
+    #[inline(always)]
     pub fn u32_pair_or_zeros(self) -> (u32, u32)
         ensures { IsDatumOr Shape.FlagPair (0, 0) self.entry result }
     {
@@ -172,6 +185,7 @@ impl<'a> Datum<'a> {
     }
 
     /// The byte of a datum that suits `Shape::EmptyOrByte`, where there is one, and else `None`.
+    #[inline(always)]
     pub fn byte_or_none(self) -> Option<u8>
         ensures { IsDatumOr Shape.EmptyOrByte None self.entry result }
     {
@@ -182,6 +196,7 @@ impl<'a> Datum<'a> {
     }
 
     /// The bytes of a datum that suits `Shape::Raw`, and else no bytes.
+    #[inline(always)]
     pub fn bytes_or_empty(self) -> &'a [u8]
         ensures { IsDatumOr Shape.Raw [] self.entry result.now }
     {

@@ -1,8 +1,9 @@
 //! Payloads and data, by shape.
 
-ghost use Rattle.std.specs.Prelude.{◌≡◌, ◌≤◌, ◌↔◌, IsTrue, length, SomeIff, slice_index};
+ghost use Rattle.std.specs.Prelude.{◌≡◌, ◌≤◌, ◌↔◌, IsTrue, None, length, SomeIff, slice_index};
+ghost use Rattle.nla_frame.specs.Payload.{of_length};
 ghost use Rattle.linkinfo_shapes.specs.Data.{ReadsAs, Suits, fixed_length, value_length, value_of, written};
-ghost use Rattle.linkinfo_shapes.specs.Shapes.{IsAccepted, IsPlain, is_zero as is_zero_number, means, payload_alike, verdict};
+ghost use Rattle.linkinfo_shapes.specs.Shapes.{IsAccepted, IsPlain, accepted_length, is_zero as is_zero_number, means, of_version, payload_alike, verdict};
 
 use crate::datum::Datum;
 use crate::readers::*;
@@ -13,14 +14,107 @@ use nla_frame::{Cause, without_nul};
 /// The most bytes that the length field of an attribute can count.
 const PAYLOAD_LEN_MAX: usize = 65531;
 
-/// Whether the payload is accepted under the shape, or why not. Takes no memory; of a payload that is no name it reads no more than a
-/// fixed number of bytes. Asks for a shape other than `Shape::SelfList` and `Shape::Peer`, whose payloads the family reads itself.
-#[tactic(auto, using(crate::specs::DataLaws::read_verdict))]
+/// Whether the payload is accepted under the shape, or why not. Takes no memory; of a payload that is no name its length alone is looked at.
+/// Asks for a shape other than `Shape::SelfList` and `Shape::Peer`, whose payloads the family reads itself.
+#[inline(always)]
+#[tactic(auto, using(crate::specs::ShapeLaws::verdict_fixed))]
 pub fn shape_check(shape: Shape, payload: &[u8]) -> Result<(), Cause>
     requires { IsPlain shape }
     ensures { result ≡ verdict (means shape payload.now) }
 {
-    match read_datum(shape, payload) {
+    match accepted_len(shape) {
+        Some(len) => check_len(payload, len),
+        None => check_variable(shape, payload),
+    }
+}
+
+/// The length of every payload that is accepted under the shape, where they have one length.
+#[inline(always)]
+fn accepted_len(shape: Shape) -> Option<usize>
+    ensures { result ≡ accepted_length shape }
+{
+    match shape {
+        Shape::U8 | Shape::Truth | Shape::TruthOne => Some(1),
+        Shape::Le16 | Shape::Be16 => Some(2),
+        Shape::Le32 | Shape::Be32 | Shape::I32 => Some(4),
+        Shape::V4 | Shape::BePair | Shape::Scrub => Some(4),
+        Shape::Mac => Some(6),
+        Shape::Le64 | Shape::Be64 | Shape::FlagPair => Some(8),
+        Shape::V6 => Some(16),
+        _ => None,
+    }
+}
+
+/// Refuses a payload of another length.
+#[inline(always)]
+fn check_len(payload: &[u8], len: usize) -> Result<(), Cause>
+    ensures { result ≡ of_length len payload.now tt }
+{
+    if payload.len() == len {
+        Ok(())
+    } else {
+        Err(Cause::Length)
+    }
+}
+
+/// The same of the shapes that accept payloads of more than one length.
+#[inline(always)]
+fn check_variable(shape: Shape, payload: &[u8]) -> Result<(), Cause>
+    requires plain { IsPlain shape }
+    requires variable { accepted_length shape ≡ None }
+    ensures { result ≡ verdict (means shape payload.now) }
+{
+    match shape {
+        Shape::Mark | Shape::Raw => Ok(()),
+        Shape::Name => check_name(payload),
+        Shape::GeneveV4 => check_version(payload, 4, 16),
+        Shape::GeneveV6 => check_version(payload, 16, 4),
+        Shape::Ip => check_ip(payload),
+        Shape::EmptyOrByte => check_empty_or_byte(payload),
+        _ => unreachable!(),
+    }
+}
+
+/// Refuses a payload of another length than `size`, with the cause AddressKind where it has the length `other`.
+#[inline(always)]
+fn check_version(payload: &[u8], size: usize, other: usize) -> Result<(), Cause>
+    ensures { result ≡ of_version size other payload.now tt }
+{
+    if payload.len() == other {
+        Err(Cause::AddressKind)
+    } else {
+        check_len(payload, size)
+    }
+}
+
+/// Whether the payload is an address of either version.
+#[inline(always)]
+fn check_ip(payload: &[u8]) -> Result<(), Cause>
+    ensures { result ≡ verdict (means Shape.Ip payload.now) }
+{
+    match payload.len() {
+        4 | 16 => Ok(()),
+        _ => Err(Cause::Length),
+    }
+}
+
+/// Whether the payload is at most one byte.
+#[inline(always)]
+fn check_empty_or_byte(payload: &[u8]) -> Result<(), Cause>
+    ensures { result ≡ verdict (means Shape.EmptyOrByte payload.now) }
+{
+    match payload.len() {
+        0 | 1 => Ok(()),
+        _ => Err(Cause::Length),
+    }
+}
+
+/// Whether a name is UTF-8.
+#[tactic(auto, using(crate::specs::DataLaws::read_verdict))]
+fn check_name(payload: &[u8]) -> Result<(), Cause>
+    ensures { result ≡ verdict (means Shape.Name payload.now) }
+{
+    match read_name(payload) {
         Ok(_) => Ok(()),
         Err(cause) => Err(cause),
     }
@@ -28,6 +122,7 @@ pub fn shape_check(shape: Shape, payload: &[u8]) -> Result<(), Cause>
 
 /// What the payload holds under the shape, or why it is refused. Takes no memory: a text or bytes are the payload's own. Asks for a
 /// shape other than `Shape::SelfList` and `Shape::Peer`.
+#[inline(always)]
 pub fn read_datum(shape: Shape, payload: &[u8]) -> Result<Datum<'_>, Cause>
     requires { IsPlain shape }
     ensures { ReadsAs shape payload.now result }
@@ -63,6 +158,7 @@ pub fn read_datum(shape: Shape, payload: &[u8]) -> Result<Datum<'_>, Cause>
 /// Whether two payloads mean the same under the shape. Takes no memory. Asks for a shape other than `Shape::SelfList` and
 /// `Shape::Peer`, and for two payloads that are accepted.
 #[tactic(auto, using(crate::specs::ShapeLaws::accepted_alike))]
+#[inline(always)]
 pub fn shape_same(shape: Shape, a: &[u8], b: &[u8]) -> bool
     requires plain { IsPlain shape }
     requires first { IsAccepted shape a.now }
@@ -73,6 +169,7 @@ pub fn shape_same(shape: Shape, a: &[u8], b: &[u8]) -> bool
     is_alike(shape, a, b)
 }
 
+#[inline(always)]
 fn is_alike(shape: Shape, a: &[u8], b: &[u8]) -> bool
     ensures { result ≡ payload_alike shape a.now b.now }
 {
@@ -87,6 +184,7 @@ fn is_alike(shape: Shape, a: &[u8], b: &[u8]) -> bool
 }
 
 /// The first byte, or 0 where there is none.
+#[inline(always)]
 fn first_byte(payload: &[u8]) -> u8
     ensures { result ≡ slice_index payload.now 0 }
 {
@@ -94,6 +192,7 @@ fn first_byte(payload: &[u8]) -> u8
 }
 
 /// Whether the payload is the four bytes of the number 0.
+#[inline(always)]
 fn is_zero(payload: &[u8]) -> bool
     ensures { result ≡ is_zero_number payload.now }
 {
@@ -102,6 +201,7 @@ fn is_zero(payload: &[u8]) -> bool
 
 /// The length of the payload that is written for the datum, or `None` above 65531, the most that the length field of an attribute can
 /// count with its header. Asks for a datum that suits the shape.
+#[inline(always)]
 pub fn datum_len(shape: Shape, datum: &Datum<'_>) -> Option<usize>
     requires { Suits shape (value_of datum.now) }
     ensures { let len = length (written shape (value_of datum.now)) in SomeIff result (len ≤ 65531) len }
@@ -111,6 +211,7 @@ pub fn datum_len(shape: Shape, datum: &Datum<'_>) -> Option<usize>
 }
 
 #[tactic(auto, using(crate::specs::DataLaws::length_fixed, crate::specs::DataLaws::length_variable))]
+#[inline(always)]
 fn written_len(shape: Shape, datum: &Datum<'_>) -> usize
     requires { Suits shape (value_of datum.now) }
     ensures { result ≡ length (written shape (value_of datum.now)) }
@@ -122,6 +223,7 @@ fn written_len(shape: Shape, datum: &Datum<'_>) -> usize
 }
 
 /// The length of every payload that is written under the shape, where they have one length.
+#[inline(always)]
 fn fixed_len(shape: Shape) -> Option<usize>
     ensures { result ≡ fixed_length shape }
 {
@@ -136,6 +238,7 @@ fn fixed_len(shape: Shape) -> Option<usize>
 }
 
 /// The length of the payload that is written for a datum of a shape without a fixed length.
+#[inline(always)]
 fn variable_len(datum: &Datum<'_>) -> usize
     ensures { result ≡ value_length (value_of datum.now) }
 {
@@ -153,6 +256,7 @@ fn variable_len(datum: &Datum<'_>) -> usize
 /// Writes the payload of the datum. Asks for a datum that suits the shape, and for a buffer of exactly that payload's length, which
 /// `datum_len` tells.
 #[tactic(auto, using(crate::specs::DataLaws::suits_plain))]
+#[inline(always)]
 pub fn write_datum(shape: Shape, datum: &Datum<'_>, buffer: &mut [u8])
     requires suits { Suits shape (value_of datum.now) }
     requires exact { length buffer.old ≡ length (written shape (value_of datum.now)) }

@@ -13,72 +13,84 @@ use nla_frame::{
 use std::net::IpAddr;
 use std::str;
 
+#[inline(always)]
 pub fn read_u8(payload: &[u8]) -> Result<Datum<'_>, Cause>
     ensures { ReadsAs Shape.U8 payload.now result }
 {
     Ok(Datum::Number(u64::from(parse_u8(payload)?)))
 }
 
+#[inline(always)]
 pub fn read_le16(payload: &[u8]) -> Result<Datum<'_>, Cause>
     ensures { ReadsAs Shape.Le16 payload.now result }
 {
     Ok(Datum::Number(u64::from(parse_u16(payload)?)))
 }
 
+#[inline(always)]
 pub fn read_le32(payload: &[u8]) -> Result<Datum<'_>, Cause>
     ensures { ReadsAs Shape.Le32 payload.now result }
 {
     Ok(Datum::Number(u64::from(parse_u32(payload)?)))
 }
 
+#[inline(always)]
 pub fn read_le64(payload: &[u8]) -> Result<Datum<'_>, Cause>
     ensures { ReadsAs Shape.Le64 payload.now result }
 {
     Ok(Datum::Number(parse_u64(payload)?))
 }
 
+#[inline(always)]
 pub fn read_be16(payload: &[u8]) -> Result<Datum<'_>, Cause>
     ensures { ReadsAs Shape.Be16 payload.now result }
 {
     Ok(Datum::Number(u64::from(parse_u16_be(payload)?)))
 }
 
+#[inline(always)]
 pub fn read_be32(payload: &[u8]) -> Result<Datum<'_>, Cause>
     ensures { ReadsAs Shape.Be32 payload.now result }
 {
     Ok(Datum::Number(u64::from(parse_u32_be(payload)?)))
 }
 
+#[inline(always)]
 pub fn read_be64(payload: &[u8]) -> Result<Datum<'_>, Cause>
     ensures { ReadsAs Shape.Be64 payload.now result }
 {
     Ok(Datum::Number(parse_u64_be(payload)?))
 }
 
+#[inline(always)]
 pub fn read_i32(payload: &[u8]) -> Result<Datum<'_>, Cause>
     ensures { ReadsAs Shape.I32 payload.now result }
 {
     Ok(Datum::Signed(parse_i32(payload)?))
 }
 
+#[inline(always)]
 pub fn read_truth(payload: &[u8]) -> Result<Datum<'_>, Cause>
     ensures { ReadsAs Shape.Truth payload.now result }
 {
     Ok(Datum::Truth(parse_u8(payload)? != 0))
 }
 
+#[inline(always)]
 pub fn read_truth_one(payload: &[u8]) -> Result<Datum<'_>, Cause>
     ensures { ReadsAs Shape.TruthOne payload.now result }
 {
     Ok(Datum::Truth(parse_u8(payload)? == 1))
 }
 
+#[inline(always)]
 pub fn read_mark(payload: &[u8]) -> Result<Datum<'_>, Cause>
     ensures { ReadsAs Shape.Mark payload.now result }
 {
     Ok(Datum::Empty)
 }
 
+#[inline(always)]
 pub fn read_name(payload: &[u8]) -> Result<Datum<'_>, Cause>
     ensures { ReadsAs Shape.Name payload.now result }
 {
@@ -88,18 +100,21 @@ pub fn read_name(payload: &[u8]) -> Result<Datum<'_>, Cause>
     }
 }
 
+#[inline(always)]
 pub fn read_v4(payload: &[u8]) -> Result<Datum<'_>, Cause>
     ensures { ReadsAs Shape.V4 payload.now result }
 {
     Ok(Datum::V4(parse_ipv4_addr(payload)?))
 }
 
+#[inline(always)]
 pub fn read_v6(payload: &[u8]) -> Result<Datum<'_>, Cause>
     ensures { ReadsAs Shape.V6 payload.now result }
 {
     Ok(Datum::V6(parse_ipv6_addr(payload)?))
 }
 
+#[inline(always)]
 pub fn read_geneve_v4(payload: &[u8]) -> Result<Datum<'_>, Cause>
     ensures { ReadsAs Shape.GeneveV4 payload.now result }
 {
@@ -109,6 +124,7 @@ pub fn read_geneve_v4(payload: &[u8]) -> Result<Datum<'_>, Cause>
     }
 }
 
+#[inline(always)]
 pub fn read_geneve_v6(payload: &[u8]) -> Result<Datum<'_>, Cause>
     ensures { ReadsAs Shape.GeneveV6 payload.now result }
 {
@@ -118,6 +134,7 @@ pub fn read_geneve_v6(payload: &[u8]) -> Result<Datum<'_>, Cause>
     }
 }
 
+#[inline(always)]
 pub fn read_ip(payload: &[u8]) -> Result<Datum<'_>, Cause>
     ensures { ReadsAs Shape.Ip payload.now result }
 {
@@ -127,12 +144,14 @@ pub fn read_ip(payload: &[u8]) -> Result<Datum<'_>, Cause>
     }
 }
 
+#[inline(always)]
 pub fn read_mac(payload: &[u8]) -> Result<Datum<'_>, Cause>
     ensures { ReadsAs Shape.Mac payload.now result }
 {
     Ok(Datum::Mac(parse_mac(payload)?))
 }
 
+#[inline(always)]
 pub fn read_be_pair(payload: &[u8]) -> Result<Datum<'_>, Cause>
     ensures { ReadsAs Shape.BePair payload.now result }
 {
@@ -145,6 +164,7 @@ pub fn read_be_pair(payload: &[u8]) -> Result<Datum<'_>, Cause>
     }
 }
 
+#[inline(always)]
 pub fn read_flag_pair(payload: &[u8]) -> Result<Datum<'_>, Cause>
     ensures { ReadsAs Shape.FlagPair payload.now result }
 {
@@ -157,6 +177,7 @@ pub fn read_flag_pair(payload: &[u8]) -> Result<Datum<'_>, Cause>
     }
 }
 
+#[inline(always)]
 pub fn read_empty_or_byte(payload: &[u8]) -> Result<Datum<'_>, Cause>
     ensures { ReadsAs Shape.EmptyOrByte payload.now result }
 {
@@ -167,12 +188,14 @@ pub fn read_empty_or_byte(payload: &[u8]) -> Result<Datum<'_>, Cause>
     }
 }
 
+#[inline(always)]
 pub fn read_scrub(payload: &[u8]) -> Result<Datum<'_>, Cause>
     ensures { ReadsAs Shape.Scrub payload.now result }
 {
     Ok(Datum::Truth(parse_u32(payload)? != 0))
 }
 
+#[inline(always)]
 pub fn read_raw(payload: &[u8]) -> Result<Datum<'_>, Cause>
     ensures { ReadsAs Shape.Raw payload.now result }
 {

@@ -10,6 +10,7 @@ use nla_frame::Family;
 /// The shape of a family's attribute, by its masked type, the type without its two flag bits. `None` where the family has no row for
 /// it, for `Family::Frame` and `Family::LinkInfo`, and for type 8 of `Family::IpTunnel` (`IFLA_IPTUN_FLAGS`), whose shape the kind of
 /// the link decides on. The numbers are those of include/uapi/linux/if_link.h, where no other file is named.
+#[inline(always)]
 pub fn table_shape(family: Family, kind: u16) -> Option<Shape>
     ensures { result ≡ shape_of family kind }
 {
@@ -52,6 +53,7 @@ pub fn table_shape(family: Family, kind: u16) -> Option<Shape>
 }
 
 /// `IFLA_AMT_*`.
+#[inline(always)]
 fn amt(kind: u16) -> Option<Shape>
     ensures { result ≡ found amt_rows kind }
 {
@@ -69,6 +71,7 @@ fn amt(kind: u16) -> Option<Shape>
 }
 
 /// `IFLA_BAREUDP_*`.
+#[inline(always)]
 fn bare_udp(kind: u16) -> Option<Shape>
     ensures { result ≡ found bare_udp_rows kind }
 {
@@ -82,6 +85,7 @@ fn bare_udp(kind: u16) -> Option<Shape>
 }
 
 /// `IFLA_BATADV_*` (include/uapi/linux/batman_adv.h).
+#[inline(always)]
 fn bat_adv(kind: u16) -> Option<Shape>
     ensures { result ≡ found bat_adv_rows kind }
 {
@@ -92,6 +96,7 @@ fn bat_adv(kind: u16) -> Option<Shape>
 }
 
 /// `IFLA_GENEVE_*`.
+#[inline(always)]
 fn geneve(kind: u16) -> Option<Shape>
     ensures { result ≡ found geneve_rows kind }
 {
@@ -117,6 +122,7 @@ fn geneve(kind: u16) -> Option<Shape>
 }
 
 /// `IFLA_GRE_*` (include/uapi/linux/if_tunnel.h), over IPv4.
+#[inline(always)]
 fn gre(kind: u16) -> Option<Shape>
     ensures { result ≡ found gre_rows kind }
 {
@@ -146,6 +152,7 @@ fn gre(kind: u16) -> Option<Shape>
 }
 
 /// `IFLA_GRE_*` (include/uapi/linux/if_tunnel.h), over IPv6.
+#[inline(always)]
 fn gre6(kind: u16) -> Option<Shape>
     ensures { result ≡ found gre6_rows kind }
 {
@@ -176,6 +183,7 @@ fn gre6(kind: u16) -> Option<Shape>
 }
 
 /// `IFLA_GTP_*`.
+#[inline(always)]
 fn gtp(kind: u16) -> Option<Shape>
     ensures { result ≡ found gtp_rows kind }
 {
@@ -193,6 +201,7 @@ fn gtp(kind: u16) -> Option<Shape>
 }
 
 /// `IFLA_IPOIB_*`.
+#[inline(always)]
 fn ipoib(kind: u16) -> Option<Shape>
     ensures { result ≡ found ipoib_rows kind }
 {
@@ -205,6 +214,7 @@ fn ipoib(kind: u16) -> Option<Shape>
 }
 
 /// `IFLA_IPTUN_*` (include/uapi/linux/if_tunnel.h). Type 8, `IFLA_IPTUN_FLAGS`, has no row: the kind of the link decides on its shape.
+#[inline(always)]
 fn ip_tunnel(kind: u16) -> Option<Shape>
     ensures { result ≡ found ip_tunnel_rows kind }
 {
@@ -233,6 +243,7 @@ fn ip_tunnel(kind: u16) -> Option<Shape>
 }
 
 /// `IFLA_IPVLAN_*`.
+#[inline(always)]
 fn ip_vlan(kind: u16) -> Option<Shape>
     ensures { result ≡ found ip_vlan_rows kind }
 {
@@ -244,6 +255,7 @@ fn ip_vlan(kind: u16) -> Option<Shape>
 }
 
 /// `IFLA_MACVLAN_*`.
+#[inline(always)]
 fn mac_vlan(kind: u16) -> Option<Shape>
     ensures { result ≡ found mac_vlan_rows kind }
 {
@@ -262,6 +274,7 @@ fn mac_vlan(kind: u16) -> Option<Shape>
 }
 
 /// `IFLA_MACSEC_*`.
+#[inline(always)]
 fn mac_sec(kind: u16) -> Option<Shape>
     ensures { result ≡ found mac_sec_rows kind }
 {
@@ -285,6 +298,7 @@ fn mac_sec(kind: u16) -> Option<Shape>
 }
 
 /// `IFLA_NETKIT_*`.
+#[inline(always)]
 fn netkit(kind: u16) -> Option<Shape>
     ensures { result ≡ found netkit_rows kind }
 {
@@ -303,6 +317,7 @@ fn netkit(kind: u16) -> Option<Shape>
 }
 
 /// `IFLA_RMNET_*`.
+#[inline(always)]
 fn rm_net(kind: u16) -> Option<Shape>
     ensures { result ≡ found rm_net_rows kind }
 {
@@ -314,6 +329,7 @@ fn rm_net(kind: u16) -> Option<Shape>
 }
 
 /// `VETH_INFO_PEER` (include/uapi/linux/veth.h) and `VXCAN_INFO_PEER` (include/uapi/linux/can/vxcan.h).
+#[inline(always)]
 fn veth(kind: u16) -> Option<Shape>
     ensures { result ≡ found veth_rows kind }
 {
@@ -324,6 +340,7 @@ fn veth(kind: u16) -> Option<Shape>
 }
 
 /// `IFLA_VRF_*`.
+#[inline(always)]
 fn vrf(kind: u16) -> Option<Shape>
     ensures { result ≡ found vrf_rows kind }
 {
@@ -334,6 +351,7 @@ fn vrf(kind: u16) -> Option<Shape>
 }
 
 /// `IFLA_WWAN_*` (include/uapi/linux/wwan.h).
+#[inline(always)]
 fn wwan(kind: u16) -> Option<Shape>
     ensures { result ≡ found wwan_rows kind }
 {
@@ -344,6 +362,7 @@ fn wwan(kind: u16) -> Option<Shape>
 }
 
 /// `IFLA_XFRM_*`.
+#[inline(always)]
 fn xfrm(kind: u16) -> Option<Shape>
     ensures { result ≡ found xfrm_rows kind }
 {
@@ -355,6 +374,7 @@ fn xfrm(kind: u16) -> Option<Shape>
 }
 
 /// `IFLA_VTI_*` (include/uapi/linux/if_tunnel.h).
+#[inline(always)]
 fn vti(kind: u16) -> Option<Shape>
     ensures { result ≡ found vti_rows kind }
 {
@@ -370,6 +390,7 @@ fn vti(kind: u16) -> Option<Shape>
 }
 
 /// `IFLA_VXLAN_*`.
+#[inline(always)]
 fn vxlan(kind: u16) -> Option<Shape>
     ensures { result ≡ found vxlan_rows kind }
 {

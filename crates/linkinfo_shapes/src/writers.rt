@@ -8,6 +8,7 @@ use crate::datum::Datum;
 use crate::shape::Shape;
 use std::net::IpAddr;
 
+#[inline(always)]
 pub fn write_u8(datum: &Datum<'_>, buffer: &mut [u8])
     requires suits { Suits Shape.U8 (value_of datum.now) }
     requires exact { length buffer.old ≡ length (written Shape.U8 (value_of datum.now)) }
@@ -16,6 +17,7 @@ pub fn write_u8(datum: &Datum<'_>, buffer: &mut [u8])
     buffer.copy_from_slice(&[datum.u8_or_zero()]);
 }
 
+#[inline(always)]
 pub fn write_le16(datum: &Datum<'_>, buffer: &mut [u8])
     requires suits { Suits Shape.Le16 (value_of datum.now) }
     requires exact { length buffer.old ≡ length (written Shape.Le16 (value_of datum.now)) }
@@ -24,6 +26,7 @@ pub fn write_le16(datum: &Datum<'_>, buffer: &mut [u8])
     buffer.copy_from_slice(&datum.u16_or_zero().to_le_bytes());
 }
 
+#[inline(always)]
 pub fn write_le32(datum: &Datum<'_>, buffer: &mut [u8])
     requires suits { Suits Shape.Le32 (value_of datum.now) }
     requires exact { length buffer.old ≡ length (written Shape.Le32 (value_of datum.now)) }
@@ -32,6 +35,7 @@ pub fn write_le32(datum: &Datum<'_>, buffer: &mut [u8])
     buffer.copy_from_slice(&datum.u32_or_zero().to_le_bytes());
 }
 
+#[inline(always)]
 pub fn write_le64(datum: &Datum<'_>, buffer: &mut [u8])
     requires suits { Suits Shape.Le64 (value_of datum.now) }
     requires exact { length buffer.old ≡ length (written Shape.Le64 (value_of datum.now)) }
@@ -40,6 +44,7 @@ pub fn write_le64(datum: &Datum<'_>, buffer: &mut [u8])
     buffer.copy_from_slice(&datum.u64_or_zero().to_le_bytes());
 }
 
+#[inline(always)]
 pub fn write_be16(datum: &Datum<'_>, buffer: &mut [u8])
     requires suits { Suits Shape.Be16 (value_of datum.now) }
     requires exact { length buffer.old ≡ length (written Shape.Be16 (value_of datum.now)) }
@@ -48,6 +53,7 @@ pub fn write_be16(datum: &Datum<'_>, buffer: &mut [u8])
     buffer.copy_from_slice(&datum.u16_or_zero().to_be_bytes());
 }
 
+#[inline(always)]
 pub fn write_be32(datum: &Datum<'_>, buffer: &mut [u8])
     requires suits { Suits Shape.Be32 (value_of datum.now) }
     requires exact { length buffer.old ≡ length (written Shape.Be32 (value_of datum.now)) }
@@ -56,6 +62,7 @@ pub fn write_be32(datum: &Datum<'_>, buffer: &mut [u8])
     buffer.copy_from_slice(&datum.u32_or_zero().to_be_bytes());
 }
 
+#[inline(always)]
 pub fn write_be64(datum: &Datum<'_>, buffer: &mut [u8])
     requires suits { Suits Shape.Be64 (value_of datum.now) }
     requires exact { length buffer.old ≡ length (written Shape.Be64 (value_of datum.now)) }
@@ -64,6 +71,7 @@ pub fn write_be64(datum: &Datum<'_>, buffer: &mut [u8])
     buffer.copy_from_slice(&datum.u64_or_zero().to_be_bytes());
 }
 
+#[inline(always)]
 pub fn write_i32(datum: &Datum<'_>, buffer: &mut [u8])
     requires suits { Suits Shape.I32 (value_of datum.now) }
     requires exact { length buffer.old ≡ length (written Shape.I32 (value_of datum.now)) }
@@ -72,6 +80,7 @@ pub fn write_i32(datum: &Datum<'_>, buffer: &mut [u8])
     buffer.copy_from_slice(&datum.i32_or_zero().to_le_bytes());
 }
 
+#[inline(always)]
 pub fn write_truth(datum: &Datum<'_>, buffer: &mut [u8])
     requires suits { Suits Shape.Truth (value_of datum.now) }
     requires exact { length buffer.old ≡ length (written Shape.Truth (value_of datum.now)) }
@@ -80,6 +89,7 @@ pub fn write_truth(datum: &Datum<'_>, buffer: &mut [u8])
     buffer.copy_from_slice(&[u8::from(datum.bool_or_false())]);
 }
 
+#[inline(always)]
 pub fn write_truth_one(datum: &Datum<'_>, buffer: &mut [u8])
     requires suits { Suits Shape.TruthOne (value_of datum.now) }
     requires exact { length buffer.old ≡ length (written Shape.TruthOne (value_of datum.now)) }
@@ -88,12 +98,14 @@ pub fn write_truth_one(datum: &Datum<'_>, buffer: &mut [u8])
     buffer.copy_from_slice(&[u8::from(datum.bool_or_false())]);
 }
 
+#[inline(always)]
 pub fn write_mark(_datum: &Datum<'_>, _buffer: &mut [u8])
     requires suits { Suits Shape.Mark (value_of _datum.now) }
     requires exact { length _buffer.old ≡ length (written Shape.Mark (value_of _datum.now)) }
     ensures { _buffer.new ≡ written Shape.Mark (value_of _datum.now) }
 {}
 
+#[inline(always)]
 pub fn write_name(datum: &Datum<'_>, buffer: &mut [u8])
     requires suits { Suits Shape.Name (value_of datum.now) }
     requires exact { length buffer.old ≡ length (written Shape.Name (value_of datum.now)) }
@@ -105,6 +117,7 @@ pub fn write_name(datum: &Datum<'_>, buffer: &mut [u8])
     buffer[end..].copy_from_slice(&[0]);
 }
 
+#[inline(always)]
 pub fn write_v4(datum: &Datum<'_>, buffer: &mut [u8])
     requires suits { Suits Shape.V4 (value_of datum.now) }
     requires exact { length buffer.old ≡ length (written Shape.V4 (value_of datum.now)) }
@@ -113,6 +126,7 @@ pub fn write_v4(datum: &Datum<'_>, buffer: &mut [u8])
     buffer.copy_from_slice(&datum.ipv4_or_unspecified().octets());
 }
 
+#[inline(always)]
 pub fn write_v6(datum: &Datum<'_>, buffer: &mut [u8])
     requires suits { Suits Shape.V6 (value_of datum.now) }
     requires exact { length buffer.old ≡ length (written Shape.V6 (value_of datum.now)) }
@@ -121,6 +135,7 @@ pub fn write_v6(datum: &Datum<'_>, buffer: &mut [u8])
     buffer.copy_from_slice(&datum.ipv6_or_unspecified().octets());
 }
 
+#[inline(always)]
 pub fn write_geneve_v4(datum: &Datum<'_>, buffer: &mut [u8])
     requires suits { Suits Shape.GeneveV4 (value_of datum.now) }
     requires exact { length buffer.old ≡ length (written Shape.GeneveV4 (value_of datum.now)) }
@@ -129,6 +144,7 @@ pub fn write_geneve_v4(datum: &Datum<'_>, buffer: &mut [u8])
     buffer.copy_from_slice(&datum.ipv4_or_unspecified().octets());
 }
 
+#[inline(always)]
 pub fn write_geneve_v6(datum: &Datum<'_>, buffer: &mut [u8])
     requires suits { Suits Shape.GeneveV6 (value_of datum.now) }
     requires exact { length buffer.old ≡ length (written Shape.GeneveV6 (value_of datum.now)) }
@@ -137,6 +153,7 @@ pub fn write_geneve_v6(datum: &Datum<'_>, buffer: &mut [u8])
     buffer.copy_from_slice(&datum.ipv6_or_unspecified().octets());
 }
 
+#[inline(always)]
 pub fn write_ip(datum: &Datum<'_>, buffer: &mut [u8])
     requires suits { Suits Shape.Ip (value_of datum.now) }
     requires exact { length buffer.old ≡ length (written Shape.Ip (value_of datum.now)) }
@@ -148,6 +165,7 @@ pub fn write_ip(datum: &Datum<'_>, buffer: &mut [u8])
     }
 }
 
+#[inline(always)]
 pub fn write_mac(datum: &Datum<'_>, buffer: &mut [u8])
     requires suits { Suits Shape.Mac (value_of datum.now) }
     requires exact { length buffer.old ≡ length (written Shape.Mac (value_of datum.now)) }
@@ -156,6 +174,7 @@ pub fn write_mac(datum: &Datum<'_>, buffer: &mut [u8])
     buffer.copy_from_slice(&datum.mac_or_zeros());
 }
 
+#[inline(always)]
 pub fn write_be_pair(datum: &Datum<'_>, buffer: &mut [u8])
     requires suits { Suits Shape.BePair (value_of datum.now) }
     requires exact { length buffer.old ≡ length (written Shape.BePair (value_of datum.now)) }
@@ -166,6 +185,7 @@ pub fn write_be_pair(datum: &Datum<'_>, buffer: &mut [u8])
     buffer[2..].copy_from_slice(&second.to_be_bytes());
 }
 
+#[inline(always)]
 pub fn write_flag_pair(datum: &Datum<'_>, buffer: &mut [u8])
     requires suits { Suits Shape.FlagPair (value_of datum.now) }
     requires exact { length buffer.old ≡ length (written Shape.FlagPair (value_of datum.now)) }
@@ -176,6 +196,7 @@ pub fn write_flag_pair(datum: &Datum<'_>, buffer: &mut [u8])
     buffer[4..].copy_from_slice(&mask.to_le_bytes());
 }
 
+#[inline(always)]
 pub fn write_empty_or_byte(datum: &Datum<'_>, buffer: &mut [u8])
     requires suits { Suits Shape.EmptyOrByte (value_of datum.now) }
     requires exact { length buffer.old ≡ length (written Shape.EmptyOrByte (value_of datum.now)) }
@@ -186,6 +207,7 @@ pub fn write_empty_or_byte(datum: &Datum<'_>, buffer: &mut [u8])
     }
 }
 
+#[inline(always)]
 pub fn write_scrub(datum: &Datum<'_>, buffer: &mut [u8])
     requires suits { Suits Shape.Scrub (value_of datum.now) }
     requires exact { length buffer.old ≡ length (written Shape.Scrub (value_of datum.now)) }
@@ -194,6 +216,7 @@ pub fn write_scrub(datum: &Datum<'_>, buffer: &mut [u8])
     buffer.copy_from_slice(&u32::from(datum.bool_or_false()).to_le_bytes());
 }
 
+#[inline(always)]
 pub fn write_raw(datum: &Datum<'_>, buffer: &mut [u8])
     requires suits { Suits Shape.Raw (value_of datum.now) }
     requires exact { length buffer.old ≡ length (written Shape.Raw (value_of datum.now)) }

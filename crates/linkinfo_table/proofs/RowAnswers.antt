@@ -1,6 +1,6 @@
 -- From what the calls of shapes answer to what a row means.
 use Rattle.std.proofs.Common.{◌≡◌, ℕ, Bool, true, false, ◌&&◌, eqb, List, refl, sym, ap, subst, ◌∙◌, Result, Ok, Err, inl, inr}
-use Rattle.std.specs.Prelude.{IsOk}
+use Rattle.std.specs.Prelude.{IsOk, is_ok}
 use Rattle.std.specs.Str.{bytes_eq, is_utf8}
 use Rattle.std.proofs.lemmas.Bool.{cases_Bool, cond-false}
 use Rattle.nla_frame.specs.Answers.{verdict}
@@ -21,8 +21,9 @@ use Rattle.linkinfo_shapes.specs.Data.{value_of, unwrap, ReadsAs}
 use Rattle.linkinfo_shapes.specs.DataLaws.{read_means, read_suits}
 use Rattle.linkinfo_table.specs.declared.lookup.Lookup.TheVariants as lookup
 use Rattle.linkinfo_table.specs.Codecs.{Own}
+use Rattle.linkinfo_table.specs.Lists.{◌>>=◌, put_memory}
 use Rattle.linkinfo_table.specs.Rows.{fault_at, labelled, row_meaning, meaning_in, row_alike, alike_in, row_needs_memory, memory_in}
-use Rattle.linkinfo_table.specs.FamilyRows.{own, FamilyRow, Plain, Custom, Refuses, Absent, row_of, lookup_of, IsFlat, SuitsRow, IsLabelled, owns_memory, row_owns_memory}
+use Rattle.linkinfo_table.specs.FamilyRows.{own, FamilyRow, Plain, Custom, Refuses, Absent, row_of, lookup_of, IsFlat, SuitsRow, IsLabelled, PutsLabelled, owns_memory, row_owns_memory}
 
 abbrev done : {A E : Type 0} → A → Result A E
 done x = Ok x
@@ -131,6 +132,47 @@ module _ {F : Type 0} (f : Family) (other : DefaultNla → F) where
   kept_row (Custom s codec label) a d x e h i = absurd cc
   kept_row (Refuses cause) a d x e h i = absurd cc
   kept_row Absent a d x e h i = ap done (ap other (sym h) ∙ sym i)
+
+  -- ---- putting in a place
+
+  abbrev sound : {H : Type 0} → H → Result H DecodeError
+  sound h = Ok h
+
+  pub put_row : {H : Type 0} (with : F → H) (r : FamilyRow F) (a : Attribute) (shape : Shape) (p : List ℕ) (d : Datum) (held : H) → IsFlat r → lookup_of r ≡ lookup.Is shape →
+      p ≡ a.value → ReadsAs shape p (Ok d) → PutsLabelled with r (value_of d) held → (row_meaning f other (row_of r) a >>= λ x. sound (with x)) ≡ Ok held
+  put_row with (Plain s label) a shape p d held flat e q k l =
+      ap (λ (m : Result F DecodeError). m >>= λ x. sound (with x)) (read_row (Plain s label) a shape p d (label (unwrap s (value_of d))) flat e q k refl) ∙ ap sound (sym l)
+  put_row with (Custom s codec label) a shape p d held flat e q k l = absurd flat
+  put_row with (Refuses cause) a shape p d held flat e q k l = absurd l
+  put_row with Absent a shape p d held flat e q k l = absurd l
+
+  pub put_kept_row : {H : Type 0} (with : F → H) (r : FamilyRow F) (a : Attribute) (d : DefaultNla) (held : H) → lookup_of r ≡ lookup.Unknown → d ≡ kept a →
+      held ≡ with (other d) → (row_meaning f other (row_of r) a >>= λ x. sound (with x)) ≡ Ok held
+  put_kept_row with r a d held e h i = ap (λ (m : Result F DecodeError). m >>= λ x. sound (with x)) (kept_row r a d (other d) e h refl) ∙ ap sound (sym i)
+
+  pub put_at : {H : Type 0} (with : F → H) (m n : Result F DecodeError) (held : H) → m ≡ n → (n >>= λ x. sound (with x)) ≡ Ok held → (m >>= λ x. sound (with x)) ≡ Ok held
+  put_at with m n held e h = ap (λ (r : Result F DecodeError). r >>= λ x. sound (with x)) e ∙ h
+
+  pub put_verdict : {H : Type 0} (with : F → H) (m : Result F DecodeError) (held : H) → (m >>= λ x. sound (with x)) ≡ Ok held → Ok tt ≡ verdict m
+  put_verdict with (Ok x) held e = refl
+  put_verdict with (Err d) held e = absurd cc
+
+  pub row_ok : (r : FamilyRow F) (a : Attribute) (shape : Shape) (p : List ℕ) (d : Datum) → IsFlat r → lookup_of r ≡ lookup.Is shape → p ≡ a.value →
+      ReadsAs shape p (Ok d) → is_ok (row_meaning f other (row_of r) a) ≡ true
+  row_ok (Plain s label) a shape p d flat e q k = ap (λ (m : Result F DecodeError). is_ok m) (read_row (Plain s label) a shape p d (label (unwrap s (value_of d))) flat e q k refl)
+  row_ok (Custom s codec label) a shape p d flat e q k = absurd flat
+  row_ok (Refuses cause) a shape p d flat e q k = absurd cc
+  row_ok Absent a shape p d flat e q k = absurd cc
+
+  -- where a datum was read, putting it needs memory, unless place and datum need none
+  pub read_puts : (certain needs : Bool) (m : Result F DecodeError) → (certain ≡ true → needs ≡ true) → is_ok m ≡ true → put_memory certain needs m ≡ false → ⊥
+  read_puts certain true m own ok h = absurd cc
+  read_puts true false m own ok h = absurd (no_error (own refl))
+  read_puts false false m own ok h = absurd (not_both (is_ok m) ok h)
+
+  pub needs_puts : (certain needs : Bool) (m : Result F DecodeError) → needs ≡ true → put_memory certain needs m ≡ false → ⊥
+  needs_puts certain true m e h = absurd cc
+  needs_puts certain false m e h = absurd cc
 
   -- ---- checking
 

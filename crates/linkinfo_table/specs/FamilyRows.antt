@@ -154,6 +154,16 @@ abbrev pub IsMadeOf : {F : Type 0} → (DefaultNla → F) → (ℕ → FamilyRow
 IsMadeOf other rows (found.Typed number datum) x = IsLabelled (rows number) (value_of datum) x
 IsMadeOf other rows (found.Kept nla) x = x ≡ other nla
 
+-- what a place holds once the row's label of a datum was put there
+abbrev pub PutsLabelled : {F H : Type 0} → (F → H) → FamilyRow F → Value → H → Type 0
+PutsLabelled with (Plain shape label) value held = held ≡ with (label (unwrap shape value))
+PutsLabelled with _ value held = ⊥
+
+-- what a place holds once the value of what was read was put there
+abbrev pub Puts : {F H : Type 0} → (F → H) → (DefaultNla → F) → (ℕ → FamilyRow F) → Found → H → Type 0
+Puts with other rows (found.Typed number datum) held = PutsLabelled with (rows number) (value_of datum) held
+Puts with other rows (found.Kept nla) held = held ≡ with (other nla)
+
 -- making a value of what was read may need memory
 abbrev pub found_needs_memory : {F : Type 0} → (ℕ → FamilyRow F) → Found → Bool
 found_needs_memory rows (found.Typed number datum) = row_owns_memory (rows number)

@@ -1,5 +1,5 @@
 -- The laws of a family of which each row has a shape, from what its rows owe.
-use Rattle.std.specs.Prelude.{◌≡◌, ◌≢◌, ◌↔◌, ℕ, ◌*◌, ◌≤◌, true, length, Result, Ok, Err, refl}
+use Rattle.std.specs.Prelude.{◌≡◌, ◌≢◌, ◌↔◌, ℕ, ◌*◌, ◌≤◌, true, length, Result, Ok, Err}
 use Rattle.std.proofs.Common.{sym, ap, subst, ◌∙◌, arith}
 use Rattle.nla_frame.specs.Attribute.{Attribute, IsAttribute, Fits, masked}
 use Rattle.nla_frame.specs.Error.{memory_fault}

@@ -15,5 +15,6 @@ pub mod Peers
 pub mod ReadingLaws
 pub mod Readings
 pub mod RowLaws
+pub mod Rowless
 pub mod Rows
 pub mod SelfList

@@ -1,8 +1,8 @@
 -- What a list of attributes means, over the pieces of its string, given what one attribute means. A state may go along, as the kind in force
 -- does at top level: `m t a` is the meaning of an attribute under the state, `after t a` the state behind it.
-use Rattle.std.specs.Prelude.{ℕ, ◌+◌, Bool, true, false, ◌&&◌, ◌||◌, is_ok, List, [], ◌∷◌, ◌++◌, Result, Ok, Err}
+use Rattle.std.specs.Prelude.{if◌then◌else◌, ◌≡◌, ◌≢◌, ℕ, ◌+◌, Bool, true, false, ◌&&◌, ◌||◌, is_ok, List, [], ◌∷◌, ◌++◌, Result, Ok, Err}
 use Rattle.nla_frame.specs.Attribute.{Attribute}
-use Rattle.nla_frame.specs.Error.{header_fault}
+use Rattle.nla_frame.specs.Error.{header_fault, memory_fault}
 use Rattle.nla_frame.specs.declared.error.DecodeError.{DecodeError}
 
 infixl 10 ◌>>=◌
@@ -24,6 +24,22 @@ values_under m after t ((Ok a) ∷ more) = m t a >>= λ x. values_under m after 
 -- values that were read before, in front of those that follow
 abbrev pub behind : {X : Type 0} → List X → Result (List X) DecodeError → Result (List X) DecodeError
 behind front r = r >>= λ xs. Ok (front ++ xs)
+
+-- What reading one attribute into a place answers: on success the place holds what it means. Want of memory may stand in the place of a fault.
+abbrev pub PutsGives : {X H : Type 0} → (X → H) → H → Result (Unit {0}) DecodeError → Result X DecodeError → Type 0
+PutsGives with held (Ok _) meaning = (meaning >>= λ x. Ok (with x)) ≡ Ok held
+PutsGives with held (Err e) meaning = e ≢ memory_fault → meaning ≡ Err e
+
+-- the same behind the values of a list
+abbrev pub Appends : {X : Type 0} → List X → List X → Result (Unit {0}) DecodeError → Result X DecodeError → Type 0
+Appends old new result meaning = PutsGives (λ x. old ++ x ∷ []) new result meaning
+
+-- putting what an attribute means may need memory: for what the value owns, and for its place unless that is certain
+abbrev pub put_memory : {X : Type 0} → Bool → Bool → Result X DecodeError → Bool
+put_memory certain needs meaning = needs || (if certain then false else is_ok meaning)
+
+abbrev pub push_memory : {X : Type 0} → Bool → Result X DecodeError → Bool
+push_memory needs meaning = put_memory false needs meaning
 
 -- the headers that are looked at, those inside attributes too, up to the first fault
 abbrev pub headers_under : {T X : Type 0} → (T → Attribute → Result X DecodeError) → (T → Attribute → ℕ) → (T → Attribute → T) → T → List (Result Attribute ℕ) → ℕ

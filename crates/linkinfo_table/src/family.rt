@@ -1,6 +1,6 @@
 //! Families of attributes: what a family's types are read, checked, compared and written as.
 
-ghost use Rattle.std.specs.Prelude.{◌≡◌, ◌≢◌, ◌↔◌, ℕ, ◌+◌, ◌*◌, ◌/◌, ◌<◌, ◌≤◌, ◌^◌, Bool, true, Err, Ok, IsOk, IsTrue, Result, length};
+ghost use Rattle.std.specs.Prelude.{◌≡◌, ◌≢◌, ◌↔◌, ℕ, ◌+◌, ◌*◌, ◌/◌, ◌<◌, ◌≤◌, ◌^◌, Bool, true, false, Err, Ok, IsOk, IsTrue, Result, length};
 ghost use Rattle.std.specs.Bool.{OnTrue};
 ghost use Rattle.nla_frame.specs.Answers.{CertainUnless, Gives, OnAnswer, verdict};
 ghost use Rattle.nla_frame.specs.Attribute.{Attribute, Fits, IsAttribute, masked};
@@ -9,6 +9,7 @@ ghost use Rattle.nla_frame.specs.Kept.{attribute_of};
 ghost use Rattle.nla_frame.specs.declared.default_nla.DefaultNla.{DefaultNla};
 ghost use Rattle.nla_frame.specs.declared.error.DecodeError.{DecodeError};
 ghost use Rattle.nla_frame.specs.declared.error.Family.{Family};
+ghost use Rattle.linkinfo_table.specs.Lists.{Appends, push_memory};
 ghost use Rattle.linkinfo_table.specs.Lookups.{LookupSays};
 ghost use Rattle.linkinfo_table.specs.declared.lookup.Lookup.{Lookup};
 
@@ -65,6 +66,25 @@ pub trait LinkFamily: Nla + Sized + Drop {
         ensures counted { OnAnswer result (count.new ≡ count.old + headers ctx nla.now) }
         ensures rises { count.old ≤ count.new }
         ensures quarter { 4 * count.new ≤ 4 * count.old + length nla.now.value };
+
+    /// Reads an attribute, and puts its value behind a list.
+    fn push(
+        items: &mut Vec<Self>,
+        alloc: Global,
+        nla: &NlaBuffer<'_>,
+        ctx: Self::Context,
+        count: &mut HeaderCount,
+    ) -> Result<(), DecodeError>
+        requires { count.old + length nla.now.value / 4 < 2 ^ 64 }
+        ensures answer { Appends items.old.items items.new.items result (meaning ctx nla.now) }
+        ensures certain { push_memory (needs_memory ctx nla.now) (meaning ctx nla.now) ≡ false → result ≡ verdict (meaning ctx nla.now) }
+        ensures counted { OnAnswer result (count.new ≡ count.old + headers ctx nla.now) }
+        ensures rises { count.old ≤ count.new }
+        ensures quarter { 4 * count.new ≤ 4 * count.old + length nla.now.value }
+    {
+        items.push(Self::read(alloc, nla, ctx, count)?)?;
+        Ok(())
+    }
 
     /// Whether `read` would succeed, or the attribute's fault. Takes no memory.
     fn check_value(

@@ -3,7 +3,7 @@
 ghost use Rattle.linkinfo_table.specs.LookupLaws.{flat_unnested};
 
 use crate::row_family::{FlatFamily, RowFamily};
-use crate::rows::{row_check, row_read, row_same};
+use crate::rows::{row_check, row_put, row_read, row_same};
 use crate::unnested::UnnestedFamily;
 use nla_frame::{DecodeError, NlaBuffer};
 use std::alloc::Global;
@@ -13,12 +13,23 @@ impl<F: FlatFamily> UnnestedFamily for F {
 
     ghost unnested = { λ c n. flat_unnested (F.rows c n) (F.flat c n) };
 
+    #[inline(always)]
     fn read_by_row(
         alloc: Global,
         nla: &NlaBuffer<'_>,
         ctx: <F as RowFamily>::Context,
     ) -> Result<F, DecodeError> {
         row_read(alloc, nla, ctx)
+    }
+
+    #[inline(always)]
+    fn push_by_row(
+        items: &mut Vec<F>,
+        alloc: Global,
+        nla: &NlaBuffer<'_>,
+        ctx: <F as RowFamily>::Context,
+    ) -> Result<(), DecodeError> {
+        row_put::<F, Vec<F>>(items, alloc, nla, ctx)
     }
 
     fn check_by_row(

@@ -13,6 +13,7 @@ ghost use Rattle.linkinfo_table.specs.declared.lookup.Lookup.TheVariants as look
 ghost use Rattle.linkinfo_table.specs.FamilyRows.{SameFound, SamePart};
 ghost use Rattle.linkinfo_table.specs.declared.found.Found.{Found};
 ghost use Rattle.linkinfo_table.specs.declared.part.Part.{Part};
+ghost use Rattle.linkinfo_table.specs.declared.rowless.Rowless.TheVariants as rowless;
 ghost use Rattle.linkinfo_table.specs.Lists.{AllWell, first_meaning, values};
 ghost use Rattle.linkinfo_table.specs.Lookups.{LookupSays};
 ghost use Rattle.linkinfo_table.specs.Members.{IsFamily};
@@ -22,7 +23,7 @@ use crate::family::LinkFamily;
 use crate::found::Found;
 use crate::listed::ListedFamily;
 use crate::part::Part;
-use crate::rowless::RowlessFamily;
+use crate::rowless::Rowless;
 
 /// Where the bytes are the string of a list of which each item fits, they mean that list exactly where each item is well formed; and what
 /// they mean is always well formed. The same of one item.
@@ -66,9 +67,9 @@ pub fn looked_up<F: LinkFamily>(ctx: F::Context)
 /// An attribute of a family without rows means the value that keeps it, whatever its type and payload. Two are alike where both have one
 /// 16-bit type, flag bits included, and one payload.
 #[tactic(auto, unfolding(crate::specs::Rows::meaning_in, crate::specs::Rows::alike_in))]
-pub fn kept_as_it_came<F: RowlessFamily>()
-    ensures read { (a : Attribute) → ⟦<F as LinkFamily>⟧.meaning tt a ≡ Ok (F.keeping (kept a)) }
-    ensures compared { (a b : Attribute) → ⟦<F as LinkFamily>⟧.alike tt a b ≡ ((b.kind == a.kind) && bytes_eq a.value b.value) }
+pub fn kept_as_it_came<const NUMBER: u8>()
+    ensures read { (a : Attribute) → ⟦<Rowless<NUMBER> as LinkFamily>⟧.meaning tt a ≡ Ok (rowless.Other (kept a)) }
+    ensures compared { (a b : Attribute) → ⟦<Rowless<NUMBER> as LinkFamily>⟧.alike tt a b ≡ ((b.kind == a.kind) && bytes_eq a.value b.value) }
 {}
 
 /// `==` of what was read of attributes, and of what values show, answers true exactly where both hold the same, whatever the places that they

@@ -1,6 +1,7 @@
 //! Families of link info attributes: rows, lists and peers.
 #![tactic(auto)]
 
+mod by_rows;
 mod family;
 mod first;
 mod flat;
@@ -12,9 +13,11 @@ mod lookup;
 mod part;
 pub mod parts;
 mod peer;
+mod place;
 mod row_family;
-mod rowless;
+pub mod rowless;
 mod rows;
+mod table_family;
 mod unnested;
 
 pub use family::LinkFamily;
@@ -28,10 +31,12 @@ pub use listed::ListedFamily;
 pub use lookup::Lookup;
 pub use part::Part;
 pub use peer::{LinkPeer, PeerFault};
+pub use place::Place;
 pub use row_family::{FlatFamily, RowFamily};
-pub use rowless::RowlessFamily;
+pub use rowless::Rowless;
 pub use rows::{
-    row_check, row_emit_value, row_fit_len, row_kind, row_read, row_same, row_value_len,
+    row_check, row_emit_value, row_fit_len, row_kind, row_put, row_read, row_same, row_value_len,
     table_lookup,
 };
+pub use table_family::{TableFamily, WrittenByTable};
 pub use unnested::UnnestedFamily;

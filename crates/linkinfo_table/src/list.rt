@@ -10,8 +10,14 @@ use crate::family::LinkFamily;
 use nla_frame::{DecodeError, HeaderCount, next_piece};
 use std::alloc::Global;
 
+/// The bytes of the shortest attribute that has a payload, header and padding included.
+const LEAST_TYPED: usize = 8;
+
+/// The most values that room is reserved for before they are read.
+const MOST_RESERVED: usize = 32;
+
 /// Reads the attributes that a byte slice frames. The fault of a list is that of its first attribute in byte order that has no header or
-/// no meaning. The empty slice is the empty list, and takes no memory.
+/// no meaning. The empty slice is the empty list, and takes no memory. Once the first attribute is read, room is reserved for some of the others.
 pub fn list_read<F: LinkFamily>(
     alloc: Global,
     bytes: &[u8],
@@ -29,7 +35,10 @@ pub fn list_read<F: LinkFamily>(
     let mut rest = bytes;
     while let Some(next) = next_piece(rest, count) {
         let (nla, after) = next?;
-        items.push(F::read(alloc, &nla, ctx, count)?)?;
+        F::push(&mut items, alloc, &nla, ctx, count)?;
+        if items.len() == 1 {
+            items.reserve((after.len() / LEAST_TYPED).min(MOST_RESERVED))?;
+        }
         rest = after;
     }
     Ok(items)

@@ -10,6 +10,7 @@ use linkinfo_shapes::{Datum, Shape};
 use std::net::{IpAddr, Ipv4Addr, Ipv6Addr};
 
 /// One byte.
+#[inline(always)]
 pub fn u8<'a>(kind: u16, number: u8) -> Part<'a>
     ensures { Shows result (typed kind shape.U8 number) false }
 {
@@ -17,6 +18,7 @@ pub fn u8<'a>(kind: u16, number: u8) -> Part<'a>
 }
 
 /// A little-endian number of two bytes.
+#[inline(always)]
 pub fn le16<'a>(kind: u16, number: u16) -> Part<'a>
     ensures { Shows result (typed kind shape.Le16 number) false }
 {
@@ -24,6 +26,7 @@ pub fn le16<'a>(kind: u16, number: u16) -> Part<'a>
 }
 
 /// A little-endian number of eight bytes.
+#[inline(always)]
 pub fn le64<'a>(kind: u16, number: u64) -> Part<'a>
     ensures { Shows result (typed kind shape.Le64 number) false }
 {
@@ -31,6 +34,7 @@ pub fn le64<'a>(kind: u16, number: u64) -> Part<'a>
 }
 
 /// A big-endian number of two bytes.
+#[inline(always)]
 pub fn be16<'a>(kind: u16, number: u16) -> Part<'a>
     ensures { Shows result (typed kind shape.Be16 number) false }
 {
@@ -38,6 +42,7 @@ pub fn be16<'a>(kind: u16, number: u16) -> Part<'a>
 }
 
 /// A little-endian number of four bytes.
+#[inline(always)]
 pub fn le32<'a>(kind: u16, number: u32) -> Part<'a>
     ensures { Shows result (typed kind shape.Le32 number) false }
 {
@@ -45,6 +50,7 @@ pub fn le32<'a>(kind: u16, number: u32) -> Part<'a>
 }
 
 /// A big-endian number of four bytes.
+#[inline(always)]
 pub fn be32<'a>(kind: u16, number: u32) -> Part<'a>
     ensures { Shows result (typed kind shape.Be32 number) false }
 {
@@ -52,6 +58,7 @@ pub fn be32<'a>(kind: u16, number: u32) -> Part<'a>
 }
 
 /// A big-endian number of eight bytes.
+#[inline(always)]
 pub fn be64<'a>(kind: u16, number: u64) -> Part<'a>
     ensures { Shows result (typed kind shape.Be64 number) false }
 {
@@ -59,6 +66,7 @@ pub fn be64<'a>(kind: u16, number: u64) -> Part<'a>
 }
 
 /// A little-endian two's complement number of four bytes.
+#[inline(always)]
 pub fn i32<'a>(kind: u16, number: i32) -> Part<'a>
     ensures { Shows result (typed kind shape.I32 number) false }
 {
@@ -66,6 +74,7 @@ pub fn i32<'a>(kind: u16, number: i32) -> Part<'a>
 }
 
 /// A truth byte, true where it is not zero.
+#[inline(always)]
 pub fn truth<'a>(kind: u16, on: bool) -> Part<'a>
     ensures { Shows result (typed kind shape.Truth on) false }
 {
@@ -73,6 +82,7 @@ pub fn truth<'a>(kind: u16, on: bool) -> Part<'a>
 }
 
 /// A truth byte, true where it is 1.
+#[inline(always)]
 pub fn truth_one<'a>(kind: u16, on: bool) -> Part<'a>
     ensures { Shows result (typed kind shape.TruthOne on) false }
 {
@@ -80,6 +90,7 @@ pub fn truth_one<'a>(kind: u16, on: bool) -> Part<'a>
 }
 
 /// A presence flag.
+#[inline(always)]
 pub fn mark<'a>(kind: u16) -> Part<'a>
     ensures { Shows result (typed kind shape.Mark tt) false }
 {
@@ -87,6 +98,7 @@ pub fn mark<'a>(kind: u16) -> Part<'a>
 }
 
 /// A text, closed by a zero byte.
+#[inline(always)]
 pub fn name<'a>(kind: u16, text: &'a str) -> Part<'a>
     ensures { Shows result (typed kind shape.Name text.now) false }
 {
@@ -94,6 +106,7 @@ pub fn name<'a>(kind: u16, text: &'a str) -> Part<'a>
 }
 
 /// An IPv4 address.
+#[inline(always)]
 pub fn v4<'a>(kind: u16, address: Ipv4Addr) -> Part<'a>
     ensures { Shows result (typed kind shape.V4 address) false }
 {
@@ -101,6 +114,7 @@ pub fn v4<'a>(kind: u16, address: Ipv4Addr) -> Part<'a>
 }
 
 /// An IPv6 address.
+#[inline(always)]
 pub fn v6<'a>(kind: u16, address: Ipv6Addr) -> Part<'a>
     ensures { Shows result (typed kind shape.V6 address) false }
 {
@@ -108,6 +122,7 @@ pub fn v6<'a>(kind: u16, address: Ipv6Addr) -> Part<'a>
 }
 
 /// An IPv4 address of a Geneve tunnel.
+#[inline(always)]
 pub fn geneve_v4<'a>(kind: u16, address: Ipv4Addr) -> Part<'a>
     ensures { Shows result (typed kind shape.GeneveV4 address) false }
 {
@@ -115,6 +130,7 @@ pub fn geneve_v4<'a>(kind: u16, address: Ipv4Addr) -> Part<'a>
 }
 
 /// An IPv6 address of a Geneve tunnel.
+#[inline(always)]
 pub fn geneve_v6<'a>(kind: u16, address: Ipv6Addr) -> Part<'a>
     ensures { Shows result (typed kind shape.GeneveV6 address) false }
 {
@@ -122,6 +138,7 @@ pub fn geneve_v6<'a>(kind: u16, address: Ipv6Addr) -> Part<'a>
 }
 
 /// An address of either version.
+#[inline(always)]
 pub fn ip<'a>(kind: u16, address: IpAddr) -> Part<'a>
     ensures { Shows result (typed kind shape.Ip address) false }
 {
@@ -133,6 +150,7 @@ pub fn ip<'a>(kind: u16, address: IpAddr) -> Part<'a>
 }
 
 /// A hardware address.
+#[inline(always)]
 pub fn mac<'a>(kind: u16, octets: [u8; 6]) -> Part<'a>
     ensures { Shows result (typed kind shape.Mac octets) false }
 {
@@ -140,6 +158,7 @@ pub fn mac<'a>(kind: u16, octets: [u8; 6]) -> Part<'a>
 }
 
 /// Two big-endian numbers of two bytes each.
+#[inline(always)]
 pub fn be_pair<'a>(kind: u16, pair: (u16, u16)) -> Part<'a>
     ensures { Shows result (typed kind shape.BePair pair) false }
 {
@@ -152,13 +171,16 @@ pub fn be_pair<'a>(kind: u16, pair: (u16, u16)) -> Part<'a>
 }
 
 /// Two little-endian numbers of four bytes each, flags and then their mask.
-pub fn flag_pair<'a>(kind: u16, flags: u32, mask: u32) -> Part<'a>
-    ensures { Shows result (typed kind shape.FlagPair (flags, mask)) false }
+#[inline(always)]
+pub fn flag_pair<'a>(kind: u16, pair: (u32, u32)) -> Part<'a>
+    ensures { Shows result (typed kind shape.FlagPair pair) false }
 {
+    let (flags, mask) = pair;
     Part::Typed(kind, Shape::FlagPair, Datum::Pair(flags, mask))
 }
 
 /// No byte, or one.
+#[inline(always)]
 pub fn empty_or_byte<'a>(kind: u16, byte: Option<u8>) -> Part<'a>
     ensures { Shows result (typed kind shape.EmptyOrByte byte) false }
 {
@@ -170,6 +192,7 @@ pub fn empty_or_byte<'a>(kind: u16, byte: Option<u8>) -> Part<'a>
 }
 
 /// What is scrubbed: nothing, or by default.
+#[inline(always)]
 pub fn scrub<'a>(kind: u16, by_default: bool) -> Part<'a>
     ensures { Shows result (typed kind shape.Scrub by_default) false }
 {

@@ -1,14 +1,15 @@
 //! Families that are given by rows.
 
-ghost use Rattle.std.specs.Prelude.{◌≡◌, ℕ, Bool, false, IfOk, IsOk};
+ghost use Rattle.std.specs.Prelude.{◌≡◌, ℕ, Bool, false, true, IsOk, OnOk};
 ghost use Rattle.nla_frame.specs.Attribute.{Attribute};
 ghost use Rattle.nla_frame.specs.declared.error.Family.{Family};
 ghost use Rattle.nla_frame.specs.declared.default_nla.DefaultNla.{DefaultNla};
-ghost use Rattle.linkinfo_table.specs.FamilyRows.{FamilyRow, IsFlat, IsMadeOf, RowOwes, Shows, SuitsFound, found_needs_memory, lookup_of, row_of};
+ghost use Rattle.linkinfo_table.specs.FamilyRows.{FamilyRow, IsFlat, Puts, RowOwes, Shows, SuitsFound, found_needs_memory, lookup_of, row_of};
 
 use crate::found::Found;
 use crate::lookup::Lookup;
 use crate::part::Part;
+use crate::place::Place;
 use nla_frame::{DefaultNla, Family, Nla};
 use std::alloc::{AllocError, Global};
 
@@ -39,12 +40,17 @@ pub trait RowFamily: Sized + Drop {
     fn shape(ctx: Self::Context, kind: u16) -> Lookup
         ensures { result ≡ lookup_of (rows ctx kind) };
 
-    /// The value of what was read of an attribute. Asks that a datum belongs to the shape of its type's row; only a text or bytes, which are
-    /// copied, may want memory.
-    fn from_found(alloc: Global, ctx: Self::Context, found: Found<'_>) -> Result<Self, AllocError>
+    /// Puts the value of what was read of an attribute in a place. Asks that a datum belongs to the shape of its type's row; only a text or
+    /// bytes, which are copied, and the place may want memory.
+    fn put_found<P: Place<Self>>(
+        place: &mut P,
+        alloc: Global,
+        ctx: Self::Context,
+        found: Found<'_>,
+    ) -> Result<(), AllocError>
         requires { SuitsFound (rows ctx) found }
-        ensures value { IfOk result (IsMadeOf other (rows ctx) found.entry) }
-        ensures certain { found_needs_memory (rows ctx) found.entry ≡ false → IsOk result };
+        ensures value { OnOk result (Puts (P.with place.old) other (rows ctx) found.entry (P.held place.new)) }
+        ensures certain { P.is_certain ≡ true → found_needs_memory (rows ctx) found.entry ≡ false → IsOk result };
 
     /// The type number, shape and datum of a value, or the attribute that it keeps.
     fn to_part(&self) -> Part<'_>

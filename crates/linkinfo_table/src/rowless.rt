@@ -1,89 +1,169 @@
 //! Families without rows: each of their attributes is kept as it came.
 
-ghost use Rattle.std.specs.Prelude.{◌≡◌, ℕ, None, false, refl};
-ghost use Rattle.nla_frame.specs.Kept.{attribute_of};
-ghost use Rattle.nla_frame.specs.declared.error.Family.{Family};
-ghost use Rattle.nla_frame.specs.declared.default_nla.DefaultNla.{DefaultNla};
-ghost use Rattle.linkinfo_shapes.specs.Table.{shape_of};
-ghost use Rattle.linkinfo_table.specs.FamilyRows.{Absent};
+ghost use Rattle.std.specs.Prelude.{◌≡◌, [], Ok, refl, true};
+ghost use Rattle.nla_frame.specs.Kept.{attribute_of, kept};
+ghost use Rattle.linkinfo_table.specs.Rowless.{no_rows, rowless_family};
+ghost use Rattle.linkinfo_table.specs.declared.rowless.Rowless.TheVariants as rowless;
 
 use crate::found::Found;
-use crate::lookup::Lookup;
 use crate::part::Part;
-use crate::row_family::{FlatFamily, RowFamily};
-use nla_frame::{DefaultNla, Family, Nla};
+use crate::place::Place;
+use crate::table_family::{TableFamily, WrittenByTable};
+use nla_frame::{DecodeError, DefaultNla, ExactEq, Family, Nla, NlaBuffer, Parseable};
 use std::alloc::{AllocError, Global};
 
-/// A family that has no row in the table: an attribute of any type is kept as it came.
+/// The number of bonds.
+pub const BOND: u8 = 1;
+
+/// The number of ports of bonds.
+pub const BOND_PORT: u8 = 2;
+
+/// The number of bridges.
+pub const BRIDGE: u8 = 3;
+
+/// The number of ports of bridges.
+pub const BRIDGE_PORT: u8 = 4;
+
+/// The number of CAN links.
+pub const CAN: u8 = 5;
+
+/// The number of ports of switches.
+pub const DSA: u8 = 6;
+
+/// The number of HSR and PRP links.
+pub const HSR: u8 = 7;
+
+/// The number of PFCP links.
+pub const PFCP: u8 = 8;
+
+/// The number of ports of teams.
+pub const TEAM_PORT: u8 = 9;
+
+/// The number of TUN and TAP links.
+pub const TUN: u8 = 10;
+
+/// The number of VLANs.
+pub const VLAN: u8 = 11;
+
+/// The number of WireGuard links.
+pub const WIREGUARD: u8 = 12;
+
+/// An attribute of a family that has no row in the table: of any type, kept as it came, flag bits of its type included.
 ///
-/// A family writes how a value keeps an attribute. It is a `LinkFamily` by that.
-pub trait RowlessFamily: Nla + Sized + Drop {
-    const FAMILY: Family;
-
-    ghost FAMILY: { Family };
-
-    /// The value that keeps an attribute.
-    ghost keeping: { DefaultNla → Self };
-
-    /// The attribute that a value keeps.
-    ghost kept: { Self → DefaultNla };
-
-    /// The value that keeps this attribute.
-    fn from_kept(nla: DefaultNla) -> Self
-        ensures { result ≡ keeping nla };
-
-    /// The attribute that the value keeps.
-    fn as_kept(&self) -> &DefaultNla
-        ensures { result.now ≡ kept self.now };
-
-    ghost no_rows: { (n : ℕ) → shape_of Self.FAMILY n ≡ None };
-
-    ghost keeps: { (nla : DefaultNla) → Self.kept (Self.keeping nla) ≡ nla };
-
-    ghost written: { (x : Self) → Self.attribute x ≡ attribute_of (Self.kept x) };
+/// The family is that of the number, `BOND` and on. Any other number stands for `Family::Frame`, and no name.
+#[derive(Debug, PartialEq, Eq, Clone, Drop)]
+pub enum Rowless<const NUMBER: u8> {
+    /// An attribute of any type.
+    Other(DefaultNla),
 }
 
-impl<F: RowlessFamily> RowFamily for F {
-    type Context = ();
-
-    const FAMILY: Family = <F as RowlessFamily>::FAMILY;
-
-    ghost use Rattle.std.proofs.Common.{ap};
-
-    ghost FAMILY = { F.RowlessFamily.FAMILY };
-
-    ghost rows = { λ _ _. Absent };
-
-    ghost other = { F.keeping };
-
-    ghost canonical = { λ x. attribute_of (F.kept x) };
-
-    ghost is_custom = { λ _. false };
-
-    ghost owes = { λ _ _. tt };
-
-    ghost keeps_other = { λ nla. ap attribute_of (F.keeps nla) };
-
-    fn shape(_ctx: (), _kind: u16) -> Lookup {
-        Lookup::Unknown
+/// The family of the number.
+const fn family_of(number: u8) -> Family
+    ensures { result ≡ rowless_family number }
+{
+    match number {
+        BOND => Family::Bond,
+        BOND_PORT => Family::BondPort,
+        BRIDGE => Family::Bridge,
+        BRIDGE_PORT => Family::BridgePort,
+        CAN => Family::Can,
+        DSA => Family::Dsa,
+        HSR => Family::Hsr,
+        PFCP => Family::Pfcp,
+        TEAM_PORT => Family::TeamPort,
+        TUN => Family::Tun,
+        VLAN => Family::Vlan,
+        WIREGUARD => Family::Wireguard,
+        _ => Family::Frame,
     }
+}
 
-    fn from_found(_alloc: Global, _ctx: (), found: Found<'_>) -> Result<F, AllocError> {
+impl<const NUMBER: u8> Rowless<NUMBER> {
+    /// The attribute that the value keeps.
+    fn kept(&self) -> &DefaultNla
+        ensures { self.now ≡ rowless.Other result.now }
+    {
+        match self {
+            Rowless::Other(nla) => nla,
+        }
+    }
+}
+
+impl<const NUMBER: u8> TableFamily for Rowless<NUMBER> {
+    const FAMILY: Family = family_of(NUMBER);
+
+    ghost use Rattle.std.proofs.Common.{ap, sym};
+    ghost use Rattle.linkinfo_table.specs.FamilyRows.{lookup_in};
+
+    ghost FAMILY = { rowless_family NUMBER };
+
+    ghost table = { [] };
+
+    ghost other = { λ nla. rowless.Other nla };
+
+    ghost canonical = { elim [ rowless.Other nla ↦ attribute_of nla ] };
+
+    ghost keeps = { tt };
+
+    ghost keeps_other = { λ _. refl };
+
+    ghost in_table = { λ n. ap lookup_in (sym (no_rows NUMBER n)) };
+
+    #[inline(always)]
+    fn put_found<P: Place<Rowless<NUMBER>>>(
+        place: &mut P,
+        _alloc: Global,
+        found: Found<'_>,
+    ) -> Result<(), AllocError> {
         match found {
-            Found::Kept(nla) => Ok(F::from_kept(nla)),
+            Found::Kept(nla) => place.put(Rowless::Other(nla)),
             Found::Typed(_, _) => unreachable!(),
         }
     }
 
+    #[inline(always)]
     fn to_part(&self) -> Part<'_> {
-        Part::Kept(self.as_kept())
+        Part::Kept(self.kept())
     }
 }
 
-impl<F: RowlessFamily> FlatFamily for F {
-    ghost flat = { λ _ _. tt };
+impl<const NUMBER: u8> Nla for Rowless<NUMBER> {
+    ghost attribute = { elim [ rowless.Other nla ↦ attribute_of nla ] };
 
-    ghost never_custom = { λ _. refl };
+    fn value_len(&self) -> usize {
+        self.kept().value_len()
+    }
 
-    ghost written = { F.RowlessFamily.written };
+    fn kind(&self) -> u16 {
+        self.kept().kind()
+    }
+
+    fn emit_value(&self, buffer: &mut [u8]) {
+        self.kept().emit_value(buffer);
+    }
+
+    fn fit_len(&self) -> Option<usize> {
+        self.kept().fit_len()
+    }
+}
+
+impl<const NUMBER: u8> WrittenByTable for Rowless<NUMBER> {
+    ghost written = { λ _. refl };
+}
+
+/// Keeps the attribute. Only want of memory refuses it.
+impl<'a, const NUMBER: u8> Parseable<NlaBuffer<'a>> for Rowless<NUMBER> {
+    ghost meaning = { λ nla. Ok (rowless.Other (kept nla)) };
+
+    ghost needs_memory = { λ _. true };
+
+    fn parse(alloc: Global, buffer: &NlaBuffer<'a>) -> Result<Rowless<NUMBER>, DecodeError> {
+        Ok(Rowless::Other(DefaultNla::parse(alloc, buffer)?))
+    }
+}
+
+impl<const NUMBER: u8> ExactEq for Rowless<NUMBER> {
+    ghost use Rattle.std.proofs.Common.{rules};
+
+    ghost exact = { Prim.search rules };
 }

@@ -7,11 +7,13 @@ ghost use Rattle.nla_frame.specs.Attribute.{Fits, masked};
 ghost use Rattle.linkinfo_shapes.specs.Shapes.{IsAccepted, IsPlain, payload_alike};
 ghost use Rattle.linkinfo_shapes.specs.Table.{shape_of};
 ghost use Rattle.linkinfo_table.specs.FamilyRows.{IsFlat, lookup_in, row_of};
+ghost use Rattle.linkinfo_table.specs.Lists.{PutsGives, put_memory};
 ghost use Rattle.linkinfo_table.specs.Rows.{alike_in, meaning_in, memory_in};
 
 use crate::found::Found;
 use crate::lookup::Lookup;
 use crate::part::Part;
+use crate::place::Place;
 use crate::row_family::RowFamily;
 use linkinfo_shapes::{
     Shape, datum_len, read_datum, shape_check, shape_same, table_shape, write_datum,
@@ -19,6 +21,7 @@ use linkinfo_shapes::{
 use nla_frame::{Cause, DecodeError, DefaultNla, Family, Nla, NlaBuffer, Parseable};
 use std::alloc::Global;
 
+#[inline(always)]
 fn fault(family: Family, kind: u16, cause: Cause) -> DecodeError
     ensures { result ≡ record { family = family; kind = kind; cause = cause } }
 {
@@ -30,6 +33,7 @@ fn fault(family: Family, kind: u16, cause: Cause) -> DecodeError
 }
 
 /// What the table of all families says of a masked type: its shape, or that it has none.
+#[inline(always)]
 pub fn table_lookup(family: Family, kind: u16) -> Lookup
     ensures { result ≡ lookup_in (shape_of family kind) }
 {
@@ -39,7 +43,33 @@ pub fn table_lookup(family: Family, kind: u16) -> Lookup
     }
 }
 
-/// Reads an attribute by its row. Asks for one whose row has a shape of the table, or none.
+/// Reads an attribute by its row, and puts its value in a place. Asks for one whose row has a shape of the table, or none.
+#[inline(always)]
+pub fn row_put<F: RowFamily, P: Place<F>>(
+    place: &mut P,
+    alloc: Global,
+    nla: &NlaBuffer<'_>,
+    ctx: F::Context,
+) -> Result<(), DecodeError>
+    requires { IsFlat (F.rows ctx (masked nla.now.kind)) }
+    ensures answer { PutsGives (P.with place.old) (P.held place.new) result (meaning_in F.FAMILY F.other (λ n. row_of (F.rows ctx n)) nla.now) }
+    ensures certain { put_memory P.is_certain (memory_in (λ n. row_of (F.rows ctx n)) nla.now) (meaning_in F.FAMILY F.other (λ n. row_of (F.rows ctx n)) nla.now) ≡ false → result ≡ verdict (meaning_in F.FAMILY F.other (λ n. row_of (F.rows ctx n)) nla.now) }
+{
+    let kind = nla.kind();
+    match F::shape(ctx, kind) {
+        Lookup::Is(shape) => match read_datum(shape, nla.value()) {
+            Ok(datum) => Ok(F::put_found(place, alloc, ctx, Found::Typed(kind, datum))?),
+            Err(cause) => Err(fault(F::FAMILY, kind, cause)),
+        },
+        Lookup::Refused(cause) => Err(fault(F::FAMILY, kind, cause)),
+        Lookup::Unknown => {
+            let kept = DefaultNla::parse(alloc, nla)?;
+            Ok(F::put_found(place, alloc, ctx, Found::Kept(kept))?)
+        }
+    }
+}
+
+/// Reads an attribute by its row. Asks the same.
 pub fn row_read<F: RowFamily>(
     alloc: Global,
     nla: &NlaBuffer<'_>,
@@ -49,21 +79,16 @@ pub fn row_read<F: RowFamily>(
     ensures answer { Gives (λ value. value) result (meaning_in F.FAMILY F.other (λ n. row_of (F.rows ctx n)) nla.now) }
     ensures certain { CertainUnless (memory_in (λ n. row_of (F.rows ctx n)) nla.now) (λ value. value) result (meaning_in F.FAMILY F.other (λ n. row_of (F.rows ctx n)) nla.now) }
 {
-    let kind = nla.kind();
-    match F::shape(ctx, kind) {
-        Lookup::Is(shape) => match read_datum(shape, nla.value()) {
-            Ok(datum) => Ok(F::from_found(alloc, ctx, Found::Typed(kind, datum))?),
-            Err(cause) => Err(fault(F::FAMILY, kind, cause)),
-        },
-        Lookup::Refused(cause) => Err(fault(F::FAMILY, kind, cause)),
-        Lookup::Unknown => {
-            let kept = DefaultNla::parse(alloc, nla)?;
-            Ok(F::from_found(alloc, ctx, Found::Kept(kept))?)
-        }
+    let mut place = None;
+    row_put::<F, Option<F>>(&mut place, alloc, nla, ctx)?;
+    match place {
+        Some(value) => Ok(value),
+        None => unreachable!(),
     }
 }
 
 /// Whether `row_read` would succeed, or the attribute's fault. Takes no memory. Asks the same.
+#[inline(always)]
 pub fn row_check<F: RowFamily>(nla: &NlaBuffer<'_>, ctx: F::Context) -> Result<(), DecodeError>
     requires { IsFlat (F.rows ctx (masked nla.now.kind)) }
     ensures { result ≡ verdict (meaning_in F.FAMILY F.other (λ n. row_of (F.rows ctx n)) nla.now) }
@@ -80,6 +105,7 @@ pub fn row_check<F: RowFamily>(nla: &NlaBuffer<'_>, ctx: F::Context) -> Result<(
 }
 
 /// Whether two attributes mean the same value. Asks the same of the first, and that both are accepted. Takes no memory.
+#[inline(always)]
 pub fn row_same<F: RowFamily>(a: &NlaBuffer<'_>, b: &NlaBuffer<'_>, ctx: F::Context) -> bool
     requires flat { IsFlat (F.rows ctx (masked a.now.kind)) }
     requires first { IsOk (meaning_in F.FAMILY F.other (λ n. row_of (F.rows ctx n)) a.now) }
@@ -93,6 +119,7 @@ pub fn row_same<F: RowFamily>(a: &NlaBuffer<'_>, b: &NlaBuffer<'_>, ctx: F::Cont
     }
 }
 
+#[inline(always)]
 fn typed_same(shape: Shape, a: &NlaBuffer<'_>, b: &NlaBuffer<'_>) -> bool
     requires plain { IsPlain shape }
     requires first { IsAccepted shape a.now.value }
@@ -102,6 +129,7 @@ fn typed_same(shape: Shape, a: &NlaBuffer<'_>, b: &NlaBuffer<'_>) -> bool
     b.kind() == a.kind() && shape_same(shape, a.value(), b.value())
 }
 
+#[inline(always)]
 fn kept_same(a: &NlaBuffer<'_>, b: &NlaBuffer<'_>) -> bool
     ensures { result ≡ ((b.now.kind == a.now.kind) && bytes_eq a.now.value b.now.value) }
 {
@@ -109,6 +137,7 @@ fn kept_same(a: &NlaBuffer<'_>, b: &NlaBuffer<'_>) -> bool
 }
 
 /// The type number of a value. Asks for one whose payload the family does not write itself.
+#[inline(always)]
 pub fn row_kind<F: RowFamily>(value: &F) -> u16
     requires { F.is_custom value.now ≡ false }
     ensures { result ≡ (F.canonical value.now).kind }
@@ -121,6 +150,7 @@ pub fn row_kind<F: RowFamily>(value: &F) -> u16
 }
 
 /// The length of a value's payload where it fits, and else `None`. Asks the same.
+#[inline(always)]
 pub fn row_fit_len<F: RowFamily>(value: &F) -> Option<usize>
     requires { F.is_custom value.now ≡ false }
     ensures { SomeIff result (Fits (F.canonical value.now)) (length (F.canonical value.now).value) }
@@ -133,6 +163,7 @@ pub fn row_fit_len<F: RowFamily>(value: &F) -> Option<usize>
 }
 
 /// The length of a value's payload. Asks the same, and that the value fits.
+#[inline(always)]
 pub fn row_value_len<F: RowFamily>(value: &F) -> usize
     requires custom { F.is_custom value.now ≡ false }
     requires fits { Fits (F.canonical value.now) }
@@ -145,6 +176,7 @@ pub fn row_value_len<F: RowFamily>(value: &F) -> usize
 }
 
 /// Writes a value's payload. Asks the same, and for a buffer of exactly its length.
+#[inline(always)]
 pub fn row_emit_value<F: RowFamily>(value: &F, buffer: &mut [u8])
     requires custom { F.is_custom value.now ≡ false }
     requires fits { Fits (F.canonical value.now) }

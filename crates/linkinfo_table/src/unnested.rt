@@ -1,10 +1,11 @@
 //! A family by rows of which no attribute holds others is a `LinkFamily`.
 
-ghost use Rattle.std.specs.Prelude.{◌≡◌, ℕ, IsOk};
+ghost use Rattle.std.specs.Prelude.{◌≡◌, ℕ, false, IsOk};
 ghost use Rattle.std.proofs.Common.{◌∙◌};
 ghost use Rattle.nla_frame.specs.Answers.{CertainUnless, Gives, verdict};
 ghost use Rattle.nla_frame.specs.Attribute.{masked};
 ghost use Rattle.linkinfo_table.specs.FamilyRows.{IsUnnested, lookup_of, row_of};
+ghost use Rattle.linkinfo_table.specs.Lists.{Appends, push_memory};
 ghost use Rattle.linkinfo_table.specs.LookupLaws.{rows_say};
 ghost use Rattle.linkinfo_table.specs.Rows.{alike_in, meaning_in, memory_in, WellFormed};
 ghost use Rattle.linkinfo_table.specs.FlatLaws.{flat_alike_is, none_inside, flat_no_memory, flat_read_well, flat_well_reads, flat_well_attribute};
@@ -26,6 +27,20 @@ pub trait UnnestedFamily: RowFamily + Nla {
     ) -> Result<Self, DecodeError>
         ensures answer { Gives (λ value. value) result (meaning_in Self.FAMILY Self.other (λ n. row_of (Self.rows ctx n)) nla.now) }
         ensures certain { CertainUnless (memory_in (λ n. row_of (Self.rows ctx n)) nla.now) (λ value. value) result (meaning_in Self.FAMILY Self.other (λ n. row_of (Self.rows ctx n)) nla.now) };
+
+    /// Reads an attribute by its row, and puts its value behind a list.
+    fn push_by_row(
+        items: &mut Vec<Self>,
+        alloc: Global,
+        nla: &NlaBuffer<'_>,
+        ctx: <Self as RowFamily>::Context,
+    ) -> Result<(), DecodeError>
+        ensures answer { Appends items.old.items items.new.items result (meaning_in Self.FAMILY Self.other (λ n. row_of (Self.rows ctx n)) nla.now) }
+        ensures certain { push_memory (memory_in (λ n. row_of (Self.rows ctx n)) nla.now) (meaning_in Self.FAMILY Self.other (λ n. row_of (Self.rows ctx n)) nla.now) ≡ false → result ≡ verdict (meaning_in Self.FAMILY Self.other (λ n. row_of (Self.rows ctx n)) nla.now) }
+    {
+        items.push(Self::read_by_row(alloc, nla, ctx)?)?;
+        Ok(())
+    }
 
     /// Whether `read_by_row` would succeed, or the attribute's fault. Takes no memory.
     fn check_by_row(
@@ -86,6 +101,7 @@ impl<F: UnnestedFamily> LinkFamily for F {
         <F as RowFamily>::shape(ctx, kind)
     }
 
+    #[inline(always)]
     fn read(
         alloc: Global,
         nla: &NlaBuffer<'_>,
@@ -93,6 +109,17 @@ impl<F: UnnestedFamily> LinkFamily for F {
         _count: &mut HeaderCount,
     ) -> Result<F, DecodeError> {
         F::read_by_row(alloc, nla, ctx)
+    }
+
+    #[inline(always)]
+    fn push(
+        items: &mut Vec<F>,
+        alloc: Global,
+        nla: &NlaBuffer<'_>,
+        ctx: <F as RowFamily>::Context,
+        _count: &mut HeaderCount,
+    ) -> Result<(), DecodeError> {
+        F::push_by_row(items, alloc, nla, ctx)
     }
 
     fn check_value(

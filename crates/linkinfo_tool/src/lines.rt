@@ -35,5 +35,5 @@ pub fn cut(text: &[u8], separator: u8) -> (&[u8], Option<&[u8]>)
 fn place_of(text: &[u8], byte: u8) -> Option<usize>
     ensures { result ≡ position (λ b. b == byte) text.now }
 {
-    text.iter().position(|b| *b == byte)
+    memchr::memchr(byte, text)
 }

@@ -1,37 +1,20 @@
 //! AMT tunnels.
 
 ghost use Rattle.linkinfo_tunnels.specs.declared.amt.InfoAmt.TheVariants.{Other};
-ghost use Rattle.linkinfo_tunnels.specs.Amt.{amt_attribute, amt_keeps, amt_rows};
+ghost use Rattle.linkinfo_tunnels.specs.Amt.{amt_attribute, amt_keeps, amt_lookup, amt_rows};
 ghost use Rattle.linkinfo_table.specs.FamilyRows.{row_of, table_row};
 ghost use Rattle.linkinfo_table.specs.Rows.{meaning_in, memory_in};
-ghost use Rattle.linkinfo_table.specs.FamilyRowLaws.{table_flat, table_owes};
 ghost use Rattle.nla_frame.specs.declared.error.Family.TheVariants as family;
-ghost use Rattle.std.specs.Prelude.{false, refl};
+ghost use Rattle.std.specs.Prelude.{refl};
 
 use linkinfo_numbers::AmtMode;
 use linkinfo_table::{
-    FlatFamily, Found, Lookup, Part, RowFamily, parts, row_emit_value, row_fit_len, row_kind,
-    row_read, row_value_len, table_lookup,
+    Found, Part, Place, TableFamily, WrittenByTable, part_by_rows, put_by_rows, row_emit_value,
+    row_fit_len, row_kind, row_read, row_value_len,
 };
 use nla_frame::{DecodeError, DefaultNla, ExactEq, Family, Nla, NlaBuffer, Parseable};
 use std::alloc::{AllocError, Global};
 use std::net::IpAddr;
-
-const IFLA_AMT_MODE: u16 = 1;
-
-const IFLA_AMT_RELAY_PORT: u16 = 2;
-
-const IFLA_AMT_GATEWAY_PORT: u16 = 3;
-
-const IFLA_AMT_LINK: u16 = 4;
-
-const IFLA_AMT_LOCAL_IP: u16 = 5;
-
-const IFLA_AMT_REMOTE_IP: u16 = 6;
-
-const IFLA_AMT_DISCOVERY_IP: u16 = 7;
-
-const IFLA_AMT_MAX_TUNNELS: u16 = 8;
 
 /// An attribute of an AMT tunnel: of a link of the kind `amt` (include/uapi/linux/amt.h).
 #[derive(Debug, PartialEq, Eq, Clone, Drop)]
@@ -56,60 +39,50 @@ pub enum InfoAmt {
     Other(DefaultNla),
 }
 
-impl RowFamily for InfoAmt {
-    type Context = ();
+macro_rules! rows {
+    ($body:ident $given:tt) => {
+        $body! { InfoAmt $given;
+            (IFLA_AMT_MODE = 1, le32, Mode as AmtMode),
+            (IFLA_AMT_RELAY_PORT = 2, be16, RelayPort),
+            (IFLA_AMT_GATEWAY_PORT = 3, be16, GatewayPort),
+            (IFLA_AMT_LINK = 4, le32, Link),
+            (IFLA_AMT_LOCAL_IP = 5, ip, LocalIp),
+            (IFLA_AMT_REMOTE_IP = 6, ip, RemoteIp),
+            (IFLA_AMT_DISCOVERY_IP = 7, ip, DiscoveryIp),
+            (IFLA_AMT_MAX_TUNNELS = 8, le32, MaxTunnels),
+        }
+    };
+}
 
+impl TableFamily for InfoAmt {
     const FAMILY: Family = Family::Amt;
 
     ghost FAMILY = { family.Amt };
 
-    ghost rows = { λ _ n. table_row amt_rows n };
+    ghost table = { amt_rows };
 
     ghost other = { λ nla. Other nla };
 
     ghost canonical = { amt_attribute };
 
-    ghost is_custom = { λ _. false };
-
-    ghost owes = { λ _ n. table_owes amt_attribute amt_rows amt_keeps n };
+    ghost keeps = { amt_keeps };
 
     ghost keeps_other = { λ _. refl };
 
-    #[tactic(auto, using(crate::specs::Amt::amt_lookup))]
-    fn shape(_ctx: (), kind: u16) -> Lookup {
-        table_lookup(Family::Amt, kind)
+    ghost in_table = { amt_lookup };
+
+    #[inline(always)]
+    fn put_found<P: Place<InfoAmt>>(
+        place: &mut P,
+        alloc: Global,
+        found: Found<'_>,
+    ) -> Result<(), AllocError> {
+        rows!(put_by_rows(place, alloc, found))
     }
 
-    fn from_found(_alloc: Global, _ctx: (), found: Found<'_>) -> Result<InfoAmt, AllocError> {
-        let (kind, datum) = match found {
-            Found::Typed(kind, datum) => (kind, datum),
-            Found::Kept(nla) => return Ok(InfoAmt::Other(nla)),
-        };
-        Ok(match kind {
-            IFLA_AMT_MODE => InfoAmt::Mode(AmtMode::from(datum.u32_or_zero())),
-            IFLA_AMT_RELAY_PORT => InfoAmt::RelayPort(datum.u16_or_zero()),
-            IFLA_AMT_GATEWAY_PORT => InfoAmt::GatewayPort(datum.u16_or_zero()),
-            IFLA_AMT_LINK => InfoAmt::Link(datum.u32_or_zero()),
-            IFLA_AMT_LOCAL_IP => InfoAmt::LocalIp(datum.ip_or_unspecified()),
-            IFLA_AMT_REMOTE_IP => InfoAmt::RemoteIp(datum.ip_or_unspecified()),
-            IFLA_AMT_DISCOVERY_IP => InfoAmt::DiscoveryIp(datum.ip_or_unspecified()),
-            IFLA_AMT_MAX_TUNNELS => InfoAmt::MaxTunnels(datum.u32_or_zero()),
-            _ => unreachable!(),
-        })
-    }
-
+    #[inline(always)]
     fn to_part(&self) -> Part<'_> {
-        match self {
-            InfoAmt::Mode(mode) => parts::le32(IFLA_AMT_MODE, u32::from(*mode)),
-            InfoAmt::RelayPort(port) => parts::be16(IFLA_AMT_RELAY_PORT, *port),
-            InfoAmt::GatewayPort(port) => parts::be16(IFLA_AMT_GATEWAY_PORT, *port),
-            InfoAmt::Link(index) => parts::le32(IFLA_AMT_LINK, *index),
-            InfoAmt::LocalIp(address) => parts::ip(IFLA_AMT_LOCAL_IP, *address),
-            InfoAmt::RemoteIp(address) => parts::ip(IFLA_AMT_REMOTE_IP, *address),
-            InfoAmt::DiscoveryIp(address) => parts::ip(IFLA_AMT_DISCOVERY_IP, *address),
-            InfoAmt::MaxTunnels(count) => parts::le32(IFLA_AMT_MAX_TUNNELS, *count),
-            InfoAmt::Other(nla) => Part::Kept(nla),
-        }
+        rows!(part_by_rows self)
     }
 }
 
@@ -133,11 +106,7 @@ impl Nla for InfoAmt {
     }
 }
 
-impl FlatFamily for InfoAmt {
-    ghost flat = { λ _ n. table_flat amt_attribute amt_rows amt_keeps n };
-
-    ghost never_custom = { λ _. refl };
-
+impl WrittenByTable for InfoAmt {
     ghost written = { λ _. refl };
 }
 

@@ -1,28 +1,19 @@
 //! Bare UDP tunnels.
 
 ghost use Rattle.linkinfo_tunnels.specs.declared.bare_udp.InfoBareUdp.TheVariants.{Other};
-ghost use Rattle.linkinfo_tunnels.specs.BareUdp.{bare_udp_attribute, bare_udp_keeps, bare_udp_rows};
+ghost use Rattle.linkinfo_tunnels.specs.BareUdp.{bare_udp_attribute, bare_udp_keeps, bare_udp_lookup, bare_udp_rows};
 ghost use Rattle.linkinfo_table.specs.FamilyRows.{row_of, table_row};
 ghost use Rattle.linkinfo_table.specs.Rows.{meaning_in, memory_in};
-ghost use Rattle.linkinfo_table.specs.FamilyRowLaws.{table_flat, table_owes};
 ghost use Rattle.nla_frame.specs.declared.error.Family.TheVariants as family;
-ghost use Rattle.std.specs.Prelude.{false, refl};
+ghost use Rattle.std.specs.Prelude.{refl};
 
 use linkinfo_numbers::EthernetProtocol;
 use linkinfo_table::{
-    FlatFamily, Found, Lookup, Part, RowFamily, parts, row_emit_value, row_fit_len, row_kind,
-    row_read, row_value_len, table_lookup,
+    Found, Part, Place, TableFamily, WrittenByTable, part_by_rows, put_by_rows, row_emit_value,
+    row_fit_len, row_kind, row_read, row_value_len,
 };
 use nla_frame::{DecodeError, DefaultNla, ExactEq, Family, Nla, NlaBuffer, Parseable};
 use std::alloc::{AllocError, Global};
-
-const IFLA_BAREUDP_PORT: u16 = 1;
-
-const IFLA_BAREUDP_ETHERTYPE: u16 = 2;
-
-const IFLA_BAREUDP_SRCPORT_MIN: u16 = 3;
-
-const IFLA_BAREUDP_MULTIPROTO_MODE: u16 = 4;
 
 /// An attribute of a bare UDP tunnel: of a link of the kind `bareudp` (include/uapi/linux/if_link.h).
 #[derive(Debug, PartialEq, Eq, Clone, Drop)]
@@ -39,57 +30,46 @@ pub enum InfoBareUdp {
     Other(DefaultNla),
 }
 
-impl RowFamily for InfoBareUdp {
-    type Context = ();
+macro_rules! rows {
+    ($body:ident $given:tt) => {
+        $body! { InfoBareUdp $given;
+            (IFLA_BAREUDP_PORT = 1, be16, Port),
+            (IFLA_BAREUDP_ETHERTYPE = 2, be16, Ethertype as EthernetProtocol),
+            (IFLA_BAREUDP_SRCPORT_MIN = 3, le16, SrcPortMin),
+            (IFLA_BAREUDP_MULTIPROTO_MODE = 4, mark, MultiprotoMode),
+        }
+    };
+}
 
+impl TableFamily for InfoBareUdp {
     const FAMILY: Family = Family::BareUdp;
 
     ghost FAMILY = { family.BareUdp };
 
-    ghost rows = { λ _ n. table_row bare_udp_rows n };
+    ghost table = { bare_udp_rows };
 
     ghost other = { λ nla. Other nla };
 
     ghost canonical = { bare_udp_attribute };
 
-    ghost is_custom = { λ _. false };
-
-    ghost owes = { λ _ n. table_owes bare_udp_attribute bare_udp_rows bare_udp_keeps n };
+    ghost keeps = { bare_udp_keeps };
 
     ghost keeps_other = { λ _. refl };
 
-    #[tactic(auto, using(crate::specs::BareUdp::bare_udp_lookup))]
-    fn shape(_ctx: (), kind: u16) -> Lookup {
-        table_lookup(Family::BareUdp, kind)
+    ghost in_table = { bare_udp_lookup };
+
+    #[inline(always)]
+    fn put_found<P: Place<InfoBareUdp>>(
+        place: &mut P,
+        alloc: Global,
+        found: Found<'_>,
+    ) -> Result<(), AllocError> {
+        rows!(put_by_rows(place, alloc, found))
     }
 
-    fn from_found(_alloc: Global, _ctx: (), found: Found<'_>) -> Result<InfoBareUdp, AllocError> {
-        let (kind, datum) = match found {
-            Found::Typed(kind, datum) => (kind, datum),
-            Found::Kept(nla) => return Ok(InfoBareUdp::Other(nla)),
-        };
-        Ok(match kind {
-            IFLA_BAREUDP_PORT => InfoBareUdp::Port(datum.u16_or_zero()),
-            IFLA_BAREUDP_ETHERTYPE => InfoBareUdp::Ethertype(EthernetProtocol::from(
-                datum.u16_or_zero(),
-            )),
-            IFLA_BAREUDP_SRCPORT_MIN => InfoBareUdp::SrcPortMin(datum.u16_or_zero()),
-            IFLA_BAREUDP_MULTIPROTO_MODE => InfoBareUdp::MultiprotoMode,
-            _ => unreachable!(),
-        })
-    }
-
+    #[inline(always)]
     fn to_part(&self) -> Part<'_> {
-        match self {
-            InfoBareUdp::Port(port) => parts::be16(IFLA_BAREUDP_PORT, *port),
-            InfoBareUdp::Ethertype(protocol) => parts::be16(
-                IFLA_BAREUDP_ETHERTYPE,
-                u16::from(*protocol),
-            ),
-            InfoBareUdp::SrcPortMin(port) => parts::le16(IFLA_BAREUDP_SRCPORT_MIN, *port),
-            InfoBareUdp::MultiprotoMode => parts::mark(IFLA_BAREUDP_MULTIPROTO_MODE),
-            InfoBareUdp::Other(nla) => Part::Kept(nla),
-        }
+        rows!(part_by_rows self)
     }
 }
 
@@ -113,11 +93,7 @@ impl Nla for InfoBareUdp {
     }
 }
 
-impl FlatFamily for InfoBareUdp {
-    ghost flat = { λ _ n. table_flat bare_udp_attribute bare_udp_rows bare_udp_keeps n };
-
-    ghost never_custom = { λ _. refl };
-
+impl WrittenByTable for InfoBareUdp {
     ghost written = { λ _. refl };
 }
 

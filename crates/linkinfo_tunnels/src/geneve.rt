@@ -1,53 +1,20 @@
 //! Geneve tunnels.
 
 ghost use Rattle.linkinfo_tunnels.specs.declared.geneve.InfoGeneve.TheVariants.{Other};
-ghost use Rattle.linkinfo_tunnels.specs.Geneve.{geneve_attribute, geneve_keeps, geneve_rows};
+ghost use Rattle.linkinfo_tunnels.specs.Geneve.{geneve_attribute, geneve_keeps, geneve_lookup, geneve_rows};
 ghost use Rattle.linkinfo_table.specs.FamilyRows.{row_of, table_row};
 ghost use Rattle.linkinfo_table.specs.Rows.{meaning_in, memory_in};
-ghost use Rattle.linkinfo_table.specs.FamilyRowLaws.{table_flat, table_owes};
 ghost use Rattle.nla_frame.specs.declared.error.Family.TheVariants as family;
-ghost use Rattle.std.specs.Prelude.{false, refl};
+ghost use Rattle.std.specs.Prelude.{refl};
 
 use linkinfo_numbers::GeneveDf;
 use linkinfo_table::{
-    FlatFamily, Found, Lookup, Part, RowFamily, parts, row_emit_value, row_fit_len, row_kind,
-    row_read, row_value_len, table_lookup,
+    Found, Part, Place, TableFamily, WrittenByTable, part_by_rows, put_by_rows, row_emit_value,
+    row_fit_len, row_kind, row_read, row_value_len,
 };
 use nla_frame::{DecodeError, DefaultNla, ExactEq, Family, Nla, NlaBuffer, Parseable};
 use std::alloc::{AllocError, Global};
 use std::net::{Ipv4Addr, Ipv6Addr};
-
-const IFLA_GENEVE_ID: u16 = 1;
-
-const IFLA_GENEVE_REMOTE: u16 = 2;
-
-const IFLA_GENEVE_TTL: u16 = 3;
-
-const IFLA_GENEVE_TOS: u16 = 4;
-
-const IFLA_GENEVE_PORT: u16 = 5;
-
-const IFLA_GENEVE_COLLECT_METADATA: u16 = 6;
-
-const IFLA_GENEVE_REMOTE6: u16 = 7;
-
-const IFLA_GENEVE_UDP_CSUM: u16 = 8;
-
-const IFLA_GENEVE_UDP_ZERO_CSUM6_TX: u16 = 9;
-
-const IFLA_GENEVE_UDP_ZERO_CSUM6_RX: u16 = 10;
-
-const IFLA_GENEVE_LABEL: u16 = 11;
-
-const IFLA_GENEVE_TTL_INHERIT: u16 = 12;
-
-const IFLA_GENEVE_DF: u16 = 13;
-
-const IFLA_GENEVE_INNER_PROTO_INHERIT: u16 = 14;
-
-const IFLA_GENEVE_LOCAL: u16 = 17;
-
-const IFLA_GENEVE_LOCAL6: u16 = 18;
 
 /// An attribute of a Geneve tunnel: of a link of the kind `geneve` (include/uapi/linux/if_link.h).
 #[derive(Debug, PartialEq, Eq, Clone, Drop)]
@@ -88,76 +55,58 @@ pub enum InfoGeneve {
     Other(DefaultNla),
 }
 
-impl RowFamily for InfoGeneve {
-    type Context = ();
+macro_rules! rows {
+    ($body:ident $given:tt) => {
+        $body! { InfoGeneve $given;
+            (IFLA_GENEVE_ID = 1, le32, Id),
+            (IFLA_GENEVE_REMOTE = 2, geneve_v4, Remote),
+            (IFLA_GENEVE_TTL = 3, u8, Ttl),
+            (IFLA_GENEVE_TOS = 4, u8, Tos),
+            (IFLA_GENEVE_PORT = 5, be16, Port),
+            (IFLA_GENEVE_COLLECT_METADATA = 6, mark, CollectMetadata),
+            (IFLA_GENEVE_REMOTE6 = 7, geneve_v6, Remote6),
+            (IFLA_GENEVE_UDP_CSUM = 8, truth, UdpCsum),
+            (IFLA_GENEVE_UDP_ZERO_CSUM6_TX = 9, truth, UdpZeroCsum6Tx),
+            (IFLA_GENEVE_UDP_ZERO_CSUM6_RX = 10, truth, UdpZeroCsum6Rx),
+            (IFLA_GENEVE_LABEL = 11, be32, Label),
+            (IFLA_GENEVE_TTL_INHERIT = 12, truth, TtlInherit),
+            (IFLA_GENEVE_DF = 13, u8, Df as GeneveDf),
+            (IFLA_GENEVE_INNER_PROTO_INHERIT = 14, mark, InnerProtoInherit),
+            (IFLA_GENEVE_LOCAL = 17, geneve_v4, Local),
+            (IFLA_GENEVE_LOCAL6 = 18, geneve_v6, Local6),
+        }
+    };
+}
 
+impl TableFamily for InfoGeneve {
     const FAMILY: Family = Family::Geneve;
 
     ghost FAMILY = { family.Geneve };
 
-    ghost rows = { λ _ n. table_row geneve_rows n };
+    ghost table = { geneve_rows };
 
     ghost other = { λ nla. Other nla };
 
     ghost canonical = { geneve_attribute };
 
-    ghost is_custom = { λ _. false };
-
-    ghost owes = { λ _ n. table_owes geneve_attribute geneve_rows geneve_keeps n };
+    ghost keeps = { geneve_keeps };
 
     ghost keeps_other = { λ _. refl };
 
-    #[tactic(auto, using(crate::specs::Geneve::geneve_lookup))]
-    fn shape(_ctx: (), kind: u16) -> Lookup {
-        table_lookup(Family::Geneve, kind)
+    ghost in_table = { geneve_lookup };
+
+    #[inline(always)]
+    fn put_found<P: Place<InfoGeneve>>(
+        place: &mut P,
+        alloc: Global,
+        found: Found<'_>,
+    ) -> Result<(), AllocError> {
+        rows!(put_by_rows(place, alloc, found))
     }
 
-    fn from_found(_alloc: Global, _ctx: (), found: Found<'_>) -> Result<InfoGeneve, AllocError> {
-        let (kind, datum) = match found {
-            Found::Typed(kind, datum) => (kind, datum),
-            Found::Kept(nla) => return Ok(InfoGeneve::Other(nla)),
-        };
-        Ok(match kind {
-            IFLA_GENEVE_ID => InfoGeneve::Id(datum.u32_or_zero()),
-            IFLA_GENEVE_REMOTE => InfoGeneve::Remote(datum.ipv4_or_unspecified()),
-            IFLA_GENEVE_TTL => InfoGeneve::Ttl(datum.u8_or_zero()),
-            IFLA_GENEVE_TOS => InfoGeneve::Tos(datum.u8_or_zero()),
-            IFLA_GENEVE_PORT => InfoGeneve::Port(datum.u16_or_zero()),
-            IFLA_GENEVE_COLLECT_METADATA => InfoGeneve::CollectMetadata,
-            IFLA_GENEVE_REMOTE6 => InfoGeneve::Remote6(datum.ipv6_or_unspecified()),
-            IFLA_GENEVE_UDP_CSUM => InfoGeneve::UdpCsum(datum.bool_or_false()),
-            IFLA_GENEVE_UDP_ZERO_CSUM6_TX => InfoGeneve::UdpZeroCsum6Tx(datum.bool_or_false()),
-            IFLA_GENEVE_UDP_ZERO_CSUM6_RX => InfoGeneve::UdpZeroCsum6Rx(datum.bool_or_false()),
-            IFLA_GENEVE_LABEL => InfoGeneve::Label(datum.u32_or_zero()),
-            IFLA_GENEVE_TTL_INHERIT => InfoGeneve::TtlInherit(datum.bool_or_false()),
-            IFLA_GENEVE_DF => InfoGeneve::Df(GeneveDf::from(datum.u8_or_zero())),
-            IFLA_GENEVE_INNER_PROTO_INHERIT => InfoGeneve::InnerProtoInherit,
-            IFLA_GENEVE_LOCAL => InfoGeneve::Local(datum.ipv4_or_unspecified()),
-            IFLA_GENEVE_LOCAL6 => InfoGeneve::Local6(datum.ipv6_or_unspecified()),
-            _ => unreachable!(),
-        })
-    }
-
+    #[inline(always)]
     fn to_part(&self) -> Part<'_> {
-        match self {
-            InfoGeneve::Id(id) => parts::le32(IFLA_GENEVE_ID, *id),
-            InfoGeneve::Remote(address) => parts::geneve_v4(IFLA_GENEVE_REMOTE, *address),
-            InfoGeneve::Ttl(ttl) => parts::u8(IFLA_GENEVE_TTL, *ttl),
-            InfoGeneve::Tos(tos) => parts::u8(IFLA_GENEVE_TOS, *tos),
-            InfoGeneve::Port(port) => parts::be16(IFLA_GENEVE_PORT, *port),
-            InfoGeneve::CollectMetadata => parts::mark(IFLA_GENEVE_COLLECT_METADATA),
-            InfoGeneve::Remote6(address) => parts::geneve_v6(IFLA_GENEVE_REMOTE6, *address),
-            InfoGeneve::UdpCsum(on) => parts::truth(IFLA_GENEVE_UDP_CSUM, *on),
-            InfoGeneve::UdpZeroCsum6Tx(on) => parts::truth(IFLA_GENEVE_UDP_ZERO_CSUM6_TX, *on),
-            InfoGeneve::UdpZeroCsum6Rx(on) => parts::truth(IFLA_GENEVE_UDP_ZERO_CSUM6_RX, *on),
-            InfoGeneve::Label(label) => parts::be32(IFLA_GENEVE_LABEL, *label),
-            InfoGeneve::TtlInherit(on) => parts::truth(IFLA_GENEVE_TTL_INHERIT, *on),
-            InfoGeneve::Df(df) => parts::u8(IFLA_GENEVE_DF, u8::from(*df)),
-            InfoGeneve::InnerProtoInherit => parts::mark(IFLA_GENEVE_INNER_PROTO_INHERIT),
-            InfoGeneve::Local(address) => parts::geneve_v4(IFLA_GENEVE_LOCAL, *address),
-            InfoGeneve::Local6(address) => parts::geneve_v6(IFLA_GENEVE_LOCAL6, *address),
-            InfoGeneve::Other(nla) => Part::Kept(nla),
-        }
+        rows!(part_by_rows self)
     }
 }
 
@@ -181,11 +130,7 @@ impl Nla for InfoGeneve {
     }
 }
 
-impl FlatFamily for InfoGeneve {
-    ghost flat = { λ _ n. table_flat geneve_attribute geneve_rows geneve_keeps n };
-
-    ghost never_custom = { λ _. refl };
-
+impl WrittenByTable for InfoGeneve {
     ghost written = { λ _. refl };
 }
 

@@ -1,62 +1,21 @@
 //! GRE tunnels over IPv4.
 
 ghost use Rattle.linkinfo_tunnels.specs.declared.gre.InfoGre.TheVariants.{Other};
-ghost use Rattle.linkinfo_tunnels.specs.Gre.{gre_attribute, gre_keeps, gre_rows};
+ghost use Rattle.linkinfo_tunnels.specs.Gre.{gre_attribute, gre_keeps, gre_lookup, gre_rows};
 ghost use Rattle.linkinfo_table.specs.FamilyRows.{row_of, table_row};
 ghost use Rattle.linkinfo_table.specs.Rows.{meaning_in, memory_in};
-ghost use Rattle.linkinfo_table.specs.FamilyRowLaws.{table_flat, table_owes};
 ghost use Rattle.nla_frame.specs.declared.error.Family.TheVariants as family;
-ghost use Rattle.std.specs.Prelude.{false, refl};
+ghost use Rattle.std.specs.Prelude.{refl};
 
 use bitflags::Flags;
 use linkinfo_numbers::{ErSpanDir, GreEncapFlags, GreEncapType, GreIOFlags};
 use linkinfo_table::{
-    FlatFamily, Found, Lookup, Part, RowFamily, parts, row_emit_value, row_fit_len, row_kind,
-    row_read, row_value_len, table_lookup,
+    Found, Part, Place, TableFamily, WrittenByTable, part_by_rows, put_by_rows, row_emit_value,
+    row_fit_len, row_kind, row_read, row_value_len,
 };
 use nla_frame::{DecodeError, DefaultNla, ExactEq, Family, Nla, NlaBuffer, Parseable};
 use std::alloc::{AllocError, Global};
 use std::net::Ipv4Addr;
-
-const IFLA_GRE_LINK: u16 = 1;
-
-const IFLA_GRE_IFLAGS: u16 = 2;
-
-const IFLA_GRE_OFLAGS: u16 = 3;
-
-const IFLA_GRE_IKEY: u16 = 4;
-
-const IFLA_GRE_OKEY: u16 = 5;
-
-const IFLA_GRE_LOCAL: u16 = 6;
-
-const IFLA_GRE_REMOTE: u16 = 7;
-
-const IFLA_GRE_TTL: u16 = 8;
-
-const IFLA_GRE_TOS: u16 = 9;
-
-const IFLA_GRE_PMTUDISC: u16 = 10;
-
-const IFLA_GRE_ENCAP_TYPE: u16 = 14;
-
-const IFLA_GRE_ENCAP_FLAGS: u16 = 15;
-
-const IFLA_GRE_ENCAP_SPORT: u16 = 16;
-
-const IFLA_GRE_ENCAP_DPORT: u16 = 17;
-
-const IFLA_GRE_COLLECT_METADATA: u16 = 18;
-
-const IFLA_GRE_FWMARK: u16 = 20;
-
-const IFLA_GRE_ERSPAN_INDEX: u16 = 21;
-
-const IFLA_GRE_ERSPAN_VER: u16 = 22;
-
-const IFLA_GRE_ERSPAN_DIR: u16 = 23;
-
-const IFLA_GRE_ERSPAN_HWID: u16 = 24;
 
 /// An attribute of a GRE tunnel over IPv4: of a link of the kind `gre`, `gretap` or `erspan` (include/uapi/linux/if_tunnel.h).
 #[derive(Debug, PartialEq, Eq, Clone, Drop)]
@@ -105,89 +64,62 @@ pub enum InfoGre {
     Other(DefaultNla),
 }
 
-impl RowFamily for InfoGre {
-    type Context = ();
+macro_rules! rows {
+    ($body:ident $given:tt) => {
+        $body! { InfoGre $given;
+            (IFLA_GRE_LINK = 1, le32, Link),
+            (IFLA_GRE_IFLAGS = 2, be16, IFlags as flags GreIOFlags),
+            (IFLA_GRE_OFLAGS = 3, be16, OFlags as flags GreIOFlags),
+            (IFLA_GRE_IKEY = 4, be32, IKey),
+            (IFLA_GRE_OKEY = 5, be32, OKey),
+            (IFLA_GRE_LOCAL = 6, v4, Local),
+            (IFLA_GRE_REMOTE = 7, v4, Remote),
+            (IFLA_GRE_TTL = 8, u8, Ttl),
+            (IFLA_GRE_TOS = 9, u8, Tos),
+            (IFLA_GRE_PMTUDISC = 10, truth_one, PathMTUDiscovery),
+            (IFLA_GRE_ENCAP_TYPE = 14, le16, EncapType as &GreEncapType),
+            (IFLA_GRE_ENCAP_FLAGS = 15, le16, EncapFlags as flags GreEncapFlags),
+            (IFLA_GRE_ENCAP_SPORT = 16, be16, SourcePort),
+            (IFLA_GRE_ENCAP_DPORT = 17, be16, DestinationPort),
+            (IFLA_GRE_COLLECT_METADATA = 18, mark, CollectMetadata),
+            (IFLA_GRE_FWMARK = 20, le32, FwMask),
+            (IFLA_GRE_ERSPAN_INDEX = 21, le32, ErSpanIndex),
+            (IFLA_GRE_ERSPAN_VER = 22, u8, ErSpanVer),
+            (IFLA_GRE_ERSPAN_DIR = 23, u8, ErSpanDir as &ErSpanDir),
+            (IFLA_GRE_ERSPAN_HWID = 24, le16, ErSpanHwId),
+        }
+    };
+}
 
+impl TableFamily for InfoGre {
     const FAMILY: Family = Family::Gre;
 
     ghost FAMILY = { family.Gre };
 
-    ghost rows = { λ _ n. table_row gre_rows n };
+    ghost table = { gre_rows };
 
     ghost other = { λ nla. Other nla };
 
     ghost canonical = { gre_attribute };
 
-    ghost is_custom = { λ _. false };
-
-    ghost owes = { λ _ n. table_owes gre_attribute gre_rows gre_keeps n };
+    ghost keeps = { gre_keeps };
 
     ghost keeps_other = { λ _. refl };
 
-    #[tactic(auto, using(crate::specs::Gre::gre_lookup))]
-    fn shape(_ctx: (), kind: u16) -> Lookup {
-        table_lookup(Family::Gre, kind)
+    ghost in_table = { gre_lookup };
+
+    #[inline(always)]
+    fn put_found<P: Place<InfoGre>>(
+        place: &mut P,
+        alloc: Global,
+        found: Found<'_>,
+    ) -> Result<(), AllocError> {
+        rows!(put_by_rows(place, alloc, found))
     }
 
-    fn from_found(_alloc: Global, _ctx: (), found: Found<'_>) -> Result<InfoGre, AllocError> {
-        let (kind, datum) = match found {
-            Found::Typed(kind, datum) => (kind, datum),
-            Found::Kept(nla) => return Ok(InfoGre::Other(nla)),
-        };
-        Ok(match kind {
-            IFLA_GRE_LINK => InfoGre::Link(datum.u32_or_zero()),
-            IFLA_GRE_IFLAGS => InfoGre::IFlags(GreIOFlags::from_bits_retain(datum.u16_or_zero())),
-            IFLA_GRE_OFLAGS => InfoGre::OFlags(GreIOFlags::from_bits_retain(datum.u16_or_zero())),
-            IFLA_GRE_IKEY => InfoGre::IKey(datum.u32_or_zero()),
-            IFLA_GRE_OKEY => InfoGre::OKey(datum.u32_or_zero()),
-            IFLA_GRE_LOCAL => InfoGre::Local(datum.ipv4_or_unspecified()),
-            IFLA_GRE_REMOTE => InfoGre::Remote(datum.ipv4_or_unspecified()),
-            IFLA_GRE_TTL => InfoGre::Ttl(datum.u8_or_zero()),
-            IFLA_GRE_TOS => InfoGre::Tos(datum.u8_or_zero()),
-            IFLA_GRE_PMTUDISC => InfoGre::PathMTUDiscovery(datum.bool_or_false()),
-            IFLA_GRE_ENCAP_TYPE => InfoGre::EncapType(GreEncapType::from(datum.u16_or_zero())),
-            IFLA_GRE_ENCAP_FLAGS => InfoGre::EncapFlags(GreEncapFlags::from_bits_retain(
-                datum.u16_or_zero(),
-            )),
-            IFLA_GRE_ENCAP_SPORT => InfoGre::SourcePort(datum.u16_or_zero()),
-            IFLA_GRE_ENCAP_DPORT => InfoGre::DestinationPort(datum.u16_or_zero()),
-            IFLA_GRE_COLLECT_METADATA => InfoGre::CollectMetadata,
-            IFLA_GRE_FWMARK => InfoGre::FwMask(datum.u32_or_zero()),
-            IFLA_GRE_ERSPAN_INDEX => InfoGre::ErSpanIndex(datum.u32_or_zero()),
-            IFLA_GRE_ERSPAN_VER => InfoGre::ErSpanVer(datum.u8_or_zero()),
-            IFLA_GRE_ERSPAN_DIR => InfoGre::ErSpanDir(ErSpanDir::from(datum.u8_or_zero())),
-            IFLA_GRE_ERSPAN_HWID => InfoGre::ErSpanHwId(datum.u16_or_zero()),
-            _ => unreachable!(),
-        })
-    }
-
+    #[inline(always)]
     fn to_part(&self) -> Part<'_> {
-        match self {
-            InfoGre::Link(index) => parts::le32(IFLA_GRE_LINK, *index),
-            InfoGre::IFlags(flags) => parts::be16(IFLA_GRE_IFLAGS, flags.bits()),
-            InfoGre::OFlags(flags) => parts::be16(IFLA_GRE_OFLAGS, flags.bits()),
-            InfoGre::IKey(key) => parts::be32(IFLA_GRE_IKEY, *key),
-            InfoGre::OKey(key) => parts::be32(IFLA_GRE_OKEY, *key),
-            InfoGre::Local(address) => parts::v4(IFLA_GRE_LOCAL, *address),
-            InfoGre::Remote(address) => parts::v4(IFLA_GRE_REMOTE, *address),
-            InfoGre::Ttl(ttl) => parts::u8(IFLA_GRE_TTL, *ttl),
-            InfoGre::Tos(tos) => parts::u8(IFLA_GRE_TOS, *tos),
-            InfoGre::PathMTUDiscovery(on) => parts::truth_one(IFLA_GRE_PMTUDISC, *on),
-            InfoGre::EncapType(encapsulation) => parts::le16(
-                IFLA_GRE_ENCAP_TYPE,
-                u16::from(encapsulation),
-            ),
-            InfoGre::EncapFlags(flags) => parts::le16(IFLA_GRE_ENCAP_FLAGS, flags.bits()),
-            InfoGre::SourcePort(port) => parts::be16(IFLA_GRE_ENCAP_SPORT, *port),
-            InfoGre::DestinationPort(port) => parts::be16(IFLA_GRE_ENCAP_DPORT, *port),
-            InfoGre::CollectMetadata => parts::mark(IFLA_GRE_COLLECT_METADATA),
-            InfoGre::FwMask(mark) => parts::le32(IFLA_GRE_FWMARK, *mark),
-            InfoGre::ErSpanIndex(index) => parts::le32(IFLA_GRE_ERSPAN_INDEX, *index),
-            InfoGre::ErSpanVer(version) => parts::u8(IFLA_GRE_ERSPAN_VER, *version),
-            InfoGre::ErSpanDir(direction) => parts::u8(IFLA_GRE_ERSPAN_DIR, u8::from(direction)),
-            InfoGre::ErSpanHwId(id) => parts::le16(IFLA_GRE_ERSPAN_HWID, *id),
-            InfoGre::Other(nla) => Part::Kept(nla),
-        }
+        rows!(part_by_rows self)
     }
 }
 
@@ -211,11 +143,7 @@ impl Nla for InfoGre {
     }
 }
 
-impl FlatFamily for InfoGre {
-    ghost flat = { λ _ n. table_flat gre_attribute gre_rows gre_keeps n };
-
-    ghost never_custom = { λ _. refl };
-
+impl WrittenByTable for InfoGre {
     ghost written = { λ _. refl };
 }
 

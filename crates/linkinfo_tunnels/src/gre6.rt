@@ -1,64 +1,21 @@
 //! GRE tunnels over IPv6.
 
 ghost use Rattle.linkinfo_tunnels.specs.declared.gre6.InfoGre6.TheVariants.{Other};
-ghost use Rattle.linkinfo_tunnels.specs.Gre6.{gre6_attribute, gre6_keeps, gre6_rows};
+ghost use Rattle.linkinfo_tunnels.specs.Gre6.{gre6_attribute, gre6_keeps, gre6_lookup, gre6_rows};
 ghost use Rattle.linkinfo_table.specs.FamilyRows.{row_of, table_row};
 ghost use Rattle.linkinfo_table.specs.Rows.{meaning_in, memory_in};
-ghost use Rattle.linkinfo_table.specs.FamilyRowLaws.{table_flat, table_owes};
 ghost use Rattle.nla_frame.specs.declared.error.Family.TheVariants as family;
-ghost use Rattle.std.specs.Prelude.{false, refl};
+ghost use Rattle.std.specs.Prelude.{refl};
 
 use bitflags::Flags;
 use linkinfo_numbers::{ErSpanDir, GreEncapFlags, GreEncapType, GreIOFlags};
 use linkinfo_table::{
-    FlatFamily, Found, Lookup, Part, RowFamily, parts, row_emit_value, row_fit_len, row_kind,
-    row_read, row_value_len, table_lookup,
+    Found, Part, Place, TableFamily, WrittenByTable, part_by_rows, put_by_rows, row_emit_value,
+    row_fit_len, row_kind, row_read, row_value_len,
 };
 use nla_frame::{DecodeError, DefaultNla, ExactEq, Family, Nla, NlaBuffer, Parseable};
 use std::alloc::{AllocError, Global};
 use std::net::Ipv6Addr;
-
-const IFLA_GRE_LINK: u16 = 1;
-
-const IFLA_GRE_IFLAGS: u16 = 2;
-
-const IFLA_GRE_OFLAGS: u16 = 3;
-
-const IFLA_GRE_IKEY: u16 = 4;
-
-const IFLA_GRE_OKEY: u16 = 5;
-
-const IFLA_GRE_LOCAL: u16 = 6;
-
-const IFLA_GRE_REMOTE: u16 = 7;
-
-const IFLA_GRE_TTL: u16 = 8;
-
-const IFLA_GRE_TOS: u16 = 9;
-
-const IFLA_GRE_ENCAP_LIMIT: u16 = 11;
-
-const IFLA_GRE_FLOWINFO: u16 = 12;
-
-const IFLA_GRE_ENCAP_TYPE: u16 = 14;
-
-const IFLA_GRE_ENCAP_FLAGS: u16 = 15;
-
-const IFLA_GRE_ENCAP_SPORT: u16 = 16;
-
-const IFLA_GRE_ENCAP_DPORT: u16 = 17;
-
-const IFLA_GRE_COLLECT_METADATA: u16 = 18;
-
-const IFLA_GRE_FWMARK: u16 = 20;
-
-const IFLA_GRE_ERSPAN_INDEX: u16 = 21;
-
-const IFLA_GRE_ERSPAN_VER: u16 = 22;
-
-const IFLA_GRE_ERSPAN_DIR: u16 = 23;
-
-const IFLA_GRE_ERSPAN_HWID: u16 = 24;
 
 /// An attribute of a GRE tunnel over IPv6: of a link of the kind `ip6gre`, `ip6gretap` or `ip6erspan` (include/uapi/linux/if_tunnel.h).
 #[derive(Debug, PartialEq, Eq, Clone, Drop)]
@@ -109,91 +66,63 @@ pub enum InfoGre6 {
     Other(DefaultNla),
 }
 
-impl RowFamily for InfoGre6 {
-    type Context = ();
+macro_rules! rows {
+    ($body:ident $given:tt) => {
+        $body! { InfoGre6 $given;
+            (IFLA_GRE_LINK = 1, le32, Link),
+            (IFLA_GRE_IFLAGS = 2, be16, IFlags as flags GreIOFlags),
+            (IFLA_GRE_OFLAGS = 3, be16, OFlags as flags GreIOFlags),
+            (IFLA_GRE_IKEY = 4, be32, IKey),
+            (IFLA_GRE_OKEY = 5, be32, OKey),
+            (IFLA_GRE_LOCAL = 6, v6, Local),
+            (IFLA_GRE_REMOTE = 7, v6, Remote),
+            (IFLA_GRE_TTL = 8, u8, Ttl),
+            (IFLA_GRE_TOS = 9, u8, Tos),
+            (IFLA_GRE_ENCAP_LIMIT = 11, u8, EncapLimit),
+            (IFLA_GRE_FLOWINFO = 12, be32, FlowLabel),
+            (IFLA_GRE_ENCAP_TYPE = 14, le16, EncapType as &GreEncapType),
+            (IFLA_GRE_ENCAP_FLAGS = 15, le16, EncapFlags as flags GreEncapFlags),
+            (IFLA_GRE_ENCAP_SPORT = 16, be16, SourcePort),
+            (IFLA_GRE_ENCAP_DPORT = 17, be16, DestinationPort),
+            (IFLA_GRE_COLLECT_METADATA = 18, mark, CollectMetadata),
+            (IFLA_GRE_FWMARK = 20, le32, FwMask),
+            (IFLA_GRE_ERSPAN_INDEX = 21, le32, ErSpanIndex),
+            (IFLA_GRE_ERSPAN_VER = 22, u8, ErSpanVer),
+            (IFLA_GRE_ERSPAN_DIR = 23, u8, ErSpanDir as &ErSpanDir),
+            (IFLA_GRE_ERSPAN_HWID = 24, le16, ErSpanHwId),
+        }
+    };
+}
 
+impl TableFamily for InfoGre6 {
     const FAMILY: Family = Family::Gre6;
 
     ghost FAMILY = { family.Gre6 };
 
-    ghost rows = { λ _ n. table_row gre6_rows n };
+    ghost table = { gre6_rows };
 
     ghost other = { λ nla. Other nla };
 
     ghost canonical = { gre6_attribute };
 
-    ghost is_custom = { λ _. false };
-
-    ghost owes = { λ _ n. table_owes gre6_attribute gre6_rows gre6_keeps n };
+    ghost keeps = { gre6_keeps };
 
     ghost keeps_other = { λ _. refl };
 
-    #[tactic(auto, using(crate::specs::Gre6::gre6_lookup))]
-    fn shape(_ctx: (), kind: u16) -> Lookup {
-        table_lookup(Family::Gre6, kind)
+    ghost in_table = { gre6_lookup };
+
+    #[inline(always)]
+    fn put_found<P: Place<InfoGre6>>(
+        place: &mut P,
+        alloc: Global,
+        found: Found<'_>,
+    ) -> Result<(), AllocError> {
+        rows!(put_by_rows(place, alloc, found))
     }
 
-    fn from_found(_alloc: Global, _ctx: (), found: Found<'_>) -> Result<InfoGre6, AllocError> {
-        let (kind, datum) = match found {
-            Found::Typed(kind, datum) => (kind, datum),
-            Found::Kept(nla) => return Ok(InfoGre6::Other(nla)),
-        };
-        Ok(match kind {
-            IFLA_GRE_LINK => InfoGre6::Link(datum.u32_or_zero()),
-            IFLA_GRE_IFLAGS => InfoGre6::IFlags(GreIOFlags::from_bits_retain(datum.u16_or_zero())),
-            IFLA_GRE_OFLAGS => InfoGre6::OFlags(GreIOFlags::from_bits_retain(datum.u16_or_zero())),
-            IFLA_GRE_IKEY => InfoGre6::IKey(datum.u32_or_zero()),
-            IFLA_GRE_OKEY => InfoGre6::OKey(datum.u32_or_zero()),
-            IFLA_GRE_LOCAL => InfoGre6::Local(datum.ipv6_or_unspecified()),
-            IFLA_GRE_REMOTE => InfoGre6::Remote(datum.ipv6_or_unspecified()),
-            IFLA_GRE_TTL => InfoGre6::Ttl(datum.u8_or_zero()),
-            IFLA_GRE_TOS => InfoGre6::Tos(datum.u8_or_zero()),
-            IFLA_GRE_ENCAP_LIMIT => InfoGre6::EncapLimit(datum.u8_or_zero()),
-            IFLA_GRE_FLOWINFO => InfoGre6::FlowLabel(datum.u32_or_zero()),
-            IFLA_GRE_ENCAP_TYPE => InfoGre6::EncapType(GreEncapType::from(datum.u16_or_zero())),
-            IFLA_GRE_ENCAP_FLAGS => InfoGre6::EncapFlags(GreEncapFlags::from_bits_retain(
-                datum.u16_or_zero(),
-            )),
-            IFLA_GRE_ENCAP_SPORT => InfoGre6::SourcePort(datum.u16_or_zero()),
-            IFLA_GRE_ENCAP_DPORT => InfoGre6::DestinationPort(datum.u16_or_zero()),
-            IFLA_GRE_COLLECT_METADATA => InfoGre6::CollectMetadata,
-            IFLA_GRE_FWMARK => InfoGre6::FwMask(datum.u32_or_zero()),
-            IFLA_GRE_ERSPAN_INDEX => InfoGre6::ErSpanIndex(datum.u32_or_zero()),
-            IFLA_GRE_ERSPAN_VER => InfoGre6::ErSpanVer(datum.u8_or_zero()),
-            IFLA_GRE_ERSPAN_DIR => InfoGre6::ErSpanDir(ErSpanDir::from(datum.u8_or_zero())),
-            IFLA_GRE_ERSPAN_HWID => InfoGre6::ErSpanHwId(datum.u16_or_zero()),
-            _ => unreachable!(),
-        })
-    }
-
+    #[inline(always)]
     fn to_part(&self) -> Part<'_> {
-        match self {
-            InfoGre6::Link(index) => parts::le32(IFLA_GRE_LINK, *index),
-            InfoGre6::IFlags(flags) => parts::be16(IFLA_GRE_IFLAGS, flags.bits()),
-            InfoGre6::OFlags(flags) => parts::be16(IFLA_GRE_OFLAGS, flags.bits()),
-            InfoGre6::IKey(key) => parts::be32(IFLA_GRE_IKEY, *key),
-            InfoGre6::OKey(key) => parts::be32(IFLA_GRE_OKEY, *key),
-            InfoGre6::Local(address) => parts::v6(IFLA_GRE_LOCAL, *address),
-            InfoGre6::Remote(address) => parts::v6(IFLA_GRE_REMOTE, *address),
-            InfoGre6::Ttl(ttl) => parts::u8(IFLA_GRE_TTL, *ttl),
-            InfoGre6::Tos(tos) => parts::u8(IFLA_GRE_TOS, *tos),
-            InfoGre6::EncapLimit(limit) => parts::u8(IFLA_GRE_ENCAP_LIMIT, *limit),
-            InfoGre6::FlowLabel(label) => parts::be32(IFLA_GRE_FLOWINFO, *label),
-            InfoGre6::EncapType(encapsulation) => parts::le16(
-                IFLA_GRE_ENCAP_TYPE,
-                u16::from(encapsulation),
-            ),
-            InfoGre6::EncapFlags(flags) => parts::le16(IFLA_GRE_ENCAP_FLAGS, flags.bits()),
-            InfoGre6::SourcePort(port) => parts::be16(IFLA_GRE_ENCAP_SPORT, *port),
-            InfoGre6::DestinationPort(port) => parts::be16(IFLA_GRE_ENCAP_DPORT, *port),
-            InfoGre6::CollectMetadata => parts::mark(IFLA_GRE_COLLECT_METADATA),
-            InfoGre6::FwMask(mark) => parts::le32(IFLA_GRE_FWMARK, *mark),
-            InfoGre6::ErSpanIndex(index) => parts::le32(IFLA_GRE_ERSPAN_INDEX, *index),
-            InfoGre6::ErSpanVer(version) => parts::u8(IFLA_GRE_ERSPAN_VER, *version),
-            InfoGre6::ErSpanDir(direction) => parts::u8(IFLA_GRE_ERSPAN_DIR, u8::from(direction)),
-            InfoGre6::ErSpanHwId(id) => parts::le16(IFLA_GRE_ERSPAN_HWID, *id),
-            InfoGre6::Other(nla) => Part::Kept(nla),
-        }
+        rows!(part_by_rows self)
     }
 }
 
@@ -217,11 +146,7 @@ impl Nla for InfoGre6 {
     }
 }
 
-impl FlatFamily for InfoGre6 {
-    ghost flat = { λ _ n. table_flat gre6_attribute gre6_rows gre6_keeps n };
-
-    ghost never_custom = { λ _. refl };
-
+impl WrittenByTable for InfoGre6 {
     ghost written = { λ _. refl };
 }
 

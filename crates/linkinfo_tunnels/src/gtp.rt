@@ -1,37 +1,20 @@
 //! GTP tunnels.
 
 ghost use Rattle.linkinfo_tunnels.specs.declared.gtp.InfoGtp.TheVariants.{Other};
-ghost use Rattle.linkinfo_tunnels.specs.Gtp.{gtp_attribute, gtp_keeps, gtp_rows};
+ghost use Rattle.linkinfo_tunnels.specs.Gtp.{gtp_attribute, gtp_keeps, gtp_lookup, gtp_rows};
 ghost use Rattle.linkinfo_table.specs.FamilyRows.{row_of, table_row};
 ghost use Rattle.linkinfo_table.specs.Rows.{meaning_in, memory_in};
-ghost use Rattle.linkinfo_table.specs.FamilyRowLaws.{table_flat, table_owes};
 ghost use Rattle.nla_frame.specs.declared.error.Family.TheVariants as family;
-ghost use Rattle.std.specs.Prelude.{false, refl};
+ghost use Rattle.std.specs.Prelude.{refl};
 
 use linkinfo_numbers::GtpRole;
 use linkinfo_table::{
-    FlatFamily, Found, Lookup, Part, RowFamily, parts, row_emit_value, row_fit_len, row_kind,
-    row_read, row_value_len, table_lookup,
+    Found, Part, Place, TableFamily, WrittenByTable, part_by_rows, put_by_rows, row_emit_value,
+    row_fit_len, row_kind, row_read, row_value_len,
 };
 use nla_frame::{DecodeError, DefaultNla, ExactEq, Family, Nla, NlaBuffer, Parseable};
 use std::alloc::{AllocError, Global};
 use std::net::{Ipv4Addr, Ipv6Addr};
-
-const IFLA_GTP_FD0: u16 = 1;
-
-const IFLA_GTP_FD1: u16 = 2;
-
-const IFLA_GTP_PDP_HASHSIZE: u16 = 3;
-
-const IFLA_GTP_ROLE: u16 = 4;
-
-const IFLA_GTP_CREATE_SOCKETS: u16 = 5;
-
-const IFLA_GTP_RESTART_COUNT: u16 = 6;
-
-const IFLA_GTP_LOCAL: u16 = 7;
-
-const IFLA_GTP_LOCAL6: u16 = 8;
 
 /// An attribute of a GTP tunnel: of a link of the kind `gtp` (include/uapi/linux/if_link.h).
 #[derive(Debug, PartialEq, Eq, Clone, Drop)]
@@ -56,60 +39,50 @@ pub enum InfoGtp {
     Other(DefaultNla),
 }
 
-impl RowFamily for InfoGtp {
-    type Context = ();
+macro_rules! rows {
+    ($body:ident $given:tt) => {
+        $body! { InfoGtp $given;
+            (IFLA_GTP_FD0 = 1, le32, Fd0),
+            (IFLA_GTP_FD1 = 2, le32, Fd1),
+            (IFLA_GTP_PDP_HASHSIZE = 3, le32, PdpHashsize),
+            (IFLA_GTP_ROLE = 4, le32, Role as GtpRole),
+            (IFLA_GTP_CREATE_SOCKETS = 5, truth, CreateSockets),
+            (IFLA_GTP_RESTART_COUNT = 6, u8, RestartCount),
+            (IFLA_GTP_LOCAL = 7, v4, Local),
+            (IFLA_GTP_LOCAL6 = 8, v6, Local6),
+        }
+    };
+}
 
+impl TableFamily for InfoGtp {
     const FAMILY: Family = Family::Gtp;
 
     ghost FAMILY = { family.Gtp };
 
-    ghost rows = { λ _ n. table_row gtp_rows n };
+    ghost table = { gtp_rows };
 
     ghost other = { λ nla. Other nla };
 
     ghost canonical = { gtp_attribute };
 
-    ghost is_custom = { λ _. false };
-
-    ghost owes = { λ _ n. table_owes gtp_attribute gtp_rows gtp_keeps n };
+    ghost keeps = { gtp_keeps };
 
     ghost keeps_other = { λ _. refl };
 
-    #[tactic(auto, using(crate::specs::Gtp::gtp_lookup))]
-    fn shape(_ctx: (), kind: u16) -> Lookup {
-        table_lookup(Family::Gtp, kind)
+    ghost in_table = { gtp_lookup };
+
+    #[inline(always)]
+    fn put_found<P: Place<InfoGtp>>(
+        place: &mut P,
+        alloc: Global,
+        found: Found<'_>,
+    ) -> Result<(), AllocError> {
+        rows!(put_by_rows(place, alloc, found))
     }
 
-    fn from_found(_alloc: Global, _ctx: (), found: Found<'_>) -> Result<InfoGtp, AllocError> {
-        let (kind, datum) = match found {
-            Found::Typed(kind, datum) => (kind, datum),
-            Found::Kept(nla) => return Ok(InfoGtp::Other(nla)),
-        };
-        Ok(match kind {
-            IFLA_GTP_FD0 => InfoGtp::Fd0(datum.u32_or_zero()),
-            IFLA_GTP_FD1 => InfoGtp::Fd1(datum.u32_or_zero()),
-            IFLA_GTP_PDP_HASHSIZE => InfoGtp::PdpHashsize(datum.u32_or_zero()),
-            IFLA_GTP_ROLE => InfoGtp::Role(GtpRole::from(datum.u32_or_zero())),
-            IFLA_GTP_CREATE_SOCKETS => InfoGtp::CreateSockets(datum.bool_or_false()),
-            IFLA_GTP_RESTART_COUNT => InfoGtp::RestartCount(datum.u8_or_zero()),
-            IFLA_GTP_LOCAL => InfoGtp::Local(datum.ipv4_or_unspecified()),
-            IFLA_GTP_LOCAL6 => InfoGtp::Local6(datum.ipv6_or_unspecified()),
-            _ => unreachable!(),
-        })
-    }
-
+    #[inline(always)]
     fn to_part(&self) -> Part<'_> {
-        match self {
-            InfoGtp::Fd0(socket) => parts::le32(IFLA_GTP_FD0, *socket),
-            InfoGtp::Fd1(socket) => parts::le32(IFLA_GTP_FD1, *socket),
-            InfoGtp::PdpHashsize(size) => parts::le32(IFLA_GTP_PDP_HASHSIZE, *size),
-            InfoGtp::Role(role) => parts::le32(IFLA_GTP_ROLE, u32::from(*role)),
-            InfoGtp::CreateSockets(on) => parts::truth(IFLA_GTP_CREATE_SOCKETS, *on),
-            InfoGtp::RestartCount(count) => parts::u8(IFLA_GTP_RESTART_COUNT, *count),
-            InfoGtp::Local(address) => parts::v4(IFLA_GTP_LOCAL, *address),
-            InfoGtp::Local6(address) => parts::v6(IFLA_GTP_LOCAL6, *address),
-            InfoGtp::Other(nla) => Part::Kept(nla),
-        }
+        rows!(part_by_rows self)
     }
 }
 
@@ -133,11 +106,7 @@ impl Nla for InfoGtp {
     }
 }
 
-impl FlatFamily for InfoGtp {
-    ghost flat = { λ _ n. table_flat gtp_attribute gtp_rows gtp_keeps n };
-
-    ghost never_custom = { λ _. refl };
-
+impl WrittenByTable for InfoGtp {
     ghost written = { λ _. refl };
 }
 

@@ -14,8 +14,8 @@ use linkinfo_numbers::{
     InfoKind, Ip6TunnelFlags, IpProtocol, KindTag, TunnelEncapFlags, TunnelEncapType,
 };
 use linkinfo_table::{
-    Datum, FlatFamily, Found, Lookup, Part, RowFamily, Shape, parts, row_emit_value, row_fit_len,
-    row_kind, row_read, row_value_len, table_lookup,
+    Datum, FlatFamily, Found, Lookup, Part, Place, RowFamily, Shape, part_by_rows, parts,
+    put_by_rows, row_emit_value, row_fit_len, row_kind, row_read, row_value_len, table_lookup,
 };
 use nla_frame::{
     Cause, DecodeError, DefaultNla, ExactEq, Family, Nla, NlaBuffer, ParseableParametrized,
@@ -23,45 +23,7 @@ use nla_frame::{
 use std::alloc::{AllocError, Global};
 use std::net::{IpAddr, Ipv4Addr, Ipv6Addr};
 
-const IFLA_IPTUN_LINK: u16 = 1;
-
-const IFLA_IPTUN_LOCAL: u16 = 2;
-
-const IFLA_IPTUN_REMOTE: u16 = 3;
-
-const IFLA_IPTUN_TTL: u16 = 4;
-
-const IFLA_IPTUN_TOS: u16 = 5;
-
-const IFLA_IPTUN_ENCAP_LIMIT: u16 = 6;
-
-const IFLA_IPTUN_FLOWINFO: u16 = 7;
-
 const IFLA_IPTUN_FLAGS: u16 = 8;
-
-const IFLA_IPTUN_PROTO: u16 = 9;
-
-const IFLA_IPTUN_PMTUDISC: u16 = 10;
-
-const IFLA_IPTUN_6RD_PREFIX: u16 = 11;
-
-const IFLA_IPTUN_6RD_RELAY_PREFIX: u16 = 12;
-
-const IFLA_IPTUN_6RD_PREFIXLEN: u16 = 13;
-
-const IFLA_IPTUN_6RD_RELAY_PREFIXLEN: u16 = 14;
-
-const IFLA_IPTUN_ENCAP_TYPE: u16 = 15;
-
-const IFLA_IPTUN_ENCAP_FLAGS: u16 = 16;
-
-const IFLA_IPTUN_ENCAP_SPORT: u16 = 17;
-
-const IFLA_IPTUN_ENCAP_DPORT: u16 = 18;
-
-const IFLA_IPTUN_COLLECT_METADATA: u16 = 19;
-
-const IFLA_IPTUN_FWMARK: u16 = 20;
 
 /// An attribute of an IP tunnel: of a link of the kind `ipip`, `sit` or `ip6tnl` (include/uapi/linux/if_tunnel.h).
 #[derive(Debug, PartialEq, Eq, Clone, Drop)]
@@ -114,6 +76,33 @@ pub enum InfoIpTunnel {
     Other(DefaultNla),
 }
 
+macro_rules! rows {
+    ($body:ident $given:tt) => {
+        $body! { InfoIpTunnel $given;
+            (IFLA_IPTUN_LINK = 1, le32, Link),
+            (IFLA_IPTUN_LOCAL = 2, ip, Local),
+            (IFLA_IPTUN_REMOTE = 3, ip, Remote),
+            (IFLA_IPTUN_TTL = 4, u8, Ttl),
+            (IFLA_IPTUN_TOS = 5, u8, Tos),
+            (IFLA_IPTUN_ENCAP_LIMIT = 6, u8, EncapLimit),
+            (IFLA_IPTUN_FLOWINFO = 7, be32, FlowInfo),
+            (IFLA_IPTUN_PROTO = 9, u8, Protocol as IpProtocol),
+            (IFLA_IPTUN_PMTUDISC = 10, truth, PMtuDisc),
+            (IFLA_IPTUN_6RD_PREFIX = 11, v6, Ipv6RdPrefix),
+            (IFLA_IPTUN_6RD_RELAY_PREFIX = 12, v4, Ipv6RdRelayPrefix),
+            (IFLA_IPTUN_6RD_PREFIXLEN = 13, le16, Ipv6RdPrefixLen),
+            (IFLA_IPTUN_6RD_RELAY_PREFIXLEN = 14, le16, Ipv6RdRelayPrefixLen),
+            (IFLA_IPTUN_ENCAP_TYPE = 15, le16, EncapType as TunnelEncapType),
+            (IFLA_IPTUN_ENCAP_FLAGS = 16, le16, EncapFlags as flags TunnelEncapFlags),
+            (IFLA_IPTUN_ENCAP_SPORT = 17, be16, EncapSPort),
+            (IFLA_IPTUN_ENCAP_DPORT = 18, be16, EncapDPort),
+            (IFLA_IPTUN_COLLECT_METADATA = 19, mark, CollectMetadata),
+            (IFLA_IPTUN_FWMARK = 20, le32, FwMark),
+            ; else Ipv4Flags, Ipv6SitFlags, Ipv6Flags
+        }
+    };
+}
+
 impl RowFamily for InfoIpTunnel {
     type Context = KindTag;
 
@@ -141,82 +130,26 @@ impl RowFamily for InfoIpTunnel {
         }
     }
 
-    fn from_found(
-        _alloc: Global,
+    #[inline(always)]
+    fn put_found<P: Place<InfoIpTunnel>>(
+        place: &mut P,
+        alloc: Global,
         ctx: KindTag,
         found: Found<'_>,
-    ) -> Result<InfoIpTunnel, AllocError> {
-        let (kind, datum) = match found {
-            Found::Typed(kind, datum) => (kind, datum),
-            Found::Kept(nla) => return Ok(InfoIpTunnel::Other(nla)),
-        };
-        Ok(match kind {
-            IFLA_IPTUN_LINK => InfoIpTunnel::Link(datum.u32_or_zero()),
-            IFLA_IPTUN_LOCAL => InfoIpTunnel::Local(datum.ip_or_unspecified()),
-            IFLA_IPTUN_REMOTE => InfoIpTunnel::Remote(datum.ip_or_unspecified()),
-            IFLA_IPTUN_TTL => InfoIpTunnel::Ttl(datum.u8_or_zero()),
-            IFLA_IPTUN_TOS => InfoIpTunnel::Tos(datum.u8_or_zero()),
-            IFLA_IPTUN_ENCAP_LIMIT => InfoIpTunnel::EncapLimit(datum.u8_or_zero()),
-            IFLA_IPTUN_FLOWINFO => InfoIpTunnel::FlowInfo(datum.u32_or_zero()),
-            IFLA_IPTUN_FLAGS => flags(ctx, datum),
-            IFLA_IPTUN_PROTO => InfoIpTunnel::Protocol(IpProtocol::from(datum.u8_or_zero())),
-            IFLA_IPTUN_PMTUDISC => InfoIpTunnel::PMtuDisc(datum.bool_or_false()),
-            IFLA_IPTUN_6RD_PREFIX => InfoIpTunnel::Ipv6RdPrefix(datum.ipv6_or_unspecified()),
-            IFLA_IPTUN_6RD_RELAY_PREFIX => InfoIpTunnel::Ipv6RdRelayPrefix(
-                datum.ipv4_or_unspecified(),
-            ),
-            IFLA_IPTUN_6RD_PREFIXLEN => InfoIpTunnel::Ipv6RdPrefixLen(datum.u16_or_zero()),
-            IFLA_IPTUN_6RD_RELAY_PREFIXLEN => InfoIpTunnel::Ipv6RdRelayPrefixLen(
-                datum.u16_or_zero(),
-            ),
-            IFLA_IPTUN_ENCAP_TYPE => InfoIpTunnel::EncapType(TunnelEncapType::from(
-                datum.u16_or_zero(),
-            )),
-            IFLA_IPTUN_ENCAP_FLAGS => InfoIpTunnel::EncapFlags(TunnelEncapFlags::from_bits_retain(
-                datum.u16_or_zero(),
-            )),
-            IFLA_IPTUN_ENCAP_SPORT => InfoIpTunnel::EncapSPort(datum.u16_or_zero()),
-            IFLA_IPTUN_ENCAP_DPORT => InfoIpTunnel::EncapDPort(datum.u16_or_zero()),
-            IFLA_IPTUN_COLLECT_METADATA => InfoIpTunnel::CollectMetadata,
-            IFLA_IPTUN_FWMARK => InfoIpTunnel::FwMark(datum.u32_or_zero()),
-            _ => unreachable!(),
-        })
+    ) -> Result<(), AllocError> {
+        match found {
+            Found::Typed(IFLA_IPTUN_FLAGS, datum) => place.put(flags(ctx, datum)),
+            found => rows!(put_by_rows(place, alloc, found)),
+        }
     }
 
+    #[inline(always)]
     fn to_part(&self) -> Part<'_> {
         match self {
-            InfoIpTunnel::Link(index) => parts::le32(IFLA_IPTUN_LINK, *index),
-            InfoIpTunnel::Local(address) => parts::ip(IFLA_IPTUN_LOCAL, *address),
-            InfoIpTunnel::Remote(address) => parts::ip(IFLA_IPTUN_REMOTE, *address),
-            InfoIpTunnel::Ttl(ttl) => parts::u8(IFLA_IPTUN_TTL, *ttl),
-            InfoIpTunnel::Tos(tos) => parts::u8(IFLA_IPTUN_TOS, *tos),
-            InfoIpTunnel::EncapLimit(limit) => parts::u8(IFLA_IPTUN_ENCAP_LIMIT, *limit),
-            InfoIpTunnel::FlowInfo(info) => parts::be32(IFLA_IPTUN_FLOWINFO, *info),
             InfoIpTunnel::Ipv4Flags(flags) => parts::be16(IFLA_IPTUN_FLAGS, *flags),
             InfoIpTunnel::Ipv6SitFlags(flags) => parts::be16(IFLA_IPTUN_FLAGS, *flags),
             InfoIpTunnel::Ipv6Flags(flags) => parts::le32(IFLA_IPTUN_FLAGS, flags.bits()),
-            InfoIpTunnel::Protocol(protocol) => parts::u8(IFLA_IPTUN_PROTO, u8::from(*protocol)),
-            InfoIpTunnel::PMtuDisc(on) => parts::truth(IFLA_IPTUN_PMTUDISC, *on),
-            InfoIpTunnel::Ipv6RdPrefix(prefix) => parts::v6(IFLA_IPTUN_6RD_PREFIX, *prefix),
-            InfoIpTunnel::Ipv6RdRelayPrefix(prefix) => parts::v4(
-                IFLA_IPTUN_6RD_RELAY_PREFIX,
-                *prefix,
-            ),
-            InfoIpTunnel::Ipv6RdPrefixLen(length) => parts::le16(IFLA_IPTUN_6RD_PREFIXLEN, *length),
-            InfoIpTunnel::Ipv6RdRelayPrefixLen(length) => parts::le16(
-                IFLA_IPTUN_6RD_RELAY_PREFIXLEN,
-                *length,
-            ),
-            InfoIpTunnel::EncapType(encapsulation) => parts::le16(
-                IFLA_IPTUN_ENCAP_TYPE,
-                u16::from(*encapsulation),
-            ),
-            InfoIpTunnel::EncapFlags(flags) => parts::le16(IFLA_IPTUN_ENCAP_FLAGS, flags.bits()),
-            InfoIpTunnel::EncapSPort(port) => parts::be16(IFLA_IPTUN_ENCAP_SPORT, *port),
-            InfoIpTunnel::EncapDPort(port) => parts::be16(IFLA_IPTUN_ENCAP_DPORT, *port),
-            InfoIpTunnel::CollectMetadata => parts::mark(IFLA_IPTUN_COLLECT_METADATA),
-            InfoIpTunnel::FwMark(mark) => parts::le32(IFLA_IPTUN_FWMARK, *mark),
-            InfoIpTunnel::Other(nla) => Part::Kept(nla),
+            _ => rows!(part_by_rows self),
         }
     }
 }

@@ -1,32 +1,19 @@
 //! VTI tunnels.
 
 ghost use Rattle.linkinfo_tunnels.specs.declared.vti.InfoVti.TheVariants.{Other};
-ghost use Rattle.linkinfo_tunnels.specs.Vti.{vti_attribute, vti_keeps, vti_rows};
+ghost use Rattle.linkinfo_tunnels.specs.Vti.{vti_attribute, vti_keeps, vti_lookup, vti_rows};
 ghost use Rattle.linkinfo_table.specs.FamilyRows.{row_of, table_row};
 ghost use Rattle.linkinfo_table.specs.Rows.{meaning_in, memory_in};
-ghost use Rattle.linkinfo_table.specs.FamilyRowLaws.{table_flat, table_owes};
 ghost use Rattle.nla_frame.specs.declared.error.Family.TheVariants as family;
-ghost use Rattle.std.specs.Prelude.{false, refl};
+ghost use Rattle.std.specs.Prelude.{refl};
 
 use linkinfo_table::{
-    FlatFamily, Found, Lookup, Part, RowFamily, parts, row_emit_value, row_fit_len, row_kind,
-    row_read, row_value_len, table_lookup,
+    Found, Part, Place, TableFamily, WrittenByTable, part_by_rows, put_by_rows, row_emit_value,
+    row_fit_len, row_kind, row_read, row_value_len,
 };
 use nla_frame::{DecodeError, DefaultNla, ExactEq, Family, Nla, NlaBuffer, Parseable};
 use std::alloc::{AllocError, Global};
 use std::net::IpAddr;
-
-const IFLA_VTI_LINK: u16 = 1;
-
-const IFLA_VTI_IKEY: u16 = 2;
-
-const IFLA_VTI_OKEY: u16 = 3;
-
-const IFLA_VTI_LOCAL: u16 = 4;
-
-const IFLA_VTI_REMOTE: u16 = 5;
-
-const IFLA_VTI_FWMARK: u16 = 6;
 
 /// An attribute of a VTI tunnel: of a link of the kind `vti` or `vti6` (include/uapi/linux/if_tunnel.h).
 #[derive(Debug, PartialEq, Eq, Clone, Drop)]
@@ -47,56 +34,48 @@ pub enum InfoVti {
     Other(DefaultNla),
 }
 
-impl RowFamily for InfoVti {
-    type Context = ();
+macro_rules! rows {
+    ($body:ident $given:tt) => {
+        $body! { InfoVti $given;
+            (IFLA_VTI_LINK = 1, le32, Link),
+            (IFLA_VTI_IKEY = 2, be32, IKey),
+            (IFLA_VTI_OKEY = 3, be32, OKey),
+            (IFLA_VTI_LOCAL = 4, ip, Local),
+            (IFLA_VTI_REMOTE = 5, ip, Remote),
+            (IFLA_VTI_FWMARK = 6, le32, FwMark),
+        }
+    };
+}
 
+impl TableFamily for InfoVti {
     const FAMILY: Family = Family::Vti;
 
     ghost FAMILY = { family.Vti };
 
-    ghost rows = { λ _ n. table_row vti_rows n };
+    ghost table = { vti_rows };
 
     ghost other = { λ nla. Other nla };
 
     ghost canonical = { vti_attribute };
 
-    ghost is_custom = { λ _. false };
-
-    ghost owes = { λ _ n. table_owes vti_attribute vti_rows vti_keeps n };
+    ghost keeps = { vti_keeps };
 
     ghost keeps_other = { λ _. refl };
 
-    #[tactic(auto, using(crate::specs::Vti::vti_lookup))]
-    fn shape(_ctx: (), kind: u16) -> Lookup {
-        table_lookup(Family::Vti, kind)
+    ghost in_table = { vti_lookup };
+
+    #[inline(always)]
+    fn put_found<P: Place<InfoVti>>(
+        place: &mut P,
+        alloc: Global,
+        found: Found<'_>,
+    ) -> Result<(), AllocError> {
+        rows!(put_by_rows(place, alloc, found))
     }
 
-    fn from_found(_alloc: Global, _ctx: (), found: Found<'_>) -> Result<InfoVti, AllocError> {
-        let (kind, datum) = match found {
-            Found::Typed(kind, datum) => (kind, datum),
-            Found::Kept(nla) => return Ok(InfoVti::Other(nla)),
-        };
-        Ok(match kind {
-            IFLA_VTI_LINK => InfoVti::Link(datum.u32_or_zero()),
-            IFLA_VTI_IKEY => InfoVti::IKey(datum.u32_or_zero()),
-            IFLA_VTI_OKEY => InfoVti::OKey(datum.u32_or_zero()),
-            IFLA_VTI_LOCAL => InfoVti::Local(datum.ip_or_unspecified()),
-            IFLA_VTI_REMOTE => InfoVti::Remote(datum.ip_or_unspecified()),
-            IFLA_VTI_FWMARK => InfoVti::FwMark(datum.u32_or_zero()),
-            _ => unreachable!(),
-        })
-    }
-
+    #[inline(always)]
     fn to_part(&self) -> Part<'_> {
-        match self {
-            InfoVti::Link(index) => parts::le32(IFLA_VTI_LINK, *index),
-            InfoVti::IKey(key) => parts::be32(IFLA_VTI_IKEY, *key),
-            InfoVti::OKey(key) => parts::be32(IFLA_VTI_OKEY, *key),
-            InfoVti::Local(address) => parts::ip(IFLA_VTI_LOCAL, *address),
-            InfoVti::Remote(address) => parts::ip(IFLA_VTI_REMOTE, *address),
-            InfoVti::FwMark(mark) => parts::le32(IFLA_VTI_FWMARK, *mark),
-            InfoVti::Other(nla) => Part::Kept(nla),
-        }
+        rows!(part_by_rows self)
     }
 }
 
@@ -120,11 +99,7 @@ impl Nla for InfoVti {
     }
 }
 
-impl FlatFamily for InfoVti {
-    ghost flat = { λ _ n. table_flat vti_attribute vti_rows vti_keeps n };
-
-    ghost never_custom = { λ _. refl };
-
+impl WrittenByTable for InfoVti {
     ghost written = { λ _. refl };
 }
 

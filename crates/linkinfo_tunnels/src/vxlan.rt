@@ -1,89 +1,20 @@
 //! VXLAN tunnels.
 
 ghost use Rattle.linkinfo_tunnels.specs.declared.vxlan.InfoVxlan.TheVariants.{Other};
-ghost use Rattle.linkinfo_tunnels.specs.Vxlan.{ttl_inherit, vxlan_attribute, vxlan_keeps, vxlan_rows};
+ghost use Rattle.linkinfo_tunnels.specs.Vxlan.{vxlan_attribute, vxlan_keeps, vxlan_lookup, vxlan_rows};
 ghost use Rattle.linkinfo_table.specs.FamilyRows.{row_of, table_row};
 ghost use Rattle.linkinfo_table.specs.Rows.{meaning_in, memory_in};
-ghost use Rattle.linkinfo_table.specs.FamilyRowLaws.{table_flat, table_owes};
 ghost use Rattle.nla_frame.specs.declared.error.Family.TheVariants as family;
-ghost use Rattle.std.specs.Prelude.{◌≡◌, false, refl};
+ghost use Rattle.std.specs.Prelude.{refl};
 
 use linkinfo_numbers::VxlanDf;
 use linkinfo_table::{
-    FlatFamily, Found, Lookup, Part, RowFamily, parts, row_emit_value, row_fit_len, row_kind,
-    row_read, row_value_len, table_lookup,
+    Found, Part, Place, TableFamily, WrittenByTable, part_by_rows, put_by_rows, row_emit_value,
+    row_fit_len, row_kind, row_read, row_value_len,
 };
 use nla_frame::{DecodeError, DefaultNla, ExactEq, Family, Nla, NlaBuffer, Parseable};
 use std::alloc::{AllocError, Global};
 use std::net::{Ipv4Addr, Ipv6Addr};
-
-const IFLA_VXLAN_ID: u16 = 1;
-
-const IFLA_VXLAN_GROUP: u16 = 2;
-
-const IFLA_VXLAN_LINK: u16 = 3;
-
-const IFLA_VXLAN_LOCAL: u16 = 4;
-
-const IFLA_VXLAN_TTL: u16 = 5;
-
-const IFLA_VXLAN_TOS: u16 = 6;
-
-const IFLA_VXLAN_LEARNING: u16 = 7;
-
-const IFLA_VXLAN_AGEING: u16 = 8;
-
-const IFLA_VXLAN_LIMIT: u16 = 9;
-
-const IFLA_VXLAN_PORT_RANGE: u16 = 10;
-
-const IFLA_VXLAN_PROXY: u16 = 11;
-
-const IFLA_VXLAN_RSC: u16 = 12;
-
-const IFLA_VXLAN_L2MISS: u16 = 13;
-
-const IFLA_VXLAN_L3MISS: u16 = 14;
-
-const IFLA_VXLAN_PORT: u16 = 15;
-
-const IFLA_VXLAN_GROUP6: u16 = 16;
-
-const IFLA_VXLAN_LOCAL6: u16 = 17;
-
-const IFLA_VXLAN_UDP_CSUM: u16 = 18;
-
-const IFLA_VXLAN_UDP_ZERO_CSUM6_TX: u16 = 19;
-
-const IFLA_VXLAN_UDP_ZERO_CSUM6_RX: u16 = 20;
-
-const IFLA_VXLAN_REMCSUM_TX: u16 = 21;
-
-const IFLA_VXLAN_REMCSUM_RX: u16 = 22;
-
-const IFLA_VXLAN_GBP: u16 = 23;
-
-const IFLA_VXLAN_REMCSUM_NOPARTIAL: u16 = 24;
-
-const IFLA_VXLAN_COLLECT_METADATA: u16 = 25;
-
-const IFLA_VXLAN_LABEL: u16 = 26;
-
-const IFLA_VXLAN_GPE: u16 = 27;
-
-const IFLA_VXLAN_TTL_INHERIT: u16 = 28;
-
-const IFLA_VXLAN_DF: u16 = 29;
-
-const IFLA_VXLAN_VNIFILTER: u16 = 30;
-
-const IFLA_VXLAN_LOCALBYPASS: u16 = 31;
-
-const IFLA_VXLAN_LABEL_POLICY: u16 = 32;
-
-const IFLA_VXLAN_RESERVED_BITS: u16 = 33;
-
-const IFLA_VXLAN_MC_ROUTE: u16 = 34;
 
 /// An attribute of a VXLAN tunnel: of a link of the kind `vxlan` (include/uapi/linux/if_link.h).
 #[derive(Debug, PartialEq, Eq, Clone, Drop)]
@@ -162,122 +93,76 @@ pub enum InfoVxlan {
     Other(DefaultNla),
 }
 
-impl RowFamily for InfoVxlan {
-    type Context = ();
+macro_rules! rows {
+    ($body:ident $given:tt) => {
+        $body! { InfoVxlan $given;
+            (IFLA_VXLAN_ID = 1, le32, Id),
+            (IFLA_VXLAN_GROUP = 2, v4, Group),
+            (IFLA_VXLAN_LINK = 3, le32, Link),
+            (IFLA_VXLAN_LOCAL = 4, v4, Local),
+            (IFLA_VXLAN_TTL = 5, u8, Ttl),
+            (IFLA_VXLAN_TOS = 6, u8, Tos),
+            (IFLA_VXLAN_LEARNING = 7, truth, Learning),
+            (IFLA_VXLAN_AGEING = 8, le32, Ageing),
+            (IFLA_VXLAN_LIMIT = 9, le32, Limit),
+            (IFLA_VXLAN_PORT_RANGE = 10, be_pair, PortRange),
+            (IFLA_VXLAN_PROXY = 11, truth, Proxy),
+            (IFLA_VXLAN_RSC = 12, truth, Rsc),
+            (IFLA_VXLAN_L2MISS = 13, truth, L2Miss),
+            (IFLA_VXLAN_L3MISS = 14, truth, L3Miss),
+            (IFLA_VXLAN_PORT = 15, be16, Port),
+            (IFLA_VXLAN_GROUP6 = 16, v6, Group6),
+            (IFLA_VXLAN_LOCAL6 = 17, v6, Local6),
+            (IFLA_VXLAN_UDP_CSUM = 18, truth, UDPCsum),
+            (IFLA_VXLAN_UDP_ZERO_CSUM6_TX = 19, truth, UDPZeroCsumTX),
+            (IFLA_VXLAN_UDP_ZERO_CSUM6_RX = 20, truth, UDPZeroCsumRX),
+            (IFLA_VXLAN_REMCSUM_TX = 21, truth, RemCsumTX),
+            (IFLA_VXLAN_REMCSUM_RX = 22, truth, RemCsumRX),
+            (IFLA_VXLAN_GBP = 23, mark, Gbp),
+            (IFLA_VXLAN_REMCSUM_NOPARTIAL = 24, mark, RemCsumNoPartial),
+            (IFLA_VXLAN_COLLECT_METADATA = 25, truth, CollectMetadata),
+            (IFLA_VXLAN_LABEL = 26, be32, Label),
+            (IFLA_VXLAN_GPE = 27, mark, Gpe),
+            (IFLA_VXLAN_TTL_INHERIT = 28, empty_or_byte, TtlInherit or TtlInheritFlag),
+            (IFLA_VXLAN_DF = 29, u8, Df as VxlanDf),
+            (IFLA_VXLAN_VNIFILTER = 30, truth, Vnifilter),
+            (IFLA_VXLAN_LOCALBYPASS = 31, truth, Localbypass),
+            (IFLA_VXLAN_LABEL_POLICY = 32, le32, LabelPolicy),
+            (IFLA_VXLAN_RESERVED_BITS = 33, be64, ReservedBits),
+            (IFLA_VXLAN_MC_ROUTE = 34, truth, McRoute),
+        }
+    };
+}
 
+impl TableFamily for InfoVxlan {
     const FAMILY: Family = Family::Vxlan;
 
     ghost FAMILY = { family.Vxlan };
 
-    ghost rows = { λ _ n. table_row vxlan_rows n };
+    ghost table = { vxlan_rows };
 
     ghost other = { λ nla. Other nla };
 
     ghost canonical = { vxlan_attribute };
 
-    ghost is_custom = { λ _. false };
-
-    ghost owes = { λ _ n. table_owes vxlan_attribute vxlan_rows vxlan_keeps n };
+    ghost keeps = { vxlan_keeps };
 
     ghost keeps_other = { λ _. refl };
 
-    #[tactic(auto, using(crate::specs::Vxlan::vxlan_lookup))]
-    fn shape(_ctx: (), kind: u16) -> Lookup {
-        table_lookup(Family::Vxlan, kind)
+    ghost in_table = { vxlan_lookup };
+
+    #[inline(always)]
+    fn put_found<P: Place<InfoVxlan>>(
+        place: &mut P,
+        alloc: Global,
+        found: Found<'_>,
+    ) -> Result<(), AllocError> {
+        rows!(put_by_rows(place, alloc, found))
     }
 
-    fn from_found(_alloc: Global, _ctx: (), found: Found<'_>) -> Result<InfoVxlan, AllocError> {
-        let (kind, datum) = match found {
-            Found::Typed(kind, datum) => (kind, datum),
-            Found::Kept(nla) => return Ok(InfoVxlan::Other(nla)),
-        };
-        Ok(match kind {
-            IFLA_VXLAN_ID => InfoVxlan::Id(datum.u32_or_zero()),
-            IFLA_VXLAN_GROUP => InfoVxlan::Group(datum.ipv4_or_unspecified()),
-            IFLA_VXLAN_LINK => InfoVxlan::Link(datum.u32_or_zero()),
-            IFLA_VXLAN_LOCAL => InfoVxlan::Local(datum.ipv4_or_unspecified()),
-            IFLA_VXLAN_TTL => InfoVxlan::Ttl(datum.u8_or_zero()),
-            IFLA_VXLAN_TOS => InfoVxlan::Tos(datum.u8_or_zero()),
-            IFLA_VXLAN_LEARNING => InfoVxlan::Learning(datum.bool_or_false()),
-            IFLA_VXLAN_AGEING => InfoVxlan::Ageing(datum.u32_or_zero()),
-            IFLA_VXLAN_LIMIT => InfoVxlan::Limit(datum.u32_or_zero()),
-            IFLA_VXLAN_PORT_RANGE => InfoVxlan::PortRange(datum.u16_pair_or_zeros()),
-            IFLA_VXLAN_PROXY => InfoVxlan::Proxy(datum.bool_or_false()),
-            IFLA_VXLAN_RSC => InfoVxlan::Rsc(datum.bool_or_false()),
-            IFLA_VXLAN_L2MISS => InfoVxlan::L2Miss(datum.bool_or_false()),
-            IFLA_VXLAN_L3MISS => InfoVxlan::L3Miss(datum.bool_or_false()),
-            IFLA_VXLAN_PORT => InfoVxlan::Port(datum.u16_or_zero()),
-            IFLA_VXLAN_GROUP6 => InfoVxlan::Group6(datum.ipv6_or_unspecified()),
-            IFLA_VXLAN_LOCAL6 => InfoVxlan::Local6(datum.ipv6_or_unspecified()),
-            IFLA_VXLAN_UDP_CSUM => InfoVxlan::UDPCsum(datum.bool_or_false()),
-            IFLA_VXLAN_UDP_ZERO_CSUM6_TX => InfoVxlan::UDPZeroCsumTX(datum.bool_or_false()),
-            IFLA_VXLAN_UDP_ZERO_CSUM6_RX => InfoVxlan::UDPZeroCsumRX(datum.bool_or_false()),
-            IFLA_VXLAN_REMCSUM_TX => InfoVxlan::RemCsumTX(datum.bool_or_false()),
-            IFLA_VXLAN_REMCSUM_RX => InfoVxlan::RemCsumRX(datum.bool_or_false()),
-            IFLA_VXLAN_GBP => InfoVxlan::Gbp,
-            IFLA_VXLAN_REMCSUM_NOPARTIAL => InfoVxlan::RemCsumNoPartial,
-            IFLA_VXLAN_COLLECT_METADATA => InfoVxlan::CollectMetadata(datum.bool_or_false()),
-            IFLA_VXLAN_LABEL => InfoVxlan::Label(datum.u32_or_zero()),
-            IFLA_VXLAN_GPE => InfoVxlan::Gpe,
-            IFLA_VXLAN_TTL_INHERIT => ttl_inherit(datum.byte_or_none()),
-            IFLA_VXLAN_DF => InfoVxlan::Df(VxlanDf::from(datum.u8_or_zero())),
-            IFLA_VXLAN_VNIFILTER => InfoVxlan::Vnifilter(datum.bool_or_false()),
-            IFLA_VXLAN_LOCALBYPASS => InfoVxlan::Localbypass(datum.bool_or_false()),
-            IFLA_VXLAN_LABEL_POLICY => InfoVxlan::LabelPolicy(datum.u32_or_zero()),
-            IFLA_VXLAN_RESERVED_BITS => InfoVxlan::ReservedBits(datum.u64_or_zero()),
-            IFLA_VXLAN_MC_ROUTE => InfoVxlan::McRoute(datum.bool_or_false()),
-            _ => unreachable!(),
-        })
-    }
-
+    #[inline(always)]
     fn to_part(&self) -> Part<'_> {
-        match self {
-            InfoVxlan::Id(id) => parts::le32(IFLA_VXLAN_ID, *id),
-            InfoVxlan::Group(address) => parts::v4(IFLA_VXLAN_GROUP, *address),
-            InfoVxlan::Link(index) => parts::le32(IFLA_VXLAN_LINK, *index),
-            InfoVxlan::Local(address) => parts::v4(IFLA_VXLAN_LOCAL, *address),
-            InfoVxlan::Ttl(ttl) => parts::u8(IFLA_VXLAN_TTL, *ttl),
-            InfoVxlan::Tos(tos) => parts::u8(IFLA_VXLAN_TOS, *tos),
-            InfoVxlan::Learning(on) => parts::truth(IFLA_VXLAN_LEARNING, *on),
-            InfoVxlan::Ageing(seconds) => parts::le32(IFLA_VXLAN_AGEING, *seconds),
-            InfoVxlan::Limit(count) => parts::le32(IFLA_VXLAN_LIMIT, *count),
-            InfoVxlan::PortRange(range) => parts::be_pair(IFLA_VXLAN_PORT_RANGE, *range),
-            InfoVxlan::Proxy(on) => parts::truth(IFLA_VXLAN_PROXY, *on),
-            InfoVxlan::Rsc(on) => parts::truth(IFLA_VXLAN_RSC, *on),
-            InfoVxlan::L2Miss(on) => parts::truth(IFLA_VXLAN_L2MISS, *on),
-            InfoVxlan::L3Miss(on) => parts::truth(IFLA_VXLAN_L3MISS, *on),
-            InfoVxlan::Port(port) => parts::be16(IFLA_VXLAN_PORT, *port),
-            InfoVxlan::Group6(address) => parts::v6(IFLA_VXLAN_GROUP6, *address),
-            InfoVxlan::Local6(address) => parts::v6(IFLA_VXLAN_LOCAL6, *address),
-            InfoVxlan::UDPCsum(on) => parts::truth(IFLA_VXLAN_UDP_CSUM, *on),
-            InfoVxlan::UDPZeroCsumTX(on) => parts::truth(IFLA_VXLAN_UDP_ZERO_CSUM6_TX, *on),
-            InfoVxlan::UDPZeroCsumRX(on) => parts::truth(IFLA_VXLAN_UDP_ZERO_CSUM6_RX, *on),
-            InfoVxlan::RemCsumTX(on) => parts::truth(IFLA_VXLAN_REMCSUM_TX, *on),
-            InfoVxlan::RemCsumRX(on) => parts::truth(IFLA_VXLAN_REMCSUM_RX, *on),
-            InfoVxlan::Gbp => parts::mark(IFLA_VXLAN_GBP),
-            InfoVxlan::RemCsumNoPartial => parts::mark(IFLA_VXLAN_REMCSUM_NOPARTIAL),
-            InfoVxlan::CollectMetadata(on) => parts::truth(IFLA_VXLAN_COLLECT_METADATA, *on),
-            InfoVxlan::Label(label) => parts::be32(IFLA_VXLAN_LABEL, *label),
-            InfoVxlan::Gpe => parts::mark(IFLA_VXLAN_GPE),
-            InfoVxlan::TtlInheritFlag => parts::empty_or_byte(IFLA_VXLAN_TTL_INHERIT, None),
-            InfoVxlan::TtlInherit(ttl) => parts::empty_or_byte(IFLA_VXLAN_TTL_INHERIT, Some(*ttl)),
-            InfoVxlan::Df(df) => parts::u8(IFLA_VXLAN_DF, u8::from(*df)),
-            InfoVxlan::Vnifilter(on) => parts::truth(IFLA_VXLAN_VNIFILTER, *on),
-            InfoVxlan::Localbypass(on) => parts::truth(IFLA_VXLAN_LOCALBYPASS, *on),
-            InfoVxlan::LabelPolicy(policy) => parts::le32(IFLA_VXLAN_LABEL_POLICY, *policy),
-            InfoVxlan::ReservedBits(bits) => parts::be64(IFLA_VXLAN_RESERVED_BITS, *bits),
-            InfoVxlan::McRoute(on) => parts::truth(IFLA_VXLAN_MC_ROUTE, *on),
-            InfoVxlan::Other(nla) => Part::Kept(nla),
-        }
-    }
-}
-
-fn ttl_inherit(byte: Option<u8>) -> InfoVxlan
-    ensures { result ≡ ttl_inherit byte }
-{
-    match byte {
-        Some(ttl) => InfoVxlan::TtlInherit(ttl),
-        None => InfoVxlan::TtlInheritFlag,
+        rows!(part_by_rows self)
     }
 }
 
@@ -301,11 +186,7 @@ impl Nla for InfoVxlan {
     }
 }
 
-impl FlatFamily for InfoVxlan {
-    ghost flat = { λ _ n. table_flat vxlan_attribute vxlan_rows vxlan_keeps n };
-
-    ghost never_custom = { λ _. refl };
-
+impl WrittenByTable for InfoVxlan {
     ghost written = { λ _. refl };
 }
 

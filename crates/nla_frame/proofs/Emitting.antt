@@ -28,6 +28,10 @@ list_fits attributes h = record { each = fits_inside attributes h; total = omega
 pub one_fits : (a : Attribute) → length (canonical_string a) ≤ 65531 → Fits a
 one_fits a h = omega (arith, h, length-canonical_string a)
 
+-- a payload at the front of a buffer of its own length is all of it
+pub whole : (value old : List ℕ) → length old ≡ length value → value ++ drop (length value) old ≡ value
+whole value old e = ap (λ (x : List ℕ). value ++ x) (drop_all (length value) old (omega (arith, e))) ∙ append-nil value
+
 -- ---- one attribute: its value in its place, then header and zeros round it
 
 framed_at : (a : Attribute) (old value : List ℕ) (len kind : ℕ) → len ≡ length a.value → kind ≡ a.kind → buffer_len_of a ≤ length old → value ≡ a.value →
@@ -76,6 +80,20 @@ pub drop_placed : (buffer : List ℕ) (at n : ℕ) (text : List ℕ) → at ≤ 
 drop_placed buffer at n text h e =
     ap (λ (x : List ℕ). drop (at + n) x) (sym (append_assoc (take at buffer) text (drop (at + n) buffer)))
     ∙ drop_at (take at buffer ++ text) (drop (at + n) buffer) (at + n) (simp length-append (omega (arith, length-take at buffer, e)))
+
+-- a payload written behind the place of its header, and then header and padding round it; `rest` is what stands behind the header's place once
+-- the payload is written at its front
+pub framed_behind : (a : Attribute) (old rest : List ℕ) (len width kind : ℕ) → len ≡ length a.value → width ≡ length old - 4 → kind ≡ a.kind → buffer_len_of a ≤ length old →
+    rest ≡ a.value ++ drop (length a.value) (take width (drop 4 old)) →
+    canonical_string (record { kind = kind; value = take len (drop 4 (put_mid 4 width old rest)) }) ++ drop (4 + aligned len) (put_mid 4 width old rest)
+    ≡ canonical_string a ++ drop (buffer_len_of a) old
+framed_behind a old rest len width kind size wide same room written =
+    let as_value : put_mid 4 width old rest ≡ put_mid 4 len old a.value =
+    placed old 4 width (length a.value) a.value rest wide written
+    ∙ ap (λ (n : ℕ). take 4 old ++ (a.value ++ drop (4 + n) old)) (sym size)
+    ∙ ap (λ (tail : List ℕ). take 4 old ++ (a.value ++ tail)) (sym (drop-drop len 4 old)) in
+    ap (λ (b : List ℕ). canonical_string (record { kind = kind; value = take len (drop 4 b) }) ++ drop (4 + aligned len) b) as_value
+    ∙ framed_at a old a.value len kind size same room refl
 
 -- ---- one item more
 

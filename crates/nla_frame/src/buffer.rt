@@ -44,6 +44,7 @@ fn header_error() -> DecodeError
     }
 }
 
+#[inline(always)]
 fn headers_seen(bytes: &[u8]) -> usize
     ensures { result ≡ seen bytes.now }
 {
@@ -51,6 +52,7 @@ fn headers_seen(bytes: &[u8]) -> usize
 }
 
 #[tactic(auto, unfolding(crate::specs::Pieces::attribute_at))]
+#[inline(always)]
 fn first_of<'a>(bytes: &'a [u8]) -> Result<NlaBuffer<'a>, DecodeError>
     ensures { result ≡ attribute_at bytes.now }
 {
@@ -69,6 +71,7 @@ fn first_of<'a>(bytes: &'a [u8]) -> Result<NlaBuffer<'a>, DecodeError>
 }
 
 /// The bytes behind an attribute of this length and its padding.
+#[inline(always)]
 fn behind<'a>(bytes: &'a [u8], length: u16) -> &'a [u8]
     ensures { result.now ≡ drop (aligned length) bytes.now }
 {
@@ -85,6 +88,7 @@ impl<'a> NlaBuffer<'a> {
     ///
     /// Refused as (Frame, 0, Header) where fewer than four bytes are there, where the length field is below four, and where it is
     /// above the number of bytes that are there.
+    #[inline(always)]
     pub fn new_checked(bytes: &'a [u8]) -> Result<NlaBuffer<'a>, DecodeError>
         ensures answer { result ≡ attribute_at bytes.now }
         ensures attribute { IfOk result IsAttribute }
@@ -93,6 +97,7 @@ impl<'a> NlaBuffer<'a> {
     }
 
     /// The same, and one is added to the count where four bytes are there. Asks that the sum is a `usize`.
+    #[inline(always)]
     pub fn new_counted(
         bytes: &'a [u8],
         count: &mut HeaderCount,
@@ -107,6 +112,7 @@ impl<'a> NlaBuffer<'a> {
     }
 
     /// The type without its flags "nested" (0x8000) and "network byte order" (0x4000).
+    #[inline(always)]
     pub fn kind(&self) -> u16
         ensures { result ≡ masked self.now.kind }
     {
@@ -114,6 +120,7 @@ impl<'a> NlaBuffer<'a> {
     }
 
     /// The whole 16-bit type.
+    #[inline(always)]
     pub fn raw_kind(&self) -> u16
         ensures { result ≡ self.now.kind }
     {
@@ -121,6 +128,7 @@ impl<'a> NlaBuffer<'a> {
     }
 
     /// The length field: the header's four bytes and the value, not the padding.
+    #[inline(always)]
     pub fn length(&self) -> u16
         ensures { result ≡ 4 + length self.now.value }
     {
@@ -128,6 +136,7 @@ impl<'a> NlaBuffer<'a> {
     }
 
     /// The bytes of the value, those of the source itself.
+    #[inline(always)]
     pub fn value(&self) -> &'a [u8]
         ensures value { result.now ≡ self.now.value }
         ensures attribute { IsAttribute self.now }
@@ -139,6 +148,7 @@ impl<'a> NlaBuffer<'a> {
 /// One step over the attributes of a byte string: the attribute at the front with the bytes behind it and its padding, or the
 /// fault (Frame, 0, Header), or `None` at the end. Each header with four present bytes that is looked at is counted. Asks that the
 /// count stays a `usize`.
+#[inline(always)]
 pub fn next_piece<'a>(
     bytes: &'a [u8],
     count: &mut HeaderCount,

@@ -2,12 +2,27 @@
 
 ghost use Rattle.std.specs.Prelude.{◌≡◌, ◌+◌, ◌≤◌, ◌++◌, SomeIff, drop, length, map, take};
 ghost use Rattle.std.specs.Int.{w16, to_le_bytes};
-ghost use Rattle.nla_frame.specs.Attribute.{ListFits, aligned, canonical_string, list_string};
+ghost use Rattle.nla_frame.specs.Attribute.{Fits, ListFits, aligned, buffer_len_of, canonical_string, list_string};
 
 use crate::traits::Nla;
 
+/// Writes an attribute, its header, payload and zero padding, at the front of the buffer, whatever stood there, leaves the bytes behind it, and
+/// answers its length. Asks that the value fits and the buffer has at least `buffer_len` bytes.
+#[inline(always)]
+pub fn put_attribute<T: Nla>(item: &T, buffer: &mut [u8]) -> usize
+    requires fits { Fits (T.attribute item.now) }
+    requires room { buffer_len_of (T.attribute item.now) ≤ length buffer.old }
+    ensures taken { result ≡ buffer_len_of (T.attribute item.now) }
+    ensures written { buffer.new ≡ canonical_string (T.attribute item.now) ++ drop (buffer_len_of (T.attribute item.now)) buffer.old }
+{
+    let len = item.emit_payload(&mut buffer[4..]);
+    put_frame(buffer, item.kind(), len);
+    4 + len.next_multiple_of(4)
+}
+
 /// Writes header and zero padding round a payload of `len` bytes that stands in its place already, from the fifth byte on, and leaves the
 /// bytes behind them. Asks that a length field can count the payload, and for a buffer of at least the attribute's length.
+#[inline(always)]
 pub fn put_frame(buffer: &mut [u8], kind: u16, len: usize)
     requires fits { len ≤ 65531 }
     requires room { 4 + aligned len ≤ length buffer.old }
@@ -19,6 +34,7 @@ pub fn put_frame(buffer: &mut [u8], kind: u16, len: usize)
 }
 
 /// Writes length and type at the front, each as a little-endian u16.
+#[inline(always)]
 fn put_header(buffer: &mut [u8], length: u16, kind: u16)
     requires { 4 ≤ Rattle.std.specs.Prelude.length buffer.old }
     ensures { buffer.new ≡ (to_le_bytes w16 length ++ to_le_bytes w16 kind) ++ drop 4 buffer.old }
@@ -51,6 +67,21 @@ pub fn nlas_buffer_len<T: Nla>(items: &[T]) -> usize
     total
 }
 
+/// Writes the list's string, that of each item after the other, at the front of the buffer, whatever stood there, leaves the bytes behind it,
+/// and answers its length. Asks that the list fits and the buffer has at least `nlas_buffer_len` bytes.
+pub fn put_attributes<T: Nla>(items: &[T], buffer: &mut [u8]) -> usize
+    requires fits { ListFits (map T.attribute items.now) }
+    requires room { length (list_string (map T.attribute items.now)) ≤ length buffer.old }
+    ensures taken { result ≡ length (list_string (map T.attribute items.now)) }
+    ensures written { buffer.new ≡ list_string (map T.attribute items.now) ++ drop (length (list_string (map T.attribute items.now))) buffer.old }
+{
+    let mut place: usize = 0;
+    for item in items {
+        place += put_attribute(item, &mut buffer[place..]);
+    }
+    place
+}
+
 /// Writes the list's string, that of each item after the other, at the front of the buffer, whatever stood there, and leaves the
 /// bytes behind it. Asks that the list fits and the buffer has at least `nlas_buffer_len` bytes.
 pub fn emit_nlas<T: Nla>(items: &[T], buffer: &mut [u8])
@@ -58,10 +89,5 @@ pub fn emit_nlas<T: Nla>(items: &[T], buffer: &mut [u8])
     requires room { length (list_string (map T.attribute items.now)) ≤ length buffer.old }
     ensures { buffer.new ≡ list_string (map T.attribute items.now) ++ drop (length (list_string (map T.attribute items.now))) buffer.old }
 {
-    let mut place: usize = 0;
-    for item in items {
-        let len = item.buffer_len();
-        item.emit(&mut buffer[place..]);
-        place += len;
-    }
+    put_attributes(items, buffer);
 }

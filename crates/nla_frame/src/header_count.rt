@@ -23,6 +23,7 @@ impl Model for HeaderCount {
 
 impl HeaderCount {
     /// A count of zero.
+    #[inline(always)]
     pub const fn new() -> HeaderCount
         ensures { result ≡ 0 }
     {
@@ -30,6 +31,7 @@ impl HeaderCount {
     }
 
     /// How many headers were counted.
+    #[inline(always)]
     pub const fn get(&self) -> usize
         ensures { result ≡ self.now }
     {
@@ -37,6 +39,7 @@ impl HeaderCount {
     }
 
     /// Counts `headers` more. Asks that the sum is a `usize`.
+    #[inline(always)]
     pub fn add(&mut self, headers: usize)
         requires { self.old + headers < 2 ^ 64 }
         ensures { self.new ≡ self.old + headers }

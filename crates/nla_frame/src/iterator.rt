@@ -36,6 +36,7 @@ impl<'a> Model for NlasIterator<'a> {
 
 impl<'a> NlasIterator<'a> {
     /// Begins at place 0 of the bytes. At most a quarter as many items as there are bytes will come, and one more.
+    #[inline(always)]
     pub fn new(bytes: &'a [u8]) -> NlasIterator<'a>
         ensures start { result ≡ record { source = bytes.now; place = 0; examined = 0; failed = false } }
         ensures item_bound { length (items_left result) ≤ length bytes.now / 4 + 1 }
@@ -49,6 +50,7 @@ impl<'a> NlasIterator<'a> {
     }
 
     /// How many headers with four present bytes were looked at so far: never more than a quarter of the bytes.
+    #[inline(always)]
     pub fn examined(&self) -> usize
         ensures count { result ≡ self.now.examined }
         ensures quarter { 4 * result ≤ length self.now.source }
@@ -58,6 +60,7 @@ impl<'a> NlasIterator<'a> {
 
     /// Where the next header is looked for; the number of bytes after the last attribute; after a fault the place of the header at
     /// fault.
+    #[inline(always)]
     pub fn place(&self) -> usize
         ensures place { result ≡ self.now.place }
         ensures within { result ≤ length self.now.source }
@@ -73,6 +76,7 @@ impl<'a> Iterator for NlasIterator<'a> {
 
     ghost remaining = { item_count items_left };
 
+    #[inline(always)]
     fn next(&mut self) -> Option<Result<NlaBuffer<'a>, DecodeError>> {
         if self.failed {
             return None;

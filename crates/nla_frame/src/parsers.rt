@@ -8,6 +8,7 @@ use crate::error::Cause;
 use std::net::{IpAddr, Ipv4Addr, Ipv6Addr};
 
 /// The payload as an array, refused with the cause Length where it has another length.
+#[inline(always)]
 fn array_of<const N: usize>(payload: &[u8]) -> Result<[u8; N], Cause>
     ensures { result ≡ of_length N payload.now payload.now }
 {
@@ -18,6 +19,7 @@ fn array_of<const N: usize>(payload: &[u8]) -> Result<[u8; N], Cause>
 }
 
 /// The number of one byte. Any other length is refused with the cause Length.
+#[inline(always)]
 pub fn parse_u8(payload: &[u8]) -> Result<u8, Cause>
     ensures { result ≡ of_length 1 payload.now (slice_index payload.now 0) }
 {
@@ -26,6 +28,7 @@ pub fn parse_u8(payload: &[u8]) -> Result<u8, Cause>
 }
 
 /// The little-endian number of two bytes. Any other length is refused with the cause Length.
+#[inline(always)]
 pub fn parse_u16(payload: &[u8]) -> Result<u16, Cause>
     ensures { result ≡ of_length 2 payload.now (from_le_bytes w16 payload.now) }
 {
@@ -33,6 +36,7 @@ pub fn parse_u16(payload: &[u8]) -> Result<u16, Cause>
 }
 
 /// The little-endian number of four bytes. Any other length is refused with the cause Length.
+#[inline(always)]
 pub fn parse_u32(payload: &[u8]) -> Result<u32, Cause>
     ensures { result ≡ of_length 4 payload.now (from_le_bytes w32 payload.now) }
 {
@@ -40,6 +44,7 @@ pub fn parse_u32(payload: &[u8]) -> Result<u32, Cause>
 }
 
 /// The little-endian number of eight bytes. Any other length is refused with the cause Length.
+#[inline(always)]
 pub fn parse_u64(payload: &[u8]) -> Result<u64, Cause>
     ensures { result ≡ of_length 8 payload.now (from_le_bytes w64 payload.now) }
 {
@@ -47,6 +52,7 @@ pub fn parse_u64(payload: &[u8]) -> Result<u64, Cause>
 }
 
 /// The little-endian two's complement number of four bytes. Any other length is refused with the cause Length.
+#[inline(always)]
 pub fn parse_i32(payload: &[u8]) -> Result<i32, Cause>
     ensures { result ≡ of_length 4 payload.now (cast_signed w32 (from_le_bytes w32 payload.now)) }
 {
@@ -54,6 +60,7 @@ pub fn parse_i32(payload: &[u8]) -> Result<i32, Cause>
 }
 
 /// The big-endian number of two bytes. Any other length is refused with the cause Length.
+#[inline(always)]
 pub fn parse_u16_be(payload: &[u8]) -> Result<u16, Cause>
     ensures { result ≡ of_length 2 payload.now (from_be_bytes w16 payload.now) }
 {
@@ -61,6 +68,7 @@ pub fn parse_u16_be(payload: &[u8]) -> Result<u16, Cause>
 }
 
 /// The big-endian number of four bytes. Any other length is refused with the cause Length.
+#[inline(always)]
 pub fn parse_u32_be(payload: &[u8]) -> Result<u32, Cause>
     ensures { result ≡ of_length 4 payload.now (from_be_bytes w32 payload.now) }
 {
@@ -68,6 +76,7 @@ pub fn parse_u32_be(payload: &[u8]) -> Result<u32, Cause>
 }
 
 /// The big-endian number of eight bytes. Any other length is refused with the cause Length.
+#[inline(always)]
 pub fn parse_u64_be(payload: &[u8]) -> Result<u64, Cause>
     ensures { result ≡ of_length 8 payload.now (from_be_bytes w64 payload.now) }
 {
@@ -75,6 +84,7 @@ pub fn parse_u64_be(payload: &[u8]) -> Result<u64, Cause>
 }
 
 /// The hardware address of six bytes. Any other length is refused with the cause Length.
+#[inline(always)]
 pub fn parse_mac(payload: &[u8]) -> Result<[u8; 6], Cause>
     ensures { result ≡ of_length 6 payload.now payload.now }
 {
@@ -82,6 +92,7 @@ pub fn parse_mac(payload: &[u8]) -> Result<[u8; 6], Cause>
 }
 
 /// The IPv4 address of four bytes, its octets in network byte order. Any other length is refused with the cause Length.
+#[inline(always)]
 pub fn parse_ipv4_addr(payload: &[u8]) -> Result<Ipv4Addr, Cause>
     ensures { result ≡ of_length 4 payload.now (ipv4_of payload.now) }
 {
@@ -89,6 +100,7 @@ pub fn parse_ipv4_addr(payload: &[u8]) -> Result<Ipv4Addr, Cause>
 }
 
 /// The IPv6 address of sixteen bytes, its octets in network byte order. Any other length is refused with the cause Length.
+#[inline(always)]
 pub fn parse_ipv6_addr(payload: &[u8]) -> Result<Ipv6Addr, Cause>
     ensures { result ≡ of_length 16 payload.now (ipv6_of payload.now) }
 {
@@ -96,6 +108,7 @@ pub fn parse_ipv6_addr(payload: &[u8]) -> Result<Ipv6Addr, Cause>
 }
 
 /// The IPv4 address of four bytes, or the IPv6 address of sixteen. Any other length is refused with the cause Length.
+#[inline(always)]
 pub fn parse_ip(payload: &[u8]) -> Result<IpAddr, Cause>
     ensures { result ≡ ip_of payload.now }
 {
@@ -107,6 +120,7 @@ pub fn parse_ip(payload: &[u8]) -> Result<IpAddr, Cause>
 
 /// The bytes of a name: the payload without one closing NUL, where there is one.
 #[tactic(auto, unfolding(crate::specs::Payload::stripped))]
+#[inline(always)]
 pub fn without_nul(payload: &[u8]) -> &[u8]
     ensures { result.now ≡ stripped payload.now }
 {

@@ -36,6 +36,20 @@ pub trait Nla {
     fn fit_len(&self) -> Option<usize>
         ensures { SomeIff result (Fits (attribute self.now)) (length (attribute self.now).value) };
 
+    /// Writes the payload at the front of the buffer, whatever stood there, leaves the bytes behind it, and answers how many bytes it has. So a
+    /// payload that is itself a list is written without being measured before. Asks that the value fits and the buffer has at least
+    /// `value_len` bytes.
+    fn emit_payload(&self, buffer: &mut [u8]) -> usize
+        requires fits { Fits (attribute self.now) }
+        requires room { length (attribute self.now).value ≤ length buffer.old }
+        ensures taken { result ≡ length (attribute self.now).value }
+        ensures written { buffer.new ≡ (attribute self.now).value ++ drop (length (attribute self.now).value) buffer.old }
+    {
+        let len = self.value_len();
+        self.emit_value(&mut buffer[..len]);
+        len
+    }
+
     /// How many bytes the attribute takes: header, payload and padding, a multiple of four. Asks that the value fits.
     fn buffer_len(&self) -> usize
         requires { Fits (attribute self.now) }
@@ -51,8 +65,7 @@ pub trait Nla {
         requires room { buffer_len_of (attribute self.now) ≤ length buffer.old }
         ensures { buffer.new ≡ canonical_string (attribute self.now) ++ drop (buffer_len_of (attribute self.now)) buffer.old }
     {
-        let len = self.value_len();
-        self.emit_value(&mut buffer[4..4 + len]);
+        let len = self.emit_payload(&mut buffer[4..]);
         put_frame(buffer, self.kind(), len);
     }
 }

@@ -8,8 +8,8 @@ use linkinfo_lower::{
     InfoBond, InfoBondPort, InfoBridge, InfoBridgePort, InfoCan, InfoDsa, InfoHsr, InfoVlan,
 };
 use linkinfo_peers::{InfoPfcp, InfoTeamPort, InfoTun, InfoWireguard};
-use linkinfo_table::{LinkFamily, RowlessFamily, laws};
-use nla_frame::{Cause, DefaultNla, ExactEq, Family, NlaBuffer};
+use linkinfo_table::{LinkFamily, Rowless, laws};
+use nla_frame::{Cause, DefaultNla, Family, NlaBuffer};
 use std::alloc::{AllocError, Global};
 use std::process::Abort;
 use std::test::Fail;
@@ -43,20 +43,20 @@ fn last(alloc: Global) -> Result<DefaultNla, AllocError> {
 }
 
 /// The attribute is kept as it came.
-fn keeps<F: RowlessFamily + ExactEq>(
+fn keeps<const NUMBER: u8>(
     rt: &impl Abort,
     alloc: Global,
     bytes: &[u8],
     kept: DefaultNla,
 ) -> Result<(), Fail> {
     let nla = NlaBuffer::new_checked(bytes)?;
-    let value = F::from_kept(kept);
     assert_eq!(rt;
-        (value.as_kept().kind, value.as_kept().value.as_slice()),
+        (kept.kind, kept.value.as_slice()),
         (nla.raw_kind(), nla.value())
     );
+    let value = Rowless::<NUMBER>::Other(kept);
     is_read(rt, alloc, (), bytes, &value)?;
-    assert!(rt; are_same::<F>(rt, (), bytes, bytes)?);
+    assert!(rt; are_same::<Rowless<NUMBER>>(rt, (), bytes, bytes)?);
     is_emitted(rt, &value, bytes)
 }
 
@@ -83,111 +83,125 @@ fn refuses_stray_bytes<F: LinkFamily<Context = ()>>(rt: &impl Abort, alloc: Glob
 }
 
 /// Lists of the family are read and emitted.
-fn has_lists<F: RowlessFamily + ExactEq>(rt: &impl Abort, alloc: Global) -> Result<(), Fail> {
+fn has_lists<const NUMBER: u8>(rt: &impl Abort, alloc: Global) -> Result<(), Fail> {
     let mut values = Vec::new(alloc);
-    values.push(F::from_kept(plain(alloc)?))?;
-    values.push(F::from_kept(last(alloc)?))?;
+    values.push(Rowless::<NUMBER>::Other(plain(alloc)?))?;
+    values.push(Rowless::<NUMBER>::Other(last(alloc)?))?;
     is_list(rt, alloc, (), &LIST, values.as_slice())
 }
 
-/// The family has no rows, and keeps every attribute as it came.
-fn keeps_every_attribute<F: RowlessFamily + ExactEq + Clone>(
+/// The family of the value, which keeps `MARKED`, has no rows, and keeps every attribute as it came.
+fn keeps_every_attribute<const NUMBER: u8>(
     rt: &impl Abort,
     alloc: Global,
     family: Family,
+    value: &Rowless<NUMBER>,
 ) -> Result<(), Fail> {
-    laws::kept_as_it_came::<F>();
-    assert_eq!(rt; <F as LinkFamily>::FAMILY, family);
-    has_shapes::<F>(rt, (), &[]);
-    keeps::<F>(rt, alloc, &PLAIN, plain(alloc)?)?;
-    keeps::<F>(rt, alloc, &MARKED, marked(alloc)?)?;
-    keeps::<F>(rt, alloc, &EMPTY, DefaultNla::new(0x3fff, Vec::new(alloc)))?;
-    is_kept(rt, alloc, (), &F::from_kept(unlisted(alloc)?))?;
-    compares_all::<F>(rt)?;
-    refuses_stray_bytes::<F>(rt, alloc);
-    has_lists::<F>(rt, alloc)
+    laws::kept_as_it_came::<NUMBER>();
+    assert_eq!(rt; <Rowless<NUMBER> as LinkFamily>::FAMILY, family);
+    has_shapes::<Rowless<NUMBER>>(rt, (), &[]);
+    is_read(rt, alloc, (), &MARKED, value)?;
+    keeps::<NUMBER>(rt, alloc, &PLAIN, plain(alloc)?)?;
+    keeps::<NUMBER>(rt, alloc, &MARKED, marked(alloc)?)?;
+    keeps::<NUMBER>(rt, alloc, &EMPTY, DefaultNla::new(0x3fff, Vec::new(alloc)))?;
+    is_kept(rt, alloc, (), &Rowless::<NUMBER>::Other(unlisted(alloc)?))?;
+    compares_all::<Rowless<NUMBER>>(rt)?;
+    refuses_stray_bytes::<Rowless<NUMBER>>(rt, alloc);
+    has_lists::<NUMBER>(rt, alloc)
 }
 
 #[test]
 fn bonds(rt: HostRuntime) -> Result<(), Fail> {
     let alloc = rt.alloc();
-    keeps_every_attribute::<InfoBond>(&rt, alloc, Family::Bond)?;
-    is_parsed(&rt, alloc, &MARKED, &InfoBond::Other(marked(alloc)?))
+    let value = InfoBond::Other(marked(alloc)?);
+    keeps_every_attribute(&rt, alloc, Family::Bond, &value)?;
+    is_parsed(&rt, alloc, &MARKED, &value)
 }
 
 #[test]
 fn ports_of_bonds(rt: HostRuntime) -> Result<(), Fail> {
     let alloc = rt.alloc();
-    keeps_every_attribute::<InfoBondPort>(&rt, alloc, Family::BondPort)?;
-    is_parsed(&rt, alloc, &MARKED, &InfoBondPort::Other(marked(alloc)?))
+    let value = InfoBondPort::Other(marked(alloc)?);
+    keeps_every_attribute(&rt, alloc, Family::BondPort, &value)?;
+    is_parsed(&rt, alloc, &MARKED, &value)
 }
 
 #[test]
 fn bridges(rt: HostRuntime) -> Result<(), Fail> {
     let alloc = rt.alloc();
-    keeps_every_attribute::<InfoBridge>(&rt, alloc, Family::Bridge)?;
-    is_parsed(&rt, alloc, &MARKED, &InfoBridge::Other(marked(alloc)?))
+    let value = InfoBridge::Other(marked(alloc)?);
+    keeps_every_attribute(&rt, alloc, Family::Bridge, &value)?;
+    is_parsed(&rt, alloc, &MARKED, &value)
 }
 
 #[test]
 fn ports_of_bridges(rt: HostRuntime) -> Result<(), Fail> {
     let alloc = rt.alloc();
-    keeps_every_attribute::<InfoBridgePort>(&rt, alloc, Family::BridgePort)?;
-    is_parsed(&rt, alloc, &MARKED, &InfoBridgePort::Other(marked(alloc)?))
+    let value = InfoBridgePort::Other(marked(alloc)?);
+    keeps_every_attribute(&rt, alloc, Family::BridgePort, &value)?;
+    is_parsed(&rt, alloc, &MARKED, &value)
 }
 
 #[test]
 fn can_devices(rt: HostRuntime) -> Result<(), Fail> {
     let alloc = rt.alloc();
-    keeps_every_attribute::<InfoCan>(&rt, alloc, Family::Can)?;
-    is_parsed(&rt, alloc, &MARKED, &InfoCan::Other(marked(alloc)?))
+    let value = InfoCan::Other(marked(alloc)?);
+    keeps_every_attribute(&rt, alloc, Family::Can, &value)?;
+    is_parsed(&rt, alloc, &MARKED, &value)
 }
 
 #[test]
 fn distributed_switches(rt: HostRuntime) -> Result<(), Fail> {
     let alloc = rt.alloc();
-    keeps_every_attribute::<InfoDsa>(&rt, alloc, Family::Dsa)?;
-    is_parsed(&rt, alloc, &MARKED, &InfoDsa::Other(marked(alloc)?))
+    let value = InfoDsa::Other(marked(alloc)?);
+    keeps_every_attribute(&rt, alloc, Family::Dsa, &value)?;
+    is_parsed(&rt, alloc, &MARKED, &value)
 }
 
 #[test]
 fn redundant_rings(rt: HostRuntime) -> Result<(), Fail> {
     let alloc = rt.alloc();
-    keeps_every_attribute::<InfoHsr>(&rt, alloc, Family::Hsr)?;
-    is_parsed(&rt, alloc, &MARKED, &InfoHsr::Other(marked(alloc)?))
+    let value = InfoHsr::Other(marked(alloc)?);
+    keeps_every_attribute(&rt, alloc, Family::Hsr, &value)?;
+    is_parsed(&rt, alloc, &MARKED, &value)
 }
 
 #[test]
 fn vlans(rt: HostRuntime) -> Result<(), Fail> {
     let alloc = rt.alloc();
-    keeps_every_attribute::<InfoVlan>(&rt, alloc, Family::Vlan)?;
-    is_parsed(&rt, alloc, &MARKED, &InfoVlan::Other(marked(alloc)?))
+    let value = InfoVlan::Other(marked(alloc)?);
+    keeps_every_attribute(&rt, alloc, Family::Vlan, &value)?;
+    is_parsed(&rt, alloc, &MARKED, &value)
 }
 
 #[test]
 fn tun_links(rt: HostRuntime) -> Result<(), Fail> {
     let alloc = rt.alloc();
-    keeps_every_attribute::<InfoTun>(&rt, alloc, Family::Tun)?;
-    is_parsed(&rt, alloc, &MARKED, &InfoTun::Other(marked(alloc)?))
+    let value = InfoTun::Other(marked(alloc)?);
+    keeps_every_attribute(&rt, alloc, Family::Tun, &value)?;
+    is_parsed(&rt, alloc, &MARKED, &value)
 }
 
 #[test]
 fn ports_of_teams(rt: HostRuntime) -> Result<(), Fail> {
     let alloc = rt.alloc();
-    keeps_every_attribute::<InfoTeamPort>(&rt, alloc, Family::TeamPort)?;
-    is_parsed(&rt, alloc, &MARKED, &InfoTeamPort::Other(marked(alloc)?))
+    let value = InfoTeamPort::Other(marked(alloc)?);
+    keeps_every_attribute(&rt, alloc, Family::TeamPort, &value)?;
+    is_parsed(&rt, alloc, &MARKED, &value)
 }
 
 #[test]
 fn wireguard_links(rt: HostRuntime) -> Result<(), Fail> {
     let alloc = rt.alloc();
-    keeps_every_attribute::<InfoWireguard>(&rt, alloc, Family::Wireguard)?;
-    is_parsed(&rt, alloc, &MARKED, &InfoWireguard::Other(marked(alloc)?))
+    let value = InfoWireguard::Other(marked(alloc)?);
+    keeps_every_attribute(&rt, alloc, Family::Wireguard, &value)?;
+    is_parsed(&rt, alloc, &MARKED, &value)
 }
 
 #[test]
 fn pfcp_links(rt: HostRuntime) -> Result<(), Fail> {
     let alloc = rt.alloc();
-    keeps_every_attribute::<InfoPfcp>(&rt, alloc, Family::Pfcp)?;
-    is_parsed(&rt, alloc, &MARKED, &InfoPfcp::Other(marked(alloc)?))
+    let value = InfoPfcp::Other(marked(alloc)?);
+    keeps_every_attribute(&rt, alloc, Family::Pfcp, &value)?;
+    is_parsed(&rt, alloc, &MARKED, &value)
 }

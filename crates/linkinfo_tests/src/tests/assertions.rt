@@ -95,6 +95,33 @@ pub fn assert_reads(
     Ok(())
 }
 
+/// The string is read as the value, written as `Debug` writes it, which is emitted as the canonical string.
+pub fn assert_value(
+    rt: &impl Abort,
+    alloc: Global,
+    text: &str,
+    canonical: &str,
+    value: &str,
+) -> Result<(), DecodeError> {
+    let string = bytes_of(rt, alloc, canonical)?;
+    let bytes = bytes_of(rt, alloc, text)?;
+    let read = VecLinkInfo::parse(alloc, &bytes)?;
+    let written = format!(in alloc; "{:?}", read.0.as_slice())?;
+    assert_eq!(rt;
+        (written.as_str(), check(&bytes), same(&bytes, &string)),
+        (value, Ok(()), Ok(true))
+    );
+    let mut count = HeaderCount::new();
+    for again in [
+        VecLinkInfo::parse(alloc, &string)?,
+        VecLinkInfo::parse_counted(alloc, &bytes, &mut count)?,
+    ] {
+        assert!(rt; again == read, "reading {text}");
+    }
+    assert_emitted(rt, alloc, read.0.as_slice(), &string)?;
+    Ok(())
+}
+
 /// The string is refused with this fault by every call.
 pub fn assert_refused(rt: &impl Abort, alloc: Global, bytes: &[u8], fault: DecodeError) {
     assert_eq!(rt; check(bytes), Err(fault), "checking {bytes:?}");

@@ -1,9 +1,9 @@
 //! A list of each kind and of each port kind. The strings are what a kernel, `ip` or pyroute2 wrote, or are made by the rows of the tables. Values are
 //! written as `Debug` writes them.
 
-use super::assertions::{assert_emitted, bytes_of};
+use super::assertions::{assert_value, bytes_of};
 use super::fronts::assert_fronts;
-use linkinfo::{DecodeError, VecLinkInfo, check, same};
+use linkinfo::{DecodeError, VecLinkInfo, same};
 use std::alloc::Global;
 use std::process::Abort;
 use std::test::Fail;
@@ -401,30 +401,6 @@ const REWRITTEN_ATTRIBUTES: &[Rewritten] = &[
         "[Kind(Netkit), Data(Netkit(Nlas { items: [Primary(true), Policy(Redirect)] }))]",
     ),
 ];
-
-/// The string is read as the value, which is emitted as the canonical string.
-fn assert_value(
-    rt: &impl Abort,
-    alloc: Global,
-    text: &str,
-    canonical: &str,
-    value: &str,
-) -> Result<(), DecodeError> {
-    let string = bytes_of(rt, alloc, canonical)?;
-    let bytes = bytes_of(rt, alloc, text)?;
-    let read = VecLinkInfo::parse(alloc, &bytes)?;
-    let written = format!(in alloc; "{:?}", read.0.as_slice())?;
-    assert_eq!(rt;
-        (written.as_str(), check(&bytes), same(&bytes, &string)),
-        (value, Ok(()), Ok(true))
-    );
-    assert!(rt;
-        VecLinkInfo::parse(alloc, &string)? == read,
-        "reading {text}"
-    );
-    assert_emitted(rt, alloc, read.0.as_slice(), &string)?;
-    Ok(())
-}
 
 /// The strings are read as two values. Each front of the first is read as it is checked.
 fn assert_changed(

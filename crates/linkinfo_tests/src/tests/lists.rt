@@ -1,15 +1,10 @@
 //! Lists that are read and emitted.
 
 use super::assertions::{assert_emitted, assert_reads, bytes_of, list_of};
-use super::worked::{
-    DATA_TWICE, EMPTY_NAME, LATER_KIND, OTHER_PORT, PFCP, PFCP_NO_NUL, PORT_DATA, VETH, VETH_TAIL,
-    XFRM, XSTATS,
-};
+use super::worked::{EMPTY_NAME, LATER_KIND, OTHER_PORT, PORT_DATA, VETH, XFRM, XSTATS};
 use linkinfo::{
-    Bytes, DefaultNla, InfoData, InfoKind, InfoPortData, InfoPortKind, InfoVeth, InfoVrf, InfoXfrm,
-    LinkInfo, LinkXstats, Nla, Nlas, Text, VecLinkInfo, check, nlas_fit_len,
+    InfoData, InfoKind, InfoVrf, InfoXfrm, LinkInfo, Nla, Nlas, VecLinkInfo, check, nlas_fit_len,
 };
-use std::alloc::{AllocError, Global};
 use std::test::Fail;
 
 /// Data of an xfrm link.
@@ -27,101 +22,11 @@ fn reads_the_empty_list(rt: HostRuntime) -> Result<(), Fail> {
 }
 
 #[test]
-fn reads_kinds(rt: HostRuntime) -> Result<(), Fail> {
-    let alloc = rt.alloc();
-    let pfcp = vec![in alloc; LinkInfo::Kind(InfoKind::Pfcp)]?;
-    assert_reads(&rt, alloc, PFCP_NO_NUL, pfcp, PFCP)?;
-    let empty = InfoKind::Other(Text::copy_of(alloc, "")?);
-    let items = vec![in alloc; LinkInfo::Kind(empty)]?;
-    assert_reads(&rt, alloc, EMPTY_NAME, items, "05000100 00000000")?;
-    let xfrm = vec![in alloc; LinkInfo::Kind(InfoKind::Xfrm)]?;
-    let marked = "09000180 7866726d 00000000";
-    assert_reads(&rt, alloc, marked, xfrm, "09000100 7866726d 00000000")?;
-    Ok(())
-}
-
-#[test]
 fn reads_data(rt: HostRuntime) -> Result<(), Fail> {
     let alloc = rt.alloc();
     let data = xfrm(vec![in alloc; InfoXfrm::Link(2), InfoXfrm::IfId(10)]?);
     let items = vec![in alloc; LinkInfo::Kind(InfoKind::Xfrm), data]?;
     assert_reads(&rt, alloc, XFRM, items, XFRM)?;
-    Ok(())
-}
-
-#[test]
-fn reads_data_twice(rt: HostRuntime) -> Result<(), Fail> {
-    let alloc = rt.alloc();
-    let first = xfrm(vec![in alloc;]?);
-    let second = xfrm(vec![in alloc; InfoXfrm::IfId(5)]?);
-    let items = vec![in alloc; LinkInfo::Kind(InfoKind::Xfrm), first, second]?;
-    assert_reads(&rt, alloc, DATA_TWICE, items, DATA_TWICE)?;
-    Ok(())
-}
-
-#[test]
-fn reads_data_of_a_later_kind(rt: HostRuntime) -> Result<(), Fail> {
-    let alloc = rt.alloc();
-    let data = xfrm(vec![in alloc;]?);
-    let items = vec![in alloc;
-        LinkInfo::Kind(InfoKind::Vrf),
-        LinkInfo::Kind(InfoKind::Xfrm),
-        data,
-    ]?;
-    assert_reads(&rt, alloc, LATER_KIND, items, LATER_KIND)?;
-    Ok(())
-}
-
-#[test]
-fn reads_the_first_attribute_alone(rt: HostRuntime) -> Result<(), Fail> {
-    let alloc = rt.alloc();
-    let peer = InfoVeth::Peer(Bytes::new(vec![in alloc; 0xaau8, 0xbb]?));
-    let items = vec![in alloc;
-        LinkInfo::Kind(InfoKind::Veth),
-        LinkInfo::Data(InfoData::Veth(peer)),
-    ]?;
-    assert_reads(&rt, alloc, VETH_TAIL, items, VETH)?;
-    Ok(())
-}
-
-#[test]
-fn reads_statistics(rt: HostRuntime) -> Result<(), Fail> {
-    let alloc = rt.alloc();
-    let xstats = LinkXstats::Other(Bytes::new(vec![in alloc; 1u8, 2]?));
-    let items = vec![in alloc; LinkInfo::Kind(InfoKind::Can), LinkInfo::Xstats(xstats)]?;
-    assert_reads(&rt, alloc, XSTATS, items, XSTATS)?;
-    Ok(())
-}
-
-#[test]
-fn reads_port_data(rt: HostRuntime) -> Result<(), Fail> {
-    let alloc = rt.alloc();
-    let items = vec![in alloc;
-        LinkInfo::PortKind(InfoPortKind::Vrf),
-        LinkInfo::PortData(InfoPortData::VrfPort(Nlas::new(vec![in alloc;]?))),
-    ]?;
-    assert_reads(&rt, alloc, PORT_DATA, items, PORT_DATA)?;
-    let other = InfoPortKind::Other(Text::copy_of(alloc, "x")?);
-    let payload = Bytes::new(vec![in alloc; 7u8]?);
-    let items = vec![in alloc;
-        LinkInfo::PortKind(other),
-        LinkInfo::PortData(InfoPortData::Other(payload)),
-    ]?;
-    let canonical = "06000400 78000000 05000500 07000000";
-    assert_reads(&rt, alloc, OTHER_PORT, items, canonical)?;
-    Ok(())
-}
-
-/// The list of one attribute of an unknown type.
-fn unknown(alloc: Global, kind: u16) -> Result<Vec<LinkInfo>, AllocError> {
-    Ok(vec![in alloc; LinkInfo::Other(DefaultNla::new(kind, vec![in alloc;]?))]?)
-}
-
-#[test]
-fn keeps_unknown_attributes(rt: HostRuntime) -> Result<(), Fail> {
-    let alloc = rt.alloc();
-    assert_reads(&rt, alloc, "04000980", unknown(alloc, 0x8009)?, "04000980")?;
-    assert_reads(&rt, alloc, "04000900", unknown(alloc, 9)?, "04000900")?;
     Ok(())
 }
 

@@ -1,175 +1,165 @@
-//! Lists of typed values: a list or more of each group of families, and of each shape of data.
+//! Worked strings and the lists that they are read as: a list or more of each group of families, and of each shape of data.
 
-use super::assertions::assert_reads;
+use super::assertions::assert_value;
 use super::worked::{
-    BAREUDP, BATADV, BOND_PORT, BRIDGE_PORT, GRE_DISCOVERY, GRE_NO_DISCOVERY, GTP, IP6TNL_FLAGS,
-    IPIP_FLAGS, IPOIB, IPVLAN, IPVLAN_NO_FLAGS, IPVTAP, MACVLAN_LIST, MACVLAN_SHORT_LIST,
-    NETKIT_SCRUB, NETKIT_SCRUB_DEFAULT, SIT_FLAGS, TEAM_PORT, VTI6,
+    BAREUDP, BATADV, BOND_PORT, BRIDGE_PORT, DATA_TWICE, EMPTY_NAME, GRE_DISCOVERY,
+    GRE_NO_DISCOVERY, GTP, IP6TNL_FLAGS, IPIP_FLAGS, IPOIB, IPVLAN, IPVLAN_NO_FLAGS, IPVTAP,
+    LATER_KIND, MACVLAN_LIST, MACVLAN_SHORT_LIST, NETKIT_SCRUB, NETKIT_SCRUB_DEFAULT, OTHER_PORT,
+    PFCP, PFCP_NO_NUL, PORT_DATA, SIT_FLAGS, TEAM_PORT, VETH, VETH_TAIL, VTI6, XSTATS,
 };
-use linkinfo::{
-    DefaultNla, EthernetProtocol, GtpRole, InfoBareUdp, InfoBatAdv, InfoBondPort, InfoBridgePort,
-    InfoData, InfoGre, InfoGtp, InfoIpTunnel, InfoIpVlan, InfoIpVtap, InfoIpoib, InfoKind,
-    InfoMacVlan, InfoNetkit, InfoPortData, InfoPortKind, InfoTeamPort, InfoVti, Ip6TunnelFlags,
-    IpVlanFlags, IpVlanMode, IpoibMode, LinkInfo, NetkitScrub, Nlas, Text,
-};
-use std::alloc::{AllocError, Global};
 use std::test::Fail;
 
-/// A link of a kind with its data.
-fn link(alloc: Global, kind: InfoKind, data: InfoData) -> Result<Vec<LinkInfo>, AllocError> {
-    Ok(vec![in alloc; LinkInfo::Kind(kind), LinkInfo::Data(data)]?)
-}
+/// A string, the canonical one of the same list, and what both are read as, written as `Debug` writes it.
+const VALUES: &[(&str, &str, &str)] = &[
+    (
+        GTP,
+        GTP,
+        "[Kind(Gtp), Data(Gtp(Nlas { items: [CreateSockets(true), Role(Sgsn), PdpHashsize(1024)] }))]",
+    ),
+    (
+        BAREUDP,
+        BAREUDP,
+        "[Kind(BareUdp), Data(BareUdp(Nlas { items: [Port(6635), Ethertype(MplsUc)] }))]",
+    ),
+    (
+        IPIP_FLAGS,
+        IPIP_FLAGS,
+        "[Kind(IpIp), Data(IpTunnel(Nlas { items: [Ipv4Flags(16)] }))]",
+    ),
+    (
+        SIT_FLAGS,
+        SIT_FLAGS,
+        "[Kind(SitTun), Data(IpTunnel(Nlas { items: [Ipv6SitFlags(16)] }))]",
+    ),
+    (
+        IP6TNL_FLAGS,
+        IP6TNL_FLAGS,
+        "[Kind(Ip6Tnl), Data(IpTunnel(Nlas { items: [Ipv6Flags(Ip6TunnelFlags(65536))] }))]",
+    ),
+    (
+        GRE_DISCOVERY,
+        GRE_NO_DISCOVERY,
+        "[Kind(GreTun), Data(GreTun(Nlas { items: [PathMTUDiscovery(false)] }))]",
+    ),
+    (
+        VTI6,
+        VTI6,
+        "[Kind(Vti6), Data(Vti(Nlas { items: [IKey(9)] }))]",
+    ),
+    (
+        IPVLAN,
+        IPVLAN,
+        "[Kind(IpVlan), Data(IpVlan(Nlas { items: [Mode(L2), Flags(IpVlanFlags(2))] }))]",
+    ),
+    (
+        IPVLAN_NO_FLAGS,
+        IPVLAN_NO_FLAGS,
+        "[Kind(IpVlan), Data(IpVlan(Nlas { items: [Mode(L2), Flags(IpVlanFlags(0))] }))]",
+    ),
+    (
+        IPVTAP,
+        IPVTAP,
+        "[Kind(IpVtap), Data(IpVtap(Nlas { items: [Mode(L2), Flags(IpVlanFlags(2))] }))]",
+    ),
+    (
+        IPOIB,
+        IPOIB,
+        "[Kind(Ipoib), Data(Ipoib(Nlas { items: [Pkey(32769), Mode(Connected)] }))]",
+    ),
+    (
+        MACVLAN_SHORT_LIST,
+        MACVLAN_LIST,
+        "[Kind(MacVlan), Data(MacVlan(Nlas { items: [MacAddrData(Nlas { items: [MacAddr([2, 0, 0, 0, 0, 1])] })] }))]",
+    ),
+    (
+        NETKIT_SCRUB,
+        NETKIT_SCRUB_DEFAULT,
+        "[Kind(Netkit), Data(Netkit(Nlas { items: [Scrub(Default)] }))]",
+    ),
+    (
+        BATADV,
+        BATADV,
+        r#"[Kind(BatAdv), Data(BatAdv(Nlas { items: [AlgoName(Text { text: "BATMAN_IV" })] }))]"#,
+    ),
+    (
+        BOND_PORT,
+        BOND_PORT,
+        "[PortKind(Bond), PortData(BondPort(Nlas { items: [Other(DefaultNla { kind: 1, value: Bytes { bytes: [1, 2, 3, 4] } })] }))]",
+    ),
+    (
+        BRIDGE_PORT,
+        BRIDGE_PORT,
+        "[PortKind(Bridge), PortData(BridgePort(Nlas { items: [Other(DefaultNla { kind: 1, value: Bytes { bytes: [3] } })] }))]",
+    ),
+    (
+        TEAM_PORT,
+        TEAM_PORT,
+        "[PortKind(Team), PortData(TeamPort(Nlas { items: [Other(DefaultNla { kind: 32769, value: Bytes { bytes: [7] } })] }))]",
+    ),
+];
 
-/// A port of a kind with its data.
-fn port(
-    alloc: Global,
-    kind: InfoPortKind,
-    data: InfoPortData,
-) -> Result<Vec<LinkInfo>, AllocError> {
-    Ok(vec![in alloc; LinkInfo::PortKind(kind), LinkInfo::PortData(data)]?)
-}
+/// The list itself, likewise: its attributes, and the kinds that they go by.
+const LISTS: &[(&str, &str, &str)] = &[
+    ("", "", "[]"),
+    (PFCP_NO_NUL, PFCP, "[Kind(Pfcp)]"),
+    (
+        EMPTY_NAME,
+        "05000100 00000000",
+        r#"[Kind(Other(Text { text: "" }))]"#,
+    ),
+    (
+        "09000180 7866726d 00000000",
+        "09000100 7866726d 00000000",
+        "[Kind(Xfrm)]",
+    ),
+    (
+        DATA_TWICE,
+        DATA_TWICE,
+        "[Kind(Xfrm), Data(Xfrm(Nlas { items: [] })), Data(Xfrm(Nlas { items: [IfId(5)] }))]",
+    ),
+    (
+        LATER_KIND,
+        LATER_KIND,
+        "[Kind(Vrf), Kind(Xfrm), Data(Xfrm(Nlas { items: [] }))]",
+    ),
+    (
+        VETH_TAIL,
+        VETH,
+        "[Kind(Veth), Data(Veth(Peer(Bytes { bytes: [170, 187] })))]",
+    ),
+    (
+        XSTATS,
+        XSTATS,
+        "[Kind(Can), Xstats(Other(Bytes { bytes: [1, 2] }))]",
+    ),
+    (
+        PORT_DATA,
+        PORT_DATA,
+        "[PortKind(Vrf), PortData(VrfPort(Nlas { items: [] }))]",
+    ),
+    (
+        OTHER_PORT,
+        "06000400 78000000 05000500 07000000",
+        r#"[PortKind(Other(Text { text: "x" })), PortData(Other(Bytes { bytes: [7] }))]"#,
+    ),
+    (
+        "04000980",
+        "04000980",
+        "[Other(DefaultNla { kind: 32777, value: Bytes { bytes: [] } })]",
+    ),
+    (
+        "04000900",
+        "04000900",
+        "[Other(DefaultNla { kind: 9, value: Bytes { bytes: [] } })]",
+    ),
+];
 
 #[test]
-fn lists_of_gtp(rt: HostRuntime) -> Result<(), Fail> {
-    let alloc = rt.alloc();
-    let items = vec![in alloc;
-        InfoGtp::CreateSockets(true),
-        InfoGtp::Role(GtpRole::Sgsn),
-        InfoGtp::PdpHashsize(1024),
-    ]?;
-    let wanted = link(alloc, InfoKind::Gtp, InfoData::Gtp(Nlas::new(items)))?;
-    assert_reads(&rt, alloc, GTP, wanted, GTP)?;
-    Ok(())
-}
-
-#[test]
-fn lists_of_bareudp(rt: HostRuntime) -> Result<(), Fail> {
-    let alloc = rt.alloc();
-    let items = vec![in alloc;
-        InfoBareUdp::Port(6635),
-        InfoBareUdp::Ethertype(EthernetProtocol::MplsUc),
-    ]?;
-    let wanted = link(
-        alloc,
-        InfoKind::BareUdp,
-        InfoData::BareUdp(Nlas::new(items)),
-    )?;
-    assert_reads(&rt, alloc, BAREUDP, wanted, BAREUDP)?;
-    Ok(())
-}
-
-/// A link of one of the kinds of `InfoIpTunnel`, with one attribute.
-fn tunnel(alloc: Global, kind: InfoKind, item: InfoIpTunnel) -> Result<Vec<LinkInfo>, AllocError> {
-    let items = Nlas::new(vec![in alloc; item]?);
-    link(alloc, kind, InfoData::IpTunnel(items))
-}
-
-#[test]
-fn flags_of_tunnels_by_kind(rt: HostRuntime) -> Result<(), Fail> {
-    let alloc = rt.alloc();
-    let wanted = tunnel(alloc, InfoKind::IpIp, InfoIpTunnel::Ipv4Flags(16))?;
-    assert_reads(&rt, alloc, IPIP_FLAGS, wanted, IPIP_FLAGS)?;
-    let wanted = tunnel(alloc, InfoKind::SitTun, InfoIpTunnel::Ipv6SitFlags(16))?;
-    assert_reads(&rt, alloc, SIT_FLAGS, wanted, SIT_FLAGS)?;
-    let flags = InfoIpTunnel::Ipv6Flags(Ip6TunnelFlags::CapXmit);
-    let wanted = tunnel(alloc, InfoKind::Ip6Tnl, flags)?;
-    assert_reads(&rt, alloc, IP6TNL_FLAGS, wanted, IP6TNL_FLAGS)?;
-    Ok(())
-}
-
-#[test]
-fn lists_of_gre_and_vti6(rt: HostRuntime) -> Result<(), Fail> {
-    let alloc = rt.alloc();
-    let items = Nlas::new(vec![in alloc; InfoGre::PathMTUDiscovery(false)]?);
-    let wanted = link(alloc, InfoKind::GreTun, InfoData::GreTun(items))?;
-    assert_reads(&rt, alloc, GRE_DISCOVERY, wanted, GRE_NO_DISCOVERY)?;
-    let items = Nlas::new(vec![in alloc; InfoVti::IKey(9)]?);
-    let wanted = link(alloc, InfoKind::Vti6, InfoData::Vti(items))?;
-    assert_reads(&rt, alloc, VTI6, wanted, VTI6)?;
-    Ok(())
-}
-
-#[test]
-fn lists_of_ipvlan(rt: HostRuntime) -> Result<(), Fail> {
-    let alloc = rt.alloc();
-    for (string, flags) in [
-        (IPVLAN, IpVlanFlags::Vepa),
-        (IPVLAN_NO_FLAGS, IpVlanFlags::default()),
-    ] {
-        let items = vec![in alloc; InfoIpVlan::Mode(IpVlanMode::L2), InfoIpVlan::Flags(flags)]?;
-        let wanted = link(alloc, InfoKind::IpVlan, InfoData::IpVlan(Nlas::new(items)))?;
-        assert_reads(&rt, alloc, string, wanted, string)?;
+fn worked_values(rt: HostRuntime) -> Result<(), Fail> {
+    for rows in [VALUES, LISTS] {
+        for (text, canonical, value) in rows {
+            assert_value(&rt, rt.alloc(), text, canonical, value)?;
+        }
     }
-    Ok(())
-}
-
-#[test]
-fn lists_of_ipvtap(rt: HostRuntime) -> Result<(), Fail> {
-    let alloc = rt.alloc();
-    let items = vec![in alloc;
-        InfoIpVtap::Mode(IpVlanMode::L2),
-        InfoIpVtap::Flags(IpVlanFlags::Vepa),
-    ]?;
-    let wanted = link(alloc, InfoKind::IpVtap, InfoData::IpVtap(Nlas::new(items)))?;
-    assert_reads(&rt, alloc, IPVTAP, wanted, IPVTAP)?;
-    Ok(())
-}
-
-#[test]
-fn lists_of_ipoib(rt: HostRuntime) -> Result<(), Fail> {
-    let alloc = rt.alloc();
-    let items = vec![in alloc;
-        InfoIpoib::Pkey(0x8001),
-        InfoIpoib::Mode(IpoibMode::Connected),
-    ]?;
-    let wanted = link(alloc, InfoKind::Ipoib, InfoData::Ipoib(Nlas::new(items)))?;
-    assert_reads(&rt, alloc, IPOIB, wanted, IPOIB)?;
-    Ok(())
-}
-
-#[test]
-fn lists_inside_macvlan(rt: HostRuntime) -> Result<(), Fail> {
-    let alloc = rt.alloc();
-    let addresses = Nlas::new(vec![in alloc; InfoMacVlan::MacAddr([2, 0, 0, 0, 0, 1])]?);
-    let items = Nlas::new(vec![in alloc; InfoMacVlan::MacAddrData(addresses)]?);
-    let wanted = link(alloc, InfoKind::MacVlan, InfoData::MacVlan(items))?;
-    assert_reads(&rt, alloc, MACVLAN_SHORT_LIST, wanted, MACVLAN_LIST)?;
-    Ok(())
-}
-
-#[test]
-fn lists_of_netkit_and_batadv(rt: HostRuntime) -> Result<(), Fail> {
-    let alloc = rt.alloc();
-    let items = Nlas::new(vec![in alloc; InfoNetkit::Scrub(NetkitScrub::Default)]?);
-    let wanted = link(alloc, InfoKind::Netkit, InfoData::Netkit(items))?;
-    assert_reads(&rt, alloc, NETKIT_SCRUB, wanted, NETKIT_SCRUB_DEFAULT)?;
-    let name = InfoBatAdv::AlgoName(Text::copy_of(alloc, "BATMAN_IV")?);
-    let items = Nlas::new(vec![in alloc; name]?);
-    let wanted = link(alloc, InfoKind::BatAdv, InfoData::BatAdv(items))?;
-    assert_reads(&rt, alloc, BATADV, wanted, BATADV)?;
-    Ok(())
-}
-
-#[test]
-fn lists_of_bond_ports(rt: HostRuntime) -> Result<(), Fail> {
-    let alloc = rt.alloc();
-    let kept = InfoBondPort::Other(DefaultNla::new(1, vec![in alloc; 1u8, 2, 3, 4]?));
-    let data = InfoPortData::BondPort(Nlas::new(vec![in alloc; kept]?));
-    let wanted = port(alloc, InfoPortKind::Bond, data)?;
-    assert_reads(&rt, alloc, BOND_PORT, wanted, BOND_PORT)?;
-    Ok(())
-}
-
-#[test]
-fn lists_of_bridge_and_team_ports(rt: HostRuntime) -> Result<(), Fail> {
-    let alloc = rt.alloc();
-    let kept = InfoBridgePort::Other(DefaultNla::new(1, vec![in alloc; 3u8]?));
-    let data = InfoPortData::BridgePort(Nlas::new(vec![in alloc; kept]?));
-    let wanted = port(alloc, InfoPortKind::Bridge, data)?;
-    assert_reads(&rt, alloc, BRIDGE_PORT, wanted, BRIDGE_PORT)?;
-    let kept = InfoTeamPort::Other(DefaultNla::new(0x8001, vec![in alloc; 7u8]?));
-    let data = InfoPortData::TeamPort(Nlas::new(vec![in alloc; kept]?));
-    let wanted = port(alloc, InfoPortKind::Team, data)?;
-    assert_reads(&rt, alloc, TEAM_PORT, wanted, TEAM_PORT)?;
     Ok(())
 }

@@ -1,67 +1,74 @@
-use Rattle.std.proofs.Common.{◌∙◌, sym, ap, rules}
+use Rattle.std.proofs.Common.{◌≡◌, ◌∙◌, false, sym, ap, Err, rules}
+use Rattle.std.specs.Prelude.{◌≢◌}
+use Rattle.nla_frame.specs.Attribute.{Attribute}
+use Rattle.nla_frame.specs.Error.{memory_fault}
+use Rattle.nla_frame.specs.declared.error.DecodeError.{DecodeError}
 use Rattle.nla_frame.specs.declared.error.Family.TheVariants as family
 use Rattle.linkinfo_numbers.specs.Kind.{kind_of_name}
 use Rattle.linkinfo_numbers.specs.PortKind.{port_kind_of_name}
+use Rattle.linkinfo_shapes.specs.Shapes.{needs_memory}
+use Rattle.linkinfo_shapes.specs.declared.shape.Shape.TheVariants.{Name}
 use Rattle.linkinfo_table.specs.Rows.{row_meaning, row_needs_memory}
+use Rattle.linkinfo_data.specs.Families.{Families}
 use Rattle.linkinfo.specs.declared.link_info.LinkInfoOf.TheVariants as info
 use Rattle.linkinfo.specs.declared.role.Role.{Role}
+use Rattle.linkinfo.specs.declared.role.Role.TheVariants as role
 use Rattle.linkinfo.specs.Items.{link_other, link_row}
-use Rattle.linkinfo.proofs.Naming.{named_ok, named_err, name_needs, not_both}
+use Rattle.linkinfo.specs.Roles.{name_meaning, with_name}
+use Rattle.linkinfo.proofs.Naming.{made_err, made_ok}
 use Rattle.linkinfo.proofs.item.read_item.Goals as goal
 use Rattle.linkinfo_data.specs.PeerFamilies.{families_of}
 
-pub returns-in_err-name_in-in-Kind-clause-answer : goal.returns-in_err-name_in-in-Kind-clause-answer
-returns-in_err-name_in-in-Kind-clause-answer g c =
-    let fault =
+module _ {P : Type 0} (peer : Families P) (r : Role) (a : Attribute) (d : DecodeError) (is : r ≡ role.Kind) where
+  read_kind_fault : (d ≢ memory_fault → with_name (name_meaning a) kind_of_name ≡ Err d) → d ≢ memory_fault → row_meaning family.LinkInfo link_other (link_row peer r) a ≡ Err d
+  read_kind_fault h ample =
+      ap (λ (s : Role). row_meaning family.LinkInfo link_other (link_row peer s) a) is ∙ made_err kind_of_name (λ kind. info.Kind kind) a d (h ample)
+
+  read_kind_certain : (needs_memory Name a.value ≡ false → with_name (name_meaning a) kind_of_name ≡ Err d) →
+      row_needs_memory (link_row peer r) a ≡ false → row_meaning family.LinkInfo link_other (link_row peer r) a ≡ Err d
+  read_kind_certain h none =
+      ap (λ (s : Role). row_meaning family.LinkInfo link_other (link_row peer s) a) is
+      ∙ made_err kind_of_name (λ kind. info.Kind kind) a d (h (sym (ap (λ (s : Role). row_needs_memory (link_row peer s) a) is) ∙ none))
+
+pub returns-in_err-read_kind-in-Kind-clause-answer : goal.returns-in_err-read_kind-in-Kind-clause-answer
+returns-in_err-read_kind-in-Kind-clause-answer g c =
+    let fault = read_kind_fault (families_of g.row.P g.P.LinkPeer) _ c.args.nla.now _ c.in-Kind.is c.in_err-read_kind-in-Kind.ensures.answer in search rules
+
+pub returns-in_err-read_kind-in-Kind-clause-certain : goal.returns-in_err-read_kind-in-Kind-clause-certain
+returns-in_err-read_kind-in-Kind-clause-certain g c =
+    let fault = read_kind_certain (families_of g.row.P g.P.LinkPeer) _ c.args.nla.now _ c.in-Kind.is c.in_err-read_kind-in-Kind.ensures.certain in search rules
+
+pub returns-in_ok-read_kind-in-Kind-clause-answer : goal.returns-in_ok-read_kind-in-Kind-clause-answer
+returns-in_ok-read_kind-in-Kind-clause-answer g c =
     ap (λ (r : Role). row_meaning family.LinkInfo link_other (link_row (families_of g.row.P g.P.LinkPeer) r) c.args.nla.now) c.in-Kind.is
-    ∙ named_err (λ name. info.Kind (kind_of_name name)) _ _ c.in_err-name_in-in-Kind.ensures in
-    search rules
+    ∙ made_ok kind_of_name (λ kind. info.Kind kind) _ _ c.in_ok-read_kind-in-Kind.ensures.answer
 
-pub returns-in_err-name_in-in-Kind-clause-certain : goal.returns-in_err-name_in-in-Kind-clause-certain
-returns-in_err-name_in-in-Kind-clause-certain g c =
-    let fault =
-    ap (λ (r : Role). row_meaning family.LinkInfo link_other (link_row (families_of g.row.P g.P.LinkPeer) r) c.args.nla.now) c.in-Kind.is
-    ∙ named_err (λ name. info.Kind (kind_of_name name)) _ _ c.in_err-name_in-in-Kind.ensures in
-    search rules
+pub returns-in_ok-read_kind-in-Kind-clause-certain : goal.returns-in_ok-read_kind-in-Kind-clause-certain
+returns-in_ok-read_kind-in-Kind-clause-certain g c = λ _. returns-in_ok-read_kind-in-Kind-clause-answer g c
 
-pub returns-in_err-from_text-in-Kind-clause-certain : goal.returns-in_err-from_text-in-Kind-clause-certain
-returns-in_err-from_text-in-Kind-clause-certain g c = λ none.
-    absurd
-    (not_both _
-    (ap (λ (r : Role). row_needs_memory (link_row (families_of g.row.P g.P.LinkPeer) r) c.args.nla.now) c.in-Kind.is ∙ name_needs _ _ c.in_ok-name_in-in-Kind.ensures) none)
+module _ {P : Type 0} (peer : Families P) (r : Role) (a : Attribute) (d : DecodeError) (is : r ≡ role.PortKind) where
+  read_port_kind_fault : (d ≢ memory_fault → with_name (name_meaning a) port_kind_of_name ≡ Err d) → d ≢ memory_fault → row_meaning family.LinkInfo link_other (link_row peer r) a ≡ Err d
+  read_port_kind_fault h ample =
+      ap (λ (s : Role). row_meaning family.LinkInfo link_other (link_row peer s) a) is ∙ made_err port_kind_of_name (λ kind. info.PortKind kind) a d (h ample)
 
-pub returns-in_ok-from_text-in-Kind-clause-answer : goal.returns-in_ok-from_text-in-Kind-clause-answer
-returns-in_ok-from_text-in-Kind-clause-answer g c =
-    ap (λ (r : Role). row_meaning family.LinkInfo link_other (link_row (families_of g.row.P g.P.LinkPeer) r) c.args.nla.now) c.in-Kind.is
-    ∙ named_ok (λ name. info.Kind (kind_of_name name)) _ _ _ c.in_ok-name_in-in-Kind.ensures (ap info.Kind (sym c.in_ok-from_text-in-Kind.ensures.kind))
+  read_port_kind_certain : (needs_memory Name a.value ≡ false → with_name (name_meaning a) port_kind_of_name ≡ Err d) →
+      row_needs_memory (link_row peer r) a ≡ false → row_meaning family.LinkInfo link_other (link_row peer r) a ≡ Err d
+  read_port_kind_certain h none =
+      ap (λ (s : Role). row_meaning family.LinkInfo link_other (link_row peer s) a) is
+      ∙ made_err port_kind_of_name (λ kind. info.PortKind kind) a d (h (sym (ap (λ (s : Role). row_needs_memory (link_row peer s) a) is) ∙ none))
 
-pub returns-in_ok-from_text-in-Kind-clause-certain : goal.returns-in_ok-from_text-in-Kind-clause-certain
-returns-in_ok-from_text-in-Kind-clause-certain g c = λ _. returns-in_ok-from_text-in-Kind-clause-answer g c
+pub returns-in_err-read_port_kind-in-PortKind-clause-answer : goal.returns-in_err-read_port_kind-in-PortKind-clause-answer
+returns-in_err-read_port_kind-in-PortKind-clause-answer g c =
+    let fault = read_port_kind_fault (families_of g.row.P g.P.LinkPeer) _ c.args.nla.now _ c.in-PortKind.is c.in_err-read_port_kind-in-PortKind.ensures.answer in search rules
 
-pub returns-in_err-name_in-in-PortKind-clause-answer : goal.returns-in_err-name_in-in-PortKind-clause-answer
-returns-in_err-name_in-in-PortKind-clause-answer g c =
-    let fault =
+pub returns-in_err-read_port_kind-in-PortKind-clause-certain : goal.returns-in_err-read_port_kind-in-PortKind-clause-certain
+returns-in_err-read_port_kind-in-PortKind-clause-certain g c =
+    let fault = read_port_kind_certain (families_of g.row.P g.P.LinkPeer) _ c.args.nla.now _ c.in-PortKind.is c.in_err-read_port_kind-in-PortKind.ensures.certain in search rules
+
+pub returns-in_ok-read_port_kind-in-PortKind-clause-answer : goal.returns-in_ok-read_port_kind-in-PortKind-clause-answer
+returns-in_ok-read_port_kind-in-PortKind-clause-answer g c =
     ap (λ (r : Role). row_meaning family.LinkInfo link_other (link_row (families_of g.row.P g.P.LinkPeer) r) c.args.nla.now) c.in-PortKind.is
-    ∙ named_err (λ name. info.PortKind (port_kind_of_name name)) _ _ c.in_err-name_in-in-PortKind.ensures in
-    search rules
+    ∙ made_ok port_kind_of_name (λ kind. info.PortKind kind) _ _ c.in_ok-read_port_kind-in-PortKind.ensures.answer
 
-pub returns-in_err-name_in-in-PortKind-clause-certain : goal.returns-in_err-name_in-in-PortKind-clause-certain
-returns-in_err-name_in-in-PortKind-clause-certain g c =
-    let fault =
-    ap (λ (r : Role). row_meaning family.LinkInfo link_other (link_row (families_of g.row.P g.P.LinkPeer) r) c.args.nla.now) c.in-PortKind.is
-    ∙ named_err (λ name. info.PortKind (port_kind_of_name name)) _ _ c.in_err-name_in-in-PortKind.ensures in
-    search rules
-
-pub returns-in_err-kind-in-PortKind-clause-certain : goal.returns-in_err-kind-in-PortKind-clause-certain
-returns-in_err-kind-in-PortKind-clause-certain g c = λ none.
-    absurd
-    (not_both _
-    (ap (λ (r : Role). row_needs_memory (link_row (families_of g.row.P g.P.LinkPeer) r) c.args.nla.now) c.in-PortKind.is ∙ name_needs _ _ c.in_ok-name_in-in-PortKind.ensures) none)
-
-pub returns-in_ok-kind-in-PortKind-clause-answer : goal.returns-in_ok-kind-in-PortKind-clause-answer
-returns-in_ok-kind-in-PortKind-clause-answer g c =
-    ap (λ (r : Role). row_meaning family.LinkInfo link_other (link_row (families_of g.row.P g.P.LinkPeer) r) c.args.nla.now) c.in-PortKind.is
-    ∙ named_ok (λ name. info.PortKind (port_kind_of_name name)) _ _ _ c.in_ok-name_in-in-PortKind.ensures (ap info.PortKind (sym c.in_ok-kind-in-PortKind.ensures.kind))
-
-pub returns-in_ok-kind-in-PortKind-clause-certain : goal.returns-in_ok-kind-in-PortKind-clause-certain
-returns-in_ok-kind-in-PortKind-clause-certain g c = λ _. returns-in_ok-kind-in-PortKind-clause-answer g c
+pub returns-in_ok-read_port_kind-in-PortKind-clause-certain : goal.returns-in_ok-read_port_kind-in-PortKind-clause-certain
+returns-in_ok-read_port_kind-in-PortKind-clause-certain g c = λ _. returns-in_ok-read_port_kind-in-PortKind-clause-answer g c

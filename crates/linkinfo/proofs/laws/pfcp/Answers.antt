@@ -1,5 +1,4 @@
 use Rattle.nla_frame.specs.Pieces.{pieces}
-use Rattle.std.specs.Prelude.{◌≡◌, Bool, true, refl}
 use Rattle.std.proofs.Common.{ap}
 use Rattle.linkinfo.specs.declared.role.Role.{Role}
 use Rattle.linkinfo.specs.BeforePfcp.{HasNoPfcpData, is_pfcp_data, alike_strings_before, reading_before}

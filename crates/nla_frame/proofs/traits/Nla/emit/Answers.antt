@@ -1,10 +1,10 @@
-use Rattle.std.proofs.Common.{◌∙◌, ◌+◌, ◌-◌, arith}
-use Rattle.nla_frame.proofs.Emitting.{framed}
+use Rattle.std.proofs.Common.{◌∙◌, ◌-◌, length, refl}
+use Rattle.nla_frame.proofs.Emitting.{framed_behind}
 use Rattle.nla_frame.proofs.traits.Nla.emit.Goals as goal
 
 pub returns : goal.returns
 returns g c =
-    let len = c.value_len-len.result in
+    let buffer = c.args.buffer.now in
     c.put_frame.ensures
-    ∙ framed (g.Self.Nla.attribute c.args.self.now) c.args.buffer.now c.emit_value.new.buffer len ((4 + len) - 4) c.kind.result
-    c.value_len-len.ensures (omega arith) c.kind.ensures c.requires.room c.emit_value.ensures
+    ∙ framed_behind (g.Self.Nla.attribute c.args.self.now) buffer c.emit_payload-len.new.buffer c.emit_payload-len.result (length buffer - 4) c.kind.result
+    c.emit_payload-len.ensures.taken refl c.kind.ensures c.requires.room c.emit_payload-len.ensures.written

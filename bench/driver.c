@@ -1,0 +1,215 @@
+// The library's calls on the lists of a file: nanoseconds of each, and under callgrind a dump of the instructions of each.
+//
+//   driver LISTS time ROUNDS   a table of nanoseconds: the least of many rounds
+//   driver LISTS grow ROUNDS   nanoseconds a byte of lists up to 64 KiB, and of lists nested to 128
+//   driver LISTS count         for callgrind: a dump for each list and operation, of 200 runs
+//
+// A list is a line: its name, how its data is framed (`-`: as bytes; `a`: as attributes; `n`: so are those of type 5 inside), and its bytes as hex.
+#include <stdbool.h>
+#include <stdint.h>
+#include <stdio.h>
+#include <stdlib.h>
+#include <string.h>
+#include <time.h>
+#include <valgrind/callgrind.h>
+
+bool bench_check(const uint8_t *bytes, size_t len);
+bool bench_same(const uint8_t *a, size_t a_len, const uint8_t *b, size_t b_len);
+bool bench_parse(const uint8_t *bytes, size_t len);
+size_t bench_emit(const uint8_t *bytes, size_t len, uint8_t *buffer, size_t room, uint32_t times);
+
+typedef struct {
+    char name[32], data;
+    uint8_t *bytes, *equal, *alike, *out;
+    size_t len;
+} List;
+
+enum { CHECK, EQUAL, SAME, PARSE, EMIT, SCAN, OPERATIONS };
+static const char *NAMES[] = {"check", "equal", "same", "parse", "emit", "scan"};
+
+static volatile size_t sink;
+
+// The framing of headers alone: of the list, of its data where that is attributes, and of the lists inside that.
+static __attribute__((noinline)) bool scan(const uint8_t *p, size_t n, int depth, char data) {
+    while (n) {
+        if (n < 4) return false;
+        uint32_t len = p[0] | p[1] << 8, kind = (p[2] | p[3] << 8) & 0x3fff;
+        if (len < 4 || len > n) return false;
+        bool inner = depth == 0 ? data != '-' && (kind == 2 || kind == 5) : data == 'n' && kind == 5;
+        if (inner && !scan(p + 4, len - 4, depth + 1, data)) return false;
+        size_t step = (len + 3) & ~(size_t)3;
+        if (step >= n) return true;
+        p += step;
+        n -= step;
+    }
+    return true;
+}
+
+static void run(const List *l, int operation, uint32_t times) {
+    switch (operation) {
+    case CHECK: for (uint32_t i = 0; i < times; i++) sink += bench_check(l->bytes, l->len); break;
+    case EQUAL: for (uint32_t i = 0; i < times; i++) sink += bench_same(l->bytes, l->len, l->equal, l->len); break;
+    case SAME: for (uint32_t i = 0; i < times; i++) sink += bench_same(l->bytes, l->len, l->alike, l->len); break;
+    case PARSE: for (uint32_t i = 0; i < times; i++) sink += bench_parse(l->bytes, l->len); break;
+    case EMIT: sink += bench_emit(l->bytes, l->len, l->out, l->len + 4096, times); break;
+    case SCAN: for (uint32_t i = 0; i < times; i++) sink += scan(l->bytes, l->len, 0, l->data); break;
+    }
+}
+
+static double now(void) {
+    struct timespec t;
+    clock_gettime(CLOCK_MONOTONIC, &t);
+    return t.tv_sec * 1e9 + t.tv_nsec;
+}
+
+static double once(const List *l, int operation, uint32_t times) {
+    double start = now();
+    run(l, operation, times);
+    return (now() - start) / times;
+}
+
+// The least of many rounds, each of 0.4 ms or so.
+static double least(const List *l, int operation, int rounds) {
+    once(l, operation, 200);
+    uint32_t times = 400e3 / once(l, operation, 200) + 1;
+    double best = 1e18;
+    for (int r = 0; r < rounds; r++) {
+        double nanoseconds = once(l, operation, times);
+        if (nanoseconds < best) best = nanoseconds;
+    }
+    return best;
+}
+
+static List lists[64];
+static int n_lists;
+
+// The alike bytes have a flag bit of the first attribute's type set, which a known type loses.
+static List *add(const char *name, char data, const uint8_t *bytes, size_t len) {
+    List *l = &lists[n_lists++];
+    snprintf(l->name, sizeof l->name, "%s", name);
+    l->data = data;
+    l->len = len;
+    l->bytes = malloc(len + 1);
+    l->equal = malloc(len + 1);
+    l->alike = malloc(len + 1);
+    l->out = malloc(len + 4096);
+    memcpy(l->bytes, bytes, len);
+    memcpy(l->equal, bytes, len);
+    memcpy(l->alike, bytes, len);
+    if (len > 3) l->alike[3] |= 0x80;
+    return l;
+}
+
+static void load(const char *file) {
+    static char line[1 << 18], hex[1 << 18];
+    static uint8_t bytes[1 << 17];
+    FILE *f = fopen(file, "r");
+    if (!f) exit(2);
+    while (fgets(line, sizeof line, f)) {
+        char name[32], data;
+        if (sscanf(line, "%31s %c %262143s", name, &data, hex) != 3) continue;
+        size_t len = strlen(hex) / 2;
+        for (size_t i = 0; i < len; i++) {
+            unsigned byte;
+            sscanf(hex + 2 * i, "%2x", &byte);
+            bytes[i] = byte;
+        }
+        add(name, data, bytes, len);
+    }
+    fclose(f);
+}
+
+static void table(int rounds) {
+    double sum[OPERATIONS] = {0};
+    size_t bytes = 0;
+    printf("%-14s %5s", "list", "bytes");
+    for (int op = 0; op < OPERATIONS; op++) printf(" %8s", NAMES[op]);
+    printf("  check/scan\n");
+    for (int i = 0; i < n_lists; i++) {
+        List *l = &lists[i];
+        bool accepted = bench_check(l->bytes, l->len);
+        double each[OPERATIONS];
+        printf("%-14s %5zu", l->name, l->len);
+        for (int op = 0; op < OPERATIONS; op++) {
+            if (op == EMIT && !accepted) { printf(" %8s", "-"); continue; }
+            each[op] = least(l, op, rounds);
+            if (accepted) sum[op] += each[op];
+            printf(" %8.1f", each[op]);
+        }
+        if (accepted) bytes += l->len;
+        printf(" %11.2f\n", each[CHECK] / each[SCAN]);
+    }
+    printf("%-14s %5zu", "sum", bytes);
+    for (int op = 0; op < OPERATIONS; op++) printf(" %8.1f", sum[op]);
+    printf(" %11.2f\n", sum[CHECK] / sum[SCAN]);
+}
+
+static void per_byte(const char *name, char data, const uint8_t *bytes, size_t len, int rounds) {
+    n_lists = 0;
+    List *l = add(name, data, bytes, len);
+    printf("%-14s %5zu", l->name, l->len);
+    for (int op = 0; op < OPERATIONS; op++) printf(" %8.3f", least(l, op, rounds) / len);
+    printf("\n");
+}
+
+static void put(uint8_t *p, size_t len, size_t kind) {
+    p[0] = len; p[1] = len >> 8; p[2] = kind; p[3] = kind >> 8;
+}
+
+static void grow(int rounds) {
+    static uint8_t bytes[70000];
+    printf("%-14s %5s", "ns a byte", "bytes");
+    for (int op = 0; op < OPERATIONS; op++) printf(" %8s", NAMES[op]);
+    printf("\n");
+    for (size_t want = 256; want <= 65536; want *= 4) {
+        size_t n = 16, end = want < 65536 ? want : 65500;
+        memcpy(bytes, "\x0a\0\1\0vxlan\0\0\0", 12);
+        for (; n + 16 < end; n += 8) { put(bytes + n, 8, 1 + n / 8 % 2); memset(bytes + n + 4, 7, 4); }
+        put(bytes + 12, n - 12, 2);
+        per_byte("vxlan", 'a', bytes, n, rounds);
+    }
+    for (size_t want = 256; want <= 65536; want *= 4) {
+        size_t n = 0;
+        for (; n + 16 < want && n < 65500; n += 16) { put(bytes + n, 16, 100 + n / 16 % 50); memset(bytes + n + 4, 7, 12); }
+        per_byte("unknown", '-', bytes, n, rounds);
+    }
+    for (size_t depth = 1; depth <= 128; depth *= 2) {
+        size_t n = 16, total = 4 * depth + 12;
+        memcpy(bytes, "\x0c\0\1\0macvlan\0", 12);
+        put(bytes + 12, 4 + total, 2);
+        for (size_t i = 0; i < depth; i++, n += 4) put(bytes + n, total - 4 * i, 5);
+        put(bytes + n, 10, 4);
+        memcpy(bytes + n + 4, "\2\0\0\0\0\1\0\0", 8);
+        char name[32];
+        snprintf(name, sizeof name, "depth %zu", depth);
+        per_byte(name, 'n', bytes, n + 12, rounds);
+    }
+}
+
+// Of an emission the dump "-NAME" has the parse and 100 writings, and the other the parse and 300.
+static void count(void) {
+    for (int i = 0; i < n_lists; i++)
+        for (int op = 0; op < OPERATIONS; op++) {
+            List *l = &lists[i];
+            char name[64], less[65];
+            if (op == EMIT && !bench_check(l->bytes, l->len)) continue;
+            snprintf(name, sizeof name, "%.31s %s", l->name, NAMES[op]);
+            snprintf(less, sizeof less, "-%s", name);
+            run(l, op, 50);
+            if (op == EMIT) { CALLGRIND_ZERO_STATS; run(l, op, 100); CALLGRIND_DUMP_STATS_AT(less); }
+            CALLGRIND_ZERO_STATS;
+            run(l, op, op == EMIT ? 300 : 200);
+            CALLGRIND_DUMP_STATS_AT(name);
+        }
+}
+
+int main(int argc, char **argv) {
+    if (argc < 3) return 2;
+    load(argv[1]);
+    int rounds = argc > 3 ? atoi(argv[3]) : 100;
+    if (!strcmp(argv[2], "time")) table(rounds);
+    else if (!strcmp(argv[2], "grow")) grow(rounds);
+    else if (!strcmp(argv[2], "count")) count();
+    else return 2;
+    return 0;
+}

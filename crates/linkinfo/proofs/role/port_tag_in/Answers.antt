@@ -1,0 +1,23 @@
+use Rattle.std.proofs.Common.{◌∙◌, sym, ap, Ok, Result}
+use Rattle.nla_frame.specs.Payload.{stripped}
+use Rattle.nla_frame.specs.declared.error.DecodeError.{DecodeError}
+use Rattle.linkinfo_numbers.specs.PortKind.{port_tag_of_name, port_tag_of_name-utf8}
+use Rattle.linkinfo_numbers.specs.declared.names.PortTag.{PortTag}
+use Rattle.linkinfo.proofs.Naming.{made_known, made_of_name}
+use Rattle.linkinfo.proofs.role.port_tag_in.Goals as goal
+
+pub returns-in_ok-name_in-in-Other : goal.returns-in_ok-name_in-in-Other
+returns-in_ok-name_in-in-Other c =
+    let bytes = c.without_nul.ensures ∙ ap stripped c.value.ensures.value in
+    sym (
+    made_of_name c.args.nla.now port_tag_of_name _ c.in_ok-name_in-in-Other.ensures
+    ∙ ap (λ (t : PortTag). let r : Result PortTag DecodeError = Ok t in r) (ap port_tag_of_name (sym bytes) ∙ sym c.port_tag_of_name.ensures ∙ c.in-Other.is)
+    )
+
+pub returns-in_default : goal.returns-in_default
+returns-in_default c =
+    let bytes = c.without_nul.ensures ∙ ap stripped c.value.ensures.value in
+    sym (
+    made_known port_tag_of_name c.args.nla.now c.without_nul.result.now c.port_tag_of_name.result bytes
+    (port_tag_of_name-utf8 c.without_nul.result.now (λ e. c.in_default.not-Other (c.port_tag_of_name.ensures ∙ e))) (sym c.port_tag_of_name.ensures)
+    )

@@ -1,0 +1,21 @@
+//! Laws of families, each the contract of a function without code.
+
+ghost use Rattle.std.specs.Prelude.{◌≡◌};
+ghost use Rattle.nla_frame.specs.declared.error.Family.TheVariants as family;
+
+use crate::{
+    InfoBond, InfoBondPort, InfoBridge, InfoBridgePort, InfoCan, InfoDsa, InfoHsr, InfoVlan,
+};
+use linkinfo_table::LinkFamily;
+
+/// Each name is of the family that it is named after.
+pub fn named()
+    ensures bond { ⟦<InfoBond as LinkFamily>⟧.FAMILY ≡ family.Bond }
+    ensures bond_port { ⟦<InfoBondPort as LinkFamily>⟧.FAMILY ≡ family.BondPort }
+    ensures bridge { ⟦<InfoBridge as LinkFamily>⟧.FAMILY ≡ family.Bridge }
+    ensures bridge_port { ⟦<InfoBridgePort as LinkFamily>⟧.FAMILY ≡ family.BridgePort }
+    ensures can { ⟦<InfoCan as LinkFamily>⟧.FAMILY ≡ family.Can }
+    ensures dsa { ⟦<InfoDsa as LinkFamily>⟧.FAMILY ≡ family.Dsa }
+    ensures hsr { ⟦<InfoHsr as LinkFamily>⟧.FAMILY ≡ family.Hsr }
+    ensures vlan { ⟦<InfoVlan as LinkFamily>⟧.FAMILY ≡ family.Vlan }
+{}

@@ -1,5 +1,0 @@
-use Rattle.nla_frame.proofs.Emitting.{WrittenUpTo}
-use Rattle.nla_frame.proofs.emission.emit_nlas.Given as goal
-
-abbrev pub invariant-loop-item : goal.invariant-loop-item
-invariant-loop-item g l = WrittenUpTo g.T.Nla.attribute l.items l.item-index l.place l.fn.buffer l.buffer
