@@ -1,4 +1,5 @@
 pub mod BeforePfcp
+pub mod Canon
 pub mod Comparing
 pub mod Items
 pub mod LinkEqual

@@ -4,6 +4,7 @@
 //! attributes by hand; for who writes a family of attributes, a peer or a flag set of one's own; and the laws of each layer.
 #![tactic(auto)]
 
+mod canon;
 mod collection;
 mod item;
 pub mod laws;
@@ -14,6 +15,7 @@ mod walk;
 mod xstats;
 
 // For who reads, writes and compares lists.
+pub use canon::{CanonError, canon, canon_of};
 pub use link_info::{LinkInfo, LinkInfoOf};
 pub use linkinfo_data::{InfoData, InfoDataOf, InfoPortData};
 pub use linkinfo_numbers::{
@@ -71,12 +73,13 @@ pub use linkinfo_peers::BitPeer;
 pub use linkinfo_table::{
     Datum, FlatFamily, Found, LinkFamily, LinkPeer, ListedFamily, Lookup, Part, PeerFault, Place,
     RowFamily, Rowless, Shape, TableFamily, UnnestedFamily, WrittenByTable, datum_len, first_check,
-    first_read, first_same, list_check, list_read, list_same, parts, read_datum, row_check,
+    first_read, first_same, list_check, list_read, list_same, part_by_rows, parts, put_by_rows, read_datum, row_check,
     row_emit_value, row_fit_len, row_kind, row_put, row_read, row_same, row_value_len, rowless,
     shape_check, shape_same, table_lookup, table_shape, write_datum,
 };
 
 // What follows from the contracts, by layer: functions without code, each there for its contract. Those of the list are `laws`.
+pub use linkinfo_data::laws as data_laws;
 pub use linkinfo_lower::laws as lower_laws;
 pub use linkinfo_numbers::laws as number_laws;
 pub use linkinfo_peers::laws as peer_laws;

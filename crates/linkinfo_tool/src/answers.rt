@@ -1,15 +1,13 @@
 //! The answers to the lines of an input.
 
-ghost use Rattle.std.specs.Prelude.{◌≡◌, ◌≢◌, ◌++◌, [], ◌∷◌, if◌then◌else◌, Some, None, IfOk, OnOk, map};
+ghost use Rattle.std.specs.Prelude.{◌≡◌, ◌≢◌, ◌++◌, [], ◌∷◌, if◌then◌else◌, Some, None, IfOk, OnOk};
 ghost use Rattle.hex.specs.Hex.{encode_lower};
 ghost use Rattle.nla_frame.specs.Error.{memory_fault};
-ghost use Rattle.linkinfo_data.specs.BytesPeer.{bytes_peer};
-ghost use Rattle.linkinfo.specs.Items.{link_attribute};
-ghost use Rattle.linkinfo_tool.specs.Answers.{answer_of, bad_line, bytes_of, canon_answer, canonical_text, check_answer, comparison_answer, fault_text, line_answer, on_two, words_answer};
+ghost use Rattle.linkinfo_tool.specs.Answers.{answer_of, bad_line, bytes_of, canon_answer, check_answer, comparison_answer, fault_text, line_answer, on_two, words_answer};
 ghost use Rattle.linkinfo_tool.specs.Lines.{words_of};
 
 use crate::lines::{cut, first_line};
-use linkinfo::{Cause, DecodeError, ToVecError, VecLinkInfo};
+use linkinfo::{CanonError, Cause, DecodeError};
 use std::alloc::{AllocError, Global};
 use std::io::Write;
 
@@ -106,23 +104,12 @@ impl Answers {
         if !read_hex(word, &mut self.bytes)? {
             return self.push_bad_line();
         }
-        match VecLinkInfo::parse(self.alloc, &self.bytes) {
-            Ok(list) => self.push_canonical(&list),
-            Err(fault) if fault.cause == Cause::Memory => Err(AllocError),
-            Err(fault) => self.push_fault(fault),
-        }
-    }
-
-    /// Adds the canonical string of the list in hex, or that it does not fit.
-    fn push_canonical(&mut self, list: &VecLinkInfo) -> Result<(), AllocError>
-        ensures { OnOk result (self.new.text.items
-            ≡ self.old.text.items ++ canonical_text (map (link_attribute bytes_peer) list.now.0)) }
-    {
-        match list.to_vec(self.alloc) {
+        match linkinfo::canon(self.alloc, &self.bytes) {
             Ok(bytes) if bytes.is_empty() => self.text.extend_from_slice(b"-"),
             Ok(bytes) => push_hex(&bytes, &mut self.text),
-            Err(ToVecError::Unfit) => self.text.extend_from_slice(b"unfit"),
-            Err(ToVecError::Memory) => Err(AllocError),
+            Err(CanonError::Unfit) => self.text.extend_from_slice(b"unfit"),
+            Err(CanonError::Refused(fault)) if fault.cause == Cause::Memory => Err(AllocError),
+            Err(CanonError::Refused(fault)) => self.push_fault(fault),
         }
     }
 

@@ -1,0 +1,96 @@
+//! The canonical string of what a string means.
+
+ghost use Rattle.std.specs.Prelude.{◌≡◌, ◌≢◌, ◌×◌, List, [], map, Err, IfErr, IfOk, IsOk, Ok};
+ghost use Rattle.nla_frame.specs.Attribute.{ListFits, list_string};
+ghost use Rattle.nla_frame.specs.Error.{memory_fault};
+ghost use Rattle.linkinfo_data.specs.BytesPeer.{bytes_peer};
+ghost use Rattle.linkinfo.specs.Canon.{CanonRefuses, canon_error_text};
+ghost use Rattle.linkinfo.specs.Items.{link_attribute};
+ghost use Rattle.linkinfo.specs.Strings.{reading};
+ghost use Rattle.linkinfo.specs.declared.canon.CanonError.TheVariants as refused;
+
+use crate::link_info::LinkInfoOf;
+use crate::list::VecLinkInfoOf;
+use linkinfo_data::DataFamilies;
+use linkinfo_table::LinkPeer;
+use nla_frame::{Bytes, DecodeError, ExactEq, ToVecError};
+use std::alloc::{AllocError, Global};
+use std::error::Error;
+use std::fmt;
+
+/// Why a string has no canonical string.
+#[derive(Clone, Copy, Debug, PartialEq, Eq)]
+pub enum CanonError {
+    /// The string is refused, with the fault of `VecLinkInfoOf::parse`; or an allocation was: (Frame, 0, Memory).
+    Refused(DecodeError),
+    /// The list does not fit: a value has more than 65531 bytes, or the string has more than a `usize` counts.
+    Unfit,
+}
+
+/// Writes the fault, or `unfit`.
+impl fmt::Display for CanonError {
+    ghost use Rattle.std.specs.Prelude.{Some};
+
+    ghost output = { λ error. Some (canon_error_text error) };
+
+    fn fmt<W: fmt::Write>(&self, f: &mut fmt::Formatter<W>) -> fmt::Result {
+        match self {
+            CanonError::Refused(fault) => write!(f, "{fault}"),
+            CanonError::Unfit => f.write_str("unfit"),
+        }
+    }
+}
+
+impl Error for CanonError {}
+
+impl From<DecodeError> for CanonError {
+    ghost from_gives = { λ fault error. error ≡ refused.Refused fault };
+
+    fn from(fault: DecodeError) -> CanonError {
+        CanonError::Refused(fault)
+    }
+}
+
+/// Want of memory.
+impl From<AllocError> for CanonError {
+    ghost from_gives = { λ _ error. error ≡ refused.Refused memory_fault };
+
+    fn from(refused: AllocError) -> CanonError {
+        CanonError::Refused(DecodeError::from(refused))
+    }
+}
+
+impl ExactEq for CanonError {
+    ghost use Rattle.std.proofs.Common.{rules};
+
+    ghost exact = { Prim.search rules };
+}
+
+/// The canonical string of the list that the bytes frame, with peers of type `P`: `parse` and `to_vec` in one call.
+///
+/// Refused with the fault of `parse`, as `Unfit` where the list does not fit, and with (Frame, 0, Memory) where an allocation was refused.
+pub fn canon_of<P: LinkPeer>(alloc: Global, bytes: &[u8]) -> Result<Vec<u8>, CanonError>
+    ensures string { IfOk result (λ canonical. (list : List (LinkInfoOf P)) × (reading ⟦<P as DataFamilies>⟧.families bytes.now ≡ Ok list) × ListFits (map (link_attribute ⟦<P as DataFamilies>⟧.families) list) × (canonical.items ≡ list_string (map (link_attribute ⟦<P as DataFamilies>⟧.families) list))) }
+    ensures refused { IfErr result (CanonRefuses (link_attribute ⟦<P as DataFamilies>⟧.families) (reading ⟦<P as DataFamilies>⟧.families bytes.now)) }
+    ensures certain { bytes.now ≡ [] → IsOk result }
+{
+    let list = VecLinkInfoOf::<P>::parse(alloc, bytes)?;
+    match list.to_vec(alloc) {
+        Ok(canonical) => Ok(canonical),
+        Err(ToVecError::Unfit) => Err(CanonError::Unfit),
+        Err(ToVecError::Memory) => Err(CanonError::from(AllocError)),
+    }
+}
+
+/// `canon_of`, with peers kept as bytes.
+///
+/// ```text
+/// let bytes = canon(alloc, &received)?;
+/// ```
+pub fn canon(alloc: Global, bytes: &[u8]) -> Result<Vec<u8>, CanonError>
+    ensures string { IfOk result (λ canonical. (list : List (LinkInfoOf Bytes)) × (reading bytes_peer bytes.now ≡ Ok list) × ListFits (map (link_attribute bytes_peer) list) × (canonical.items ≡ list_string (map (link_attribute bytes_peer) list))) }
+    ensures refused { IfErr result (CanonRefuses (link_attribute bytes_peer) (reading bytes_peer bytes.now)) }
+    ensures certain { bytes.now ≡ [] → IsOk result }
+{
+    canon_of::<Bytes>(alloc, bytes)
+}
