@@ -3,8 +3,8 @@ use Rattle.std.specs.Prelude.{◌≡◌, ◌≢◌, ℕ, List, map, codes, Resul
 use Rattle.nla_frame.specs.Attribute.{Attribute, ListFits}
 use Rattle.nla_frame.specs.Error.{error_text, memory_fault}
 use Rattle.nla_frame.specs.declared.error.DecodeError.{DecodeError}
-use Rattle.linkinfo.specs.declared.canon.CanonError.{CanonError}
-use Rattle.linkinfo.specs.declared.canon.CanonError.TheVariants as refused
+use Rattle.linkinfo.specs.declared.canonical.CanonError.{CanonError}
+use Rattle.linkinfo.specs.declared.canonical.CanonError.TheVariants as refused
 
 abbrev pub canon_error_text : CanonError → List ℕ
 canon_error_text (refused.Refused fault) = error_text fault

@@ -4,7 +4,7 @@
 //! attributes by hand; for who writes a family of attributes, a peer or a flag set of one's own; and the laws of each layer.
 #![tactic(auto)]
 
-mod canon;
+mod canonical;
 mod collection;
 mod item;
 pub mod laws;
@@ -15,7 +15,7 @@ mod walk;
 mod xstats;
 
 // For who reads, writes and compares lists.
-pub use canon::{CanonError, canon, canon_of};
+pub use canonical::{CanonError, canon, canon_of};
 pub use link_info::{LinkInfo, LinkInfoOf};
 pub use linkinfo_data::{InfoData, InfoDataOf, InfoPortData};
 pub use linkinfo_numbers::{

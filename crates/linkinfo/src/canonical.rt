@@ -1,13 +1,13 @@
 //! The canonical string of what a string means.
 
-ghost use Rattle.std.specs.Prelude.{◌≡◌, ◌≢◌, ◌×◌, List, [], map, Err, IfErr, IfOk, IsOk, Ok};
+ghost use Rattle.std.specs.Prelude.{◌≡◌, ◌≢◌, List, [], map, Err, IfErr, IfOk, IsOk, Ok};
 ghost use Rattle.nla_frame.specs.Attribute.{ListFits, list_string};
 ghost use Rattle.nla_frame.specs.Error.{memory_fault};
 ghost use Rattle.linkinfo_data.specs.BytesPeer.{bytes_peer};
 ghost use Rattle.linkinfo.specs.Canon.{CanonRefuses, canon_error_text};
 ghost use Rattle.linkinfo.specs.Items.{link_attribute};
 ghost use Rattle.linkinfo.specs.Strings.{reading};
-ghost use Rattle.linkinfo.specs.declared.canon.CanonError.TheVariants as refused;
+ghost use Rattle.linkinfo.specs.declared.canonical.CanonError.TheVariants as refused;
 
 use crate::link_info::LinkInfoOf;
 use crate::list::VecLinkInfoOf;
