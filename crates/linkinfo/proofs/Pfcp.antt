@@ -15,7 +15,7 @@ use Rattle.linkinfo_data.specs.declared.data.DataFamily.{DataFamily}
 use Rattle.linkinfo_data.specs.declared.data.DataFamily.TheVariants as of
 use Rattle.linkinfo_table.specs.Lists.{◌>>=◌, values_under, alike_under}
 use Rattle.linkinfo_table.specs.Rows.{alike_in, row_alike, row_meaning}
-use Rattle.linkinfo.specs.BeforePfcp.{is_pfcp, family_before, row_before, meaning_before, alike_before, is_pfcp_data, NoneIsPfcpData}
+use Rattle.linkinfo.specs.BeforePfcp.{is_pfcp, row_before, meaning_before, alike_before, is_pfcp_data, NoneIsPfcpData}
 use Rattle.linkinfo.specs.Items.{data_row, link_alike, link_meaning, link_other, link_row}
 use Rattle.linkinfo.specs.Roles.{role_at}
 use Rattle.linkinfo.specs.Strings.{force_after, values_from, alike_from}

@@ -1,6 +1,6 @@
 -- The list as it was read before `pfcp` had a family: the data under it was bytes.
 use Rattle.std.specs.Prelude.{◌≡◌, ℕ, Bool, true, false, if◌then◌else◌, List, [], ◌∷◌, Result, Ok, Err}
-use Rattle.nla_frame.specs.Attribute.{Attribute, masked}
+use Rattle.nla_frame.specs.Attribute.{Attribute}
 use Rattle.nla_frame.specs.Pieces.{pieces}
 use Rattle.nla_frame.specs.declared.error.DecodeError.{DecodeError}
 use Rattle.nla_frame.specs.declared.error.Family.TheVariants as family

@@ -1,6 +1,6 @@
 -- The refusals of a canonical string.
 use Rattle.std.specs.Prelude.{◌≡◌, ◌≢◌, ℕ, List, map, codes, Result, Ok, Err}
-use Rattle.nla_frame.specs.Attribute.{Attribute, ListFits}
+use Rattle.nla_frame.specs.Attribute.{Attribute, ListFits, list_string}
 use Rattle.nla_frame.specs.Error.{error_text, memory_fault}
 use Rattle.nla_frame.specs.declared.error.DecodeError.{DecodeError}
 use Rattle.linkinfo.specs.declared.canonical.CanonError.{CanonError}
@@ -10,7 +10,17 @@ abbrev pub canon_error_text : CanonError → List ℕ
 canon_error_text (refused.Refused fault) = error_text fault
 canon_error_text refused.Unfit = codes "unfit"
 
--- a refusal other than want of memory is what the string's reading says: its fault, or a list that does not fit
+-- the canonical string of what a string means, which is a list that fits
+abbrev pub IsCanonical : {F : Type 0} → (F → Attribute) → Result (List F) DecodeError → List ℕ → Type 0
+IsCanonical attribute (Ok list) canonical = ListFits (map attribute list) × (canonical ≡ list_string (map attribute list))
+IsCanonical attribute (Err fault) canonical = ⊥
+
+-- what a string means is a list that does not fit
+abbrev pub IsUnfit : {F : Type 0} → (F → Attribute) → Result (List F) DecodeError → Type 0
+IsUnfit attribute (Ok list) = ¬ ListFits (map attribute list)
+IsUnfit attribute (Err fault) = ⊥
+
+-- a refusal other than want of memory is what the string means: its fault, or a list that does not fit
 abbrev pub CanonRefuses : {F : Type 0} → (F → Attribute) → Result (List F) DecodeError → CanonError → Type 0
 CanonRefuses attribute meaning (refused.Refused fault) = fault ≢ memory_fault → meaning ≡ Err fault
-CanonRefuses attribute meaning refused.Unfit = (list : List _) × (meaning ≡ Ok list) × ¬ ListFits (map attribute list)
+CanonRefuses attribute meaning refused.Unfit = IsUnfit attribute meaning

@@ -1,15 +1,13 @@
 //! The canonical string of what a string means.
 
-ghost use Rattle.std.specs.Prelude.{◌≡◌, ◌≢◌, List, [], map, Err, IfErr, IfOk, IsOk, Ok};
-ghost use Rattle.nla_frame.specs.Attribute.{ListFits, list_string};
+ghost use Rattle.std.specs.Prelude.{◌≡◌, IfErr, IfOk};
 ghost use Rattle.nla_frame.specs.Error.{memory_fault};
 ghost use Rattle.linkinfo_data.specs.BytesPeer.{bytes_peer};
-ghost use Rattle.linkinfo.specs.Canon.{CanonRefuses, canon_error_text};
+ghost use Rattle.linkinfo.specs.Canon.{CanonRefuses, IsCanonical, canon_error_text};
 ghost use Rattle.linkinfo.specs.Items.{link_attribute};
 ghost use Rattle.linkinfo.specs.Strings.{reading};
 ghost use Rattle.linkinfo.specs.declared.canonical.CanonError.TheVariants as refused;
 
-use crate::link_info::LinkInfoOf;
 use crate::list::VecLinkInfoOf;
 use linkinfo_data::DataFamilies;
 use linkinfo_table::LinkPeer;
@@ -61,18 +59,19 @@ impl From<AllocError> for CanonError {
 }
 
 impl ExactEq for CanonError {
-    ghost use Rattle.std.proofs.Common.{rules};
+    ghost use Rattle.nla_frame.specs.Derived.{derived_decides, no_field, one_field};
+    ghost use Rattle.nla_frame.specs.contracts.exact_eq.DecodeErrorExactEq.TheImpl.Laws.{exact-law as fault_exact};
+    ghost use Rattle.linkinfo.specs.contracts.canonical.CanonError.{enum};
 
-    ghost exact = { Prim.search rules };
+    ghost exact = { derived_decides enum _ (one_field fault_exact, (no_field, tt)) };
 }
 
 /// The canonical string of the list that the bytes frame, with peers of type `P`: `parse` and `to_vec` in one call.
 ///
 /// Refused with the fault of `parse`, as `Unfit` where the list does not fit, and with (Frame, 0, Memory) where an allocation was refused.
 pub fn canon_of<P: LinkPeer>(alloc: Global, bytes: &[u8]) -> Result<Vec<u8>, CanonError>
-    ensures string { IfOk result (λ canonical. (list : List (LinkInfoOf P)) × (reading ⟦<P as DataFamilies>⟧.families bytes.now ≡ Ok list) × ListFits (map (link_attribute ⟦<P as DataFamilies>⟧.families) list) × (canonical.items ≡ list_string (map (link_attribute ⟦<P as DataFamilies>⟧.families) list))) }
+    ensures string { IfOk result (λ canonical. IsCanonical (link_attribute ⟦<P as DataFamilies>⟧.families) (reading ⟦<P as DataFamilies>⟧.families bytes.now) canonical.items) }
     ensures refused { IfErr result (CanonRefuses (link_attribute ⟦<P as DataFamilies>⟧.families) (reading ⟦<P as DataFamilies>⟧.families bytes.now)) }
-    ensures certain { bytes.now ≡ [] → IsOk result }
 {
     let list = VecLinkInfoOf::<P>::parse(alloc, bytes)?;
     match list.to_vec(alloc) {
@@ -88,9 +87,8 @@ pub fn canon_of<P: LinkPeer>(alloc: Global, bytes: &[u8]) -> Result<Vec<u8>, Can
 /// let bytes = canon(alloc, &received)?;
 /// ```
 pub fn canon(alloc: Global, bytes: &[u8]) -> Result<Vec<u8>, CanonError>
-    ensures string { IfOk result (λ canonical. (list : List (LinkInfoOf Bytes)) × (reading bytes_peer bytes.now ≡ Ok list) × ListFits (map (link_attribute bytes_peer) list) × (canonical.items ≡ list_string (map (link_attribute bytes_peer) list))) }
+    ensures string { IfOk result (λ canonical. IsCanonical (link_attribute bytes_peer) (reading bytes_peer bytes.now) canonical.items) }
     ensures refused { IfErr result (CanonRefuses (link_attribute bytes_peer) (reading bytes_peer bytes.now)) }
-    ensures certain { bytes.now ≡ [] → IsOk result }
 {
     canon_of::<Bytes>(alloc, bytes)
 }

@@ -8,7 +8,7 @@ use crate::data::family_of;
 use crate::families::DataFamilies;
 use crate::fits::fitting;
 use crate::payload_family::PayloadFamily;
-use crate::written::{list_fit_len, list_len, one_fit_len, one_len, put_bytes, put_list, put_one};
+use crate::written::{list_fit_len, one_fit_len, put_bytes, put_list, put_one};
 use linkinfo_devices::{
     InfoIpVlan, InfoIpVtap, InfoIpoib, InfoMacSec, InfoMacVlan, InfoMacVtap, InfoRmNet, InfoVrf,
     InfoXfrm,
@@ -181,7 +181,7 @@ impl<P: LinkPeer> Nla for InfoDataOf<P> {
     ghost attribute = { data_attribute ⟦<P as DataFamilies>⟧.families };
 
     fn value_len(&self) -> usize {
-        of_data!(self, it => list_len(it), one_len(it), it.len())
+        self.fit_len().unwrap_or(0)
     }
 
     fn kind(&self) -> u16 {

@@ -7,7 +7,7 @@ ghost use Rattle.linkinfo_data.specs.PortData.{port_data_of, port_family_of};
 
 use crate::fits::fitting;
 use crate::payload_family::PayloadFamily;
-use crate::written::{list_fit_len, list_len, put_bytes, put_list, read_nlas};
+use crate::written::{list_fit_len, put_bytes, put_list, read_nlas};
 use linkinfo_devices::InfoVrfPort;
 use linkinfo_lower::{InfoBondPort, InfoBridgePort};
 use linkinfo_numbers::{InfoPortKind, PortTag};
@@ -126,13 +126,7 @@ impl Nla for InfoPortData {
     ghost attribute = { port_data_attribute };
 
     fn value_len(&self) -> usize {
-        match self {
-            InfoPortData::BondPort(list) => list_len(list),
-            InfoPortData::BridgePort(list) => list_len(list),
-            InfoPortData::VrfPort(list) => list_len(list),
-            InfoPortData::TeamPort(list) => list_len(list),
-            InfoPortData::Other(bytes) => bytes.len(),
-        }
+        self.fit_len().unwrap_or(0)
     }
 
     fn kind(&self) -> u16 {

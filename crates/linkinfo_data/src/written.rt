@@ -9,8 +9,7 @@ ghost use Rattle.linkinfo_table.specs.Lists.{headers_of, memory_of, values};
 use crate::fits::fitting;
 use linkinfo_table::{LinkFamily, list_read};
 use nla_frame::{
-    Bytes, DecodeError, HeaderCount, Nla, Nlas, nlas_buffer_len, nlas_fit_len, put_attribute,
-    put_attributes,
+    Bytes, DecodeError, HeaderCount, Nla, Nlas, nlas_fit_len, put_attribute, put_attributes,
 };
 use std::alloc::Global;
 
@@ -31,15 +30,6 @@ pub(crate) fn read_nlas<F: LinkFamily>(
     Ok(Nlas::new(list_read(alloc, payload, ctx, count)?))
 }
 
-/// The length of the list's string. Asks that a payload of it fits.
-#[tactic(auto, using(nla_frame::proofs::Emitting::list_fits))]
-pub(crate) fn list_len<T: Nla>(list: &Nlas<T>) -> usize
-    requires { length (list_string (map T.attribute list.now)) ≤ 65531 }
-    ensures { result ≡ length (list_string (map T.attribute list.now)) }
-{
-    nlas_buffer_len(list.as_slice())
-}
-
 /// Writes the list's string at the front of the buffer, leaves the bytes behind it, and answers its length. Asks that a payload of it fits, and a
 /// buffer of at least its length.
 #[tactic(auto, using(nla_frame::proofs::Emitting::list_fits))]
@@ -58,15 +48,6 @@ pub(crate) fn list_fit_len<T: Nla>(list: &Nlas<T>) -> Option<usize>
     ensures { SomeIff result (length (list_string (map T.attribute list.now)) ≤ 65531) (length (list_string (map T.attribute list.now))) }
 {
     fitting(nlas_fit_len(list.as_slice())?)
-}
-
-/// The length of the attribute's string. Asks that a payload of it fits.
-#[tactic(auto, using(nla_frame::proofs::Emitting::one_fits))]
-pub(crate) fn one_len<T: Nla>(nla: &T) -> usize
-    requires { length (canonical_string (T.attribute nla.now)) ≤ 65531 }
-    ensures { result ≡ length (canonical_string (T.attribute nla.now)) }
-{
-    nla.buffer_len()
 }
 
 /// Writes the attribute's string in the same way.
