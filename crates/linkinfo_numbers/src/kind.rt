@@ -111,6 +111,90 @@ pub enum InfoKind {
     Other(Text),
 }
 
+/// The kinds with a name that is known: the variant, which is that of the tag too, and the name.
+macro_rules! kinds {
+    ($body:ident $given:tt) => {
+        $body! { $given;
+            (Dummy, "dummy"),
+            (Ifb, "ifb"),
+            (Bridge, "bridge"),
+            (Tun, "tun"),
+            (Nlmon, "nlmon"),
+            (Vlan, "vlan"),
+            (Veth, "veth"),
+            (Vxlan, "vxlan"),
+            (Bond, "bond"),
+            (IpVlan, "ipvlan"),
+            (IpVtap, "ipvtap"),
+            (MacVlan, "macvlan"),
+            (MacVtap, "macvtap"),
+            (GreTap, "gretap"),
+            (GreTap6, "ip6gretap"),
+            (IpIp, "ipip"),
+            (Ip6Tnl, "ip6tnl"),
+            (SitTun, "sit"),
+            (GreTun, "gre"),
+            (GreTun6, "ip6gre"),
+            (Vti, "vti"),
+            (Vti6, "vti6"),
+            (Vrf, "vrf"),
+            (Gtp, "gtp"),
+            (Ipoib, "ipoib"),
+            (Wireguard, "wireguard"),
+            (Xfrm, "xfrm"),
+            (MacSec, "macsec"),
+            (Hsr, "hsr"),
+            (Geneve, "geneve"),
+            (Netkit, "netkit"),
+            (Vcan, "vcan"),
+            (Vxcan, "vxcan"),
+            (Amt, "amt"),
+            (BatAdv, "batadv"),
+            (BareUdp, "bareudp"),
+            (Netdevsim, "netdevsim"),
+            (VirtWifi, "virt_wifi"),
+            (Wwan, "wwan"),
+            (Can, "can"),
+            (Dsa, "dsa"),
+            (Team, "team"),
+            (ErSpan, "erspan"),
+            (Ip6ErSpan, "ip6erspan"),
+            (Pfcp, "pfcp"),
+            (RmNet, "rmnet"),
+        }
+    };
+}
+
+/// The tag of a kind: `kinds!(tag_by_kinds kind)`.
+macro_rules! tag_by_kinds {
+    ($kind:tt; $(($variant:ident, $name:literal)),* $(,)?) => {
+        match $kind {
+            $(InfoKind::$variant => KindTag::$variant,)*
+            InfoKind::Other(_) => KindTag::Other,
+        }
+    };
+}
+
+/// The name of a kind.
+macro_rules! name_by_kinds {
+    ($kind:tt; $(($variant:ident, $name:literal)),* $(,)?) => {
+        match $kind {
+            $(InfoKind::$variant => $name,)*
+            InfoKind::Other(text) => text.as_str(),
+        }
+    };
+}
+
+/// The kind of a tag.
+macro_rules! kind_by_kinds {
+    ($tag:tt; $(($variant:ident, $name:literal)),* $(,)?) => {
+        match $tag {
+            $(KindTag::$variant => Some(InfoKind::$variant),)*
+            KindTag::Other => None,
+        }
+    };
+}
+
 impl InfoKind {
     /// The kind of this name: `Other` of it where the name is not known. A known name takes no memory.
     pub fn from_text(alloc: Global, text: &str) -> Result<InfoKind, AllocError>
@@ -129,165 +213,21 @@ impl InfoKind {
     pub fn tag(&self) -> KindTag
         ensures { result ≡ tag_of_kind self.now }
     {
-        match self {
-            InfoKind::Dummy => KindTag::Dummy,
-            InfoKind::Ifb => KindTag::Ifb,
-            InfoKind::Bridge => KindTag::Bridge,
-            InfoKind::Tun => KindTag::Tun,
-            InfoKind::Nlmon => KindTag::Nlmon,
-            InfoKind::Vlan => KindTag::Vlan,
-            InfoKind::Veth => KindTag::Veth,
-            InfoKind::Vxlan => KindTag::Vxlan,
-            InfoKind::Bond => KindTag::Bond,
-            InfoKind::IpVlan => KindTag::IpVlan,
-            InfoKind::IpVtap => KindTag::IpVtap,
-            InfoKind::MacVlan => KindTag::MacVlan,
-            InfoKind::MacVtap => KindTag::MacVtap,
-            InfoKind::GreTap => KindTag::GreTap,
-            InfoKind::GreTap6 => KindTag::GreTap6,
-            InfoKind::IpIp => KindTag::IpIp,
-            InfoKind::Ip6Tnl => KindTag::Ip6Tnl,
-            InfoKind::SitTun => KindTag::SitTun,
-            InfoKind::GreTun => KindTag::GreTun,
-            InfoKind::GreTun6 => KindTag::GreTun6,
-            InfoKind::Vti => KindTag::Vti,
-            InfoKind::Vti6 => KindTag::Vti6,
-            InfoKind::Vrf => KindTag::Vrf,
-            InfoKind::Gtp => KindTag::Gtp,
-            InfoKind::Ipoib => KindTag::Ipoib,
-            InfoKind::Wireguard => KindTag::Wireguard,
-            InfoKind::Xfrm => KindTag::Xfrm,
-            InfoKind::MacSec => KindTag::MacSec,
-            InfoKind::Hsr => KindTag::Hsr,
-            InfoKind::Geneve => KindTag::Geneve,
-            InfoKind::Netkit => KindTag::Netkit,
-            InfoKind::Vcan => KindTag::Vcan,
-            InfoKind::Vxcan => KindTag::Vxcan,
-            InfoKind::Amt => KindTag::Amt,
-            InfoKind::BatAdv => KindTag::BatAdv,
-            InfoKind::BareUdp => KindTag::BareUdp,
-            InfoKind::Netdevsim => KindTag::Netdevsim,
-            InfoKind::VirtWifi => KindTag::VirtWifi,
-            InfoKind::Wwan => KindTag::Wwan,
-            InfoKind::Can => KindTag::Can,
-            InfoKind::Dsa => KindTag::Dsa,
-            InfoKind::Team => KindTag::Team,
-            InfoKind::ErSpan => KindTag::ErSpan,
-            InfoKind::Ip6ErSpan => KindTag::Ip6ErSpan,
-            InfoKind::Pfcp => KindTag::Pfcp,
-            InfoKind::RmNet => KindTag::RmNet,
-            InfoKind::Other(_) => KindTag::Other,
-        }
+        kinds!(tag_by_kinds self)
     }
 
     /// The name.
     fn name(&self) -> &str
         ensures { result.now ≡ text_of_kind self.now }
     {
-        match self {
-            InfoKind::Dummy => "dummy",
-            InfoKind::Ifb => "ifb",
-            InfoKind::Bridge => "bridge",
-            InfoKind::Tun => "tun",
-            InfoKind::Nlmon => "nlmon",
-            InfoKind::Vlan => "vlan",
-            InfoKind::Veth => "veth",
-            InfoKind::Vxlan => "vxlan",
-            InfoKind::Bond => "bond",
-            InfoKind::IpVlan => "ipvlan",
-            InfoKind::IpVtap => "ipvtap",
-            InfoKind::MacVlan => "macvlan",
-            InfoKind::MacVtap => "macvtap",
-            InfoKind::GreTap => "gretap",
-            InfoKind::GreTap6 => "ip6gretap",
-            InfoKind::IpIp => "ipip",
-            InfoKind::Ip6Tnl => "ip6tnl",
-            InfoKind::SitTun => "sit",
-            InfoKind::GreTun => "gre",
-            InfoKind::GreTun6 => "ip6gre",
-            InfoKind::Vti => "vti",
-            InfoKind::Vti6 => "vti6",
-            InfoKind::Vrf => "vrf",
-            InfoKind::Gtp => "gtp",
-            InfoKind::Ipoib => "ipoib",
-            InfoKind::Wireguard => "wireguard",
-            InfoKind::Xfrm => "xfrm",
-            InfoKind::MacSec => "macsec",
-            InfoKind::Hsr => "hsr",
-            InfoKind::Geneve => "geneve",
-            InfoKind::Netkit => "netkit",
-            InfoKind::Vcan => "vcan",
-            InfoKind::Vxcan => "vxcan",
-            InfoKind::Amt => "amt",
-            InfoKind::BatAdv => "batadv",
-            InfoKind::BareUdp => "bareudp",
-            InfoKind::Netdevsim => "netdevsim",
-            InfoKind::VirtWifi => "virt_wifi",
-            InfoKind::Wwan => "wwan",
-            InfoKind::Can => "can",
-            InfoKind::Dsa => "dsa",
-            InfoKind::Team => "team",
-            InfoKind::ErSpan => "erspan",
-            InfoKind::Ip6ErSpan => "ip6erspan",
-            InfoKind::Pfcp => "pfcp",
-            InfoKind::RmNet => "rmnet",
-            InfoKind::Other(text) => text.as_str(),
-        }
+        kinds!(name_by_kinds self)
     }
 
     /// The kind of this tag; `None` for `Other` alone, whose kind has a text.
     pub fn from_tag(tag: KindTag) -> Option<InfoKind>
         ensures { result ≡ kind_of_tag tag }
     {
-        match tag {
-            KindTag::Dummy => Some(InfoKind::Dummy),
-            KindTag::Ifb => Some(InfoKind::Ifb),
-            KindTag::Bridge => Some(InfoKind::Bridge),
-            KindTag::Tun => Some(InfoKind::Tun),
-            KindTag::Nlmon => Some(InfoKind::Nlmon),
-            KindTag::Vlan => Some(InfoKind::Vlan),
-            KindTag::Veth => Some(InfoKind::Veth),
-            KindTag::Vxlan => Some(InfoKind::Vxlan),
-            KindTag::Bond => Some(InfoKind::Bond),
-            KindTag::IpVlan => Some(InfoKind::IpVlan),
-            KindTag::IpVtap => Some(InfoKind::IpVtap),
-            KindTag::MacVlan => Some(InfoKind::MacVlan),
-            KindTag::MacVtap => Some(InfoKind::MacVtap),
-            KindTag::GreTap => Some(InfoKind::GreTap),
-            KindTag::GreTap6 => Some(InfoKind::GreTap6),
-            KindTag::IpIp => Some(InfoKind::IpIp),
-            KindTag::Ip6Tnl => Some(InfoKind::Ip6Tnl),
-            KindTag::SitTun => Some(InfoKind::SitTun),
-            KindTag::GreTun => Some(InfoKind::GreTun),
-            KindTag::GreTun6 => Some(InfoKind::GreTun6),
-            KindTag::Vti => Some(InfoKind::Vti),
-            KindTag::Vti6 => Some(InfoKind::Vti6),
-            KindTag::Vrf => Some(InfoKind::Vrf),
-            KindTag::Gtp => Some(InfoKind::Gtp),
-            KindTag::Ipoib => Some(InfoKind::Ipoib),
-            KindTag::Wireguard => Some(InfoKind::Wireguard),
-            KindTag::Xfrm => Some(InfoKind::Xfrm),
-            KindTag::MacSec => Some(InfoKind::MacSec),
-            KindTag::Hsr => Some(InfoKind::Hsr),
-            KindTag::Geneve => Some(InfoKind::Geneve),
-            KindTag::Netkit => Some(InfoKind::Netkit),
-            KindTag::Vcan => Some(InfoKind::Vcan),
-            KindTag::Vxcan => Some(InfoKind::Vxcan),
-            KindTag::Amt => Some(InfoKind::Amt),
-            KindTag::BatAdv => Some(InfoKind::BatAdv),
-            KindTag::BareUdp => Some(InfoKind::BareUdp),
-            KindTag::Netdevsim => Some(InfoKind::Netdevsim),
-            KindTag::VirtWifi => Some(InfoKind::VirtWifi),
-            KindTag::Wwan => Some(InfoKind::Wwan),
-            KindTag::Can => Some(InfoKind::Can),
-            KindTag::Dsa => Some(InfoKind::Dsa),
-            KindTag::Team => Some(InfoKind::Team),
-            KindTag::ErSpan => Some(InfoKind::ErSpan),
-            KindTag::Ip6ErSpan => Some(InfoKind::Ip6ErSpan),
-            KindTag::Pfcp => Some(InfoKind::Pfcp),
-            KindTag::RmNet => Some(InfoKind::RmNet),
-            KindTag::Other => None,
-        }
+        kinds!(kind_by_kinds tag)
     }
 }
 
