@@ -44,7 +44,7 @@ fn assert_data(
 ) -> Result<(), DecodeError> {
     let read = read?;
     let wanted = built?;
-    assert!(rt; read == wanted, "{read:?} is read");
+    assert!(rt; read == wanted);
     Ok(())
 }
 
