@@ -36,14 +36,16 @@ fn read_port_data(
     InfoPortData::parse_with_param(alloc, payload, kind)
 }
 
-/// What is read is the data that was built.
+/// A payload is read as the data that was built.
 fn assert_data(
     rt: &impl Abort,
-    read: Result<InfoData, DecodeError>,
+    alloc: Global,
+    payload: &[u8],
+    kind: &InfoKind,
     built: Result<InfoData, AllocError>,
 ) -> Result<(), DecodeError> {
-    let read = read?;
     let wanted = built?;
+    let read = read_data(alloc, payload, kind)?;
     assert!(rt; read == wanted);
     Ok(())
 }
@@ -70,15 +72,11 @@ fn veth(alloc: Global) -> Result<InfoData, AllocError> {
 fn data_of_families(rt: HostRuntime) -> Result<(), Fail> {
     let alloc = rt.alloc();
     let items = vec![in alloc; InfoXfrm::Link(2), InfoXfrm::IfId(10)]?;
-    assert_data(
-        &rt,
-        read_data(alloc, &TWO, &InfoKind::Xfrm),
-        Ok(xfrm(items)),
-    )?;
-    assert_data(&rt, read_data(alloc, &TWO, &InfoKind::Vrf), vrf(alloc))?;
-    assert_data(&rt, read_data(alloc, &TWO, &InfoKind::Veth), veth(alloc))?;
+    assert_data(&rt, alloc, &TWO, &InfoKind::Xfrm, Ok(xfrm(items)))?;
+    assert_data(&rt, alloc, &TWO, &InfoKind::Vrf, vrf(alloc))?;
+    assert_data(&rt, alloc, &TWO, &InfoKind::Veth, veth(alloc))?;
     let none = xfrm(vec![in alloc;]?);
-    assert_data(&rt, read_data(alloc, &[], &InfoKind::Xfrm), Ok(none))?;
+    assert_data(&rt, alloc, &[], &InfoKind::Xfrm, Ok(none))?;
     Ok(())
 }
 
@@ -97,8 +95,8 @@ fn assert_bytes(
     kind: Result<InfoKind, AllocError>,
 ) -> Result<(), DecodeError> {
     let bytes = Bytes::copy_of(alloc, &[8, 0, 1, 0, 2])?;
-    let read = read_data(alloc, &TWO[..5], &kind?);
-    assert_data(rt, read, Ok(InfoData::Other(bytes)))
+    let built = Ok(InfoData::Other(bytes));
+    assert_data(rt, alloc, &TWO[..5], &kind?, built)
 }
 
 /// The kind of a name, which is none of those with a variant of their own.
