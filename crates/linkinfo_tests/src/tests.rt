@@ -2,6 +2,8 @@
 
 mod assertions;
 mod attributes;
+mod built;
+mod canonical;
 mod comparing;
 mod counts;
 mod dumps;

@@ -1,13 +1,13 @@
 //! Strings that are compared.
 
-use super::assertions::bytes_of;
+use super::assertions::{bytes_of, reads_equal};
 use super::worked::{
     DATA_TWICE, GRE_DISCOVERY, GRE_NO_DISCOVERY, IP6TNL_FLAGS, IPIP_FLAGS, IPVLAN, IPVLAN_NO_FLAGS,
     IPVTAP, LATER_KIND, MACVLAN_LIST, MACVLAN_SHORT_LIST, NETKIT_SCRUB, NETKIT_SCRUB_DEFAULT,
     OTHER_PORT, PFCP, PFCP_ATTRIBUTE, PFCP_MARKED, PFCP_NO_NUL, PFCP_SHORT, PORT_DATA, SIT_FLAGS,
     VETH, VETH_TAIL, XFRM, XSTATS,
 };
-use linkinfo::{HeaderCount, VecLinkInfo, same, same_counted};
+use linkinfo::{HeaderCount, same, same_counted};
 use std::test::Fail;
 
 /// Strings that are accepted, and whether they are the same.
@@ -52,7 +52,7 @@ fn compares_strings(rt: HostRuntime) -> Result<(), Fail> {
     for (a, b, wanted) in PAIRS {
         let first = bytes_of(&rt, alloc, a)?;
         let second = bytes_of(&rt, alloc, b)?;
-        let equal = VecLinkInfo::parse(alloc, &first)? == VecLinkInfo::parse(alloc, &second)?;
+        let equal = reads_equal(alloc, &first, &second)?;
         let mut count = HeaderCount::new();
         let counted = same_counted(&first, &second, &mut count);
         assert_eq!(rt;

@@ -1,7 +1,11 @@
 //! Every front of every worked string: `check` and `parse` agree, and an accepted front is the same as itself.
 
-use super::assertions::bytes_of;
-use linkinfo::{VecLinkInfo, check, same};
+use super::assertions::{HEADER_FAULT, bytes_of};
+use super::worked::VETH_TAIL;
+use linkinfo::{
+    BitPeer, Cause, DecodeError, Family, HeaderCount, VecLinkInfo, VecLinkInfoOf, check, check_of,
+    same, same_of,
+};
 use std::alloc::Global;
 use std::process::Abort;
 use std::test::Fail;
@@ -110,6 +114,59 @@ fn every_front(rt: HostRuntime) -> Result<(), Fail> {
     for text in STRINGS {
         let bytes = bytes_of(&rt, rt.alloc(), text)?;
         assert_fronts(&rt, rt.alloc(), &bytes);
+    }
+    Ok(())
+}
+
+/// Links with peers, each of a kind and data: the string, the length of the kind without its padding, and the fault where peers are bits.
+const PEERS: &[(&str, usize, Option<DecodeError>)] = &[
+    ("09000100 76657468 00000000 09000200 05000100 07", 9, None),
+    ("0a000100 76786361 6e000000 09000200 05000100 07", 10, None),
+    (
+        "0b000100 6e65746b 69740000 1c000200 05000100 07000000 05000200 00000000 05000100 00000000",
+        11,
+        None,
+    ),
+    (
+        VETH_TAIL,
+        9,
+        Some(DecodeError {
+            family: Family::Veth,
+            kind: 1,
+            cause: Cause::Peer,
+        }),
+    ),
+];
+
+/// The front is refused with this fault, or accepted, by each call whose peers are bits.
+fn assert_front_of_bits(rt: &impl Abort, alloc: Global, front: &[u8], fault: Option<DecodeError>) {
+    let mut count = HeaderCount::new();
+    let read = VecLinkInfoOf::<BitPeer>::parse_counted(alloc, front, &mut count).err();
+    let compared = same_of::<BitPeer>(front, front);
+    assert_eq!(rt;
+        (check_of::<BitPeer>(front).err(), read, compared.err()),
+        (fault, fault, fault),
+        "the front {front:?}"
+    );
+    assert!(rt; compared != Ok(false), "the front {front:?} with itself");
+}
+
+#[test]
+fn every_front_of_bits(rt: HostRuntime) -> Result<(), Fail> {
+    let alloc = rt.alloc();
+    for (text, kind_len, fault) in PEERS {
+        let bytes = bytes_of(&rt, alloc, text)?;
+        for end in 0..=bytes.len() {
+            // A whole attribute may lack the padding behind it.
+            let wanted = if end == bytes.len() {
+                *fault
+            } else if end == 0 || (*kind_len..=12).contains(&end) {
+                None
+            } else {
+                Some(HEADER_FAULT)
+            };
+            assert_front_of_bits(&rt, alloc, &bytes[..end], wanted);
+        }
     }
     Ok(())
 }

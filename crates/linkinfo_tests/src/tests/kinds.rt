@@ -1,9 +1,9 @@
 //! A list of each kind and of each port kind. The strings are what a kernel, `ip` or pyroute2 wrote, or are made by the rows of the tables. Values are
 //! written as `Debug` writes them.
 
-use super::assertions::{assert_value, bytes_of};
+use super::assertions::{assert_value, bytes_of, reads_equal};
 use super::fronts::assert_fronts;
-use linkinfo::{DecodeError, VecLinkInfo, same};
+use linkinfo::{DecodeError, same};
 use std::alloc::Global;
 use std::process::Abort;
 use std::test::Fail;
@@ -411,7 +411,7 @@ fn assert_changed(
 ) -> Result<(), DecodeError> {
     let a = bytes_of(rt, alloc, text)?;
     let b = bytes_of(rt, alloc, changed)?;
-    let equal = VecLinkInfo::parse(alloc, &a)? == VecLinkInfo::parse(alloc, &b)?;
+    let equal = reads_equal(alloc, &a, &b)?;
     assert_eq!(rt;
         (text, equal, same(&a, &b), same(&b, &a)),
         (text, false, Ok(false), Ok(false))

@@ -1,20 +1,118 @@
-//! The laws, whose functions do nothing.
+//! The laws, whose functions do nothing, each beside calls that it speaks of.
 
-use super::assertions::bytes_of;
-use super::worked::XFRM;
-use linkinfo::{BitPeer, Bytes, check, laws};
+use super::assertions::{HEADER_FAULT, assert_headers, assert_value, bytes_of};
+use super::worked::{
+    DATA_TWICE, FIRST_FAULT, LATER_KIND, PFCP_NO_NUL, PFCP_NOT_FRAMED, SECOND_PORT_DATA, XFRM,
+};
+use linkinfo::{
+    BitPeer, Bytes, Cause, DecodeError, Family, KindTag, LinkInfoWalk, PortTag, check, check_of,
+    laws,
+};
+use std::process::Abort;
 use std::test::Fail;
 
+/// The fault of a table number of one byte.
+const LENGTH_FAULT: DecodeError = DecodeError {
+    family: Family::Vrf,
+    kind: 1,
+    cause: Cause::Length,
+};
+
 #[test]
-fn laws_leave_a_string_accepted(rt: HostRuntime) -> Result<(), Fail> {
-    let bytes = bytes_of(&rt, rt.alloc(), XFRM)?;
-    laws::framed::<Bytes>(&bytes);
-    laws::in_force::<BitPeer>();
-    laws::tags_by_place(&bytes);
+fn strings_are_framed(rt: HostRuntime) -> Result<(), Fail> {
+    let alloc = rt.alloc();
+    for (text, fault, headers) in [
+        (XFRM, None, 4),
+        (FIRST_FAULT, Some(LENGTH_FAULT), 3),
+        ("080001", Some(HEADER_FAULT), 0),
+    ] {
+        let bytes = bytes_of(&rt, alloc, text)?;
+        laws::framed::<Bytes>(&bytes);
+        assert_headers(&rt, alloc, &bytes, fault, headers);
+    }
+    Ok(())
+}
+
+/// The tags of the items of a walk, which goes on to its end or to a fault behind them.
+fn assert_tags(rt: &impl Abort, bytes: &[u8], tags: &[(Option<KindTag>, Option<PortTag>)]) {
+    let mut walk = LinkInfoWalk::new(bytes);
+    for wanted in tags {
+        let Some(Ok(item)) = walk.next() else {
+            panic!(rt; "an item under {wanted:?}");
+        };
+        assert_eq!(rt; (item.kind_tag, item.port_tag), *wanted);
+    }
+    let further = matches!(walk.next(), Some(Ok(_)));
+    assert!(rt; !further, "no further item of {bytes:?}");
+}
+
+#[test]
+fn tags_are_those_of_the_last_names(rt: HostRuntime) -> Result<(), Fail> {
+    let alloc = rt.alloc();
+    laws::in_force::<Bytes>();
+    let later = bytes_of(&rt, alloc, LATER_KIND)?;
+    laws::tags_by_place(&later);
+    let tags = [
+        (None, None),
+        (Some(KindTag::Vrf), None),
+        (Some(KindTag::Xfrm), None),
+    ];
+    assert_tags(&rt, &later, &tags);
+    let ports = bytes_of(&rt, alloc, SECOND_PORT_DATA)?;
+    laws::tags_by_place(&ports);
+    assert_tags(&rt, &ports, &[(None, None), (None, Some(PortTag::Vrf))]);
+    Ok(())
+}
+
+#[test]
+fn items_are_equal_wherever_they_are(rt: HostRuntime) -> Result<(), Fail> {
+    let alloc = rt.alloc();
+    let bytes = bytes_of(&rt, alloc, DATA_TWICE)?;
+    let copy = bytes_of(&rt, alloc, DATA_TWICE)?;
     laws::equal_items();
+    let mut walk = LinkInfoWalk::new(&bytes);
+    let mut other = LinkInfoWalk::new(&copy);
+    let first = walk.next();
+    assert!(rt; first == other.next());
+    assert!(rt; first != other.next());
+    Ok(())
+}
+
+#[test]
+fn no_string_means_want_of_memory(rt: HostRuntime) -> Result<(), Fail> {
+    let alloc = rt.alloc();
     laws::no_memory::<BitPeer>();
-    laws::pfcp::<Bytes>(&bytes);
+    for (text, fault) in [
+        (XFRM, None),
+        (FIRST_FAULT, Some(LENGTH_FAULT)),
+        ("080001", Some(HEADER_FAULT)),
+    ] {
+        let bytes = bytes_of(&rt, alloc, text)?;
+        assert_eq!(rt; check_of::<BitPeer>(&bytes).err(), fault, "{text}");
+    }
+    Ok(())
+}
+
+#[test]
+fn data_under_pfcp_changed_alone(rt: HostRuntime) -> Result<(), Fail> {
+    let alloc = rt.alloc();
+    for (text, fault) in [
+        (PFCP_NO_NUL, None),
+        (XFRM, None),
+        (PFCP_NOT_FRAMED, Some(HEADER_FAULT)),
+    ] {
+        let bytes = bytes_of(&rt, alloc, text)?;
+        laws::pfcp::<Bytes>(&bytes);
+        assert_eq!(rt; check(&bytes).err(), fault, "{text}");
+    }
+    Ok(())
+}
+
+#[test]
+fn unknown_attributes_are_kept(rt: HostRuntime) -> Result<(), Fail> {
+    let text = "05000980 07000000";
+    let value = "[Other(DefaultNla { kind: 32777, value: Bytes { bytes: [7] } })]";
     laws::unknown_kept::<Bytes>();
-    assert_eq!(rt; check(&bytes), Ok(()));
+    assert_value(&rt, rt.alloc(), text, text, value)?;
     Ok(())
 }

@@ -1,10 +1,13 @@
 //! Lists that are read and emitted.
 
-use super::assertions::{assert_emitted, assert_reads, bytes_of, list_of};
+use super::assertions::{assert_built, assert_reads, bytes_of, list_of};
 use super::worked::{EMPTY_NAME, LATER_KIND, OTHER_PORT, PORT_DATA, VETH, XFRM, XSTATS};
 use linkinfo::{
-    InfoData, InfoKind, InfoVrf, InfoXfrm, LinkInfo, Nla, Nlas, VecLinkInfo, check, nlas_fit_len,
+    DecodeError, InfoData, InfoKind, InfoVrf, InfoXfrm, LinkInfo, Nla, Nlas, VecLinkInfo,
+    nlas_fit_len,
 };
+use std::alloc::{AllocError, Global};
+use std::process::Abort;
 use std::test::Fail;
 
 /// Data of an xfrm link.
@@ -13,47 +16,46 @@ fn xfrm(items: Vec<InfoXfrm>) -> LinkInfo {
 }
 
 #[test]
-fn reads_the_empty_list(rt: HostRuntime) -> Result<(), Fail> {
-    let alloc = rt.alloc();
-    assert_reads(&rt, alloc, "", vec![in alloc;]?, "")?;
+fn the_empty_list_fits(rt: HostRuntime) {
     let none: [LinkInfo; 0] = [];
     assert_eq!(rt; nlas_fit_len(&none), Some(0));
-    Ok(())
 }
 
-#[test]
-fn reads_data(rt: HostRuntime) -> Result<(), Fail> {
-    let alloc = rt.alloc();
-    let data = xfrm(vec![in alloc; InfoXfrm::Link(2), InfoXfrm::IfId(10)]?);
-    let items = vec![in alloc; LinkInfo::Kind(InfoKind::Xfrm), data]?;
-    assert_reads(&rt, alloc, XFRM, items, XFRM)?;
-    Ok(())
+/// A vrf link with this data.
+fn vrf(alloc: Global, data: LinkInfo) -> Result<Vec<LinkInfo>, AllocError> {
+    Ok(vec![in alloc; LinkInfo::Kind(InfoKind::Vrf), data]?)
+}
+
+/// A vrf link with no attributes.
+fn vrf_empty(alloc: Global) -> Result<Vec<LinkInfo>, AllocError> {
+    let rows: Vec<InfoVrf> = vec![in alloc;]?;
+    vrf(alloc, LinkInfo::Data(InfoData::Vrf(Nlas::new(rows))))
 }
 
 #[test]
 fn emits_what_is_not_well_formed(rt: HostRuntime) -> Result<(), Fail> {
     let alloc = rt.alloc();
-    let items = vec![in alloc; LinkInfo::Kind(InfoKind::Vrf), xfrm(vec![in alloc;]?)]?;
-    let string = bytes_of(&rt, alloc, "08000100 76726600 04000200")?;
-    assert_emitted(&rt, alloc, items.as_slice(), &string)?;
-    assert_eq!(rt; check(&string), Ok(()));
-    let no_rows: Vec<InfoVrf> = vec![in alloc;]?;
-    let wanted = list_of(vec![in alloc;
-        LinkInfo::Kind(InfoKind::Vrf),
-        LinkInfo::Data(InfoData::Vrf(Nlas::new(no_rows))),
-    ]?);
-    assert!(rt; VecLinkInfo::parse(alloc, &string)? == wanted);
+    let text = "08000100 76726600 04000200";
+    let built = vrf(alloc, xfrm(vec![in alloc;]?));
+    assert_built(&rt, alloc, built, &bytes_of(&rt, alloc, text)?)?;
+    assert_reads(&rt, alloc, text, vrf_empty(alloc), text)?;
+    Ok(())
+}
+
+/// A clone of what the string is read as is equal to it.
+fn assert_clones(rt: &impl Abort, alloc: Global, text: &str) -> Result<(), DecodeError> {
+    let list = VecLinkInfo::parse(alloc, &bytes_of(rt, alloc, text)?)?;
+    let copy = list.clone()?;
+    assert!(rt; copy == list, "a clone of {text}");
     Ok(())
 }
 
 #[test]
 fn clones_are_equal(rt: HostRuntime) -> Result<(), Fail> {
-    let alloc = rt.alloc();
     for text in [
         XFRM, VETH, XSTATS, OTHER_PORT, PORT_DATA, EMPTY_NAME, "04000980",
     ] {
-        let list = VecLinkInfo::parse(alloc, &bytes_of(&rt, alloc, text)?)?;
-        assert!(rt; list.clone()? == list, "a clone of {text}");
+        assert_clones(&rt, rt.alloc(), text)?;
     }
     Ok(())
 }
@@ -70,37 +72,80 @@ fn lists_display_for_debugging(rt: HostRuntime) -> Result<(), Fail> {
     Ok(())
 }
 
+/// The list is written in one call as these bytes.
+fn assert_written(
+    rt: &impl Abort,
+    alloc: Global,
+    built: Result<Vec<LinkInfo>, AllocError>,
+    text: &str,
+) -> Result<(), Fail> {
+    let wanted = bytes_of(rt, alloc, text)?;
+    let written = VecLinkInfo::from(built?).to_vec(alloc)?;
+    assert_eq!(rt; written.as_slice(), wanted.as_slice());
+    Ok(())
+}
+
+/// An xfrm link with its underlying interface and its identifier.
+fn xfrm_link(alloc: Global) -> Result<Vec<LinkInfo>, AllocError> {
+    let data = xfrm(vec![in alloc; InfoXfrm::Link(2), InfoXfrm::IfId(10)]?);
+    Ok(vec![in alloc; LinkInfo::Kind(InfoKind::Xfrm), data]?)
+}
+
 #[test]
 fn writes_a_list_in_one_call(rt: HostRuntime) -> Result<(), Fail> {
     let alloc = rt.alloc();
-    let list = VecLinkInfo::from(vec![in alloc;
-        LinkInfo::Kind(InfoKind::Xfrm),
-        xfrm(vec![in alloc; InfoXfrm::Link(2), InfoXfrm::IfId(10)]?),
-    ]?);
-    let written = list.to_vec(alloc)?;
-    assert!(rt; written == bytes_of(&rt, alloc, XFRM)?);
-    let empty = VecLinkInfo::from(vec![in alloc;]?);
-    assert_eq!(rt; empty.to_vec(alloc)?.len(), 0);
+    assert_written(&rt, alloc, xfrm_link(alloc), XFRM)?;
+    assert_written(&rt, alloc, Ok(Vec::new(alloc)), "")
+}
+
+/// The types of the attributes of the list, in order.
+fn assert_types(
+    rt: &impl Abort,
+    alloc: Global,
+    list: &VecLinkInfo,
+    wanted: &[u16],
+) -> Result<(), AllocError> {
+    let mut types = Vec::new(alloc);
+    for item in list {
+        types.push(item.kind())?;
+    }
+    assert_eq!(rt; types.as_slice(), wanted);
+    assert_eq!(rt;
+        (list.len(), list.is_empty()),
+        (wanted.len(), wanted.is_empty())
+    );
+    assert_eq!(rt; list.iter().rev().next(), list.as_slice().last());
+    Ok(())
+}
+
+/// The list of the attributes that a list gives.
+fn collected(alloc: Global, list: VecLinkInfo) -> Result<VecLinkInfo, AllocError> {
+    let mut items = Vec::new(alloc);
+    for item in list {
+        items.push(item)?;
+    }
+    Ok(VecLinkInfo::from(items))
+}
+
+/// The attributes that the list of the string gives by reference and by value, and their number.
+fn assert_gone_over(
+    rt: &impl Abort,
+    alloc: Global,
+    text: &str,
+    types: &[u16],
+) -> Result<(), DecodeError> {
+    let list = VecLinkInfo::parse(alloc, &bytes_of(rt, alloc, text)?)?;
+    assert_types(rt, alloc, &list, types)?;
+    let items = collected(alloc, list.clone()?)?;
+    assert!(rt; items == list, "the attributes of {text}");
+    assert_eq!(rt; list.into_vec().len(), types.len());
     Ok(())
 }
 
 #[test]
 fn goes_over_a_list(rt: HostRuntime) -> Result<(), Fail> {
     let alloc = rt.alloc();
-    let list = VecLinkInfo::parse(alloc, &bytes_of(&rt, alloc, LATER_KIND)?)?;
-    assert_eq!(rt; (list.len(), list.is_empty()), (3, false));
-    assert_eq!(rt; VecLinkInfo::parse(alloc, &[])?.is_empty(), true);
-    let mut kinds = Vec::new(alloc);
-    for item in &list {
-        kinds.push(item.kind())?;
-    }
-    assert_eq!(rt; kinds.as_slice(), [1, 1, 2].as_slice());
-    assert_eq!(rt; list.iter().rev().next(), list.as_slice().last());
-    let mut items = Vec::new(alloc);
-    for item in list.clone()? {
-        items.push(item)?;
-    }
-    assert!(rt; VecLinkInfo::from(items) == list);
-    assert_eq!(rt; list.into_vec().len(), 3);
+    assert_gone_over(&rt, alloc, LATER_KIND, &[1, 1, 2])?;
+    assert_gone_over(&rt, alloc, "", &[])?;
     Ok(())
 }

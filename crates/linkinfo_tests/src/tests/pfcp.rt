@@ -1,11 +1,12 @@
 //! Links of the kind pfcp, whose data is attributes of a family without rows.
 
-use super::assertions::{HEADER_FAULT, assert_emitted, assert_reads, assert_refused, bytes_of};
+use super::assertions::{HEADER_FAULT, assert_built, assert_reads, assert_refused, bytes_of};
 use super::worked::{PFCP_ATTRIBUTE, PFCP_EMPTY, PFCP_MARKED, PFCP_NOT_FRAMED, PFCP_SHORT};
 use linkinfo::{
     Bytes, DecodeError, DefaultNla, InfoData, InfoKind, InfoPfcp, LinkInfo, Nlas, VecLinkInfo,
 };
 use std::alloc::{AllocError, Global};
+use std::process::Abort;
 use std::test::Fail;
 
 /// A pfcp link with its data.
@@ -19,15 +20,25 @@ fn kept(alloc: Global, kind: u16, payload: Vec<u8>) -> Result<InfoData, AllocErr
     Ok(InfoData::Pfcp(Nlas::new(vec![in alloc; item]?)))
 }
 
+/// A pfcp link with one attribute.
+fn pfcp_with(alloc: Global, kind: u16, payload: &[u8]) -> Result<Vec<LinkInfo>, AllocError> {
+    let payload = Vec::from_slice(alloc, payload)?;
+    pfcp(alloc, kept(alloc, kind, payload)?)
+}
+
+/// A pfcp link without attributes.
+fn pfcp_empty(alloc: Global) -> Result<Vec<LinkInfo>, AllocError> {
+    pfcp(alloc, InfoData::Pfcp(Nlas::new(vec![in alloc;]?)))
+}
+
 #[test]
 fn keeps_attributes_of_pfcp(rt: HostRuntime) -> Result<(), Fail> {
     let alloc = rt.alloc();
-    let marked = kept(alloc, 0x8001, vec![in alloc; 1u8, 0, 0, 0]?)?;
-    assert_reads(&rt, alloc, PFCP_MARKED, pfcp(alloc, marked)?, PFCP_MARKED)?;
-    let short = kept(alloc, 1, vec![in alloc; 7u8]?)?;
-    assert_reads(&rt, alloc, PFCP_SHORT, pfcp(alloc, short)?, PFCP_ATTRIBUTE)?;
-    let none = InfoData::Pfcp(Nlas::new(vec![in alloc;]?));
-    assert_reads(&rt, alloc, PFCP_EMPTY, pfcp(alloc, none)?, PFCP_EMPTY)?;
+    let marked = pfcp_with(alloc, 0x8001, &[1, 0, 0, 0]);
+    assert_reads(&rt, alloc, PFCP_MARKED, marked, PFCP_MARKED)?;
+    let short = pfcp_with(alloc, 1, &[7]);
+    assert_reads(&rt, alloc, PFCP_SHORT, short, PFCP_ATTRIBUTE)?;
+    assert_reads(&rt, alloc, PFCP_EMPTY, pfcp_empty(alloc), PFCP_EMPTY)?;
     Ok(())
 }
 
@@ -39,19 +50,34 @@ fn refuses_data_of_pfcp_that_is_not_framed(rt: HostRuntime) -> Result<(), Fail> 
     Ok(())
 }
 
+/// A pfcp link whose data is bytes, which is not well formed.
+fn pfcp_of_bytes(alloc: Global, payload: &[u8]) -> Result<Vec<LinkInfo>, AllocError> {
+    pfcp(alloc, InfoData::Other(Bytes::copy_of(alloc, payload)?))
+}
+
+/// The string is read as another list than the one that was built.
+fn assert_read_otherwise(
+    rt: &impl Abort,
+    alloc: Global,
+    string: &[u8],
+    built: Result<Vec<LinkInfo>, AllocError>,
+) -> Result<(), DecodeError> {
+    let items = built?;
+    let read = VecLinkInfo::parse(alloc, string)?;
+    assert!(rt; read.as_slice() != items.as_slice());
+    Ok(())
+}
+
 /// Bytes as data of pfcp are not well formed: they are emitted, and their string is refused or reads as attributes.
 #[test]
 fn emits_bytes_under_pfcp(rt: HostRuntime) -> Result<(), Fail> {
     let alloc = rt.alloc();
-    let bytes = InfoData::Other(Bytes::copy_of(alloc, &[1, 2, 3])?);
     let string = bytes_of(&rt, alloc, PFCP_NOT_FRAMED)?;
-    assert_emitted(&rt, alloc, pfcp(alloc, bytes)?.as_slice(), &string)?;
-    let bytes = InfoData::Other(Bytes::copy_of(alloc, &[8, 0, 1, 0x80, 1, 0, 0, 0])?);
+    assert_built(&rt, alloc, pfcp_of_bytes(alloc, &[1, 2, 3]), &string)?;
     let string = bytes_of(&rt, alloc, PFCP_MARKED)?;
-    let items = pfcp(alloc, bytes)?;
-    assert_emitted(&rt, alloc, items.as_slice(), &string)?;
-    let read = VecLinkInfo::parse(alloc, &string)?;
-    assert!(rt; read.0.as_slice() != items.as_slice());
+    let payload = [8, 0, 1, 0x80, 1, 0, 0, 0];
+    assert_built(&rt, alloc, pfcp_of_bytes(alloc, &payload), &string)?;
+    assert_read_otherwise(&rt, alloc, &string, pfcp_of_bytes(alloc, &payload))?;
     Ok(())
 }
 
@@ -60,11 +86,25 @@ fn moved(alloc: Global, payload: &[u8]) -> Result<InfoData, DecodeError> {
     InfoData::parse_with_param(alloc, payload, &InfoKind::Pfcp)
 }
 
+/// Bytes that were kept are moved to one attribute.
+fn assert_moved(
+    rt: &impl Abort,
+    alloc: Global,
+    payload: &[u8],
+    built: Result<InfoData, AllocError>,
+) -> Result<(), DecodeError> {
+    let attribute = built?;
+    let read = moved(alloc, payload)?;
+    assert!(rt; read == attribute);
+    Ok(())
+}
+
 #[test]
 fn moves_bytes_under_pfcp(rt: HostRuntime) -> Result<(), Fail> {
     let alloc = rt.alloc();
-    let attribute = kept(alloc, 0x8001, vec![in alloc; 1u8, 0, 0, 0]?)?;
-    assert!(rt; moved(alloc, &[8, 0, 1, 0x80, 1, 0, 0, 0])? == attribute);
-    assert_eq!(rt; moved(alloc, &[1, 2, 3]).err(), Some(HEADER_FAULT));
+    let attribute = kept(alloc, 0x8001, vec![in alloc; 1u8, 0, 0, 0]?);
+    assert_moved(&rt, alloc, &[8, 0, 1, 0x80, 1, 0, 0, 0], attribute)?;
+    let fault = moved(alloc, &[1, 2, 3]).err();
+    assert_eq!(rt; fault, Some(HEADER_FAULT));
     Ok(())
 }

@@ -6,6 +6,26 @@ use linkinfo::{Cause, DecodeError, KindTag, LinkInfoItem, LinkInfoWalk, PortTag}
 use std::process::Abort;
 use std::test::Fail;
 
+/// The walk gives these items, each at its place.
+fn assert_items(rt: &impl Abort, walk: &mut LinkInfoWalk<'_>, items: &[LinkInfoItem<'_>]) {
+    for wanted in items {
+        assert_eq!(rt; walk.place(), wanted.place);
+        let Some(Ok(item)) = walk.next() else {
+            panic!(rt; "an item {wanted:?}");
+        };
+        assert!(rt; item == *wanted, "{item:?} for {wanted:?}");
+    }
+}
+
+/// The fault that a walk without further items gives next, if it has not ended.
+fn next_fault(rt: &impl Abort, walk: &mut LinkInfoWalk<'_>) -> Option<DecodeError> {
+    match walk.next() {
+        None => None,
+        Some(Err(fault)) => Some(fault),
+        Some(Ok(item)) => panic!(rt; "a further item {item:?}"),
+    }
+}
+
 /// The items that a walk gives, the fault that it ends with, the place where it ends, and how many headers it looks at.
 fn assert_walk(
     rt: &impl Abort,
@@ -17,25 +37,15 @@ fn assert_walk(
 ) {
     let mut walk = LinkInfoWalk::new(bytes);
     assert_eq!(rt; walk.examined(), 0);
-    for wanted in items {
-        assert_eq!(rt; walk.place(), wanted.place, "the place in {bytes:?}");
-        let Some(Ok(item)) = walk.next() else {
-            panic!(rt; "an item at {wanted:?} of {bytes:?}");
-        };
-        assert!(rt; item == *wanted, "{item:?} in {bytes:?}");
-    }
+    assert_items(rt, &mut walk, items);
+    let place = walk.place();
+    let last = next_fault(rt, &mut walk);
+    let behind = next_fault(rt, &mut walk);
     assert_eq!(rt;
-        walk.place(),
-        end,
-        "the place behind the items of {bytes:?}"
+        (place, last, behind, walk.place(), walk.examined()),
+        (end, fault, None, end, examined),
+        "the end of {bytes:?}"
     );
-    match fault {
-        Some(fault) => assert!(rt; walk.next() == Some(Err(fault)), "the fault of {bytes:?}"),
-        None => assert!(rt; walk.next().is_none(), "the end of {bytes:?}"),
-    }
-    assert!(rt; walk.next().is_none(), "the end of {bytes:?}");
-    assert_eq!(rt; walk.place(), end, "the place at the end of {bytes:?}");
-    assert_eq!(rt; walk.examined(), examined, "headers of {bytes:?}");
 }
 
 /// An item with no kind in force.
