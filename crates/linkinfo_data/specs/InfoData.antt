@@ -7,7 +7,8 @@ use Rattle.linkinfo_data.specs.declared.info_data.InfoDataOf.TheVariants as info
 use Rattle.linkinfo_data.specs.Families.{Families}
 use Rattle.linkinfo_data.specs.Plain.{plain}
 
-abbrev pub data_payload : {P : Type 0} → Families P → InfoDataOf P → List ℕ
+-- Opaque, so that what is proved of data does not go over the rows of all families.
+unfoldable pub data_payload : {P : Type 0} → Families P → InfoDataOf P → List ℕ
 data_payload families (info.Bridge xs) = list_string (map plain.bridge.attribute xs)
 data_payload families (info.Tun xs) = list_string (map plain.tun.attribute xs)
 data_payload families (info.Vlan xs) = list_string (map plain.vlan.attribute xs)

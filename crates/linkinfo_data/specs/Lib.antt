@@ -1,6 +1,7 @@
 pub mod BytesPeer
 pub mod Data
 pub mod DataEqual
+pub mod DataVariants
 pub mod DeviceData
 pub mod Equal
 pub mod Families

@@ -27,7 +27,7 @@ port_data_of of.Team = as_list plain.team_port (λ xs. info.TeamPort xs)
 port_data_of of.Raw = as_bytes (λ bytes. info.Other bytes)
 
 -- the canonical payload of port data
-abbrev pub port_data_payload : InfoPortData → List ℕ
+unfoldable pub port_data_payload : InfoPortData → List ℕ
 port_data_payload (info.BondPort xs) = list_string (map plain.bond_port.attribute xs)
 port_data_payload (info.BridgePort xs) = list_string (map plain.bridge_port.attribute xs)
 port_data_payload (info.VrfPort xs) = list_string (map plain.vrf_port.attribute xs)

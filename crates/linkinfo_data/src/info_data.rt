@@ -175,6 +175,7 @@ macro_rules! of_data {
 }
 
 /// Written with the type 2. Data of a family is its attributes' strings, one after another.
+#[tactic(auto, unfolding(crate::specs::InfoData::data_payload))]
 impl<P: LinkPeer> Nla for InfoDataOf<P> {
     ghost use Rattle.linkinfo_data.specs.InfoData.{data_attribute};
 
@@ -204,8 +205,8 @@ impl<P: LinkPeer> Nla for InfoDataOf<P> {
 
 impl<P: ExactEq> ExactEq for InfoDataOf<P> {
     ghost use Rattle.std.specs.Cmp.Lexicographic.{bytes_decides, pointwise_decides};
-    ghost use Rattle.linkinfo_data.specs.declared.info_data.InfoDataOf.TheVariants as info;
-    ghost use Rattle.linkinfo_data.specs.Equal.{apart, under};
+    ghost use Rattle.nla_frame.specs.Derived.{one_field};
+    ghost use Rattle.linkinfo_data.specs.DataVariants.{by_variants};
     ghost use Rattle.linkinfo_tunnels.specs.contracts.vxlan.InfoVxlanExactEq.TheImpl.Laws as vxlan;
     ghost use Rattle.linkinfo_devices.specs.contracts.ipvlan.InfoIpVlanExactEq.TheImpl.Laws as ip_vlan;
     ghost use Rattle.linkinfo_devices.specs.contracts.ipvtap.InfoIpVtapExactEq.TheImpl.Laws as ip_vtap;
@@ -228,43 +229,5 @@ impl<P: ExactEq> ExactEq for InfoDataOf<P> {
     ghost use Rattle.linkinfo_devices.specs.contracts.rmnet.InfoRmNetExactEq.TheImpl.Laws as rm_net;
     ghost use Rattle.std.proofs.Common.{rules};
 
-    ghost exact = { elim [
-      | info.Bridge x ↦ elim [ info.Bridge y ↦ under (λ v. info.Bridge v) (λ e. cc) (pointwise_decides (λ a b. Prim.search rules) x y) | _ ↦ apart (λ e. cc) ]
-      | info.Tun x ↦ elim [ info.Tun y ↦ under (λ v. info.Tun v) (λ e. cc) (pointwise_decides (λ a b. Prim.search rules) x y) | _ ↦ apart (λ e. cc) ]
-      | info.Vlan x ↦ elim [ info.Vlan y ↦ under (λ v. info.Vlan v) (λ e. cc) (pointwise_decides (λ a b. Prim.search rules) x y) | _ ↦ apart (λ e. cc) ]
-      | info.Veth x ↦ elim [ info.Veth y ↦ under (λ v. info.Veth v) (λ e. cc) (Prim.search (rules, P.exact)) | _ ↦ apart (λ e. cc) ]
-      | info.Vxlan x ↦ elim [ info.Vxlan y ↦ under (λ v. info.Vxlan v) (λ e. cc) (pointwise_decides vxlan.exact-law x y) | _ ↦ apart (λ e. cc) ]
-      | info.Bond x ↦ elim [ info.Bond y ↦ under (λ v. info.Bond v) (λ e. cc) (pointwise_decides (λ a b. Prim.search rules) x y) | _ ↦ apart (λ e. cc) ]
-      | info.IpVlan x ↦ elim [ info.IpVlan y ↦ under (λ v. info.IpVlan v) (λ e. cc) (pointwise_decides ip_vlan.exact-law x y) | _ ↦ apart (λ e. cc) ]
-      | info.IpVtap x ↦ elim [ info.IpVtap y ↦ under (λ v. info.IpVtap v) (λ e. cc) (pointwise_decides ip_vtap.exact-law x y) | _ ↦ apart (λ e. cc) ]
-      | info.MacVlan x ↦ elim [ info.MacVlan y ↦ under (λ v. info.MacVlan v) (λ e. cc) (pointwise_decides mac_vlan.exact-law x y) | _ ↦ apart (λ e. cc) ]
-      | info.MacVtap x ↦ elim [ info.MacVtap y ↦ under (λ v. info.MacVtap v) (λ e. cc) (pointwise_decides mac_vtap.exact-law x y) | _ ↦ apart (λ e. cc) ]
-      | info.GreTap x ↦ elim [ info.GreTap y ↦ under (λ v. info.GreTap v) (λ e. cc) (pointwise_decides gre.exact-law x y) | _ ↦ apart (λ e. cc) ]
-      | info.GreTap6 x ↦ elim [ info.GreTap6 y ↦ under (λ v. info.GreTap6 v) (λ e. cc) (pointwise_decides gre6.exact-law x y) | _ ↦ apart (λ e. cc) ]
-      | info.IpTunnel x ↦ elim [ info.IpTunnel y ↦ under (λ v. info.IpTunnel v) (λ e. cc) (pointwise_decides ip_tunnel.exact-law x y) | _ ↦ apart (λ e. cc) ]
-      | info.GreTun x ↦ elim [ info.GreTun y ↦ under (λ v. info.GreTun v) (λ e. cc) (pointwise_decides gre.exact-law x y) | _ ↦ apart (λ e. cc) ]
-      | info.GreTun6 x ↦ elim [ info.GreTun6 y ↦ under (λ v. info.GreTun6 v) (λ e. cc) (pointwise_decides gre6.exact-law x y) | _ ↦ apart (λ e. cc) ]
-      | info.Vti x ↦ elim [ info.Vti y ↦ under (λ v. info.Vti v) (λ e. cc) (pointwise_decides vti.exact-law x y) | _ ↦ apart (λ e. cc) ]
-      | info.Vrf x ↦ elim [ info.Vrf y ↦ under (λ v. info.Vrf v) (λ e. cc) (pointwise_decides vrf.exact-law x y) | _ ↦ apart (λ e. cc) ]
-      | info.Gtp x ↦ elim [ info.Gtp y ↦ under (λ v. info.Gtp v) (λ e. cc) (pointwise_decides gtp.exact-law x y) | _ ↦ apart (λ e. cc) ]
-      | info.Ipoib x ↦ elim [ info.Ipoib y ↦ under (λ v. info.Ipoib v) (λ e. cc) (pointwise_decides ipoib.exact-law x y) | _ ↦ apart (λ e. cc) ]
-      | info.Wireguard x ↦ elim [ info.Wireguard y ↦ under (λ v. info.Wireguard v) (λ e. cc) (pointwise_decides (λ a b. Prim.search rules) x y) | _ ↦ apart (λ e. cc) ]
-      | info.Xfrm x ↦ elim [ info.Xfrm y ↦ under (λ v. info.Xfrm v) (λ e. cc) (pointwise_decides xfrm.exact-law x y) | _ ↦ apart (λ e. cc) ]
-      | info.MacSec x ↦ elim [ info.MacSec y ↦ under (λ v. info.MacSec v) (λ e. cc) (pointwise_decides mac_sec.exact-law x y) | _ ↦ apart (λ e. cc) ]
-      | info.Hsr x ↦ elim [ info.Hsr y ↦ under (λ v. info.Hsr v) (λ e. cc) (pointwise_decides (λ a b. Prim.search rules) x y) | _ ↦ apart (λ e. cc) ]
-      | info.Geneve x ↦ elim [ info.Geneve y ↦ under (λ v. info.Geneve v) (λ e. cc) (pointwise_decides geneve.exact-law x y) | _ ↦ apart (λ e. cc) ]
-      | info.Netkit x ↦ elim [ info.Netkit y ↦ under (λ v. info.Netkit v) (λ e. cc) (pointwise_decides (λ a b. Prim.search (rules, P.exact)) x y) | _ ↦ apart (λ e. cc) ]
-      | info.Vxcan x ↦ elim [ info.Vxcan y ↦ under (λ v. info.Vxcan v) (λ e. cc) (Prim.search (rules, P.exact)) | _ ↦ apart (λ e. cc) ]
-      | info.Amt x ↦ elim [ info.Amt y ↦ under (λ v. info.Amt v) (λ e. cc) (pointwise_decides amt.exact-law x y) | _ ↦ apart (λ e. cc) ]
-      | info.BatAdv x ↦ elim [ info.BatAdv y ↦ under (λ v. info.BatAdv v) (λ e. cc) (pointwise_decides bat_adv.exact-law x y) | _ ↦ apart (λ e. cc) ]
-      | info.BareUdp x ↦ elim [ info.BareUdp y ↦ under (λ v. info.BareUdp v) (λ e. cc) (pointwise_decides bare_udp.exact-law x y) | _ ↦ apart (λ e. cc) ]
-      | info.Wwan x ↦ elim [ info.Wwan y ↦ under (λ v. info.Wwan v) (λ e. cc) (pointwise_decides wwan.exact-law x y) | _ ↦ apart (λ e. cc) ]
-      | info.Can x ↦ elim [ info.Can y ↦ under (λ v. info.Can v) (λ e. cc) (pointwise_decides (λ a b. Prim.search rules) x y) | _ ↦ apart (λ e. cc) ]
-      | info.Dsa x ↦ elim [ info.Dsa y ↦ under (λ v. info.Dsa v) (λ e. cc) (pointwise_decides (λ a b. Prim.search rules) x y) | _ ↦ apart (λ e. cc) ]
-      | info.ErSpan x ↦ elim [ info.ErSpan y ↦ under (λ v. info.ErSpan v) (λ e. cc) (pointwise_decides gre.exact-law x y) | _ ↦ apart (λ e. cc) ]
-      | info.Ip6ErSpan x ↦ elim [ info.Ip6ErSpan y ↦ under (λ v. info.Ip6ErSpan v) (λ e. cc) (pointwise_decides gre6.exact-law x y) | _ ↦ apart (λ e. cc) ]
-      | info.Pfcp x ↦ elim [ info.Pfcp y ↦ under (λ v. info.Pfcp v) (λ e. cc) (pointwise_decides (λ a b. Prim.search rules) x y) | _ ↦ apart (λ e. cc) ]
-      | info.RmNet x ↦ elim [ info.RmNet y ↦ under (λ v. info.RmNet v) (λ e. cc) (pointwise_decides rm_net.exact-law x y) | _ ↦ apart (λ e. cc) ]
-      | info.Other x ↦ elim [ info.Other y ↦ under (λ v. info.Other v) (λ e. cc) (bytes_decides x y) | _ ↦ apart (λ e. cc) ]
-    ] };
+    ghost exact = { by_variants P.ExactEq _ (one_field (pointwise_decides (λ a b. Prim.search rules)), (one_field (pointwise_decides (λ a b. Prim.search rules)), (one_field (pointwise_decides (λ a b. Prim.search rules)), (one_field (λ x y. Prim.search (rules, P.exact)), (one_field (pointwise_decides vxlan.exact-law), (one_field (pointwise_decides (λ a b. Prim.search rules)), (one_field (pointwise_decides ip_vlan.exact-law), (one_field (pointwise_decides ip_vtap.exact-law), (one_field (pointwise_decides mac_vlan.exact-law), (one_field (pointwise_decides mac_vtap.exact-law), (one_field (pointwise_decides gre.exact-law), (one_field (pointwise_decides gre6.exact-law), (one_field (pointwise_decides ip_tunnel.exact-law), (one_field (pointwise_decides gre.exact-law), (one_field (pointwise_decides gre6.exact-law), (one_field (pointwise_decides vti.exact-law), (one_field (pointwise_decides vrf.exact-law), (one_field (pointwise_decides gtp.exact-law), (one_field (pointwise_decides ipoib.exact-law), (one_field (pointwise_decides (λ a b. Prim.search rules)), (one_field (pointwise_decides xfrm.exact-law), (one_field (pointwise_decides mac_sec.exact-law), (one_field (pointwise_decides (λ a b. Prim.search rules)), (one_field (pointwise_decides geneve.exact-law), (one_field (pointwise_decides (λ a b. Prim.search (rules, P.exact))), (one_field (λ x y. Prim.search (rules, P.exact)), (one_field (pointwise_decides amt.exact-law), (one_field (pointwise_decides bat_adv.exact-law), (one_field (pointwise_decides bare_udp.exact-law), (one_field (pointwise_decides wwan.exact-law), (one_field (pointwise_decides (λ a b. Prim.search rules)), (one_field (pointwise_decides (λ a b. Prim.search rules)), (one_field (pointwise_decides gre.exact-law), (one_field (pointwise_decides gre6.exact-law), (one_field (pointwise_decides (λ a b. Prim.search rules)), (one_field (pointwise_decides rm_net.exact-law), (one_field bytes_decides, tt))))))))))))))))))))))))))))))))))))) };
 }

@@ -120,6 +120,7 @@ impl InfoPortData {
 }
 
 /// Written with the type 5. Data of a family is its attributes' strings, one after another.
+#[tactic(auto, unfolding(crate::specs::PortData::port_data_payload))]
 impl Nla for InfoPortData {
     ghost use Rattle.linkinfo_data.specs.PortData.{port_data_attribute};
 

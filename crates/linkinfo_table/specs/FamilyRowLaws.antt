@@ -9,10 +9,14 @@ use Rattle.nla_frame.specs.declared.error.Cause.TheVariants as cause
 use Rattle.linkinfo_shapes.specs.declared.shape.Shape.{Shape}
 use Rattle.linkinfo_shapes.specs.Shapes.{Carrier, means, canon}
 use Rattle.linkinfo_shapes.specs.ShapeLaws.{means_holds, means-canon, IsBytes-canon, means_alike, means_memory}
+use Rattle.linkinfo_shapes.specs.declared.datum.Datum.{Datum}
+use Rattle.linkinfo_shapes.specs.Data.{Value, value_of}
 use Rattle.linkinfo_shapes.specs.Table.{found}
+use Rattle.linkinfo_table.specs.declared.found.Found.{Found}
+use Rattle.linkinfo_table.specs.declared.found.Found.TheVariants.{Typed}
 use Rattle.linkinfo_table.specs.Codecs.{Own, Inside, IsCodec}
 use Rattle.linkinfo_table.specs.Rows.{Entry, Row, Is, IsRow}
-use Rattle.linkinfo_table.specs.FamilyRows.{own, shape_codec, FamilyRow, row_of, row_if, lookup_of, RowOwes, PlainRow, plain_or_absent, table_row, without_labels, lookup_in, Keeps, EachKeeps, IsFlat}
+use Rattle.linkinfo_table.specs.FamilyRows.{own, shape_codec, FamilyRow, row_of, row_if, lookup_of, RowOwes, PlainRow, plain_or_absent, table_row, without_labels, lookup_in, Keeps, EachKeeps, IsFlat, IsNoRow, SuitsFound, SuitsRow}
 
 abbrev done : {A E : Type 0} → A → Result A E
 done x = Ok x
@@ -98,6 +102,23 @@ table_lookup {F = F} (r ∷ rows) n =
           ∙ table_lookup rows n
           ∙ ap lookup_in (sym (cond-false (n == r.number) (Some r.shape) (found (without_labels rows) n) other))
     ]
+
+-- no datum belongs to the row of a number that no row has
+pub no_row_suits : {F : Type 0} (rows : List (PlainRow F)) (n : ℕ) (value : Value) → IsNoRow rows n → SuitsRow (table_row rows n) value → ⊥
+no_row_suits [] n value none suits = suits
+no_row_suits {F = F} (r ∷ rows) n value none suits =
+    elim (cases_Bool (n == r.number)) [
+      | inl same ↦ absurd (none.0 (eqb-true n r.number same))
+      | inr other ↦
+          no_row_suits rows n value none.1
+          (subst (λ (x : Option (PlainRow F)). SuitsRow (plain_or_absent x) value) (cond-false (n == r.number) _ _ other) suits)
+    ]
+
+-- so what was read of an attribute has a number that some row has
+pub no_row_read : {F : Type 0} (rows : List (PlainRow F)) (read : Found) (n : ℕ) (datum : Datum) → read ≡ Typed n datum → IsNoRow rows n →
+    SuitsFound (λ m. table_row rows m) read → ⊥
+no_row_read {F = F} rows read n datum e none suits =
+    no_row_suits rows n (value_of datum) none (subst (λ (x : Found). SuitsFound (λ m. table_row rows m) x) e suits)
 
 -- what a family's rows owe, row by row
 pub owed : {F : Type 0} (attribute : F → Attribute) (rows : ℕ → Row F) → ((n : ℕ) → RowOwes attribute n (rows n)) →

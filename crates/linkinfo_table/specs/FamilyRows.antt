@@ -94,6 +94,11 @@ plain_or_absent None = Absent
 abbrev pub table_row : {F : Type 0} → List (PlainRow F) → ℕ → FamilyRow F
 table_row rows number = plain_or_absent (find rows number)
 
+-- a number that no row has
+abbrev pub IsNoRow : {F : Type 0} → List (PlainRow F) → ℕ → Type 0
+IsNoRow [] number = Unit {0}
+IsNoRow (r ∷ rows) number = (number ≢ r.number) × IsNoRow rows number
+
 -- one row or another
 abbrev pub row_if : {F : Type 0} → Bool → FamilyRow F → FamilyRow F → FamilyRow F
 row_if true x y = x

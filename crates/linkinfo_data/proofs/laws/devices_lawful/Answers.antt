@@ -8,6 +8,7 @@ use Rattle.linkinfo_data.specs.PeerFamilies.{families_of}
 use Rattle.linkinfo_data.specs.Plain.{plain}
 
 pub returns : goal.returns
+unfolding data_payload
 returns g c = let families = families_of g.row.P g.P.LinkPeer in elim [
   | of.IpVlan ↦ as_list_is_codec plain.ip_vlan (c.lawful.ensures tt) (λ v. info.IpVlan v) (data_payload families) (λ _. refl) (λ x y e. cc)
   | of.IpVtap ↦ as_list_is_codec plain.ip_vtap (c.lawful-2.ensures tt) (λ v. info.IpVtap v) (data_payload families) (λ _. refl) (λ x y e. cc)

@@ -7,6 +7,7 @@ use Rattle.linkinfo_data.specs.Payloads.{as_bytes_is_codec}
 use Rattle.linkinfo_data.specs.PeerFamilies.{families_of}
 
 pub returns : goal.returns
+unfolding data_payload
 returns g c = record {
   link = elim [
     | of.Lower f ↦ c.lower_lawful.ensures f

@@ -8,6 +8,7 @@ use Rattle.linkinfo_data.specs.PeerFamilies.{families_of}
 use Rattle.linkinfo_data.specs.Plain.{plain}
 
 pub returns : goal.returns
+unfolding data_payload
 returns g c = let families = families_of g.row.P g.P.LinkPeer in elim [
   | of.Bridge ↦ as_list_is_codec plain.bridge (c.lawful.ensures tt) (λ v. info.Bridge v) (data_payload families) (λ _. refl) (λ x y e. cc)
   | of.Vlan ↦ as_list_is_codec plain.vlan (c.lawful-2.ensures tt) (λ v. info.Vlan v) (data_payload families) (λ _. refl) (λ x y e. cc)

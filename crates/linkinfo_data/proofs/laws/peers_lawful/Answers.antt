@@ -8,6 +8,7 @@ use Rattle.linkinfo_data.specs.PeerFamilies.{families_of}
 use Rattle.linkinfo_data.specs.Plain.{plain}
 
 pub returns : goal.returns
+unfolding data_payload
 returns g c = let families = families_of g.row.P g.P.LinkPeer in elim [
   | of.Tun ↦ as_list_is_codec plain.tun (c.lawful.ensures tt) (λ v. info.Tun v) (data_payload families) (λ _. refl) (λ x y e. cc)
   | of.Veth ↦ as_first_is_codec families.veth (c.lawful-2.ensures tt) (λ v. info.Veth v) (data_payload families) (λ _. refl) (λ x y e. cc)

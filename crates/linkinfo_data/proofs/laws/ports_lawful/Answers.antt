@@ -7,6 +7,7 @@ use Rattle.linkinfo_data.specs.Plain.{plain}
 use Rattle.linkinfo_data.specs.PortData.{port_data_payload}
 
 pub returns : goal.returns
+unfolding port_data_payload
 returns c = elim [
   | of.Bond ↦ as_list_is_codec plain.bond_port (c.lawful.ensures tt) (λ v. info.BondPort v) port_data_payload (λ _. refl) (λ x y e. cc)
   | of.Bridge ↦ as_list_is_codec plain.bridge_port (c.lawful-2.ensures tt) (λ v. info.BridgePort v) port_data_payload (λ _. refl) (λ x y e. cc)
