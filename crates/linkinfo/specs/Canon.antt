@@ -1,5 +1,5 @@
 -- The refusals of a canonical string.
-use Rattle.std.specs.Prelude.{◌≡◌, ◌≢◌, ℕ, List, map, codes, Result, Ok, Err}
+use Rattle.std.specs.Prelude.{◌≡◌, ◌≢◌, ℕ, List, [], ◌∷◌, map, codes, IsOk, Result, Ok, Err}
 use Rattle.nla_frame.specs.Attribute.{Attribute, ListFits, list_string}
 use Rattle.nla_frame.specs.Error.{error_text, memory_fault}
 use Rattle.nla_frame.specs.declared.error.DecodeError.{DecodeError}
@@ -24,3 +24,9 @@ IsUnfit attribute (Err fault) = ⊥
 abbrev pub CanonRefuses : {F : Type 0} → (F → Attribute) → Result (List F) DecodeError → CanonError → Type 0
 CanonRefuses attribute meaning (refused.Refused fault) = fault ≢ memory_fault → meaning ≡ Err fault
 CanonRefuses attribute meaning refused.Unfit = IsUnfit attribute meaning
+
+-- what no want of memory stands in the way of: the fault, and the string of the empty list
+abbrev pub CanonIsCertain : {F V : Type 0} → Result (List F) DecodeError → Result V CanonError → Type 0
+CanonIsCertain (Err fault) result = result ≡ Err (refused.Refused fault)
+CanonIsCertain (Ok []) result = IsOk result
+CanonIsCertain (Ok (x ∷ list)) result = Unit {0}
