@@ -1,6 +1,6 @@
 //! Rows of AMT tunnels.
 
-use super::rows::{UNLISTED, has_rows, has_rows_of, is_refused, is_row, keeps_unlisted, unlisted};
+use super::rows::{UNLISTED, has_rows, has_rows_of, is_refused, keeps_unlisted, unlisted};
 use linkinfo_numbers::AmtMode;
 use linkinfo_tunnels::InfoAmt;
 use nla_frame::Cause;
@@ -8,12 +8,14 @@ use std::net::{IpAddr, Ipv4Addr, Ipv6Addr};
 use std::test::Fail;
 
 /// Canonical attributes, and what they mean.
-const ROWS: [(&[u8], InfoAmt); 5] = [
+const ROWS: [(&[u8], InfoAmt); 6] = [
     (&[8, 0, 1, 0, 1, 0, 0, 0], InfoAmt::Mode(AmtMode::Relay)),
     (&[6, 0, 2, 0, 1, 2, 0, 0], InfoAmt::RelayPort(0x0102)),
     (&[6, 0, 3, 0, 1, 2, 0, 0], InfoAmt::GatewayPort(0x0102)),
     (&[8, 0, 4, 0, 4, 3, 2, 1], InfoAmt::Link(0x0102_0304)),
     (&[8, 0, 8, 0, 4, 3, 2, 1], InfoAmt::MaxTunnels(0x0102_0304)),
+    // A number without a name is kept.
+    (&[8, 0, 1, 0, 2, 0, 0, 0], InfoAmt::Mode(AmtMode::Other(2))),
 ];
 
 /// Canonical attributes of 10.0.0.1 and fe80::2, local, remote and for discovery.
@@ -36,14 +38,9 @@ const ADDRESSES: &[&[u8]] = &[
 fn rows_of_amt(rt: HostRuntime) -> Result<(), Fail> {
     let alloc = rt.alloc();
     has_rows(&rt, alloc, &ROWS)?;
-    keeps_unlisted(&rt, alloc, (), &UNLISTED, &InfoAmt::Other(unlisted(alloc)?))
-}
-
-#[test]
-fn addresses_of_amt(rt: HostRuntime) -> Result<(), Fail> {
     let v4 = IpAddr::V4(Ipv4Addr::new(10, 0, 0, 1));
     let v6 = IpAddr::V6(Ipv6Addr::new(0xfe80, 0, 0, 0, 0, 0, 0, 2));
-    let values = [
+    let addresses = [
         InfoAmt::LocalIp(v4),
         InfoAmt::LocalIp(v6),
         InfoAmt::RemoteIp(v4),
@@ -51,15 +48,8 @@ fn addresses_of_amt(rt: HostRuntime) -> Result<(), Fail> {
         InfoAmt::DiscoveryIp(v4),
         InfoAmt::DiscoveryIp(v6),
     ];
-    has_rows_of(&rt, rt.alloc(), ADDRESSES, &values)
-}
-
-#[test]
-fn worked_amt(rt: HostRuntime) -> Result<(), Fail> {
-    let alloc = rt.alloc();
+    has_rows_of(&rt, alloc, ADDRESSES, addresses)?;
     let short = [6, 0, 5, 0, 1, 2, 0, 0];
     is_refused::<InfoAmt>(&rt, alloc, (), &short, Cause::Length)?;
-    // A number without a name is kept.
-    let unnamed = [8, 0, 1, 0, 2, 0, 0, 0];
-    is_row(&rt, alloc, (), &unnamed, &InfoAmt::Mode(AmtMode::Other(2)))
+    keeps_unlisted(&rt, alloc, (), &UNLISTED, InfoAmt::Other(unlisted(alloc)?))
 }

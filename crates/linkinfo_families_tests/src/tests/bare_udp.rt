@@ -16,23 +16,14 @@ const ROWS: [(&[u8], InfoBareUdp); 3] = [
     (&[6, 0, 3, 0, 2, 1, 0, 0], InfoBareUdp::SrcPortMin(0x0102)),
 ];
 
+/// Canonical attributes of presence flags, and what they mean.
+const MARKS: [(&[u8], InfoBareUdp); 1] = [(&[4, 0, 4, 0], InfoBareUdp::MultiprotoMode)];
+
 #[test]
 fn rows_of_bare_udp(rt: HostRuntime) -> Result<(), Fail> {
     let alloc = rt.alloc();
     has_rows(&rt, alloc, &ROWS)?;
-    has_marks(&rt, alloc, &[(&[4, 0, 4, 0], InfoBareUdp::MultiprotoMode)])?;
-    keeps_unlisted(
-        &rt,
-        alloc,
-        (),
-        &UNLISTED,
-        &InfoBareUdp::Other(unlisted(alloc)?),
-    )
-}
-
-#[test]
-fn worked_bare_udp(rt: HostRuntime) -> Result<(), Fail> {
-    let alloc = rt.alloc();
+    has_marks(&rt, alloc, &MARKS)?;
     let short = [5, 0, 3, 0, 7, 0, 0, 0];
     is_refused::<InfoBareUdp>(&rt, alloc, (), &short, Cause::Length)?;
     let data = [6, 0, 1, 0, 0x19, 0xeb, 0, 0, 6, 0, 2, 0, 0x88, 0x47, 0, 0];
@@ -40,5 +31,12 @@ fn worked_bare_udp(rt: HostRuntime) -> Result<(), Fail> {
         InfoBareUdp::Port(6635),
         InfoBareUdp::Ethertype(EthernetProtocol::MplsUc),
     ];
-    is_list(&rt, alloc, (), &data, &wanted)
+    is_list(&rt, alloc, (), &data, wanted)?;
+    keeps_unlisted(
+        &rt,
+        alloc,
+        (),
+        &UNLISTED,
+        InfoBareUdp::Other(unlisted(alloc)?),
+    )
 }

@@ -46,26 +46,22 @@ fn rows_of_geneve(rt: HostRuntime) -> Result<(), Fail> {
     let alloc = rt.alloc();
     has_rows(&rt, alloc, &ROWS)?;
     has_marks(&rt, alloc, &MARKS)?;
-    keeps_unlisted(
-        &rt,
-        alloc,
-        (),
-        &UNLISTED,
-        &InfoGeneve::Other(unlisted(alloc)?),
-    )
-}
-
-#[test]
-fn addresses_of_geneve(rt: HostRuntime) -> Result<(), Fail> {
     let v4 = Ipv4Addr::new(10, 0, 0, 1);
     let v6 = Ipv6Addr::new(0xfe80, 0, 0, 0, 0, 0, 0, 2);
-    let values = [
+    let addresses = [
         InfoGeneve::Remote(v4),
         InfoGeneve::Remote6(v6),
         InfoGeneve::Local(v4),
         InfoGeneve::Local6(v6),
     ];
-    has_rows_of(&rt, rt.alloc(), ADDRESSES, &values)
+    has_rows_of(&rt, alloc, ADDRESSES, addresses)?;
+    keeps_unlisted(
+        &rt,
+        alloc,
+        (),
+        &UNLISTED,
+        InfoGeneve::Other(unlisted(alloc)?),
+    )
 }
 
 #[test]

@@ -1,7 +1,7 @@
 //! Rows of GRE tunnels over IPv4.
 
 use super::rows::{
-    UNLISTED, has_marks, has_rows, has_rows_of, is_parsed, is_rewritten, keeps_unlisted, unlisted,
+    UNLISTED, has_marks, has_rows, has_rows_of, is_rewritten, keeps_unlisted, parses, unlisted,
 };
 use linkinfo_numbers::{ErSpanDir, GreEncapFlags, GreEncapType, GreIOFlags};
 use linkinfo_tunnels::InfoGre;
@@ -42,35 +42,28 @@ const ROWS: [(&[u8], InfoGre); 17] = [
     (&[6, 0, 24, 0, 2, 1, 0, 0], InfoGre::ErSpanHwId(0x0102)),
 ];
 
-#[test]
-fn rows_of_gre(rt: HostRuntime) -> Result<(), Fail> {
-    let alloc = rt.alloc();
-    has_rows(&rt, alloc, &ROWS)?;
-    has_marks(&rt, alloc, &[(&[4, 0, 18, 0], InfoGre::CollectMetadata)])?;
-    keeps_unlisted(&rt, alloc, (), &UNLISTED, &InfoGre::Other(unlisted(alloc)?))
-}
+/// Canonical attributes of presence flags, and what they mean.
+const MARKS: [(&[u8], InfoGre); 1] = [(&[4, 0, 18, 0], InfoGre::CollectMetadata)];
 
 /// Canonical attributes of 10.0.0.1, local and remote.
 const ADDRESSES: &[&[u8]] = &[&[8, 0, 6, 0, 10, 0, 0, 1], &[8, 0, 7, 0, 10, 0, 0, 1]];
 
 #[test]
-fn addresses_of_gre(rt: HostRuntime) -> Result<(), Fail> {
-    let v4 = Ipv4Addr::new(10, 0, 0, 1);
-    let values = [InfoGre::Local(v4), InfoGre::Remote(v4)];
-    has_rows_of(&rt, rt.alloc(), ADDRESSES, &values)
-}
-
-#[test]
-fn worked_gre(rt: HostRuntime) -> Result<(), Fail> {
+fn rows_of_gre(rt: HostRuntime) -> Result<(), Fail> {
     let alloc = rt.alloc();
+    has_rows(&rt, alloc, &ROWS)?;
+    has_marks(&rt, alloc, &MARKS)?;
+    let v4 = Ipv4Addr::new(10, 0, 0, 1);
+    let addresses = [InfoGre::Local(v4), InfoGre::Remote(v4)];
+    has_rows_of(&rt, alloc, ADDRESSES, addresses)?;
     // Path MTU discovery is true for 1 alone.
     let discovery = InfoGre::PathMTUDiscovery(false);
     let two = [5, 0, 10, 0, 2, 0, 0, 0];
-    is_rewritten(&rt, alloc, &two, &discovery, &[5, 0, 10, 0, 0, 0, 0, 0])?;
+    is_rewritten(&rt, alloc, &two, discovery, &[5, 0, 10, 0, 0, 0, 0, 0])?;
     // Types without a row here, two of which have one over IPv6.
     for kind in [11, 12, 13, 19] {
         let kept = DefaultNla::new(u16::from(kind), Vec::new(alloc));
-        is_parsed(&rt, alloc, &[4, 0, kind, 0], &InfoGre::Other(kept))?;
+        parses(&rt, alloc, &[4, 0, kind, 0], InfoGre::Other(kept))?;
     }
-    Ok(())
+    keeps_unlisted(&rt, alloc, (), &UNLISTED, InfoGre::Other(unlisted(alloc)?))
 }

@@ -1,8 +1,6 @@
 //! Rows of GRE tunnels over IPv6.
 
-use super::rows::{
-    UNLISTED, has_marks, has_rows, has_rows_of, is_parsed, keeps_unlisted, unlisted,
-};
+use super::rows::{UNLISTED, has_marks, has_rows, has_rows_of, keeps_unlisted, parses, unlisted};
 use linkinfo_numbers::{ErSpanDir, GreEncapFlags, GreEncapType, GreIOFlags};
 use linkinfo_tunnels::InfoGre6;
 use nla_frame::DefaultNla;
@@ -52,19 +50,8 @@ const ROWS: [(&[u8], InfoGre6); 18] = [
     (&[6, 0, 24, 0, 2, 1, 0, 0], InfoGre6::ErSpanHwId(0x0102)),
 ];
 
-#[test]
-fn rows_of_gre6(rt: HostRuntime) -> Result<(), Fail> {
-    let alloc = rt.alloc();
-    has_rows(&rt, alloc, &ROWS)?;
-    has_marks(&rt, alloc, &[(&[4, 0, 18, 0], InfoGre6::CollectMetadata)])?;
-    keeps_unlisted(
-        &rt,
-        alloc,
-        (),
-        &UNLISTED,
-        &InfoGre6::Other(unlisted(alloc)?),
-    )
-}
+/// Canonical attributes of presence flags, and what they mean.
+const MARKS: [(&[u8], InfoGre6); 1] = [(&[4, 0, 18, 0], InfoGre6::CollectMetadata)];
 
 /// Canonical attributes of fe80::2, local and remote.
 const ADDRESSES: &[&[u8]] = &[
@@ -77,21 +64,16 @@ const ADDRESSES: &[&[u8]] = &[
 ];
 
 #[test]
-fn addresses_of_gre6(rt: HostRuntime) -> Result<(), Fail> {
-    let v6 = Ipv6Addr::new(0xfe80, 0, 0, 0, 0, 0, 0, 2);
-    let values = [InfoGre6::Local(v6), InfoGre6::Remote(v6)];
-    has_rows_of(&rt, rt.alloc(), ADDRESSES, &values)
-}
-
-#[test]
-fn worked_gre6(rt: HostRuntime) -> Result<(), Fail> {
+fn rows_of_gre6(rt: HostRuntime) -> Result<(), Fail> {
     let alloc = rt.alloc();
+    has_rows(&rt, alloc, &ROWS)?;
+    has_marks(&rt, alloc, &MARKS)?;
+    let v6 = Ipv6Addr::new(0xfe80, 0, 0, 0, 0, 0, 0, 2);
+    let addresses = [InfoGre6::Local(v6), InfoGre6::Remote(v6)];
+    has_rows_of(&rt, alloc, ADDRESSES, addresses)?;
     // Path MTU discovery has no row over IPv6.
     let kept = DefaultNla::new(10, vec![in alloc; 1u8]?);
-    is_parsed(
-        &rt,
-        alloc,
-        &[5, 0, 10, 0, 1, 0, 0, 0],
-        &InfoGre6::Other(kept),
-    )
+    let discovery = [5, 0, 10, 0, 1, 0, 0, 0];
+    parses(&rt, alloc, &discovery, InfoGre6::Other(kept))?;
+    keeps_unlisted(&rt, alloc, (), &UNLISTED, InfoGre6::Other(unlisted(alloc)?))
 }

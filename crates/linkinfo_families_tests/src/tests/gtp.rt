@@ -16,13 +16,6 @@ const ROWS: [(&[u8], InfoGtp); 6] = [
     (&[5, 0, 6, 0, 64, 0, 0, 0], InfoGtp::RestartCount(0x40)),
 ];
 
-#[test]
-fn rows_of_gtp(rt: HostRuntime) -> Result<(), Fail> {
-    let alloc = rt.alloc();
-    has_rows(&rt, alloc, &ROWS)?;
-    keeps_unlisted(&rt, alloc, (), &UNLISTED, &InfoGtp::Other(unlisted(alloc)?))
-}
-
 /// Canonical attributes of the local addresses 10.0.0.1 and fe80::2.
 const ADDRESSES: &[&[u8]] = &[
     &[8, 0, 7, 0, 10, 0, 0, 1],
@@ -32,16 +25,13 @@ const ADDRESSES: &[&[u8]] = &[
 ];
 
 #[test]
-fn addresses_of_gtp(rt: HostRuntime) -> Result<(), Fail> {
+fn rows_of_gtp(rt: HostRuntime) -> Result<(), Fail> {
+    let alloc = rt.alloc();
+    has_rows(&rt, alloc, &ROWS)?;
     let v4 = Ipv4Addr::new(10, 0, 0, 1);
     let v6 = Ipv6Addr::new(0xfe80, 0, 0, 0, 0, 0, 0, 2);
-    let values = [InfoGtp::Local(v4), InfoGtp::Local6(v6)];
-    has_rows_of(&rt, rt.alloc(), ADDRESSES, &values)
-}
-
-#[test]
-fn worked_gtp(rt: HostRuntime) -> Result<(), Fail> {
-    let alloc = rt.alloc();
+    let addresses = [InfoGtp::Local(v4), InfoGtp::Local6(v6)];
+    has_rows_of(&rt, alloc, ADDRESSES, addresses)?;
     let data = [
         5, 0, 5, 0, 1, 0, 0, 0, 8, 0, 4, 0, 1, 0, 0, 0, 8, 0, 3, 0, 0, 4, 0, 0,
     ];
@@ -50,5 +40,6 @@ fn worked_gtp(rt: HostRuntime) -> Result<(), Fail> {
         InfoGtp::Role(GtpRole::Sgsn),
         InfoGtp::PdpHashsize(1024),
     ];
-    is_list(&rt, alloc, (), &data, &wanted)
+    is_list(&rt, alloc, (), &data, wanted)?;
+    keeps_unlisted(&rt, alloc, (), &UNLISTED, InfoGtp::Other(unlisted(alloc)?))
 }

@@ -18,9 +18,22 @@ fn parsed(alloc: Global, bytes: &[u8], kind: &InfoKind) -> Result<InfoIpTunnel, 
     InfoIpTunnel::parse_with_param(alloc, &NlaBuffer::new_checked(bytes)?, kind)
 }
 
+/// The attribute is read as the value inside a link of this kind.
+fn is_parsed(
+    rt: &impl Abort,
+    alloc: Global,
+    kind: &InfoKind,
+    bytes: &[u8],
+    value: &InfoIpTunnel,
+) -> Result<(), Fail> {
+    let equal = parsed(alloc, bytes, kind)? == *value;
+    assert_eq!(rt; (bytes, equal), (bytes, true));
+    Ok(())
+}
+
 /// The attribute is the canonical one of the value, whatever the kind, and takes payloads of its length alone.
 fn has_row(rt: &impl Abort, alloc: Global, bytes: &[u8], value: &InfoIpTunnel) -> Result<(), Fail> {
-    assert!(rt; parsed(alloc, bytes, &InfoKind::Ip6Tnl)? == *value);
+    is_parsed(rt, alloc, &InfoKind::Ip6Tnl, bytes, value)?;
     is_row(rt, alloc, KindTag::IpIp, bytes, value)?;
     has_one_length::<InfoIpTunnel>(rt, alloc, KindTag::Other, bytes)
 }
@@ -64,15 +77,6 @@ const ROWS: [(&[u8], InfoIpTunnel); 14] = [
     ),
 ];
 
-#[test]
-fn rows_of_ip_tunnel(rt: HostRuntime) -> Result<(), Fail> {
-    let alloc = rt.alloc();
-    for (bytes, value) in &ROWS {
-        has_row(&rt, alloc, bytes, value)?;
-    }
-    Ok(())
-}
-
 /// Canonical attributes of 10.0.0.1 and fe80::2.
 const ADDRESSES: &[&[u8]] = &[
     &[8, 0, 2, 0, 10, 0, 0, 1],
@@ -89,11 +93,29 @@ const ADDRESSES: &[&[u8]] = &[
     &[8, 0, 12, 0, 10, 0, 0, 1],
 ];
 
+/// Each attribute is the row's of the value at its place.
+fn has_rows_of<const N: usize>(
+    rt: &impl Abort,
+    alloc: Global,
+    attributes: &[&[u8]],
+    values: [InfoIpTunnel; N],
+) -> Result<(), Fail> {
+    assert!(rt; attributes.len() == N);
+    for (bytes, value) in attributes.iter().zip(&values) {
+        has_row(rt, alloc, bytes, value)?;
+    }
+    Ok(())
+}
+
 #[test]
-fn addresses_of_ip_tunnel(rt: HostRuntime) -> Result<(), Fail> {
+fn rows_of_ip_tunnel(rt: HostRuntime) -> Result<(), Fail> {
+    let alloc = rt.alloc();
+    for (bytes, value) in &ROWS {
+        has_row(&rt, alloc, bytes, value)?;
+    }
     let v4 = Ipv4Addr::new(10, 0, 0, 1);
     let v6 = Ipv6Addr::new(0xfe80, 0, 0, 0, 0, 0, 0, 2);
-    let values = [
+    let addresses = [
         InfoIpTunnel::Local(IpAddr::V4(v4)),
         InfoIpTunnel::Local(IpAddr::V6(v6)),
         InfoIpTunnel::Remote(IpAddr::V4(v4)),
@@ -101,20 +123,25 @@ fn addresses_of_ip_tunnel(rt: HostRuntime) -> Result<(), Fail> {
         InfoIpTunnel::Ipv6RdPrefix(v6),
         InfoIpTunnel::Ipv6RdRelayPrefix(v4),
     ];
-    for (bytes, value) in ADDRESSES.iter().zip(&values) {
-        has_row(&rt, rt.alloc(), bytes, value)?;
-    }
-    Ok(())
+    has_rows_of(&rt, alloc, ADDRESSES, addresses)
+}
+
+/// The value is a presence flag.
+fn has_mark(rt: &impl Abort, alloc: Global, value: InfoIpTunnel) -> Result<(), Fail> {
+    is_mark(rt, alloc, KindTag::SitTun, &[4, 0, 19, 0], &value)
+}
+
+/// `UNLISTED` is parsed and kept as the value.
+fn keeps_unlisted(rt: &impl Abort, alloc: Global, value: InfoIpTunnel) -> Result<(), Fail> {
+    is_parsed(rt, alloc, &InfoKind::SitTun, &UNLISTED, &value)?;
+    is_kept(rt, alloc, KindTag::Ip6Tnl, &value)
 }
 
 #[test]
 fn marks_and_other_types_of_ip_tunnel(rt: HostRuntime) -> Result<(), Fail> {
     let alloc = rt.alloc();
-    let mark = InfoIpTunnel::CollectMetadata;
-    is_mark(&rt, alloc, KindTag::SitTun, &[4, 0, 19, 0], &mark)?;
-    let kept = InfoIpTunnel::Other(unlisted(alloc)?);
-    assert!(rt; parsed(alloc, &UNLISTED, &InfoKind::SitTun)? == kept);
-    is_kept(&rt, alloc, KindTag::Ip6Tnl, &kept)
+    has_mark(&rt, alloc, InfoIpTunnel::CollectMetadata)?;
+    keeps_unlisted(&rt, alloc, InfoIpTunnel::Other(unlisted(alloc)?))
 }
 
 /// Flags of two bytes.
@@ -127,12 +154,12 @@ const FOUR: [u8; 8] = [8, 0, 8, 0, 1, 0, 1, 0];
 fn has_flags(
     rt: &impl Abort,
     alloc: Global,
-    kind: &InfoKind,
+    kind: InfoKind,
     bytes: &[u8],
-    value: &InfoIpTunnel,
+    value: InfoIpTunnel,
 ) -> Result<(), Fail> {
-    assert!(rt; parsed(alloc, bytes, kind)? == *value);
-    is_row(rt, alloc, kind.tag(), bytes, value)?;
+    is_parsed(rt, alloc, &kind, bytes, &value)?;
+    is_row(rt, alloc, kind.tag(), bytes, &value)?;
     has_one_length::<InfoIpTunnel>(rt, alloc, kind.tag(), bytes)
 }
 
@@ -140,42 +167,54 @@ fn has_flags(
 fn flags_by_kind(rt: HostRuntime) -> Result<(), Fail> {
     let alloc = rt.alloc();
     let v4 = InfoIpTunnel::Ipv4Flags(16);
-    has_flags(&rt, alloc, &InfoKind::IpIp, &TWO, &v4)?;
+    has_flags(&rt, alloc, InfoKind::IpIp, &TWO, v4)?;
     let sit = InfoIpTunnel::Ipv6SitFlags(16);
-    has_flags(&rt, alloc, &InfoKind::SitTun, &TWO, &sit)?;
+    has_flags(&rt, alloc, InfoKind::SitTun, &TWO, sit)?;
     let v6 = InfoIpTunnel::Ipv6Flags(Ip6TunnelFlags::from_bits_retain(0x0001_0001));
-    has_flags(&rt, alloc, &InfoKind::Ip6Tnl, &FOUR, &v6)
+    has_flags(&rt, alloc, InfoKind::Ip6Tnl, &FOUR, v6)
 }
 
 /// Inside a link of this kind the flags are refused.
 fn refuses_flags(
     rt: &impl Abort,
     alloc: Global,
-    kind: &InfoKind,
+    kind: InfoKind,
     bytes: &[u8],
     cause: Cause,
 ) -> Result<(), Fail> {
     let fault = error(Family::IpTunnel, 8, cause);
-    assert_eq!(rt; parsed(alloc, bytes, kind).err(), Some(fault));
+    assert_eq!(rt; parsed(alloc, bytes, &kind).err(), Some(fault));
     is_refused::<InfoIpTunnel>(rt, alloc, kind.tag(), bytes, cause)
 }
 
 #[test]
 fn flags_refused_by_kind(rt: HostRuntime) -> Result<(), Fail> {
     let alloc = rt.alloc();
-    refuses_flags(&rt, alloc, &InfoKind::IpIp, &FOUR, Cause::Length)?;
-    refuses_flags(&rt, alloc, &InfoKind::SitTun, &FOUR, Cause::Length)?;
-    refuses_flags(&rt, alloc, &InfoKind::Ip6Tnl, &TWO, Cause::Length)?;
-    refuses_flags(&rt, alloc, &InfoKind::Vrf, &TWO, Cause::Kind)?;
-    refuses_flags(&rt, alloc, &InfoKind::Vti6, &FOUR, Cause::Kind)
+    refuses_flags(&rt, alloc, InfoKind::IpIp, &FOUR, Cause::Length)?;
+    refuses_flags(&rt, alloc, InfoKind::SitTun, &FOUR, Cause::Length)?;
+    refuses_flags(&rt, alloc, InfoKind::Ip6Tnl, &TWO, Cause::Length)?;
+    refuses_flags(&rt, alloc, InfoKind::Vrf, &TWO, Cause::Kind)?;
+    refuses_flags(&rt, alloc, InfoKind::Vti6, &FOUR, Cause::Kind)
+}
+
+/// The attribute is read as the value inside a link of this kind.
+fn parses(
+    rt: &impl Abort,
+    alloc: Global,
+    kind: InfoKind,
+    bytes: &[u8],
+    value: InfoIpTunnel,
+) -> Result<(), Fail> {
+    is_parsed(rt, alloc, &kind, bytes, &value)
 }
 
 #[test]
 fn worked_ip_tunnel(rt: HostRuntime) -> Result<(), Fail> {
     let alloc = rt.alloc();
-    let protocol = parsed(alloc, &[5, 0, 9, 0, 0x29, 0, 0, 0], &InfoKind::IpIp)?;
-    assert!(rt; protocol == InfoIpTunnel::Protocol(IpProtocol::Ipv6));
-    let discovery = parsed(alloc, &[5, 0, 10, 0, 2, 0, 0, 0], &InfoKind::SitTun)?;
-    assert!(rt; discovery == InfoIpTunnel::PMtuDisc(true));
-    Ok(())
+    let protocol = InfoIpTunnel::Protocol(IpProtocol::Ipv6);
+    let bytes = [5, 0, 9, 0, 0x29, 0, 0, 0];
+    parses(&rt, alloc, InfoKind::IpIp, &bytes, protocol)?;
+    let discovery = InfoIpTunnel::PMtuDisc(true);
+    let bytes = [5, 0, 10, 0, 2, 0, 0, 0];
+    parses(&rt, alloc, InfoKind::SitTun, &bytes, discovery)
 }

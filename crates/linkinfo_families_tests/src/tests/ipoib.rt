@@ -27,21 +27,17 @@ const ROWS: [(&[u8], InfoIpoib); 5] = [
 fn rows_of_ipoib(rt: HostRuntime) -> Result<(), Fail> {
     let alloc = rt.alloc();
     has_rows(&rt, alloc, &ROWS)?;
-    keeps_unlisted(
-        &rt,
-        alloc,
-        (),
-        &UNLISTED,
-        &InfoIpoib::Other(unlisted(alloc)?),
-    )
-}
-
-#[test]
-fn worked_ipoib(rt: HostRuntime) -> Result<(), Fail> {
     let bytes = [6, 0, 1, 0, 1, 0x80, 0, 0, 6, 0, 2, 0, 1, 0, 0, 0];
     let values = [
         InfoIpoib::Pkey(0x8001),
         InfoIpoib::Mode(IpoibMode::Connected),
     ];
-    is_list(&rt, rt.alloc(), (), &bytes, &values)
+    is_list(&rt, alloc, (), &bytes, values)?;
+    keeps_unlisted(
+        &rt,
+        alloc,
+        (),
+        &UNLISTED,
+        InfoIpoib::Other(unlisted(alloc)?),
+    )
 }

@@ -1,10 +1,16 @@
 //! Rows of ipvlan and ipvtap links.
 
-use super::rows::{UNLISTED, has_row, has_rows, is_list, keeps_unlisted, unlisted};
+use super::rows::{UNLISTED, has_rows, has_rows_of, is_list, keeps_unlisted, unlisted};
 use bitflags::Flags;
 use linkinfo_devices::{InfoIpVlan, InfoIpVtap};
 use linkinfo_numbers::{IpVlanFlags, IpVlanMode};
 use std::test::Fail;
+
+/// The canonical attribute of every flag.
+const EVERY_FLAG: &[&[u8]] = &[&[6, 0, 2, 0, 3, 0x80, 0, 0]];
+
+/// A list of the mode L2 and the flag VEPA.
+const VEPA: [u8; 16] = [6, 0, 1, 0, 0, 0, 0, 0, 6, 0, 2, 0, 2, 0, 0, 0];
 
 /// Canonical attributes, and what they mean.
 const ROWS_OF_IPVLAN: [(&[u8], InfoIpVlan); 5] = [
@@ -25,14 +31,25 @@ const ROWS_OF_IPVLAN: [(&[u8], InfoIpVlan); 5] = [
 fn rows_of_ipvlan(rt: HostRuntime) -> Result<(), Fail> {
     let alloc = rt.alloc();
     has_rows(&rt, alloc, &ROWS_OF_IPVLAN)?;
-    let every = InfoIpVlan::Flags(IpVlanFlags::from_bits_retain(0x8003));
-    has_row(&rt, alloc, &[6, 0, 2, 0, 3, 0x80, 0, 0], &every)?;
+    let every = [InfoIpVlan::Flags(IpVlanFlags::from_bits_retain(0x8003))];
+    has_rows_of(&rt, alloc, EVERY_FLAG, every)?;
+    let values = [
+        InfoIpVlan::Mode(IpVlanMode::L2),
+        InfoIpVlan::Flags(IpVlanFlags::Vepa),
+    ];
+    is_list(&rt, alloc, (), &VEPA, values)?;
+    let no_flag = [6, 0, 1, 0, 0, 0, 0, 0, 6, 0, 2, 0, 0, 0, 0, 0];
+    let values = [
+        InfoIpVlan::Mode(IpVlanMode::L2),
+        InfoIpVlan::Flags(IpVlanFlags::default()),
+    ];
+    is_list(&rt, alloc, (), &no_flag, values)?;
     keeps_unlisted(
         &rt,
         alloc,
         (),
         &UNLISTED,
-        &InfoIpVlan::Other(unlisted(alloc)?),
+        InfoIpVlan::Other(unlisted(alloc)?),
     )
 }
 
@@ -55,30 +72,18 @@ const ROWS_OF_IPVTAP: [(&[u8], InfoIpVtap); 5] = [
 fn rows_of_ipvtap(rt: HostRuntime) -> Result<(), Fail> {
     let alloc = rt.alloc();
     has_rows(&rt, alloc, &ROWS_OF_IPVTAP)?;
-    let every = InfoIpVtap::Flags(IpVlanFlags::from_bits_retain(0x8003));
-    has_row(&rt, alloc, &[6, 0, 2, 0, 3, 0x80, 0, 0], &every)?;
+    let every = [InfoIpVtap::Flags(IpVlanFlags::from_bits_retain(0x8003))];
+    has_rows_of(&rt, alloc, EVERY_FLAG, every)?;
+    let values = [
+        InfoIpVtap::Mode(IpVlanMode::L2),
+        InfoIpVtap::Flags(IpVlanFlags::Vepa),
+    ];
+    is_list(&rt, alloc, (), &VEPA, values)?;
     keeps_unlisted(
         &rt,
         alloc,
         (),
         &UNLISTED,
-        &InfoIpVtap::Other(unlisted(alloc)?),
+        InfoIpVtap::Other(unlisted(alloc)?),
     )
-}
-
-#[test]
-fn worked_ipvlan(rt: HostRuntime) -> Result<(), Fail> {
-    let alloc = rt.alloc();
-    let vepa = [6, 0, 1, 0, 0, 0, 0, 0, 6, 0, 2, 0, 2, 0, 0, 0];
-    let no_flag = [6, 0, 1, 0, 0, 0, 0, 0, 6, 0, 2, 0, 0, 0, 0, 0];
-    let mode = IpVlanMode::L2;
-    let values = [InfoIpVlan::Mode(mode), InfoIpVlan::Flags(IpVlanFlags::Vepa)];
-    is_list(&rt, alloc, (), &vepa, &values)?;
-    let values = [
-        InfoIpVlan::Mode(mode),
-        InfoIpVlan::Flags(IpVlanFlags::default()),
-    ];
-    is_list(&rt, alloc, (), &no_flag, &values)?;
-    let values = [InfoIpVtap::Mode(mode), InfoIpVtap::Flags(IpVlanFlags::Vepa)];
-    is_list(&rt, alloc, (), &vepa, &values)
 }

@@ -1,19 +1,23 @@
 //! Rows of MACsec links.
 
-use super::rows::{UNLISTED, has_rows, is_list, is_parsed, keeps_unlisted, unlisted};
+use super::rows::{UNLISTED, has_rows, is_list, keeps_unlisted, parses, unlisted};
 use linkinfo_devices::InfoMacSec;
 use linkinfo_numbers::{MacSecCipherId, MacSecOffload, MacSecValidate};
 use nla_frame::DefaultNla;
 use std::test::Fail;
 
 /// Canonical attributes, and what they mean.
-const ROWS: [(&[u8], InfoMacSec); 17] = [
+const ROWS: [(&[u8], InfoMacSec); 18] = [
     (
         &[12, 0, 1, 0, 8, 7, 6, 5, 4, 3, 2, 1],
         InfoMacSec::Sci(0x0102_0304_0506_0708),
     ),
     (&[6, 0, 2, 0, 1, 2, 0, 0], InfoMacSec::Port(0x0102)),
     (&[5, 0, 3, 0, 16, 0, 0, 0], InfoMacSec::IcvLen(16)),
+    (
+        &[12, 0, 4, 0, 1, 0, 0, 1, 0, 0xc2, 0x80, 0],
+        InfoMacSec::CipherSuite(MacSecCipherId::GcmAes128),
+    ),
     (
         &[12, 0, 4, 0, 2, 0, 0, 1, 0, 0xc2, 0x80, 0],
         InfoMacSec::CipherSuite(MacSecCipherId::GcmAes256),
@@ -52,24 +56,19 @@ const ROWS: [(&[u8], InfoMacSec); 17] = [
 fn rows_of_macsec(rt: HostRuntime) -> Result<(), Fail> {
     let alloc = rt.alloc();
     has_rows(&rt, alloc, &ROWS)?;
+    let suite = [12, 0, 4, 0, 1, 0, 0, 1, 0, 0xc2, 0x80, 0];
+    let suites = [InfoMacSec::CipherSuite(MacSecCipherId::GcmAes128)];
+    is_list(&rt, alloc, (), &suite, suites)?;
+    // Type 14 has no row.
+    let kept = InfoMacSec::Other(DefaultNla::new(14, Vec::new(alloc)));
+    parses(&rt, alloc, &[4, 0, 14, 0], kept)?;
+    let kept = InfoMacSec::Other(DefaultNla::new(14, Vec::new(alloc)));
+    is_list(&rt, alloc, (), &[4, 0, 14, 0], [kept])?;
     keeps_unlisted(
         &rt,
         alloc,
         (),
         &UNLISTED,
-        &InfoMacSec::Other(unlisted(alloc)?),
+        InfoMacSec::Other(unlisted(alloc)?),
     )
-}
-
-#[test]
-fn worked_macsec(rt: HostRuntime) -> Result<(), Fail> {
-    let alloc = rt.alloc();
-    let suite = [12, 0, 4, 0, 1, 0, 0, 1, 0, 0xc2, 0x80, 0];
-    let suites = [InfoMacSec::CipherSuite(MacSecCipherId::GcmAes128)];
-    is_parsed(&rt, alloc, &suite, &suites[0])?;
-    is_list(&rt, alloc, (), &suite, &suites)?;
-    // Type 14 has no row.
-    let kept = [InfoMacSec::Other(DefaultNla::new(14, Vec::new(alloc)))];
-    is_parsed(&rt, alloc, &[4, 0, 14, 0], &kept[0])?;
-    is_list(&rt, alloc, (), &[4, 0, 14, 0], &kept)
 }

@@ -43,6 +43,22 @@ where
     Ok(())
 }
 
+/// The canonical attribute of every flag.
+const EVERY_FLAG: &[u8] = &[6, 0, 2, 0, 3, 0x80, 0, 0];
+
+/// The attribute is the canonical one of the value, inside any number of lists.
+fn has_row_everywhere<'a, F>(
+    rt: &impl Abort,
+    alloc: Global,
+    bytes: &'a [u8],
+    value: F,
+) -> Result<(), Fail>
+where
+    F: LinkFamily<Context = u8> + Parseable<NlaBuffer<'a>> + ExactEq,
+{
+    is_row_everywhere(rt, alloc, bytes, &value)
+}
+
 /// Canonical attributes, and what they mean.
 const ROWS_OF_MACVLAN: [(&[u8], InfoMacVlan); 12] = [
     (
@@ -97,13 +113,13 @@ fn rows_of_macvlan(rt: HostRuntime) -> Result<(), Fail> {
     let alloc = rt.alloc();
     has_rows_everywhere(&rt, alloc, &ROWS_OF_MACVLAN)?;
     let every = InfoMacVlan::Flags(MacVlanFlags::from_bits_retain(0x8003));
-    is_row_everywhere(&rt, alloc, &[6, 0, 2, 0, 3, 0x80, 0, 0], &every)?;
+    has_row_everywhere(&rt, alloc, EVERY_FLAG, every)?;
     keeps_unlisted(
         &rt,
         alloc,
         128,
         &UNLISTED,
-        &InfoMacVlan::Other(unlisted(alloc)?),
+        InfoMacVlan::Other(unlisted(alloc)?),
     )
 }
 
@@ -157,12 +173,12 @@ fn rows_of_macvtap(rt: HostRuntime) -> Result<(), Fail> {
     let alloc = rt.alloc();
     has_rows_everywhere(&rt, alloc, &ROWS_OF_MACVTAP)?;
     let every = InfoMacVtap::Flags(MacVlanFlags::from_bits_retain(0x8003));
-    is_row_everywhere(&rt, alloc, &[6, 0, 2, 0, 3, 0x80, 0, 0], &every)?;
+    has_row_everywhere(&rt, alloc, EVERY_FLAG, every)?;
     keeps_unlisted(
         &rt,
         alloc,
         128,
         &UNLISTED,
-        &InfoMacVtap::Other(unlisted(alloc)?),
+        InfoMacVtap::Other(unlisted(alloc)?),
     )
 }

@@ -60,29 +60,39 @@ fn chain_value<F: HoldsLists>(alloc: Global, lists: u16) -> Result<F, AllocError
     Ok(value)
 }
 
-/// A chain of at most 128 lists is read as its value by each call, with a header for each list, and written as it came.
-fn is_chain<F>(rt: &impl Abort, alloc: Global, lists: u16) -> Result<(), Fail>
-where
-    F: HoldsLists + LinkFamily<Context = u8> + Nla + ExactEq,
-{
-    let bytes = chain(rt, alloc, lists)?;
-    let value: F = chain_value(alloc, lists)?;
-    assert!(rt; bytes.len() < 1000);
-    assert_eq!(rt;
-        list_checked::<F>(rt, 0, bytes.as_slice()),
-        (Ok(()), usize::from(lists))
-    );
-    let mut count = HeaderCount::new();
-    let read: Vec<F> = list_read(alloc, bytes.as_slice(), 0, &mut count)?;
-    assert!(rt; count.get() == usize::from(lists));
-    assert!(rt; read.len() == 1);
-    assert!(rt; is_equal(&read[0], &value));
-    assert!(rt; nlas_fit_len(read.as_slice()) == Some(bytes.len()));
-    assert!(rt; nlas_buffer_len(read.as_slice()) == bytes.len());
+/// The list is written as these bytes, and the byte behind them stays.
+fn is_written<F: Nla>(rt: &impl Abort, items: &[F], bytes: &[u8]) {
+    let len = bytes.len();
+    assert!(rt; len < 1000);
+    assert!(rt; nlas_fit_len(items) == Some(len));
+    assert!(rt; nlas_buffer_len(items) == len);
     let mut buffer = [255; 1000];
-    emit_nlas(read.as_slice(), &mut buffer);
-    assert_eq!(rt; &buffer[..bytes.len()], bytes.as_slice());
-    assert!(rt; buffer[bytes.len()] == 255);
+    emit_nlas(items, &mut buffer);
+    assert_eq!(rt; &buffer[..len], bytes);
+    assert!(rt; buffer[len] == 255);
+}
+
+/// The string of at most 128 lists is read as the value of its chain by each call, with a header for each list, and written as it came.
+fn is_chain<'a, F>(rt: &impl Abort, alloc: Global, bytes: &'a [u8], lists: u16) -> Result<(), Fail>
+where
+    F: HoldsLists + LinkFamily<Context = u8> + Parseable<NlaBuffer<'a>> + ExactEq,
+{
+    assert!(rt; bytes.len() < 1000);
+    let value: F = chain_value(alloc, lists)?;
+    is_parsed(rt, alloc, bytes, &value)?;
+    let mut count = HeaderCount::new();
+    let read: Vec<F> = list_read(alloc, bytes, 0, &mut count)?;
+    assert!(rt; read.len() == 1);
+    let headers = usize::from(lists);
+    assert_eq!(rt;
+        (
+            is_equal(&read[0], &value),
+            count.get(),
+            list_checked::<F>(rt, 0, bytes)
+        ),
+        (true, headers, (Ok(()), headers))
+    );
+    is_written(rt, read.as_slice(), bytes);
     Ok(())
 }
 
@@ -90,26 +100,27 @@ where
 fn chains_of_at_most_128_lists(rt: HostRuntime) -> Result<(), Fail> {
     let alloc = rt.alloc();
     for lists in [1, 2, 127, 128] {
-        is_chain::<InfoMacVlan>(&rt, alloc, lists)?;
-        is_chain::<InfoMacVtap>(&rt, alloc, lists)?;
         let bytes = chain(&rt, alloc, lists)?;
-        let value: InfoMacVlan = chain_value(alloc, lists)?;
-        is_parsed(&rt, alloc, bytes.as_slice(), &value)?;
-        let value: InfoMacVtap = chain_value(alloc, lists)?;
-        is_parsed(&rt, alloc, bytes.as_slice(), &value)?;
+        is_chain::<InfoMacVlan>(&rt, alloc, bytes.as_slice(), lists)?;
+        is_chain::<InfoMacVtap>(&rt, alloc, bytes.as_slice(), lists)?;
     }
     Ok(())
+}
+
+/// The string has this length and this header.
+fn begins_with(rt: &impl Abort, bytes: Vec<u8>, len: usize, header: [u8; 4]) {
+    assert_eq!(rt;
+        (bytes.len(), bytes.as_slice().get(..4)),
+        (len, Some(header.as_slice()))
+    );
 }
 
 #[test]
 fn chain_of_129_lists(rt: HostRuntime) -> Result<(), Fail> {
     let alloc = rt.alloc();
-    let bytes = chain(&rt, alloc, 128)?;
-    assert!(rt; bytes.len() == 512);
-    assert_eq!(rt; &bytes.as_slice()[..4], [0, 2, 5, 0].as_slice());
+    begins_with(&rt, chain(&rt, alloc, 128)?, 512, [0, 2, 5, 0]);
+    begins_with(&rt, chain(&rt, alloc, 129)?, 516, [4, 2, 5, 0]);
     let bytes = chain(&rt, alloc, 129)?;
-    assert!(rt; bytes.len() == 516);
-    assert_eq!(rt; &bytes.as_slice()[..4], [4, 2, 5, 0].as_slice());
     let deep = error(Family::MacVlan, 5, Cause::Depth);
     is_not_parsed::<InfoMacVlan>(&rt, alloc, bytes.as_slice(), deep)?;
     assert_eq!(rt;
@@ -159,22 +170,26 @@ fn lists_inside_the_most(rt: HostRuntime) -> Result<(), Fail> {
     has_most_lists::<InfoMacVtap>(&rt, alloc)
 }
 
-#[test]
-fn worked_lists(rt: HostRuntime) -> Result<(), Fail> {
-    let alloc = rt.alloc();
-    let address = InfoMacVlan::MacAddr([2, 0, 0, 0, 0, 1]);
-    let value = list_of(alloc, address)?;
+/// A list of one address, with its padding and without.
+fn has_worked_list(rt: &impl Abort, alloc: Global, value: InfoMacVlan) -> Result<(), Fail> {
     let padded = [16, 0, 5, 0, 10, 0, 4, 0, 2, 0, 0, 0, 0, 1, 0, 0];
     let bare = [14, 0, 5, 0, 10, 0, 4, 0, 2, 0, 0, 0, 0, 1];
-    is_parsed(&rt, alloc, &padded, &value)?;
-    is_parsed(&rt, alloc, &bare, &value)?;
-    is_emitted(&rt, &value, &padded)?;
+    is_parsed(rt, alloc, &padded, &value)?;
+    is_parsed(rt, alloc, &bare, &value)?;
+    is_emitted(rt, &value, &padded)?;
     assert!(rt; value.fit_len() == Some(12));
     assert!(rt; value.value_len() == 12);
     let mut payload = [255; 12];
     value.emit_value(&mut payload);
     assert_eq!(rt; payload.as_slice(), &padded[4..]);
     Ok(())
+}
+
+#[test]
+fn worked_lists(rt: HostRuntime) -> Result<(), Fail> {
+    let alloc = rt.alloc();
+    let address = InfoMacVlan::MacAddr([2, 0, 0, 0, 0, 1]);
+    has_worked_list(&rt, alloc, list_of(alloc, address)?)
 }
 
 #[test]
@@ -221,17 +236,16 @@ where
         ],
         [(true, 6), (true, 4)]
     );
-    assert_eq!(rt;
-        [
-            lists_same::<F>(rt, 0, &plain, &other).0,
-            lists_same::<F>(rt, 0, &plain, &more).0,
-            lists_same::<F>(rt, 0, &more, &plain).0,
-            lists_same::<F>(rt, 0, &kept, &kept_marked).0,
-            lists_same::<F>(rt, 0, &plain, &number).0,
-            lists_same::<F>(rt, 0, &number, &plain).0,
-        ],
-        [false; 6]
-    );
+    for (a, b) in [
+        (plain.as_slice(), other.as_slice()),
+        (&plain, &more),
+        (&more, &plain),
+        (&kept, &kept_marked),
+        (&plain, &number),
+        (&number, &plain),
+    ] {
+        assert_eq!(rt; (a, b, lists_same::<F>(rt, 0, a, b).0), (a, b, false));
+    }
     for lists in [1, 2, 127, 128] {
         let a = chain(rt, alloc, lists)?;
         let headers = 2 * usize::from(lists);
@@ -249,47 +263,78 @@ fn lists_inside_lists_are_compared(rt: HostRuntime) -> Result<(), Fail> {
     are_compared::<InfoMacVtap>(&rt, alloc)
 }
 
-/// Values of lists are equal exactly where what they hold is, and so are their clones.
-fn are_equal_by_items<F>(rt: &impl Abort, alloc: Global, one: F, other: F) -> Result<(), Fail>
+/// Whether the lists of one value each are equal.
+fn lists_equal<F>(alloc: Global, a: &F, b: &F) -> Result<bool, AllocError>
+where
+    F: HoldsLists + ExactEq + Clone,
+{
+    let first = list_of(alloc, a.clone()?)?;
+    let second = list_of(alloc, b.clone()?)?;
+    Ok(is_equal(&first, &second))
+}
+
+/// A list of one value is equal neither to the value nor to the list of none.
+fn differs_from_list<F>(rt: &impl Abort, alloc: Global, one: &F) -> Result<(), Fail>
 where
     F: HoldsLists + Nla + ExactEq + Clone,
 {
     let list = list_of(alloc, one.clone()?)?;
-    let same = list_of(alloc, one.clone()?)?;
-    let differs = list_of(alloc, other)?;
     let empty = F::from_list(Nlas::new(Vec::new(alloc)));
-    assert_eq!(rt; [list.kind() == 5, one.kind() == 5], [true, false]);
     assert_eq!(rt;
         [
-            is_equal(&list, &same),
-            is_equal(&list, &differs),
+            list.kind() == 5,
+            one.kind() == 5,
             is_equal(&list, &empty),
-            is_equal(&list, &one),
+            is_equal(&list, one),
         ],
         [true, false, false, false]
     );
+    Ok(())
+}
+
+/// Values of lists are equal exactly where what they hold is, and so are their clones.
+fn are_equal_by_items<F>(rt: &impl Abort, alloc: Global, values: [F; 2]) -> Result<(), Fail>
+where
+    F: HoldsLists + Nla + ExactEq + Clone,
+{
+    let [one, other] = &values;
+    differs_from_list(rt, alloc, one)?;
+    assert_eq!(rt;
+        [
+            lists_equal(alloc, one, one)?,
+            lists_equal(alloc, one, other)?
+        ],
+        [true, false]
+    );
+    Ok(())
+}
+
+/// A chain is equal to its clone, and not to a deeper one.
+fn are_equal_by_depth<F>(rt: &impl Abort, alloc: Global) -> Result<(), Fail>
+where
+    F: HoldsLists + Nla + ExactEq + Clone,
+{
     let deep: F = chain_value(alloc, 128)?;
     let deeper: F = chain_value(alloc, 129)?;
-    assert!(rt; is_equal(&deep, &deep.clone()?));
-    assert!(rt; !is_equal(&deep, &deeper));
+    assert_eq!(rt;
+        [is_equal(&deep, &deep.clone()?), is_equal(&deep, &deeper)],
+        [true, false]
+    );
     Ok(())
 }
 
 #[test]
 fn lists_inside_lists_are_equal(rt: HostRuntime) -> Result<(), Fail> {
     let alloc = rt.alloc();
-    are_equal_by_items(
-        &rt,
-        alloc,
-        InfoMacVlan::MacAddrCount(1),
-        InfoMacVlan::BcQueueLen(1),
-    )?;
-    are_equal_by_items(
-        &rt,
-        alloc,
+    let values = [InfoMacVlan::MacAddrCount(1), InfoMacVlan::BcQueueLen(1)];
+    are_equal_by_items(&rt, alloc, values)?;
+    let values = [
         InfoMacVtap::MacAddr([2, 0, 0, 0, 0, 1]),
         InfoMacVtap::MacAddr([2, 0, 0, 0, 0, 2]),
-    )
+    ];
+    are_equal_by_items(&rt, alloc, values)?;
+    are_equal_by_depth::<InfoMacVlan>(&rt, alloc)?;
+    are_equal_by_depth::<InfoMacVtap>(&rt, alloc)
 }
 
 /// A value may be deeper than what is well formed: it is measured and written all the same, and is not read back.
@@ -313,6 +358,18 @@ where
     Ok(())
 }
 
+/// The value of a chain has this length, if it fits.
+fn has_fit_len(
+    rt: &impl Abort,
+    alloc: Global,
+    lists: u16,
+    wanted: Option<usize>,
+) -> Result<(), Fail> {
+    let value: InfoMacVlan = chain_value(alloc, lists)?;
+    assert_eq!(rt; (lists, value.fit_len()), (lists, wanted));
+    Ok(())
+}
+
 #[test]
 fn values_deeper_than_the_most(rt: HostRuntime) -> Result<(), Fail> {
     let alloc = rt.alloc();
@@ -320,11 +377,7 @@ fn values_deeper_than_the_most(rt: HostRuntime) -> Result<(), Fail> {
         is_written_at_any_depth::<InfoMacVlan>(&rt, alloc, lists)?;
         is_written_at_any_depth::<InfoMacVtap>(&rt, alloc, lists)?;
     }
-    let longest: InfoMacVlan = chain_value(alloc, LONGEST_CHAIN)?;
-    assert_eq!(rt; longest.fit_len(), Some(65528));
-    let longer = list_of(alloc, longest)?;
-    assert_eq!(rt; longer.fit_len(), None);
-    let outer = list_of(alloc, longer)?;
-    assert_eq!(rt; outer.fit_len(), None);
-    Ok(())
+    has_fit_len(&rt, alloc, LONGEST_CHAIN, Some(65528))?;
+    has_fit_len(&rt, alloc, LONGEST_CHAIN + 1, None)?;
+    has_fit_len(&rt, alloc, LONGEST_CHAIN + 2, None)
 }

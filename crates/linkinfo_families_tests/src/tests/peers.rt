@@ -1,53 +1,58 @@
 //! Both peers through each call of the families with a peer.
 
 use super::rows::{
-    UNLISTED, are_same, error, first_checked, has_shapes, is_emitted, is_kept, is_list,
-    is_not_parsed, is_parsed, is_read, is_refused, list_checked, lists_same, same_with_flags,
+    UNLISTED, are_same, error, first_checked, has_shapes, is_emitted, is_list, is_not_parsed,
+    is_parsed, is_read, is_refused, keeps_unlisted, list_checked, lists_same, same_with_flags,
     unlisted,
 };
 use linkinfo_peers::{
     BitPeer, InfoNetkit, InfoNetkitOf, InfoVeth, InfoVethOf, InfoVxcan, InfoVxcanOf,
 };
 use linkinfo_table::{LinkFamily, Shape, first_check, first_read, first_same};
-use nla_frame::{Bytes, Cause, DecodeError, ExactEq, Family, HeaderCount, Nla, is_equal};
+use nla_frame::{
+    Bytes, Cause, DecodeError, ExactEq, Family, HeaderCount, Nla, NlaBuffer, Parseable, is_equal,
+};
 use std::alloc::{AllocError, Global};
 use std::process::Abort;
 use std::test::Fail;
 
 /// A peer of the byte 7.
-const SEVEN: [u8; 5] = [5, 0, 1, 0, 7];
+const SEVEN: &[u8] = &[5, 0, 1, 0, 7];
 
 /// A peer of the byte 9, flag bits in its type.
-const NINE: [u8; 5] = [5, 0, 1, 0x40, 9];
+const NINE: &[u8] = &[5, 0, 1, 0x40, 9];
 
 /// A peer of the byte 0.
-const ZERO: [u8; 8] = [5, 0, 1, 0, 0, 0, 0, 0];
+const ZERO: &[u8] = &[5, 0, 1, 0, 0, 0, 0, 0];
 
 /// A peer of the byte 1.
-const ONE: [u8; 8] = [5, 0, 1, 0, 1, 0, 0, 0];
+const ONE: &[u8] = &[5, 0, 1, 0, 1, 0, 0, 0];
+
+/// An attribute of a type without a row.
+const OTHER: &[u8] = &[5, 0, 39, 0, 7];
 
 /// A peer of no bytes.
-const EMPTY: [u8; 4] = [4, 0, 1, 0];
+const EMPTY: &[u8] = &[4, 0, 1, 0];
 
 /// A peer of two bytes.
-const TWO: [u8; 8] = [6, 0, 1, 0, 0xaa, 0xbb, 0, 0];
+const TWO: &[u8] = &[6, 0, 1, 0, 0xaa, 0xbb, 0, 0];
 
 /// `TWO`, and an attribute of a type without a row.
-const TAIL: [u8; 13] = [6, 0, 1, 0, 0xaa, 0xbb, 0, 0, 5, 0, 39, 0, 7];
+const TAIL: &[u8] = &[6, 0, 1, 0, 0xaa, 0xbb, 0, 0, 5, 0, 39, 0, 7];
 
 /// Peers of no bytes and of two.
-const LIST_OF_BYTES: [u8; 12] = [4, 0, 1, 0, 6, 0, 1, 0, 0xaa, 0xbb, 0, 0];
+const LIST_OF_BYTES: &[u8] = &[4, 0, 1, 0, 6, 0, 1, 0, 0xaa, 0xbb, 0, 0];
 
 /// Peers of the bytes 1 and 0.
-const LIST_OF_BITS: [u8; 16] = [5, 0, 1, 0, 1, 0, 0, 0, 5, 0, 1, 0, 0, 0, 0, 0];
+const LIST_OF_BITS: &[u8] = &[5, 0, 1, 0, 1, 0, 0, 0, 5, 0, 1, 0, 0, 0, 0, 0];
 
 /// The fault of a peer that is refused.
 fn refused(family: Family) -> DecodeError {
     error(family, 1, Cause::Peer)
 }
 
-fn no_bytes(alloc: Global) -> Result<Bytes, AllocError> {
-    Ok(Bytes::new(vec![in alloc;]?))
+fn no_bytes(alloc: Global) -> Bytes {
+    Bytes::new(Vec::new(alloc))
 }
 
 fn two_bytes(alloc: Global) -> Result<Bytes, AllocError> {
@@ -55,61 +60,90 @@ fn two_bytes(alloc: Global) -> Result<Bytes, AllocError> {
 }
 
 /// The attribute holds this peer, whose canonical attribute is the other one.
-fn has_peer<F: LinkFamily<Context = ()> + ExactEq + Clone>(
+fn has_peer<'a, F>(
     rt: &impl Abort,
     alloc: Global,
-    bytes: &[u8],
+    bytes: &'a [u8],
     value: &F,
     canonical: &[u8],
-) -> Result<(), Fail> {
+) -> Result<(), Fail>
+where
+    F: LinkFamily<Context = ()> + Parseable<NlaBuffer<'a>> + ExactEq + Clone,
+{
+    is_parsed(rt, alloc, bytes, value)?;
     is_read(rt, alloc, (), bytes, value)?;
-    assert!(rt; same_with_flags::<F>(rt, (), bytes)?);
-    assert!(rt; are_same::<F>(rt, (), bytes, canonical)?);
-    assert!(rt; is_equal(&value.clone()?, value));
+    let marked = same_with_flags::<F>(rt, (), bytes)?;
+    let same = are_same::<F>(rt, (), bytes, canonical)?;
+    assert_eq!(rt;
+        (bytes, marked, same, is_equal(&value.clone()?, value)),
+        (bytes, true, true, true)
+    );
     is_emitted(rt, value, canonical)
 }
 
-/// The family reads peers as bytes: `empty` and `two` are the peers of no bytes and of `aa bb`.
-fn has_peers_of_bytes<F: LinkFamily<Context = ()> + ExactEq + Clone>(
+/// The family reads peers as bytes: the values are those of these two strings, `EMPTY` and `TWO`.
+fn has_peers_of_bytes<'a, F>(
     rt: &impl Abort,
     alloc: Global,
+    (empty_bytes, two_bytes): (&'a [u8], &'a [u8]),
     empty: &F,
     two: &F,
-) -> Result<(), Fail> {
-    has_peer(rt, alloc, &EMPTY, empty, &EMPTY)?;
-    has_peer(rt, alloc, &TWO, two, &TWO)?;
+) -> Result<(), Fail>
+where
+    F: LinkFamily<Context = ()> + Parseable<NlaBuffer<'a>> + ExactEq + Clone,
+{
+    has_peer(rt, alloc, empty_bytes, empty, EMPTY)?;
+    has_peer(rt, alloc, two_bytes, two, TWO)?;
+    has_first(rt, alloc, two)?;
     assert!(rt; !is_equal(empty, two));
-    assert!(rt; !are_same::<F>(rt, (), &SEVEN, &NINE)?);
-    assert!(rt; !are_same::<F>(rt, (), &EMPTY, &TWO)?);
-    assert_eq!(rt;
-        lists_same::<F>(rt, (), &SEVEN, &[5, 0, 1, 0x80, 7, 0, 0, 0]),
-        (true, 2)
-    );
-    assert!(rt; !lists_same::<F>(rt, (), &SEVEN, &NINE).0);
-    assert!(rt; !lists_same::<F>(rt, (), &SEVEN, &[5, 0, 39, 0, 7]).0);
-    has_first(rt, alloc, two)
+    compares_bytes::<F>(rt)
 }
 
-/// The family reads peers as bits: `set` and `clear` are the peers of true and false.
-fn has_peers_of_bits<F: LinkFamily<Context = ()> + ExactEq + Clone>(
+/// Peers of bytes are the same where all of their bytes are, and padding does not count.
+fn compares_bytes<F: LinkFamily<Context = ()>>(rt: &impl Abort) -> Result<(), Fail> {
+    for (a, b) in [(SEVEN, NINE), (EMPTY, TWO)] {
+        assert_eq!(rt; (a, b, are_same::<F>(rt, (), a, b)?), (a, b, false));
+    }
+    for (a, b) in [(SEVEN, NINE), (SEVEN, OTHER)] {
+        assert_eq!(rt; (a, b, lists_same::<F>(rt, (), a, b).0), (a, b, false));
+    }
+    assert_eq!(rt;
+        lists_same::<F>(rt, (), SEVEN, &[5, 0, 1, 0x80, 7, 0, 0, 0]),
+        (true, 2)
+    );
+    Ok(())
+}
+
+/// The family reads peers as bits: the values are true of the first two strings and false of the third, and none of the last.
+fn has_peers_of_bits<'a, F>(
     rt: &impl Abort,
     alloc: Global,
+    (seven, nine, zero, two): (&'a [u8], &'a [u8], &'a [u8], &'a [u8]),
     set: &F,
     clear: &F,
-) -> Result<(), Fail> {
-    has_peer(rt, alloc, &SEVEN, set, &ONE)?;
-    has_peer(rt, alloc, &NINE, set, &ONE)?;
-    has_peer(rt, alloc, &ZERO, clear, &ZERO)?;
+) -> Result<(), Fail>
+where
+    F: LinkFamily<Context = ()> + Parseable<NlaBuffer<'a>> + ExactEq + Clone,
+{
+    has_peer(rt, alloc, seven, set, ONE)?;
+    has_peer(rt, alloc, nine, set, ONE)?;
+    has_peer(rt, alloc, zero, clear, ZERO)?;
     assert!(rt; !is_equal(set, clear));
+    is_not_parsed::<F>(rt, alloc, two, refused(<F as LinkFamily>::FAMILY))?;
     // Of another length, a payload is refused by the peer and not by the family.
-    is_refused::<F>(rt, alloc, (), &TWO, Cause::Peer)?;
-    is_refused::<F>(rt, alloc, (), &EMPTY, Cause::Peer)?;
-    assert!(rt; !are_same::<F>(rt, (), &SEVEN, &ZERO)?);
-    assert_eq!(rt; lists_same::<F>(rt, (), &SEVEN, &NINE), (true, 2));
-    assert!(rt; !lists_same::<F>(rt, (), &SEVEN, &ZERO).0);
-    assert!(rt; !lists_same::<F>(rt, (), &SEVEN, &[5, 0, 39, 0, 7]).0);
-    assert!(rt; !lists_same::<F>(rt, (), &[5, 0, 39, 0, 7], &SEVEN).0);
+    is_refused::<F>(rt, alloc, (), TWO, Cause::Peer)?;
+    is_refused::<F>(rt, alloc, (), EMPTY, Cause::Peer)?;
     refuses_two_bytes::<F>(rt);
+    compares_bits::<F>(rt)
+}
+
+/// Peers of bits are the same where their bits are.
+fn compares_bits<F: LinkFamily<Context = ()>>(rt: &impl Abort) -> Result<(), Fail> {
+    assert!(rt; !are_same::<F>(rt, (), SEVEN, ZERO)?);
+    for (a, b) in [(SEVEN, ZERO), (SEVEN, OTHER), (OTHER, SEVEN)] {
+        assert_eq!(rt; (a, b, lists_same::<F>(rt, (), a, b).0), (a, b, false));
+    }
+    assert_eq!(rt; lists_same::<F>(rt, (), SEVEN, NINE), (true, 2));
     Ok(())
 }
 
@@ -118,17 +152,16 @@ fn has_first<F>(rt: &impl Abort, alloc: Global, value: &F) -> Result<(), Fail>
 where
     F: LinkFamily<Context = ()> + ExactEq,
 {
-    for bytes in [&TAIL[..6], &TAIL] {
+    for bytes in [&TAIL[..6], TAIL] {
         let mut count = HeaderCount::new();
-        let read: F = first_read(alloc, bytes, (), &mut count)?;
-        assert!(rt; is_equal(&read, value));
-        assert_eq!(rt; count.get(), 1);
+        let equal = is_equal(&first_read::<F>(alloc, bytes, (), &mut count)?, value);
+        assert_eq!(rt; (bytes, equal, count.get()), (bytes, true, 1));
     }
     let mut count = HeaderCount::new();
-    assert!(rt; first_check::<F>(&TAIL, (), &mut count).is_ok());
+    assert!(rt; first_check::<F>(TAIL, (), &mut count).is_ok());
     let mut count = HeaderCount::new();
-    assert!(rt; first_same::<F>(&TAIL, &TAIL, (), &mut count));
-    assert_eq!(rt; count.get(), 2);
+    let same = first_same::<F>(TAIL, TAIL, (), &mut count);
+    assert_eq!(rt; (same, count.get()), (true, 2));
     Ok(())
 }
 
@@ -137,8 +170,8 @@ fn refuses_two_bytes<F: LinkFamily<Context = ()>>(rt: &impl Abort) {
     let fault = refused(F::FAMILY);
     assert_eq!(rt;
         [
-            first_checked::<F>(rt, (), &TAIL),
-            list_checked::<F>(rt, (), &TAIL)
+            first_checked::<F>(rt, (), TAIL),
+            list_checked::<F>(rt, (), TAIL)
         ],
         [(Err(fault), 1), (Err(fault), 1)]
     );
@@ -148,98 +181,88 @@ fn refuses_two_bytes<F: LinkFamily<Context = ()>>(rt: &impl Abort) {
 fn veth_with_peers_of_bytes(rt: HostRuntime) -> Result<(), Fail> {
     let alloc = rt.alloc();
     has_shapes::<InfoVeth>(&rt, (), &[(1, Shape::Peer)]);
-    let empty = InfoVeth::Peer(no_bytes(alloc)?);
-    is_parsed(&rt, alloc, &EMPTY, &empty)?;
     let two = InfoVeth::Peer(two_bytes(alloc)?);
-    is_parsed(&rt, alloc, &TWO, &two)?;
-    has_peers_of_bytes(&rt, alloc, &empty, &two)?;
-    is_list(&rt, alloc, (), &LIST_OF_BYTES, &[empty, two])
-}
-
-#[test]
-fn veth_with_peers_of_bits(rt: HostRuntime) -> Result<(), Fail> {
-    let alloc = rt.alloc();
-    has_shapes::<InfoVethOf<BitPeer>>(&rt, (), &[(1, Shape::Peer)]);
-    let set = InfoVethOf::Peer(BitPeer(true));
-    is_parsed(&rt, alloc, &SEVEN, &set)?;
-    is_not_parsed::<InfoVethOf<BitPeer>>(&rt, alloc, &TWO, refused(Family::Veth))?;
-    let clear = InfoVethOf::Peer(BitPeer(false));
-    has_peers_of_bits(&rt, alloc, &set, &clear)?;
-    is_list(&rt, alloc, (), &LIST_OF_BITS, &[set, clear])
-}
-
-#[test]
-fn types_of_veth_without_a_row(rt: HostRuntime) -> Result<(), Fail> {
-    let alloc = rt.alloc();
-    let kept = InfoVeth::Other(unlisted(alloc)?);
-    is_parsed(&rt, alloc, &UNLISTED, &kept)?;
-    is_kept(&rt, alloc, (), &kept)?;
-    is_kept(
-        &rt,
-        alloc,
-        (),
-        &InfoVethOf::<BitPeer>::Other(unlisted(alloc)?),
-    )
+    let empty = InfoVeth::Peer(no_bytes(alloc));
+    has_peers_of_bytes(&rt, alloc, (EMPTY, TWO), &empty, &two)?;
+    is_list(&rt, alloc, (), LIST_OF_BYTES, [empty, two])
 }
 
 #[test]
 fn vxcan_with_peers_of_bytes(rt: HostRuntime) -> Result<(), Fail> {
     let alloc = rt.alloc();
     has_shapes::<InfoVxcan>(&rt, (), &[(1, Shape::Peer)]);
-    let empty = InfoVxcan::Peer(no_bytes(alloc)?);
-    is_parsed(&rt, alloc, &EMPTY, &empty)?;
     let two = InfoVxcan::Peer(two_bytes(alloc)?);
-    is_parsed(&rt, alloc, &TWO, &two)?;
-    has_peers_of_bytes(&rt, alloc, &empty, &two)?;
-    is_list(&rt, alloc, (), &LIST_OF_BYTES, &[empty, two])
+    let empty = InfoVxcan::Peer(no_bytes(alloc));
+    has_peers_of_bytes(&rt, alloc, (EMPTY, TWO), &empty, &two)?;
+    is_list(&rt, alloc, (), LIST_OF_BYTES, [empty, two])
+}
+
+#[test]
+fn netkit_with_peers_of_bytes(rt: HostRuntime) -> Result<(), Fail> {
+    let alloc = rt.alloc();
+    let two = InfoNetkit::Peer(two_bytes(alloc)?);
+    let empty = InfoNetkit::Peer(no_bytes(alloc));
+    has_peers_of_bytes(&rt, alloc, (EMPTY, TWO), &empty, &two)?;
+    is_list(&rt, alloc, (), LIST_OF_BYTES, [empty, two])
+}
+
+#[test]
+fn veth_with_peers_of_bits(rt: HostRuntime) -> Result<(), Fail> {
+    let alloc = rt.alloc();
+    has_shapes::<InfoVethOf<BitPeer>>(&rt, (), &[(1, Shape::Peer)]);
+    let family = <InfoVethOf<BitPeer> as LinkFamily>::FAMILY;
+    assert_eq!(rt; family, Family::Veth);
+    let (set, clear) = (
+        InfoVethOf::Peer(BitPeer(true)),
+        InfoVethOf::Peer(BitPeer(false)),
+    );
+    has_peers_of_bits(&rt, alloc, (SEVEN, NINE, ZERO, TWO), &set, &clear)?;
+    is_list(&rt, alloc, (), LIST_OF_BITS, [set, clear])
 }
 
 #[test]
 fn vxcan_with_peers_of_bits(rt: HostRuntime) -> Result<(), Fail> {
     let alloc = rt.alloc();
     has_shapes::<InfoVxcanOf<BitPeer>>(&rt, (), &[(1, Shape::Peer)]);
-    let set = InfoVxcanOf::Peer(BitPeer(true));
-    is_parsed(&rt, alloc, &SEVEN, &set)?;
-    is_not_parsed::<InfoVxcanOf<BitPeer>>(&rt, alloc, &TWO, refused(Family::Vxcan))?;
-    let clear = InfoVxcanOf::Peer(BitPeer(false));
-    has_peers_of_bits(&rt, alloc, &set, &clear)?;
-    is_list(&rt, alloc, (), &LIST_OF_BITS, &[set, clear])
-}
-
-#[test]
-fn types_of_vxcan_without_a_row(rt: HostRuntime) -> Result<(), Fail> {
-    let alloc = rt.alloc();
-    let kept = InfoVxcan::Other(unlisted(alloc)?);
-    is_parsed(&rt, alloc, &UNLISTED, &kept)?;
-    is_kept(&rt, alloc, (), &kept)?;
-    is_kept(
-        &rt,
-        alloc,
-        (),
-        &InfoVxcanOf::<BitPeer>::Other(unlisted(alloc)?),
-    )
-}
-
-#[test]
-fn netkit_with_peers_of_bytes(rt: HostRuntime) -> Result<(), Fail> {
-    let alloc = rt.alloc();
-    let empty = InfoNetkit::Peer(no_bytes(alloc)?);
-    is_parsed(&rt, alloc, &EMPTY, &empty)?;
-    let two = InfoNetkit::Peer(two_bytes(alloc)?);
-    is_parsed(&rt, alloc, &TWO, &two)?;
-    has_peers_of_bytes(&rt, alloc, &empty, &two)?;
-    is_list(&rt, alloc, (), &LIST_OF_BYTES, &[empty, two])
+    let family = <InfoVxcanOf<BitPeer> as LinkFamily>::FAMILY;
+    assert_eq!(rt; family, Family::Vxcan);
+    let (set, clear) = (
+        InfoVxcanOf::Peer(BitPeer(true)),
+        InfoVxcanOf::Peer(BitPeer(false)),
+    );
+    has_peers_of_bits(&rt, alloc, (SEVEN, NINE, ZERO, TWO), &set, &clear)?;
+    is_list(&rt, alloc, (), LIST_OF_BITS, [set, clear])
 }
 
 #[test]
 fn netkit_with_peers_of_bits(rt: HostRuntime) -> Result<(), Fail> {
     let alloc = rt.alloc();
-    let set = InfoNetkitOf::Peer(BitPeer(true));
-    is_parsed(&rt, alloc, &SEVEN, &set)?;
-    is_not_parsed::<InfoNetkitOf<BitPeer>>(&rt, alloc, &TWO, refused(Family::Netkit))?;
-    let clear = InfoNetkitOf::Peer(BitPeer(false));
-    has_peers_of_bits(&rt, alloc, &set, &clear)?;
-    is_list(&rt, alloc, (), &LIST_OF_BITS, &[set, clear])
+    let family = <InfoNetkitOf<BitPeer> as LinkFamily>::FAMILY;
+    assert_eq!(rt; family, Family::Netkit);
+    let (set, clear) = (
+        InfoNetkitOf::Peer(BitPeer(true)),
+        InfoNetkitOf::Peer(BitPeer(false)),
+    );
+    has_peers_of_bits(&rt, alloc, (SEVEN, NINE, ZERO, TWO), &set, &clear)?;
+    is_list(&rt, alloc, (), LIST_OF_BITS, [set, clear])
+}
+
+#[test]
+fn types_without_a_row(rt: HostRuntime) -> Result<(), Fail> {
+    let alloc = rt.alloc();
+    let veth = InfoVeth::Other(unlisted(alloc)?);
+    keeps_unlisted(&rt, alloc, (), &UNLISTED, veth)?;
+    let veth = InfoVethOf::<BitPeer>::Other(unlisted(alloc)?);
+    keeps_unlisted(&rt, alloc, (), &UNLISTED, veth)?;
+    let vxcan = InfoVxcan::Other(unlisted(alloc)?);
+    keeps_unlisted(&rt, alloc, (), &UNLISTED, vxcan)?;
+    let vxcan = InfoVxcanOf::<BitPeer>::Other(unlisted(alloc)?);
+    keeps_unlisted(&rt, alloc, (), &UNLISTED, vxcan)
+}
+
+/// The value has this length, if it fits.
+fn has_len<F: Nla + Drop>(rt: &impl Abort, value: F, wanted: Option<usize>) {
+    assert_eq!(rt; value.fit_len(), wanted);
 }
 
 #[test]
@@ -247,11 +270,11 @@ fn longest_peers(rt: HostRuntime) -> Result<(), Fail> {
     let alloc = rt.alloc();
     for (len, fits) in [(65531, Some(65531)), (65532, None)] {
         let veth = InfoVeth::Peer(Bytes::new(vec![in alloc; 0u8; len]?));
-        assert_eq!(rt; veth.fit_len(), fits);
+        has_len(&rt, veth, fits);
         let vxcan = InfoVxcan::Peer(Bytes::new(vec![in alloc; 0u8; len]?));
-        assert_eq!(rt; vxcan.fit_len(), fits);
+        has_len(&rt, vxcan, fits);
         let netkit = InfoNetkit::Peer(Bytes::new(vec![in alloc; 0u8; len]?));
-        assert_eq!(rt; netkit.fit_len(), fits);
+        has_len(&rt, netkit, fits);
     }
     Ok(())
 }

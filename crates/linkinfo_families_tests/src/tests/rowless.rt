@@ -1,8 +1,8 @@
 //! Families without rows keep every attribute as it came.
 
 use super::rows::{
-    are_same, error, first_checked, has_shapes, is_emitted, is_kept, is_list, is_parsed, is_read,
-    list_checked, list_fault, lists_same, unlisted,
+    UNLISTED, are_same, error, first_checked, has_shapes, is_emitted, is_list, is_parsed, is_read,
+    keeps_unlisted, list_checked, list_fault, lists_same, unlisted,
 };
 use linkinfo_lower::{
     InfoBond, InfoBondPort, InfoBridge, InfoBridgePort, InfoCan, InfoDsa, InfoHsr, InfoVlan,
@@ -62,9 +62,13 @@ fn keeps<const NUMBER: u8>(
 
 /// All of an attribute's 16-bit type counts, and all of its payload; padding does not.
 fn compares_all<F: LinkFamily<Context = ()>>(rt: &impl Abort) -> Result<(), Fail> {
-    assert!(rt; are_same::<F>(rt, (), &LIST[8..], &LIST[8..13])?);
-    assert!(rt; !are_same::<F>(rt, (), &PLAIN, &MARKED)?);
-    assert!(rt; !are_same::<F>(rt, (), &PLAIN, &[8, 0, 1, 0, 1, 2, 3, 5])?);
+    for (a, b, wanted) in [
+        (&LIST[8..], &LIST[8..13], true),
+        (PLAIN.as_slice(), MARKED.as_slice(), false),
+        (&PLAIN, &[8, 0, 1, 0, 1, 2, 3, 5], false),
+    ] {
+        assert_eq!(rt; (a, b, are_same::<F>(rt, (), a, b)?), (a, b, wanted));
+    }
     assert_eq!(rt; lists_same::<F>(rt, (), &LIST, &LIST[..13]), (true, 4));
     Ok(())
 }
@@ -84,10 +88,22 @@ fn refuses_stray_bytes<F: LinkFamily<Context = ()>>(rt: &impl Abort, alloc: Glob
 
 /// Lists of the family are read and emitted.
 fn has_lists<const NUMBER: u8>(rt: &impl Abort, alloc: Global) -> Result<(), Fail> {
-    let mut values = Vec::new(alloc);
-    values.push(Rowless::<NUMBER>::Other(plain(alloc)?))?;
-    values.push(Rowless::<NUMBER>::Other(last(alloc)?))?;
-    is_list(rt, alloc, (), &LIST, values.as_slice())
+    let first = plain(alloc)?;
+    let values = [
+        Rowless::<NUMBER>::Other(first),
+        Rowless::Other(last(alloc)?),
+    ];
+    is_list(rt, alloc, (), &LIST, values)
+}
+
+/// `MARKED` is kept as the value.
+fn keeps_marked<const NUMBER: u8>(
+    rt: &impl Abort,
+    alloc: Global,
+    value: Rowless<NUMBER>,
+) -> Result<(), Fail> {
+    is_parsed(rt, alloc, &MARKED, &value)?;
+    is_read(rt, alloc, (), &MARKED, &value)
 }
 
 /// The family of the value, which keeps `MARKED`, has no rows, and keeps every attribute as it came.
@@ -95,113 +111,57 @@ fn keeps_every_attribute<const NUMBER: u8>(
     rt: &impl Abort,
     alloc: Global,
     family: Family,
-    value: &Rowless<NUMBER>,
+    value: Rowless<NUMBER>,
 ) -> Result<(), Fail> {
     laws::kept_as_it_came::<NUMBER>();
     assert_eq!(rt; <Rowless<NUMBER> as LinkFamily>::FAMILY, family);
+    keeps_marked(rt, alloc, value)?;
     has_shapes::<Rowless<NUMBER>>(rt, (), &[]);
-    is_read(rt, alloc, (), &MARKED, value)?;
     keeps::<NUMBER>(rt, alloc, &PLAIN, plain(alloc)?)?;
     keeps::<NUMBER>(rt, alloc, &MARKED, marked(alloc)?)?;
     keeps::<NUMBER>(rt, alloc, &EMPTY, DefaultNla::new(0x3fff, Vec::new(alloc)))?;
-    is_kept(rt, alloc, (), &Rowless::<NUMBER>::Other(unlisted(alloc)?))?;
+    let value = Rowless::<NUMBER>::Other(unlisted(alloc)?);
+    keeps_unlisted(rt, alloc, (), &UNLISTED, value)?;
     compares_all::<Rowless<NUMBER>>(rt)?;
     refuses_stray_bytes::<Rowless<NUMBER>>(rt, alloc);
     has_lists::<NUMBER>(rt, alloc)
 }
 
 #[test]
-fn bonds(rt: HostRuntime) -> Result<(), Fail> {
+fn ports_and_their_devices(rt: HostRuntime) -> Result<(), Fail> {
     let alloc = rt.alloc();
-    let value = InfoBond::Other(marked(alloc)?);
-    keeps_every_attribute(&rt, alloc, Family::Bond, &value)?;
-    is_parsed(&rt, alloc, &MARKED, &value)
+    let bond = InfoBond::Other(marked(alloc)?);
+    keeps_every_attribute(&rt, alloc, Family::Bond, bond)?;
+    let port = InfoBondPort::Other(marked(alloc)?);
+    keeps_every_attribute(&rt, alloc, Family::BondPort, port)?;
+    let bridge = InfoBridge::Other(marked(alloc)?);
+    keeps_every_attribute(&rt, alloc, Family::Bridge, bridge)?;
+    let port = InfoBridgePort::Other(marked(alloc)?);
+    keeps_every_attribute(&rt, alloc, Family::BridgePort, port)?;
+    let port = InfoTeamPort::Other(marked(alloc)?);
+    keeps_every_attribute(&rt, alloc, Family::TeamPort, port)
 }
 
 #[test]
-fn ports_of_bonds(rt: HostRuntime) -> Result<(), Fail> {
+fn networks_and_rings(rt: HostRuntime) -> Result<(), Fail> {
     let alloc = rt.alloc();
-    let value = InfoBondPort::Other(marked(alloc)?);
-    keeps_every_attribute(&rt, alloc, Family::BondPort, &value)?;
-    is_parsed(&rt, alloc, &MARKED, &value)
+    let can = InfoCan::Other(marked(alloc)?);
+    keeps_every_attribute(&rt, alloc, Family::Can, can)?;
+    let switch = InfoDsa::Other(marked(alloc)?);
+    keeps_every_attribute(&rt, alloc, Family::Dsa, switch)?;
+    let ring = InfoHsr::Other(marked(alloc)?);
+    keeps_every_attribute(&rt, alloc, Family::Hsr, ring)?;
+    let vlan = InfoVlan::Other(marked(alloc)?);
+    keeps_every_attribute(&rt, alloc, Family::Vlan, vlan)
 }
 
 #[test]
-fn bridges(rt: HostRuntime) -> Result<(), Fail> {
+fn tunnels(rt: HostRuntime) -> Result<(), Fail> {
     let alloc = rt.alloc();
-    let value = InfoBridge::Other(marked(alloc)?);
-    keeps_every_attribute(&rt, alloc, Family::Bridge, &value)?;
-    is_parsed(&rt, alloc, &MARKED, &value)
-}
-
-#[test]
-fn ports_of_bridges(rt: HostRuntime) -> Result<(), Fail> {
-    let alloc = rt.alloc();
-    let value = InfoBridgePort::Other(marked(alloc)?);
-    keeps_every_attribute(&rt, alloc, Family::BridgePort, &value)?;
-    is_parsed(&rt, alloc, &MARKED, &value)
-}
-
-#[test]
-fn can_devices(rt: HostRuntime) -> Result<(), Fail> {
-    let alloc = rt.alloc();
-    let value = InfoCan::Other(marked(alloc)?);
-    keeps_every_attribute(&rt, alloc, Family::Can, &value)?;
-    is_parsed(&rt, alloc, &MARKED, &value)
-}
-
-#[test]
-fn distributed_switches(rt: HostRuntime) -> Result<(), Fail> {
-    let alloc = rt.alloc();
-    let value = InfoDsa::Other(marked(alloc)?);
-    keeps_every_attribute(&rt, alloc, Family::Dsa, &value)?;
-    is_parsed(&rt, alloc, &MARKED, &value)
-}
-
-#[test]
-fn redundant_rings(rt: HostRuntime) -> Result<(), Fail> {
-    let alloc = rt.alloc();
-    let value = InfoHsr::Other(marked(alloc)?);
-    keeps_every_attribute(&rt, alloc, Family::Hsr, &value)?;
-    is_parsed(&rt, alloc, &MARKED, &value)
-}
-
-#[test]
-fn vlans(rt: HostRuntime) -> Result<(), Fail> {
-    let alloc = rt.alloc();
-    let value = InfoVlan::Other(marked(alloc)?);
-    keeps_every_attribute(&rt, alloc, Family::Vlan, &value)?;
-    is_parsed(&rt, alloc, &MARKED, &value)
-}
-
-#[test]
-fn tun_links(rt: HostRuntime) -> Result<(), Fail> {
-    let alloc = rt.alloc();
-    let value = InfoTun::Other(marked(alloc)?);
-    keeps_every_attribute(&rt, alloc, Family::Tun, &value)?;
-    is_parsed(&rt, alloc, &MARKED, &value)
-}
-
-#[test]
-fn ports_of_teams(rt: HostRuntime) -> Result<(), Fail> {
-    let alloc = rt.alloc();
-    let value = InfoTeamPort::Other(marked(alloc)?);
-    keeps_every_attribute(&rt, alloc, Family::TeamPort, &value)?;
-    is_parsed(&rt, alloc, &MARKED, &value)
-}
-
-#[test]
-fn wireguard_links(rt: HostRuntime) -> Result<(), Fail> {
-    let alloc = rt.alloc();
-    let value = InfoWireguard::Other(marked(alloc)?);
-    keeps_every_attribute(&rt, alloc, Family::Wireguard, &value)?;
-    is_parsed(&rt, alloc, &MARKED, &value)
-}
-
-#[test]
-fn pfcp_links(rt: HostRuntime) -> Result<(), Fail> {
-    let alloc = rt.alloc();
-    let value = InfoPfcp::Other(marked(alloc)?);
-    keeps_every_attribute(&rt, alloc, Family::Pfcp, &value)?;
-    is_parsed(&rt, alloc, &MARKED, &value)
+    let tun = InfoTun::Other(marked(alloc)?);
+    keeps_every_attribute(&rt, alloc, Family::Tun, tun)?;
+    let wireguard = InfoWireguard::Other(marked(alloc)?);
+    keeps_every_attribute(&rt, alloc, Family::Wireguard, wireguard)?;
+    let pfcp = InfoPfcp::Other(marked(alloc)?);
+    keeps_every_attribute(&rt, alloc, Family::Pfcp, pfcp)
 }

@@ -51,12 +51,25 @@ pub(super) fn is_read<F: LinkFamily + ExactEq>(
     assert!(rt; bytes.len() <= 24);
     let nla = NlaBuffer::new_checked(bytes)?;
     let mut count = HeaderCount::new();
-    let read = F::read(alloc, &nla, ctx, &mut count)?;
-    assert!(rt; is_equal(&read, value));
+    let equal = is_equal(&F::read(alloc, &nla, ctx, &mut count)?, value);
     let mut count = HeaderCount::new();
     let checked = F::check_value(&nla, ctx, &mut count);
-    assert_eq!(rt; (bytes, checked, count.get()), (bytes, Ok(()), 0));
+    assert_eq!(rt;
+        (bytes, equal, checked, count.get()),
+        (bytes, true, Ok(()), 0)
+    );
     Ok(())
+}
+
+/// The attribute is read as the value, with no header inside.
+pub(super) fn reads<F: LinkFamily + ExactEq>(
+    rt: &impl Abort,
+    alloc: Global,
+    ctx: F::Context,
+    bytes: &[u8],
+    value: F,
+) -> Result<(), Fail> {
+    is_read(rt, alloc, ctx, bytes, &value)
 }
 
 /// The attribute is refused with this cause, under the name of the family and its type, and no header inside is looked at.
@@ -91,8 +104,10 @@ pub(super) fn is_refused<F: LinkFamily>(
 fn begins_with(rt: &impl Abort, buffer: &[u8; 27], bytes: &[u8]) {
     let len = bytes.len();
     assert!(rt; len <= 24);
-    assert_eq!(rt; &buffer[..len], bytes);
-    assert_eq!(rt; &buffer[len..], &[255; 27][len..]);
+    assert_eq!(rt;
+        (&buffer[..len], &buffer[len..]),
+        (bytes, &[255; 27][len..])
+    );
 }
 
 /// The value is emitted as these bytes, and nothing behind them is changed.
@@ -100,13 +115,13 @@ pub(super) fn is_emitted<F: Nla>(rt: &impl Abort, value: &F, bytes: &[u8]) -> Re
     let len = bytes.len();
     assert!(rt; len <= 24);
     let nla = NlaBuffer::new_checked(bytes)?;
-    let fits = value.fit_len() == Some(nla.value().len());
-    assert!(rt; fits);
-    assert_eq!(rt;
-        (value.kind(), value.value_len()),
-        (nla.raw_kind(), nla.value().len())
-    );
+    let payload = nla.value().len();
+    assert!(rt; value.fit_len() == Some(payload));
     let written = value.buffer_len();
+    assert_eq!(rt;
+        (bytes, value.kind(), value.value_len(), written),
+        (bytes, nla.raw_kind(), payload, len)
+    );
     assert!(rt; written == len);
     let mut buffer = [255; 27];
     value.emit(&mut buffer);
@@ -200,8 +215,8 @@ pub(super) fn is_kept<F: LinkFamily + ExactEq + Clone>(
     value: &F,
 ) -> Result<(), Fail> {
     is_read(rt, alloc, ctx, &UNLISTED, value)?;
-    assert!(rt; is_equal(&value.clone()?, value));
-    assert!(rt; !same_with_flags::<F>(rt, ctx, &UNLISTED)?);
+    let same = same_with_flags::<F>(rt, ctx, &UNLISTED)?;
+    assert_eq!(rt; (is_equal(&value.clone()?, value), same), (true, false));
     is_emitted(rt, value, &UNLISTED)
 }
 
@@ -212,8 +227,8 @@ pub(super) fn is_parsed<'a, F: Parseable<NlaBuffer<'a>> + ExactEq + Drop>(
     bytes: &'a [u8],
     value: &F,
 ) -> Result<(), Fail> {
-    let read = F::parse(alloc, &NlaBuffer::new_checked(bytes)?)?;
-    assert!(rt; is_equal(&read, value));
+    let equal = is_equal(&F::parse(alloc, &NlaBuffer::new_checked(bytes)?)?, value);
+    assert_eq!(rt; (bytes, equal), (bytes, true));
     Ok(())
 }
 
@@ -247,8 +262,33 @@ where
     Ok(())
 }
 
+/// The attribute is the row's of the value.
+pub(super) fn has_row_of<'a, F>(
+    rt: &impl Abort,
+    alloc: Global,
+    bytes: &'a [u8],
+    value: F,
+) -> Result<(), Fail>
+where
+    F: LinkFamily<Context = ()> + Parseable<NlaBuffer<'a>> + ExactEq,
+{
+    has_row(rt, alloc, bytes, &value)
+}
+
 /// Each attribute is the row's of the value at its place.
-pub(super) fn has_rows_of<'a, F>(
+pub(super) fn has_rows_of<'a, F, const N: usize>(
+    rt: &impl Abort,
+    alloc: Global,
+    attributes: &[&'a [u8]],
+    values: [F; N],
+) -> Result<(), Fail>
+where
+    F: LinkFamily<Context = ()> + Parseable<NlaBuffer<'a>> + ExactEq,
+{
+    has_row_at_each_place(rt, alloc, attributes, values.as_slice())
+}
+
+fn has_row_at_each_place<'a, F>(
     rt: &impl Abort,
     alloc: Global,
     attributes: &[&'a [u8]],
@@ -286,14 +326,24 @@ pub(super) fn keeps_unlisted<'a, F>(
     alloc: Global,
     ctx: F::Context,
     bytes: &'a [u8],
-    value: &F,
+    value: F,
 ) -> Result<(), Fail>
 where
     F: LinkFamily + Parseable<NlaBuffer<'a>> + ExactEq + Clone,
 {
     assert!(rt; bytes == UNLISTED.as_slice());
-    is_parsed(rt, alloc, bytes, value)?;
-    is_kept(rt, alloc, ctx, value)
+    is_parsed(rt, alloc, bytes, &value)?;
+    is_kept(rt, alloc, ctx, &value)
+}
+
+/// The attribute is parsed as the value.
+pub(super) fn parses<'a, F: Parseable<NlaBuffer<'a>> + ExactEq + Drop>(
+    rt: &impl Abort,
+    alloc: Global,
+    bytes: &'a [u8],
+    value: F,
+) -> Result<(), Fail> {
+    is_parsed(rt, alloc, bytes, &value)
 }
 
 /// The attribute is parsed as the value, which is emitted as the canonical one.
@@ -301,11 +351,11 @@ pub(super) fn is_rewritten<'a, F: Parseable<NlaBuffer<'a>> + Nla + ExactEq + Dro
     rt: &impl Abort,
     alloc: Global,
     bytes: &'a [u8],
-    value: &F,
+    value: F,
     canonical: &[u8],
 ) -> Result<(), Fail> {
-    is_parsed(rt, alloc, bytes, value)?;
-    is_emitted(rt, value, canonical)
+    is_parsed(rt, alloc, bytes, &value)?;
+    is_emitted(rt, &value, canonical)
 }
 
 /// `parse` refuses the attribute with this fault.
@@ -375,7 +425,18 @@ pub(super) fn lists_same<F: LinkFamily>(
 }
 
 /// The list is read as the values, and is what is emitted for them.
-pub(super) fn is_list<F: LinkFamily + ExactEq>(
+pub(super) fn is_list<F: LinkFamily + ExactEq, const N: usize>(
+    rt: &impl Abort,
+    alloc: Global,
+    ctx: F::Context,
+    bytes: &[u8],
+    values: [F; N],
+) -> Result<(), Fail> {
+    is_list_of(rt, alloc, ctx, bytes, values.as_slice())
+}
+
+/// The list is read as the values at these places, and is what is emitted for them.
+fn is_list_of<F: LinkFamily + ExactEq>(
     rt: &impl Abort,
     alloc: Global,
     ctx: F::Context,
@@ -386,11 +447,9 @@ pub(super) fn is_list<F: LinkFamily + ExactEq>(
     assert!(rt; len <= 24);
     laws::reading_back::<F>(bytes, ctx);
     let mut count = HeaderCount::new();
-    let read: Vec<F> = list_read(alloc, bytes, ctx, &mut count)?;
-    assert!(rt; read.as_slice() == values);
-    assert!(rt; count.get() == values.len());
-    let fits = nlas_fit_len(values) == Some(len);
-    assert!(rt; fits);
+    let equal = list_read::<F>(alloc, bytes, ctx, &mut count)?.as_slice() == values;
+    assert_eq!(rt; (bytes, equal, count.get()), (bytes, true, values.len()));
+    assert!(rt; nlas_fit_len(values) == Some(len));
     assert!(rt; nlas_buffer_len(values) == len);
     let mut buffer = [255; 27];
     emit_nlas(values, &mut buffer);

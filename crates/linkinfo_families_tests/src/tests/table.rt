@@ -2,30 +2,49 @@
 
 use linkinfo_table::{Datum, Found, LinkPeer, Part, PeerFault, Shape};
 use nla_frame::{Bytes, DefaultNla};
+use std::alloc::{AllocError, Global};
+use std::process::Abort;
 use std::test::Fail;
+
+/// The payload is read as a peer that is emitted as it.
+fn is_peer(rt: &impl Abort, alloc: Global, payload: &[u8; 2]) -> Result<(), Fail> {
+    let Ok(peer) = <Bytes as LinkPeer>::read(alloc, payload) else {
+        panic!(rt; "the payload is a peer");
+    };
+    assert!(rt; peer.len() == 2);
+    let mut buffer = [0; 2];
+    LinkPeer::emit(&peer, &mut buffer);
+    assert_eq!(rt;
+        (peer.as_slice(), buffer, LinkPeer::fit_len(&peer)),
+        (payload.as_slice(), *payload, Some(2))
+    );
+    Ok(())
+}
+
+/// How long a peer of this many bytes is, if it fits.
+fn len_of_bytes(alloc: Global, count: usize) -> Result<Option<usize>, AllocError> {
+    Ok(LinkPeer::fit_len(&Bytes::new(vec![in alloc; 0u8; count]?)))
+}
 
 #[test]
 fn bytes_are_peers(rt: HostRuntime) -> Result<(), Fail> {
     let alloc = rt.alloc();
     let payload = [0xaa, 0xbb];
-    let Ok(peer) = <Bytes as LinkPeer>::read(alloc, &payload) else {
-        panic!(&rt; "the payload is a peer");
-    };
-    assert_eq!(rt; peer.as_slice(), payload.as_slice());
-    assert!(rt; <Bytes as LinkPeer>::check(&payload));
-    assert!(rt; <Bytes as LinkPeer>::check(&[]));
-    assert!(rt; <Bytes as LinkPeer>::same(&payload, &payload));
-    assert!(rt; !<Bytes as LinkPeer>::same(&payload, &payload[..1]));
-    assert_eq!(rt; LinkPeer::fit_len(&peer), Some(2));
-    assert!(rt; peer.len() == 2);
-    let mut buffer = [0; 2];
-    LinkPeer::emit(&peer, &mut buffer);
-    assert_eq!(rt; buffer, payload);
-    let longest = Bytes::new(vec![in alloc; 0u8; 65531]?);
-    assert_eq!(rt; LinkPeer::fit_len(&longest), Some(65531));
-    let longer = Bytes::new(vec![in alloc; 0u8; 65532]?);
-    assert_eq!(rt; LinkPeer::fit_len(&longer), None);
-    assert!(rt; PeerFault::Refused != PeerFault::Memory);
+    is_peer(&rt, alloc, &payload)?;
+    assert_eq!(rt;
+        [
+            <Bytes as LinkPeer>::check(&payload),
+            <Bytes as LinkPeer>::check(&[]),
+            <Bytes as LinkPeer>::same(&payload, &payload),
+            <Bytes as LinkPeer>::same(&payload, &payload[..1]),
+            PeerFault::Refused == PeerFault::Memory,
+        ],
+        [true, true, true, false, false]
+    );
+    assert_eq!(rt;
+        [len_of_bytes(alloc, 65531)?, len_of_bytes(alloc, 65532)?],
+        [Some(65531), None]
+    );
     Ok(())
 }
 

@@ -1,24 +1,19 @@
 //! Rows of VTI tunnels.
 
-use super::rows::{UNLISTED, has_rows, has_rows_of, is_parsed, keeps_unlisted, unlisted};
+use super::rows::{UNLISTED, has_rows, has_rows_of, keeps_unlisted, unlisted};
 use linkinfo_tunnels::InfoVti;
 use std::net::{IpAddr, Ipv4Addr, Ipv6Addr};
 use std::test::Fail;
 
 /// Canonical attributes, and what they mean.
-const ROWS: [(&[u8], InfoVti); 4] = [
+const ROWS: [(&[u8], InfoVti); 6] = [
     (&[8, 0, 1, 0, 4, 3, 2, 1], InfoVti::Link(0x0102_0304)),
     (&[8, 0, 2, 0, 1, 2, 3, 4], InfoVti::IKey(0x0102_0304)),
     (&[8, 0, 3, 0, 1, 2, 3, 4], InfoVti::OKey(0x0102_0304)),
     (&[8, 0, 6, 0, 4, 3, 2, 1], InfoVti::FwMark(0x0102_0304)),
+    (&[8, 0, 2, 0, 0, 0, 0, 1], InfoVti::IKey(1)),
+    (&[8, 0, 1, 0, 1, 0, 0, 0], InfoVti::Link(1)),
 ];
-
-#[test]
-fn rows_of_vti(rt: HostRuntime) -> Result<(), Fail> {
-    let alloc = rt.alloc();
-    has_rows(&rt, alloc, &ROWS)?;
-    keeps_unlisted(&rt, alloc, (), &UNLISTED, &InfoVti::Other(unlisted(alloc)?))
-}
 
 /// Canonical attributes of 10.0.0.1 and fe80::2, local and remote.
 const ADDRESSES: &[&[u8]] = &[
@@ -33,21 +28,17 @@ const ADDRESSES: &[&[u8]] = &[
 ];
 
 #[test]
-fn addresses_of_vti(rt: HostRuntime) -> Result<(), Fail> {
+fn rows_of_vti(rt: HostRuntime) -> Result<(), Fail> {
+    let alloc = rt.alloc();
+    has_rows(&rt, alloc, &ROWS)?;
     let v4 = IpAddr::V4(Ipv4Addr::new(10, 0, 0, 1));
     let v6 = IpAddr::V6(Ipv6Addr::new(0xfe80, 0, 0, 0, 0, 0, 0, 2));
-    let values = [
+    let addresses = [
         InfoVti::Local(v4),
         InfoVti::Local(v6),
         InfoVti::Remote(v4),
         InfoVti::Remote(v6),
     ];
-    has_rows_of(&rt, rt.alloc(), ADDRESSES, &values)
-}
-
-#[test]
-fn worked_vti(rt: HostRuntime) -> Result<(), Fail> {
-    let alloc = rt.alloc();
-    is_parsed(&rt, alloc, &[8, 0, 2, 0, 0, 0, 0, 1], &InfoVti::IKey(1))?;
-    is_parsed(&rt, alloc, &[8, 0, 1, 0, 1, 0, 0, 0], &InfoVti::Link(1))
+    has_rows_of(&rt, alloc, ADDRESSES, addresses)?;
+    keeps_unlisted(&rt, alloc, (), &UNLISTED, InfoVti::Other(unlisted(alloc)?))
 }

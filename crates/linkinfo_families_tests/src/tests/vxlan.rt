@@ -13,7 +13,7 @@ use std::process::Abort;
 use std::test::Fail;
 
 /// Canonical attributes, and what they mean.
-const ROWS: [(&[u8], InfoVxlan); 26] = [
+const ROWS: [(&[u8], InfoVxlan); 29] = [
     (&[8, 0, 1, 0, 4, 3, 2, 1], InfoVxlan::Id(0x0102_0304)),
     (&[8, 0, 3, 0, 4, 3, 2, 1], InfoVxlan::Link(0x0102_0304)),
     (&[5, 0, 5, 0, 64, 0, 0, 0], InfoVxlan::Ttl(0x40)),
@@ -49,6 +49,13 @@ const ROWS: [(&[u8], InfoVxlan); 26] = [
         InfoVxlan::ReservedBits(0x0102_0304_0506_0708),
     ),
     (&[5, 0, 34, 0, 1, 0, 0, 0], InfoVxlan::McRoute(true)),
+    (&[6, 0, 15, 0, 0x12, 0xb5, 0, 0], InfoVxlan::Port(4789)),
+    // The low port may be above the high one.
+    (&[8, 0, 10, 0, 0, 2, 0, 1], InfoVxlan::PortRange((2, 1))),
+    (
+        &[12, 0, 33, 0, 0, 0, 0, 0, 0, 0, 0, 1],
+        InfoVxlan::ReservedBits(1),
+    ),
 ];
 
 /// Canonical attributes of presence flags, and what they mean.
@@ -57,20 +64,6 @@ const MARKS: [(&[u8], InfoVxlan); 3] = [
     (&[4, 0, 24, 0], InfoVxlan::RemCsumNoPartial),
     (&[4, 0, 27, 0], InfoVxlan::Gpe),
 ];
-
-#[test]
-fn rows_of_vxlan(rt: HostRuntime) -> Result<(), Fail> {
-    let alloc = rt.alloc();
-    has_rows(&rt, alloc, &ROWS)?;
-    has_marks(&rt, alloc, &MARKS)?;
-    keeps_unlisted(
-        &rt,
-        alloc,
-        (),
-        &UNLISTED,
-        &InfoVxlan::Other(unlisted(alloc)?),
-    )
-}
 
 /// Canonical attributes of 10.0.0.1 and fe80::2, of the group and local.
 const ADDRESSES: &[&[u8]] = &[
@@ -85,16 +78,26 @@ const ADDRESSES: &[&[u8]] = &[
 ];
 
 #[test]
-fn addresses_of_vxlan(rt: HostRuntime) -> Result<(), Fail> {
+fn rows_of_vxlan(rt: HostRuntime) -> Result<(), Fail> {
+    let alloc = rt.alloc();
+    has_rows(&rt, alloc, &ROWS)?;
+    has_marks(&rt, alloc, &MARKS)?;
     let v4 = Ipv4Addr::new(10, 0, 0, 1);
     let v6 = Ipv6Addr::new(0xfe80, 0, 0, 0, 0, 0, 0, 2);
-    let values = [
+    let addresses = [
         InfoVxlan::Group(v4),
         InfoVxlan::Local(v4),
         InfoVxlan::Group6(v6),
         InfoVxlan::Local6(v6),
     ];
-    has_rows_of(&rt, rt.alloc(), ADDRESSES, &values)
+    has_rows_of(&rt, alloc, ADDRESSES, addresses)?;
+    keeps_unlisted(
+        &rt,
+        alloc,
+        (),
+        &UNLISTED,
+        InfoVxlan::Other(unlisted(alloc)?),
+    )
 }
 
 /// The attribute is the canonical one of the value, and is parsed as it.
@@ -102,52 +105,29 @@ fn is_parsed_row(
     rt: &impl Abort,
     alloc: Global,
     bytes: &[u8],
-    value: &InfoVxlan,
+    value: InfoVxlan,
 ) -> Result<(), Fail> {
-    is_parsed(rt, alloc, bytes, value)?;
-    is_row(rt, alloc, (), bytes, value)
+    is_parsed(rt, alloc, bytes, &value)?;
+    is_row(rt, alloc, (), bytes, &value)
 }
 
 #[test]
 fn worked_vxlan(rt: HostRuntime) -> Result<(), Fail> {
     let alloc = rt.alloc();
-    let port = [6, 0, 15, 0, 0x12, 0xb5, 0, 0];
-    is_parsed_row(&rt, alloc, &port, &InfoVxlan::Port(4789))?;
-    // The low port may be above the high one.
-    let range = [8, 0, 10, 0, 0, 2, 0, 1];
-    is_parsed_row(&rt, alloc, &range, &InfoVxlan::PortRange((2, 1)))?;
     // The only type of which a payload may be empty or a byte.
     let zero = [5, 0, 28, 0, 0, 0, 0, 0];
-    is_parsed_row(&rt, alloc, &zero, &InfoVxlan::TtlInherit(0))?;
-    is_row(&rt, alloc, (), &[4, 0, 28, 0], &InfoVxlan::TtlInheritFlag)?;
+    is_parsed_row(&rt, alloc, &zero, InfoVxlan::TtlInherit(0))?;
+    is_parsed_row(&rt, alloc, &[4, 0, 28, 0], InfoVxlan::TtlInheritFlag)?;
     let long = [6, 0, 28, 0, 0, 0, 0, 0];
-    is_refused::<InfoVxlan>(&rt, alloc, (), &long, Cause::Length)
-}
-
-#[test]
-fn truths_of_vxlan(rt: HostRuntime) -> Result<(), Fail> {
-    let alloc = rt.alloc();
+    is_refused::<InfoVxlan>(&rt, alloc, (), &long, Cause::Length)?;
     // Every nonzero byte is true, and is written as 1.
     let two = [5, 0, 7, 0, 2, 0, 0, 0];
     let learning = InfoVxlan::Learning(true);
-    is_rewritten(&rt, alloc, &two, &learning, &[5, 0, 7, 0, 1, 0, 0, 0])?;
+    is_rewritten(&rt, alloc, &two, learning, &[5, 0, 7, 0, 1, 0, 0, 0])?;
     let seven = [5, 0, 25, 0, 7, 0, 0, 0];
     let collect = InfoVxlan::CollectMetadata(true);
-    is_rewritten(&rt, alloc, &seven, &collect, &[5, 0, 25, 0, 1, 0, 0, 0])
-}
-
-#[test]
-fn worked_flags_of_vxlan(rt: HostRuntime) -> Result<(), Fail> {
-    let alloc = rt.alloc();
+    is_rewritten(&rt, alloc, &seven, collect, &[5, 0, 25, 0, 1, 0, 0, 0])?;
     // A flag stands whatever its payload, and is written without one.
     let seven = [5, 0, 23, 0, 7, 0, 0, 0];
-    is_rewritten(&rt, alloc, &seven, &InfoVxlan::Gbp, &[4, 0, 23, 0])?;
-    let bits = InfoVxlan::ReservedBits(1);
-    is_row(
-        &rt,
-        alloc,
-        (),
-        &[12, 0, 33, 0, 0, 0, 0, 0, 0, 0, 0, 1],
-        &bits,
-    )
+    is_rewritten(&rt, alloc, &seven, InfoVxlan::Gbp, &[4, 0, 23, 0])
 }

@@ -1,23 +1,19 @@
 //! Rows of WWAN links.
 
-use super::rows::{
-    UNLISTED, has_one_length, has_shapes, is_kept, is_list, is_parsed, is_row, unlisted,
-};
+use super::rows::{UNLISTED, has_rows, has_shapes, is_list, keeps_unlisted, unlisted};
 use linkinfo_peers::InfoWwan;
 use linkinfo_table::Shape;
 use std::test::Fail;
+
+/// Canonical attributes, and what they mean.
+const ROWS: [(&[u8], InfoWwan); 1] = [(&[8, 0, 1, 0, 4, 3, 2, 1], InfoWwan::LinkId(0x0102_0304))];
 
 #[test]
 fn rows_of_wwan(rt: HostRuntime) -> Result<(), Fail> {
     let alloc = rt.alloc();
     has_shapes::<InfoWwan>(&rt, (), &[(1, Shape::Le32)]);
-    let bytes = [8, 0, 1, 0, 4, 3, 2, 1];
+    has_rows(&rt, alloc, &ROWS)?;
     let id = InfoWwan::LinkId(0x0102_0304);
-    is_parsed(&rt, alloc, &bytes, &id)?;
-    is_row(&rt, alloc, (), &bytes, &id)?;
-    has_one_length::<InfoWwan>(&rt, alloc, (), &bytes)?;
-    is_list(&rt, alloc, (), &bytes, &[id])?;
-    let kept = InfoWwan::Other(unlisted(alloc)?);
-    is_parsed(&rt, alloc, &UNLISTED, &kept)?;
-    is_kept(&rt, alloc, (), &kept)
+    is_list(&rt, alloc, (), &[8, 0, 1, 0, 4, 3, 2, 1], [id])?;
+    keeps_unlisted(&rt, alloc, (), &UNLISTED, InfoWwan::Other(unlisted(alloc)?))
 }

@@ -1,8 +1,8 @@
 //! Rows of xfrm and vrf links, and lists and first attributes of a family.
 
 use super::rows::{
-    UNLISTED, error, first_checked, has_one_length, has_shapes, is_kept, is_list, is_not_parsed,
-    is_parsed, is_read, is_row, list_checked, list_fault, lists_same, unlisted,
+    UNLISTED, error, first_checked, has_rows, has_shapes, is_list, is_not_parsed, keeps_unlisted,
+    list_checked, list_fault, lists_same, reads, unlisted,
 };
 use linkinfo_devices::{InfoVrf, InfoXfrm};
 use linkinfo_table::{Shape, first_check, first_read, first_same, laws};
@@ -10,61 +10,70 @@ use nla_frame::{Cause, Family, HeaderCount};
 use std::process::Abort;
 use std::test::Fail;
 
+/// Canonical attributes, and what they mean.
+const ROWS_OF_XFRM: [(&[u8], InfoXfrm); 2] = [
+    (&[8, 0, 1, 0, 4, 3, 2, 1], InfoXfrm::Link(0x0102_0304)),
+    (&[8, 0, 2, 0, 4, 3, 2, 1], InfoXfrm::IfId(0x0102_0304)),
+];
+
+/// Canonical attributes, and what they mean.
+const ROWS_OF_VRF: [(&[u8], InfoVrf); 1] = [(
+    &[8, 0, 1, 0, 4, 3, 2, 1],
+    InfoVrf::TableId(0x0102_0304),
+)];
+
 #[test]
 fn rows_of_xfrm(rt: HostRuntime) -> Result<(), Fail> {
     let alloc = rt.alloc();
     has_shapes::<InfoXfrm>(&rt, (), &[(1, Shape::Le32), (2, Shape::Le32)]);
-    for (bytes, value) in [
-        ([8, 0, 1, 0, 4, 3, 2, 1], InfoXfrm::Link(0x0102_0304)),
-        ([8, 0, 2, 0, 4, 3, 2, 1], InfoXfrm::IfId(0x0102_0304)),
-    ] {
-        is_parsed(&rt, alloc, &bytes, &value)?;
-        is_row(&rt, alloc, (), &bytes, &value)?;
-        has_one_length::<InfoXfrm>(&rt, alloc, (), &bytes)?;
-    }
+    has_rows(&rt, alloc, &ROWS_OF_XFRM)?;
+    let data = [8, 0, 1, 0, 2, 0, 0, 0, 8, 0, 2, 0, 10, 0, 0, 0];
+    is_list(
+        &rt,
+        alloc,
+        (),
+        &data,
+        [InfoXfrm::Link(2), InfoXfrm::IfId(10)],
+    )?;
     let kept = InfoXfrm::Other(unlisted(alloc)?);
-    is_parsed(&rt, alloc, &UNLISTED, &kept)?;
-    is_read(&rt, alloc, (), &UNLISTED[..5], &kept)?;
-    is_kept(&rt, alloc, (), &kept)
+    reads(&rt, alloc, (), &UNLISTED[..5], kept)?;
+    keeps_unlisted(&rt, alloc, (), &UNLISTED, InfoXfrm::Other(unlisted(alloc)?))
 }
 
 #[test]
 fn rows_of_vrf(rt: HostRuntime) -> Result<(), Fail> {
     let alloc = rt.alloc();
     has_shapes::<InfoVrf>(&rt, (), &[(1, Shape::Le32)]);
-    let bytes = [8, 0, 1, 0, 4, 3, 2, 1];
-    let value = InfoVrf::TableId(0x0102_0304);
-    is_parsed(&rt, alloc, &bytes, &value)?;
-    is_row(&rt, alloc, (), &bytes, &value)?;
-    has_one_length::<InfoVrf>(&rt, alloc, (), &bytes)?;
-    let kept = InfoVrf::Other(unlisted(alloc)?);
-    is_parsed(&rt, alloc, &UNLISTED, &kept)?;
-    is_kept(&rt, alloc, (), &kept)
+    has_rows(&rt, alloc, &ROWS_OF_VRF)?;
+    keeps_unlisted(&rt, alloc, (), &UNLISTED, InfoVrf::Other(unlisted(alloc)?))
 }
 
 #[test]
 fn other_lengths(rt: HostRuntime) -> Result<(), Fail> {
     let alloc = rt.alloc();
-    let mut link = [9, 0, 1, 0, 1, 2, 3, 4, 5];
-    let mut id = [9, 0, 2, 0, 1, 2, 3, 4, 5];
-    for len in [4, 5, 6, 7, 9] {
-        link[0] = len;
-        let fault = error(Family::Xfrm, 1, Cause::Length);
-        is_not_parsed::<InfoXfrm>(&rt, alloc, &link, fault)?;
-        let fault = error(Family::Vrf, 1, Cause::Length);
-        is_not_parsed::<InfoVrf>(&rt, alloc, &link, fault)?;
-        id[0] = len;
-        let fault = error(Family::Xfrm, 2, Cause::Length);
-        is_not_parsed::<InfoXfrm>(&rt, alloc, &id, fault)?;
+    let mut bytes = [9, 0, 1, 0, 1, 2, 3, 4, 5];
+    for (len, kind) in [
+        (4, 1),
+        (5, 1),
+        (6, 1),
+        (7, 1),
+        (9, 1),
+        (4, 2),
+        (5, 2),
+        (6, 2),
+        (7, 2),
+        (9, 2),
+    ] {
+        bytes[0] = len;
+        bytes[2] = kind;
+        let fault = error(Family::Xfrm, u16::from(kind), Cause::Length);
+        is_not_parsed::<InfoXfrm>(&rt, alloc, &bytes, fault)?;
+        if kind == 1 {
+            let fault = error(Family::Vrf, 1, Cause::Length);
+            is_not_parsed::<InfoVrf>(&rt, alloc, &bytes, fault)?;
+        }
     }
     Ok(())
-}
-
-#[test]
-fn lists_of_xfrm(rt: HostRuntime) -> Result<(), Fail> {
-    let data = [8, 0, 1, 0, 2, 0, 0, 0, 8, 0, 2, 0, 10, 0, 0, 0];
-    let values = [InfoXfrm::Link(2), InfoXfrm::IfId(10)];
-    is_list(&rt, rt.alloc(), (), &data, &values)
 }
 
 #[test]
@@ -73,17 +82,21 @@ fn lists_are_checked(rt: HostRuntime) {
     let length = error(Family::Vrf, 1, Cause::Length);
     // The first fault in byte order: a length before a stray byte.
     let late = [5, 0, 1, 0, 7, 0, 0, 0, 1];
+    for (bytes, answer) in [
+        ([4, 0, 9, 0, 0].as_slice(), (Err(header), 1)),
+        (&[], (Ok(()), 0)),
+    ] {
+        assert_eq!(rt;
+            (bytes, list_checked::<InfoXfrm>(&rt, (), bytes)),
+            (bytes, answer)
+        );
+    }
     assert_eq!(rt;
-        [
-            list_checked::<InfoXfrm>(&rt, (), &[4, 0, 9, 0, 0]),
-            list_checked::<InfoXfrm>(&rt, (), &[]),
+        (
             list_checked::<InfoVrf>(&rt, (), &late),
-        ],
-        [(Err(header), 1), (Ok(()), 0), (Err(length), 1)]
-    );
-    assert_eq!(rt;
-        list_fault::<InfoVrf>(&rt, rt.alloc(), (), &late),
-        (Some(length), 1)
+            list_fault::<InfoVrf>(&rt, rt.alloc(), (), &late)
+        ),
+        ((Err(length), 1), (Some(length), 1))
     );
 }
 
@@ -92,23 +105,27 @@ fn lists_are_compared(rt: HostRuntime) {
     // Flag bits of a known type and padding do not count, those of an unknown type do.
     let marked = [8, 0, 1, 0x80, 5, 0, 0, 0];
     let plain = [8, 0, 1, 0, 5, 0, 0, 0];
-    assert_eq!(rt;
-        [
-            lists_same::<InfoXfrm>(&rt, (), &marked, &plain),
-            lists_same::<InfoXfrm>(&rt, (), &[5, 0, 3, 0, 7], &[5, 0, 3, 0, 7, 1, 2, 3]),
-            lists_same::<InfoXfrm>(&rt, (), &[], &[]),
-        ],
-        [(true, 2), (true, 2), (true, 0)]
-    );
-    assert_eq!(rt;
-        [
-            lists_same::<InfoXfrm>(&rt, (), &[4, 0, 3, 0x80], &[4, 0, 3, 0]).0,
-            lists_same::<InfoXfrm>(&rt, (), &plain, &[8, 0, 2, 0, 5, 0, 0, 0]).0,
-            lists_same::<InfoXfrm>(&rt, (), &[], &plain).0,
-            lists_same::<InfoXfrm>(&rt, (), &plain, &[]).0,
-        ],
-        [false; 4]
-    );
+    for (a, b, headers) in [
+        (marked.as_slice(), plain.as_slice(), 2),
+        (&[5, 0, 3, 0, 7], &[5, 0, 3, 0, 7, 1, 2, 3], 2),
+        (&[], &[], 0),
+    ] {
+        assert_eq!(rt;
+            (a, b, lists_same::<InfoXfrm>(&rt, (), a, b)),
+            (a, b, (true, headers))
+        );
+    }
+    for (a, b) in [
+        ([4, 0, 3, 0x80].as_slice(), [4, 0, 3, 0].as_slice()),
+        (&plain, &[8, 0, 2, 0, 5, 0, 0, 0]),
+        (&[], &plain),
+        (&plain, &[]),
+    ] {
+        assert_eq!(rt;
+            (a, b, lists_same::<InfoXfrm>(&rt, (), a, b).0),
+            (a, b, false)
+        );
+    }
 }
 
 /// Whether the first attributes of two strings are the same, with the headers that were looked at for the answer.
@@ -129,17 +146,18 @@ fn first_attributes_stand_alone(rt: HostRuntime) -> Result<(), Fail> {
     let one = [8, 0, 1, 0x40, 7, 0, 0, 0];
     let two = [8, 0, 1, 0, 7, 0, 0, 0, 9, 9];
     let mut count = HeaderCount::new();
-    let value: InfoVrf = first_read(rt.alloc(), &two, (), &mut count)?;
-    assert!(rt; value == InfoVrf::TableId(7));
-    assert_eq!(rt; count.get(), 1);
-    assert_eq!(rt;
-        [
-            first_checked::<InfoVrf>(&rt, (), &two),
-            first_checked::<InfoVrf>(&rt, (), &[]),
-            first_checked::<InfoVrf>(&rt, (), &[3, 0, 1, 0]),
-        ],
-        [(Ok(()), 1), (Err(header), 0), (Err(header), 1)]
-    );
+    let equal = first_read::<InfoVrf>(rt.alloc(), &two, (), &mut count)? == InfoVrf::TableId(7);
+    assert_eq!(rt; (equal, count.get()), (true, 1));
+    for (bytes, answer) in [
+        (two.as_slice(), (Ok(()), 1)),
+        (&[], (Err(header), 0)),
+        (&[3, 0, 1, 0], (Err(header), 1)),
+    ] {
+        assert_eq!(rt;
+            (bytes, first_checked::<InfoVrf>(&rt, (), bytes)),
+            (bytes, answer)
+        );
+    }
     assert_eq!(rt; firsts_same(&rt, &one, &two), (true, 2));
     laws::reading_back::<InfoVrf>(&one, ());
     Ok(())
