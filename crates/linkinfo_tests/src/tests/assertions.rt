@@ -1,7 +1,7 @@
 //! What the tests ask of one string or one value.
 
 use linkinfo::{
-    CanonError, Cause, DecodeError, Family, HeaderCount, LinkInfo, LinkInfoOf, LinkPeer, Nla, Nlas,
+    CanonError, Cause, DecodeError, Family, HeaderCount, InfoData, InfoKind, LinkInfo, Nla, Nlas,
     VecLinkInfo, VecLinkInfoOf, canon, check, check_counted, emit_nlas, nlas_buffer_len,
     nlas_fit_len, same,
 };
@@ -47,9 +47,22 @@ pub fn bytes_of(rt: &impl Abort, alloc: Global, text: &str) -> Result<Vec<u8>, A
     Ok(bytes)
 }
 
+/// Attributes of a family.
+pub fn nlas<T: Drop, const N: usize>(alloc: Global, items: [T; N]) -> Result<Nlas<T>, AllocError> {
+    Ok(Nlas::new(Vec::from_array(alloc, items)?))
+}
+
+/// A link of a kind with its data.
+pub fn link(kind: InfoKind, data: InfoData) -> [LinkInfo; 2] {
+    [LinkInfo::Kind(kind), LinkInfo::Data(data)]
+}
+
 /// A list of these attributes.
-pub fn list_of(items: Vec<LinkInfo>) -> VecLinkInfo {
-    VecLinkInfoOf(Nlas::new(items))
+pub fn list_of<const N: usize>(
+    alloc: Global,
+    items: [LinkInfo; N],
+) -> Result<VecLinkInfo, AllocError> {
+    Ok(VecLinkInfoOf(nlas(alloc, items)?))
 }
 
 /// The buffer begins with the string, and the three bytes behind it are 255, as they were.
@@ -62,16 +75,17 @@ fn assert_written(rt: &impl Abort, buffer: &[u8], string: &[u8]) {
 }
 
 /// The list is emitted as the string into a longer buffer, whose last three bytes stay.
-pub fn assert_emitted<P: LinkPeer>(
+pub fn assert_emitted<T: Nla>(
     rt: &impl Abort,
     alloc: Global,
-    items: &[LinkInfoOf<P>],
+    items: &[T],
     string: &[u8],
 ) -> Result<(), AllocError> {
-    let Some(len) = nlas_fit_len(items) else {
-        panic!(rt; "the list of {string:?} fits");
-    };
-    assert_eq!(rt; (len, nlas_buffer_len(items)), (string.len(), len));
+    let fit = nlas_fit_len(items);
+    assert_eq!(rt; (string, fit), (string, Some(string.len())));
+    assert!(rt; fit.is_some());
+    let len = nlas_buffer_len(items);
+    assert_eq!(rt; (string, len), (string, string.len()));
     assert!(rt; len <= 100_000);
     let mut buffer = vec![in alloc; 255u8; len + 3]?;
     emit_nlas(items, &mut buffer);
@@ -79,14 +93,14 @@ pub fn assert_emitted<P: LinkPeer>(
     Ok(())
 }
 
-/// The list that was built is emitted as the string.
-pub fn assert_built(
+/// The list of these attributes is emitted as the string.
+pub fn assert_built<const N: usize>(
     rt: &impl Abort,
     alloc: Global,
-    built: Result<Vec<LinkInfo>, AllocError>,
+    items: [LinkInfo; N],
     string: &[u8],
 ) -> Result<(), AllocError> {
-    assert_emitted(rt, alloc, built?.as_slice(), string)
+    assert_emitted(rt, alloc, items.as_slice(), string)
 }
 
 /// Whether the strings are read as equal lists.
@@ -96,15 +110,14 @@ pub fn reads_equal(alloc: Global, a: &[u8], b: &[u8]) -> Result<bool, DecodeErro
     Ok(first == second)
 }
 
-/// The string is read as the list that was built.
-pub fn assert_read_as(
+/// The string is read as the list of these attributes.
+pub fn assert_read_as<const N: usize>(
     rt: &impl Abort,
     alloc: Global,
     bytes: &[u8],
-    built: Result<Vec<LinkInfo>, AllocError>,
+    items: [LinkInfo; N],
 ) -> Result<(), DecodeError> {
-    let wanted = list_of(built?);
-    assert_read(rt, alloc, bytes, &wanted)
+    assert_read(rt, alloc, bytes, &list_of(alloc, items)?)
 }
 
 /// The bytes are accepted, are the same as the canonical string in either order, and are made that string in one call.
@@ -114,16 +127,21 @@ fn assert_accepted(
     bytes: &[u8],
     canonical: &[u8],
 ) -> Result<(), DecodeError> {
-    assert_eq!(rt;
-        (check(bytes), same(bytes, canonical), same(canonical, bytes)),
-        (Ok(()), Ok(true), Ok(true)),
-        "checking and comparing {bytes:?}"
-    );
-    match canon(alloc, bytes) {
-        Ok(string) => assert_eq!(rt; string.as_slice(), canonical, "rewriting {bytes:?}"),
+    let string = match canon(alloc, bytes) {
+        Ok(string) => string,
         Err(CanonError::Refused(fault)) => return Err(fault),
-        Err(CanonError::Unfit) => panic!(rt; "the list of {bytes:?} fits"),
-    }
+        Err(CanonError::Unfit) => panic!(rt; "the list fits"),
+    };
+    assert_eq!(rt;
+        (
+            bytes,
+            check(bytes),
+            same(bytes, canonical),
+            same(canonical, bytes),
+            string.as_slice()
+        ),
+        (bytes, Ok(()), Ok(true), Ok(true), canonical)
+    );
     Ok(())
 }
 
@@ -134,30 +152,44 @@ fn assert_read(
     bytes: &[u8],
     wanted: &VecLinkInfo,
 ) -> Result<(), DecodeError> {
-    let read = VecLinkInfo::parse(alloc, bytes)?;
-    assert!(rt; read == *wanted, "reading {bytes:?}");
+    let equal = VecLinkInfo::parse(alloc, bytes)? == *wanted;
     let mut count = HeaderCount::new();
-    let counted = VecLinkInfo::parse_counted(alloc, bytes, &mut count)?;
-    assert!(rt; counted == *wanted, "reading {bytes:?}");
+    let counted = VecLinkInfo::parse_counted(alloc, bytes, &mut count)? == *wanted;
+    assert_eq!(rt; (bytes, equal, counted), (bytes, true, true));
     Ok(())
 }
 
 /// The string is read as the list, and the list is emitted as its canonical string, which reads as the same list.
-pub fn assert_reads(
+fn assert_list(
     rt: &impl Abort,
     alloc: Global,
     text: &str,
-    built: Result<Vec<LinkInfo>, AllocError>,
+    list: &VecLinkInfo,
     canonical: &str,
 ) -> Result<(), DecodeError> {
-    let canonical = bytes_of(rt, alloc, canonical)?;
+    let string = bytes_of(rt, alloc, canonical)?;
     let bytes = bytes_of(rt, alloc, text)?;
-    let wanted = list_of(built?);
-    assert_emitted(rt, alloc, wanted.as_slice(), &canonical)?;
-    assert_read(rt, alloc, &bytes, &wanted)?;
-    assert_read(rt, alloc, &canonical, &wanted)?;
-    assert_accepted(rt, alloc, &bytes, &canonical)?;
-    assert_accepted(rt, alloc, &canonical, &canonical)
+    assert_emitted(rt, alloc, list.as_slice(), &string)?;
+    assert_read(rt, alloc, &bytes, list)?;
+    assert_read(rt, alloc, &string, list)?;
+    assert_accepted(rt, alloc, &bytes, &string)?;
+    assert_accepted(rt, alloc, &string, &string)
+}
+
+/// The string is read as the list of these attributes, which is emitted as its canonical string.
+pub fn assert_reads<const N: usize>(
+    rt: &impl Abort,
+    alloc: Global,
+    text: &str,
+    items: [LinkInfo; N],
+    canonical: &str,
+) -> Result<(), DecodeError> {
+    assert_list(rt, alloc, text, &list_of(alloc, items)?, canonical)
+}
+
+/// The list that the string is read as.
+fn read_list(rt: &impl Abort, alloc: Global, text: &str) -> Result<VecLinkInfo, DecodeError> {
+    VecLinkInfo::parse(alloc, &bytes_of(rt, alloc, text)?)
 }
 
 /// The string is read as the value, written as `Debug` writes it, which is emitted as the canonical string.
@@ -168,30 +200,32 @@ pub fn assert_value(
     canonical: &str,
     value: &str,
 ) -> Result<(), DecodeError> {
-    let string = bytes_of(rt, alloc, canonical)?;
-    let bytes = bytes_of(rt, alloc, text)?;
-    let read = VecLinkInfo::parse(alloc, &bytes)?;
+    let read = read_list(rt, alloc, text)?;
     let written = format!(in alloc; "{:?}", read.as_slice())?;
-    assert_eq!(rt; written.as_str(), value);
-    assert_read(rt, alloc, &bytes, &read)?;
-    assert_read(rt, alloc, &string, &read)?;
-    assert_emitted(rt, alloc, read.as_slice(), &string)?;
-    assert_accepted(rt, alloc, &bytes, &string)?;
-    assert_accepted(rt, alloc, &string, &string)
+    assert_eq!(rt; (text, written.as_str()), (text, value));
+    assert_list(rt, alloc, text, &read, canonical)
 }
 
 /// The string is refused with this fault by every call.
 pub fn assert_refused(rt: &impl Abort, alloc: Global, bytes: &[u8], fault: DecodeError) {
-    assert_eq!(rt; check(bytes), Err(fault), "checking {bytes:?}");
-    let read = VecLinkInfo::parse(alloc, bytes);
-    assert_eq!(rt; read.err(), Some(fault), "reading {bytes:?}");
-    assert_eq!(rt; same(bytes, &[]), Err(fault), "comparing {bytes:?}");
-    assert_eq!(rt; same(&[], bytes), Err(fault), "comparing {bytes:?}");
-    let rewritten = canon(alloc, bytes);
+    let read = VecLinkInfo::parse(alloc, bytes).err();
+    let rewritten = canon(alloc, bytes).err();
     assert_eq!(rt;
-        rewritten.err(),
-        Some(CanonError::Refused(fault)),
-        "rewriting {bytes:?}"
+        (
+            check(bytes),
+            read,
+            same(bytes, &[]),
+            same(&[], bytes),
+            rewritten
+        ),
+        (
+            Err(fault),
+            Some(fault),
+            Err(fault),
+            Err(fault),
+            Some(CanonError::Refused(fault))
+        ),
+        "calls of {bytes:?}"
     );
 }
 
@@ -222,13 +256,16 @@ fn assert_payload<T: Nla>(
     string: &[u8],
 ) -> Result<(), AllocError> {
     let Some(len) = value.fit_len() else {
-        panic!(rt; "the value of {string:?} fits");
+        panic!(rt; "the value fits");
     };
-    assert_eq!(rt; value.value_len(), len);
     assert!(rt; len <= 65_531);
     let mut buffer = vec![in alloc; 255u8; len]?;
+    let payload_len = value.value_len();
     value.emit_value(&mut buffer);
-    assert_eq!(rt; string.get(4..4 + len), Some(buffer.as_slice()));
+    assert_eq!(rt;
+        (payload_len, string.get(4..4 + len)),
+        (len, Some(buffer.as_slice()))
+    );
     Ok(())
 }
 
@@ -240,13 +277,12 @@ pub fn assert_attribute<T: Nla>(
     string: &[u8],
 ) -> Result<(), AllocError> {
     assert_payload(rt, alloc, value, string)?;
-    assert_eq!(rt;
-        string.get(2..4),
-        Some(value.kind().to_le_bytes().as_slice())
-    );
     assert!(rt; value.fit_len().is_some());
     let len = value.buffer_len();
-    assert_eq!(rt; len, string.len());
+    assert_eq!(rt;
+        (len, string.get(2..4)),
+        (string.len(), Some(value.kind().to_le_bytes().as_slice()))
+    );
     assert!(rt; len <= 100_000);
     let mut buffer = vec![in alloc; 255u8; len + 3]?;
     value.emit(&mut buffer);

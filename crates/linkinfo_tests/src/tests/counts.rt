@@ -44,8 +44,7 @@ fn counts_of_two_strings(rt: HostRuntime) -> Result<(), Fail> {
         let second = bytes_of(&rt, alloc, b)?;
         let mut count = HeaderCount::new();
         let answer = same_counted(&first, &second, &mut count);
-        assert_eq!(rt; answer, wanted, "{a} and {b}");
-        assert_eq!(rt; count.get(), headers, "headers of {a} and {b}");
+        assert_eq!(rt; (a, b, answer, count.get()), (a, b, wanted, headers));
     }
     Ok(())
 }

@@ -5,50 +5,26 @@ use super::worked::{FIRST_FAULT, IP6TNL_SHORT_FLAGS, SECOND_PORT_DATA, VETH_EMPT
 use linkinfo::{Cause, DecodeError, Family, VecLinkInfo, check, same};
 use std::test::Fail;
 
-#[test]
-fn refuses_headers(rt: HostRuntime) -> Result<(), Fail> {
-    let alloc = rt.alloc();
-    for text in [
-        "080001",
-        "03000100",
-        "09000100 7866726d",
-        "04000900 00",
-        "00000100",
-        "01000100",
-        "02000100",
-        VETH_EMPTY,
-    ] {
-        let bytes = bytes_of(&rt, alloc, text)?;
-        assert_refused(&rt, alloc, &bytes, HEADER_FAULT);
-    }
-    Ok(())
-}
-
-#[test]
-fn refuses_data_without_a_kind(rt: HostRuntime) -> Result<(), Fail> {
-    let alloc = rt.alloc();
-    for (text, kind) in [
-        ("08000200 00000000", 2),
-        ("04000300", 3),
-        ("04000500", 5),
-        (SECOND_PORT_DATA, 5),
-        ("04000280", 2),
-    ] {
-        let bytes = bytes_of(&rt, alloc, text)?;
-        assert_refused(&rt, alloc, &bytes, link_fault(kind, Cause::Order));
-    }
-    Ok(())
-}
-
-#[test]
-fn refuses_names(rt: HostRuntime) -> Result<(), Fail> {
-    let alloc = rt.alloc();
-    for (text, kind) in [("06000100 c328", 1), ("06000400 c328", 4)] {
-        let bytes = bytes_of(&rt, alloc, text)?;
-        assert_refused(&rt, alloc, &bytes, link_fault(kind, Cause::Utf8));
-    }
-    Ok(())
-}
+/// Strings that are refused at their own level: the family, the type and the cause of the fault.
+const REFUSED: &[(&str, Family, u16, Cause)] = &[
+    ("080001", Family::Frame, 0, Cause::Header),
+    ("03000100", Family::Frame, 0, Cause::Header),
+    ("09000100 7866726d", Family::Frame, 0, Cause::Header),
+    ("04000900 00", Family::Frame, 0, Cause::Header),
+    ("00000100", Family::Frame, 0, Cause::Header),
+    ("01000100", Family::Frame, 0, Cause::Header),
+    ("02000100", Family::Frame, 0, Cause::Header),
+    (VETH_EMPTY, Family::Frame, 0, Cause::Header),
+    // Data, statistics and data of a port that no kind stands before.
+    ("08000200 00000000", Family::LinkInfo, 2, Cause::Order),
+    ("04000300", Family::LinkInfo, 3, Cause::Order),
+    ("04000500", Family::LinkInfo, 5, Cause::Order),
+    (SECOND_PORT_DATA, Family::LinkInfo, 5, Cause::Order),
+    ("04000280", Family::LinkInfo, 2, Cause::Order),
+    // Names that are no text.
+    ("06000100 c328", Family::LinkInfo, 1, Cause::Utf8),
+    ("06000400 c328", Family::LinkInfo, 4, Cause::Utf8),
+];
 
 #[test]
 fn answers_the_first_fault(rt: HostRuntime) -> Result<(), Fail> {
@@ -65,10 +41,15 @@ fn answers_the_first_fault(rt: HostRuntime) -> Result<(), Fail> {
     let order = [8, 0, 2, 0, 0, 0, 0, 0];
     let header = [8, 0, 1];
     let fault = link_fault(2, Cause::Order);
-    assert_eq!(rt; same(&order, &header), Err(fault));
-    assert_eq!(rt; same(&header, &order), Err(HEADER_FAULT));
     let accepted = bytes_of(&rt, alloc, XFRM)?;
-    assert_eq!(rt; same(&accepted, &order), Err(fault));
+    assert_eq!(rt;
+        [
+            same(&order, &header),
+            same(&header, &order),
+            same(&accepted, &order)
+        ],
+        [Err(fault), Err(HEADER_FAULT), Err(fault)]
+    );
     Ok(())
 }
 
@@ -80,12 +61,11 @@ fn accepted_fronts_of_one_string(rt: HostRuntime) -> Result<(), Fail> {
     for end in 0..=32 {
         let front = &bytes[..end];
         if end == 0 || (9..=12).contains(&end) || end == 32 {
-            assert_eq!(rt; check(front), Ok(()), "the front of {end}");
-            assert!(rt;
-                VecLinkInfo::parse(alloc, front).is_ok(),
-                "the front of {end}"
+            let fault = VecLinkInfo::parse(alloc, front).err();
+            assert_eq!(rt;
+                (end, check(front), fault, same(front, front)),
+                (end, Ok(()), None, Ok(true))
             );
-            assert_eq!(rt; same(front, front), Ok(true), "the front of {end}");
         } else {
             assert_refused(&rt, alloc, front, HEADER_FAULT);
         }
@@ -171,16 +151,18 @@ const REFUSED_DATA: &[(&str, Family, u16, Cause)] = &[
 ];
 
 #[test]
-fn refuses_data_of_families(rt: HostRuntime) -> Result<(), Fail> {
+fn refuses_strings(rt: HostRuntime) -> Result<(), Fail> {
     let alloc = rt.alloc();
-    for (text, family, kind, cause) in REFUSED_DATA {
-        let bytes = bytes_of(&rt, alloc, text)?;
-        let fault = DecodeError {
-            family: *family,
-            kind: *kind,
-            cause: *cause,
-        };
-        assert_refused(&rt, alloc, &bytes, fault);
+    for rows in [REFUSED, REFUSED_DATA] {
+        for (text, family, kind, cause) in rows {
+            let bytes = bytes_of(&rt, alloc, text)?;
+            let fault = DecodeError {
+                family: *family,
+                kind: *kind,
+                cause: *cause,
+            };
+            assert_refused(&rt, alloc, &bytes, fault);
+        }
     }
     Ok(())
 }

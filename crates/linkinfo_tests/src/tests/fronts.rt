@@ -86,26 +86,16 @@ const STRINGS: &[&str] = &[
 pub fn assert_fronts(rt: &impl Abort, alloc: Global, bytes: &[u8]) {
     for end in 0..=bytes.len() {
         let front = &bytes[..end];
-        let read = VecLinkInfo::parse(alloc, front);
-        let checked = check(front);
-        match read {
-            Ok(_) => {
-                assert_eq!(rt; checked, Ok(()), "the front of {end} of {bytes:?}");
-                assert_eq!(rt;
-                    same(front, front),
-                    Ok(true),
-                    "the front of {end} of {bytes:?}"
-                );
-            }
-            Err(fault) => {
-                assert_eq!(rt; checked, Err(fault), "the front of {end} of {bytes:?}");
-                assert_eq!(rt;
-                    same(front, front),
-                    Err(fault),
-                    "the front of {end} of {bytes:?}"
-                );
-            }
-        }
+        let fault = VecLinkInfo::parse(alloc, front).err();
+        let wanted = match fault {
+            None => Ok(true),
+            Some(fault) => Err(fault),
+        };
+        assert_eq!(rt;
+            (check(front).err(), same(front, front)),
+            (fault, wanted),
+            "the front of {end} of {bytes:?}"
+        );
     }
 }
 
@@ -144,11 +134,15 @@ fn assert_front_of_bits(rt: &impl Abort, alloc: Global, front: &[u8], fault: Opt
     let read = VecLinkInfoOf::<BitPeer>::parse_counted(alloc, front, &mut count).err();
     let compared = same_of::<BitPeer>(front, front);
     assert_eq!(rt;
-        (check_of::<BitPeer>(front).err(), read, compared.err()),
-        (fault, fault, fault),
+        (
+            check_of::<BitPeer>(front).err(),
+            read,
+            compared.err(),
+            compared == Ok(false)
+        ),
+        (fault, fault, fault, false),
         "the front {front:?}"
     );
-    assert!(rt; compared != Ok(false), "the front {front:?} with itself");
 }
 
 #[test]

@@ -439,55 +439,17 @@ fn assert_rewritten(rt: &impl Abort, alloc: Global, rows: &[Rewritten]) -> Resul
 }
 
 #[test]
-fn canonical_lists_of_tunnels(rt: HostRuntime) -> Result<(), Fail> {
-    assert_canonical(&rt, rt.alloc(), TUNNELS)?;
-    Ok(())
-}
-
-#[test]
-fn canonical_lists_of_devices(rt: HostRuntime) -> Result<(), Fail> {
-    assert_canonical(&rt, rt.alloc(), DEVICES)?;
-    Ok(())
-}
-
-#[test]
-fn canonical_lists_of_peers(rt: HostRuntime) -> Result<(), Fail> {
-    assert_canonical(&rt, rt.alloc(), PEERS)?;
-    Ok(())
-}
-
-#[test]
-fn canonical_lists_of_the_layer_below(rt: HostRuntime) -> Result<(), Fail> {
-    assert_canonical(&rt, rt.alloc(), LOWER)?;
-    Ok(())
-}
-
-#[test]
-fn canonical_lists_of_bytes(rt: HostRuntime) -> Result<(), Fail> {
-    assert_canonical(&rt, rt.alloc(), BYTES)?;
-    Ok(())
-}
-
-#[test]
-fn canonical_lists_of_ports(rt: HostRuntime) -> Result<(), Fail> {
-    assert_canonical(&rt, rt.alloc(), PORTS)?;
-    Ok(())
-}
-
-#[test]
-fn canonical_lists_of_further_attributes(rt: HostRuntime) -> Result<(), Fail> {
-    assert_canonical(&rt, rt.alloc(), ATTRIBUTES)?;
+fn canonical_lists(rt: HostRuntime) -> Result<(), Fail> {
+    for rows in [TUNNELS, DEVICES, PEERS, LOWER, BYTES, PORTS, ATTRIBUTES] {
+        assert_canonical(&rt, rt.alloc(), rows)?;
+    }
     Ok(())
 }
 
 #[test]
 fn rewritten_lists(rt: HostRuntime) -> Result<(), Fail> {
-    assert_rewritten(&rt, rt.alloc(), REWRITTEN)?;
-    Ok(())
-}
-
-#[test]
-fn rewritten_lists_of_further_attributes(rt: HostRuntime) -> Result<(), Fail> {
-    assert_rewritten(&rt, rt.alloc(), REWRITTEN_ATTRIBUTES)?;
+    for rows in [REWRITTEN, REWRITTEN_ATTRIBUTES] {
+        assert_rewritten(&rt, rt.alloc(), rows)?;
+    }
     Ok(())
 }

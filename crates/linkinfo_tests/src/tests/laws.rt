@@ -73,8 +73,10 @@ fn items_are_equal_wherever_they_are(rt: HostRuntime) -> Result<(), Fail> {
     let mut walk = LinkInfoWalk::new(&bytes);
     let mut other = LinkInfoWalk::new(&copy);
     let first = walk.next();
-    assert!(rt; first == other.next());
-    assert!(rt; first != other.next());
+    assert_eq!(rt;
+        [first == other.next(), first == other.next()],
+        [true, false]
+    );
     Ok(())
 }
 

@@ -1,19 +1,13 @@
 //! Lists that are read and emitted.
 
-use super::assertions::{assert_built, assert_reads, bytes_of, list_of};
+use super::assertions::{assert_built, assert_reads, bytes_of, link, list_of, nlas};
 use super::worked::{EMPTY_NAME, LATER_KIND, OTHER_PORT, PORT_DATA, VETH, XFRM, XSTATS};
 use linkinfo::{
-    DecodeError, InfoData, InfoKind, InfoVrf, InfoXfrm, LinkInfo, Nla, Nlas, VecLinkInfo,
-    nlas_fit_len,
+    DecodeError, InfoData, InfoKind, InfoXfrm, LinkInfo, Nla, Nlas, VecLinkInfo, nlas_fit_len,
 };
 use std::alloc::{AllocError, Global};
 use std::process::Abort;
 use std::test::Fail;
-
-/// Data of an xfrm link.
-fn xfrm(items: Vec<InfoXfrm>) -> LinkInfo {
-    LinkInfo::Data(InfoData::Xfrm(Nlas::new(items)))
-}
 
 #[test]
 fn the_empty_list_fits(rt: HostRuntime) {
@@ -21,32 +15,24 @@ fn the_empty_list_fits(rt: HostRuntime) {
     assert_eq!(rt; nlas_fit_len(&none), Some(0));
 }
 
-/// A vrf link with this data.
-fn vrf(alloc: Global, data: LinkInfo) -> Result<Vec<LinkInfo>, AllocError> {
-    Ok(vec![in alloc; LinkInfo::Kind(InfoKind::Vrf), data]?)
-}
-
-/// A vrf link with no attributes.
-fn vrf_empty(alloc: Global) -> Result<Vec<LinkInfo>, AllocError> {
-    let rows: Vec<InfoVrf> = vec![in alloc;]?;
-    vrf(alloc, LinkInfo::Data(InfoData::Vrf(Nlas::new(rows))))
-}
-
 #[test]
 fn emits_what_is_not_well_formed(rt: HostRuntime) -> Result<(), Fail> {
     let alloc = rt.alloc();
     let text = "08000100 76726600 04000200";
-    let built = vrf(alloc, xfrm(vec![in alloc;]?));
-    assert_built(&rt, alloc, built, &bytes_of(&rt, alloc, text)?)?;
-    assert_reads(&rt, alloc, text, vrf_empty(alloc), text)?;
+    // A vrf link with data of an xfrm link.
+    let string = bytes_of(&rt, alloc, text)?;
+    let other = link(InfoKind::Vrf, InfoData::Xfrm(Nlas::new(Vec::new(alloc))));
+    assert_built(&rt, alloc, other, &string)?;
+    let own = link(InfoKind::Vrf, InfoData::Vrf(Nlas::new(Vec::new(alloc))));
+    assert_reads(&rt, alloc, text, own, text)?;
     Ok(())
 }
 
 /// A clone of what the string is read as is equal to it.
 fn assert_clones(rt: &impl Abort, alloc: Global, text: &str) -> Result<(), DecodeError> {
     let list = VecLinkInfo::parse(alloc, &bytes_of(rt, alloc, text)?)?;
-    let copy = list.clone()?;
-    assert!(rt; copy == list, "a clone of {text}");
+    let equal = list.clone()? == list;
+    assert_eq!(rt; (text, equal), (text, true));
     Ok(())
 }
 
@@ -60,15 +46,24 @@ fn clones_are_equal(rt: HostRuntime) -> Result<(), Fail> {
     Ok(())
 }
 
+/// The list is written for debugging as this text.
+fn assert_displays(
+    rt: &impl Abort,
+    alloc: Global,
+    list: VecLinkInfo,
+    wanted: &str,
+) -> Result<(), AllocError> {
+    let text = format!(in alloc; "{list:?}")?;
+    assert_eq!(rt; text.as_str(), wanted);
+    Ok(())
+}
+
 #[test]
 fn lists_display_for_debugging(rt: HostRuntime) -> Result<(), Fail> {
     let alloc = rt.alloc();
-    let list = list_of(vec![in alloc; LinkInfo::Kind(InfoKind::Pfcp)]?);
-    let text = format!(in alloc; "{list:?}")?;
-    assert_eq!(rt;
-        text.as_str(),
-        "VecLinkInfoOf(Nlas { items: [Kind(Pfcp)] })"
-    );
+    let list = list_of(alloc, [LinkInfo::Kind(InfoKind::Pfcp)])?;
+    let wanted = "VecLinkInfoOf(Nlas { items: [Kind(Pfcp)] })";
+    assert_displays(&rt, alloc, list, wanted)?;
     Ok(())
 }
 
@@ -76,26 +71,22 @@ fn lists_display_for_debugging(rt: HostRuntime) -> Result<(), Fail> {
 fn assert_written(
     rt: &impl Abort,
     alloc: Global,
-    built: Result<Vec<LinkInfo>, AllocError>,
+    list: VecLinkInfo,
     text: &str,
 ) -> Result<(), Fail> {
+    let written = list.to_vec(alloc)?;
     let wanted = bytes_of(rt, alloc, text)?;
-    let written = VecLinkInfo::from(built?).to_vec(alloc)?;
     assert_eq!(rt; written.as_slice(), wanted.as_slice());
     Ok(())
-}
-
-/// An xfrm link with its underlying interface and its identifier.
-fn xfrm_link(alloc: Global) -> Result<Vec<LinkInfo>, AllocError> {
-    let data = xfrm(vec![in alloc; InfoXfrm::Link(2), InfoXfrm::IfId(10)]?);
-    Ok(vec![in alloc; LinkInfo::Kind(InfoKind::Xfrm), data]?)
 }
 
 #[test]
 fn writes_a_list_in_one_call(rt: HostRuntime) -> Result<(), Fail> {
     let alloc = rt.alloc();
-    assert_written(&rt, alloc, xfrm_link(alloc), XFRM)?;
-    assert_written(&rt, alloc, Ok(Vec::new(alloc)), "")
+    let data = InfoData::Xfrm(nlas(alloc, [InfoXfrm::Link(2), InfoXfrm::IfId(10)])?);
+    let xfrm = list_of(alloc, link(InfoKind::Xfrm, data))?;
+    assert_written(&rt, alloc, xfrm, XFRM)?;
+    assert_written(&rt, alloc, VecLinkInfo::from(Vec::new(alloc)), "")
 }
 
 /// The types of the attributes of the list, in order.
@@ -109,12 +100,11 @@ fn assert_types(
     for item in list {
         types.push(item.kind())?;
     }
-    assert_eq!(rt; types.as_slice(), wanted);
+    let ends = list.iter().rev().next() == list.as_slice().last();
     assert_eq!(rt;
-        (list.len(), list.is_empty()),
-        (wanted.len(), wanted.is_empty())
+        (types.as_slice(), list.len(), list.is_empty(), ends),
+        (wanted, wanted.len(), wanted.is_empty(), true)
     );
-    assert_eq!(rt; list.iter().rev().next(), list.as_slice().last());
     Ok(())
 }
 

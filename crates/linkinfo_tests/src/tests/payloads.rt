@@ -1,12 +1,12 @@
 //! Data, port data and statistics read by themselves.
 
-use super::assertions::HEADER_FAULT;
+use super::assertions::{HEADER_FAULT, nlas};
 use linkinfo::{
     BitPeer, Bytes, Cause, DecodeError, DefaultNla, Emitable, Family, InfoData, InfoDataOf,
     InfoKind, InfoPortData, InfoPortKind, InfoVeth, InfoVethOf, InfoVrf, InfoXfrm, LinkXstats,
     NlaBuffer, Nlas, ParseableParametrized, Text, is_equal,
 };
-use std::alloc::{AllocError, Global};
+use std::alloc::Global;
 use std::process::Abort;
 use std::test::Fail;
 
@@ -36,47 +36,32 @@ fn read_port_data(
     InfoPortData::parse_with_param(alloc, payload, kind)
 }
 
-/// A payload is read as the data that was built.
+/// A payload is read as this data of a link of the kind.
 fn assert_data(
     rt: &impl Abort,
     alloc: Global,
     payload: &[u8],
-    kind: &InfoKind,
-    built: Result<InfoData, AllocError>,
+    kind: InfoKind,
+    data: InfoData,
 ) -> Result<(), DecodeError> {
-    let wanted = built?;
-    let read = read_data(alloc, payload, kind)?;
-    assert!(rt; read == wanted);
+    let equal = read_data(alloc, payload, &kind)? == data;
+    assert_eq!(rt; (payload, equal), (payload, true));
     Ok(())
-}
-
-/// Data of an xfrm link.
-fn xfrm(items: Vec<InfoXfrm>) -> InfoData {
-    InfoData::Xfrm(Nlas::new(items))
-}
-
-/// Data of a vrf link, with an attribute that is kept.
-fn vrf(alloc: Global) -> Result<InfoData, AllocError> {
-    let kept = DefaultNla::new(2, vec![in alloc; 10u8, 0, 0, 0]?);
-    let items = vec![in alloc; InfoVrf::TableId(2), InfoVrf::Other(kept)]?;
-    Ok(InfoData::Vrf(Nlas::new(items)))
-}
-
-/// Data of a veth link.
-fn veth(alloc: Global) -> Result<InfoData, AllocError> {
-    let peer = InfoVeth::Peer(Bytes::new(vec![in alloc; 2u8, 0, 0, 0]?));
-    Ok(InfoData::Veth(peer))
 }
 
 #[test]
 fn data_of_families(rt: HostRuntime) -> Result<(), Fail> {
     let alloc = rt.alloc();
-    let items = vec![in alloc; InfoXfrm::Link(2), InfoXfrm::IfId(10)]?;
-    assert_data(&rt, alloc, &TWO, &InfoKind::Xfrm, Ok(xfrm(items)))?;
-    assert_data(&rt, alloc, &TWO, &InfoKind::Vrf, vrf(alloc))?;
-    assert_data(&rt, alloc, &TWO, &InfoKind::Veth, veth(alloc))?;
-    let none = xfrm(vec![in alloc;]?);
-    assert_data(&rt, alloc, &[], &InfoKind::Xfrm, Ok(none))?;
+    let xfrm = InfoData::Xfrm(nlas(alloc, [InfoXfrm::Link(2), InfoXfrm::IfId(10)])?);
+    assert_data(&rt, alloc, &TWO, InfoKind::Xfrm, xfrm)?;
+    // The second attribute is kept.
+    let kept = InfoVrf::Other(DefaultNla::new(2, vec![in alloc; 10u8, 0, 0, 0]?));
+    let vrf = InfoData::Vrf(nlas(alloc, [InfoVrf::TableId(2), kept])?);
+    assert_data(&rt, alloc, &TWO, InfoKind::Vrf, vrf)?;
+    let peer = InfoVeth::Peer(Bytes::copy_of(alloc, &[2, 0, 0, 0])?);
+    assert_data(&rt, alloc, &TWO, InfoKind::Veth, InfoData::Veth(peer))?;
+    let none = InfoData::Xfrm(Nlas::new(Vec::new(alloc)));
+    assert_data(&rt, alloc, &[], InfoKind::Xfrm, none)?;
     Ok(())
 }
 
@@ -89,28 +74,18 @@ fn data_of_bits(rt: HostRuntime) -> Result<(), Fail> {
 }
 
 /// A payload of five bytes read under a kind without a family is kept as bytes.
-fn assert_bytes(
-    rt: &impl Abort,
-    alloc: Global,
-    kind: Result<InfoKind, AllocError>,
-) -> Result<(), DecodeError> {
-    let bytes = Bytes::copy_of(alloc, &[8, 0, 1, 0, 2])?;
-    let built = Ok(InfoData::Other(bytes));
-    assert_data(rt, alloc, &TWO[..5], &kind?, built)
-}
-
-/// The kind of a name, which is none of those with a variant of their own.
-fn named(alloc: Global, name: &str) -> Result<InfoKind, AllocError> {
-    Ok(InfoKind::Other(Text::copy_of(alloc, name)?))
+fn assert_bytes(rt: &impl Abort, alloc: Global, kind: InfoKind) -> Result<(), DecodeError> {
+    let bytes = Bytes::copy_of(alloc, &TWO[..5]);
+    assert_data(rt, alloc, &TWO[..5], kind, InfoData::Other(bytes?))
 }
 
 #[test]
 fn data_without_a_family(rt: HostRuntime) -> Result<(), Fail> {
     let alloc = rt.alloc();
-    assert_bytes(&rt, alloc, Ok(InfoKind::Dummy))?;
+    assert_bytes(&rt, alloc, InfoKind::Dummy)?;
 
     // A kind of an unknown name has no family, whatever the text.
-    assert_bytes(&rt, alloc, named(alloc, "xfrm"))?;
+    assert_bytes(&rt, alloc, InfoKind::Other(Text::copy_of(alloc, "xfrm")?))?;
     Ok(())
 }
 
@@ -141,37 +116,35 @@ fn faults_of_data(rt: HostRuntime) -> Result<(), Fail> {
     Ok(())
 }
 
-/// What is read is the port data that was built.
+/// A payload is read as this data of a port of the kind.
 fn assert_port_data(
     rt: &impl Abort,
-    read: Result<InfoPortData, DecodeError>,
-    built: Result<InfoPortData, AllocError>,
+    alloc: Global,
+    payload: &[u8],
+    kind: InfoPortKind,
+    data: InfoPortData,
 ) -> Result<(), DecodeError> {
-    let read = read?;
-    let wanted = built?;
-    assert!(rt; is_equal(&read, &wanted));
-    assert!(rt; read == wanted);
+    let read = read_port_data(alloc, payload, &kind)?;
+    assert_eq!(rt;
+        (payload, is_equal(&read, &data), read == data),
+        (payload, true, true)
+    );
     Ok(())
 }
 
 /// A payload of one byte read under a port kind of an unknown name is kept as bytes.
 fn assert_port_bytes(rt: &impl Abort, alloc: Global, name: &str) -> Result<(), DecodeError> {
-    let kind = InfoPortKind::Other(Text::copy_of(alloc, name)?);
-    let read = read_port_data(alloc, &[7], &kind);
     let bytes = Bytes::copy_of(alloc, &[7])?;
-    assert_port_data(rt, read, Ok(InfoPortData::Other(bytes)))
+    let kind = InfoPortKind::Other(Text::copy_of(alloc, name)?);
+    assert_port_data(rt, alloc, &[7], kind, InfoPortData::Other(bytes))
 }
 
 #[test]
 fn port_data_by_kind(rt: HostRuntime) -> Result<(), Fail> {
     let alloc = rt.alloc();
+    let data = InfoPortData::VrfPort(nlas(alloc, [InfoVrf::TableId(5)])?);
     let table = [8, 0, 1, 0, 5, 0, 0, 0];
-    let items = vec![in alloc; InfoVrf::TableId(5)]?;
-    assert_port_data(
-        &rt,
-        read_port_data(alloc, &table, &InfoPortKind::Vrf),
-        Ok(InfoPortData::VrfPort(Nlas::new(items))),
-    )?;
+    assert_port_data(&rt, alloc, &table, InfoPortKind::Vrf, data)?;
     for name in ["x", "vrf"] {
         assert_port_bytes(&rt, alloc, name)?;
     }
@@ -180,19 +153,29 @@ fn port_data_by_kind(rt: HostRuntime) -> Result<(), Fail> {
     Ok(())
 }
 
+/// The statistics are read under this kind as these bytes.
+fn assert_statistics(
+    rt: &impl Abort,
+    alloc: Global,
+    kind: InfoKind,
+    xstats: &LinkXstats,
+) -> Result<(), DecodeError> {
+    let nla = NlaBuffer::new_checked(&[6, 0, 3, 0, 1, 2])?;
+    let equal = LinkXstats::parse_with_param(alloc, &nla, &kind)? == *xstats;
+    assert!(rt; equal);
+    Ok(())
+}
+
 #[test]
 fn statistics_are_bytes(rt: HostRuntime) -> Result<(), Fail> {
     let alloc = rt.alloc();
-    let nla = NlaBuffer::new_checked(&[6, 0, 3, 0, 1, 2])?;
-    for kind in [InfoKind::Can, InfoKind::Xfrm] {
-        let read = LinkXstats::parse_with_param(alloc, &nla, &kind)?;
-        assert!(rt; read == LinkXstats::Other(Bytes::copy_of(alloc, &[1, 2])?));
-    }
     let xstats = LinkXstats::Other(Bytes::copy_of(alloc, &[1, 2])?);
-    assert!(rt; is_equal(&xstats.clone()?, &xstats));
+    assert_statistics(&rt, alloc, InfoKind::Can, &xstats)?;
+    assert_statistics(&rt, alloc, InfoKind::Xfrm, &xstats)?;
+    let equal = is_equal(&xstats.clone()?, &xstats);
     assert!(rt; xstats.buffer_len() == 2);
     let mut buffer = [255; 5];
     xstats.emit(&mut buffer);
-    assert_eq!(rt; buffer, [1, 2, 255, 255, 255]);
+    assert_eq!(rt; (equal, buffer), (true, [1, 2, 255, 255, 255]));
     Ok(())
 }

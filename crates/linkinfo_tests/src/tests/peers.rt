@@ -1,13 +1,13 @@
 //! Lists with peers of another type.
 
-use super::assertions::{assert_emitted, bytes_of};
+use super::assertions::{assert_emitted, bytes_of, nlas};
 use super::worked::VETH_TAIL;
 use linkinfo::{
     BitPeer, CanonError, Cause, DecodeError, Family, HeaderCount, InfoDataOf, InfoKind,
-    InfoNetkitOf, InfoVethOf, InfoVxcanOf, LinkInfoOf, Nlas, VecLinkInfoOf, canon_of,
-    check_counted_of, check_of, same, same_counted_of, same_of,
+    InfoNetkitOf, InfoVethOf, InfoVxcanOf, LinkInfoOf, VecLinkInfoOf, canon_of, check_counted_of,
+    check_of, same, same_counted_of, same_of,
 };
-use std::alloc::{AllocError, Global};
+use std::alloc::Global;
 use std::process::Abort;
 use std::test::Fail;
 
@@ -24,16 +24,6 @@ const PEER_REFUSED: DecodeError = DecodeError {
     cause: Cause::Peer,
 };
 
-/// A link whose peer is a bit.
-fn link(
-    alloc: Global,
-    kind: InfoKind,
-    data: InfoDataOf<BitPeer>,
-) -> Result<VecLinkInfoOf<BitPeer>, AllocError> {
-    let items = vec![in alloc; LinkInfoOf::Kind(kind), LinkInfoOf::Data(data)]?;
-    Ok(VecLinkInfoOf(Nlas::new(items)))
-}
-
 /// The bytes are read as the list, which looks at this many headers.
 fn assert_read(
     rt: &impl Abort,
@@ -42,12 +32,13 @@ fn assert_read(
     wanted: &VecLinkInfoOf<BitPeer>,
     headers: usize,
 ) -> Result<(), DecodeError> {
-    let read = VecLinkInfoOf::<BitPeer>::parse(alloc, bytes)?;
-    assert!(rt; read == *wanted, "reading {bytes:?}");
+    let equal = VecLinkInfoOf::<BitPeer>::parse(alloc, bytes)? == *wanted;
     let mut count = HeaderCount::new();
-    let counted = VecLinkInfoOf::<BitPeer>::parse_counted(alloc, bytes, &mut count)?;
-    assert!(rt; counted == *wanted, "reading {bytes:?}");
-    assert_eq!(rt; count.get(), headers, "headers of {bytes:?}");
+    let counted = VecLinkInfoOf::<BitPeer>::parse_counted(alloc, bytes, &mut count)? == *wanted;
+    assert_eq!(rt;
+        (bytes, equal, counted, count.get()),
+        (bytes, true, true, headers)
+    );
     Ok(())
 }
 
@@ -58,11 +49,10 @@ fn assert_written(
     list: &VecLinkInfoOf<BitPeer>,
     canonical: &[u8],
 ) -> Result<(), Fail> {
-    let copy = list.clone()?;
-    assert!(rt; copy == *list);
+    let equal = list.clone()? == *list;
     assert_emitted(rt, alloc, list.as_slice(), canonical)?;
     let written = list.to_vec(alloc)?;
-    assert_eq!(rt; written.as_slice(), canonical);
+    assert_eq!(rt; (equal, written.as_slice()), (true, canonical));
     Ok(())
 }
 
@@ -78,39 +68,80 @@ fn assert_canonical(
     Ok(())
 }
 
-/// The string is read as the list, by this many headers, and the list is written as the canonical string. The other has a peer that is the
-/// same as a bit, and not as a byte.
+/// The list is that of the string and of the canonical one, by this many headers, and is written as the canonical one.
+fn assert_list(
+    rt: &impl Abort,
+    alloc: Global,
+    list: VecLinkInfoOf<BitPeer>,
+    (bytes, canonical): (&[u8], &[u8]),
+    headers: usize,
+) -> Result<(), Fail> {
+    assert_read(rt, alloc, bytes, &list, headers)?;
+    assert_read(rt, alloc, canonical, &list, headers)?;
+    assert_written(rt, alloc, &list, canonical)
+}
+
+/// The string is read as a link of the kind with the data, by this many headers, and the link is written as the canonical string. The other
+/// string has a peer that is the same as a bit, and not as a byte.
 fn assert_bits(
     rt: &impl Abort,
     alloc: Global,
     (text, other, canonical): (&str, &str, &str),
-    built: Result<VecLinkInfoOf<BitPeer>, AllocError>,
+    items: [LinkInfoOf<BitPeer>; 2],
     headers: usize,
 ) -> Result<(), Fail> {
-    let bytes = bytes_of(rt, alloc, text)?;
-    let other = bytes_of(rt, alloc, other)?;
+    let list = VecLinkInfoOf(nlas(alloc, items)?);
     let canonical = bytes_of(rt, alloc, canonical)?;
+    let bytes = bytes_of(rt, alloc, text)?;
+    assert_list(rt, alloc, list, (&bytes, &canonical), headers)?;
+    let other = bytes_of(rt, alloc, other)?;
     assert_eq!(rt;
-        (same_of::<BitPeer>(&bytes, &other), same(&bytes, &other)),
-        (Ok(true), Ok(false)),
-        "comparing {text}"
+        (
+            text,
+            same_of::<BitPeer>(&bytes, &other),
+            same(&bytes, &other)
+        ),
+        (text, Ok(true), Ok(false))
     );
     assert_canonical(rt, alloc, &bytes, &canonical)?;
-    assert_canonical(rt, alloc, &other, &canonical)?;
-    let wanted = built?;
-    assert_read(rt, alloc, &bytes, &wanted, headers)?;
-    assert_read(rt, alloc, &canonical, &wanted, headers)?;
-    assert_written(rt, alloc, &wanted, &canonical)
+    assert_canonical(rt, alloc, &other, &canonical)
+}
+
+/// A link whose peer is a bit.
+fn link(kind: InfoKind, data: InfoDataOf<BitPeer>) -> [LinkInfoOf<BitPeer>; 2] {
+    [LinkInfoOf::Kind(kind), LinkInfoOf::Data(data)]
 }
 
 #[test]
-fn bits_of_veth(rt: HostRuntime) -> Result<(), Fail> {
+fn bits_of_links(rt: HostRuntime) -> Result<(), Fail> {
     let alloc = rt.alloc();
-    let peer = InfoVethOf::Peer(BitPeer(true));
-    let built = link(alloc, InfoKind::Veth, InfoDataOf::Veth(peer));
-    let canonical = "09000100 76657468 00000000 0c000200 05000100 01000000";
-    let strings = (PEER_OF_SEVEN, PEER_OF_NINE, canonical);
-    assert_bits(&rt, alloc, strings, built, 3)
+    let data = InfoDataOf::Veth(InfoVethOf::Peer(BitPeer(true)));
+    let strings = (
+        PEER_OF_SEVEN,
+        PEER_OF_NINE,
+        "09000100 76657468 00000000 0c000200 05000100 01000000",
+    );
+    assert_bits(&rt, alloc, strings, link(InfoKind::Veth, data), 3)?;
+    let data = InfoDataOf::Vxcan(InfoVxcanOf::Peer(BitPeer(true)));
+    let strings = (
+        "0a000100 76786361 6e000000 09000200 05000100 07",
+        "0a000100 76786361 6e000000 09000200 05000100 09",
+        "0a000100 76786361 6e000000 0c000200 05000100 01000000",
+    );
+    assert_bits(&rt, alloc, strings, link(InfoKind::Vxcan, data), 3)?;
+    // Peers of both bits.
+    let items = [
+        InfoNetkitOf::Peer(BitPeer(true)),
+        InfoNetkitOf::Primary(false),
+        InfoNetkitOf::Peer(BitPeer(false)),
+    ];
+    let data = InfoDataOf::Netkit(nlas(alloc, items)?);
+    let strings = (
+        "0b000100 6e65746b 69740000 1c000200 05000100 07000000 05000200 00000000 05000100 00000000",
+        "0b000100 6e65746b 69740000 1c000200 05000100 09000000 05000200 00000000 05000100 00000000",
+        "0b000100 6e65746b 69740000 1c000200 05000100 01000000 05000200 00000000 05000100 00000000",
+    );
+    assert_bits(&rt, alloc, strings, link(InfoKind::Netkit, data), 5)
 }
 
 #[test]
@@ -118,18 +149,24 @@ fn checks_and_compares_bits(rt: HostRuntime) -> Result<(), Fail> {
     let alloc = rt.alloc();
     let seven = bytes_of(&rt, alloc, PEER_OF_SEVEN)?;
     let nine = bytes_of(&rt, alloc, PEER_OF_NINE)?;
-    assert_eq!(rt; check_of::<BitPeer>(&seven), Ok(()));
-    assert_eq!(rt; same_of::<BitPeer>(&seven, &nine), Ok(true));
-    assert_eq!(rt; same(&seven, &nine), Ok(false));
-    let mut count = HeaderCount::new();
-    assert_eq!(rt; check_counted_of::<BitPeer>(&seven, &mut count), Ok(()));
-    assert_eq!(rt; count.get(), 3);
+    assert_eq!(rt;
+        (
+            check_of::<BitPeer>(&seven),
+            same_of::<BitPeer>(&seven, &nine),
+            same(&seven, &nine)
+        ),
+        (Ok(()), Ok(true), Ok(false))
+    );
+    let mut checking = HeaderCount::new();
+    let checked = check_counted_of::<BitPeer>(&seven, &mut checking);
 
     // Each string is looked at to be checked, and again to be compared.
-    let mut count = HeaderCount::new();
-    let answer = same_counted_of::<BitPeer>(&seven, &nine, &mut count);
-    assert_eq!(rt; answer, Ok(true));
-    assert_eq!(rt; count.get(), 12);
+    let mut comparing = HeaderCount::new();
+    let answer = same_counted_of::<BitPeer>(&seven, &nine, &mut comparing);
+    assert_eq!(rt;
+        (checked, checking.get(), answer, comparing.get()),
+        (Ok(()), 3, Ok(true), 12)
+    );
     Ok(())
 }
 
@@ -142,48 +179,23 @@ fn fault_of(alloc: Global, bytes: &[u8]) -> Option<DecodeError> {
 fn refuses_other_peers(rt: HostRuntime) -> Result<(), Fail> {
     let alloc = rt.alloc();
     let bytes = bytes_of(&rt, alloc, VETH_TAIL)?;
-    assert_eq!(rt; check_of::<BitPeer>(&bytes), Err(PEER_REFUSED));
-    assert_eq!(rt; fault_of(alloc, &bytes), Some(PEER_REFUSED));
-    let refused = canon_of::<BitPeer>(alloc, &bytes).err();
-    assert_eq!(rt; refused, Some(CanonError::Refused(PEER_REFUSED)));
-    assert_eq!(rt; same_of::<BitPeer>(&bytes, &[]), Err(PEER_REFUSED));
-    assert_eq!(rt; same_of::<BitPeer>(&[], &bytes), Err(PEER_REFUSED));
+    assert_eq!(rt;
+        (
+            check_of::<BitPeer>(&bytes),
+            fault_of(alloc, &bytes),
+            canon_of::<BitPeer>(alloc, &bytes).err(),
+            same_of::<BitPeer>(&bytes, &[]),
+            same_of::<BitPeer>(&[], &bytes)
+        ),
+        (
+            Err(PEER_REFUSED),
+            Some(PEER_REFUSED),
+            Some(CanonError::Refused(PEER_REFUSED)),
+            Err(PEER_REFUSED),
+            Err(PEER_REFUSED)
+        )
+    );
     Ok(())
-}
-
-#[test]
-fn bits_of_vxcan(rt: HostRuntime) -> Result<(), Fail> {
-    let alloc = rt.alloc();
-    let peer = InfoVxcanOf::Peer(BitPeer(true));
-    let built = link(alloc, InfoKind::Vxcan, InfoDataOf::Vxcan(peer));
-    let strings = (
-        "0a000100 76786361 6e000000 09000200 05000100 07",
-        "0a000100 76786361 6e000000 09000200 05000100 09",
-        "0a000100 76786361 6e000000 0c000200 05000100 01000000",
-    );
-    assert_bits(&rt, alloc, strings, built, 3)
-}
-
-/// A netkit link with peers of both bits.
-fn netkit(alloc: Global) -> Result<VecLinkInfoOf<BitPeer>, AllocError> {
-    let items = vec![in alloc;
-        InfoNetkitOf::Peer(BitPeer(true)),
-        InfoNetkitOf::Primary(false),
-        InfoNetkitOf::Peer(BitPeer(false)),
-    ]?;
-    let data = InfoDataOf::Netkit(Nlas::new(items));
-    link(alloc, InfoKind::Netkit, data)
-}
-
-#[test]
-fn bits_of_netkit(rt: HostRuntime) -> Result<(), Fail> {
-    let alloc = rt.alloc();
-    let strings = (
-        "0b000100 6e65746b 69740000 1c000200 05000100 07000000 05000200 00000000 05000100 00000000",
-        "0b000100 6e65746b 69740000 1c000200 05000100 09000000 05000200 00000000 05000100 00000000",
-        "0b000100 6e65746b 69740000 1c000200 05000100 01000000 05000200 00000000 05000100 00000000",
-    );
-    assert_bits(&rt, alloc, strings, netkit(alloc), 5)
 }
 
 /// Links with a peer of two bytes, and the families that their faults name.

@@ -1,6 +1,8 @@
 //! Links of the kind pfcp, whose data is attributes of a family without rows.
 
-use super::assertions::{HEADER_FAULT, assert_built, assert_reads, assert_refused, bytes_of};
+use super::assertions::{
+    HEADER_FAULT, assert_built, assert_reads, assert_refused, bytes_of, link, nlas,
+};
 use super::worked::{PFCP_ATTRIBUTE, PFCP_EMPTY, PFCP_MARKED, PFCP_NOT_FRAMED, PFCP_SHORT};
 use linkinfo::{
     Bytes, DecodeError, DefaultNla, InfoData, InfoKind, InfoPfcp, LinkInfo, Nlas, VecLinkInfo,
@@ -10,35 +12,25 @@ use std::process::Abort;
 use std::test::Fail;
 
 /// A pfcp link with its data.
-fn pfcp(alloc: Global, data: InfoData) -> Result<Vec<LinkInfo>, AllocError> {
-    Ok(vec![in alloc; LinkInfo::Kind(InfoKind::Pfcp), LinkInfo::Data(data)]?)
+fn pfcp(data: InfoData) -> [LinkInfo; 2] {
+    link(InfoKind::Pfcp, data)
 }
 
 /// Data of one attribute, which is kept.
-fn kept(alloc: Global, kind: u16, payload: Vec<u8>) -> Result<InfoData, AllocError> {
-    let item = InfoPfcp::Other(DefaultNla::new(kind, payload));
-    Ok(InfoData::Pfcp(Nlas::new(vec![in alloc; item]?)))
-}
-
-/// A pfcp link with one attribute.
-fn pfcp_with(alloc: Global, kind: u16, payload: &[u8]) -> Result<Vec<LinkInfo>, AllocError> {
-    let payload = Vec::from_slice(alloc, payload)?;
-    pfcp(alloc, kept(alloc, kind, payload)?)
-}
-
-/// A pfcp link without attributes.
-fn pfcp_empty(alloc: Global) -> Result<Vec<LinkInfo>, AllocError> {
-    pfcp(alloc, InfoData::Pfcp(Nlas::new(vec![in alloc;]?)))
+fn kept(alloc: Global, kind: u16, payload: &[u8]) -> Result<InfoData, AllocError> {
+    let item = DefaultNla::new(kind, Vec::from_slice(alloc, payload)?);
+    Ok(InfoData::Pfcp(nlas(alloc, [InfoPfcp::Other(item)])?))
 }
 
 #[test]
 fn keeps_attributes_of_pfcp(rt: HostRuntime) -> Result<(), Fail> {
     let alloc = rt.alloc();
-    let marked = pfcp_with(alloc, 0x8001, &[1, 0, 0, 0]);
+    let marked = pfcp(kept(alloc, 0x8001, &[1, 0, 0, 0])?);
     assert_reads(&rt, alloc, PFCP_MARKED, marked, PFCP_MARKED)?;
-    let short = pfcp_with(alloc, 1, &[7]);
+    let short = pfcp(kept(alloc, 1, &[7])?);
     assert_reads(&rt, alloc, PFCP_SHORT, short, PFCP_ATTRIBUTE)?;
-    assert_reads(&rt, alloc, PFCP_EMPTY, pfcp_empty(alloc), PFCP_EMPTY)?;
+    let empty = pfcp(InfoData::Pfcp(Nlas::new(Vec::new(alloc))));
+    assert_reads(&rt, alloc, PFCP_EMPTY, empty, PFCP_EMPTY)?;
     Ok(())
 }
 
@@ -51,20 +43,19 @@ fn refuses_data_of_pfcp_that_is_not_framed(rt: HostRuntime) -> Result<(), Fail> 
 }
 
 /// A pfcp link whose data is bytes, which is not well formed.
-fn pfcp_of_bytes(alloc: Global, payload: &[u8]) -> Result<Vec<LinkInfo>, AllocError> {
-    pfcp(alloc, InfoData::Other(Bytes::copy_of(alloc, payload)?))
+fn pfcp_of_bytes(alloc: Global, payload: &[u8]) -> Result<[LinkInfo; 2], AllocError> {
+    Ok(pfcp(InfoData::Other(Bytes::copy_of(alloc, payload)?)))
 }
 
-/// The string is read as another list than the one that was built.
+/// The string is read as another list than that of these attributes.
 fn assert_read_otherwise(
     rt: &impl Abort,
     alloc: Global,
     string: &[u8],
-    built: Result<Vec<LinkInfo>, AllocError>,
+    items: [LinkInfo; 2],
 ) -> Result<(), DecodeError> {
-    let items = built?;
-    let read = VecLinkInfo::parse(alloc, string)?;
-    assert!(rt; read.as_slice() != items.as_slice());
+    let equal = VecLinkInfo::parse(alloc, string)?.as_slice() == items.as_slice();
+    assert!(rt; !equal);
     Ok(())
 }
 
@@ -73,11 +64,11 @@ fn assert_read_otherwise(
 fn emits_bytes_under_pfcp(rt: HostRuntime) -> Result<(), Fail> {
     let alloc = rt.alloc();
     let string = bytes_of(&rt, alloc, PFCP_NOT_FRAMED)?;
-    assert_built(&rt, alloc, pfcp_of_bytes(alloc, &[1, 2, 3]), &string)?;
+    assert_built(&rt, alloc, pfcp_of_bytes(alloc, &[1, 2, 3])?, &string)?;
     let string = bytes_of(&rt, alloc, PFCP_MARKED)?;
     let payload = [8, 0, 1, 0x80, 1, 0, 0, 0];
-    assert_built(&rt, alloc, pfcp_of_bytes(alloc, &payload), &string)?;
-    assert_read_otherwise(&rt, alloc, &string, pfcp_of_bytes(alloc, &payload))?;
+    assert_built(&rt, alloc, pfcp_of_bytes(alloc, &payload)?, &string)?;
+    assert_read_otherwise(&rt, alloc, &string, pfcp_of_bytes(alloc, &payload)?)?;
     Ok(())
 }
 
@@ -91,18 +82,17 @@ fn assert_moved(
     rt: &impl Abort,
     alloc: Global,
     payload: &[u8],
-    built: Result<InfoData, AllocError>,
+    attribute: InfoData,
 ) -> Result<(), DecodeError> {
-    let attribute = built?;
-    let read = moved(alloc, payload)?;
-    assert!(rt; read == attribute);
+    let equal = moved(alloc, payload)? == attribute;
+    assert!(rt; equal);
     Ok(())
 }
 
 #[test]
 fn moves_bytes_under_pfcp(rt: HostRuntime) -> Result<(), Fail> {
     let alloc = rt.alloc();
-    let attribute = kept(alloc, 0x8001, vec![in alloc; 1u8, 0, 0, 0]?);
+    let attribute = kept(alloc, 0x8001, &[1, 0, 0, 0])?;
     assert_moved(&rt, alloc, &[8, 0, 1, 0x80, 1, 0, 0, 0], attribute)?;
     let fault = moved(alloc, &[1, 2, 3]).err();
     assert_eq!(rt; fault, Some(HEADER_FAULT));

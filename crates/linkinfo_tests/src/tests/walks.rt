@@ -142,11 +142,13 @@ fn compares_and_clones_walks(rt: HostRuntime) -> Result<(), Fail> {
     let mut walk = LinkInfoWalk::new(&bytes);
     walk.next();
     let mut copy = walk.clone()?;
-    assert!(rt; copy == walk);
-    assert!(rt; copy != LinkInfoWalk::new(&bytes));
+    let (same, new) = (copy == walk, copy == LinkInfoWalk::new(&bytes));
     walk.next();
-    assert!(rt; copy != walk);
+    let behind = copy == walk;
     copy.next();
-    assert!(rt; copy == walk);
+    assert_eq!(rt;
+        (same, new, behind, copy == walk),
+        (true, false, false, true)
+    );
     Ok(())
 }
