@@ -1,7 +1,7 @@
 //! Lists that are read and written.
 
-use crate::answers::{read_at_last, reads};
-use linkinfo::{LinkInfo, ToVecError, VecLinkInfo, nlas_fit_len, nlas_to_vec};
+use crate::answers::{HEADER_FAULT, MEMORY, read_at_last, reads};
+use linkinfo::{CanonError, LinkInfo, ToVecError, VecLinkInfo, canon, nlas_fit_len, nlas_to_vec};
 use linkinfo_numbers::{InfoKind, InfoPortKind};
 use std::alloc::Global;
 
@@ -72,4 +72,22 @@ pub(crate) fn to_vec(alloc: Global) -> bool {
 pub(crate) fn to_vec_of_nothing(alloc: Global) -> bool {
     let none: [LinkInfo; 0] = [];
     nlas_to_vec(alloc, &none).is_ok()
+}
+
+/// The canonical string of a kind without its NUL, or want of memory.
+pub(crate) fn canonical_string(alloc: Global) -> bool {
+    let bytes = [8, 0, 1, 0, b'p', b'f', b'c', b'p'];
+    let answer = match canon(alloc, &bytes) {
+        Err(CanonError::Refused(MEMORY)) => canon(alloc, &bytes),
+        answer => answer,
+    };
+    answer.is_ok_and(|string| {
+        string.as_slice() == [9, 0, 1, 0, b'p', b'f', b'c', b'p', 0, 0, 0, 0].as_slice()
+    })
+}
+
+/// The canonical string of the empty string, and a fault before anything is kept, need no memory.
+pub(crate) fn canonical_string_of_nothing(alloc: Global) -> bool {
+    canon(alloc, &[]).is_ok_and(|string| string.is_empty())
+        && canon(alloc, &[8, 0, 1]).err() == Some(CanonError::Refused(HEADER_FAULT))
 }

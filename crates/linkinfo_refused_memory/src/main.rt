@@ -42,7 +42,8 @@ fn read_strings(rt: &impl Print, alloc: Global) -> io::Result<()> {
 /// The calls that read and write lists.
 fn run_lists(rt: &impl Print, alloc: Global) -> io::Result<()> {
     run! { rt, alloc;
-        lists: empty_list, chain_of_100, chain_of_128, name_that_does_not_fit, to_vec, to_vec_of_nothing;
+        lists: empty_list, chain_of_100, chain_of_128, name_that_does_not_fit, to_vec, to_vec_of_nothing, canonical_string,
+            canonical_string_of_nothing;
         faults: before_any_request, inside_data, behind_an_attribute, behind_data, behind_port_data;
         without_memory: checks, compares, measures_and_emits;
     }
