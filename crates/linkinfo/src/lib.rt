@@ -60,7 +60,7 @@ pub use linkinfo_tunnels::{
 // For who reads the data of a link or of a port alone: which family a kind has, and reading, checking and comparing a payload by it.
 pub use linkinfo_data::{
     DataFamily, DeviceFamily, LowerFamily, PayloadFamily, PeeredFamily, PortFamily, TunnelFamily,
-    family_of, fitting, port_family_of,
+    family_of, port_family_of,
 };
 
 // For who goes over attributes by hand: one attribute in a slice, an iterator, numbers and addresses in payloads.
@@ -73,7 +73,7 @@ pub use nla_frame::{
 
 // For who writes a family of attributes, the peer of veth, vxcan and netkit links, or a flag set, of one's own. Every peer has `DataFamilies` and every
 // family `ListedFamily`: they are there for contracts alone, as `PlainFamilies` and `Plain` are.
-pub use linkinfo_data::{DataFamilies, Plain, PlainFamilies};
+pub use linkinfo_data::{DataFamilies, Plain, PlainFamilies, fitting};
 pub use linkinfo_numbers::{KeepsEveryBit, bits_again};
 pub use linkinfo_peers::BitPeer;
 pub use linkinfo_table::{

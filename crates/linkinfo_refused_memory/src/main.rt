@@ -13,6 +13,7 @@ mod faults;
 mod lists;
 mod names;
 mod payloads;
+mod program;
 mod strings;
 mod without_memory;
 
@@ -46,6 +47,7 @@ fn run_lists(rt: &impl Print, alloc: Global) -> io::Result<()> {
             canonical_string_of_nothing;
         faults: before_any_request, inside_data, behind_an_attribute, behind_data, behind_port_data;
         without_memory: checks, compares, measures_and_emits;
+        program: run_over_memory;
     }
     Ok(())
 }

@@ -2,14 +2,10 @@
 //! lists mean the same.
 #![tactic(auto)]
 
-mod answers;
-mod laws;
-mod lines;
-mod run;
 #[cfg(test)]
 mod tests;
 
-use crate::run::run;
+use linkinfo_lines::run;
 use std::process::ExitCode;
 
 /// Ends with status 0 where the whole answer was written, and else with status 1. Arguments are not looked at.

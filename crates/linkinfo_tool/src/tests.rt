@@ -1,10 +1,9 @@
 //! Runs over memory, and over readers and writers that fail.
 
 ghost use Rattle.std.specs.Prelude.{◌≡◌, ◌≤◌, IfOk};
-ghost use Rattle.linkinfo_tool.specs.Answers.{answer_of};
+ghost use Rattle.linkinfo_lines.specs.Answers.{answer_of};
 
-use crate::laws;
-use crate::run::{MOST_READS, RunError, run};
+use linkinfo_lines::{MOST_READS, RunError, laws, run};
 use std::alloc::{AllocError, Global};
 use std::io;
 use std::io::{ErrorKind, Read, Write};

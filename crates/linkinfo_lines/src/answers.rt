@@ -1,0 +1,181 @@
+//! The answers to the lines of an input.
+
+ghost use Rattle.std.specs.Prelude.{◌≡◌, ◌≢◌, ◌++◌, [], ◌∷◌, if◌then◌else◌, Some, None, IfOk, OnOk};
+ghost use Rattle.hex.specs.Hex.{encode_lower};
+ghost use Rattle.nla_frame.specs.Error.{memory_fault};
+ghost use Rattle.linkinfo_lines.specs.Answers.{answer_of, bad_line, bytes_of, canon_answer, check_answer, comparison_answer, fault_text, line_answer, on_two, words_answer};
+ghost use Rattle.linkinfo_lines.specs.Lines.{words_of};
+
+use crate::lines::{cut, first_line};
+use linkinfo::{CanonError, Cause, DecodeError};
+use std::alloc::{AllocError, Global};
+use std::io::Write;
+
+/// The answers to all lines of an input, each with its line feed. It fails only where memory runs out.
+pub fn answer(alloc: Global, input: &[u8]) -> Result<Vec<u8>, AllocError>
+    ensures { IfOk result (λ text. text.items ≡ answer_of input.now) }
+{
+    let mut answers = Answers::new(alloc);
+    let mut rest = input;
+    while !rest.is_empty() {
+        let (line, more) = first_line(rest);
+        answers.push_line(line)?;
+        rest = more;
+    }
+    Ok(answers.text)
+}
+
+/// The answers so far, and buffers that each line uses again.
+#[derive(Drop)]
+struct Answers {
+    alloc: Global,
+    /// The answers.
+    text: Vec<u8>,
+    /// What a word names.
+    bytes: Vec<u8>,
+    /// What the second word of a comparison names.
+    second: Vec<u8>,
+}
+
+impl Answers {
+    fn new(alloc: Global) -> Answers
+        ensures { result.text.items ≡ [] }
+    {
+        Answers {
+            alloc,
+            text: Vec::new(alloc),
+            bytes: Vec::new(alloc),
+            second: Vec::new(alloc),
+        }
+    }
+
+    /// Adds the answer to a line, with its line feed.
+    fn push_line(&mut self, line: &[u8]) -> Result<(), AllocError>
+        ensures { OnOk result (self.new.text.items ≡ self.old.text.items ++ line_answer line.now) }
+    {
+        self.push_answer(line)?;
+        self.text.extend_from_slice(b"\n")
+    }
+
+    fn push_answer(&mut self, line: &[u8]) -> Result<(), AllocError>
+        ensures { OnOk result (self.new.text.items ≡ self.old.text.items ++ words_answer (words_of line.now)) }
+    {
+        let (verb, operands) = cut(line, b' ');
+        let Some(operands) = operands else {
+            return self.push_bad_line();
+        };
+        self.push_command(verb, operands)
+    }
+
+    /// Adds the answer to a verb and what follows its space. An operand with a space in it names no bytes, so the last operand is read
+    /// without looking for more spaces.
+    fn push_command(&mut self, verb: &[u8], operands: &[u8]) -> Result<(), AllocError>
+        ensures { OnOk result (self.new.text.items
+            ≡ self.old.text.items ++ words_answer (verb.now ∷ words_of operands.now)) }
+    {
+        if verb == b"check".as_slice() {
+            self.push_check(operands)
+        } else if verb == b"canon".as_slice() {
+            self.push_canon(operands)
+        } else if verb == b"same".as_slice() {
+            self.push_same(operands)
+        } else {
+            self.push_bad_line()
+        }
+    }
+
+    /// `check HEX`: whether the list is accepted.
+    fn push_check(&mut self, word: &[u8]) -> Result<(), AllocError>
+        ensures { OnOk result (self.new.text.items ≡ self.old.text.items ++ check_answer word.now) }
+    {
+        if !read_hex(word, &mut self.bytes)? {
+            return self.push_bad_line();
+        }
+        match linkinfo::check(&self.bytes) {
+            Ok(()) => self.text.extend_from_slice(b"ok"),
+            Err(fault) => self.push_fault(fault),
+        }
+    }
+
+    /// `canon HEX`: the canonical string of the list, if it fits.
+    fn push_canon(&mut self, word: &[u8]) -> Result<(), AllocError>
+        ensures { OnOk result (self.new.text.items ≡ self.old.text.items ++ canon_answer word.now) }
+    {
+        if !read_hex(word, &mut self.bytes)? {
+            return self.push_bad_line();
+        }
+        match linkinfo::canon(self.alloc, &self.bytes) {
+            Ok(bytes) if bytes.is_empty() => self.text.extend_from_slice(b"-"),
+            Ok(bytes) => push_hex(&bytes, &mut self.text),
+            Err(CanonError::Unfit) => self.text.extend_from_slice(b"unfit"),
+            Err(CanonError::Refused(fault)) if fault.cause == Cause::Memory => Err(AllocError),
+            Err(CanonError::Refused(fault)) => self.push_fault(fault),
+        }
+    }
+
+    /// `same HEX HEX`: whether the two lists mean the same.
+    fn push_same(&mut self, operands: &[u8]) -> Result<(), AllocError>
+        ensures { OnOk result (self.new.text.items
+            ≡ self.old.text.items ++ on_two comparison_answer (words_of operands.now)) }
+    {
+        let (first, second) = cut(operands, b' ');
+        let Some(second) = second else {
+            return self.push_bad_line();
+        };
+        self.push_comparison(first, second)
+    }
+
+    /// Adds the answer to a comparison of what two words name.
+    fn push_comparison(&mut self, first: &[u8], second: &[u8]) -> Result<(), AllocError>
+        ensures { OnOk result (self.new.text.items
+            ≡ self.old.text.items ++ comparison_answer first.now second.now) }
+    {
+        if !read_hex(first, &mut self.bytes)? || !read_hex(second, &mut self.second)? {
+            return self.push_bad_line();
+        }
+        match linkinfo::same(&self.bytes, &self.second) {
+            Ok(true) => self.text.extend_from_slice(b"true"),
+            Ok(false) => self.text.extend_from_slice(b"false"),
+            Err(fault) => self.push_fault(fault),
+        }
+    }
+
+    /// Adds a fault of the input: want of memory is none, and is never written.
+    fn push_fault(&mut self, fault: DecodeError) -> Result<(), AllocError>
+        requires { fault ≢ memory_fault }
+        ensures { OnOk result (self.new.text.items ≡ self.old.text.items ++ fault_text fault) }
+    {
+        write!(self.text, "err {fault}").map_err(|_| AllocError)
+    }
+
+    fn push_bad_line(&mut self) -> Result<(), AllocError>
+        ensures { OnOk result (self.new.text.items ≡ self.old.text.items ++ bad_line) }
+    {
+        self.text.extend_from_slice(b"bad line")
+    }
+}
+
+/// Reads the bytes that a word names into the buffer, and answers whether it names some.
+fn read_hex(word: &[u8], bytes: &mut Vec<u8>) -> Result<bool, AllocError>
+    ensures { IfOk result (λ named. (if named then Some bytes.new.items else None) ≡ bytes_of word.now) }
+{
+    if word == b"-".as_slice() {
+        bytes.clear();
+        return Ok(true);
+    }
+    if word.is_empty() {
+        return Ok(false);
+    }
+    bytes.resize(word.len() / 2, 0)?;
+    Ok(hex::decode_to_slice(word, bytes.as_mut_slice()).is_ok())
+}
+
+/// Adds the bytes in lower case hex.
+fn push_hex(bytes: &[u8], text: &mut Vec<u8>) -> Result<(), AllocError>
+    ensures { OnOk result (text.new.items ≡ text.old.items ++ encode_lower bytes.now) }
+{
+    let start = text.len();
+    let digits = bytes.len().checked_mul(2).ok_or(AllocError)?;
+    text.resize(start.checked_add(digits).ok_or(AllocError)?, 0)?;
+    hex::encode_to_slice(bytes, &mut text[start..]).map_err(|_| AllocError)
+}

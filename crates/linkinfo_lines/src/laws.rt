@@ -1,0 +1,59 @@
+//! What follows from the definitions of the answers. These functions do nothing: each is there for its contract.
+
+ghost use Rattle.std.specs.Prelude.{◌≡◌, ◌≢◌, ◌⊎◌, ◌↔◌, ℕ, ◌<◌, ◌*◌, List, [], ◌∷◌, ◌++◌, length, codes, Err, Some, IsTrue, All};
+ghost use Rattle.std.specs.List.{AllPass};
+ghost use Rattle.hex.specs.Hex.{IsBytes, encode_upper, is_hex_digit};
+ghost use Rattle.nla_frame.specs.Answers.{verdict};
+ghost use Rattle.nla_frame.specs.Attribute.{Attribute, ListFits};
+ghost use Rattle.nla_frame.specs.Error.{memory_fault};
+ghost use Rattle.linkinfo_data.specs.BytesPeer.{bytes_peer};
+ghost use Rattle.linkinfo.specs.Comparing.{same_answer};
+ghost use Rattle.linkinfo.specs.Strings.{alike_strings, reading};
+ghost use Rattle.linkinfo_lines.specs.Answers.{answer_of, bad_line, bytes_of, canon_answer, check_answer, comparison_answer, line_answer, list_fits, word_of};
+
+use linkinfo::Bytes;
+
+/// An input is answered line by line, each line on its own.
+pub fn line_by_line()
+    ensures none { answer_of [] ≡ [] }
+    ensures line { (line rest : List ℕ) → All (λ b. b ≢ 10) line →
+        answer_of (line ++ 10 ∷ rest) ≡ line_answer line ++ answer_of rest }
+    ensures last { (line : List ℕ) → All (λ b. b ≢ 10) line → line ≢ [] →
+        answer_of line ≡ line_answer line }
+{}
+
+/// What the three commands answer, and that every other line is a bad line. An operand with a space in it names no bytes.
+pub fn commands()
+    ensures check { (word : List ℕ) → line_answer (codes "check " ++ word) ≡ check_answer word ++ 10 ∷ [] }
+    ensures canon { (word : List ℕ) → line_answer (codes "canon " ++ word) ≡ canon_answer word ++ 10 ∷ [] }
+    ensures same { (first second : List ℕ) → All (λ b. b ≢ 32) first →
+        line_answer (codes "same " ++ (first ++ 32 ∷ second)) ≡ comparison_answer first second ++ 10 ∷ [] }
+    ensures one_word { (line : List ℕ) → All (λ b. b ≢ 32) line → line_answer line ≡ bad_line ++ 10 ∷ [] }
+    ensures other_verb { (verb operands : List ℕ) → All (λ b. b ≢ 32) verb →
+        verb ≢ codes "check" → verb ≢ codes "canon" → verb ≢ codes "same" →
+        line_answer (verb ++ 32 ∷ operands) ≡ bad_line ++ 10 ∷ [] }
+{}
+
+/// A word names bytes where it is `-`, for none, or an even number of hex digits, at least two; what `canon` writes names what it stands
+/// for, and so do upper case digits.
+pub fn hex_words()
+    ensures named { (word bytes : List ℕ) → bytes_of word ≡ Some bytes →
+        ((word ≡ codes "-") × (bytes ≡ []))
+        ⊎ (AllPass is_hex_digit word × (0 < length bytes) × (length word ≡ 2 * length bytes)) }
+    ensures written { (bytes : List ℕ) → IsBytes bytes → bytes_of (word_of bytes) ≡ Some bytes }
+    ensures upper { (bytes : List ℕ) → IsBytes bytes → bytes ≢ [] → bytes_of (encode_upper bytes) ≡ Some bytes }
+{}
+
+/// The test by which `canon` answers `unfit` is that of the format.
+pub fn fitting()
+    ensures { (attributes : List Attribute) → IsTrue (list_fits attributes) ↔ ListFits attributes }
+{}
+
+/// No answer is want of memory: none of the faults that `check`, `canon` and `same` write is.
+pub fn no_memory()
+    ensures check { (s : List ℕ) → verdict (reading bytes_peer s) ≢ Err memory_fault }
+    ensures canon { (s : List ℕ) → reading bytes_peer s ≢ Err memory_fault }
+    ensures same { (a b : List ℕ) → same_answer (reading bytes_peer a) (reading bytes_peer b) (alike_strings bytes_peer a b) ≢ Err memory_fault }
+{
+    linkinfo::laws::no_memory::<Bytes>();
+}

@@ -1,0 +1,89 @@
+//! One run of the program: it reads all input, builds the whole answer, and then writes it.
+
+ghost use Rattle.std.specs.Prelude.{◌≡◌, ◌⊎◌, ℕ, List, Err, IfOk, IfErr, OnOk};
+ghost use Rattle.std.specs.Io.KnownBytes.{Appends, Keeps};
+ghost use Rattle.linkinfo_lines.specs.Answers.{answer_of};
+ghost use Rattle.linkinfo_lines.specs.Streams.{AppendsBeginning, GivesAll};
+
+use crate::answers::answer;
+use nla_frame::ExactEq;
+use std::alloc::Global;
+use std::io::{Read, Write};
+use thiserror::Error;
+
+/// Why a run ended without its whole answer.
+#[derive(Clone, Debug, Drop, PartialEq, Eq, Error)]
+pub enum RunError {
+    /// A read failed, or `MOST_READS` reads did not meet the end. Nothing was written.
+    #[error("read")]
+    Read,
+    /// A write failed, or took no byte. A beginning of the answer was written.
+    #[error("write")]
+    Write,
+    /// An allocation was refused. Nothing was written.
+    #[error("memory")]
+    Memory,
+}
+
+impl ExactEq for RunError {
+    ghost use Rattle.std.proofs.Common.{rules};
+
+    ghost exact = { Prim.search rules };
+}
+
+/// The most reads that one run makes.
+pub const MOST_READS: u32 = 16_777_216;
+
+/// The most bytes that one read asks for.
+const READ_LEN: usize = 65_536;
+
+/// Reads all of the input, and then writes the answer to it. Any error of the reader or the writer ends the run.
+pub fn run<R: Read, W: Write>(alloc: Global, reader: &mut R, writer: &mut W) -> Result<(), RunError>
+    ensures answered { OnOk result ((input : List ℕ)
+        × GivesAll (R.remaining reader.old) (R.remaining reader.new) input
+        × Appends (W.contents writer.old) (W.contents writer.new) (answer_of input)) }
+    ensures read { result ≡ Err RunError.Read → Keeps (W.contents writer.old) (W.contents writer.new) }
+    ensures memory { result ≡ Err RunError.Memory → Keeps (W.contents writer.old) (W.contents writer.new) }
+    ensures write { result ≡ Err RunError.Write → (input : List ℕ)
+        × GivesAll (R.remaining reader.old) (R.remaining reader.new) input
+        × AppendsBeginning (W.contents writer.old) (W.contents writer.new) (answer_of input) }
+{
+    let input = read_input(alloc, reader)?;
+    let text = answer(alloc, &input).map_err(|_| RunError::Memory)?;
+    write_output(writer, &text)
+}
+
+/// All that the reader gives, in at most `MOST_READS` reads.
+fn read_input<R: Read>(alloc: Global, reader: &mut R) -> Result<Vec<u8>, RunError>
+    ensures all { IfOk result (λ input. GivesAll (R.remaining reader.old) (R.remaining reader.new) input.items) }
+    ensures err { IfErr result (λ e. (e ≡ RunError.Read) ⊎ (e ≡ RunError.Memory)) }
+{
+    let mut input = Vec::new(alloc);
+    let mut buffer = [0u8; READ_LEN];
+    for _ in 0..MOST_READS {
+        let n = reader.read(&mut buffer).map_err(|_| RunError::Read)?;
+        if n == 0 {
+            return Ok(input);
+        }
+        input
+            .extend_from_slice(&buffer[..n])
+            .map_err(|_| RunError::Memory)?;
+    }
+    Err(RunError::Read)
+}
+
+/// Writes all of the bytes. Any error of the writer ends it, and so does a write that takes no byte.
+fn write_output<W: Write>(writer: &mut W, bytes: &[u8]) -> Result<(), RunError>
+    ensures ok { OnOk result (Appends (W.contents writer.old) (W.contents writer.new) bytes.now) }
+    ensures err { IfErr result (λ e. (e ≡ RunError.Write)
+        × AppendsBeginning (W.contents writer.old) (W.contents writer.new) bytes.now) }
+{
+    let mut rest = bytes;
+    while !rest.is_empty() {
+        match writer.write(rest) {
+            Ok(0) | Err(_) => return Err(RunError::Write),
+            Ok(n) => rest = &rest[n..],
+        }
+    }
+    Ok(())
+}

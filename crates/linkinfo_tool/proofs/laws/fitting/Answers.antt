@@ -1,5 +1,0 @@
-use Rattle.linkinfo_tool.proofs.Fits.{list_fits_decides}
-use Rattle.linkinfo_tool.proofs.laws.fitting.Goals as goal
-
-pub returns : goal.returns
-returns c attributes = let decides = list_fits_decides attributes in (decides.0, decides.1)

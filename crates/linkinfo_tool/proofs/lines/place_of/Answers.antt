@@ -1,5 +1,0 @@
-use Rattle.linkinfo_tool.proofs.Places.{place_is}
-use Rattle.linkinfo_tool.proofs.lines.place_of.Goals as goal
-
-pub returns : goal.returns
-returns c = place_is _ _ _ c.memchr.ensures
