@@ -73,16 +73,18 @@ pub use nla_frame::{
 
 // For who writes a family of attributes, the peer of veth, vxcan and netkit links, or a flag set, of one's own. Every peer has `DataFamilies` and every
 // family `ListedFamily`: they are there for contracts alone, as `PlainFamilies` and `Plain` are.
-pub use linkinfo_data::{DataFamilies, Plain, PlainFamilies, fitting};
+pub use linkinfo_data::{DataFamilies, Plain, PlainFamilies};
 pub use linkinfo_numbers::{KeepsEveryBit, bits_again};
 pub use linkinfo_peers::BitPeer;
 pub use linkinfo_table::{
     Datum, FlatFamily, Found, LinkFamily, LinkPeer, ListedFamily, Lookup, Part, PeerFault, Place,
     RowFamily, Rowless, Shape, TableFamily, UnnestedFamily, WrittenByTable, datum_len, first_check,
     first_read, first_same, list_check, list_read, list_same, part_by_rows, parts, put_by_rows,
-    read_datum, row_check, row_emit_value, row_fit_len, row_kind, row_put, row_read, row_same,
-    row_value_len, rowless, shape_check, shape_same, table_lookup, table_shape, write_datum,
+    read_datum, row_check, row_emit_payload, row_emit_value, row_fit_len, row_kind, row_put,
+    row_read, row_same, row_value_len, rowless, shape_check, shape_same, table_lookup, table_shape,
+    write_datum,
 };
+pub use nla_frame::fitting;
 
 // What follows from the contracts, by layer: functions without code, each there for its contract. Those of the list are `laws`.
 pub use linkinfo_data::laws as data_laws;

@@ -1,10 +1,10 @@
 //! Attributes of the list inside `IFLA_LINKINFO`, include/uapi/linux/if_link.h.
 
 use crate::xstats::LinkXstats;
-use linkinfo_data::{DataFamilies, InfoDataOf, InfoPortData, fitting};
+use linkinfo_data::{DataFamilies, InfoDataOf, InfoPortData};
 use linkinfo_numbers::{InfoKind, InfoPortKind};
 use linkinfo_table::LinkPeer;
-use nla_frame::{Bytes, DefaultNla, Emitable, ExactEq, Nla};
+use nla_frame::{Bytes, DefaultNla, Emitable, ExactEq, Nla, fitting};
 
 /// `IFLA_INFO_XSTATS`.
 const IFLA_INFO_XSTATS: u16 = 3;

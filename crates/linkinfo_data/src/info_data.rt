@@ -6,7 +6,6 @@ ghost use Rattle.linkinfo_data.specs.Data.{data_of, family_of};
 
 use crate::data::family_of;
 use crate::families::DataFamilies;
-use crate::fits::fitting;
 use crate::payload_family::PayloadFamily;
 use crate::written::{list_fit_len, one_fit_len, put_bytes, put_list, put_one};
 use linkinfo_devices::{
@@ -22,7 +21,7 @@ use linkinfo_table::LinkPeer;
 use linkinfo_tunnels::{
     InfoAmt, InfoBareUdp, InfoGeneve, InfoGre, InfoGre6, InfoGtp, InfoIpTunnel, InfoVti, InfoVxlan,
 };
-use nla_frame::{Bytes, DecodeError, ExactEq, HeaderCount, Nla, Nlas};
+use nla_frame::{Bytes, DecodeError, ExactEq, HeaderCount, Nla, Nlas, fitting};
 use std::alloc::Global;
 
 /// `IFLA_INFO_DATA`.

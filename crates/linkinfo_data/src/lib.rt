@@ -4,7 +4,6 @@
 mod data;
 mod devices;
 mod families;
-mod fits;
 mod info_data;
 pub mod laws;
 mod lower;
@@ -17,7 +16,6 @@ mod written;
 pub use data::{DataFamily, family_of};
 pub use devices::DeviceFamily;
 pub use families::{DataFamilies, Plain, PlainFamilies};
-pub use fits::fitting;
 pub use info_data::{InfoData, InfoDataOf};
 pub use lower::LowerFamily;
 pub use payload_family::PayloadFamily;

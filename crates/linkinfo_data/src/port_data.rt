@@ -5,7 +5,6 @@ ghost use Rattle.nla_frame.specs.Answers.{CertainUnless, Gives};
 ghost use Rattle.linkinfo_numbers.specs.PortKind.{tag_of_port_kind};
 ghost use Rattle.linkinfo_data.specs.PortData.{port_data_of, port_family_of};
 
-use crate::fits::fitting;
 use crate::payload_family::PayloadFamily;
 use crate::written::{list_fit_len, put_bytes, put_list, read_nlas};
 use linkinfo_devices::InfoVrfPort;
@@ -13,7 +12,7 @@ use linkinfo_lower::{InfoBondPort, InfoBridgePort};
 use linkinfo_numbers::{InfoPortKind, PortTag};
 use linkinfo_peers::InfoTeamPort;
 use linkinfo_table::{list_check, list_same};
-use nla_frame::{Bytes, DecodeError, ExactEq, HeaderCount, Nla, Nlas};
+use nla_frame::{Bytes, DecodeError, ExactEq, HeaderCount, Nla, Nlas, fitting};
 use std::alloc::Global;
 
 /// `IFLA_INFO_SLAVE_DATA`.

@@ -6,10 +6,10 @@ ghost use Rattle.nla_frame.specs.Attribute.{canonical_string, list_string};
 ghost use Rattle.nla_frame.specs.Pieces.{pieces};
 ghost use Rattle.linkinfo_table.specs.Lists.{headers_of, memory_of, values};
 
-use crate::fits::fitting;
 use linkinfo_table::{LinkFamily, list_read};
 use nla_frame::{
-    Bytes, DecodeError, HeaderCount, Nla, Nlas, nlas_fit_len, put_attribute, put_attributes,
+    Bytes, DecodeError, HeaderCount, Nla, Nlas, fitting, nlas_fit_len, put_attribute,
+    put_attributes,
 };
 use std::alloc::Global;
 

@@ -1,2 +1,1 @@
 pub mod NestedAnswers
-pub mod NestedEmitting

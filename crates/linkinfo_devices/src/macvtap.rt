@@ -11,7 +11,9 @@ ghost use Rattle.std.specs.Prelude.{◌≡◌, true, IsOk, OnOk, refl};
 
 use crate::mac_rows::mac_rows;
 use crate::nested_calls::{nested_check, nested_parse, nested_read, nested_same};
-use crate::nested_emission::{nested_emit_value, nested_fit_len, nested_kind, nested_value_len};
+use crate::nested_emission::{
+    nested_emit_payload, nested_emit_value, nested_fit_len, nested_kind, nested_value_len,
+};
 use crate::nested_family::{NestedFamily, nested_shape};
 use bitflags::Flags;
 use linkinfo_numbers::{MacVlanFlags, MacVlanMacAddressMode, MacVlanMode};
@@ -83,6 +85,7 @@ impl RowFamily for InfoMacVtap {
     ghost keeps_other = { λ d. mac_vtap_keep.other d };
 
     #[tactic(auto, using(crate::specs::MacVtap::mac_vtap_lookup))]
+    #[inline(always)]
     fn shape(lists: u8, kind: u16) -> Lookup {
         nested_shape(Family::MacVtap, lists, kind)
     }
@@ -148,6 +151,10 @@ impl Nla for InfoMacVtap {
         nested_emit_value(self, buffer);
     }
 
+    fn emit_payload(&self, buffer: &mut [u8]) -> usize {
+        nested_emit_payload(self, buffer)
+    }
+
     fn fit_len(&self) -> Option<usize> {
         nested_fit_len(self)
     }
@@ -191,6 +198,7 @@ impl LinkFamily for InfoMacVtap {
 
     ghost well_attribute = { λ c x. flat_well_attribute family.MacVtap (λ d. macvtap.Other d) mac_vtap_attribute (mac_vtap_rows c) (mac_vtap_owes c) mac_vtap_keep.other mac_vtap_attribute (λ _. refl) x };
 
+    #[inline(always)]
     fn shape(lists: u8, kind: u16) -> Lookup {
         <InfoMacVtap as RowFamily>::shape(lists, kind)
     }

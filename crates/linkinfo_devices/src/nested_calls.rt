@@ -80,6 +80,7 @@ pub fn nested_parse<F: NestedFamily>(alloc: Global, nla: &NlaBuffer<'_>) -> Resu
 
 /// Whether `nested_read` would succeed, or the attribute's fault. Takes no memory.
 #[cycle(nested_check)]
+#[inline(always)]
 pub fn nested_check<F: NestedFamily>(
     nla: &NlaBuffer<'_>,
     lists: u8,
@@ -123,6 +124,7 @@ fn nested_list_check<F: NestedFamily>(
 
 /// Whether two attributes mean the same value. Asks that both are accepted, and takes no memory.
 #[cycle(nested_same)]
+#[inline(always)]
 pub fn nested_same<F: NestedFamily>(
     a: &NlaBuffer<'_>,
     b: &NlaBuffer<'_>,

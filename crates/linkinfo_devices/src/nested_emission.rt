@@ -5,11 +5,8 @@ ghost use Rattle.std.specs.Prelude.{◌≡◌, ◌≤◌, ◌++◌, SomeIff, dro
 ghost use Rattle.nla_frame.specs.Attribute.{Fits, buffer_len_of, canonical_string, list_string};
 
 use crate::nested_family::{LIST_TYPE, NestedFamily};
-use linkinfo_table::{row_emit_value, row_fit_len, row_kind, row_value_len};
-use nla_frame::put_frame;
-
-/// The most bytes of a payload: those that a 16-bit length field counts beside the four header bytes.
-const LONGEST_PAYLOAD: usize = 65531;
+use linkinfo_table::{row_emit_payload, row_fit_len, row_kind};
+use nla_frame::{fitting, put_frame};
 
 /// The length of a value's payload where it fits, and else `None`.
 #[cycle(nested_fit_len)]
@@ -30,10 +27,7 @@ fn nested_list_fit_len<F: NestedFamily>(items: &[F]) -> Option<usize>
     let mut total: usize = 0;
     for item in items {
         let len = nested_fit_len(item)?;
-        total += 4 + len.next_multiple_of(4);
-        if total > LONGEST_PAYLOAD {
-            return None;
-        }
+        total = fitting(total + 4 + len.next_multiple_of(4))?;
     }
     Some(total)
 }
@@ -65,12 +59,12 @@ pub fn nested_emit_value<F: NestedFamily>(value: &F, buffer: &mut [u8])
     requires exact { length buffer.old ≡ length (F.canonical value.now).value }
     ensures { buffer.new ≡ (F.canonical value.now).value }
 {
-    emit_payload(value, buffer);
+    nested_emit_payload(value, buffer);
 }
 
 /// Writes a value's payload at the front of the buffer, leaves the bytes behind it, and answers how many it wrote.
 #[cycle(nested_emit)]
-fn emit_payload<F: NestedFamily>(value: &F, buffer: &mut [u8]) -> usize
+pub fn nested_emit_payload<F: NestedFamily>(value: &F, buffer: &mut [u8]) -> usize
     requires fits { Fits (F.canonical value.now) }
     requires room { length (F.canonical value.now).value ≤ length buffer.old }
     ensures taken { result ≡ length (F.canonical value.now).value }
@@ -78,11 +72,7 @@ fn emit_payload<F: NestedFamily>(value: &F, buffer: &mut [u8]) -> usize
 {
     match value.list() {
         Some(list) => emit_list(list.as_slice(), buffer),
-        None => {
-            let len = row_value_len(value);
-            row_emit_value(value, &mut buffer[..len]);
-            len
-        }
+        None => row_emit_payload(value, buffer),
     }
 }
 
@@ -109,7 +99,7 @@ fn emit_attribute<F: NestedFamily>(value: &F, buffer: &mut [u8]) -> usize
     ensures taken { result ≡ buffer_len_of (F.canonical value.now) }
     ensures written { buffer.new ≡ canonical_string (F.canonical value.now) ++ drop (buffer_len_of (F.canonical value.now)) buffer.old }
 {
-    let len = emit_payload(value, &mut buffer[4..]);
+    let len = nested_emit_payload(value, &mut buffer[4..]);
     put_frame(buffer, nested_kind(value), len);
     4 + len.next_multiple_of(4)
 }

@@ -45,6 +45,7 @@ pub trait NestedFamily: RowFamily<Context = u8> {
 
 /// What such a family says of a masked type inside `lists` lists: what the table of all families does, but that a list inside 128 others
 /// is refused.
+#[inline(always)]
 pub fn nested_shape(family: Family, lists: u8, kind: u16) -> Lookup
     ensures { result ≡ nested_lookup lists kind (lookup_in (shape_of family kind)) }
 {

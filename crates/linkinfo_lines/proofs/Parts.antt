@@ -1,8 +1,12 @@
 -- The first part of a list that is cut at a byte, and the first line of a text.
-use Rattle.std.proofs.Common.{◌≡◌, ℕ, ◌+◌, ◌<◌, ◌≤◌, Bool, true, false, cond, not, eqb, ltb, List, [], ◌∷◌, length, take, drop, Some, None, refl, sym, ap, ◌∙◌, subst, arith}
+use Rattle.std.proofs.Common.{◌≡◌, ℕ, ◌+◌, ◌<◌, ◌≤◌, Bool, true, false, cond, not, eqb, ltb, List, [], ◌∷◌, ◌++◌, length, take, drop, Some, None, refl, sym, ap, ◌∙◌, subst, arith, append-nil, append_assoc, length-append, take-append-drop}
 use Rattle.std.specs.List.{slice_split, onto_first, position, position_or_len}
 use Rattle.std.proofs.lemmas.Bool.Decides.{nat_tests}
 use Rattle.std.proofs.lemmas.List.Splits.{slice_split_first, length-slice_split}
+use Rattle.std.proofs.lemmas.List.{take_more}
+use Rattle.std.proofs.lemmas.List.Concat.{flat_map-append}
+use Rattle.std.specs.Prelude.{flat_map, slice_index}
+use Rattle.linkinfo_lines.specs.Answers.{Answered, answer_of, line_answer}
 use Rattle.linkinfo_lines.specs.Lines.{lines_of, without_empty_last}
 
 -- a list where no element passes is one part
@@ -45,3 +49,73 @@ lines_of-last text line h e same = ap without_empty_last e ∙ last_kept line (s
   where
     last_kept : (part : List ℕ) → 0 < length part → without_empty_last (part ∷ []) ≡ part ∷ []
     last_kept part h = grind (arith, nat_tests)
+
+-- ---- a text that ends with a line feed
+
+onto_first-in_front : (x : ℕ) (parts more : List (List ℕ)) → 0 < length parts → onto_first x (parts ++ more) ≡ onto_first x parts ++ more
+onto_first-in_front x [] more h = absurd (omega arith)
+onto_first-in_front x (part ∷ parts) more h = refl
+
+split_behind_line_feed : (text more : List ℕ) → slice_split (λ b. eqb b 10) (text ++ 10 ∷ more) ≡ slice_split (λ b. eqb b 10) text ++ slice_split (λ b. eqb b 10) more
+split_behind_line_feed [] more = refl
+split_behind_line_feed (x ∷ text) more =
+    let p = λ (b : ℕ). eqb b 10 in
+    let later = split_behind_line_feed text more in
+    elim (p x) as (λ b. cond b ([] ∷ slice_split p (text ++ 10 ∷ more)) (onto_first x (slice_split p (text ++ 10 ∷ more)))
+    ≡ cond b ([] ∷ slice_split p text) (onto_first x (slice_split p text)) ++ slice_split p more) [
+      | true ↦ ap (λ (parts : List (List ℕ)). [] ∷ parts) later
+      | false ↦ ap (onto_first x) later ∙ onto_first-in_front x (slice_split p text) (slice_split p more) (let n = length-slice_split p text in omega (arith, n))
+    ]
+
+all_kept_in_front : (parts more : List (List ℕ)) → 0 < length more → without_empty_last (parts ++ more) ≡ parts ++ without_empty_last more
+all_kept_in_front [] more h = refl
+all_kept_in_front (part ∷ parts) more h =
+    kept_in_front part (parts ++ more) (simp length-append (omega arith)) ∙ ap (λ (l : List (List ℕ)). part ∷ l) (all_kept_in_front parts more h)
+
+lines_of-behind : (text more : List ℕ) → lines_of (text ++ 10 ∷ more) ≡ slice_split (λ b. eqb b 10) text ++ lines_of more
+lines_of-behind text more =
+    let p = λ (b : ℕ). eqb b 10 in
+    ap without_empty_last (split_behind_line_feed text more) ∙ all_kept_in_front (slice_split p text) (slice_split p more) (let n = length-slice_split p more in omega (arith, n))
+
+-- the answers to a text whose last line has ended come before those to what follows
+pub answer_of-ended : (text more : List ℕ) → answer_of ((text ++ 10 ∷ []) ++ more) ≡ answer_of (text ++ 10 ∷ []) ++ answer_of more
+answer_of-ended text more =
+    let p = λ (b : ℕ). eqb b 10 in
+    let ended : lines_of (text ++ 10 ∷ []) ≡ slice_split p text = lines_of-behind text [] ∙ append-nil (slice_split p text) in
+    ap answer_of (append_assoc text (10 ∷ []) more)
+    ∙ ap (flat_map line_answer) (lines_of-behind text more ∙ ap (λ (l : List (List ℕ)). l ++ lines_of more) (sym ended))
+    ∙ flat_map-append line_answer (lines_of (text ++ 10 ∷ [])) (lines_of more)
+
+-- what was read is answered but for a line that has not ended
+
+pub answered_whole : (input text line : List ℕ) → Answered input text line → text ++ answer_of line ≡ answer_of input
+answered_whole input text line h =
+    ap (λ (l : List ℕ). text ++ answer_of l) (sym (append-nil line)) ∙ sym (h []) ∙ ap answer_of (append-nil input)
+
+pub answered_on : (input text line part : List ℕ) → Answered input text line → Answered (input ++ part) text (line ++ part)
+answered_on input text line part h = λ more.
+    ap answer_of (append_assoc input part more) ∙ h (part ++ more) ∙ ap (λ (l : List ℕ). text ++ answer_of l) (sym (append_assoc line part more))
+
+pub answered_ended : (input text line part text_behind line_behind : List ℕ) (end : ℕ) → end < length part → eqb (slice_index part end) 10 ≡ true →
+    text_behind ≡ text ++ answer_of (line ++ take (end + 1) part) → line_behind ≡ drop (end + 1) part →
+    Answered input text line → Answered (input ++ part) text_behind line_behind
+answered_ended input text line part text_behind line_behind end inside feed texts lines h = λ more.
+    let front = take (end + 1) part in
+    let rest = drop (end + 1) part ++ more in
+    let whole : line ++ front ≡ (line ++ take end part) ++ 10 ∷ [] =
+    ap (λ (l : List ℕ). line ++ l) (take_more part end 0 inside ∙ ap (λ (b : ℕ). take end part ++ b ∷ []) (is_ten (slice_index part end) feed))
+    ∙ sym (append_assoc line (take end part) (10 ∷ [])) in
+    let apart : line ++ (part ++ more) ≡ (line ++ front) ++ rest =
+    ap (λ (l : List ℕ). line ++ (l ++ more)) (sym (take-append-drop (end + 1) part))
+    ∙ ap (λ (l : List ℕ). line ++ l) (append_assoc front (drop (end + 1) part) more)
+    ∙ sym (append_assoc line front rest) in
+    ap answer_of (append_assoc input part more)
+    ∙ h (part ++ more)
+    ∙ ap (λ (l : List ℕ). text ++ answer_of l) apart
+    ∙ ap (λ (l : List ℕ). text ++ l)
+    (ap (λ (l : List ℕ). answer_of (l ++ rest)) whole ∙ answer_of-ended (line ++ take end part) rest ∙ ap (λ (l : List ℕ). answer_of l ++ answer_of rest) (sym whole))
+    ∙ sym (append_assoc text (answer_of (line ++ front)) (answer_of rest))
+    ∙ (λ i. sym texts i ++ answer_of (sym lines i ++ more))
+  where
+    is_ten : (b : ℕ) → eqb b 10 ≡ true → b ≡ 10
+    is_ten b e = grind (arith, nat_tests)

@@ -1,5 +1,5 @@
 -- What the program answers.
-use Rattle.std.specs.Prelude.{ℕ, ◌==◌, ◌^◌, ◌&&◌, nat_le, nat_lt, Bool, true, false, if◌then◌else◌, List, [], ◌∷◌, ◌++◌, length, map, flat_map, codes, bytes_eq, Option, Some, None, Result, Ok, Err}
+use Rattle.std.specs.Prelude.{◌≡◌, ℕ, ◌==◌, ◌^◌, ◌&&◌, nat_le, nat_lt, Bool, true, false, if◌then◌else◌, List, [], ◌∷◌, ◌++◌, length, map, flat_map, codes, bytes_eq, Option, Some, None, Result, Ok, Err}
 use Rattle.std.specs.List.{list_all}
 use Rattle.std.specs.Result.{result_ok}
 use Rattle.hex.specs.Hex.{decode_of, encode_lower}
@@ -101,3 +101,7 @@ line_answer line = words_answer (words_of line) ++ 10 ∷ []
 -- the answer to an input: those to its lines, one after another
 abbrev pub answer_of : List ℕ → List ℕ
 answer_of input = flat_map line_answer (lines_of input)
+
+-- a text has answers to the input so far, and a line what it leaves unanswered: whatever follows, its answers are the text and then those to the line and what follows
+abbrev pub Answered : List ℕ → List ℕ → List ℕ → Type 0
+Answered input text line = (more : List ℕ) → answer_of (input ++ more) ≡ text ++ answer_of (line ++ more)

@@ -1,9 +1,9 @@
 //! The answers to the lines of an input.
 
-ghost use Rattle.std.specs.Prelude.{◌≡◌, ◌≢◌, ◌++◌, [], ◌∷◌, if◌then◌else◌, Some, None, IfOk, OnOk};
+ghost use Rattle.std.specs.Prelude.{◌≡◌, ◌≢◌, ◌++◌, ℕ, List, [], ◌∷◌, if◌then◌else◌, Some, None, IfOk, OnOk};
 ghost use Rattle.hex.specs.Hex.{encode_lower};
 ghost use Rattle.nla_frame.specs.Error.{memory_fault};
-ghost use Rattle.linkinfo_lines.specs.Answers.{answer_of, bad_line, bytes_of, canon_answer, check_answer, comparison_answer, fault_text, line_answer, on_two, words_answer};
+ghost use Rattle.linkinfo_lines.specs.Answers.{Answered, answer_of, bad_line, bytes_of, canon_answer, check_answer, comparison_answer, fault_text, line_answer, on_two, words_answer};
 ghost use Rattle.linkinfo_lines.specs.Lines.{words_of};
 
 use crate::lines::{cut, first_line};
@@ -11,18 +11,48 @@ use linkinfo::{CanonError, Cause, DecodeError};
 use std::alloc::{AllocError, Global};
 use std::io::Write;
 
-/// The answers to all lines of an input, each with its line feed. It fails only where memory runs out.
-pub fn answer(alloc: Global, input: &[u8]) -> Result<Vec<u8>, AllocError>
-    ensures { IfOk result (λ text. text.items ≡ answer_of input.now) }
-{
-    let mut answers = Answers::new(alloc);
-    let mut rest = input;
-    while !rest.is_empty() {
-        let (line, more) = first_line(rest);
-        answers.push_line(line)?;
-        rest = more;
+/// The answers to an input that comes in parts. Lines are answered once they have ended, so that of the input only the line is kept that has not.
+#[derive(Drop)]
+pub struct InputAnswers {
+    answers: Answers,
+    /// The line that has not ended yet.
+    line: Vec<u8>,
+}
+
+impl InputAnswers {
+    /// Before the first part.
+    pub fn new(alloc: Global) -> InputAnswers
+        ensures { Answered [] result.answers.text.items result.line.items }
+    {
+        InputAnswers {
+            answers: Answers::new(alloc),
+            line: Vec::new(alloc),
+        }
     }
-    Ok(answers.text)
+
+    /// Takes the next part of the input. It fails only where memory runs out.
+    #[tactic(auto, using(crate::proofs::Parts::answered_on))]
+    pub fn push(&mut self, part: &[u8]) -> Result<(), AllocError>
+        ensures { OnOk result ((input : List ℕ) → Answered input self.old.answers.text.items self.old.line.items
+            → Answered (input ++ part.now) self.new.answers.text.items self.new.line.items) }
+    {
+        let Some(end) = memchr::memrchr(b'\n', part) else {
+            return self.line.extend_from_slice(part);
+        };
+        self.line.extend_from_slice(&part[..end + 1])?;
+        self.answers.push_lines(&self.line)?;
+        self.line.clear();
+        self.line.extend_from_slice(&part[end + 1..])
+    }
+
+    /// The answers to all of the input. It fails only where memory runs out.
+    #[tactic(auto, using(crate::proofs::Parts::answered_whole))]
+    pub fn finish(mut self) -> Result<Vec<u8>, AllocError>
+        ensures { IfOk result (λ text. (input : List ℕ) → Answered input self.answers.text.items self.line.items → text.items ≡ answer_of input) }
+    {
+        self.answers.push_lines(&self.line)?;
+        Ok(self.answers.text)
+    }
 }
 
 /// The answers so far, and buffers that each line uses again.
@@ -47,6 +77,19 @@ impl Answers {
             bytes: Vec::new(alloc),
             second: Vec::new(alloc),
         }
+    }
+
+    /// Adds the answers to all lines of a text, each with its line feed.
+    fn push_lines(&mut self, text: &[u8]) -> Result<(), AllocError>
+        ensures { OnOk result (self.new.text.items ≡ self.old.text.items ++ answer_of text.now) }
+    {
+        let mut rest = text;
+        while !rest.is_empty() {
+            let (line, more) = first_line(rest);
+            self.push_line(line)?;
+            rest = more;
+        }
+        Ok(())
     }
 
     /// Adds the answer to a line, with its line feed.

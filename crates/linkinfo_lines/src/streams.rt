@@ -1,11 +1,11 @@
-//! One run of the program: it reads all input, builds the whole answer, and then writes it.
+//! One run of the program: it reads all input, answers each line once it has ended, and writes the answers when the end of input is met.
 
 ghost use Rattle.std.specs.Prelude.{◌≡◌, ◌⊎◌, ℕ, List, Err, IfOk, IfErr, OnOk};
 ghost use Rattle.std.specs.Io.KnownBytes.{Appends, Keeps};
 ghost use Rattle.linkinfo_lines.specs.Answers.{answer_of};
 ghost use Rattle.linkinfo_lines.specs.Streams.{AppendsBeginning, GivesAll};
 
-use crate::answers::answer;
+use crate::answers::InputAnswers;
 use nla_frame::ExactEq;
 use std::alloc::Global;
 use std::io::{Read, Write};
@@ -48,26 +48,26 @@ pub fn run<R: Read, W: Write>(alloc: Global, reader: &mut R, writer: &mut W) -> 
         × GivesAll (R.remaining reader.old) (R.remaining reader.new) input
         × AppendsBeginning (W.contents writer.old) (W.contents writer.new) (answer_of input) }
 {
-    let input = read_input(alloc, reader)?;
-    let text = answer(alloc, &input).map_err(|_| RunError::Memory)?;
+    let text = answer_input(alloc, reader)?;
     write_output(writer, &text)
 }
 
-/// All that the reader gives, in at most `MOST_READS` reads.
-fn read_input<R: Read>(alloc: Global, reader: &mut R) -> Result<Vec<u8>, RunError>
-    ensures all { IfOk result (λ input. GivesAll (R.remaining reader.old) (R.remaining reader.new) input.items) }
+/// The answers to all that the reader gives, in at most `MOST_READS` reads.
+fn answer_input<R: Read>(alloc: Global, reader: &mut R) -> Result<Vec<u8>, RunError>
+    ensures all { IfOk result (λ text. (input : List ℕ)
+        × GivesAll (R.remaining reader.old) (R.remaining reader.new) input
+        × (text.items ≡ answer_of input)) }
     ensures err { IfErr result (λ e. (e ≡ RunError.Read) ⊎ (e ≡ RunError.Memory)) }
 {
-    let mut input = Vec::new(alloc);
+    let mut answers = InputAnswers::new(alloc);
     let mut buffer = [0u8; READ_LEN];
     for _ in 0..MOST_READS {
         let n = reader.read(&mut buffer).map_err(|_| RunError::Read)?;
         if n == 0 {
-            return Ok(input);
+            let text = answers.finish().map_err(|_| RunError::Memory)?;
+            return Ok(text);
         }
-        input
-            .extend_from_slice(&buffer[..n])
-            .map_err(|_| RunError::Memory)?;
+        answers.push(&buffer[..n]).map_err(|_| RunError::Memory)?;
     }
     Err(RunError::Read)
 }

@@ -9,7 +9,8 @@ ghost use Rattle.nla_frame.specs.declared.error.Family.TheVariants as family;
 ghost use Rattle.std.specs.Prelude.{◌≡◌, refl};
 
 use crate::peer_calls::{
-    peer_check, peer_emit_value, peer_fit_len, peer_kind, peer_read, peer_same, peer_value_len,
+    peer_check, peer_emit_payload, peer_emit_value, peer_fit_len, peer_kind, peer_read, peer_same,
+    peer_value_len,
 };
 use crate::peer_family::PeerFamily;
 use linkinfo_numbers::{NetkitMode, NetkitPolicy, NetkitScrub};
@@ -84,6 +85,7 @@ impl<P: LinkPeer> RowFamily for InfoNetkitOf<P> {
     ghost keeps_other = { λ _. refl };
 
     #[tactic(auto, using(crate::specs::PeerRows::peer_lookup))]
+    #[inline(always)]
     fn shape(_ctx: (), kind: u16) -> Lookup {
         table_lookup(Family::Netkit, kind)
     }
@@ -155,6 +157,10 @@ impl<P: LinkPeer> Nla for InfoNetkitOf<P> {
 
     fn emit_value(&self, buffer: &mut [u8]) {
         peer_emit_value(self, buffer);
+    }
+
+    fn emit_payload(&self, buffer: &mut [u8]) -> usize {
+        peer_emit_payload(self, buffer)
     }
 
     fn fit_len(&self) -> Option<usize> {

@@ -1,6 +1,6 @@
 //! What each family with a peer does: the calls of families by rows, but for attributes of type 1.
 
-ghost use Rattle.std.specs.Prelude.{◌≡◌, ◌==◌, ◌&&◌, IsOk, IsSome, SomeIff, length};
+ghost use Rattle.std.specs.Prelude.{◌≡◌, ◌==◌, ◌&&◌, ◌≤◌, ◌++◌, IsOk, IsSome, SomeIff, drop, length};
 ghost use Rattle.nla_frame.specs.Answers.{CertainUnless, Gives, verdict};
 ghost use Rattle.nla_frame.specs.Attribute.{Fits, masked};
 ghost use Rattle.nla_frame.specs.Error.{memory_fault};
@@ -11,7 +11,8 @@ ghost use Rattle.linkinfo_peers.specs.PeerRows.{peer_meaning};
 
 use crate::peer_family::PeerFamily;
 use linkinfo_table::{
-    LinkPeer, PeerFault, row_check, row_emit_value, row_fit_len, row_kind, row_read, row_same,
+    LinkPeer, PeerFault, row_check, row_emit_payload, row_emit_value, row_fit_len, row_kind,
+    row_read, row_same,
 };
 use nla_frame::{Cause, DecodeError, Family, NlaBuffer};
 use std::alloc::Global;
@@ -148,5 +149,23 @@ pub fn peer_emit_value<F: PeerFamily>(value: &F, buffer: &mut [u8])
     match value.peer() {
         Some(peer) => peer.emit(buffer),
         None => row_emit_value(value, buffer),
+    }
+}
+
+/// Writes a value's payload at the front of the buffer, leaves the bytes behind it, and answers how many it wrote. Asks that the value fits, and for a
+/// buffer of at least the payload's length.
+pub fn peer_emit_payload<F: PeerFamily>(value: &F, buffer: &mut [u8]) -> usize
+    requires fits { Fits (F.canonical value.now) }
+    requires room { length (F.canonical value.now).value ≤ length buffer.old }
+    ensures taken { result ≡ length (F.canonical value.now).value }
+    ensures written { buffer.new ≡ (F.canonical value.now).value ++ drop (length (F.canonical value.now).value) buffer.old }
+{
+    match value.peer() {
+        Some(_) => {
+            let len = peer_value_len(value);
+            peer_emit_value(value, &mut buffer[..len]);
+            len
+        }
+        None => row_emit_payload(value, buffer),
     }
 }

@@ -9,10 +9,7 @@ use crate::datum::Datum;
 use crate::readers::*;
 use crate::shape::Shape;
 use crate::writers::*;
-use nla_frame::{Cause, without_nul};
-
-/// The most bytes that the length field of an attribute can count.
-const PAYLOAD_LEN_MAX: usize = 65531;
+use nla_frame::{Cause, fitting, without_nul};
 
 /// Whether the payload is accepted under the shape, or why not. Takes no memory; of a payload that is no name its length alone is looked at.
 /// Asks for a shape other than `Shape::SelfList` and `Shape::Peer`, whose payloads the family reads itself.
@@ -206,8 +203,7 @@ pub fn datum_len(shape: Shape, datum: &Datum<'_>) -> Option<usize>
     requires { Suits shape (value_of datum.now) }
     ensures { let len = length (written shape (value_of datum.now)) in SomeIff result (len ≤ 65531) len }
 {
-    let len = written_len(shape, datum);
-    (len <= PAYLOAD_LEN_MAX).then_some(len)
+    fitting(written_len(shape, datum))
 }
 
 #[tactic(auto, using(crate::specs::DataLaws::length_fixed, crate::specs::DataLaws::length_variable))]

@@ -154,11 +154,6 @@ abbrev pub SuitsFound : {F : Type 0} → (ℕ → FamilyRow F) → Found → Typ
 SuitsFound rows (found.Typed number datum) = SuitsRow (rows number) (value_of datum)
 SuitsFound rows (found.Kept nla) = Unit {0}
 
--- a value is made of what was read: the label of its row, or the attribute kept as it came
-abbrev pub IsMadeOf : {F : Type 0} → (DefaultNla → F) → (ℕ → FamilyRow F) → Found → F → Type 0
-IsMadeOf other rows (found.Typed number datum) x = IsLabelled (rows number) (value_of datum) x
-IsMadeOf other rows (found.Kept nla) x = x ≡ other nla
-
 -- what a place holds once the row's label of a datum was put there
 abbrev pub PutsLabelled : {F H : Type 0} → (F → H) → FamilyRow F → Value → H → Type 0
 PutsLabelled with (Plain shape label) value held = held ≡ with (label (unwrap shape value))

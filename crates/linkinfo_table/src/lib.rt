@@ -35,8 +35,8 @@ pub use place::Place;
 pub use row_family::{FlatFamily, RowFamily};
 pub use rowless::Rowless;
 pub use rows::{
-    row_check, row_emit_value, row_fit_len, row_kind, row_put, row_read, row_same, row_value_len,
-    table_lookup,
+    row_check, row_emit_payload, row_emit_value, row_fit_len, row_kind, row_put, row_read,
+    row_same, row_value_len, table_lookup,
 };
 pub use table_family::{TableFamily, WrittenByTable};
 pub use unnested::UnnestedFamily;

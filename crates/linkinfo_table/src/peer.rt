@@ -4,11 +4,8 @@ ghost use Rattle.std.specs.Prelude.{◌≡◌, ◌↔◌, ◌≤◌, ℕ, Bool, 
 ghost use Rattle.nla_frame.specs.Attribute.{IsBytes};
 ghost use Rattle.linkinfo_table.specs.Peers.{PeerGives};
 
-use nla_frame::{Bytes, ExactEq};
+use nla_frame::{Bytes, ExactEq, fitting};
 use std::alloc::Global;
-
-/// The most bytes that the length field of an attribute can count.
-const PAYLOAD_LEN_MAX: usize = 65531;
 
 /// Why a peer was not read.
 #[derive(Clone, Copy, Debug, PartialEq, Eq)]
@@ -109,12 +106,7 @@ impl LinkPeer for Bytes {
     }
 
     fn fit_len(&self) -> Option<usize> {
-        let len = self.len();
-        if len <= PAYLOAD_LEN_MAX {
-            Some(len)
-        } else {
-            None
-        }
+        fitting(self.len())
     }
 
     fn emit(&self, buffer: &mut [u8]) {

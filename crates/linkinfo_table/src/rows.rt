@@ -1,6 +1,6 @@
 //! What each family that is given by rows does.
 
-ghost use Rattle.std.specs.Prelude.{◌≡◌, ◌==◌, ◌&&◌, ◌≤◌, false, length, IsOk, SomeIff};
+ghost use Rattle.std.specs.Prelude.{◌≡◌, ◌==◌, ◌&&◌, ◌≤◌, ◌++◌, drop, false, length, IsOk, SomeIff};
 ghost use Rattle.std.specs.Str.{bytes_eq};
 ghost use Rattle.nla_frame.specs.Answers.{CertainUnless, Gives, verdict};
 ghost use Rattle.nla_frame.specs.Attribute.{Fits, masked};
@@ -186,6 +186,29 @@ pub fn row_emit_value<F: RowFamily>(value: &F, buffer: &mut [u8])
     match value.to_part() {
         Part::Typed(_, shape, datum) => write_datum(shape, &datum, buffer),
         Part::Kept(nla) => nla.emit_value(buffer),
+        Part::Custom => unreachable!(),
+    }
+}
+
+/// Writes a value's payload at the front of the buffer, leaves the bytes behind it, and answers how many it wrote. Asks the same, and for a buffer
+/// of at least the payload's length.
+#[inline(always)]
+pub fn row_emit_payload<F: RowFamily>(value: &F, buffer: &mut [u8]) -> usize
+    requires custom { F.is_custom value.now ≡ false }
+    requires fits { Fits (F.canonical value.now) }
+    requires room { length (F.canonical value.now).value ≤ length buffer.old }
+    ensures taken { result ≡ length (F.canonical value.now).value }
+    ensures written { buffer.new ≡ (F.canonical value.now).value ++ drop (length (F.canonical value.now).value) buffer.old }
+{
+    match value.to_part() {
+        Part::Typed(_, shape, datum) => match datum_len(shape, &datum) {
+            Some(len) => {
+                write_datum(shape, &datum, &mut buffer[..len]);
+                len
+            }
+            None => unreachable!(),
+        },
+        Part::Kept(nla) => nla.emit_payload(buffer),
         Part::Custom => unreachable!(),
     }
 }

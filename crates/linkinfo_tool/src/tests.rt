@@ -332,7 +332,7 @@ impl Read for MemoryTaker<'_> {
     }
 }
 
-/// The growth of the input that is under way is refused, or the first one of the answer.
+/// Once no memory is left, a run that needs more ends with `Memory` and has written nothing. At its first read each run needs more.
 #[test]
 fn ends_where_no_memory_is_left(rt: HostRuntime) {
     for k in [1, 5, 10, 20] {
@@ -343,8 +343,26 @@ fn ends_where_no_memory_is_left(rt: HostRuntime) {
             held: Vec::new(rt.alloc()),
         };
         let mut writer = ArrayWriter::new(128, true);
-        let ended = run(rt.alloc(), &mut reader, &mut writer);
-        assert_eq!(rt; ended, Err(RunError::Memory), "after read {k}");
-        assert!(rt; writer.as_slice().is_empty());
+        match run(rt.alloc(), &mut reader, &mut writer) {
+            Ok(()) => {
+                assert!(rt; k > 1);
+                assert_eq!(rt; writer.as_slice(), ANSWER);
+            }
+            Err(ended) => {
+                assert_eq!(rt; ended, RunError::Memory, "after read {k}");
+                assert!(rt; writer.as_slice().is_empty());
+            }
+        }
+    }
+}
+
+/// Wherever reads cut the input, its lines are answered as ever.
+#[test]
+fn answers_input_in_pieces(rt: HostRuntime) {
+    for piece in 1..INPUT.len() + 2 {
+        let mut writer = ArrayWriter::new(128, true);
+        let ended = run(rt.alloc(), &mut PieceReader::new(piece, 0), &mut writer);
+        assert_eq!(rt; ended, Ok(()));
+        assert_eq!(rt; writer.as_slice(), ANSWER, "in pieces of {piece} bytes");
     }
 }

@@ -10,8 +10,8 @@ ghost use Rattle.std.specs.Prelude.{refl};
 use bitflags::Flags;
 use linkinfo_numbers::{ErSpanDir, GreEncapFlags, GreEncapType, GreIOFlags};
 use linkinfo_table::{
-    Found, Part, Place, TableFamily, WrittenByTable, part_by_rows, put_by_rows, row_emit_value,
-    row_fit_len, row_kind, row_read, row_value_len,
+    Found, Part, Place, TableFamily, WrittenByTable, part_by_rows, put_by_rows, row_emit_payload,
+    row_emit_value, row_fit_len, row_kind, row_read, row_value_len,
 };
 use nla_frame::{DecodeError, DefaultNla, ExactEq, Family, Nla, NlaBuffer, Parseable};
 use std::alloc::{AllocError, Global};
@@ -136,6 +136,10 @@ impl Nla for InfoGre {
 
     fn emit_value(&self, buffer: &mut [u8]) {
         row_emit_value(self, buffer);
+    }
+
+    fn emit_payload(&self, buffer: &mut [u8]) -> usize {
+        row_emit_payload(self, buffer)
     }
 
     fn fit_len(&self) -> Option<usize> {

@@ -15,7 +15,8 @@ use linkinfo_numbers::{
 };
 use linkinfo_table::{
     Datum, FlatFamily, Found, Lookup, Part, Place, RowFamily, Shape, part_by_rows, parts,
-    put_by_rows, row_emit_value, row_fit_len, row_kind, row_read, row_value_len, table_lookup,
+    put_by_rows, row_emit_payload, row_emit_value, row_fit_len, row_kind, row_read, row_value_len,
+    table_lookup,
 };
 use nla_frame::{
     Cause, DecodeError, DefaultNla, ExactEq, Family, Nla, NlaBuffer, ParseableParametrized,
@@ -193,6 +194,10 @@ impl Nla for InfoIpTunnel {
 
     fn emit_value(&self, buffer: &mut [u8]) {
         row_emit_value(self, buffer);
+    }
+
+    fn emit_payload(&self, buffer: &mut [u8]) -> usize {
+        row_emit_payload(self, buffer)
     }
 
     fn fit_len(&self) -> Option<usize> {

@@ -8,8 +8,8 @@ ghost use Rattle.nla_frame.specs.declared.error.Family.TheVariants as family;
 ghost use Rattle.std.specs.Prelude.{refl};
 
 use linkinfo_table::{
-    Found, Part, Place, TableFamily, WrittenByTable, part_by_rows, put_by_rows, row_emit_value,
-    row_fit_len, row_kind, row_read, row_value_len,
+    Found, Part, Place, TableFamily, WrittenByTable, part_by_rows, put_by_rows, row_emit_payload,
+    row_emit_value, row_fit_len, row_kind, row_read, row_value_len,
 };
 use nla_frame::{DecodeError, DefaultNla, ExactEq, Family, Nla, NlaBuffer, Parseable};
 use std::alloc::{AllocError, Global};
@@ -92,6 +92,10 @@ impl Nla for InfoVti {
 
     fn emit_value(&self, buffer: &mut [u8]) {
         row_emit_value(self, buffer);
+    }
+
+    fn emit_payload(&self, buffer: &mut [u8]) -> usize {
+        row_emit_payload(self, buffer)
     }
 
     fn fit_len(&self) -> Option<usize> {

@@ -52,13 +52,6 @@ framed_at a old value len kind size same room written =
     ∙ ap (λ (n : ℕ). drop (4 + aligned n) old) size in
     (λ i. canonical_string (record { kind = same i; value = inside i }) ++ rest i)
 
-pub framed : (a : Attribute) (old value : List ℕ) (len width kind : ℕ) → len ≡ length a.value → width ≡ len → kind ≡ a.kind → buffer_len_of a ≤ length old → value ≡ a.value →
-    canonical_string (record { kind = kind; value = take len (drop 4 (put_mid 4 width old value)) }) ++ drop (4 + aligned len) (put_mid 4 width old value)
-    ≡ canonical_string a ++ drop (buffer_len_of a) old
-framed a old value len width kind size wide same room written =
-    ap (λ (w : ℕ). canonical_string (record { kind = kind; value = take len (drop 4 (put_mid 4 w old value)) }) ++ drop (4 + aligned len) (put_mid 4 w old value)) wide
-    ∙ framed_at a old value len kind size same room written
-
 -- ---- a text written at a place
 
 pub placed : (buffer : List ℕ) (at k n : ℕ) (text new : List ℕ) → k ≡ length buffer - at → new ≡ text ++ drop n (take k (drop at buffer)) →

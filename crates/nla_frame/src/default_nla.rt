@@ -5,13 +5,11 @@ ghost use Rattle.nla_frame.specs.Kept.{kept};
 
 use crate::buffer::NlaBuffer;
 use crate::bytes::Bytes;
+use crate::emission::fitting;
 use crate::error::DecodeError;
 use crate::exact_eq::ExactEq;
 use crate::traits::{Nla, Parseable};
 use std::alloc::Global;
-
-/// The longest payload that a 16-bit length field can count beside the four header bytes.
-const VALUE_LEN_MAX: usize = 65531;
 
 /// An attribute of a type that no family names, with its whole 16-bit type, flag bits included, and its payload.
 #[derive(Debug, PartialEq, Eq, Clone, Drop)]
@@ -48,12 +46,7 @@ impl Nla for DefaultNla {
     }
 
     fn fit_len(&self) -> Option<usize> {
-        let len = self.value.len();
-        if len <= VALUE_LEN_MAX {
-            Some(len)
-        } else {
-            None
-        }
+        fitting(self.value.len())
     }
 }
 

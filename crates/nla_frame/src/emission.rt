@@ -6,6 +6,21 @@ ghost use Rattle.nla_frame.specs.Attribute.{Fits, ListFits, aligned, buffer_len_
 
 use crate::traits::Nla;
 
+/// The most bytes of a payload: those that a 16-bit length field counts beside the four header bytes.
+const VALUE_LEN_MAX: usize = 65531;
+
+/// The length of a payload where it fits, which is where it is at most 65531, and else `None`.
+#[inline(always)]
+pub fn fitting(len: usize) -> Option<usize>
+    ensures { SomeIff result (len ≤ 65531) len }
+{
+    if len <= VALUE_LEN_MAX {
+        Some(len)
+    } else {
+        None
+    }
+}
+
 /// Writes an attribute, its header, payload and zero padding, at the front of the buffer, whatever stood there, leaves the bytes behind it, and
 /// answers its length. Asks that the value fits and the buffer has at least `buffer_len` bytes.
 #[inline(always)]
