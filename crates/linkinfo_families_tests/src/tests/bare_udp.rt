@@ -4,7 +4,6 @@ use super::rows::{UNLISTED, has_marks, has_rows, is_list, is_refused, keeps_unli
 use linkinfo_numbers::EthernetProtocol;
 use linkinfo_tunnels::InfoBareUdp;
 use nla_frame::Cause;
-use std::test::Fail;
 
 /// Canonical attributes, and what they mean.
 const ROWS: [(&[u8], InfoBareUdp); 3] = [
@@ -20,23 +19,23 @@ const ROWS: [(&[u8], InfoBareUdp); 3] = [
 const MARKS: [(&[u8], InfoBareUdp); 1] = [(&[4, 0, 4, 0], InfoBareUdp::MultiprotoMode)];
 
 #[test]
-fn rows_of_bare_udp(rt: HostRuntime) -> Result<(), Fail> {
+fn rows_of_bare_udp(rt: HostRuntime) {
     let alloc = rt.alloc();
-    has_rows(&rt, alloc, &ROWS)?;
-    has_marks(&rt, alloc, &MARKS)?;
+    has_rows(&rt, alloc, &ROWS);
+    has_marks(&rt, alloc, &MARKS);
     let short = [5, 0, 3, 0, 7, 0, 0, 0];
-    is_refused::<InfoBareUdp>(&rt, alloc, (), &short, Cause::Length)?;
+    is_refused::<InfoBareUdp>(&rt, alloc, (), &short, Cause::Length);
     let data = [6, 0, 1, 0, 0x19, 0xeb, 0, 0, 6, 0, 2, 0, 0x88, 0x47, 0, 0];
     let wanted = [
         InfoBareUdp::Port(6635),
         InfoBareUdp::Ethertype(EthernetProtocol::MplsUc),
     ];
-    is_list(&rt, alloc, (), &data, wanted)?;
+    is_list(&rt, alloc, (), &data, wanted);
     keeps_unlisted(
         &rt,
         alloc,
         (),
         &UNLISTED,
-        InfoBareUdp::Other(unlisted(alloc)?),
-    )
+        InfoBareUdp::Other(unlisted(&rt, alloc)),
+    );
 }

@@ -9,7 +9,6 @@ use linkinfo_table::Shape;
 use nla_frame::{Cause, Text, is_equal};
 use std::alloc::Global;
 use std::process::Abort;
-use std::test::Fail;
 
 /// The name of the fourth version of the algorithm.
 const BATMAN_IV: [u8; 16] = [
@@ -27,43 +26,40 @@ const NO_ZERO: [u8; 16] = [
 ];
 
 /// The attribute is read as the name, and is its canonical one or is rewritten as that.
-fn has_name(
-    rt: &impl Abort,
-    alloc: Global,
-    bytes: &[u8],
-    name: &str,
-    canonical: &[u8],
-) -> Result<(), Fail> {
-    let value = InfoBatAdv::AlgoName(Text::copy_of(alloc, name)?);
-    is_parsed(rt, alloc, bytes, &value)?;
-    is_read(rt, alloc, (), bytes, &value)?;
-    is_row(rt, alloc, (), canonical, &value)?;
-    let same = are_same::<InfoBatAdv>(rt, (), canonical, bytes)?;
+fn has_name(rt: &impl Abort, alloc: Global, bytes: &[u8], name: &str, canonical: &[u8]) {
+    let value = InfoBatAdv::AlgoName(Text::copy_of(alloc, name).expect(rt, "memory"));
+    is_parsed(rt, alloc, bytes, &value);
+    is_read(rt, alloc, (), bytes, &value);
+    is_row(rt, alloc, (), canonical, &value);
+    let same = are_same::<InfoBatAdv>(rt, (), canonical, bytes);
     assert_eq!(rt;
-        (bytes, same, is_equal(&value.clone()?, &value)),
+        (
+            bytes,
+            same,
+            is_equal(&value.clone().expect(rt, "memory"), &value)
+        ),
         (bytes, true, true)
     );
-    Ok(())
 }
 
 #[test]
-fn rows_of_batadv(rt: HostRuntime) -> Result<(), Fail> {
+fn rows_of_batadv(rt: HostRuntime) {
     let alloc = rt.alloc();
     has_shapes::<InfoBatAdv>(&rt, (), &[(1, Shape::Name)]);
-    has_name(&rt, alloc, &BATMAN_IV, "BATMAN_IV", &BATMAN_IV)?;
+    has_name(&rt, alloc, &BATMAN_IV, "BATMAN_IV", &BATMAN_IV);
     // One closing zero byte is taken off, and no more; without one the name is the same.
-    has_name(&rt, alloc, &TWO_ZEROS, "BATMAN_IV\0", &TWO_ZEROS)?;
-    has_name(&rt, alloc, &NO_ZERO, "BATMAN_IV", &BATMAN_IV)?;
-    has_name(&rt, alloc, &[4, 0, 1, 0], "", &[5, 0, 1, 0, 0, 0, 0, 0])?;
-    assert!(rt; !are_same::<InfoBatAdv>(&rt, (), &BATMAN_IV, &TWO_ZEROS)?);
-    is_refused::<InfoBatAdv>(&rt, alloc, (), &[6, 0, 1, 0, 0xc3, 0x28], Cause::Utf8)
+    has_name(&rt, alloc, &TWO_ZEROS, "BATMAN_IV\0", &TWO_ZEROS);
+    has_name(&rt, alloc, &NO_ZERO, "BATMAN_IV", &BATMAN_IV);
+    has_name(&rt, alloc, &[4, 0, 1, 0], "", &[5, 0, 1, 0, 0, 0, 0, 0]);
+    assert!(rt; !are_same::<InfoBatAdv>(&rt, (), &BATMAN_IV, &TWO_ZEROS));
+    is_refused::<InfoBatAdv>(&rt, alloc, (), &[6, 0, 1, 0, 0xc3, 0x28], Cause::Utf8);
 }
 
 #[test]
-fn lists_and_other_types_of_batadv(rt: HostRuntime) -> Result<(), Fail> {
+fn lists_and_other_types_of_batadv(rt: HostRuntime) {
     let alloc = rt.alloc();
-    let name = InfoBatAdv::AlgoName(Text::copy_of(alloc, "BATMAN_IV")?);
-    is_list(&rt, alloc, (), &BATMAN_IV, [name])?;
-    let kept = InfoBatAdv::Other(unlisted(alloc)?);
-    keeps_unlisted(&rt, alloc, (), &UNLISTED, kept)
+    let name = InfoBatAdv::AlgoName(Text::copy_of(alloc, "BATMAN_IV").expect(&rt, "memory"));
+    is_list(&rt, alloc, (), &BATMAN_IV, [name]);
+    let kept = InfoBatAdv::Other(unlisted(&rt, alloc));
+    keeps_unlisted(&rt, alloc, (), &UNLISTED, kept);
 }

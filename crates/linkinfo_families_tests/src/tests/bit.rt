@@ -3,33 +3,42 @@
 use linkinfo_peers::BitPeer;
 use linkinfo_table::{LinkPeer, PeerFault};
 use nla_frame::is_equal;
-use std::test::Fail;
+use std::process::Abort;
+
+/// Payloads, and the peers that they are read as.
+const PAYLOADS: &[(&[u8], Result<BitPeer, PeerFault>)] = &[
+    (&[0], Ok(BitPeer(false))),
+    (&[1], Ok(BitPeer(true))),
+    (&[7], Ok(BitPeer(true))),
+    (&[9], Ok(BitPeer(true))),
+    (&[255], Ok(BitPeer(true))),
+    (&[0xaa, 0xbb], Err(PeerFault::Refused)),
+    (&[], Err(PeerFault::Refused)),
+];
+
+/// The peer is emitted as the byte.
+fn is_emitted(rt: &impl Abort, peer: BitPeer, byte: u8) {
+    let mut buffer = [255];
+    LinkPeer::emit(&peer, &mut buffer);
+    assert_eq!(rt; (LinkPeer::fit_len(&peer), buffer), (Some(1), [byte]));
+}
 
 #[test]
-fn bits_are_peers(rt: HostRuntime) -> Result<(), Fail> {
-    let alloc = rt.alloc();
-    for (byte, bit) in [(0u8, false), (1, true), (7, true), (255, true)] {
-        assert!(rt; <BitPeer as LinkPeer>::check(&[byte]));
-        let read = <BitPeer as LinkPeer>::read(alloc, &[byte]);
-        assert!(rt; read == Ok(BitPeer(bit)));
+fn bits_are_peers(rt: HostRuntime) {
+    for (payload, peer) in PAYLOADS {
+        let checked = <BitPeer as LinkPeer>::check(payload);
+        let read = <BitPeer as LinkPeer>::read(rt.alloc(), payload);
+        assert_eq!(rt; (payload, checked, read), (payload, peer.is_ok(), *peer));
     }
-    for payload in [[0xaa, 0xbb].as_slice(), &[]] {
-        assert!(rt; !<BitPeer as LinkPeer>::check(payload));
-        let read = <BitPeer as LinkPeer>::read(alloc, payload);
-        assert!(rt; read == Err(PeerFault::Refused));
-    }
-    assert!(rt; <BitPeer as LinkPeer>::check(&[7]));
-    assert!(rt; <BitPeer as LinkPeer>::check(&[9]));
-    assert!(rt; <BitPeer as LinkPeer>::check(&[0]));
-    assert!(rt; <BitPeer as LinkPeer>::same(&[7], &[9]));
-    assert!(rt; !<BitPeer as LinkPeer>::same(&[7], &[0]));
-    for (peer, payload) in [(BitPeer(true), [1]), (BitPeer(false), [0])] {
-        assert_eq!(rt; LinkPeer::fit_len(&peer), Some(1));
-        let mut buffer = [255];
-        LinkPeer::emit(&peer, &mut buffer);
-        assert_eq!(rt; buffer, payload);
-    }
-    assert!(rt; is_equal(&BitPeer(true), &BitPeer(true)));
-    assert!(rt; !is_equal(&BitPeer(true), &BitPeer(false)));
-    Ok(())
+    is_emitted(&rt, BitPeer(true), 1);
+    is_emitted(&rt, BitPeer(false), 0);
+    assert_eq!(rt;
+        [
+            <BitPeer as LinkPeer>::same(&[7], &[9]),
+            <BitPeer as LinkPeer>::same(&[7], &[0]),
+            is_equal(&BitPeer(true), &BitPeer(true)),
+            is_equal(&BitPeer(true), &BitPeer(false)),
+        ],
+        [true, false, true, false]
+    );
 }

@@ -1,13 +1,12 @@
 //! Rows of GRE tunnels over IPv4.
 
 use super::rows::{
-    UNLISTED, has_marks, has_rows, has_rows_of, is_rewritten, keeps_unlisted, parses, unlisted,
+    UNLISTED, has_marks, has_rows, has_rows_of, is_rewritten, keeps_unlisted, kept, parses,
+    unlisted,
 };
 use linkinfo_numbers::{ErSpanDir, GreEncapFlags, GreEncapType, GreIOFlags};
 use linkinfo_tunnels::InfoGre;
-use nla_frame::DefaultNla;
 use std::net::Ipv4Addr;
-use std::test::Fail;
 
 /// Canonical attributes, and what they mean.
 const ROWS: [(&[u8], InfoGre); 17] = [
@@ -49,21 +48,27 @@ const MARKS: [(&[u8], InfoGre); 1] = [(&[4, 0, 18, 0], InfoGre::CollectMetadata)
 const ADDRESSES: &[&[u8]] = &[&[8, 0, 6, 0, 10, 0, 0, 1], &[8, 0, 7, 0, 10, 0, 0, 1]];
 
 #[test]
-fn rows_of_gre(rt: HostRuntime) -> Result<(), Fail> {
+fn rows_of_gre(rt: HostRuntime) {
     let alloc = rt.alloc();
-    has_rows(&rt, alloc, &ROWS)?;
-    has_marks(&rt, alloc, &MARKS)?;
+    has_rows(&rt, alloc, &ROWS);
+    has_marks(&rt, alloc, &MARKS);
     let v4 = Ipv4Addr::new(10, 0, 0, 1);
     let addresses = [InfoGre::Local(v4), InfoGre::Remote(v4)];
-    has_rows_of(&rt, alloc, ADDRESSES, addresses)?;
+    has_rows_of(&rt, alloc, ADDRESSES, addresses);
     // Path MTU discovery is true for 1 alone.
     let discovery = InfoGre::PathMTUDiscovery(false);
     let two = [5, 0, 10, 0, 2, 0, 0, 0];
-    is_rewritten(&rt, alloc, &two, discovery, &[5, 0, 10, 0, 0, 0, 0, 0])?;
+    is_rewritten(&rt, alloc, &two, discovery, &[5, 0, 10, 0, 0, 0, 0, 0]);
     // Types without a row here, two of which have one over IPv6.
     for kind in [11, 12, 13, 19] {
-        let kept = DefaultNla::new(u16::from(kind), Vec::new(alloc));
-        parses(&rt, alloc, &[4, 0, kind, 0], InfoGre::Other(kept))?;
+        let kept = kept(&rt, alloc, u16::from(kind), &[]);
+        parses(&rt, alloc, &[4, 0, kind, 0], InfoGre::Other(kept));
     }
-    keeps_unlisted(&rt, alloc, (), &UNLISTED, InfoGre::Other(unlisted(alloc)?))
+    keeps_unlisted(
+        &rt,
+        alloc,
+        (),
+        &UNLISTED,
+        InfoGre::Other(unlisted(&rt, alloc)),
+    );
 }

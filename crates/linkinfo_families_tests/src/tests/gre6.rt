@@ -1,11 +1,11 @@
 //! Rows of GRE tunnels over IPv6.
 
-use super::rows::{UNLISTED, has_marks, has_rows, has_rows_of, keeps_unlisted, parses, unlisted};
+use super::rows::{
+    UNLISTED, has_marks, has_rows, has_rows_of, keeps_unlisted, kept, parses, unlisted,
+};
 use linkinfo_numbers::{ErSpanDir, GreEncapFlags, GreEncapType, GreIOFlags};
 use linkinfo_tunnels::InfoGre6;
-use nla_frame::DefaultNla;
 use std::net::Ipv6Addr;
-use std::test::Fail;
 
 /// Canonical attributes, and what they mean.
 const ROWS: [(&[u8], InfoGre6); 18] = [
@@ -64,16 +64,26 @@ const ADDRESSES: &[&[u8]] = &[
 ];
 
 #[test]
-fn rows_of_gre6(rt: HostRuntime) -> Result<(), Fail> {
+fn rows_of_gre6(rt: HostRuntime) {
     let alloc = rt.alloc();
-    has_rows(&rt, alloc, &ROWS)?;
-    has_marks(&rt, alloc, &MARKS)?;
+    has_rows(&rt, alloc, &ROWS);
+    has_marks(&rt, alloc, &MARKS);
     let v6 = Ipv6Addr::new(0xfe80, 0, 0, 0, 0, 0, 0, 2);
     let addresses = [InfoGre6::Local(v6), InfoGre6::Remote(v6)];
-    has_rows_of(&rt, alloc, ADDRESSES, addresses)?;
+    has_rows_of(&rt, alloc, ADDRESSES, addresses);
     // Path MTU discovery has no row over IPv6.
-    let kept = DefaultNla::new(10, vec![in alloc; 1u8]?);
     let discovery = [5, 0, 10, 0, 1, 0, 0, 0];
-    parses(&rt, alloc, &discovery, InfoGre6::Other(kept))?;
-    keeps_unlisted(&rt, alloc, (), &UNLISTED, InfoGre6::Other(unlisted(alloc)?))
+    parses(
+        &rt,
+        alloc,
+        &discovery,
+        InfoGre6::Other(kept(&rt, alloc, 10, &[1])),
+    );
+    keeps_unlisted(
+        &rt,
+        alloc,
+        (),
+        &UNLISTED,
+        InfoGre6::Other(unlisted(&rt, alloc)),
+    );
 }

@@ -1,41 +1,38 @@
 //! Rows of IP tunnels, and their flags by the kind of the link.
 
 use super::rows::{
-    UNLISTED, error, has_one_length, is_kept, is_mark, is_refused, is_row, unlisted,
+    UNLISTED, attribute, error, has_one_length, is_kept, is_mark, is_refused, is_row, unlisted,
 };
 use bitflags::Flags;
 use linkinfo_numbers::{
     InfoKind, Ip6TunnelFlags, IpProtocol, KindTag, TunnelEncapFlags, TunnelEncapType,
 };
 use linkinfo_tunnels::InfoIpTunnel;
-use nla_frame::{Cause, DecodeError, Family, NlaBuffer, ParseableParametrized};
+use nla_frame::{Cause, DecodeError, Family, ParseableParametrized};
 use std::alloc::Global;
 use std::net::{IpAddr, Ipv4Addr, Ipv6Addr};
 use std::process::Abort;
-use std::test::Fail;
 
-fn parsed(alloc: Global, bytes: &[u8], kind: &InfoKind) -> Result<InfoIpTunnel, DecodeError> {
-    InfoIpTunnel::parse_with_param(alloc, &NlaBuffer::new_checked(bytes)?, kind)
+fn parsed(
+    rt: &impl Abort,
+    alloc: Global,
+    bytes: &[u8],
+    kind: &InfoKind,
+) -> Result<InfoIpTunnel, DecodeError> {
+    InfoIpTunnel::parse_with_param(alloc, &attribute(rt, bytes), kind)
 }
 
 /// The attribute is read as the value inside a link of this kind.
-fn is_parsed(
-    rt: &impl Abort,
-    alloc: Global,
-    kind: &InfoKind,
-    bytes: &[u8],
-    value: &InfoIpTunnel,
-) -> Result<(), Fail> {
-    let equal = parsed(alloc, bytes, kind)? == *value;
-    assert_eq!(rt; (bytes, equal), (bytes, true));
-    Ok(())
+fn is_parsed(rt: &impl Abort, alloc: Global, kind: &InfoKind, bytes: &[u8], value: &InfoIpTunnel) {
+    let read = parsed(rt, alloc, bytes, kind).expect(rt, "a value");
+    assert_eq!(rt; (bytes, read == *value), (bytes, true));
 }
 
 /// The attribute is the canonical one of the value, whatever the kind, and takes payloads of its length alone.
-fn has_row(rt: &impl Abort, alloc: Global, bytes: &[u8], value: &InfoIpTunnel) -> Result<(), Fail> {
-    is_parsed(rt, alloc, &InfoKind::Ip6Tnl, bytes, value)?;
-    is_row(rt, alloc, KindTag::IpIp, bytes, value)?;
-    has_one_length::<InfoIpTunnel>(rt, alloc, KindTag::Other, bytes)
+fn has_row(rt: &impl Abort, alloc: Global, bytes: &[u8], value: &InfoIpTunnel) {
+    is_parsed(rt, alloc, &InfoKind::Ip6Tnl, bytes, value);
+    is_row(rt, alloc, KindTag::IpIp, bytes, value);
+    has_one_length::<InfoIpTunnel>(rt, alloc, KindTag::Other, bytes);
 }
 
 /// Canonical attributes, and what they mean.
@@ -99,19 +96,18 @@ fn has_rows_of<const N: usize>(
     alloc: Global,
     attributes: &[&[u8]],
     values: [InfoIpTunnel; N],
-) -> Result<(), Fail> {
+) {
     assert!(rt; attributes.len() == N);
     for (bytes, value) in attributes.iter().zip(&values) {
-        has_row(rt, alloc, bytes, value)?;
+        has_row(rt, alloc, bytes, value);
     }
-    Ok(())
 }
 
 #[test]
-fn rows_of_ip_tunnel(rt: HostRuntime) -> Result<(), Fail> {
+fn rows_of_ip_tunnel(rt: HostRuntime) {
     let alloc = rt.alloc();
     for (bytes, value) in &ROWS {
-        has_row(&rt, alloc, bytes, value)?;
+        has_row(&rt, alloc, bytes, value);
     }
     let v4 = Ipv4Addr::new(10, 0, 0, 1);
     let v6 = Ipv6Addr::new(0xfe80, 0, 0, 0, 0, 0, 0, 2);
@@ -123,25 +119,25 @@ fn rows_of_ip_tunnel(rt: HostRuntime) -> Result<(), Fail> {
         InfoIpTunnel::Ipv6RdPrefix(v6),
         InfoIpTunnel::Ipv6RdRelayPrefix(v4),
     ];
-    has_rows_of(&rt, alloc, ADDRESSES, addresses)
+    has_rows_of(&rt, alloc, ADDRESSES, addresses);
 }
 
 /// The value is a presence flag.
-fn has_mark(rt: &impl Abort, alloc: Global, value: InfoIpTunnel) -> Result<(), Fail> {
-    is_mark(rt, alloc, KindTag::SitTun, &[4, 0, 19, 0], &value)
+fn has_mark(rt: &impl Abort, alloc: Global, value: InfoIpTunnel) {
+    is_mark(rt, alloc, KindTag::SitTun, &[4, 0, 19, 0], &value);
 }
 
 /// `UNLISTED` is parsed and kept as the value.
-fn keeps_unlisted(rt: &impl Abort, alloc: Global, value: InfoIpTunnel) -> Result<(), Fail> {
-    is_parsed(rt, alloc, &InfoKind::SitTun, &UNLISTED, &value)?;
-    is_kept(rt, alloc, KindTag::Ip6Tnl, &value)
+fn keeps_unlisted(rt: &impl Abort, alloc: Global, value: InfoIpTunnel) {
+    is_parsed(rt, alloc, &InfoKind::SitTun, &UNLISTED, &value);
+    is_kept(rt, alloc, KindTag::Ip6Tnl, &value);
 }
 
 #[test]
-fn marks_and_other_types_of_ip_tunnel(rt: HostRuntime) -> Result<(), Fail> {
+fn marks_and_other_types_of_ip_tunnel(rt: HostRuntime) {
     let alloc = rt.alloc();
-    has_mark(&rt, alloc, InfoIpTunnel::CollectMetadata)?;
-    keeps_unlisted(&rt, alloc, InfoIpTunnel::Other(unlisted(alloc)?))
+    has_mark(&rt, alloc, InfoIpTunnel::CollectMetadata);
+    keeps_unlisted(&rt, alloc, InfoIpTunnel::Other(unlisted(&rt, alloc)));
 }
 
 /// Flags of two bytes.
@@ -151,70 +147,52 @@ const TWO: [u8; 8] = [6, 0, 8, 0, 0, 16, 0, 0];
 const FOUR: [u8; 8] = [8, 0, 8, 0, 1, 0, 1, 0];
 
 /// Inside a link of this kind the flags are the value, and take payloads of its length alone.
-fn has_flags(
-    rt: &impl Abort,
-    alloc: Global,
-    kind: InfoKind,
-    bytes: &[u8],
-    value: InfoIpTunnel,
-) -> Result<(), Fail> {
-    is_parsed(rt, alloc, &kind, bytes, &value)?;
-    is_row(rt, alloc, kind.tag(), bytes, &value)?;
-    has_one_length::<InfoIpTunnel>(rt, alloc, kind.tag(), bytes)
+fn has_flags(rt: &impl Abort, alloc: Global, kind: InfoKind, bytes: &[u8], value: InfoIpTunnel) {
+    is_parsed(rt, alloc, &kind, bytes, &value);
+    is_row(rt, alloc, kind.tag(), bytes, &value);
+    has_one_length::<InfoIpTunnel>(rt, alloc, kind.tag(), bytes);
 }
 
 #[test]
-fn flags_by_kind(rt: HostRuntime) -> Result<(), Fail> {
+fn flags_by_kind(rt: HostRuntime) {
     let alloc = rt.alloc();
     let v4 = InfoIpTunnel::Ipv4Flags(16);
-    has_flags(&rt, alloc, InfoKind::IpIp, &TWO, v4)?;
+    has_flags(&rt, alloc, InfoKind::IpIp, &TWO, v4);
     let sit = InfoIpTunnel::Ipv6SitFlags(16);
-    has_flags(&rt, alloc, InfoKind::SitTun, &TWO, sit)?;
+    has_flags(&rt, alloc, InfoKind::SitTun, &TWO, sit);
     let v6 = InfoIpTunnel::Ipv6Flags(Ip6TunnelFlags::from_bits_retain(0x0001_0001));
-    has_flags(&rt, alloc, InfoKind::Ip6Tnl, &FOUR, v6)
+    has_flags(&rt, alloc, InfoKind::Ip6Tnl, &FOUR, v6);
 }
 
 /// Inside a link of this kind the flags are refused.
-fn refuses_flags(
-    rt: &impl Abort,
-    alloc: Global,
-    kind: InfoKind,
-    bytes: &[u8],
-    cause: Cause,
-) -> Result<(), Fail> {
+fn refuses_flags(rt: &impl Abort, alloc: Global, kind: InfoKind, bytes: &[u8], cause: Cause) {
     let fault = error(Family::IpTunnel, 8, cause);
-    assert_eq!(rt; parsed(alloc, bytes, &kind).err(), Some(fault));
-    is_refused::<InfoIpTunnel>(rt, alloc, kind.tag(), bytes, cause)
+    assert_eq!(rt; parsed(rt, alloc, bytes, &kind).err(), Some(fault));
+    is_refused::<InfoIpTunnel>(rt, alloc, kind.tag(), bytes, cause);
 }
 
 #[test]
-fn flags_refused_by_kind(rt: HostRuntime) -> Result<(), Fail> {
+fn flags_refused_by_kind(rt: HostRuntime) {
     let alloc = rt.alloc();
-    refuses_flags(&rt, alloc, InfoKind::IpIp, &FOUR, Cause::Length)?;
-    refuses_flags(&rt, alloc, InfoKind::SitTun, &FOUR, Cause::Length)?;
-    refuses_flags(&rt, alloc, InfoKind::Ip6Tnl, &TWO, Cause::Length)?;
-    refuses_flags(&rt, alloc, InfoKind::Vrf, &TWO, Cause::Kind)?;
-    refuses_flags(&rt, alloc, InfoKind::Vti6, &FOUR, Cause::Kind)
+    refuses_flags(&rt, alloc, InfoKind::IpIp, &FOUR, Cause::Length);
+    refuses_flags(&rt, alloc, InfoKind::SitTun, &FOUR, Cause::Length);
+    refuses_flags(&rt, alloc, InfoKind::Ip6Tnl, &TWO, Cause::Length);
+    refuses_flags(&rt, alloc, InfoKind::Vrf, &TWO, Cause::Kind);
+    refuses_flags(&rt, alloc, InfoKind::Vti6, &FOUR, Cause::Kind);
 }
 
 /// The attribute is read as the value inside a link of this kind.
-fn parses(
-    rt: &impl Abort,
-    alloc: Global,
-    kind: InfoKind,
-    bytes: &[u8],
-    value: InfoIpTunnel,
-) -> Result<(), Fail> {
-    is_parsed(rt, alloc, &kind, bytes, &value)
+fn parses(rt: &impl Abort, alloc: Global, kind: InfoKind, bytes: &[u8], value: InfoIpTunnel) {
+    is_parsed(rt, alloc, &kind, bytes, &value);
 }
 
 #[test]
-fn worked_ip_tunnel(rt: HostRuntime) -> Result<(), Fail> {
+fn worked_ip_tunnel(rt: HostRuntime) {
     let alloc = rt.alloc();
     let protocol = InfoIpTunnel::Protocol(IpProtocol::Ipv6);
     let bytes = [5, 0, 9, 0, 0x29, 0, 0, 0];
-    parses(&rt, alloc, InfoKind::IpIp, &bytes, protocol)?;
+    parses(&rt, alloc, InfoKind::IpIp, &bytes, protocol);
     let discovery = InfoIpTunnel::PMtuDisc(true);
     let bytes = [5, 0, 10, 0, 2, 0, 0, 0];
-    parses(&rt, alloc, InfoKind::SitTun, &bytes, discovery)
+    parses(&rt, alloc, InfoKind::SitTun, &bytes, discovery);
 }

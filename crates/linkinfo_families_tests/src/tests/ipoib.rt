@@ -3,7 +3,6 @@
 use super::rows::{UNLISTED, has_rows, is_list, keeps_unlisted, unlisted};
 use linkinfo_devices::InfoIpoib;
 use linkinfo_numbers::IpoibMode;
-use std::test::Fail;
 
 /// Canonical attributes, and what they mean.
 const ROWS: [(&[u8], InfoIpoib); 5] = [
@@ -24,20 +23,20 @@ const ROWS: [(&[u8], InfoIpoib); 5] = [
 ];
 
 #[test]
-fn rows_of_ipoib(rt: HostRuntime) -> Result<(), Fail> {
+fn rows_of_ipoib(rt: HostRuntime) {
     let alloc = rt.alloc();
-    has_rows(&rt, alloc, &ROWS)?;
+    has_rows(&rt, alloc, &ROWS);
     let bytes = [6, 0, 1, 0, 1, 0x80, 0, 0, 6, 0, 2, 0, 1, 0, 0, 0];
     let values = [
         InfoIpoib::Pkey(0x8001),
         InfoIpoib::Mode(IpoibMode::Connected),
     ];
-    is_list(&rt, alloc, (), &bytes, values)?;
+    is_list(&rt, alloc, (), &bytes, values);
     keeps_unlisted(
         &rt,
         alloc,
         (),
         &UNLISTED,
-        InfoIpoib::Other(unlisted(alloc)?),
-    )
+        InfoIpoib::Other(unlisted(&rt, alloc)),
+    );
 }

@@ -4,7 +4,6 @@ use super::rows::{UNLISTED, has_rows, has_rows_of, is_list, keeps_unlisted, unli
 use bitflags::Flags;
 use linkinfo_devices::{InfoIpVlan, InfoIpVtap};
 use linkinfo_numbers::{IpVlanFlags, IpVlanMode};
-use std::test::Fail;
 
 /// The canonical attribute of every flag.
 const EVERY_FLAG: &[&[u8]] = &[&[6, 0, 2, 0, 3, 0x80, 0, 0]];
@@ -28,29 +27,29 @@ const ROWS_OF_IPVLAN: [(&[u8], InfoIpVlan); 5] = [
 ];
 
 #[test]
-fn rows_of_ipvlan(rt: HostRuntime) -> Result<(), Fail> {
+fn rows_of_ipvlan(rt: HostRuntime) {
     let alloc = rt.alloc();
-    has_rows(&rt, alloc, &ROWS_OF_IPVLAN)?;
+    has_rows(&rt, alloc, &ROWS_OF_IPVLAN);
     let every = [InfoIpVlan::Flags(IpVlanFlags::from_bits_retain(0x8003))];
-    has_rows_of(&rt, alloc, EVERY_FLAG, every)?;
+    has_rows_of(&rt, alloc, EVERY_FLAG, every);
     let values = [
         InfoIpVlan::Mode(IpVlanMode::L2),
         InfoIpVlan::Flags(IpVlanFlags::Vepa),
     ];
-    is_list(&rt, alloc, (), &VEPA, values)?;
+    is_list(&rt, alloc, (), &VEPA, values);
     let no_flag = [6, 0, 1, 0, 0, 0, 0, 0, 6, 0, 2, 0, 0, 0, 0, 0];
     let values = [
         InfoIpVlan::Mode(IpVlanMode::L2),
         InfoIpVlan::Flags(IpVlanFlags::default()),
     ];
-    is_list(&rt, alloc, (), &no_flag, values)?;
+    is_list(&rt, alloc, (), &no_flag, values);
     keeps_unlisted(
         &rt,
         alloc,
         (),
         &UNLISTED,
-        InfoIpVlan::Other(unlisted(alloc)?),
-    )
+        InfoIpVlan::Other(unlisted(&rt, alloc)),
+    );
 }
 
 /// Canonical attributes, and what they mean.
@@ -69,21 +68,21 @@ const ROWS_OF_IPVTAP: [(&[u8], InfoIpVtap); 5] = [
 ];
 
 #[test]
-fn rows_of_ipvtap(rt: HostRuntime) -> Result<(), Fail> {
+fn rows_of_ipvtap(rt: HostRuntime) {
     let alloc = rt.alloc();
-    has_rows(&rt, alloc, &ROWS_OF_IPVTAP)?;
+    has_rows(&rt, alloc, &ROWS_OF_IPVTAP);
     let every = [InfoIpVtap::Flags(IpVlanFlags::from_bits_retain(0x8003))];
-    has_rows_of(&rt, alloc, EVERY_FLAG, every)?;
+    has_rows_of(&rt, alloc, EVERY_FLAG, every);
     let values = [
         InfoIpVtap::Mode(IpVlanMode::L2),
         InfoIpVtap::Flags(IpVlanFlags::Vepa),
     ];
-    is_list(&rt, alloc, (), &VEPA, values)?;
+    is_list(&rt, alloc, (), &VEPA, values);
     keeps_unlisted(
         &rt,
         alloc,
         (),
         &UNLISTED,
-        InfoIpVtap::Other(unlisted(alloc)?),
-    )
+        InfoIpVtap::Other(unlisted(&rt, alloc)),
+    );
 }

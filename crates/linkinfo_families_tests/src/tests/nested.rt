@@ -1,7 +1,7 @@
 //! Address lists inside address lists.
 
 use super::rows::{
-    error, is_emitted, is_not_parsed, is_parsed, is_refused, list_checked, lists_same,
+    attribute, compare_lists, error, is_emitted, is_not_parsed, is_parsed, is_refused, list_checked,
 };
 use linkinfo_devices::{InfoMacVlan, InfoMacVtap};
 use linkinfo_table::{LinkFamily, Lookup, Shape, laws, list_read};
@@ -9,9 +9,8 @@ use nla_frame::{
     Cause, ExactEq, Family, HeaderCount, Nla, NlaBuffer, Nlas, Parseable, emit_nlas, is_equal,
     nlas_buffer_len, nlas_fit_len,
 };
-use std::alloc::{AllocError, Global};
+use std::alloc::Global;
 use std::process::Abort;
-use std::test::Fail;
 
 /// The most lists in a chain whose first list fits.
 const LONGEST_CHAIN: u16 = 16383;
@@ -34,30 +33,31 @@ impl HoldsLists for InfoMacVtap {
 }
 
 /// The string of a chain of address lists, each of which holds the next alone, and the last one nothing.
-fn chain(rt: &impl Abort, alloc: Global, lists: u16) -> Result<Vec<u8>, AllocError> {
+fn chain(rt: &impl Abort, alloc: Global, lists: u16) -> Vec<u8> {
     assert!(rt; lists <= LONGEST_CHAIN);
     let mut bytes = Vec::new(alloc);
     for outer in 0..lists {
         let [low, high] = (4 * (lists - outer)).to_le_bytes();
-        bytes.extend_from_slice(&[low, high, 5, 0])?;
+        let header = [low, high, 5, 0];
+        bytes.extend_from_slice(&header).expect(rt, "memory");
     }
-    Ok(bytes)
+    bytes
 }
 
 /// A list that holds one value alone.
-fn list_of<F: HoldsLists>(alloc: Global, value: F) -> Result<F, AllocError> {
+fn list_of<F: HoldsLists>(rt: &impl Abort, alloc: Global, value: F) -> F {
     let mut items = Vec::new(alloc);
-    items.push(value)?;
-    Ok(F::from_list(Nlas::new(items)))
+    items.push(value).expect(rt, "memory");
+    F::from_list(Nlas::new(items))
 }
 
 /// The value of such a chain.
-fn chain_value<F: HoldsLists>(alloc: Global, lists: u16) -> Result<F, AllocError> {
+fn chain_value<F: HoldsLists>(rt: &impl Abort, alloc: Global, lists: u16) -> F {
     let mut value = F::from_list(Nlas::new(Vec::new(alloc)));
     for _ in 1..lists {
-        value = list_of(alloc, value)?;
+        value = list_of(rt, alloc, value);
     }
-    Ok(value)
+    value
 }
 
 /// The list is written as these bytes, and the byte behind them stays.
@@ -73,15 +73,15 @@ fn is_written<F: Nla>(rt: &impl Abort, items: &[F], bytes: &[u8]) {
 }
 
 /// The string of at most 128 lists is read as the value of its chain by each call, with a header for each list, and written as it came.
-fn is_chain<'a, F>(rt: &impl Abort, alloc: Global, bytes: &'a [u8], lists: u16) -> Result<(), Fail>
+fn is_chain<'a, F>(rt: &impl Abort, alloc: Global, bytes: &'a [u8], lists: u16)
 where
     F: HoldsLists + LinkFamily<Context = u8> + Parseable<NlaBuffer<'a>> + ExactEq,
 {
     assert!(rt; bytes.len() < 1000);
-    let value: F = chain_value(alloc, lists)?;
-    is_parsed(rt, alloc, bytes, &value)?;
+    let value: F = chain_value(rt, alloc, lists);
+    is_parsed(rt, alloc, bytes, &value);
     let mut count = HeaderCount::new();
-    let read: Vec<F> = list_read(alloc, bytes, 0, &mut count)?;
+    let read: Vec<F> = list_read(alloc, bytes, 0, &mut count).expect(rt, "a list");
     assert!(rt; read.len() == 1);
     let headers = usize::from(lists);
     assert_eq!(rt;
@@ -93,18 +93,16 @@ where
         (true, headers, (Ok(()), headers))
     );
     is_written(rt, read.as_slice(), bytes);
-    Ok(())
 }
 
 #[test]
-fn chains_of_at_most_128_lists(rt: HostRuntime) -> Result<(), Fail> {
+fn chains_of_at_most_128_lists(rt: HostRuntime) {
     let alloc = rt.alloc();
     for lists in [1, 2, 127, 128] {
-        let bytes = chain(&rt, alloc, lists)?;
-        is_chain::<InfoMacVlan>(&rt, alloc, bytes.as_slice(), lists)?;
-        is_chain::<InfoMacVtap>(&rt, alloc, bytes.as_slice(), lists)?;
+        let bytes = chain(&rt, alloc, lists);
+        is_chain::<InfoMacVlan>(&rt, alloc, bytes.as_slice(), lists);
+        is_chain::<InfoMacVtap>(&rt, alloc, bytes.as_slice(), lists);
     }
-    Ok(())
 }
 
 /// The string has this length and this header.
@@ -116,23 +114,23 @@ fn begins_with(rt: &impl Abort, bytes: Vec<u8>, len: usize, header: [u8; 4]) {
 }
 
 #[test]
-fn chain_of_129_lists(rt: HostRuntime) -> Result<(), Fail> {
+fn chain_of_129_lists(rt: HostRuntime) {
     let alloc = rt.alloc();
-    begins_with(&rt, chain(&rt, alloc, 128)?, 512, [0, 2, 5, 0]);
-    begins_with(&rt, chain(&rt, alloc, 129)?, 516, [4, 2, 5, 0]);
-    let bytes = chain(&rt, alloc, 129)?;
+    begins_with(&rt, chain(&rt, alloc, 128), 512, [0, 2, 5, 0]);
+    begins_with(&rt, chain(&rt, alloc, 129), 516, [4, 2, 5, 0]);
+    let bytes = chain(&rt, alloc, 129);
     let deep = error(Family::MacVlan, 5, Cause::Depth);
-    is_not_parsed::<InfoMacVlan>(&rt, alloc, bytes.as_slice(), deep)?;
+    is_not_parsed::<InfoMacVlan>(&rt, alloc, bytes.as_slice(), deep);
     assert_eq!(rt;
         list_checked::<InfoMacVlan>(&rt, 0, bytes.as_slice()),
         (Err(deep), 129)
     );
     let deep = error(Family::MacVtap, 5, Cause::Depth);
-    is_not_parsed::<InfoMacVtap>(&rt, alloc, bytes.as_slice(), deep)
+    is_not_parsed::<InfoMacVtap>(&rt, alloc, bytes.as_slice(), deep);
 }
 
 /// Inside 127 lists a list may stand, inside 128 it is refused before its payload is looked at.
-fn has_most_lists<F>(rt: &impl Abort, alloc: Global) -> Result<(), Fail>
+fn has_most_lists<F>(rt: &impl Abort, alloc: Global)
 where
     F: HoldsLists + LinkFamily<Context = u8>,
 {
@@ -141,7 +139,7 @@ where
     }
     // A list that holds a stray byte, with flag bits in its type.
     let bytes = [5, 0, 5, 0xc0, 1, 0, 0, 0];
-    let nla = NlaBuffer::new_checked(&bytes)?;
+    let nla = attribute(rt, &bytes);
     let mut count = HeaderCount::new();
     assert_eq!(rt;
         F::check_value(&nla, 127, &mut count),
@@ -149,7 +147,7 @@ where
     );
     for lists in [128, 255] {
         assert!(rt; <F as LinkFamily>::shape(lists, 5) == Lookup::Refused(Cause::Depth));
-        is_refused::<F>(rt, alloc, lists, &bytes, Cause::Depth)?;
+        is_refused::<F>(rt, alloc, lists, &bytes, Cause::Depth);
     }
     // Inside 127 lists it may be empty, and may not hold another.
     let deep = error(<F as LinkFamily>::FAMILY, 5, Cause::Depth);
@@ -160,125 +158,135 @@ where
         ],
         [(Ok(()), 1), (Err(deep), 2)]
     );
-    Ok(())
 }
 
 #[test]
-fn lists_inside_the_most(rt: HostRuntime) -> Result<(), Fail> {
+fn lists_inside_the_most(rt: HostRuntime) {
     let alloc = rt.alloc();
-    has_most_lists::<InfoMacVlan>(&rt, alloc)?;
-    has_most_lists::<InfoMacVtap>(&rt, alloc)
+    has_most_lists::<InfoMacVlan>(&rt, alloc);
+    has_most_lists::<InfoMacVtap>(&rt, alloc);
 }
 
 /// A list of one address, with its padding and without.
-fn has_worked_list(rt: &impl Abort, alloc: Global, value: InfoMacVlan) -> Result<(), Fail> {
+fn has_worked_list(rt: &impl Abort, alloc: Global, value: InfoMacVlan) {
     let padded = [16, 0, 5, 0, 10, 0, 4, 0, 2, 0, 0, 0, 0, 1, 0, 0];
     let bare = [14, 0, 5, 0, 10, 0, 4, 0, 2, 0, 0, 0, 0, 1];
-    is_parsed(rt, alloc, &padded, &value)?;
-    is_parsed(rt, alloc, &bare, &value)?;
-    is_emitted(rt, &value, &padded)?;
+    is_parsed(rt, alloc, &padded, &value);
+    is_parsed(rt, alloc, &bare, &value);
+    is_emitted(rt, &value, &padded);
     assert!(rt; value.fit_len() == Some(12));
     assert!(rt; value.value_len() == 12);
     let mut payload = [255; 12];
     value.emit_value(&mut payload);
     assert_eq!(rt; payload.as_slice(), &padded[4..]);
-    Ok(())
 }
 
 #[test]
-fn worked_lists(rt: HostRuntime) -> Result<(), Fail> {
+fn worked_lists(rt: HostRuntime) {
     let alloc = rt.alloc();
     let address = InfoMacVlan::MacAddr([2, 0, 0, 0, 0, 1]);
-    has_worked_list(&rt, alloc, list_of(alloc, address)?)
+    has_worked_list(&rt, alloc, list_of(&rt, alloc, address));
 }
 
 #[test]
-fn worked_strings_of_lists(rt: HostRuntime) -> Result<(), Fail> {
+fn worked_strings_of_lists(rt: HostRuntime) {
     let alloc = rt.alloc();
     let padded = [16, 0, 5, 0, 10, 0, 4, 0, 2, 0, 0, 0, 0, 1, 0, 0];
     let bare = [14, 0, 5, 0, 10, 0, 4, 0, 2, 0, 0, 0, 0, 1];
-    assert_eq!(rt;
-        lists_same::<InfoMacVlan>(&rt, 0, &padded, &bare),
-        (true, 4)
-    );
+    compare_lists::<InfoMacVlan>(&rt, 0, &[(&padded, &bare, Some(4))]);
     laws::reading_back::<InfoMacVlan>(&padded, 0);
     laws::reading_back::<InfoMacVtap>(&padded, 0);
 
     let short = [12, 0, 5, 0, 5, 0, 4, 0, 1, 0, 0, 0];
     let fault = error(Family::MacVtap, 4, Cause::Length);
-    is_not_parsed::<InfoMacVtap>(&rt, alloc, &short, fault)?;
+    is_not_parsed::<InfoMacVtap>(&rt, alloc, &short, fault);
     let broken = [8, 0, 5, 0, 5, 0, 4, 0];
     let fault = error(Family::Frame, 0, Cause::Header);
-    is_not_parsed::<InfoMacVtap>(&rt, alloc, &broken, fault)
+    is_not_parsed::<InfoMacVtap>(&rt, alloc, &broken, fault);
 }
 
-fn are_compared<F>(rt: &impl Abort, alloc: Global) -> Result<(), Fail>
+/// Two lists inside each other, the inner one of a count.
+const COUNT: &[u8] = &[16, 0, 5, 0, 12, 0, 5, 0, 8, 0, 6, 0, 7, 0, 0, 0];
+
+/// The same and one more attribute.
+const MORE: &[u8] = &[20, 0, 5, 0, 16, 0, 5, 0, 8, 0, 6, 0, 7, 0, 0, 0, 4, 0, 5, 0];
+
+/// A list of an attribute of a type without a row.
+const KEPT: &[u8] = &[12, 0, 5, 0, 5, 0, 10, 0, 1, 0, 0, 0];
+
+/// An attribute of another type.
+const NUMBER: &[u8] = &[8, 0, 6, 0, 7, 0, 0, 0];
+
+/// Lists, and the headers that are looked at to find them the same, if they are.
+const PAIRS: &[(&[u8], &[u8], Option<usize>)] = &[
+    // Flag bits of types with a row do not count, at each level.
+    (
+        COUNT,
+        &[16, 0, 5, 0x80, 12, 0, 5, 0x40, 8, 0, 6, 0xc0, 7, 0, 0, 0],
+        Some(6),
+    ),
+    // Padding does not.
+    (KEPT, &[12, 0, 5, 0, 5, 0, 10, 0, 1, 9, 9, 9], Some(4)),
+    // The innermost value does, and how many attributes there are.
+    (
+        COUNT,
+        &[16, 0, 5, 0, 12, 0, 5, 0, 8, 0, 6, 0, 8, 0, 0, 0],
+        None,
+    ),
+    (COUNT, MORE, None),
+    (MORE, COUNT, None),
+    // So do flag bits of a type without a row.
+    (KEPT, &[12, 0, 5, 0, 5, 0, 10, 0x80, 1, 0, 0, 0], None),
+    // A list is not the same as an attribute of another type.
+    (COUNT, NUMBER, None),
+    (NUMBER, COUNT, None),
+];
+
+/// A chain is the same as itself, and not as one of a list less.
+fn compares_chains<F>(rt: &impl Abort, alloc: Global, lists: u16)
 where
     F: HoldsLists + LinkFamily<Context = u8>,
 {
-    // Two lists inside each other, the inner one of a count.
-    let plain = [16, 0, 5, 0, 12, 0, 5, 0, 8, 0, 6, 0, 7, 0, 0, 0];
-    // Flag bits of types with a row do not count, at each level.
-    let marked = [16, 0, 5, 0x80, 12, 0, 5, 0x40, 8, 0, 6, 0xc0, 7, 0, 0, 0];
-    // The innermost value does, and how many attributes there are.
-    let other = [16, 0, 5, 0, 12, 0, 5, 0, 8, 0, 6, 0, 8, 0, 0, 0];
-    let more = [20, 0, 5, 0, 16, 0, 5, 0, 8, 0, 6, 0, 7, 0, 0, 0, 4, 0, 5, 0];
-    // So do flag bits and padding's neighbours of a type without a row.
-    let kept = [12, 0, 5, 0, 5, 0, 10, 0, 1, 0, 0, 0];
-    let kept_marked = [12, 0, 5, 0, 5, 0, 10, 0x80, 1, 0, 0, 0];
-    let kept_padded = [12, 0, 5, 0, 5, 0, 10, 0, 1, 9, 9, 9];
-    // A list is not the same as an attribute of another type.
-    let number = [8, 0, 6, 0, 7, 0, 0, 0];
-    assert_eq!(rt;
-        [
-            lists_same::<F>(rt, 0, &plain, &marked),
-            lists_same::<F>(rt, 0, &kept, &kept_padded),
-        ],
-        [(true, 6), (true, 4)]
-    );
-    for (a, b) in [
-        (plain.as_slice(), other.as_slice()),
-        (&plain, &more),
-        (&more, &plain),
-        (&kept, &kept_marked),
-        (&plain, &number),
-        (&number, &plain),
-    ] {
-        assert_eq!(rt; (a, b, lists_same::<F>(rt, 0, a, b).0), (a, b, false));
-    }
+    assert!(rt; 0 < lists && lists <= 128);
+    let a = chain(rt, alloc, lists);
+    let b = chain(rt, alloc, lists - 1);
+    let headers = 2 * usize::from(lists);
+    compare_lists::<F>(rt, 0, &[(&a, &a, Some(headers)), (&a, &b, None)]);
+}
+
+fn are_compared<F>(rt: &impl Abort, alloc: Global)
+where
+    F: HoldsLists + LinkFamily<Context = u8>,
+{
+    compare_lists::<F>(rt, 0, PAIRS);
     for lists in [1, 2, 127, 128] {
-        let a = chain(rt, alloc, lists)?;
-        let headers = 2 * usize::from(lists);
-        assert!(rt; lists_same::<F>(rt, 0, a.as_slice(), a.as_slice()) == (true, headers));
-        let b = chain(rt, alloc, lists - 1)?;
-        assert!(rt; !lists_same::<F>(rt, 0, a.as_slice(), b.as_slice()).0);
+        compares_chains::<F>(rt, alloc, lists);
     }
-    Ok(())
 }
 
 #[test]
-fn lists_inside_lists_are_compared(rt: HostRuntime) -> Result<(), Fail> {
+fn lists_inside_lists_are_compared(rt: HostRuntime) {
     let alloc = rt.alloc();
-    are_compared::<InfoMacVlan>(&rt, alloc)?;
-    are_compared::<InfoMacVtap>(&rt, alloc)
+    are_compared::<InfoMacVlan>(&rt, alloc);
+    are_compared::<InfoMacVtap>(&rt, alloc);
 }
 
 /// Whether the lists of one value each are equal.
-fn lists_equal<F>(alloc: Global, a: &F, b: &F) -> Result<bool, AllocError>
+fn lists_equal<F>(rt: &impl Abort, alloc: Global, a: &F, b: &F) -> bool
 where
     F: HoldsLists + ExactEq + Clone,
 {
-    let first = list_of(alloc, a.clone()?)?;
-    let second = list_of(alloc, b.clone()?)?;
-    Ok(is_equal(&first, &second))
+    let first = list_of(rt, alloc, a.clone().expect(rt, "memory"));
+    let second = list_of(rt, alloc, b.clone().expect(rt, "memory"));
+    is_equal(&first, &second)
 }
 
 /// A list of one value is equal neither to the value nor to the list of none.
-fn differs_from_list<F>(rt: &impl Abort, alloc: Global, one: &F) -> Result<(), Fail>
+fn differs_from_list<F>(rt: &impl Abort, alloc: Global, one: &F)
 where
     F: HoldsLists + Nla + ExactEq + Clone,
 {
-    let list = list_of(alloc, one.clone()?)?;
+    let list = list_of(rt, alloc, one.clone().expect(rt, "memory"));
     let empty = F::from_list(Nlas::new(Vec::new(alloc)));
     assert_eq!(rt;
         [
@@ -289,65 +297,67 @@ where
         ],
         [true, false, false, false]
     );
-    Ok(())
 }
 
 /// Values of lists are equal exactly where what they hold is, and so are their clones.
-fn are_equal_by_items<F>(rt: &impl Abort, alloc: Global, values: [F; 2]) -> Result<(), Fail>
+fn are_equal_by_items<F>(rt: &impl Abort, alloc: Global, values: [F; 2])
 where
     F: HoldsLists + Nla + ExactEq + Clone,
 {
     let [one, other] = &values;
-    differs_from_list(rt, alloc, one)?;
+    differs_from_list(rt, alloc, one);
     assert_eq!(rt;
         [
-            lists_equal(alloc, one, one)?,
-            lists_equal(alloc, one, other)?
+            lists_equal(rt, alloc, one, one),
+            lists_equal(rt, alloc, one, other)
         ],
         [true, false]
     );
-    Ok(())
 }
 
 /// A chain is equal to its clone, and not to a deeper one.
-fn are_equal_by_depth<F>(rt: &impl Abort, alloc: Global) -> Result<(), Fail>
+fn are_equal_by_depth<F>(rt: &impl Abort, alloc: Global)
 where
     F: HoldsLists + Nla + ExactEq + Clone,
 {
-    let deep: F = chain_value(alloc, 128)?;
-    let deeper: F = chain_value(alloc, 129)?;
+    let deep: F = chain_value(rt, alloc, 128);
+    let deeper: F = chain_value(rt, alloc, 129);
     assert_eq!(rt;
-        [is_equal(&deep, &deep.clone()?), is_equal(&deep, &deeper)],
+        [
+            is_equal(&deep, &deep.clone().expect(rt, "memory")),
+            is_equal(&deep, &deeper)
+        ],
         [true, false]
     );
-    Ok(())
 }
 
 #[test]
-fn lists_inside_lists_are_equal(rt: HostRuntime) -> Result<(), Fail> {
+fn lists_inside_lists_are_equal(rt: HostRuntime) {
     let alloc = rt.alloc();
     let values = [InfoMacVlan::MacAddrCount(1), InfoMacVlan::BcQueueLen(1)];
-    are_equal_by_items(&rt, alloc, values)?;
+    are_equal_by_items(&rt, alloc, values);
     let values = [
         InfoMacVtap::MacAddr([2, 0, 0, 0, 0, 1]),
         InfoMacVtap::MacAddr([2, 0, 0, 0, 0, 2]),
     ];
-    are_equal_by_items(&rt, alloc, values)?;
-    are_equal_by_depth::<InfoMacVlan>(&rt, alloc)?;
-    are_equal_by_depth::<InfoMacVtap>(&rt, alloc)
+    are_equal_by_items(&rt, alloc, values);
+    are_equal_by_depth::<InfoMacVlan>(&rt, alloc);
+    are_equal_by_depth::<InfoMacVtap>(&rt, alloc);
 }
 
 /// A value may be deeper than what is well formed: it is measured and written all the same, and is not read back.
-fn is_written_at_any_depth<F>(rt: &impl Abort, alloc: Global, lists: u16) -> Result<(), Fail>
+fn is_written_at_any_depth<F>(rt: &impl Abort, alloc: Global, lists: u16)
 where
     F: HoldsLists + LinkFamily<Context = u8> + Nla,
 {
     let mut items: Vec<F> = Vec::new(alloc);
-    items.push(chain_value(alloc, lists)?)?;
-    let bytes = chain(rt, alloc, lists)?;
+    items
+        .push(chain_value(rt, alloc, lists))
+        .expect(rt, "memory");
+    let bytes = chain(rt, alloc, lists);
     assert!(rt; nlas_fit_len(items.as_slice()) == Some(bytes.len()));
     assert!(rt; nlas_buffer_len(items.as_slice()) == bytes.len());
-    let mut buffer = vec![in alloc; 255u8; bytes.len()]?;
+    let mut buffer = vec![in alloc; 255u8; bytes.len()].expect(rt, "memory");
     emit_nlas(items.as_slice(), buffer.as_mut_slice());
     assert!(rt; buffer.as_slice() == bytes.as_slice());
     let deep = error(<F as LinkFamily>::FAMILY, 5, Cause::Depth);
@@ -355,29 +365,22 @@ where
         list_checked::<F>(rt, 0, bytes.as_slice()),
         (Err(deep), 129)
     );
-    Ok(())
 }
 
 /// The value of a chain has this length, if it fits.
-fn has_fit_len(
-    rt: &impl Abort,
-    alloc: Global,
-    lists: u16,
-    wanted: Option<usize>,
-) -> Result<(), Fail> {
-    let value: InfoMacVlan = chain_value(alloc, lists)?;
+fn has_fit_len(rt: &impl Abort, alloc: Global, lists: u16, wanted: Option<usize>) {
+    let value: InfoMacVlan = chain_value(rt, alloc, lists);
     assert_eq!(rt; (lists, value.fit_len()), (lists, wanted));
-    Ok(())
 }
 
 #[test]
-fn values_deeper_than_the_most(rt: HostRuntime) -> Result<(), Fail> {
+fn values_deeper_than_the_most(rt: HostRuntime) {
     let alloc = rt.alloc();
     for lists in [129, 1000, 16000, LONGEST_CHAIN] {
-        is_written_at_any_depth::<InfoMacVlan>(&rt, alloc, lists)?;
-        is_written_at_any_depth::<InfoMacVtap>(&rt, alloc, lists)?;
+        is_written_at_any_depth::<InfoMacVlan>(&rt, alloc, lists);
+        is_written_at_any_depth::<InfoMacVtap>(&rt, alloc, lists);
     }
-    has_fit_len(&rt, alloc, LONGEST_CHAIN, Some(65528))?;
-    has_fit_len(&rt, alloc, LONGEST_CHAIN + 1, None)?;
-    has_fit_len(&rt, alloc, LONGEST_CHAIN + 2, None)
+    has_fit_len(&rt, alloc, LONGEST_CHAIN, Some(65528));
+    has_fit_len(&rt, alloc, LONGEST_CHAIN + 1, None);
+    has_fit_len(&rt, alloc, LONGEST_CHAIN + 2, None);
 }

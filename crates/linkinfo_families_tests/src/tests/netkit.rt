@@ -10,7 +10,6 @@ use linkinfo_table::{LinkPeer, Shape};
 use nla_frame::{Bytes, Cause, Family};
 use std::alloc::Global;
 use std::process::Abort;
-use std::test::Fail;
 
 const ROWS: [(u16, Shape); 9] = [
     (1, Shape::Peer),
@@ -25,80 +24,75 @@ const ROWS: [(u16, Shape); 9] = [
 ];
 
 /// Each row beside the peer's, and what is kept of a type without one, whatever the peer is.
-fn has_rows_beside_peer<P: LinkPeer + Clone>(rt: &impl Abort, alloc: Global) -> Result<(), Fail> {
+fn has_rows_beside_peer<P: LinkPeer + Clone>(rt: &impl Abort, alloc: Global) {
     has_shapes::<InfoNetkitOf<P>>(rt, (), &ROWS);
     let value = InfoNetkitOf::<P>::Primary(true);
-    has_row_of(rt, alloc, &[5, 0, 2, 0, 1, 0, 0, 0], value)?;
+    has_row_of(rt, alloc, &[5, 0, 2, 0, 1, 0, 0, 0], value);
     let value = InfoNetkitOf::<P>::Primary(false);
-    has_row_of(rt, alloc, &[5, 0, 2, 0, 0, 0, 0, 0], value)?;
+    has_row_of(rt, alloc, &[5, 0, 2, 0, 0, 0, 0, 0], value);
     let value = InfoNetkitOf::<P>::Policy(NetkitPolicy::Drop);
-    has_row_of(rt, alloc, &[8, 0, 3, 0, 2, 0, 0, 0], value)?;
+    has_row_of(rt, alloc, &[8, 0, 3, 0, 2, 0, 0, 0], value);
     let value = InfoNetkitOf::<P>::PeerPolicy(NetkitPolicy::Redirect);
-    has_row_of(rt, alloc, &[8, 0, 4, 0, 7, 0, 0, 0], value)?;
+    has_row_of(rt, alloc, &[8, 0, 4, 0, 7, 0, 0, 0], value);
     let value = InfoNetkitOf::<P>::PeerPolicy(NetkitPolicy::Other(0x0102_0304));
-    has_row_of(rt, alloc, &[8, 0, 4, 0, 4, 3, 2, 1], value)?;
+    has_row_of(rt, alloc, &[8, 0, 4, 0, 4, 3, 2, 1], value);
     let value = InfoNetkitOf::<P>::Mode(NetkitMode::L3);
-    has_row_of(rt, alloc, &[8, 0, 5, 0, 1, 0, 0, 0], value)?;
+    has_row_of(rt, alloc, &[8, 0, 5, 0, 1, 0, 0, 0], value);
     let value = InfoNetkitOf::<P>::Headroom(0x0102);
-    has_row_of(rt, alloc, &[6, 0, 8, 0, 2, 1, 0, 0], value)?;
+    has_row_of(rt, alloc, &[6, 0, 8, 0, 2, 1, 0, 0], value);
     let value = InfoNetkitOf::<P>::Tailroom(0x0102);
-    has_row_of(rt, alloc, &[6, 0, 9, 0, 2, 1, 0, 0], value)?;
-    has_scrubs::<P>(rt, alloc)?;
-    let kept = InfoNetkitOf::<P>::Other(unlisted(alloc)?);
-    keeps_unlisted(rt, alloc, (), &UNLISTED, kept)
+    has_row_of(rt, alloc, &[6, 0, 9, 0, 2, 1, 0, 0], value);
+    has_scrubs::<P>(rt, alloc);
+    let kept = InfoNetkitOf::<P>::Other(unlisted(rt, alloc));
+    keeps_unlisted(rt, alloc, (), &UNLISTED, kept);
 }
 
 /// Scrubbing, of the link and of its peer.
-fn has_scrubs<P: LinkPeer>(rt: &impl Abort, alloc: Global) -> Result<(), Fail> {
+fn has_scrubs<P: LinkPeer>(rt: &impl Abort, alloc: Global) {
     let value = InfoNetkitOf::<P>::Scrub(NetkitScrub::Default);
-    has_row_of(rt, alloc, &[8, 0, 6, 0, 1, 0, 0, 0], value)?;
+    has_row_of(rt, alloc, &[8, 0, 6, 0, 1, 0, 0, 0], value);
     let value = InfoNetkitOf::<P>::Scrub(NetkitScrub::None);
-    has_row_of(rt, alloc, &[8, 0, 6, 0, 0, 0, 0, 0], value)?;
+    has_row_of(rt, alloc, &[8, 0, 6, 0, 0, 0, 0, 0], value);
     let value = InfoNetkitOf::<P>::PeerScrub(NetkitScrub::Default);
-    has_row_of(rt, alloc, &[8, 0, 7, 0, 1, 0, 0, 0], value)?;
+    has_row_of(rt, alloc, &[8, 0, 7, 0, 1, 0, 0, 0], value);
     let value = InfoNetkitOf::<P>::PeerScrub(NetkitScrub::None);
-    has_row_of(rt, alloc, &[8, 0, 7, 0, 0, 0, 0, 0], value)
+    has_row_of(rt, alloc, &[8, 0, 7, 0, 0, 0, 0, 0], value);
 }
 
 #[test]
-fn rows_of_netkit(rt: HostRuntime) -> Result<(), Fail> {
-    has_rows_beside_peer::<Bytes>(&rt, rt.alloc())
+fn rows_of_netkit(rt: HostRuntime) {
+    has_rows_beside_peer::<Bytes>(&rt, rt.alloc());
 }
 
 #[test]
-fn rows_of_netkit_beside_bits(rt: HostRuntime) -> Result<(), Fail> {
-    has_rows_beside_peer::<BitPeer>(&rt, rt.alloc())
+fn rows_of_netkit_beside_bits(rt: HostRuntime) {
+    has_rows_beside_peer::<BitPeer>(&rt, rt.alloc());
 }
 
 /// The attribute is parsed and read as the value.
-fn is_parsed_and_read(
-    rt: &impl Abort,
-    alloc: Global,
-    bytes: &[u8],
-    value: InfoNetkit,
-) -> Result<(), Fail> {
-    is_parsed(rt, alloc, bytes, &value)?;
-    is_read(rt, alloc, (), bytes, &value)
+fn is_parsed_and_read(rt: &impl Abort, alloc: Global, bytes: &[u8], value: InfoNetkit) {
+    is_parsed(rt, alloc, bytes, &value);
+    is_read(rt, alloc, (), bytes, &value);
 }
 
 #[test]
-fn worked_netkit(rt: HostRuntime) -> Result<(), Fail> {
+fn worked_netkit(rt: HostRuntime) {
     let alloc = rt.alloc();
     let three = [5, 0, 2, 0, 3, 0, 0, 0];
-    is_parsed_and_read(&rt, alloc, &three, InfoNetkit::Primary(true))?;
+    is_parsed_and_read(&rt, alloc, &three, InfoNetkit::Primary(true));
     let redirect = InfoNetkit::Policy(NetkitPolicy::Redirect);
-    is_parsed_and_read(&rt, alloc, &[8, 0, 3, 0, 7, 0, 0, 0], redirect)?;
+    is_parsed_and_read(&rt, alloc, &[8, 0, 3, 0, 7, 0, 0, 0], redirect);
     // Every number but 0 is the default.
     let scrub = InfoNetkit::Scrub(NetkitScrub::Default);
-    is_parsed_and_read(&rt, alloc, &[8, 0, 6, 0, 5, 0, 0, 0], scrub)?;
+    is_parsed_and_read(&rt, alloc, &[8, 0, 6, 0, 5, 0, 0, 0], scrub);
     let list = [8, 0, 6, 0, 1, 0, 0, 0, 6, 0, 8, 0, 5, 0, 0, 0];
     let values = [
         InfoNetkit::Scrub(NetkitScrub::Default),
         InfoNetkit::Headroom(5),
     ];
-    is_list(&rt, alloc, (), &list, values)?;
+    is_list(&rt, alloc, (), &list, values);
     let wide = [8, 0, 8, 0, 5, 0, 0, 0];
-    is_refused::<InfoNetkit>(&rt, alloc, (), &wide, Cause::Length)?;
+    is_refused::<InfoNetkit>(&rt, alloc, (), &wide, Cause::Length);
     let fault = error(Family::Netkit, 8, Cause::Length);
-    is_not_parsed::<InfoNetkit>(&rt, alloc, &wide, fault)
+    is_not_parsed::<InfoNetkit>(&rt, alloc, &wide, fault);
 }

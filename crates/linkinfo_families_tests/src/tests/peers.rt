@@ -1,9 +1,9 @@
 //! Both peers through each call of the families with a peer.
 
 use super::rows::{
-    UNLISTED, are_same, error, first_checked, has_shapes, is_emitted, is_list, is_not_parsed,
-    is_parsed, is_read, is_refused, keeps_unlisted, list_checked, lists_same, same_with_flags,
-    unlisted,
+    UNLISTED, are_same, compare, compare_lists, error, first_checked, has_shapes, is_emitted,
+    is_list, is_not_parsed, is_parsed, is_read, is_refused, keeps_unlisted, list_checked,
+    same_with_flags, unlisted,
 };
 use linkinfo_peers::{
     BitPeer, InfoNetkit, InfoNetkitOf, InfoVeth, InfoVethOf, InfoVxcan, InfoVxcanOf,
@@ -12,9 +12,8 @@ use linkinfo_table::{LinkFamily, Shape, first_check, first_read, first_same};
 use nla_frame::{
     Bytes, Cause, DecodeError, ExactEq, Family, HeaderCount, Nla, NlaBuffer, Parseable, is_equal,
 };
-use std::alloc::{AllocError, Global};
+use std::alloc::Global;
 use std::process::Abort;
-use std::test::Fail;
 
 /// A peer of the byte 7.
 const SEVEN: &[u8] = &[5, 0, 1, 0, 7];
@@ -55,30 +54,29 @@ fn no_bytes(alloc: Global) -> Bytes {
     Bytes::new(Vec::new(alloc))
 }
 
-fn two_bytes(alloc: Global) -> Result<Bytes, AllocError> {
-    Ok(Bytes::new(vec![in alloc; 0xaau8, 0xbb]?))
+fn two_bytes(rt: &impl Abort, alloc: Global) -> Bytes {
+    Bytes::copy_of(alloc, &[0xaa, 0xbb]).expect(rt, "memory")
 }
 
 /// The attribute holds this peer, whose canonical attribute is the other one.
-fn has_peer<'a, F>(
-    rt: &impl Abort,
-    alloc: Global,
-    bytes: &'a [u8],
-    value: &F,
-    canonical: &[u8],
-) -> Result<(), Fail>
+fn has_peer<'a, F>(rt: &impl Abort, alloc: Global, bytes: &'a [u8], value: &F, canonical: &[u8])
 where
     F: LinkFamily<Context = ()> + Parseable<NlaBuffer<'a>> + ExactEq + Clone,
 {
-    is_parsed(rt, alloc, bytes, value)?;
-    is_read(rt, alloc, (), bytes, value)?;
-    let marked = same_with_flags::<F>(rt, (), bytes)?;
-    let same = are_same::<F>(rt, (), bytes, canonical)?;
+    is_parsed(rt, alloc, bytes, value);
+    is_read(rt, alloc, (), bytes, value);
+    let marked = same_with_flags::<F>(rt, (), bytes);
+    let same = are_same::<F>(rt, (), bytes, canonical);
     assert_eq!(rt;
-        (bytes, marked, same, is_equal(&value.clone()?, value)),
+        (
+            bytes,
+            marked,
+            same,
+            is_equal(&value.clone().expect(rt, "memory"), value)
+        ),
         (bytes, true, true, true)
     );
-    is_emitted(rt, value, canonical)
+    is_emitted(rt, value, canonical);
 }
 
 /// The family reads peers as bytes: the values are those of these two strings, `EMPTY` and `TWO`.
@@ -88,30 +86,31 @@ fn has_peers_of_bytes<'a, F>(
     (empty_bytes, two_bytes): (&'a [u8], &'a [u8]),
     empty: &F,
     two: &F,
-) -> Result<(), Fail>
+)
 where
     F: LinkFamily<Context = ()> + Parseable<NlaBuffer<'a>> + ExactEq + Clone,
 {
-    has_peer(rt, alloc, empty_bytes, empty, EMPTY)?;
-    has_peer(rt, alloc, two_bytes, two, TWO)?;
-    has_first(rt, alloc, two)?;
+    has_peer(rt, alloc, empty_bytes, empty, EMPTY);
+    has_peer(rt, alloc, two_bytes, two, TWO);
+    has_first(rt, alloc, two);
     assert!(rt; !is_equal(empty, two));
-    compares_bytes::<F>(rt)
+    compares_bytes::<F>(rt);
 }
 
-/// Peers of bytes are the same where all of their bytes are, and padding does not count.
-fn compares_bytes<F: LinkFamily<Context = ()>>(rt: &impl Abort) -> Result<(), Fail> {
-    for (a, b) in [(SEVEN, NINE), (EMPTY, TWO)] {
-        assert_eq!(rt; (a, b, are_same::<F>(rt, (), a, b)?), (a, b, false));
-    }
-    for (a, b) in [(SEVEN, NINE), (SEVEN, OTHER)] {
-        assert_eq!(rt; (a, b, lists_same::<F>(rt, (), a, b).0), (a, b, false));
-    }
-    assert_eq!(rt;
-        lists_same::<F>(rt, (), SEVEN, &[5, 0, 1, 0x80, 7, 0, 0, 0]),
-        (true, 2)
-    );
-    Ok(())
+/// Attributes with a peer of bytes, and whether they are the same.
+const PAIRS_OF_BYTES: &[(&[u8], &[u8], bool)] = &[(SEVEN, NINE, false), (EMPTY, TWO, false)];
+
+/// Lists of peers of bytes, and the headers that are looked at to find them the same, if they are. Padding does not count.
+const PAIRS_OF_LISTS_OF_BYTES: &[(&[u8], &[u8], Option<usize>)] = &[
+    (SEVEN, NINE, None),
+    (SEVEN, OTHER, None),
+    (SEVEN, &[5, 0, 1, 0x80, 7, 0, 0, 0], Some(2)),
+];
+
+/// Peers of bytes are the same where all of their bytes are.
+fn compares_bytes<F: LinkFamily<Context = ()>>(rt: &impl Abort) {
+    compare::<F>(rt, (), PAIRS_OF_BYTES);
+    compare_lists::<F>(rt, (), PAIRS_OF_LISTS_OF_BYTES);
 }
 
 /// The family reads peers as bits: the values are true of the first two strings and false of the third, and none of the last.
@@ -121,48 +120,54 @@ fn has_peers_of_bits<'a, F>(
     (seven, nine, zero, two): (&'a [u8], &'a [u8], &'a [u8], &'a [u8]),
     set: &F,
     clear: &F,
-) -> Result<(), Fail>
+)
 where
     F: LinkFamily<Context = ()> + Parseable<NlaBuffer<'a>> + ExactEq + Clone,
 {
-    has_peer(rt, alloc, seven, set, ONE)?;
-    has_peer(rt, alloc, nine, set, ONE)?;
-    has_peer(rt, alloc, zero, clear, ZERO)?;
+    has_peer(rt, alloc, seven, set, ONE);
+    has_peer(rt, alloc, nine, set, ONE);
+    has_peer(rt, alloc, zero, clear, ZERO);
     assert!(rt; !is_equal(set, clear));
-    is_not_parsed::<F>(rt, alloc, two, refused(<F as LinkFamily>::FAMILY))?;
+    is_not_parsed::<F>(rt, alloc, two, refused(<F as LinkFamily>::FAMILY));
     // Of another length, a payload is refused by the peer and not by the family.
-    is_refused::<F>(rt, alloc, (), TWO, Cause::Peer)?;
-    is_refused::<F>(rt, alloc, (), EMPTY, Cause::Peer)?;
+    is_refused::<F>(rt, alloc, (), TWO, Cause::Peer);
+    is_refused::<F>(rt, alloc, (), EMPTY, Cause::Peer);
     refuses_two_bytes::<F>(rt);
-    compares_bits::<F>(rt)
+    compares_bits::<F>(rt);
 }
 
+/// Lists of peers of bits, and the headers that are looked at to find them the same, if they are.
+const PAIRS_OF_LISTS_OF_BITS: &[(&[u8], &[u8], Option<usize>)] = &[
+    (SEVEN, ZERO, None),
+    (SEVEN, OTHER, None),
+    (OTHER, SEVEN, None),
+    (SEVEN, NINE, Some(2)),
+];
+
 /// Peers of bits are the same where their bits are.
-fn compares_bits<F: LinkFamily<Context = ()>>(rt: &impl Abort) -> Result<(), Fail> {
-    assert!(rt; !are_same::<F>(rt, (), SEVEN, ZERO)?);
-    for (a, b) in [(SEVEN, ZERO), (SEVEN, OTHER), (OTHER, SEVEN)] {
-        assert_eq!(rt; (a, b, lists_same::<F>(rt, (), a, b).0), (a, b, false));
-    }
-    assert_eq!(rt; lists_same::<F>(rt, (), SEVEN, NINE), (true, 2));
-    Ok(())
+fn compares_bits<F: LinkFamily<Context = ()>>(rt: &impl Abort) {
+    compare::<F>(rt, (), &[(SEVEN, ZERO, false)]);
+    compare_lists::<F>(rt, (), PAIRS_OF_LISTS_OF_BITS);
 }
 
 /// The first attribute of `TAIL` alone is read as the value, and what follows it is not looked at.
-fn has_first<F>(rt: &impl Abort, alloc: Global, value: &F) -> Result<(), Fail>
+fn has_first<F>(rt: &impl Abort, alloc: Global, value: &F)
 where
     F: LinkFamily<Context = ()> + ExactEq,
 {
     for bytes in [&TAIL[..6], TAIL] {
         let mut count = HeaderCount::new();
-        let equal = is_equal(&first_read::<F>(alloc, bytes, (), &mut count)?, value);
-        assert_eq!(rt; (bytes, equal, count.get()), (bytes, true, 1));
+        let read = first_read::<F>(alloc, bytes, (), &mut count).expect(rt, "a value");
+        assert_eq!(rt;
+            (bytes, is_equal(&read, value), count.get()),
+            (bytes, true, 1)
+        );
     }
     let mut count = HeaderCount::new();
     assert!(rt; first_check::<F>(TAIL, (), &mut count).is_ok());
     let mut count = HeaderCount::new();
     let same = first_same::<F>(TAIL, TAIL, (), &mut count);
     assert_eq!(rt; (same, count.get()), (true, 2));
-    Ok(())
 }
 
 /// A peer of `aa bb` is no bit, so lists and first attributes that begin with one are refused.
@@ -178,36 +183,36 @@ fn refuses_two_bytes<F: LinkFamily<Context = ()>>(rt: &impl Abort) {
 }
 
 #[test]
-fn veth_with_peers_of_bytes(rt: HostRuntime) -> Result<(), Fail> {
+fn veth_with_peers_of_bytes(rt: HostRuntime) {
     let alloc = rt.alloc();
     has_shapes::<InfoVeth>(&rt, (), &[(1, Shape::Peer)]);
-    let two = InfoVeth::Peer(two_bytes(alloc)?);
+    let two = InfoVeth::Peer(two_bytes(&rt, alloc));
     let empty = InfoVeth::Peer(no_bytes(alloc));
-    has_peers_of_bytes(&rt, alloc, (EMPTY, TWO), &empty, &two)?;
-    is_list(&rt, alloc, (), LIST_OF_BYTES, [empty, two])
+    has_peers_of_bytes(&rt, alloc, (EMPTY, TWO), &empty, &two);
+    is_list(&rt, alloc, (), LIST_OF_BYTES, [empty, two]);
 }
 
 #[test]
-fn vxcan_with_peers_of_bytes(rt: HostRuntime) -> Result<(), Fail> {
+fn vxcan_with_peers_of_bytes(rt: HostRuntime) {
     let alloc = rt.alloc();
     has_shapes::<InfoVxcan>(&rt, (), &[(1, Shape::Peer)]);
-    let two = InfoVxcan::Peer(two_bytes(alloc)?);
+    let two = InfoVxcan::Peer(two_bytes(&rt, alloc));
     let empty = InfoVxcan::Peer(no_bytes(alloc));
-    has_peers_of_bytes(&rt, alloc, (EMPTY, TWO), &empty, &two)?;
-    is_list(&rt, alloc, (), LIST_OF_BYTES, [empty, two])
+    has_peers_of_bytes(&rt, alloc, (EMPTY, TWO), &empty, &two);
+    is_list(&rt, alloc, (), LIST_OF_BYTES, [empty, two]);
 }
 
 #[test]
-fn netkit_with_peers_of_bytes(rt: HostRuntime) -> Result<(), Fail> {
+fn netkit_with_peers_of_bytes(rt: HostRuntime) {
     let alloc = rt.alloc();
-    let two = InfoNetkit::Peer(two_bytes(alloc)?);
+    let two = InfoNetkit::Peer(two_bytes(&rt, alloc));
     let empty = InfoNetkit::Peer(no_bytes(alloc));
-    has_peers_of_bytes(&rt, alloc, (EMPTY, TWO), &empty, &two)?;
-    is_list(&rt, alloc, (), LIST_OF_BYTES, [empty, two])
+    has_peers_of_bytes(&rt, alloc, (EMPTY, TWO), &empty, &two);
+    is_list(&rt, alloc, (), LIST_OF_BYTES, [empty, two]);
 }
 
 #[test]
-fn veth_with_peers_of_bits(rt: HostRuntime) -> Result<(), Fail> {
+fn veth_with_peers_of_bits(rt: HostRuntime) {
     let alloc = rt.alloc();
     has_shapes::<InfoVethOf<BitPeer>>(&rt, (), &[(1, Shape::Peer)]);
     let family = <InfoVethOf<BitPeer> as LinkFamily>::FAMILY;
@@ -216,12 +221,12 @@ fn veth_with_peers_of_bits(rt: HostRuntime) -> Result<(), Fail> {
         InfoVethOf::Peer(BitPeer(true)),
         InfoVethOf::Peer(BitPeer(false)),
     );
-    has_peers_of_bits(&rt, alloc, (SEVEN, NINE, ZERO, TWO), &set, &clear)?;
-    is_list(&rt, alloc, (), LIST_OF_BITS, [set, clear])
+    has_peers_of_bits(&rt, alloc, (SEVEN, NINE, ZERO, TWO), &set, &clear);
+    is_list(&rt, alloc, (), LIST_OF_BITS, [set, clear]);
 }
 
 #[test]
-fn vxcan_with_peers_of_bits(rt: HostRuntime) -> Result<(), Fail> {
+fn vxcan_with_peers_of_bits(rt: HostRuntime) {
     let alloc = rt.alloc();
     has_shapes::<InfoVxcanOf<BitPeer>>(&rt, (), &[(1, Shape::Peer)]);
     let family = <InfoVxcanOf<BitPeer> as LinkFamily>::FAMILY;
@@ -230,12 +235,12 @@ fn vxcan_with_peers_of_bits(rt: HostRuntime) -> Result<(), Fail> {
         InfoVxcanOf::Peer(BitPeer(true)),
         InfoVxcanOf::Peer(BitPeer(false)),
     );
-    has_peers_of_bits(&rt, alloc, (SEVEN, NINE, ZERO, TWO), &set, &clear)?;
-    is_list(&rt, alloc, (), LIST_OF_BITS, [set, clear])
+    has_peers_of_bits(&rt, alloc, (SEVEN, NINE, ZERO, TWO), &set, &clear);
+    is_list(&rt, alloc, (), LIST_OF_BITS, [set, clear]);
 }
 
 #[test]
-fn netkit_with_peers_of_bits(rt: HostRuntime) -> Result<(), Fail> {
+fn netkit_with_peers_of_bits(rt: HostRuntime) {
     let alloc = rt.alloc();
     let family = <InfoNetkitOf<BitPeer> as LinkFamily>::FAMILY;
     assert_eq!(rt; family, Family::Netkit);
@@ -243,21 +248,21 @@ fn netkit_with_peers_of_bits(rt: HostRuntime) -> Result<(), Fail> {
         InfoNetkitOf::Peer(BitPeer(true)),
         InfoNetkitOf::Peer(BitPeer(false)),
     );
-    has_peers_of_bits(&rt, alloc, (SEVEN, NINE, ZERO, TWO), &set, &clear)?;
-    is_list(&rt, alloc, (), LIST_OF_BITS, [set, clear])
+    has_peers_of_bits(&rt, alloc, (SEVEN, NINE, ZERO, TWO), &set, &clear);
+    is_list(&rt, alloc, (), LIST_OF_BITS, [set, clear]);
 }
 
 #[test]
-fn types_without_a_row(rt: HostRuntime) -> Result<(), Fail> {
+fn types_without_a_row(rt: HostRuntime) {
     let alloc = rt.alloc();
-    let veth = InfoVeth::Other(unlisted(alloc)?);
-    keeps_unlisted(&rt, alloc, (), &UNLISTED, veth)?;
-    let veth = InfoVethOf::<BitPeer>::Other(unlisted(alloc)?);
-    keeps_unlisted(&rt, alloc, (), &UNLISTED, veth)?;
-    let vxcan = InfoVxcan::Other(unlisted(alloc)?);
-    keeps_unlisted(&rt, alloc, (), &UNLISTED, vxcan)?;
-    let vxcan = InfoVxcanOf::<BitPeer>::Other(unlisted(alloc)?);
-    keeps_unlisted(&rt, alloc, (), &UNLISTED, vxcan)
+    let veth = InfoVeth::Other(unlisted(&rt, alloc));
+    keeps_unlisted(&rt, alloc, (), &UNLISTED, veth);
+    let veth = InfoVethOf::<BitPeer>::Other(unlisted(&rt, alloc));
+    keeps_unlisted(&rt, alloc, (), &UNLISTED, veth);
+    let vxcan = InfoVxcan::Other(unlisted(&rt, alloc));
+    keeps_unlisted(&rt, alloc, (), &UNLISTED, vxcan);
+    let vxcan = InfoVxcanOf::<BitPeer>::Other(unlisted(&rt, alloc));
+    keeps_unlisted(&rt, alloc, (), &UNLISTED, vxcan);
 }
 
 /// The value has this length, if it fits.
@@ -265,16 +270,20 @@ fn has_len<F: Nla + Drop>(rt: &impl Abort, value: F, wanted: Option<usize>) {
     assert_eq!(rt; value.fit_len(), wanted);
 }
 
+/// A peer of this many bytes.
+fn zeros(rt: &impl Abort, alloc: Global, len: usize) -> Bytes {
+    Bytes::new(vec![in alloc; 0u8; len].expect(rt, "memory"))
+}
+
 #[test]
-fn longest_peers(rt: HostRuntime) -> Result<(), Fail> {
+fn longest_peers(rt: HostRuntime) {
     let alloc = rt.alloc();
     for (len, fits) in [(65531, Some(65531)), (65532, None)] {
-        let veth = InfoVeth::Peer(Bytes::new(vec![in alloc; 0u8; len]?));
+        let veth = InfoVeth::Peer(zeros(&rt, alloc, len));
         has_len(&rt, veth, fits);
-        let vxcan = InfoVxcan::Peer(Bytes::new(vec![in alloc; 0u8; len]?));
+        let vxcan = InfoVxcan::Peer(zeros(&rt, alloc, len));
         has_len(&rt, vxcan, fits);
-        let netkit = InfoNetkit::Peer(Bytes::new(vec![in alloc; 0u8; len]?));
+        let netkit = InfoNetkit::Peer(zeros(&rt, alloc, len));
         has_len(&rt, netkit, fits);
     }
-    Ok(())
 }

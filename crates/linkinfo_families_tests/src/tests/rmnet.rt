@@ -5,7 +5,6 @@ use bitflags::Flags;
 use linkinfo_devices::InfoRmNet;
 use linkinfo_numbers::{InfoRmNetFlags, RmNetFlags};
 use nla_frame::Cause;
-use std::test::Fail;
 
 fn flags_under(flags: u32, mask: u32) -> InfoRmNet {
     InfoRmNet::Flags(InfoRmNetFlags::new(
@@ -22,7 +21,7 @@ const ATTRIBUTES: &[&[u8]] = &[
 ];
 
 #[test]
-fn rows_of_rmnet(rt: HostRuntime) -> Result<(), Fail> {
+fn rows_of_rmnet(rt: HostRuntime) {
     let alloc = rt.alloc();
     let flags = InfoRmNetFlags {
         flags: RmNetFlags::IngressDeaggregation,
@@ -33,15 +32,15 @@ fn rows_of_rmnet(rt: HostRuntime) -> Result<(), Fail> {
         flags_under(0x0102_0304, 0x0506_0708),
         InfoRmNet::Flags(flags),
     ];
-    has_rows_of(&rt, alloc, ATTRIBUTES, values)?;
-    is_list(&rt, alloc, (), ATTRIBUTES[2], [flags_under(1, 255)])?;
+    has_rows_of(&rt, alloc, ATTRIBUTES, values);
+    is_list(&rt, alloc, (), ATTRIBUTES[2], [flags_under(1, 255)]);
     let longer = [13, 0, 2, 0, 1, 0, 0, 0, 255, 0, 0, 0, 0];
-    is_refused::<InfoRmNet>(&rt, alloc, (), &longer, Cause::Length)?;
+    is_refused::<InfoRmNet>(&rt, alloc, (), &longer, Cause::Length);
     keeps_unlisted(
         &rt,
         alloc,
         (),
         &UNLISTED,
-        InfoRmNet::Other(unlisted(alloc)?),
-    )
+        InfoRmNet::Other(unlisted(&rt, alloc)),
+    );
 }

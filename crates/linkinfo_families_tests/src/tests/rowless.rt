@@ -1,18 +1,18 @@
 //! Families without rows keep every attribute as it came.
 
 use super::rows::{
-    UNLISTED, are_same, error, first_checked, has_shapes, is_emitted, is_list, is_parsed, is_read,
-    keeps_unlisted, list_checked, list_fault, lists_same, unlisted,
+    UNLISTED, are_same, attribute, compare, compare_lists, error, first_checked, has_shapes,
+    is_emitted, is_list, is_parsed, is_read, keeps_unlisted, kept, list_checked, list_fault,
+    unlisted,
 };
 use linkinfo_lower::{
     InfoBond, InfoBondPort, InfoBridge, InfoBridgePort, InfoCan, InfoDsa, InfoHsr, InfoVlan,
 };
 use linkinfo_peers::{InfoPfcp, InfoTeamPort, InfoTun, InfoWireguard};
 use linkinfo_table::{LinkFamily, Rowless, laws};
-use nla_frame::{Cause, DefaultNla, Family, NlaBuffer};
-use std::alloc::{AllocError, Global};
+use nla_frame::{Cause, DefaultNla, Family};
+use std::alloc::Global;
 use std::process::Abort;
-use std::test::Fail;
 
 /// An attribute of type 1 and four bytes.
 const PLAIN: [u8; 8] = [8, 0, 1, 0, 1, 2, 3, 4];
@@ -29,49 +29,45 @@ const LIST: [u8; 16] = [8, 0, 1, 0, 1, 2, 3, 4, 5, 0, 2, 0x80, 7, 0, 0, 0];
 /// `PLAIN`, and one byte.
 const STRAY: [u8; 9] = [8, 0, 1, 0, 1, 2, 3, 4, 0];
 
-fn plain(alloc: Global) -> Result<DefaultNla, AllocError> {
-    Ok(DefaultNla::new(1, vec![in alloc; 1u8, 2, 3, 4]?))
+fn plain(rt: &impl Abort, alloc: Global) -> DefaultNla {
+    kept(rt, alloc, 1, &[1, 2, 3, 4])
 }
 
-fn marked(alloc: Global) -> Result<DefaultNla, AllocError> {
-    Ok(DefaultNla::new(0xc001, vec![in alloc; 1u8, 2, 3, 4]?))
+fn marked(rt: &impl Abort, alloc: Global) -> DefaultNla {
+    kept(rt, alloc, 0xc001, &[1, 2, 3, 4])
 }
 
 /// The second attribute of `LIST`.
-fn last(alloc: Global) -> Result<DefaultNla, AllocError> {
-    Ok(DefaultNla::new(0x8002, vec![in alloc; 7u8]?))
+fn last(rt: &impl Abort, alloc: Global) -> DefaultNla {
+    kept(rt, alloc, 0x8002, &[7])
 }
 
 /// The attribute is kept as it came.
-fn keeps<const NUMBER: u8>(
-    rt: &impl Abort,
-    alloc: Global,
-    bytes: &[u8],
-    kept: DefaultNla,
-) -> Result<(), Fail> {
-    let nla = NlaBuffer::new_checked(bytes)?;
+fn keeps<const NUMBER: u8>(rt: &impl Abort, alloc: Global, bytes: &[u8], kept: DefaultNla) {
+    let nla = attribute(rt, bytes);
     assert_eq!(rt;
         (kept.kind, kept.value.as_slice()),
         (nla.raw_kind(), nla.value())
     );
     let value = Rowless::<NUMBER>::Other(kept);
-    is_read(rt, alloc, (), bytes, &value)?;
-    assert!(rt; are_same::<Rowless<NUMBER>>(rt, (), bytes, bytes)?);
-    is_emitted(rt, &value, bytes)
+    is_read(rt, alloc, (), bytes, &value);
+    assert!(rt; are_same::<Rowless<NUMBER>>(rt, (), bytes, bytes));
+    is_emitted(rt, &value, bytes);
 }
 
-/// All of an attribute's 16-bit type counts, and all of its payload; padding does not.
-fn compares_all<F: LinkFamily<Context = ()>>(rt: &impl Abort) -> Result<(), Fail> {
-    for (a, b, wanted) in [
-        (&LIST[8..], &LIST[8..13], true),
-        (PLAIN.as_slice(), MARKED.as_slice(), false),
-        (&PLAIN, &[8, 0, 1, 0, 1, 2, 3, 5], false),
-    ] {
-        assert_eq!(rt; (a, b, are_same::<F>(rt, (), a, b)?), (a, b, wanted));
-    }
-    assert_eq!(rt; lists_same::<F>(rt, (), &LIST, &LIST[..13]), (true, 4));
-    Ok(())
-}
+/// Attributes, and whether they are the same: all of the 16-bit type counts, and all of the payload; padding does not.
+const PAIRS: &[(&[u8], &[u8], bool)] = &[
+    (&[5, 0, 2, 0x80, 7, 0, 0, 0], &[5, 0, 2, 0x80, 7], true),
+    (&PLAIN, &MARKED, false),
+    (&PLAIN, &[8, 0, 1, 0, 1, 2, 3, 5], false),
+];
+
+/// `LIST`, and the same without the padding of its last attribute.
+const PAIRS_OF_LISTS: &[(&[u8], &[u8], Option<usize>)] = &[(
+    &LIST,
+    &[8, 0, 1, 0, 1, 2, 3, 4, 5, 0, 2, 0x80, 7],
+    Some(4),
+)];
 
 /// A list with a stray byte is (Frame, 0, Header); its first attribute stands alone.
 fn refuses_stray_bytes<F: LinkFamily<Context = ()>>(rt: &impl Abort, alloc: Global) {
@@ -87,23 +83,19 @@ fn refuses_stray_bytes<F: LinkFamily<Context = ()>>(rt: &impl Abort, alloc: Glob
 }
 
 /// Lists of the family are read and emitted.
-fn has_lists<const NUMBER: u8>(rt: &impl Abort, alloc: Global) -> Result<(), Fail> {
-    let first = plain(alloc)?;
+fn has_lists<const NUMBER: u8>(rt: &impl Abort, alloc: Global) {
+    let first = plain(rt, alloc);
     let values = [
         Rowless::<NUMBER>::Other(first),
-        Rowless::Other(last(alloc)?),
+        Rowless::Other(last(rt, alloc)),
     ];
-    is_list(rt, alloc, (), &LIST, values)
+    is_list(rt, alloc, (), &LIST, values);
 }
 
 /// `MARKED` is kept as the value.
-fn keeps_marked<const NUMBER: u8>(
-    rt: &impl Abort,
-    alloc: Global,
-    value: Rowless<NUMBER>,
-) -> Result<(), Fail> {
-    is_parsed(rt, alloc, &MARKED, &value)?;
-    is_read(rt, alloc, (), &MARKED, &value)
+fn keeps_marked<const NUMBER: u8>(rt: &impl Abort, alloc: Global, value: Rowless<NUMBER>) {
+    is_parsed(rt, alloc, &MARKED, &value);
+    is_read(rt, alloc, (), &MARKED, &value);
 }
 
 /// The family of the value, which keeps `MARKED`, has no rows, and keeps every attribute as it came.
@@ -112,56 +104,57 @@ fn keeps_every_attribute<const NUMBER: u8>(
     alloc: Global,
     family: Family,
     value: Rowless<NUMBER>,
-) -> Result<(), Fail> {
+) {
     laws::kept_as_it_came::<NUMBER>();
     assert_eq!(rt; <Rowless<NUMBER> as LinkFamily>::FAMILY, family);
-    keeps_marked(rt, alloc, value)?;
+    keeps_marked(rt, alloc, value);
     has_shapes::<Rowless<NUMBER>>(rt, (), &[]);
-    keeps::<NUMBER>(rt, alloc, &PLAIN, plain(alloc)?)?;
-    keeps::<NUMBER>(rt, alloc, &MARKED, marked(alloc)?)?;
-    keeps::<NUMBER>(rt, alloc, &EMPTY, DefaultNla::new(0x3fff, Vec::new(alloc)))?;
-    let value = Rowless::<NUMBER>::Other(unlisted(alloc)?);
-    keeps_unlisted(rt, alloc, (), &UNLISTED, value)?;
-    compares_all::<Rowless<NUMBER>>(rt)?;
+    keeps::<NUMBER>(rt, alloc, &PLAIN, plain(rt, alloc));
+    keeps::<NUMBER>(rt, alloc, &MARKED, marked(rt, alloc));
+    keeps::<NUMBER>(rt, alloc, &EMPTY, DefaultNla::new(0x3fff, Vec::new(alloc)));
+    let value = Rowless::<NUMBER>::Other(unlisted(rt, alloc));
+    keeps_unlisted(rt, alloc, (), &UNLISTED, value);
+    compare::<Rowless<NUMBER>>(rt, (), PAIRS);
+    compare_lists::<Rowless<NUMBER>>(rt, (), PAIRS_OF_LISTS);
     refuses_stray_bytes::<Rowless<NUMBER>>(rt, alloc);
-    has_lists::<NUMBER>(rt, alloc)
+    has_lists::<NUMBER>(rt, alloc);
 }
 
 #[test]
-fn ports_and_their_devices(rt: HostRuntime) -> Result<(), Fail> {
+fn ports_and_their_devices(rt: HostRuntime) {
     let alloc = rt.alloc();
-    let bond = InfoBond::Other(marked(alloc)?);
-    keeps_every_attribute(&rt, alloc, Family::Bond, bond)?;
-    let port = InfoBondPort::Other(marked(alloc)?);
-    keeps_every_attribute(&rt, alloc, Family::BondPort, port)?;
-    let bridge = InfoBridge::Other(marked(alloc)?);
-    keeps_every_attribute(&rt, alloc, Family::Bridge, bridge)?;
-    let port = InfoBridgePort::Other(marked(alloc)?);
-    keeps_every_attribute(&rt, alloc, Family::BridgePort, port)?;
-    let port = InfoTeamPort::Other(marked(alloc)?);
-    keeps_every_attribute(&rt, alloc, Family::TeamPort, port)
+    let bond = InfoBond::Other(marked(&rt, alloc));
+    keeps_every_attribute(&rt, alloc, Family::Bond, bond);
+    let port = InfoBondPort::Other(marked(&rt, alloc));
+    keeps_every_attribute(&rt, alloc, Family::BondPort, port);
+    let bridge = InfoBridge::Other(marked(&rt, alloc));
+    keeps_every_attribute(&rt, alloc, Family::Bridge, bridge);
+    let port = InfoBridgePort::Other(marked(&rt, alloc));
+    keeps_every_attribute(&rt, alloc, Family::BridgePort, port);
+    let port = InfoTeamPort::Other(marked(&rt, alloc));
+    keeps_every_attribute(&rt, alloc, Family::TeamPort, port);
 }
 
 #[test]
-fn networks_and_rings(rt: HostRuntime) -> Result<(), Fail> {
+fn networks_and_rings(rt: HostRuntime) {
     let alloc = rt.alloc();
-    let can = InfoCan::Other(marked(alloc)?);
-    keeps_every_attribute(&rt, alloc, Family::Can, can)?;
-    let switch = InfoDsa::Other(marked(alloc)?);
-    keeps_every_attribute(&rt, alloc, Family::Dsa, switch)?;
-    let ring = InfoHsr::Other(marked(alloc)?);
-    keeps_every_attribute(&rt, alloc, Family::Hsr, ring)?;
-    let vlan = InfoVlan::Other(marked(alloc)?);
-    keeps_every_attribute(&rt, alloc, Family::Vlan, vlan)
+    let can = InfoCan::Other(marked(&rt, alloc));
+    keeps_every_attribute(&rt, alloc, Family::Can, can);
+    let switch = InfoDsa::Other(marked(&rt, alloc));
+    keeps_every_attribute(&rt, alloc, Family::Dsa, switch);
+    let ring = InfoHsr::Other(marked(&rt, alloc));
+    keeps_every_attribute(&rt, alloc, Family::Hsr, ring);
+    let vlan = InfoVlan::Other(marked(&rt, alloc));
+    keeps_every_attribute(&rt, alloc, Family::Vlan, vlan);
 }
 
 #[test]
-fn tunnels(rt: HostRuntime) -> Result<(), Fail> {
+fn tunnels(rt: HostRuntime) {
     let alloc = rt.alloc();
-    let tun = InfoTun::Other(marked(alloc)?);
-    keeps_every_attribute(&rt, alloc, Family::Tun, tun)?;
-    let wireguard = InfoWireguard::Other(marked(alloc)?);
-    keeps_every_attribute(&rt, alloc, Family::Wireguard, wireguard)?;
-    let pfcp = InfoPfcp::Other(marked(alloc)?);
-    keeps_every_attribute(&rt, alloc, Family::Pfcp, pfcp)
+    let tun = InfoTun::Other(marked(&rt, alloc));
+    keeps_every_attribute(&rt, alloc, Family::Tun, tun);
+    let wireguard = InfoWireguard::Other(marked(&rt, alloc));
+    keeps_every_attribute(&rt, alloc, Family::Wireguard, wireguard);
+    let pfcp = InfoPfcp::Other(marked(&rt, alloc));
+    keeps_every_attribute(&rt, alloc, Family::Pfcp, pfcp);
 }

@@ -1,5 +1,9 @@
 //! What tests of families ask of attributes, values and lists.
 
+ghost use Rattle.std.specs.Prelude.{IsOk};
+ghost use Rattle.nla_frame.specs.Pieces.{pieces};
+ghost use Rattle.linkinfo_table.specs.Lists.{values};
+
 use linkinfo_table::{
     LinkFamily, Lookup, Shape, first_check, laws, list_check, list_read, list_same,
 };
@@ -7,16 +11,26 @@ use nla_frame::{
     Cause, DecodeError, DefaultNla, ExactEq, Family, HeaderCount, Nla, NlaBuffer, Parseable,
     emit_nlas, is_equal, nlas_buffer_len, nlas_fit_len,
 };
-use std::alloc::{AllocError, Global};
+use std::alloc::Global;
 use std::process::Abort;
-use std::test::Fail;
 
 /// An attribute of one byte and a type that no family here has, flag bits included.
 pub(super) const UNLISTED: [u8; 8] = [5, 0, 0xff, 0x80, 1, 0, 0, 0];
 
+/// An attribute of a type and a payload, which is kept.
+pub(super) fn kept(rt: &impl Abort, alloc: Global, kind: u16, payload: &[u8]) -> DefaultNla {
+    DefaultNla::new(kind, payload.to_vec(alloc).expect(rt, "memory"))
+}
+
 /// What `UNLISTED` is kept as.
-pub(super) fn unlisted(alloc: Global) -> Result<DefaultNla, AllocError> {
-    Ok(DefaultNla::new(0x80ff, vec![in alloc; 1u8]?))
+pub(super) fn unlisted(rt: &impl Abort, alloc: Global) -> DefaultNla {
+    kept(rt, alloc, 0x80ff, &[1])
+}
+
+/// The attribute that the bytes begin with.
+pub(super) fn attribute<'a>(rt: &impl Abort, bytes: &'a [u8]) -> NlaBuffer<'a> {
+    assert!(rt; bytes.len() < 1000);
+    NlaBuffer::new_checked(bytes).expect(rt, "an attribute")
 }
 
 pub(super) fn error(family: Family, kind: u16, cause: Cause) -> DecodeError {
@@ -40,6 +54,18 @@ pub(super) fn has_shapes<F: LinkFamily>(rt: &impl Abort, ctx: F::Context, rows: 
     }
 }
 
+/// The fault of the attribute, if any, as it is checked, with the headers inside that were looked at for it.
+fn checked<F: LinkFamily>(
+    rt: &impl Abort,
+    ctx: F::Context,
+    bytes: &[u8],
+) -> (Option<DecodeError>, usize) {
+    let nla = attribute(rt, bytes);
+    let mut count = HeaderCount::new();
+    let checked = F::check_value(&nla, ctx, &mut count);
+    (checked.err(), count.get())
+}
+
 /// The attribute is read as the value, with no header inside.
 pub(super) fn is_read<F: LinkFamily + ExactEq>(
     rt: &impl Abort,
@@ -47,18 +73,13 @@ pub(super) fn is_read<F: LinkFamily + ExactEq>(
     ctx: F::Context,
     bytes: &[u8],
     value: &F,
-) -> Result<(), Fail> {
-    assert!(rt; bytes.len() <= 24);
-    let nla = NlaBuffer::new_checked(bytes)?;
-    let mut count = HeaderCount::new();
-    let equal = is_equal(&F::read(alloc, &nla, ctx, &mut count)?, value);
-    let mut count = HeaderCount::new();
-    let checked = F::check_value(&nla, ctx, &mut count);
+) {
+    let nla = attribute(rt, bytes);
+    let read = F::read(alloc, &nla, ctx, &mut HeaderCount::new()).expect(rt, "a value");
     assert_eq!(rt;
-        (bytes, equal, checked, count.get()),
-        (bytes, true, Ok(()), 0)
+        (bytes, is_equal(&read, value), checked::<F>(rt, ctx, bytes)),
+        (bytes, true, (None, 0))
     );
-    Ok(())
 }
 
 /// The attribute is read as the value, with no header inside.
@@ -68,8 +89,21 @@ pub(super) fn reads<F: LinkFamily + ExactEq>(
     ctx: F::Context,
     bytes: &[u8],
     value: F,
-) -> Result<(), Fail> {
-    is_read(rt, alloc, ctx, bytes, &value)
+) {
+    is_read(rt, alloc, ctx, bytes, &value);
+}
+
+/// The fault of the attribute, if any, as it is read, with the headers inside that were looked at for it.
+fn read_fault<F: LinkFamily>(
+    rt: &impl Abort,
+    alloc: Global,
+    ctx: F::Context,
+    bytes: &[u8],
+) -> (Option<DecodeError>, usize) {
+    let nla = attribute(rt, bytes);
+    let mut count = HeaderCount::new();
+    let read = F::read(alloc, &nla, ctx, &mut count);
+    (read.err(), count.get())
 }
 
 /// The attribute is refused with this cause, under the name of the family and its type, and no header inside is looked at.
@@ -79,25 +113,16 @@ pub(super) fn is_refused<F: LinkFamily>(
     ctx: F::Context,
     bytes: &[u8],
     cause: Cause,
-) -> Result<(), Fail> {
-    assert!(rt; bytes.len() <= 28);
-    let nla = NlaBuffer::new_checked(bytes)?;
-    let mut checking = HeaderCount::new();
-    let checked = F::check_value(&nla, ctx, &mut checking);
-    let mut reading = HeaderCount::new();
-    let read = F::read(alloc, &nla, ctx, &mut reading);
-    let fault = Some(error(F::FAMILY, nla.kind(), cause));
+) {
+    let fault = Some(error(F::FAMILY, attribute(rt, bytes).kind(), cause));
     assert_eq!(rt;
         (
             bytes,
-            checked.err(),
-            read.err(),
-            checking.get(),
-            reading.get()
+            checked::<F>(rt, ctx, bytes),
+            read_fault::<F>(rt, alloc, ctx, bytes)
         ),
-        (bytes, fault, fault, 0, 0)
+        (bytes, (fault, 0), (fault, 0))
     );
-    Ok(())
 }
 
 /// A buffer of 255s was overwritten by these bytes, and nothing behind them is changed.
@@ -111,22 +136,29 @@ fn begins_with(rt: &impl Abort, buffer: &[u8; 27], bytes: &[u8]) {
 }
 
 /// The value is emitted as these bytes, and nothing behind them is changed.
-pub(super) fn is_emitted<F: Nla>(rt: &impl Abort, value: &F, bytes: &[u8]) -> Result<(), Fail> {
-    let len = bytes.len();
-    assert!(rt; len <= 24);
-    let nla = NlaBuffer::new_checked(bytes)?;
+pub(super) fn is_emitted<F: Nla>(rt: &impl Abort, value: &F, bytes: &[u8]) {
+    let nla = attribute(rt, bytes);
     let payload = nla.value().len();
     assert!(rt; value.fit_len() == Some(payload));
     let written = value.buffer_len();
+    assert!(rt; written == bytes.len() && written <= 24);
     assert_eq!(rt;
-        (bytes, value.kind(), value.value_len(), written),
-        (bytes, nla.raw_kind(), payload, len)
+        (bytes, value.kind(), value.value_len()),
+        (bytes, nla.raw_kind(), payload)
     );
-    assert!(rt; written == len);
     let mut buffer = [255; 27];
     value.emit(&mut buffer);
     begins_with(rt, &buffer, bytes);
-    Ok(())
+}
+
+/// The attribute of the bytes, which is accepted.
+fn accepted<'a, F: LinkFamily>(rt: &impl Abort, ctx: F::Context, bytes: &'a [u8]) -> NlaBuffer<'a>
+    ensures { IsOk (F.meaning ctx result) }
+{
+    let nla = attribute(rt, bytes);
+    let checked = F::check_value(&nla, ctx, &mut HeaderCount::new());
+    assert!(rt; checked.is_ok());
+    nla
 }
 
 /// Whether two accepted attributes are the same. Asks that they are accepted.
@@ -135,16 +167,22 @@ pub(super) fn are_same<F: LinkFamily>(
     ctx: F::Context,
     a: &[u8],
     b: &[u8],
-) -> Result<bool, Fail> {
-    assert!(rt; a.len() <= 24 && b.len() <= 24);
-    let a = NlaBuffer::new_checked(a)?;
-    let b = NlaBuffer::new_checked(b)?;
-    let mut count = HeaderCount::new();
-    assert!(rt; F::check_value(&a, ctx, &mut count).is_ok());
-    let mut count = HeaderCount::new();
-    assert!(rt; F::check_value(&b, ctx, &mut count).is_ok());
-    let mut count = HeaderCount::new();
-    Ok(F::same_value(&a, &b, ctx, &mut count))
+) -> bool {
+    let a = accepted::<F>(rt, ctx, a);
+    let b = accepted::<F>(rt, ctx, b);
+    F::same_value(&a, &b, ctx, &mut HeaderCount::new())
+}
+
+/// Each two accepted attributes are the same or not, as stands behind them.
+pub(super) fn compare<F: LinkFamily>(
+    rt: &impl Abort,
+    ctx: F::Context,
+    pairs: &[(&[u8], &[u8], bool)],
+) {
+    for (a, b, wanted) in pairs {
+        let same = are_same::<F>(rt, ctx, a, b);
+        assert_eq!(rt; (a, b, same), (a, b, *wanted));
+    }
 }
 
 /// Whether the attribute is the same with other flag bits in its type. Asks for one that is accepted.
@@ -152,7 +190,7 @@ pub(super) fn same_with_flags<F: LinkFamily>(
     rt: &impl Abort,
     ctx: F::Context,
     bytes: &[u8],
-) -> Result<bool, Fail> {
+) -> bool {
     let len = bytes.len();
     assert!(rt; 4 <= len && len <= 24);
     let mut marked = [0; 24];
@@ -168,10 +206,10 @@ pub(super) fn is_row<F: LinkFamily + ExactEq>(
     ctx: F::Context,
     bytes: &[u8],
     value: &F,
-) -> Result<(), Fail> {
-    is_read(rt, alloc, ctx, bytes, value)?;
-    assert!(rt; same_with_flags::<F>(rt, ctx, bytes)?);
-    is_emitted(rt, value, bytes)
+) {
+    is_read(rt, alloc, ctx, bytes, value);
+    assert!(rt; same_with_flags::<F>(rt, ctx, bytes));
+    is_emitted(rt, value, bytes);
 }
 
 /// The attribute with a payload of one byte more, and of one byte less, is refused with the cause Length.
@@ -180,18 +218,17 @@ pub(super) fn has_one_length<F: LinkFamily>(
     alloc: Global,
     ctx: F::Context,
     bytes: &[u8],
-) -> Result<(), Fail> {
+) {
     let len = bytes.len();
     assert!(rt; 5 <= len && len <= 24);
     let mut attribute = [0; 28];
     attribute[..len].copy_from_slice(bytes);
     let length = attribute[0];
     assert!(rt; 5 <= length && length <= 24);
-    for other in [length - 1, length + 1] {
-        attribute[0] = other;
-        is_refused::<F>(rt, alloc, ctx, &attribute, Cause::Length)?;
-    }
-    Ok(())
+    attribute[0] = length - 1;
+    is_refused::<F>(rt, alloc, ctx, &attribute, Cause::Length);
+    attribute[0] = length + 1;
+    is_refused::<F>(rt, alloc, ctx, &attribute, Cause::Length);
 }
 
 /// A presence flag: its canonical attribute is empty, and any payload means the same.
@@ -201,10 +238,10 @@ pub(super) fn is_mark<F: LinkFamily + ExactEq>(
     ctx: F::Context,
     bytes: &[u8],
     value: &F,
-) -> Result<(), Fail> {
+) {
     assert!(rt; bytes.len() == 4);
-    is_row(rt, alloc, ctx, bytes, value)?;
-    is_read(rt, alloc, ctx, &[5, 0, bytes[2], 0, 7, 0, 0, 0], value)
+    is_row(rt, alloc, ctx, bytes, value);
+    is_read(rt, alloc, ctx, &[5, 0, bytes[2], 0, 7, 0, 0, 0], value);
 }
 
 /// `UNLISTED` is kept as the value: its flag bits count. A clone is equal.
@@ -213,11 +250,14 @@ pub(super) fn is_kept<F: LinkFamily + ExactEq + Clone>(
     alloc: Global,
     ctx: F::Context,
     value: &F,
-) -> Result<(), Fail> {
-    is_read(rt, alloc, ctx, &UNLISTED, value)?;
-    let same = same_with_flags::<F>(rt, ctx, &UNLISTED)?;
-    assert_eq!(rt; (is_equal(&value.clone()?, value), same), (true, false));
-    is_emitted(rt, value, &UNLISTED)
+) {
+    is_read(rt, alloc, ctx, &UNLISTED, value);
+    let same = same_with_flags::<F>(rt, ctx, &UNLISTED);
+    assert_eq!(rt;
+        (is_equal(&value.clone().expect(rt, "memory"), value), same),
+        (true, false)
+    );
+    is_emitted(rt, value, &UNLISTED);
 }
 
 /// `parse` reads the attribute as the value.
@@ -226,53 +266,37 @@ pub(super) fn is_parsed<'a, F: Parseable<NlaBuffer<'a>> + ExactEq + Drop>(
     alloc: Global,
     bytes: &'a [u8],
     value: &F,
-) -> Result<(), Fail> {
-    let equal = is_equal(&F::parse(alloc, &NlaBuffer::new_checked(bytes)?)?, value);
-    assert_eq!(rt; (bytes, equal), (bytes, true));
-    Ok(())
+) {
+    let read = F::parse(alloc, &attribute(rt, bytes)).expect(rt, "a value");
+    assert_eq!(rt; (bytes, is_equal(&read, value)), (bytes, true));
 }
 
 /// The attribute is the canonical one of the value, is parsed as it, and takes payloads of its length alone.
-pub(super) fn has_row<'a, F>(
-    rt: &impl Abort,
-    alloc: Global,
-    bytes: &'a [u8],
-    value: &F,
-) -> Result<(), Fail>
+pub(super) fn has_row<'a, F>(rt: &impl Abort, alloc: Global, bytes: &'a [u8], value: &F)
 where
     F: LinkFamily<Context = ()> + Parseable<NlaBuffer<'a>> + ExactEq,
 {
-    is_parsed(rt, alloc, bytes, value)?;
-    is_row(rt, alloc, (), bytes, value)?;
-    has_one_length::<F>(rt, alloc, (), bytes)
+    is_parsed(rt, alloc, bytes, value);
+    is_row(rt, alloc, (), bytes, value);
+    has_one_length::<F>(rt, alloc, (), bytes);
 }
 
 /// Each attribute is the row's of its value.
-pub(super) fn has_rows<'a, F>(
-    rt: &impl Abort,
-    alloc: Global,
-    rows: &[(&'a [u8], F)],
-) -> Result<(), Fail>
+pub(super) fn has_rows<'a, F>(rt: &impl Abort, alloc: Global, rows: &[(&'a [u8], F)])
 where
     F: LinkFamily<Context = ()> + Parseable<NlaBuffer<'a>> + ExactEq,
 {
     for (bytes, value) in rows {
-        has_row(rt, alloc, bytes, value)?;
+        has_row(rt, alloc, bytes, value);
     }
-    Ok(())
 }
 
 /// The attribute is the row's of the value.
-pub(super) fn has_row_of<'a, F>(
-    rt: &impl Abort,
-    alloc: Global,
-    bytes: &'a [u8],
-    value: F,
-) -> Result<(), Fail>
+pub(super) fn has_row_of<'a, F>(rt: &impl Abort, alloc: Global, bytes: &'a [u8], value: F)
 where
     F: LinkFamily<Context = ()> + Parseable<NlaBuffer<'a>> + ExactEq,
 {
-    has_row(rt, alloc, bytes, &value)
+    has_row(rt, alloc, bytes, &value);
 }
 
 /// Each attribute is the row's of the value at its place.
@@ -281,11 +305,11 @@ pub(super) fn has_rows_of<'a, F, const N: usize>(
     alloc: Global,
     attributes: &[&'a [u8]],
     values: [F; N],
-) -> Result<(), Fail>
+)
 where
     F: LinkFamily<Context = ()> + Parseable<NlaBuffer<'a>> + ExactEq,
 {
-    has_row_at_each_place(rt, alloc, attributes, values.as_slice())
+    has_row_at_each_place(rt, alloc, attributes, values.as_slice());
 }
 
 fn has_row_at_each_place<'a, F>(
@@ -293,31 +317,25 @@ fn has_row_at_each_place<'a, F>(
     alloc: Global,
     attributes: &[&'a [u8]],
     values: &[F],
-) -> Result<(), Fail>
+)
 where
     F: LinkFamily<Context = ()> + Parseable<NlaBuffer<'a>> + ExactEq,
 {
     assert!(rt; attributes.len() == values.len());
     for (bytes, value) in attributes.iter().zip(values) {
-        has_row(rt, alloc, bytes, value)?;
+        has_row(rt, alloc, bytes, value);
     }
-    Ok(())
 }
 
 /// Each attribute is the canonical one of a presence flag, and is parsed as its value.
-pub(super) fn has_marks<'a, F>(
-    rt: &impl Abort,
-    alloc: Global,
-    rows: &[(&'a [u8], F)],
-) -> Result<(), Fail>
+pub(super) fn has_marks<'a, F>(rt: &impl Abort, alloc: Global, rows: &[(&'a [u8], F)])
 where
     F: LinkFamily<Context = ()> + Parseable<NlaBuffer<'a>> + ExactEq,
 {
     for (bytes, value) in rows {
-        is_parsed(rt, alloc, bytes, value)?;
-        is_mark(rt, alloc, (), bytes, value)?;
+        is_parsed(rt, alloc, bytes, value);
+        is_mark(rt, alloc, (), bytes, value);
     }
-    Ok(())
 }
 
 /// The attribute, which is `UNLISTED`, is parsed and kept as the value.
@@ -327,13 +345,13 @@ pub(super) fn keeps_unlisted<'a, F>(
     ctx: F::Context,
     bytes: &'a [u8],
     value: F,
-) -> Result<(), Fail>
+)
 where
     F: LinkFamily + Parseable<NlaBuffer<'a>> + ExactEq + Clone,
 {
     assert!(rt; bytes == UNLISTED.as_slice());
-    is_parsed(rt, alloc, bytes, &value)?;
-    is_kept(rt, alloc, ctx, &value)
+    is_parsed(rt, alloc, bytes, &value);
+    is_kept(rt, alloc, ctx, &value);
 }
 
 /// The attribute is parsed as the value.
@@ -342,8 +360,8 @@ pub(super) fn parses<'a, F: Parseable<NlaBuffer<'a>> + ExactEq + Drop>(
     alloc: Global,
     bytes: &'a [u8],
     value: F,
-) -> Result<(), Fail> {
-    is_parsed(rt, alloc, bytes, &value)
+) {
+    is_parsed(rt, alloc, bytes, &value);
 }
 
 /// The attribute is parsed as the value, which is emitted as the canonical one.
@@ -353,9 +371,9 @@ pub(super) fn is_rewritten<'a, F: Parseable<NlaBuffer<'a>> + Nla + ExactEq + Dro
     bytes: &'a [u8],
     value: F,
     canonical: &[u8],
-) -> Result<(), Fail> {
-    is_parsed(rt, alloc, bytes, &value)?;
-    is_emitted(rt, &value, canonical)
+) {
+    is_parsed(rt, alloc, bytes, &value);
+    is_emitted(rt, &value, canonical);
 }
 
 /// `parse` refuses the attribute with this fault.
@@ -364,10 +382,9 @@ pub(super) fn is_not_parsed<'a, F: Parseable<NlaBuffer<'a>> + Drop>(
     alloc: Global,
     bytes: &'a [u8],
     fault: DecodeError,
-) -> Result<(), Fail> {
-    let read = F::parse(alloc, &NlaBuffer::new_checked(bytes)?);
+) {
+    let read = F::parse(alloc, &attribute(rt, bytes));
     assert_eq!(rt; (bytes, read.err()), (bytes, Some(fault)));
-    Ok(())
 }
 
 /// What `list_check` answers, with the headers that were looked at for it.
@@ -407,21 +424,39 @@ pub(super) fn first_checked<F: LinkFamily>(
     (checked, count.get())
 }
 
+/// The list is accepted.
+fn is_accepted<F: LinkFamily>(rt: &impl Abort, ctx: F::Context, bytes: &[u8])
+    ensures { IsOk (values (F.meaning ctx) (pieces bytes.now)) }
+{
+    assert!(rt; bytes.len() < 1000);
+    let checked = list_check::<F>(bytes, ctx, &mut HeaderCount::new());
+    assert!(rt; checked.is_ok());
+}
+
 /// Whether two accepted lists are the same, with the headers that were looked at for the answer.
-pub(super) fn lists_same<F: LinkFamily>(
+fn lists_same<F: LinkFamily>(
     rt: &impl Abort,
     ctx: F::Context,
     a: &[u8],
     b: &[u8],
 ) -> (bool, usize) {
-    assert!(rt; a.len() < 1000 && b.len() < 1000);
-    let mut count = HeaderCount::new();
-    assert!(rt; list_check::<F>(a, ctx, &mut count).is_ok());
-    let mut count = HeaderCount::new();
-    assert!(rt; list_check::<F>(b, ctx, &mut count).is_ok());
+    is_accepted::<F>(rt, ctx, a);
+    is_accepted::<F>(rt, ctx, b);
     let mut count = HeaderCount::new();
     let same = list_same::<F>(a, b, ctx, &mut count);
     (same, count.get())
+}
+
+/// Each two accepted lists are the same, with so many headers looked at for the answer, or are not.
+pub(super) fn compare_lists<F: LinkFamily>(
+    rt: &impl Abort,
+    ctx: F::Context,
+    pairs: &[(&[u8], &[u8], Option<usize>)],
+) {
+    for (a, b, wanted) in pairs {
+        let (same, headers) = lists_same::<F>(rt, ctx, a, b);
+        assert_eq!(rt; (a, b, same.then_some(headers)), (a, b, *wanted));
+    }
 }
 
 /// The list is read as the values, and is what is emitted for them.
@@ -431,8 +466,8 @@ pub(super) fn is_list<F: LinkFamily + ExactEq, const N: usize>(
     ctx: F::Context,
     bytes: &[u8],
     values: [F; N],
-) -> Result<(), Fail> {
-    is_list_of(rt, alloc, ctx, bytes, values.as_slice())
+) {
+    is_list_of(rt, alloc, ctx, bytes, values.as_slice());
 }
 
 /// The list is read as the values at these places, and is what is emitted for them.
@@ -442,17 +477,19 @@ fn is_list_of<F: LinkFamily + ExactEq>(
     ctx: F::Context,
     bytes: &[u8],
     values: &[F],
-) -> Result<(), Fail> {
+) {
     let len = bytes.len();
     assert!(rt; len <= 24);
     laws::reading_back::<F>(bytes, ctx);
     let mut count = HeaderCount::new();
-    let equal = list_read::<F>(alloc, bytes, ctx, &mut count)?.as_slice() == values;
-    assert_eq!(rt; (bytes, equal, count.get()), (bytes, true, values.len()));
+    let read = list_read::<F>(alloc, bytes, ctx, &mut count).expect(rt, "a list");
+    assert_eq!(rt;
+        (bytes, read.as_slice() == values, count.get()),
+        (bytes, true, values.len())
+    );
     assert!(rt; nlas_fit_len(values) == Some(len));
     assert!(rt; nlas_buffer_len(values) == len);
     let mut buffer = [255; 27];
     emit_nlas(values, &mut buffer);
     begins_with(rt, &buffer, bytes);
-    Ok(())
 }

@@ -1,13 +1,13 @@
 //! Peers of plain bytes, and what was read of attributes and what values show.
 
+use super::rows::kept;
 use linkinfo_table::{Datum, Found, LinkPeer, Part, PeerFault, Shape};
 use nla_frame::{Bytes, DefaultNla};
-use std::alloc::{AllocError, Global};
+use std::alloc::Global;
 use std::process::Abort;
-use std::test::Fail;
 
 /// The payload is read as a peer that is emitted as it.
-fn is_peer(rt: &impl Abort, alloc: Global, payload: &[u8; 2]) -> Result<(), Fail> {
+fn is_peer(rt: &impl Abort, alloc: Global, payload: &[u8; 2]) {
     let Ok(peer) = <Bytes as LinkPeer>::read(alloc, payload) else {
         panic!(rt; "the payload is a peer");
     };
@@ -18,19 +18,19 @@ fn is_peer(rt: &impl Abort, alloc: Global, payload: &[u8; 2]) -> Result<(), Fail
         (peer.as_slice(), buffer, LinkPeer::fit_len(&peer)),
         (payload.as_slice(), *payload, Some(2))
     );
-    Ok(())
 }
 
 /// How long a peer of this many bytes is, if it fits.
-fn len_of_bytes(alloc: Global, count: usize) -> Result<Option<usize>, AllocError> {
-    Ok(LinkPeer::fit_len(&Bytes::new(vec![in alloc; 0u8; count]?)))
+fn len_of_bytes(rt: &impl Abort, alloc: Global, count: usize) -> Option<usize> {
+    let zeros = vec![in alloc; 0u8; count].expect(rt, "memory");
+    LinkPeer::fit_len(&Bytes::new(zeros))
 }
 
 #[test]
-fn bytes_are_peers(rt: HostRuntime) -> Result<(), Fail> {
+fn bytes_are_peers(rt: HostRuntime) {
     let alloc = rt.alloc();
     let payload = [0xaa, 0xbb];
-    is_peer(&rt, alloc, &payload)?;
+    is_peer(&rt, alloc, &payload);
     assert_eq!(rt;
         [
             <Bytes as LinkPeer>::check(&payload),
@@ -42,30 +42,50 @@ fn bytes_are_peers(rt: HostRuntime) -> Result<(), Fail> {
         [true, true, true, false, false]
     );
     assert_eq!(rt;
-        [len_of_bytes(alloc, 65531)?, len_of_bytes(alloc, 65532)?],
+        [
+            len_of_bytes(&rt, alloc, 65531),
+            len_of_bytes(&rt, alloc, 65532)
+        ],
         [Some(65531), None]
     );
-    Ok(())
+}
+
+/// What was read with a row compares by its type and its datum.
+fn typed_compare(rt: &impl Abort, found: &Found<'_>, same: &[u8; 2]) {
+    let clone = found.clone().expect(rt, "memory");
+    assert_eq!(rt;
+        [
+            *found == Found::Typed(1, Datum::Bytes(same)),
+            *found != Found::Typed(2, Datum::Bytes(same)),
+            *found != Found::Typed(1, Datum::Bytes(&same[..1])),
+            clone == *found,
+        ],
+        [true; 4]
+    );
+}
+
+/// Whether parts and values that keep these two attributes are equal.
+fn kept_compare(first: DefaultNla, second: DefaultNla) -> [bool; 2] {
+    let parts = Part::Kept(&first) == Part::Kept(&second);
+    [parts, Found::Kept(first) == Found::Kept(second)]
 }
 
 #[test]
-fn parts_compare_by_what_they_hold(rt: HostRuntime) -> Result<(), Fail> {
+fn parts_compare_by_what_they_hold(rt: HostRuntime) {
     let alloc = rt.alloc();
     let text = [b'a', b'b'];
     let same = [b'a', b'b'];
-    let found = Found::Typed(1, Datum::Bytes(&text));
-    assert!(rt; found == Found::Typed(1, Datum::Bytes(&same)));
-    assert!(rt; found != Found::Typed(2, Datum::Bytes(&same)));
-    assert!(rt; found != Found::Typed(1, Datum::Bytes(&same[..1])));
-    assert!(rt; found.clone()? == found);
-    let kept = DefaultNla::new(7, vec![in alloc; 1u8]?);
-    let other = DefaultNla::new(7, vec![in alloc; 1u8]?);
-    assert!(rt; Part::Kept(&kept) == Part::Kept(&other));
-    assert!(rt; Found::Kept(kept) == Found::Kept(other));
-    assert!(rt; Part::Custom == Part::Custom);
+    typed_compare(&rt, &Found::Typed(1, Datum::Bytes(&text)), &same);
+    let kept = kept_compare(kept(&rt, alloc, 7, &[1]), kept(&rt, alloc, 7, &[1]));
+    assert_eq!(rt; kept, [true; 2]);
     let part = Part::Typed(1, Shape::Raw, Datum::Bytes(&text));
-    assert!(rt; part == Part::Typed(1, Shape::Raw, Datum::Bytes(&same)));
-    assert!(rt; part != Part::Typed(1, Shape::Name, Datum::Bytes(&same)));
-    assert!(rt; part != Part::Custom);
-    Ok(())
+    assert_eq!(rt;
+        [
+            Part::Custom == Part::Custom,
+            part == Part::Typed(1, Shape::Raw, Datum::Bytes(&same)),
+            part != Part::Typed(1, Shape::Name, Datum::Bytes(&same)),
+            part != Part::Custom,
+        ],
+        [true; 4]
+    );
 }

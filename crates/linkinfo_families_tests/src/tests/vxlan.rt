@@ -10,7 +10,6 @@ use nla_frame::Cause;
 use std::alloc::Global;
 use std::net::{Ipv4Addr, Ipv6Addr};
 use std::process::Abort;
-use std::test::Fail;
 
 /// Canonical attributes, and what they mean.
 const ROWS: [(&[u8], InfoVxlan); 29] = [
@@ -78,10 +77,10 @@ const ADDRESSES: &[&[u8]] = &[
 ];
 
 #[test]
-fn rows_of_vxlan(rt: HostRuntime) -> Result<(), Fail> {
+fn rows_of_vxlan(rt: HostRuntime) {
     let alloc = rt.alloc();
-    has_rows(&rt, alloc, &ROWS)?;
-    has_marks(&rt, alloc, &MARKS)?;
+    has_rows(&rt, alloc, &ROWS);
+    has_marks(&rt, alloc, &MARKS);
     let v4 = Ipv4Addr::new(10, 0, 0, 1);
     let v6 = Ipv6Addr::new(0xfe80, 0, 0, 0, 0, 0, 0, 2);
     let addresses = [
@@ -90,44 +89,39 @@ fn rows_of_vxlan(rt: HostRuntime) -> Result<(), Fail> {
         InfoVxlan::Group6(v6),
         InfoVxlan::Local6(v6),
     ];
-    has_rows_of(&rt, alloc, ADDRESSES, addresses)?;
+    has_rows_of(&rt, alloc, ADDRESSES, addresses);
     keeps_unlisted(
         &rt,
         alloc,
         (),
         &UNLISTED,
-        InfoVxlan::Other(unlisted(alloc)?),
-    )
+        InfoVxlan::Other(unlisted(&rt, alloc)),
+    );
 }
 
 /// The attribute is the canonical one of the value, and is parsed as it.
-fn is_parsed_row(
-    rt: &impl Abort,
-    alloc: Global,
-    bytes: &[u8],
-    value: InfoVxlan,
-) -> Result<(), Fail> {
-    is_parsed(rt, alloc, bytes, &value)?;
-    is_row(rt, alloc, (), bytes, &value)
+fn is_parsed_row(rt: &impl Abort, alloc: Global, bytes: &[u8], value: InfoVxlan) {
+    is_parsed(rt, alloc, bytes, &value);
+    is_row(rt, alloc, (), bytes, &value);
 }
 
 #[test]
-fn worked_vxlan(rt: HostRuntime) -> Result<(), Fail> {
+fn worked_vxlan(rt: HostRuntime) {
     let alloc = rt.alloc();
     // The only type of which a payload may be empty or a byte.
     let zero = [5, 0, 28, 0, 0, 0, 0, 0];
-    is_parsed_row(&rt, alloc, &zero, InfoVxlan::TtlInherit(0))?;
-    is_parsed_row(&rt, alloc, &[4, 0, 28, 0], InfoVxlan::TtlInheritFlag)?;
+    is_parsed_row(&rt, alloc, &zero, InfoVxlan::TtlInherit(0));
+    is_parsed_row(&rt, alloc, &[4, 0, 28, 0], InfoVxlan::TtlInheritFlag);
     let long = [6, 0, 28, 0, 0, 0, 0, 0];
-    is_refused::<InfoVxlan>(&rt, alloc, (), &long, Cause::Length)?;
+    is_refused::<InfoVxlan>(&rt, alloc, (), &long, Cause::Length);
     // Every nonzero byte is true, and is written as 1.
     let two = [5, 0, 7, 0, 2, 0, 0, 0];
     let learning = InfoVxlan::Learning(true);
-    is_rewritten(&rt, alloc, &two, learning, &[5, 0, 7, 0, 1, 0, 0, 0])?;
+    is_rewritten(&rt, alloc, &two, learning, &[5, 0, 7, 0, 1, 0, 0, 0]);
     let seven = [5, 0, 25, 0, 7, 0, 0, 0];
     let collect = InfoVxlan::CollectMetadata(true);
-    is_rewritten(&rt, alloc, &seven, collect, &[5, 0, 25, 0, 1, 0, 0, 0])?;
+    is_rewritten(&rt, alloc, &seven, collect, &[5, 0, 25, 0, 1, 0, 0, 0]);
     // A flag stands whatever its payload, and is written without one.
     let seven = [5, 0, 23, 0, 7, 0, 0, 0];
-    is_rewritten(&rt, alloc, &seven, InfoVxlan::Gbp, &[4, 0, 23, 0])
+    is_rewritten(&rt, alloc, &seven, InfoVxlan::Gbp, &[4, 0, 23, 0]);
 }

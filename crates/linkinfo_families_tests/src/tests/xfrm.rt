@@ -1,14 +1,13 @@
 //! Rows of xfrm and vrf links, and lists and first attributes of a family.
 
 use super::rows::{
-    UNLISTED, error, first_checked, has_rows, has_shapes, is_list, is_not_parsed, keeps_unlisted,
-    list_checked, list_fault, lists_same, reads, unlisted,
+    UNLISTED, compare_lists, error, first_checked, has_rows, has_shapes, is_list, is_not_parsed,
+    keeps_unlisted, list_checked, list_fault, reads, unlisted,
 };
 use linkinfo_devices::{InfoVrf, InfoXfrm};
 use linkinfo_table::{Shape, first_check, first_read, first_same, laws};
 use nla_frame::{Cause, Family, HeaderCount};
 use std::process::Abort;
-use std::test::Fail;
 
 /// Canonical attributes, and what they mean.
 const ROWS_OF_XFRM: [(&[u8], InfoXfrm); 2] = [
@@ -23,10 +22,10 @@ const ROWS_OF_VRF: [(&[u8], InfoVrf); 1] = [(
 )];
 
 #[test]
-fn rows_of_xfrm(rt: HostRuntime) -> Result<(), Fail> {
+fn rows_of_xfrm(rt: HostRuntime) {
     let alloc = rt.alloc();
     has_shapes::<InfoXfrm>(&rt, (), &[(1, Shape::Le32), (2, Shape::Le32)]);
-    has_rows(&rt, alloc, &ROWS_OF_XFRM)?;
+    has_rows(&rt, alloc, &ROWS_OF_XFRM);
     let data = [8, 0, 1, 0, 2, 0, 0, 0, 8, 0, 2, 0, 10, 0, 0, 0];
     is_list(
         &rt,
@@ -34,22 +33,34 @@ fn rows_of_xfrm(rt: HostRuntime) -> Result<(), Fail> {
         (),
         &data,
         [InfoXfrm::Link(2), InfoXfrm::IfId(10)],
-    )?;
-    let kept = InfoXfrm::Other(unlisted(alloc)?);
-    reads(&rt, alloc, (), &UNLISTED[..5], kept)?;
-    keeps_unlisted(&rt, alloc, (), &UNLISTED, InfoXfrm::Other(unlisted(alloc)?))
+    );
+    let kept = InfoXfrm::Other(unlisted(&rt, alloc));
+    reads(&rt, alloc, (), &UNLISTED[..5], kept);
+    keeps_unlisted(
+        &rt,
+        alloc,
+        (),
+        &UNLISTED,
+        InfoXfrm::Other(unlisted(&rt, alloc)),
+    );
 }
 
 #[test]
-fn rows_of_vrf(rt: HostRuntime) -> Result<(), Fail> {
+fn rows_of_vrf(rt: HostRuntime) {
     let alloc = rt.alloc();
     has_shapes::<InfoVrf>(&rt, (), &[(1, Shape::Le32)]);
-    has_rows(&rt, alloc, &ROWS_OF_VRF)?;
-    keeps_unlisted(&rt, alloc, (), &UNLISTED, InfoVrf::Other(unlisted(alloc)?))
+    has_rows(&rt, alloc, &ROWS_OF_VRF);
+    keeps_unlisted(
+        &rt,
+        alloc,
+        (),
+        &UNLISTED,
+        InfoVrf::Other(unlisted(&rt, alloc)),
+    );
 }
 
 #[test]
-fn other_lengths(rt: HostRuntime) -> Result<(), Fail> {
+fn other_lengths(rt: HostRuntime) {
     let alloc = rt.alloc();
     let mut bytes = [9, 0, 1, 0, 1, 2, 3, 4, 5];
     for (len, kind) in [
@@ -67,13 +78,12 @@ fn other_lengths(rt: HostRuntime) -> Result<(), Fail> {
         bytes[0] = len;
         bytes[2] = kind;
         let fault = error(Family::Xfrm, u16::from(kind), Cause::Length);
-        is_not_parsed::<InfoXfrm>(&rt, alloc, &bytes, fault)?;
+        is_not_parsed::<InfoXfrm>(&rt, alloc, &bytes, fault);
         if kind == 1 {
             let fault = error(Family::Vrf, 1, Cause::Length);
-            is_not_parsed::<InfoVrf>(&rt, alloc, &bytes, fault)?;
+            is_not_parsed::<InfoVrf>(&rt, alloc, &bytes, fault);
         }
     }
-    Ok(())
 }
 
 #[test]
@@ -100,32 +110,24 @@ fn lists_are_checked(rt: HostRuntime) {
     );
 }
 
+/// An attribute of type 1.
+const PLAIN: &[u8] = &[8, 0, 1, 0, 5, 0, 0, 0];
+
+/// Lists, and the headers that are looked at to find them the same, if they are. Flag bits of a known type and padding do not count, those of an
+/// unknown type do.
+const PAIRS: &[(&[u8], &[u8], Option<usize>)] = &[
+    (&[8, 0, 1, 0x80, 5, 0, 0, 0], PLAIN, Some(2)),
+    (&[5, 0, 3, 0, 7], &[5, 0, 3, 0, 7, 1, 2, 3], Some(2)),
+    (&[], &[], Some(0)),
+    (&[4, 0, 3, 0x80], &[4, 0, 3, 0], None),
+    (PLAIN, &[8, 0, 2, 0, 5, 0, 0, 0], None),
+    (&[], PLAIN, None),
+    (PLAIN, &[], None),
+];
+
 #[test]
 fn lists_are_compared(rt: HostRuntime) {
-    // Flag bits of a known type and padding do not count, those of an unknown type do.
-    let marked = [8, 0, 1, 0x80, 5, 0, 0, 0];
-    let plain = [8, 0, 1, 0, 5, 0, 0, 0];
-    for (a, b, headers) in [
-        (marked.as_slice(), plain.as_slice(), 2),
-        (&[5, 0, 3, 0, 7], &[5, 0, 3, 0, 7, 1, 2, 3], 2),
-        (&[], &[], 0),
-    ] {
-        assert_eq!(rt;
-            (a, b, lists_same::<InfoXfrm>(&rt, (), a, b)),
-            (a, b, (true, headers))
-        );
-    }
-    for (a, b) in [
-        ([4, 0, 3, 0x80].as_slice(), [4, 0, 3, 0].as_slice()),
-        (&plain, &[8, 0, 2, 0, 5, 0, 0, 0]),
-        (&[], &plain),
-        (&plain, &[]),
-    ] {
-        assert_eq!(rt;
-            (a, b, lists_same::<InfoXfrm>(&rt, (), a, b).0),
-            (a, b, false)
-        );
-    }
+    compare_lists::<InfoXfrm>(&rt, (), PAIRS);
 }
 
 /// Whether the first attributes of two strings are the same, with the headers that were looked at for the answer.
@@ -141,13 +143,13 @@ fn firsts_same(rt: &impl Abort, a: &[u8], b: &[u8]) -> (bool, usize) {
 }
 
 #[test]
-fn first_attributes_stand_alone(rt: HostRuntime) -> Result<(), Fail> {
+fn first_attributes_stand_alone(rt: HostRuntime) {
     let header = error(Family::Frame, 0, Cause::Header);
     let one = [8, 0, 1, 0x40, 7, 0, 0, 0];
     let two = [8, 0, 1, 0, 7, 0, 0, 0, 9, 9];
     let mut count = HeaderCount::new();
-    let equal = first_read::<InfoVrf>(rt.alloc(), &two, (), &mut count)? == InfoVrf::TableId(7);
-    assert_eq!(rt; (equal, count.get()), (true, 1));
+    let read = first_read::<InfoVrf>(rt.alloc(), &two, (), &mut count).expect(&rt, "a value");
+    assert_eq!(rt; (read == InfoVrf::TableId(7), count.get()), (true, 1));
     for (bytes, answer) in [
         (two.as_slice(), (Ok(()), 1)),
         (&[], (Err(header), 0)),
@@ -160,5 +162,4 @@ fn first_attributes_stand_alone(rt: HostRuntime) -> Result<(), Fail> {
     }
     assert_eq!(rt; firsts_same(&rt, &one, &two), (true, 2));
     laws::reading_back::<InfoVrf>(&one, ());
-    Ok(())
 }
