@@ -1,11 +1,11 @@
 //! What the tests ask of one string or one value.
 
 use linkinfo::{
-    CanonError, Cause, DecodeError, Family, HeaderCount, InfoData, InfoKind, LinkInfo, Nla, Nlas,
-    VecLinkInfo, VecLinkInfoOf, canon, check, check_counted, emit_nlas, nlas_buffer_len,
-    nlas_fit_len, same,
+    Bytes, CanonError, Cause, DecodeError, DefaultNla, Family, HeaderCount, InfoData, InfoKind,
+    LinkInfo, Nla, Nlas, Text, VecLinkInfo, VecLinkInfoOf, canon, check, check_counted, emit_nlas,
+    nlas_buffer_len, nlas_fit_len, same,
 };
-use std::alloc::{AllocError, Global};
+use std::alloc::Global;
 use std::process::Abort;
 
 /// The fault of a header that is not accepted.
@@ -25,7 +25,7 @@ pub fn link_fault(kind: u16, cause: Cause) -> DecodeError {
 }
 
 /// The bytes of a text in hexadecimal digits, between which spaces may stand.
-pub fn bytes_of(rt: &impl Abort, alloc: Global, text: &str) -> Result<Vec<u8>, AllocError> {
+pub fn bytes_of(rt: &impl Abort, alloc: Global, text: &str) -> Vec<u8> {
     let mut bytes = Vec::new(alloc);
     let mut high = None;
     for character in text.as_bytes() {
@@ -38,18 +38,43 @@ pub fn bytes_of(rt: &impl Abort, alloc: Global, text: &str) -> Result<Vec<u8>, A
         match high {
             None => high = Some(digit << 4),
             Some(first) => {
-                bytes.push(first | digit)?;
+                bytes.push(first | digit).expect(rt, "memory");
                 high = None;
             }
         }
     }
     assert!(rt; high.is_none(), "an even number of digits in {text}");
-    Ok(bytes)
+    bytes
 }
 
 /// Attributes of a family.
-pub fn nlas<T: Drop, const N: usize>(alloc: Global, items: [T; N]) -> Result<Nlas<T>, AllocError> {
-    Ok(Nlas::new(Vec::from_array(alloc, items)?))
+pub fn nlas<T: Drop, const N: usize>(rt: &impl Abort, alloc: Global, items: [T; N]) -> Nlas<T> {
+    Nlas::new(Vec::from_array(alloc, items).expect(rt, "memory"))
+}
+
+/// A copy of the bytes.
+pub fn copied(rt: &impl Abort, alloc: Global, bytes: &[u8]) -> Bytes {
+    Bytes::copy_of(alloc, bytes).expect(rt, "memory")
+}
+
+/// A copy of the text.
+pub fn text_of(rt: &impl Abort, alloc: Global, text: &str) -> Text {
+    Text::copy_of(alloc, text).expect(rt, "memory")
+}
+
+/// An attribute of a type and a payload, which is kept.
+pub fn default_nla(rt: &impl Abort, alloc: Global, kind: u16, payload: &[u8]) -> DefaultNla {
+    DefaultNla::new(kind, payload.to_vec(alloc).expect(rt, "memory"))
+}
+
+/// The byte this many times.
+pub fn repeated(rt: &impl Abort, alloc: Global, byte: u8, count: usize) -> Vec<u8> {
+    vec![in alloc; byte; count].expect(rt, "memory")
+}
+
+/// The list that the string is read as.
+pub fn parsed(rt: &impl Abort, alloc: Global, bytes: &[u8]) -> VecLinkInfo {
+    VecLinkInfo::parse(alloc, bytes).expect(rt, "a list")
 }
 
 /// A link of a kind with its data.
@@ -59,10 +84,11 @@ pub fn link(kind: InfoKind, data: InfoData) -> [LinkInfo; 2] {
 
 /// A list of these attributes.
 pub fn list_of<const N: usize>(
+    rt: &impl Abort,
     alloc: Global,
     items: [LinkInfo; N],
-) -> Result<VecLinkInfo, AllocError> {
-    Ok(VecLinkInfoOf(nlas(alloc, items)?))
+) -> VecLinkInfo {
+    VecLinkInfoOf(nlas(rt, alloc, items))
 }
 
 /// The buffer begins with the string, and the three bytes behind it are 255, as they were.
@@ -75,22 +101,14 @@ fn assert_written(rt: &impl Abort, buffer: &[u8], string: &[u8]) {
 }
 
 /// The list is emitted as the string into a longer buffer, whose last three bytes stay.
-pub fn assert_emitted<T: Nla>(
-    rt: &impl Abort,
-    alloc: Global,
-    items: &[T],
-    string: &[u8],
-) -> Result<(), AllocError> {
-    let fit = nlas_fit_len(items);
-    assert_eq!(rt; (string, fit), (string, Some(string.len())));
-    assert!(rt; fit.is_some());
+pub fn assert_emitted<T: Nla>(rt: &impl Abort, alloc: Global, items: &[T], string: &[u8]) {
+    let fit = nlas_fit_len(items).expect(rt, "a list that fits");
     let len = nlas_buffer_len(items);
-    assert_eq!(rt; (string, len), (string, string.len()));
+    assert_eq!(rt; (string, fit, len), (string, string.len(), string.len()));
     assert!(rt; len <= 100_000);
-    let mut buffer = vec![in alloc; 255u8; len + 3]?;
+    let mut buffer = vec![in alloc; 255u8; len + 3].expect(rt, "memory");
     emit_nlas(items, &mut buffer);
     assert_written(rt, &buffer, string);
-    Ok(())
 }
 
 /// The list of these attributes is emitted as the string.
@@ -99,15 +117,15 @@ pub fn assert_built<const N: usize>(
     alloc: Global,
     items: [LinkInfo; N],
     string: &[u8],
-) -> Result<(), AllocError> {
-    assert_emitted(rt, alloc, items.as_slice(), string)
+) {
+    assert_emitted(rt, alloc, items.as_slice(), string);
 }
 
 /// Whether the strings are read as equal lists.
-pub fn reads_equal(alloc: Global, a: &[u8], b: &[u8]) -> Result<bool, DecodeError> {
-    let first = VecLinkInfo::parse(alloc, a)?;
-    let second = VecLinkInfo::parse(alloc, b)?;
-    Ok(first == second)
+pub fn reads_equal(rt: &impl Abort, alloc: Global, a: &[u8], b: &[u8]) -> bool {
+    let first = parsed(rt, alloc, a);
+    let second = parsed(rt, alloc, b);
+    first == second
 }
 
 /// The string is read as the list of these attributes.
@@ -116,22 +134,13 @@ pub fn assert_read_as<const N: usize>(
     alloc: Global,
     bytes: &[u8],
     items: [LinkInfo; N],
-) -> Result<(), DecodeError> {
-    assert_read(rt, alloc, bytes, &list_of(alloc, items)?)
+) {
+    assert_read(rt, alloc, bytes, &list_of(rt, alloc, items));
 }
 
 /// The bytes are accepted, are the same as the canonical string in either order, and are made that string in one call.
-fn assert_accepted(
-    rt: &impl Abort,
-    alloc: Global,
-    bytes: &[u8],
-    canonical: &[u8],
-) -> Result<(), DecodeError> {
-    let string = match canon(alloc, bytes) {
-        Ok(string) => string,
-        Err(CanonError::Refused(fault)) => return Err(fault),
-        Err(CanonError::Unfit) => panic!(rt; "the list fits"),
-    };
+fn assert_accepted(rt: &impl Abort, alloc: Global, bytes: &[u8], canonical: &[u8]) {
+    let string = canon(alloc, bytes).expect(rt, "a canonical string");
     assert_eq!(rt;
         (
             bytes,
@@ -142,38 +151,30 @@ fn assert_accepted(
         ),
         (bytes, Ok(()), Ok(true), Ok(true), canonical)
     );
-    Ok(())
+}
+
+/// The list that the string is read as, where headers are counted.
+fn parsed_counted(rt: &impl Abort, alloc: Global, bytes: &[u8]) -> VecLinkInfo {
+    let mut count = HeaderCount::new();
+    VecLinkInfo::parse_counted(alloc, bytes, &mut count).expect(rt, "a list")
 }
 
 /// The bytes are read as the list, whether headers are counted or not.
-fn assert_read(
-    rt: &impl Abort,
-    alloc: Global,
-    bytes: &[u8],
-    wanted: &VecLinkInfo,
-) -> Result<(), DecodeError> {
-    let equal = VecLinkInfo::parse(alloc, bytes)? == *wanted;
-    let mut count = HeaderCount::new();
-    let counted = VecLinkInfo::parse_counted(alloc, bytes, &mut count)? == *wanted;
+fn assert_read(rt: &impl Abort, alloc: Global, bytes: &[u8], wanted: &VecLinkInfo) {
+    let equal = parsed(rt, alloc, bytes) == *wanted;
+    let counted = parsed_counted(rt, alloc, bytes) == *wanted;
     assert_eq!(rt; (bytes, equal, counted), (bytes, true, true));
-    Ok(())
 }
 
 /// The string is read as the list, and the list is emitted as its canonical string, which reads as the same list.
-fn assert_list(
-    rt: &impl Abort,
-    alloc: Global,
-    text: &str,
-    list: &VecLinkInfo,
-    canonical: &str,
-) -> Result<(), DecodeError> {
-    let string = bytes_of(rt, alloc, canonical)?;
-    let bytes = bytes_of(rt, alloc, text)?;
-    assert_emitted(rt, alloc, list.as_slice(), &string)?;
-    assert_read(rt, alloc, &bytes, list)?;
-    assert_read(rt, alloc, &string, list)?;
-    assert_accepted(rt, alloc, &bytes, &string)?;
-    assert_accepted(rt, alloc, &string, &string)
+fn assert_list(rt: &impl Abort, alloc: Global, text: &str, list: &VecLinkInfo, canonical: &str) {
+    let string = bytes_of(rt, alloc, canonical);
+    let bytes = bytes_of(rt, alloc, text);
+    assert_emitted(rt, alloc, list.as_slice(), &string);
+    assert_read(rt, alloc, &bytes, list);
+    assert_read(rt, alloc, &string, list);
+    assert_accepted(rt, alloc, &bytes, &string);
+    assert_accepted(rt, alloc, &string, &string);
 }
 
 /// The string is read as the list of these attributes, which is emitted as its canonical string.
@@ -183,27 +184,16 @@ pub fn assert_reads<const N: usize>(
     text: &str,
     items: [LinkInfo; N],
     canonical: &str,
-) -> Result<(), DecodeError> {
-    assert_list(rt, alloc, text, &list_of(alloc, items)?, canonical)
-}
-
-/// The list that the string is read as.
-fn read_list(rt: &impl Abort, alloc: Global, text: &str) -> Result<VecLinkInfo, DecodeError> {
-    VecLinkInfo::parse(alloc, &bytes_of(rt, alloc, text)?)
+) {
+    assert_list(rt, alloc, text, &list_of(rt, alloc, items), canonical);
 }
 
 /// The string is read as the value, written as `Debug` writes it, which is emitted as the canonical string.
-pub fn assert_value(
-    rt: &impl Abort,
-    alloc: Global,
-    text: &str,
-    canonical: &str,
-    value: &str,
-) -> Result<(), DecodeError> {
-    let read = read_list(rt, alloc, text)?;
-    let written = format!(in alloc; "{:?}", read.as_slice())?;
+pub fn assert_value(rt: &impl Abort, alloc: Global, text: &str, canonical: &str, value: &str) {
+    let read = parsed(rt, alloc, &bytes_of(rt, alloc, text));
+    let written = format!(in alloc; "{:?}", read.as_slice()).expect(rt, "memory");
     assert_eq!(rt; (text, written.as_str()), (text, value));
-    assert_list(rt, alloc, text, &read, canonical)
+    assert_list(rt, alloc, text, &read, canonical);
 }
 
 /// The string is refused with this fault by every call.
@@ -249,43 +239,29 @@ pub fn assert_headers(
 }
 
 /// The payload of the attribute is emitted by itself as what stands behind the header of the string.
-fn assert_payload<T: Nla>(
-    rt: &impl Abort,
-    alloc: Global,
-    value: &T,
-    string: &[u8],
-) -> Result<(), AllocError> {
-    let Some(len) = value.fit_len() else {
-        panic!(rt; "the value fits");
-    };
+fn assert_payload<T: Nla>(rt: &impl Abort, alloc: Global, value: &T, string: &[u8]) {
+    let len = value.fit_len().expect(rt, "a value that fits");
     assert!(rt; len <= 65_531);
-    let mut buffer = vec![in alloc; 255u8; len]?;
+    let mut buffer = vec![in alloc; 255u8; len].expect(rt, "memory");
     let payload_len = value.value_len();
     value.emit_value(&mut buffer);
     assert_eq!(rt;
         (payload_len, string.get(4..4 + len)),
         (len, Some(buffer.as_slice()))
     );
-    Ok(())
 }
 
 /// The attribute is emitted as the string, with its type, and its payload by itself.
-pub fn assert_attribute<T: Nla>(
-    rt: &impl Abort,
-    alloc: Global,
-    value: &T,
-    string: &[u8],
-) -> Result<(), AllocError> {
-    assert_payload(rt, alloc, value, string)?;
-    assert!(rt; value.fit_len().is_some());
+pub fn assert_attribute<T: Nla>(rt: &impl Abort, alloc: Global, value: &T, string: &[u8]) {
+    assert_payload(rt, alloc, value, string);
+    value.fit_len().expect(rt, "a value that fits");
     let len = value.buffer_len();
     assert_eq!(rt;
         (len, string.get(2..4)),
         (string.len(), Some(value.kind().to_le_bytes().as_slice()))
     );
     assert!(rt; len <= 100_000);
-    let mut buffer = vec![in alloc; 255u8; len + 3]?;
+    let mut buffer = vec![in alloc; 255u8; len + 3].expect(rt, "memory");
     value.emit(&mut buffer);
     assert_written(rt, &buffer, string);
-    Ok(())
 }

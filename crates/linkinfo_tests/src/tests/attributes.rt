@@ -1,22 +1,16 @@
 //! Each value written as an attribute.
 
-use super::assertions::{assert_attribute, bytes_of, nlas};
+use super::assertions::{assert_attribute, bytes_of, copied, default_nla, nlas, repeated};
 use linkinfo::{
-    BitPeer, Bytes, DefaultNla, InfoData, InfoDataOf, InfoKind, InfoPortData, InfoPortKind,
-    InfoVeth, InfoVethOf, InfoVrf, InfoXfrm, LinkInfo, LinkXstats, Nla,
+    BitPeer, Bytes, InfoData, InfoDataOf, InfoKind, InfoPortData, InfoPortKind, InfoVeth,
+    InfoVethOf, InfoVrf, InfoXfrm, LinkInfo, LinkXstats, Nla,
 };
-use std::alloc::{AllocError, Global};
+use std::alloc::Global;
 use std::process::Abort;
-use std::test::Fail;
 
 /// The attribute is emitted as this string.
-fn assert_written<T: Nla + Drop>(
-    rt: &impl Abort,
-    alloc: Global,
-    value: T,
-    string: &str,
-) -> Result<(), AllocError> {
-    assert_attribute(rt, alloc, &value, &bytes_of(rt, alloc, string)?)
+fn assert_written<T: Nla + Drop>(rt: &impl Abort, alloc: Global, value: T, string: &str) {
+    assert_attribute(rt, alloc, &value, &bytes_of(rt, alloc, string));
 }
 
 /// The attribute is emitted as this string, and is equal to its clone.
@@ -25,70 +19,73 @@ fn assert_clones<T: Nla + Drop + Clone + PartialEq>(
     alloc: Global,
     value: T,
     string: &str,
-) -> Result<(), AllocError> {
-    let equal = value.clone()? == value;
+) {
+    let equal = value.clone().expect(rt, "memory") == value;
     assert_eq!(rt; (string, equal), (string, true));
-    assert_written(rt, alloc, value, string)
+    assert_written(rt, alloc, value, string);
 }
 
 #[test]
-fn data_is_written(rt: HostRuntime) -> Result<(), Fail> {
+fn data_is_written(rt: HostRuntime) {
     let alloc = rt.alloc();
-    let xfrm = InfoData::Xfrm(nlas(alloc, [InfoXfrm::IfId(5)])?);
-    assert_written(&rt, alloc, xfrm, "0c000200 08000200 05000000")?;
-    let vrf = InfoData::Vrf(nlas(alloc, [InfoVrf::TableId(5)])?);
-    assert_written(&rt, alloc, vrf, "0c000200 08000100 05000000")?;
-    let peer = InfoVeth::Peer(Bytes::copy_of(alloc, &[0xaa, 0xbb])?);
+    let xfrm = InfoData::Xfrm(nlas(&rt, alloc, [InfoXfrm::IfId(5)]));
+    assert_written(&rt, alloc, xfrm, "0c000200 08000200 05000000");
+    let vrf = InfoData::Vrf(nlas(&rt, alloc, [InfoVrf::TableId(5)]));
+    assert_written(&rt, alloc, vrf, "0c000200 08000100 05000000");
+    let peer = InfoVeth::Peer(copied(&rt, alloc, &[0xaa, 0xbb]));
     let veth = InfoData::Veth(peer);
-    assert_written(&rt, alloc, veth, "0c000200 06000100 aabb0000")?;
+    assert_written(&rt, alloc, veth, "0c000200 06000100 aabb0000");
     let bit = InfoDataOf::Veth(InfoVethOf::Peer(BitPeer(true)));
-    assert_written(&rt, alloc, bit, "0c000200 05000100 01000000")?;
+    assert_written(&rt, alloc, bit, "0c000200 05000100 01000000");
     // Without a family.
-    let other = InfoData::Other(Bytes::copy_of(alloc, &[7])?);
-    assert_clones(&rt, alloc, other, "05000200 07000000")?;
-    Ok(())
+    let other = InfoData::Other(copied(&rt, alloc, &[7]));
+    assert_clones(&rt, alloc, other, "05000200 07000000");
+}
+
+/// How long the value is written, where it fits.
+fn len_of<T: Nla + Drop>(value: T) -> Option<usize> {
+    value.fit_len()
 }
 
 /// How long data of this many bytes is written, where it fits.
-fn len_of_bytes(alloc: Global, count: usize) -> Result<Option<usize>, AllocError> {
-    let value = InfoData::Other(Bytes::new(vec![in alloc; 0u8; count]?));
-    Ok(value.fit_len())
+fn len_of_bytes(rt: &impl Abort, alloc: Global, count: usize) -> Option<usize> {
+    len_of(InfoData::Other(Bytes::new(repeated(rt, alloc, 0, count))))
 }
 
 #[test]
-fn longest_data_fits(rt: HostRuntime) -> Result<(), Fail> {
+fn longest_data_fits(rt: HostRuntime) {
     let alloc = rt.alloc();
     assert_eq!(rt;
-        [len_of_bytes(alloc, 65531)?, len_of_bytes(alloc, 65532)?],
+        [
+            len_of_bytes(&rt, alloc, 65531),
+            len_of_bytes(&rt, alloc, 65532)
+        ],
         [Some(65531), None]
     );
-    Ok(())
 }
 
 #[test]
-fn port_data_is_written(rt: HostRuntime) -> Result<(), Fail> {
+fn port_data_is_written(rt: HostRuntime) {
     let alloc = rt.alloc();
-    let vrf = InfoPortData::VrfPort(nlas(alloc, [InfoVrf::TableId(5)])?);
-    assert_clones(&rt, alloc, vrf, "0c000500 08000100 05000000")?;
-    let other = InfoPortData::Other(Bytes::copy_of(alloc, &[7, 8])?);
-    assert_written(&rt, alloc, other, "06000500 07080000")?;
-    Ok(())
+    let vrf = InfoPortData::VrfPort(nlas(&rt, alloc, [InfoVrf::TableId(5)]));
+    assert_clones(&rt, alloc, vrf, "0c000500 08000100 05000000");
+    let other = InfoPortData::Other(copied(&rt, alloc, &[7, 8]));
+    assert_written(&rt, alloc, other, "06000500 07080000");
 }
 
 #[test]
-fn attributes_are_written(rt: HostRuntime) -> Result<(), Fail> {
+fn attributes_are_written(rt: HostRuntime) {
     let alloc = rt.alloc();
     let kind = LinkInfo::Kind(InfoKind::Vrf);
-    assert_written(&rt, alloc, kind, "08000100 76726600")?;
-    let data = LinkInfo::Data(InfoData::Other(Bytes::copy_of(alloc, &[])?));
-    assert_written(&rt, alloc, data, "04000200")?;
-    let statistics = LinkInfo::Xstats(LinkXstats::Other(Bytes::copy_of(alloc, &[1, 2])?));
-    assert_written(&rt, alloc, statistics, "06000300 01020000")?;
+    assert_written(&rt, alloc, kind, "08000100 76726600");
+    let data = LinkInfo::Data(InfoData::Other(copied(&rt, alloc, &[])));
+    assert_written(&rt, alloc, data, "04000200");
+    let statistics = LinkInfo::Xstats(LinkXstats::Other(copied(&rt, alloc, &[1, 2])));
+    assert_written(&rt, alloc, statistics, "06000300 01020000");
     let kind = LinkInfo::PortKind(InfoPortKind::Vrf);
-    assert_written(&rt, alloc, kind, "08000400 76726600")?;
-    let data = LinkInfo::PortData(InfoPortData::Other(Bytes::copy_of(alloc, &[7])?));
-    assert_written(&rt, alloc, data, "05000500 07000000")?;
-    let unknown = LinkInfo::Other(DefaultNla::new(0x8009, vec![in alloc; 7u8]?));
-    assert_written(&rt, alloc, unknown, "05000980 07000000")?;
-    Ok(())
+    assert_written(&rt, alloc, kind, "08000400 76726600");
+    let data = LinkInfo::PortData(InfoPortData::Other(copied(&rt, alloc, &[7])));
+    assert_written(&rt, alloc, data, "05000500 07000000");
+    let unknown = LinkInfo::Other(default_nla(&rt, alloc, 0x8009, &[7]));
+    assert_written(&rt, alloc, unknown, "05000980 07000000");
 }

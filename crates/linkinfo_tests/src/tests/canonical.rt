@@ -2,13 +2,11 @@
 
 use super::assertions::link_fault;
 use linkinfo::{CanonError, Cause};
-use std::test::Fail;
 
 #[test]
-fn refusals_in_words(rt: HostRuntime) -> Result<(), Fail> {
+fn refusals_in_words(rt: HostRuntime) {
     let alloc = rt.alloc();
     let refused = CanonError::Refused(link_fault(2, Cause::Order));
-    let text = format!(in alloc; "{refused}, {}", CanonError::Unfit)?;
+    let text = format!(in alloc; "{refused}, {}", CanonError::Unfit).expect(&rt, "memory");
     assert_eq!(rt; text.as_str(), "linkinfo 2 order, unfit");
-    Ok(())
 }

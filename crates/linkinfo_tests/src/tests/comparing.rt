@@ -8,7 +8,6 @@ use super::worked::{
     VETH, VETH_TAIL, XFRM, XSTATS,
 };
 use linkinfo::{HeaderCount, same, same_counted};
-use std::test::Fail;
 
 /// Strings that are accepted, and whether they are the same.
 const PAIRS: &[(&str, &str, bool)] = &[
@@ -47,12 +46,12 @@ const PAIRS: &[(&str, &str, bool)] = &[
 ];
 
 #[test]
-fn compares_strings(rt: HostRuntime) -> Result<(), Fail> {
+fn compares_strings(rt: HostRuntime) {
     let alloc = rt.alloc();
     for (a, b, wanted) in PAIRS {
-        let first = bytes_of(&rt, alloc, a)?;
-        let second = bytes_of(&rt, alloc, b)?;
-        let equal = reads_equal(alloc, &first, &second)?;
+        let first = bytes_of(&rt, alloc, a);
+        let second = bytes_of(&rt, alloc, b);
+        let equal = reads_equal(&rt, alloc, &first, &second);
         let mut count = HeaderCount::new();
         let counted = same_counted(&first, &second, &mut count);
         assert_eq!(rt;
@@ -61,5 +60,4 @@ fn compares_strings(rt: HostRuntime) -> Result<(), Fail> {
             "{a} and {b}"
         );
     }
-    Ok(())
 }

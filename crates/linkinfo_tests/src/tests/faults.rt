@@ -3,7 +3,6 @@
 use super::assertions::{HEADER_FAULT, assert_refused, bytes_of, link_fault};
 use super::worked::{FIRST_FAULT, IP6TNL_SHORT_FLAGS, SECOND_PORT_DATA, VETH_EMPTY, XFRM};
 use linkinfo::{Cause, DecodeError, Family, VecLinkInfo, check, same};
-use std::test::Fail;
 
 /// Strings that are refused at their own level: the family, the type and the cause of the fault.
 const REFUSED: &[(&str, Family, u16, Cause)] = &[
@@ -27,21 +26,21 @@ const REFUSED: &[(&str, Family, u16, Cause)] = &[
 ];
 
 #[test]
-fn answers_the_first_fault(rt: HostRuntime) -> Result<(), Fail> {
+fn answers_the_first_fault(rt: HostRuntime) {
     let alloc = rt.alloc();
     let length = DecodeError {
         family: Family::Vrf,
         kind: 1,
         cause: Cause::Length,
     };
-    let bytes = bytes_of(&rt, alloc, FIRST_FAULT)?;
+    let bytes = bytes_of(&rt, alloc, FIRST_FAULT);
     assert_refused(&rt, alloc, &bytes, length);
 
     // Of two strings the fault of the first, else that of the second.
     let order = [8, 0, 2, 0, 0, 0, 0, 0];
     let header = [8, 0, 1];
     let fault = link_fault(2, Cause::Order);
-    let accepted = bytes_of(&rt, alloc, XFRM)?;
+    let accepted = bytes_of(&rt, alloc, XFRM);
     assert_eq!(rt;
         [
             same(&order, &header),
@@ -50,13 +49,12 @@ fn answers_the_first_fault(rt: HostRuntime) -> Result<(), Fail> {
         ],
         [Err(fault), Err(HEADER_FAULT), Err(fault)]
     );
-    Ok(())
 }
 
 #[test]
-fn accepted_fronts_of_one_string(rt: HostRuntime) -> Result<(), Fail> {
+fn accepted_fronts_of_one_string(rt: HostRuntime) {
     let alloc = rt.alloc();
-    let bytes = bytes_of(&rt, alloc, XFRM)?;
+    let bytes = bytes_of(&rt, alloc, XFRM);
     assert_eq!(rt; bytes.len(), 32);
     for end in 0..=32 {
         let front = &bytes[..end];
@@ -70,7 +68,6 @@ fn accepted_fronts_of_one_string(rt: HostRuntime) -> Result<(), Fail> {
             assert_refused(&rt, alloc, front, HEADER_FAULT);
         }
     }
-    Ok(())
 }
 
 /// Links whose data is refused: the family, the type and the cause of the fault.
@@ -151,11 +148,11 @@ const REFUSED_DATA: &[(&str, Family, u16, Cause)] = &[
 ];
 
 #[test]
-fn refuses_strings(rt: HostRuntime) -> Result<(), Fail> {
+fn refuses_strings(rt: HostRuntime) {
     let alloc = rt.alloc();
     for rows in [REFUSED, REFUSED_DATA] {
         for (text, family, kind, cause) in rows {
-            let bytes = bytes_of(&rt, alloc, text)?;
+            let bytes = bytes_of(&rt, alloc, text);
             let fault = DecodeError {
                 family: *family,
                 kind: *kind,
@@ -164,5 +161,4 @@ fn refuses_strings(rt: HostRuntime) -> Result<(), Fail> {
             assert_refused(&rt, alloc, &bytes, fault);
         }
     }
-    Ok(())
 }

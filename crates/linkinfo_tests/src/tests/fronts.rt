@@ -8,7 +8,6 @@ use linkinfo::{
 };
 use std::alloc::Global;
 use std::process::Abort;
-use std::test::Fail;
 
 /// Lists and single attributes.
 const STRINGS: &[&str] = &[
@@ -100,12 +99,11 @@ pub fn assert_fronts(rt: &impl Abort, alloc: Global, bytes: &[u8]) {
 }
 
 #[test]
-fn every_front(rt: HostRuntime) -> Result<(), Fail> {
+fn every_front(rt: HostRuntime) {
     for text in STRINGS {
-        let bytes = bytes_of(&rt, rt.alloc(), text)?;
+        let bytes = bytes_of(&rt, rt.alloc(), text);
         assert_fronts(&rt, rt.alloc(), &bytes);
     }
-    Ok(())
 }
 
 /// Links with peers, each of a kind and data: the string, the length of the kind without its padding, and the fault where peers are bits.
@@ -146,10 +144,10 @@ fn assert_front_of_bits(rt: &impl Abort, alloc: Global, front: &[u8], fault: Opt
 }
 
 #[test]
-fn every_front_of_bits(rt: HostRuntime) -> Result<(), Fail> {
+fn every_front_of_bits(rt: HostRuntime) {
     let alloc = rt.alloc();
     for (text, kind_len, fault) in PEERS {
-        let bytes = bytes_of(&rt, alloc, text)?;
+        let bytes = bytes_of(&rt, alloc, text);
         for end in 0..=bytes.len() {
             // A whole attribute may lack the padding behind it.
             let wanted = if end == bytes.len() {
@@ -162,5 +160,4 @@ fn every_front_of_bits(rt: HostRuntime) -> Result<(), Fail> {
             assert_front_of_bits(&rt, alloc, &bytes[..end], wanted);
         }
     }
-    Ok(())
 }

@@ -3,10 +3,9 @@
 
 use super::assertions::{assert_value, bytes_of, reads_equal};
 use super::fronts::assert_fronts;
-use linkinfo::{DecodeError, same};
+use linkinfo::same;
 use std::alloc::Global;
 use std::process::Abort;
-use std::test::Fail;
 
 /// A canonical string, one that differs from it in one value, and what the first is read as.
 type Canonical = (&'static str, &'static str, &'static str);
@@ -403,53 +402,43 @@ const REWRITTEN_ATTRIBUTES: &[Rewritten] = &[
 ];
 
 /// The strings are read as two values. Each front of the first is read as it is checked.
-fn assert_changed(
-    rt: &impl Abort,
-    alloc: Global,
-    text: &str,
-    changed: &str,
-) -> Result<(), DecodeError> {
-    let a = bytes_of(rt, alloc, text)?;
-    let b = bytes_of(rt, alloc, changed)?;
-    let equal = reads_equal(alloc, &a, &b)?;
+fn assert_changed(rt: &impl Abort, alloc: Global, text: &str, changed: &str) {
+    let a = bytes_of(rt, alloc, text);
+    let b = bytes_of(rt, alloc, changed);
+    let equal = reads_equal(rt, alloc, &a, &b);
     assert_eq!(rt;
         (text, equal, same(&a, &b), same(&b, &a)),
         (text, false, Ok(false), Ok(false))
     );
     assert_fronts(rt, alloc, &a);
-    Ok(())
 }
 
 /// Each row is read, emitted and compared as `Canonical` says.
-fn assert_canonical(rt: &impl Abort, alloc: Global, rows: &[Canonical]) -> Result<(), DecodeError> {
+fn assert_canonical(rt: &impl Abort, alloc: Global, rows: &[Canonical]) {
     for (string, changed, value) in rows {
-        assert_value(rt, alloc, string, string, value)?;
-        assert_changed(rt, alloc, string, changed)?;
+        assert_value(rt, alloc, string, string, value);
+        assert_changed(rt, alloc, string, changed);
     }
-    Ok(())
 }
 
 /// Each row is read, emitted and compared as `Rewritten` says.
-fn assert_rewritten(rt: &impl Abort, alloc: Global, rows: &[Rewritten]) -> Result<(), DecodeError> {
+fn assert_rewritten(rt: &impl Abort, alloc: Global, rows: &[Rewritten]) {
     for (string, canonical, changed, value) in rows {
-        assert_value(rt, alloc, string, canonical, value)?;
-        assert_changed(rt, alloc, string, changed)?;
+        assert_value(rt, alloc, string, canonical, value);
+        assert_changed(rt, alloc, string, changed);
     }
-    Ok(())
 }
 
 #[test]
-fn canonical_lists(rt: HostRuntime) -> Result<(), Fail> {
+fn canonical_lists(rt: HostRuntime) {
     for rows in [TUNNELS, DEVICES, PEERS, LOWER, BYTES, PORTS, ATTRIBUTES] {
-        assert_canonical(&rt, rt.alloc(), rows)?;
+        assert_canonical(&rt, rt.alloc(), rows);
     }
-    Ok(())
 }
 
 #[test]
-fn rewritten_lists(rt: HostRuntime) -> Result<(), Fail> {
+fn rewritten_lists(rt: HostRuntime) {
     for rows in [REWRITTEN, REWRITTEN_ATTRIBUTES] {
-        assert_rewritten(&rt, rt.alloc(), rows)?;
+        assert_rewritten(&rt, rt.alloc(), rows);
     }
-    Ok(())
 }

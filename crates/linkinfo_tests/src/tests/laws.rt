@@ -9,7 +9,6 @@ use linkinfo::{
     laws,
 };
 use std::process::Abort;
-use std::test::Fail;
 
 /// The fault of a table number of one byte.
 const LENGTH_FAULT: DecodeError = DecodeError {
@@ -19,18 +18,17 @@ const LENGTH_FAULT: DecodeError = DecodeError {
 };
 
 #[test]
-fn strings_are_framed(rt: HostRuntime) -> Result<(), Fail> {
+fn strings_are_framed(rt: HostRuntime) {
     let alloc = rt.alloc();
     for (text, fault, headers) in [
         (XFRM, None, 4),
         (FIRST_FAULT, Some(LENGTH_FAULT), 3),
         ("080001", Some(HEADER_FAULT), 0),
     ] {
-        let bytes = bytes_of(&rt, alloc, text)?;
+        let bytes = bytes_of(&rt, alloc, text);
         laws::framed::<Bytes>(&bytes);
         assert_headers(&rt, alloc, &bytes, fault, headers);
     }
-    Ok(())
 }
 
 /// The tags of the items of a walk, which goes on to its end or to a fault behind them.
@@ -47,10 +45,10 @@ fn assert_tags(rt: &impl Abort, bytes: &[u8], tags: &[(Option<KindTag>, Option<P
 }
 
 #[test]
-fn tags_are_those_of_the_last_names(rt: HostRuntime) -> Result<(), Fail> {
+fn tags_are_those_of_the_last_names(rt: HostRuntime) {
     let alloc = rt.alloc();
     laws::in_force::<Bytes>();
-    let later = bytes_of(&rt, alloc, LATER_KIND)?;
+    let later = bytes_of(&rt, alloc, LATER_KIND);
     laws::tags_by_place(&later);
     let tags = [
         (None, None),
@@ -58,17 +56,16 @@ fn tags_are_those_of_the_last_names(rt: HostRuntime) -> Result<(), Fail> {
         (Some(KindTag::Xfrm), None),
     ];
     assert_tags(&rt, &later, &tags);
-    let ports = bytes_of(&rt, alloc, SECOND_PORT_DATA)?;
+    let ports = bytes_of(&rt, alloc, SECOND_PORT_DATA);
     laws::tags_by_place(&ports);
     assert_tags(&rt, &ports, &[(None, None), (None, Some(PortTag::Vrf))]);
-    Ok(())
 }
 
 #[test]
-fn items_are_equal_wherever_they_are(rt: HostRuntime) -> Result<(), Fail> {
+fn items_are_equal_wherever_they_are(rt: HostRuntime) {
     let alloc = rt.alloc();
-    let bytes = bytes_of(&rt, alloc, DATA_TWICE)?;
-    let copy = bytes_of(&rt, alloc, DATA_TWICE)?;
+    let bytes = bytes_of(&rt, alloc, DATA_TWICE);
+    let copy = bytes_of(&rt, alloc, DATA_TWICE);
     laws::equal_items();
     let mut walk = LinkInfoWalk::new(&bytes);
     let mut other = LinkInfoWalk::new(&copy);
@@ -77,11 +74,10 @@ fn items_are_equal_wherever_they_are(rt: HostRuntime) -> Result<(), Fail> {
         [first == other.next(), first == other.next()],
         [true, false]
     );
-    Ok(())
 }
 
 #[test]
-fn no_string_means_want_of_memory(rt: HostRuntime) -> Result<(), Fail> {
+fn no_string_means_want_of_memory(rt: HostRuntime) {
     let alloc = rt.alloc();
     laws::no_memory::<BitPeer>();
     for (text, fault) in [
@@ -89,32 +85,29 @@ fn no_string_means_want_of_memory(rt: HostRuntime) -> Result<(), Fail> {
         (FIRST_FAULT, Some(LENGTH_FAULT)),
         ("080001", Some(HEADER_FAULT)),
     ] {
-        let bytes = bytes_of(&rt, alloc, text)?;
+        let bytes = bytes_of(&rt, alloc, text);
         assert_eq!(rt; check_of::<BitPeer>(&bytes).err(), fault, "{text}");
     }
-    Ok(())
 }
 
 #[test]
-fn data_under_pfcp_changed_alone(rt: HostRuntime) -> Result<(), Fail> {
+fn data_under_pfcp_changed_alone(rt: HostRuntime) {
     let alloc = rt.alloc();
     for (text, fault) in [
         (PFCP_NO_NUL, None),
         (XFRM, None),
         (PFCP_NOT_FRAMED, Some(HEADER_FAULT)),
     ] {
-        let bytes = bytes_of(&rt, alloc, text)?;
+        let bytes = bytes_of(&rt, alloc, text);
         laws::pfcp::<Bytes>(&bytes);
         assert_eq!(rt; check(&bytes).err(), fault, "{text}");
     }
-    Ok(())
 }
 
 #[test]
-fn unknown_attributes_are_kept(rt: HostRuntime) -> Result<(), Fail> {
+fn unknown_attributes_are_kept(rt: HostRuntime) {
     let text = "05000980 07000000";
     let value = "[Other(DefaultNla { kind: 32777, value: Bytes { bytes: [7] } })]";
     laws::unknown_kept::<Bytes>();
-    assert_value(&rt, rt.alloc(), text, text, value)?;
-    Ok(())
+    assert_value(&rt, rt.alloc(), text, text, value);
 }

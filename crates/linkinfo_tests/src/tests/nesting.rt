@@ -1,11 +1,10 @@
 //! Address lists inside address lists.
 
-use super::assertions::{assert_emitted, assert_headers};
+use super::assertions::{assert_emitted, assert_headers, parsed};
 use super::fronts::assert_fronts;
-use linkinfo::{Cause, DecodeError, Family, InfoData, InfoMacVlan, LinkInfo, VecLinkInfo, same};
-use std::alloc::{AllocError, Global};
+use linkinfo::{Cause, DecodeError, Family, InfoData, InfoMacVlan, LinkInfo, same};
+use std::alloc::Global;
 use std::process::Abort;
-use std::test::Fail;
 
 /// The fault of a list inside 128 others.
 const TOO_DEEP: DecodeError = DecodeError {
@@ -29,43 +28,44 @@ const CHAINS: &[(u16, [u8; 8], usize, usize, Option<DecodeError>)] = &[
     ),
 ];
 
+/// Puts the header of an attribute of this length and type behind the bytes.
+fn put_header(rt: &impl Abort, bytes: &mut Vec<u8>, len: u16, kind: u8) {
+    let [low, high] = len.to_le_bytes();
+    let header = [low, high, kind, 0];
+    bytes.extend_from_slice(&header).expect(rt, "memory");
+}
+
 /// A macvlan link whose data is a chain of address lists, this many levels deep, of which the last one is empty.
-fn chain(rt: &impl Abort, alloc: Global, depth: u16) -> Result<Vec<u8>, AllocError> {
+fn chain(rt: &impl Abort, alloc: Global, depth: u16) -> Vec<u8> {
     assert!(rt; depth <= 16382);
     let kind = [12, 0, 1, 0, b'm', b'a', b'c', b'v', b'l', b'a', b'n', 0];
-    let mut bytes = Vec::from_array(alloc, kind)?;
-    let data_len = 4 + 4 * depth;
-    bytes.extend_from_slice(&data_len.to_le_bytes())?;
-    bytes.extend_from_slice(&[2, 0])?;
+    let mut bytes = Vec::from_array(alloc, kind).expect(rt, "memory");
+    put_header(rt, &mut bytes, 4 + 4 * depth, 2);
     for below in 0..depth {
-        let list_len = 4 * (depth - below);
-        bytes.extend_from_slice(&list_len.to_le_bytes())?;
-        bytes.extend_from_slice(&[5, 0])?;
+        put_header(rt, &mut bytes, 4 * (depth - below), 5);
     }
-    Ok(bytes)
+    bytes
 }
 
 #[test]
-fn counts_of_chains(rt: HostRuntime) -> Result<(), Fail> {
+fn counts_of_chains(rt: HostRuntime) {
     let alloc = rt.alloc();
     for (depth, begin, quarter, headers, fault) in CHAINS {
-        let bytes = chain(&rt, alloc, *depth)?;
+        let bytes = chain(&rt, alloc, *depth);
         assert_eq!(rt;
             (depth, bytes.get(12..20), bytes.len() / 4),
             (depth, Some(begin.as_slice()), *quarter)
         );
         assert_headers(&rt, alloc, &bytes, *fault, *headers);
     }
-    Ok(())
 }
 
 #[test]
-fn every_front_of_a_chain(rt: HostRuntime) -> Result<(), Fail> {
+fn every_front_of_a_chain(rt: HostRuntime) {
     let alloc = rt.alloc();
     for (depth, ..) in CHAINS {
-        assert_fronts(&rt, alloc, &chain(&rt, alloc, *depth)?);
+        assert_fronts(&rt, alloc, &chain(&rt, alloc, *depth));
     }
-    Ok(())
 }
 
 /// How many lists are in one another, each alone.
@@ -81,28 +81,21 @@ fn depth_of(items: &[InfoMacVlan]) -> usize {
 }
 
 /// The string is read as lists this deep, and is what is emitted for them.
-fn assert_chain(
-    rt: &impl Abort,
-    alloc: Global,
-    bytes: &[u8],
-    depth: u16,
-) -> Result<(), DecodeError> {
-    let read = VecLinkInfo::parse(alloc, bytes)?;
+fn assert_chain(rt: &impl Abort, alloc: Global, bytes: &[u8], depth: u16) {
+    let read = parsed(rt, alloc, bytes);
     let [LinkInfo::Kind(_), LinkInfo::Data(InfoData::MacVlan(items))] = read.as_slice() else {
         panic!(rt; "a macvlan link");
     };
     assert_eq!(rt; depth_of(items.as_slice()), usize::from(depth));
-    assert_emitted(rt, alloc, read.as_slice(), bytes)?;
-    Ok(())
+    assert_emitted(rt, alloc, read.as_slice(), bytes);
 }
 
 #[test]
-fn chains_are_canonical(rt: HostRuntime) -> Result<(), Fail> {
+fn chains_are_canonical(rt: HostRuntime) {
     let alloc = rt.alloc();
     for depth in [100, 128] {
-        assert_chain(&rt, alloc, &chain(&rt, alloc, depth)?, depth)?;
+        assert_chain(&rt, alloc, &chain(&rt, alloc, depth), depth);
     }
-    let longer = chain(&rt, alloc, 101)?;
-    assert_eq!(rt; same(&longer, &chain(&rt, alloc, 100)?), Ok(false));
-    Ok(())
+    let longer = chain(&rt, alloc, 101);
+    assert_eq!(rt; same(&longer, &chain(&rt, alloc, 100)), Ok(false));
 }

@@ -9,7 +9,6 @@ use linkinfo::{
 };
 use std::alloc::Global;
 use std::process::Abort;
-use std::test::Fail;
 
 /// A veth link whose peer is one byte.
 const PEER_OF_SEVEN: &str = "09000100 76657468 00000000 09000200 05000100 07";
@@ -31,41 +30,30 @@ fn assert_read(
     bytes: &[u8],
     wanted: &VecLinkInfoOf<BitPeer>,
     headers: usize,
-) -> Result<(), DecodeError> {
-    let equal = VecLinkInfoOf::<BitPeer>::parse(alloc, bytes)? == *wanted;
+) {
+    let equal = VecLinkInfoOf::<BitPeer>::parse(alloc, bytes).expect(rt, "a list") == *wanted;
     let mut count = HeaderCount::new();
-    let counted = VecLinkInfoOf::<BitPeer>::parse_counted(alloc, bytes, &mut count)? == *wanted;
+    let counted = VecLinkInfoOf::<BitPeer>::parse_counted(alloc, bytes, &mut count).expect(
+        rt, "a list",
+    ) == *wanted;
     assert_eq!(rt;
         (bytes, equal, counted, count.get()),
         (bytes, true, true, headers)
     );
-    Ok(())
 }
 
 /// The list is equal to its clone, and is written as the canonical string into a buffer and in one call.
-fn assert_written(
-    rt: &impl Abort,
-    alloc: Global,
-    list: &VecLinkInfoOf<BitPeer>,
-    canonical: &[u8],
-) -> Result<(), Fail> {
-    let equal = list.clone()? == *list;
-    assert_emitted(rt, alloc, list.as_slice(), canonical)?;
-    let written = list.to_vec(alloc)?;
+fn assert_written(rt: &impl Abort, alloc: Global, list: &VecLinkInfoOf<BitPeer>, canonical: &[u8]) {
+    let equal = list.clone().expect(rt, "memory") == *list;
+    assert_emitted(rt, alloc, list.as_slice(), canonical);
+    let written = list.to_vec(alloc).expect(rt, "a string");
     assert_eq!(rt; (equal, written.as_slice()), (true, canonical));
-    Ok(())
 }
 
 /// The bytes are made the canonical string in one call.
-fn assert_canonical(
-    rt: &impl Abort,
-    alloc: Global,
-    bytes: &[u8],
-    canonical: &[u8],
-) -> Result<(), Fail> {
-    let string = canon_of::<BitPeer>(alloc, bytes)?;
+fn assert_canonical(rt: &impl Abort, alloc: Global, bytes: &[u8], canonical: &[u8]) {
+    let string = canon_of::<BitPeer>(alloc, bytes).expect(rt, "a canonical string");
     assert_eq!(rt; string.as_slice(), canonical);
-    Ok(())
 }
 
 /// The list is that of the string and of the canonical one, by this many headers, and is written as the canonical one.
@@ -75,10 +63,10 @@ fn assert_list(
     list: VecLinkInfoOf<BitPeer>,
     (bytes, canonical): (&[u8], &[u8]),
     headers: usize,
-) -> Result<(), Fail> {
-    assert_read(rt, alloc, bytes, &list, headers)?;
-    assert_read(rt, alloc, canonical, &list, headers)?;
-    assert_written(rt, alloc, &list, canonical)
+) {
+    assert_read(rt, alloc, bytes, &list, headers);
+    assert_read(rt, alloc, canonical, &list, headers);
+    assert_written(rt, alloc, &list, canonical);
 }
 
 /// The string is read as a link of the kind with the data, by this many headers, and the link is written as the canonical string. The other
@@ -89,12 +77,12 @@ fn assert_bits(
     (text, other, canonical): (&str, &str, &str),
     items: [LinkInfoOf<BitPeer>; 2],
     headers: usize,
-) -> Result<(), Fail> {
-    let list = VecLinkInfoOf(nlas(alloc, items)?);
-    let canonical = bytes_of(rt, alloc, canonical)?;
-    let bytes = bytes_of(rt, alloc, text)?;
-    assert_list(rt, alloc, list, (&bytes, &canonical), headers)?;
-    let other = bytes_of(rt, alloc, other)?;
+) {
+    let list = VecLinkInfoOf(nlas(rt, alloc, items));
+    let canonical = bytes_of(rt, alloc, canonical);
+    let bytes = bytes_of(rt, alloc, text);
+    assert_list(rt, alloc, list, (&bytes, &canonical), headers);
+    let other = bytes_of(rt, alloc, other);
     assert_eq!(rt;
         (
             text,
@@ -103,8 +91,8 @@ fn assert_bits(
         ),
         (text, Ok(true), Ok(false))
     );
-    assert_canonical(rt, alloc, &bytes, &canonical)?;
-    assert_canonical(rt, alloc, &other, &canonical)
+    assert_canonical(rt, alloc, &bytes, &canonical);
+    assert_canonical(rt, alloc, &other, &canonical);
 }
 
 /// A link whose peer is a bit.
@@ -113,7 +101,7 @@ fn link(kind: InfoKind, data: InfoDataOf<BitPeer>) -> [LinkInfoOf<BitPeer>; 2] {
 }
 
 #[test]
-fn bits_of_links(rt: HostRuntime) -> Result<(), Fail> {
+fn bits_of_links(rt: HostRuntime) {
     let alloc = rt.alloc();
     let data = InfoDataOf::Veth(InfoVethOf::Peer(BitPeer(true)));
     let strings = (
@@ -121,34 +109,34 @@ fn bits_of_links(rt: HostRuntime) -> Result<(), Fail> {
         PEER_OF_NINE,
         "09000100 76657468 00000000 0c000200 05000100 01000000",
     );
-    assert_bits(&rt, alloc, strings, link(InfoKind::Veth, data), 3)?;
+    assert_bits(&rt, alloc, strings, link(InfoKind::Veth, data), 3);
     let data = InfoDataOf::Vxcan(InfoVxcanOf::Peer(BitPeer(true)));
     let strings = (
         "0a000100 76786361 6e000000 09000200 05000100 07",
         "0a000100 76786361 6e000000 09000200 05000100 09",
         "0a000100 76786361 6e000000 0c000200 05000100 01000000",
     );
-    assert_bits(&rt, alloc, strings, link(InfoKind::Vxcan, data), 3)?;
+    assert_bits(&rt, alloc, strings, link(InfoKind::Vxcan, data), 3);
     // Peers of both bits.
     let items = [
         InfoNetkitOf::Peer(BitPeer(true)),
         InfoNetkitOf::Primary(false),
         InfoNetkitOf::Peer(BitPeer(false)),
     ];
-    let data = InfoDataOf::Netkit(nlas(alloc, items)?);
+    let data = InfoDataOf::Netkit(nlas(&rt, alloc, items));
     let strings = (
         "0b000100 6e65746b 69740000 1c000200 05000100 07000000 05000200 00000000 05000100 00000000",
         "0b000100 6e65746b 69740000 1c000200 05000100 09000000 05000200 00000000 05000100 00000000",
         "0b000100 6e65746b 69740000 1c000200 05000100 01000000 05000200 00000000 05000100 00000000",
     );
-    assert_bits(&rt, alloc, strings, link(InfoKind::Netkit, data), 5)
+    assert_bits(&rt, alloc, strings, link(InfoKind::Netkit, data), 5);
 }
 
 #[test]
-fn checks_and_compares_bits(rt: HostRuntime) -> Result<(), Fail> {
+fn checks_and_compares_bits(rt: HostRuntime) {
     let alloc = rt.alloc();
-    let seven = bytes_of(&rt, alloc, PEER_OF_SEVEN)?;
-    let nine = bytes_of(&rt, alloc, PEER_OF_NINE)?;
+    let seven = bytes_of(&rt, alloc, PEER_OF_SEVEN);
+    let nine = bytes_of(&rt, alloc, PEER_OF_NINE);
     assert_eq!(rt;
         (
             check_of::<BitPeer>(&seven),
@@ -167,7 +155,6 @@ fn checks_and_compares_bits(rt: HostRuntime) -> Result<(), Fail> {
         (checked, checking.get(), answer, comparing.get()),
         (Ok(()), 3, Ok(true), 12)
     );
-    Ok(())
 }
 
 /// The fault of a string, where peers are bits.
@@ -176,9 +163,9 @@ fn fault_of(alloc: Global, bytes: &[u8]) -> Option<DecodeError> {
 }
 
 #[test]
-fn refuses_other_peers(rt: HostRuntime) -> Result<(), Fail> {
+fn refuses_other_peers(rt: HostRuntime) {
     let alloc = rt.alloc();
-    let bytes = bytes_of(&rt, alloc, VETH_TAIL)?;
+    let bytes = bytes_of(&rt, alloc, VETH_TAIL);
     assert_eq!(rt;
         (
             check_of::<BitPeer>(&bytes),
@@ -195,7 +182,6 @@ fn refuses_other_peers(rt: HostRuntime) -> Result<(), Fail> {
             Err(PEER_REFUSED)
         )
     );
-    Ok(())
 }
 
 /// Links with a peer of two bytes, and the families that their faults name.
@@ -215,10 +201,10 @@ const PEERS_OF_TWO_BYTES: &[(&str, Family)] = &[
 ];
 
 #[test]
-fn peers_that_are_no_bits(rt: HostRuntime) -> Result<(), Fail> {
+fn peers_that_are_no_bits(rt: HostRuntime) {
     let alloc = rt.alloc();
     for (text, family) in PEERS_OF_TWO_BYTES {
-        let bytes = bytes_of(&rt, alloc, text)?;
+        let bytes = bytes_of(&rt, alloc, text);
         let fault = DecodeError {
             family: *family,
             ..PEER_REFUSED
@@ -232,5 +218,4 @@ fn peers_that_are_no_bits(rt: HostRuntime) -> Result<(), Fail> {
             (Err(fault), Some(fault), Ok(true))
         );
     }
-    Ok(())
 }

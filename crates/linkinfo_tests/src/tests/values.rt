@@ -7,7 +7,6 @@ use super::worked::{
     LATER_KIND, MACVLAN_LIST, MACVLAN_SHORT_LIST, NETKIT_SCRUB, NETKIT_SCRUB_DEFAULT, OTHER_PORT,
     PFCP, PFCP_NO_NUL, PORT_DATA, SIT_FLAGS, TEAM_PORT, VETH, VETH_TAIL, VTI6, XSTATS,
 };
-use std::test::Fail;
 
 /// A string, the canonical one of the same list, and what both are read as, written as `Debug` writes it.
 const VALUES: &[(&str, &str, &str)] = &[
@@ -155,11 +154,10 @@ const LISTS: &[(&str, &str, &str)] = &[
 ];
 
 #[test]
-fn worked_values(rt: HostRuntime) -> Result<(), Fail> {
+fn worked_values(rt: HostRuntime) {
     for rows in [VALUES, LISTS] {
         for (text, canonical, value) in rows {
-            assert_value(&rt, rt.alloc(), text, canonical, value)?;
+            assert_value(&rt, rt.alloc(), text, canonical, value);
         }
     }
-    Ok(())
 }

@@ -4,7 +4,6 @@ use super::assertions::{HEADER_FAULT, bytes_of, link_fault};
 use super::worked::{DATA_TWICE, FIRST_FAULT, SECOND_PORT_DATA};
 use linkinfo::{Cause, DecodeError, KindTag, LinkInfoItem, LinkInfoWalk, PortTag};
 use std::process::Abort;
-use std::test::Fail;
 
 /// The walk gives these items, each at its place.
 fn assert_items(rt: &impl Abort, walk: &mut LinkInfoWalk<'_>, items: &[LinkInfoItem<'_>]) {
@@ -76,7 +75,7 @@ fn under_port(port: PortTag, item: LinkInfoItem<'_>) -> LinkInfoItem<'_> {
 }
 
 #[test]
-fn walks_over_kinds_and_data(rt: HostRuntime) -> Result<(), Fail> {
+fn walks_over_kinds_and_data(rt: HostRuntime) {
     let alloc = rt.alloc();
     assert_walk(&rt, &[], &[], None, 0, 0);
     let items = [
@@ -84,29 +83,27 @@ fn walks_over_kinds_and_data(rt: HostRuntime) -> Result<(), Fail> {
         under(KindTag::Xfrm, item(12, 2, &[])),
         under(KindTag::Xfrm, item(16, 2, &[8, 0, 2, 0, 5, 0, 0, 0])),
     ];
-    assert_walk(&rt, &bytes_of(&rt, alloc, DATA_TWICE)?, &items, None, 28, 3);
+    assert_walk(&rt, &bytes_of(&rt, alloc, DATA_TWICE), &items, None, 28, 3);
 
     // A payload is not looked at, so the fault is that of the stray byte.
     let items = [
         item(0, 1, b"vrf\0"),
         under(KindTag::Vrf, item(8, 2, &[5, 0, 1, 0, 7])),
     ];
-    let bytes = bytes_of(&rt, alloc, FIRST_FAULT)?;
+    let bytes = bytes_of(&rt, alloc, FIRST_FAULT);
     assert_walk(&rt, &bytes, &items, Some(HEADER_FAULT), 20, 2);
-    Ok(())
 }
 
 #[test]
-fn walks_over_ports(rt: HostRuntime) -> Result<(), Fail> {
+fn walks_over_ports(rt: HostRuntime) {
     let alloc = rt.alloc();
     let items = [
         item(0, 4, b"vrf\0"),
         under_port(PortTag::Vrf, item(8, 5, &[])),
     ];
-    let bytes = bytes_of(&rt, alloc, SECOND_PORT_DATA)?;
+    let bytes = bytes_of(&rt, alloc, SECOND_PORT_DATA);
     let order = link_fault(5, Cause::Order);
     assert_walk(&rt, &bytes, &items, Some(order), 12, 3);
-    Ok(())
 }
 
 #[test]
@@ -137,11 +134,11 @@ fn walks_end_at_faults(rt: HostRuntime) {
 }
 
 #[test]
-fn compares_and_clones_walks(rt: HostRuntime) -> Result<(), Fail> {
-    let bytes = bytes_of(&rt, rt.alloc(), DATA_TWICE)?;
+fn compares_and_clones_walks(rt: HostRuntime) {
+    let bytes = bytes_of(&rt, rt.alloc(), DATA_TWICE);
     let mut walk = LinkInfoWalk::new(&bytes);
     walk.next();
-    let mut copy = walk.clone()?;
+    let mut copy = walk.clone().expect(&rt, "memory");
     let (same, new) = (copy == walk, copy == LinkInfoWalk::new(&bytes));
     walk.next();
     let behind = copy == walk;
@@ -150,5 +147,4 @@ fn compares_and_clones_walks(rt: HostRuntime) -> Result<(), Fail> {
         (same, new, behind, copy == walk),
         (true, false, false, true)
     );
-    Ok(())
 }
