@@ -14,7 +14,7 @@ use std::alloc::Global;
 const LEAST_TYPED: usize = 8;
 
 /// The most values that room is reserved for before they are read.
-const MOST_RESERVED: usize = 32;
+const MOST_RESERVED: usize = 24;
 
 /// Reads the attributes that a byte slice frames. The fault of a list is that of its first attribute in byte order that has no header or
 /// no meaning. The empty slice is the empty list, and takes no memory. Once the first attribute is read, room is reserved for some of the others.
