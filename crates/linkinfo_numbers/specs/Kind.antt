@@ -7,14 +7,14 @@ use Rattle.std.proofs.Common.{inl, inr, sym, ap, subst, ◌∙◌, lit<}
 use Rattle.std.proofs.lemmas.Slice.Eq.{bytes_eq-Decides}
 use Rattle.nla_frame.specs.Attribute.{Attribute}
 use Rattle.nla_frame.specs.declared.error.DecodeError.{DecodeError}
-use Rattle.linkinfo_numbers.specs.declared.names.KindTag.{KindTag}
-use Rattle.linkinfo_numbers.specs.declared.names.KindTag.TheVariants as tag
+use Rattle.linkinfo_numbers.specs.declared.tags.KindTag.{KindTag}
+use Rattle.linkinfo_numbers.specs.declared.tags.KindTag.TheVariants as tag
 use Rattle.linkinfo_numbers.specs.declared.kind.InfoKind.{InfoKind}
 use Rattle.linkinfo_numbers.specs.declared.kind.InfoKind.TheVariants as kind
 use Rattle.linkinfo_numbers.specs.Table.{Table, IsTable, by_name, value_of, IsProper, apart_by, key-value_of, value_of-key, value_of_is_proper}
 use Rattle.linkinfo_numbers.specs.Name.{name_of, name_attribute, name_of-name_attribute, name_of_is_utf8}
-use Rattle.linkinfo_numbers.specs.Names.{Tags, IsTagged, ascii_is_utf8, is_ascii, tag_among, tag_at, tag-value_of, kind-tag_at, tag_at-key}
-use Rattle.linkinfo_numbers.specs.Names.{tag_among-of_length, tag_among-other_length}
+use Rattle.linkinfo_numbers.specs.Tags.{Tags, IsTagged, ascii_is_utf8, is_ascii, tag_among, tag_at, tag-value_of, kind-tag_at, tag_at-key}
+use Rattle.linkinfo_numbers.specs.Tags.{tag_among-of_length, tag_among-other_length}
 
 -- the text of each kind
 abbrev pub text_of_kind : InfoKind → List ℕ

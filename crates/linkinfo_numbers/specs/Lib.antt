@@ -11,7 +11,7 @@ pub mod Kind
 pub mod Macsec
 pub mod Macvlan
 pub mod Name
-pub mod Names
+pub mod Tags
 pub mod Netkit
 pub mod PortKind
 pub mod Rmnet

@@ -6,13 +6,13 @@ use Rattle.std.proofs.Common.{inl, inr, sym, ap, subst, ◌∙◌, lit<}
 use Rattle.std.proofs.lemmas.Slice.Eq.{bytes_eq-Decides}
 use Rattle.nla_frame.specs.Attribute.{Attribute}
 use Rattle.nla_frame.specs.declared.error.DecodeError.{DecodeError}
-use Rattle.linkinfo_numbers.specs.declared.names.PortTag.{PortTag}
-use Rattle.linkinfo_numbers.specs.declared.names.PortTag.TheVariants as tag
+use Rattle.linkinfo_numbers.specs.declared.tags.PortTag.{PortTag}
+use Rattle.linkinfo_numbers.specs.declared.tags.PortTag.TheVariants as tag
 use Rattle.linkinfo_numbers.specs.declared.port_kind.InfoPortKind.{InfoPortKind}
 use Rattle.linkinfo_numbers.specs.declared.port_kind.InfoPortKind.TheVariants as kind
 use Rattle.linkinfo_numbers.specs.Table.{Table, IsTable, by_name, value_of, IsProper, apart_by, key-value_of, value_of-key, value_of_is_proper}
 use Rattle.linkinfo_numbers.specs.Name.{name_of, name_attribute, name_of-name_attribute, name_of_is_utf8}
-use Rattle.linkinfo_numbers.specs.Names.{Tags, IsTagged, ascii_is_utf8, is_ascii, tag_at, tag-value_of, kind-tag_at, tag_at-key}
+use Rattle.linkinfo_numbers.specs.Tags.{Tags, IsTagged, ascii_is_utf8, is_ascii, tag_at, tag-value_of, kind-tag_at, tag_at-key}
 
 -- the text of each kind
 abbrev pub text_of_port_kind : InfoPortKind → List ℕ

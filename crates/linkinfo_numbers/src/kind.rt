@@ -4,13 +4,11 @@ ghost use Rattle.std.specs.Prelude.{◌≡◌, ◌≢◌, IfOk, IsOk};
 ghost use Rattle.linkinfo_numbers.specs.Kind.{kind_of_name, kind_of_tag, tag_of_kind, tag_of_name, text_of_kind};
 
 use crate::name::{emit_name, name_fit_len, name_of};
-use crate::names::{KindTag, tag_of_name};
+use crate::tags::{KindTag, tag_of_name};
+use crate::types::IFLA_INFO_KIND;
 use nla_frame::{DecodeError, ExactEq, Nla, NlaBuffer, Parseable, Text};
 use std::alloc::{AllocError, Global};
 use std::fmt;
-
-/// `IFLA_INFO_KIND`.
-const IFLA_INFO_KIND: u16 = 1;
 
 /// The kind of a link: `IFLA_INFO_KIND`, the name of its driver (include/uapi/linux/if_link.h).
 #[derive(Clone, Debug, PartialEq, Eq, Drop)]
@@ -217,7 +215,7 @@ impl InfoKind {
     }
 
     /// The name.
-    fn name(&self) -> &str
+    pub fn name(&self) -> &str
         ensures { result.now ≡ text_of_kind self.now }
     {
         kinds!(name_by_kinds self)

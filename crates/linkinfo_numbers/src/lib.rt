@@ -15,11 +15,12 @@ pub mod laws;
 mod macsec;
 mod macvlan;
 mod name;
-mod names;
 mod netkit;
 mod port_kind;
 mod rmnet;
+mod tags;
 mod tunnel;
+mod types;
 mod vxlan;
 mod word;
 
@@ -38,9 +39,12 @@ pub use macvlan::{
     MacVlanFlags, MacVlanMacAddressMode, MacVlanMode, MacVtapFlags, MacVtapMacAddressMode,
     MacVtapMode,
 };
-pub use names::{KindTag, PortTag, port_tag_of_name, tag_of_name};
 pub use netkit::{NetkitMode, NetkitPolicy, NetkitScrub};
 pub use port_kind::InfoPortKind;
 pub use rmnet::{InfoRmNetFlags, RmNetFlags};
+pub use tags::{KindTag, PortTag, port_tag_of_name, tag_of_name};
 pub use tunnel::{Ip6TunnelFlags, TunnelEncapFlags, TunnelEncapType};
+pub use types::{
+    IFLA_INFO_DATA, IFLA_INFO_KIND, IFLA_INFO_SLAVE_DATA, IFLA_INFO_SLAVE_KIND, IFLA_INFO_XSTATS,
+};
 pub use vxlan::VxlanDf;

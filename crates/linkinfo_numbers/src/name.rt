@@ -4,10 +4,7 @@ ghost use Rattle.std.specs.Prelude.{◌≡◌, ◌+◌, ◌≤◌, [], ◌∷◌
 ghost use Rattle.nla_frame.specs.Attribute.{Fits};
 ghost use Rattle.linkinfo_numbers.specs.Name.{name_of, name_attribute};
 
-use nla_frame::{Cause, DecodeError, Family, NlaBuffer, without_nul};
-
-/// The longest name that an attribute holds: its payload has a NUL more, and at most 65531 bytes.
-const NAME_LEN_MAX: usize = 65530;
+use nla_frame::{Cause, DecodeError, Family, NlaBuffer, fitting, without_nul};
 
 /// The name that an attribute of this type holds.
 ///
@@ -38,11 +35,7 @@ pub(crate) fn name_of<'a>(nla: &NlaBuffer<'a>, kind: u16) -> Result<&'a str, Dec
 pub(crate) fn name_fit_len(name: &str) -> Option<usize>
     ensures { SomeIff result (length name.now + 1 ≤ 65531) (length name.now + 1) }
 {
-    if name.len() <= NAME_LEN_MAX {
-        Some(name.len() + 1)
-    } else {
-        None
-    }
+    fitting(name.len() + 1)
 }
 
 /// Writes a name and its NUL. Asks for a buffer of exactly that length.

@@ -5,13 +5,11 @@ ghost use Rattle.linkinfo_numbers.specs.PortKind.{port_kind_of_name, port_kind_o
 ghost use Rattle.linkinfo_numbers.specs.PortKind.{text_of_port_kind};
 
 use crate::name::{emit_name, name_fit_len, name_of};
-use crate::names::{PortTag, port_tag_of_name};
+use crate::tags::{PortTag, port_tag_of_name};
+use crate::types::IFLA_INFO_SLAVE_KIND;
 use nla_frame::{DecodeError, ExactEq, Nla, NlaBuffer, Parseable, Text};
 use std::alloc::{AllocError, Global};
 use std::fmt;
-
-/// `IFLA_INFO_SLAVE_KIND`.
-const IFLA_INFO_SLAVE_KIND: u16 = 4;
 
 /// The kind of the link that a port belongs to: `IFLA_INFO_SLAVE_KIND`, the name of its driver (include/uapi/linux/if_link.h).
 #[derive(Clone, Debug, PartialEq, Eq, Drop)]
@@ -56,7 +54,7 @@ impl InfoPortKind {
     }
 
     /// The name.
-    fn name(&self) -> &str
+    pub fn name(&self) -> &str
         ensures { result.now ≡ text_of_port_kind self.now }
     {
         match self {

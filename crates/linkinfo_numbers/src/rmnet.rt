@@ -105,7 +105,9 @@ impl ExactEq for RmNetFlags {
 /// `struct ifla_rmnet_flags`: the flags, and which of them are meant.
 #[derive(Clone, Copy, Debug, PartialEq, Eq)]
 pub struct InfoRmNetFlags {
+    /// `flags`: the bits to set, native order on the wire.
     pub flags: RmNetFlags,
+    /// `mask`: the bits that are meant, native order on the wire.
     pub mask: RmNetFlags,
 }
 

@@ -1,7 +1,7 @@
 -- Attributes written into a buffer.
 use Rattle.std.proofs.Common.{◌≡◌, ℕ, ◌+◌, ◌-◌, ◌<◌, ◌≤◌, List, [], ◌∷◌, ◌++◌, length, take, drop, map, get_or, refl, sym, ap, subst, ◌∙◌, append_assoc, arith}
 use Rattle.std.specs.List.{AllByRecursion}
-use Rattle.std.proofs.lemmas.List.{take_at, drop_at, length-append, length-take, length-drop, length-replicate, append-nil, drop-drop, drop_all, take_all, at_drop_more}
+use Rattle.std.proofs.lemmas.List.{take_at, drop_at, length-append, length-take, length-drop, length-replicate, append-nil, drop-drop, take-append-drop, drop_all, take_all, at_drop_more}
 use borrow.Rule.Slice.PartMut.{put_mid}
 use Rattle.nla_frame.specs.Attribute.{Attribute, Fits, ListFits, pad, aligned, canonical_string, list_string, buffer_len_of}
 
@@ -88,6 +88,51 @@ framed_behind a old rest len width kind size wide same room written =
     ap (λ (b : List ℕ). canonical_string (record { kind = kind; value = take len (drop 4 b) }) ++ drop (4 + aligned len) b) as_value
     ∙ framed_at a old a.value len kind size same room refl
 
+-- ---- a string written step by step: into a buffer up to a place, with the rest of it left to write
+
+pub record Written (whole left : List ℕ) (at : ℕ) (old buffer : List ℕ) : Type 0 where
+  pub place : at + length left ≡ length whole
+  pub kept : drop at buffer ≡ drop at old
+  pub written : take at buffer ++ left ≡ whole
+
+pub nothing_written : (whole old : List ℕ) → Written whole whole 0 old old
+nothing_written whole old = record { place = omega arith; kept = refl; written = refl }
+
+-- one text more: `piece` is what stands from that place on
+pub write_text : (whole left text more : List ℕ) (at : ℕ) (old buffer : List ℕ) → Written whole left at old buffer → left ≡ text ++ more →
+    length whole ≤ length buffer → (n : ℕ) → n ≡ length text → (k : ℕ) → k ≡ length buffer - at → (piece : List ℕ) →
+    piece ≡ text ++ drop n (take k (drop at buffer)) → Written whole more (at + n) old (put_mid at k buffer piece)
+write_text whole left text more at old buffer before one room n size k wide piece new =
+    let long : length text ≡ n = sym size in
+    let within : at ≤ length buffer = omega (arith, before.place, room) in
+    let now = placed buffer at k n text piece wide new in
+    record {
+      place = omega (arith, before.place, ap length one, length-append text more, long);
+      kept =
+          ap (λ y. drop (at + n) y) now
+          ∙ drop_placed buffer at n text within long
+          ∙ sym (drop-drop n at buffer)
+          ∙ ap (λ y. drop n y) before.kept
+          ∙ drop-drop n at old;
+      written =
+          ap (λ y. take (at + n) y ++ more) now
+          ∙ ap (λ y. y ++ more) (take_placed buffer at n text within long)
+          ∙ append_assoc (take at buffer) text more
+          ∙ ap (λ y. take at buffer ++ y) (sym one)
+          ∙ before.written;
+    }
+
+-- nothing left
+pub all_taken : (whole left : List ℕ) (at : ℕ) (old buffer : List ℕ) → Written whole left at old buffer → left ≡ [] → at ≡ length whole
+all_taken whole left at old buffer w none = omega (arith, w.place, ap length none)
+
+pub all_written : (whole left : List ℕ) (at : ℕ) (old buffer : List ℕ) → Written whole left at old buffer → left ≡ [] → buffer ≡ whole ++ drop (length whole) old
+all_written whole left at old buffer w none =
+    let front : take at buffer ≡ whole = sym (append-nil (take at buffer)) ∙ ap (λ y. take at buffer ++ y) (sym none) ∙ w.written in
+    sym (take-append-drop at buffer)
+    ∙ (λ i. front i ++ w.kept i)
+    ∙ ap (λ (n : ℕ). whole ++ drop n old) (all_taken whole left at old buffer w none)
+
 -- ---- one item more
 
 pub one_more : {X : Type 0} (f : X → Attribute) (xs : List X) (i : ℕ) (x : X) → i < length xs → x ≡ get_or xs i x →
@@ -114,25 +159,9 @@ pub write_one : {X : Type 0} (f : X → Attribute) (xs : List X) (i at : ℕ) (o
     (k : ℕ) → k ≡ length buffer - at → (piece : List ℕ) → piece ≡ canonical_string (f x) ++ drop n (take k (drop at buffer)) →
     WrittenUpTo f xs (i + 1) (at + n) old (put_mid at k buffer piece)
 write_one f xs i at old buffer before room x more is n size k wide piece new =
-    let text = canonical_string (f x) in
-    let rest = list_string (map f (drop (i + 1) xs)) in
-    let one = one_more f xs i x more is in
-    let long : length text ≡ n = length-canonical_string (f x) ∙ sym size in
-    let within : at ≤ length buffer = omega (arith, before.place, room) in
-    let now = placed buffer at k n text piece wide new in
-    record {
-      place = omega (arith, before.place, ap length one, length-append text rest, long);
-      each = (fits_more f xs i x more is before.each).1;
-      kept =
-          ap (λ y. drop (at + n) y) now
-          ∙ drop_placed buffer at n text within long
-          ∙ sym (drop-drop n at buffer)
-          ∙ ap (λ y. drop n y) before.kept
-          ∙ drop-drop n at old;
-      written =
-          ap (λ y. take (at + n) y ++ rest) now
-          ∙ ap (λ y. y ++ rest) (take_placed buffer at n text within long)
-          ∙ append_assoc (take at buffer) text rest
-          ∙ ap (λ y. take at buffer ++ y) (sym one)
-          ∙ before.written;
-    }
+    let so_far : Written (list_string (map f xs)) (list_string (map f (drop i xs))) at old buffer =
+    record { place = before.place; kept = before.kept; written = before.written } in
+    let now =
+    write_text (list_string (map f xs)) (list_string (map f (drop i xs))) (canonical_string (f x)) (list_string (map f (drop (i + 1) xs))) at old buffer so_far
+    (one_more f xs i x more is) room n (size ∙ sym (length-canonical_string (f x))) k wide piece new in
+    record { place = now.place; each = (fits_more f xs i x more is before.each).1; kept = now.kept; written = now.written }

@@ -1,5 +1,6 @@
 pub mod Answers
 pub mod Attribute
+pub mod Canonical
 pub mod Derived
 pub mod Error
 pub mod Framing

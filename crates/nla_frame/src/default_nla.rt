@@ -14,7 +14,9 @@ use std::alloc::Global;
 /// An attribute of a type that no family names, with its whole 16-bit type, flag bits included, and its payload.
 #[derive(Debug, PartialEq, Eq, Clone, Drop)]
 pub struct DefaultNla {
+    /// `nla_type` whole, with its two flag bits.
     pub kind: u16,
+    /// The payload, without padding.
     pub value: Bytes,
 }
 

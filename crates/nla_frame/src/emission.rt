@@ -48,6 +48,33 @@ pub fn put_frame(buffer: &mut [u8], kind: u16, len: usize)
     buffer[end..end.next_multiple_of(4)].fill(0);
 }
 
+/// Writes bytes at the front of the buffer, leaves what stands behind them, and answers how many there are. Asks for a buffer of at least as
+/// many.
+#[inline(always)]
+pub fn put_bytes(bytes: &[u8], buffer: &mut [u8]) -> usize
+    requires { length bytes.now ≤ length buffer.old }
+    ensures taken { result ≡ length bytes.now }
+    ensures written { buffer.new ≡ bytes.now ++ drop (length bytes.now) buffer.old }
+{
+    let len = bytes.len();
+    buffer[..len].copy_from_slice(bytes);
+    len
+}
+
+/// Writes the attribute of a 16-bit type and a payload, its header, payload and zero padding, at the front of the buffer, leaves the bytes behind
+/// it, and answers its length. Asks that a length field can count the payload, and for a buffer of at least the attribute's length.
+#[inline(always)]
+pub fn put_bytes_attribute(kind: u16, value: &[u8], buffer: &mut [u8]) -> usize
+    requires fits { length value.now ≤ 65531 }
+    requires room { buffer_len_of (record { kind = kind; value = value.now }) ≤ length buffer.old }
+    ensures taken { result ≡ buffer_len_of (record { kind = kind; value = value.now }) }
+    ensures written { buffer.new ≡ canonical_string (record { kind = kind; value = value.now }) ++ drop (buffer_len_of (record { kind = kind; value = value.now })) buffer.old }
+{
+    let len = put_bytes(value, &mut buffer[4..]);
+    put_frame(buffer, kind, len);
+    4 + len.next_multiple_of(4)
+}
+
 /// Writes length and type at the front, each as a little-endian u16.
 #[inline(always)]
 fn put_header(buffer: &mut [u8], length: u16, kind: u16)

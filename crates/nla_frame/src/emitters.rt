@@ -4,6 +4,7 @@ ghost use Rattle.std.specs.Prelude.{◌≡◌, ◌≤◌, ◌++◌, drop, length
 ghost use Rattle.std.specs.Int.{w16, w32, w64, cast_unsigned, to_be_bytes, to_le_bytes};
 
 /// Writes the number as two bytes, little-endian. Asks for a buffer of at least two bytes.
+#[inline(always)]
 pub fn emit_u16(buffer: &mut [u8], value: u16)
     requires { 2 ≤ length buffer.old }
     ensures { buffer.new ≡ to_le_bytes w16 value ++ drop 2 buffer.old }
@@ -12,6 +13,7 @@ pub fn emit_u16(buffer: &mut [u8], value: u16)
 }
 
 /// Writes the number as four bytes, little-endian. Asks for a buffer of at least four bytes.
+#[inline(always)]
 pub fn emit_u32(buffer: &mut [u8], value: u32)
     requires { 4 ≤ length buffer.old }
     ensures { buffer.new ≡ to_le_bytes w32 value ++ drop 4 buffer.old }
@@ -20,6 +22,7 @@ pub fn emit_u32(buffer: &mut [u8], value: u32)
 }
 
 /// Writes the number as eight bytes, little-endian. Asks for a buffer of at least eight bytes.
+#[inline(always)]
 pub fn emit_u64(buffer: &mut [u8], value: u64)
     requires { 8 ≤ length buffer.old }
     ensures { buffer.new ≡ to_le_bytes w64 value ++ drop 8 buffer.old }
@@ -28,6 +31,7 @@ pub fn emit_u64(buffer: &mut [u8], value: u64)
 }
 
 /// Writes the number as four bytes, two's complement and little-endian. Asks for a buffer of at least four bytes.
+#[inline(always)]
 pub fn emit_i32(buffer: &mut [u8], value: i32)
     requires { 4 ≤ length buffer.old }
     ensures { buffer.new ≡ to_le_bytes w32 (cast_unsigned w32 value) ++ drop 4 buffer.old }
@@ -36,6 +40,7 @@ pub fn emit_i32(buffer: &mut [u8], value: i32)
 }
 
 /// Writes the number as two bytes, big-endian. Asks for a buffer of at least two bytes.
+#[inline(always)]
 pub fn emit_u16_be(buffer: &mut [u8], value: u16)
     requires { 2 ≤ length buffer.old }
     ensures { buffer.new ≡ to_be_bytes w16 value ++ drop 2 buffer.old }
@@ -44,6 +49,7 @@ pub fn emit_u16_be(buffer: &mut [u8], value: u16)
 }
 
 /// Writes the number as four bytes, big-endian. Asks for a buffer of at least four bytes.
+#[inline(always)]
 pub fn emit_u32_be(buffer: &mut [u8], value: u32)
     requires { 4 ≤ length buffer.old }
     ensures { buffer.new ≡ to_be_bytes w32 value ++ drop 4 buffer.old }
@@ -52,6 +58,7 @@ pub fn emit_u32_be(buffer: &mut [u8], value: u32)
 }
 
 /// Writes the number as eight bytes, big-endian. Asks for a buffer of at least eight bytes.
+#[inline(always)]
 pub fn emit_u64_be(buffer: &mut [u8], value: u64)
     requires { 8 ≤ length buffer.old }
     ensures { buffer.new ≡ to_be_bytes w64 value ++ drop 8 buffer.old }

@@ -14,45 +14,81 @@ pub enum Family {
     Frame,
     /// The list that stands inside `IFLA_LINKINFO`.
     LinkInfo,
+    /// The data of `amt` links.
     Amt,
+    /// The data of `bareudp` links.
     BareUdp,
+    /// The data of `batadv` links.
     BatAdv,
+    /// The data of `bond` links.
     Bond,
+    /// The port data under `bond`.
     BondPort,
+    /// The data of `bridge` links.
     Bridge,
+    /// The port data under `bridge`.
     BridgePort,
+    /// The data of `can` links.
     Can,
+    /// The data of `dsa` links.
     Dsa,
+    /// The data of `geneve` links.
     Geneve,
+    /// The data of `gre`, `gretap` and `erspan` links.
     Gre,
+    /// The data of `ip6gre`, `ip6gretap` and `ip6erspan` links.
     Gre6,
+    /// The data of `gtp` links.
     Gtp,
+    /// The data of `hsr` links.
     Hsr,
+    /// The data of `ipip`, `ip6tnl` and `sit` links.
     IpTunnel,
+    /// The data of `ipvlan` links.
     IpVlan,
+    /// The data of `ipvtap` links.
     IpVtap,
+    /// The data of `ipoib` links.
     Ipoib,
+    /// The data of `macsec` links.
     MacSec,
+    /// The data of `macvlan` links.
     MacVlan,
+    /// The data of `macvtap` links.
     MacVtap,
+    /// The data of `netkit` links.
     Netkit,
+    /// The data of `pfcp` links.
     Pfcp,
+    /// The data of `rmnet` links.
     RmNet,
+    /// The port data under `team`.
     TeamPort,
+    /// The data of `tun` links.
     Tun,
+    /// The data of `veth` links.
     Veth,
+    /// The data of `vlan` links.
     Vlan,
+    /// The data of `vrf` links, and the port data under `vrf`.
     Vrf,
+    /// The data of `vti` and `vti6` links.
     Vti,
+    /// The data of `vxcan` links.
     Vxcan,
+    /// The data of `vxlan` links.
     Vxlan,
+    /// The data of `wireguard` links.
     Wireguard,
+    /// The data of `wwan` links.
     Wwan,
+    /// The data of `xfrm` links.
     Xfrm,
 }
 
 impl Family {
-    fn name(self) -> &'static str
+    /// Its name in lower case, as `linkinfo` or `bareudp`.
+    pub fn name(self) -> &'static str
         ensures { result.now ≡ family_name self }
     {
         match self {
@@ -143,7 +179,8 @@ impl Cause {
         self as u8
     }
 
-    fn name(self) -> &'static str
+    /// Its name in lower case, as `header` or `addresskind`.
+    pub fn name(self) -> &'static str
         ensures { result.now ≡ cause_name self }
     {
         match self {
@@ -179,8 +216,11 @@ impl fmt::Display for Cause {
 /// type (its two flag bits cleared) of the attribute at fault; the cause `Word` comes with type 0.
 #[derive(Clone, Copy, Debug, PartialEq, Eq)]
 pub struct DecodeError {
+    /// The list in which the attribute at fault stands.
     pub family: Family,
+    /// The type of the attribute at fault without its flag bits, or 0.
     pub kind: u16,
+    /// What is wrong with it.
     pub cause: Cause,
 }
 

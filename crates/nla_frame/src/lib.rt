@@ -21,7 +21,8 @@ pub use buffer::{NlaBuffer, next_piece};
 pub use bytes::Bytes;
 pub use default_nla::DefaultNla;
 pub use emission::{
-    emit_nlas, fitting, nlas_buffer_len, nlas_fit_len, put_attribute, put_attributes, put_frame,
+    emit_nlas, fitting, nlas_buffer_len, nlas_fit_len, put_attribute, put_attributes, put_bytes,
+    put_bytes_attribute, put_frame,
 };
 pub use emitters::{emit_i32, emit_u16, emit_u16_be, emit_u32, emit_u32_be, emit_u64, emit_u64_be};
 pub use error::{Cause, DecodeError, Family};

@@ -3,7 +3,7 @@
 use bitflags::Flags;
 use linkinfo_numbers::{
     GreEncapFlags, GreIOFlags, InfoRmNetFlags, Ip6TunnelFlags, IpVlanFlags, KeepsEveryBit,
-    MacVlanFlags, RmNetFlags, TunnelEncapFlags, bits_again,
+    MacVlanFlags, RmNetFlags, TunnelEncapFlags, bits_again, laws,
 };
 use nla_frame::is_equal;
 use std::collections::hash_map::DefaultHasher;
@@ -90,6 +90,37 @@ fn named_bits_of_devices(rt: HostRuntime) {
     );
 }
 
+/// How many flags of a set have names, and the first name.
+fn names<F: Flags>() -> (usize, Option<&'static str>) {
+    let flags = F::flags();
+    let named = flags.iter().filter(|flag| flag.is_named()).count();
+    (named, flags.first().map(|flag| flag.name()))
+}
+
+#[test]
+fn flags_have_names(rt: HostRuntime) {
+    assert_eq!(rt;
+        [
+            names::<GreIOFlags>(),
+            names::<GreEncapFlags>(),
+            names::<TunnelEncapFlags>(),
+            names::<Ip6TunnelFlags>(),
+            names::<IpVlanFlags>(),
+            names::<MacVlanFlags>(),
+            names::<RmNetFlags>(),
+        ],
+        [
+            (9, Some("Checksum")),
+            (3, Some("Checksum")),
+            (3, Some("CSum")),
+            (10, Some("IgnEncapLimit")),
+            (2, Some("Private")),
+            (2, Some("NoPromisc")),
+            (6, Some("IngressDeaggregation")),
+        ]
+    );
+}
+
 #[test]
 fn every_number_is_a_set(rt: HostRuntime) {
     for bits in [0u16, 1, 0x0006, 0x0007, 0x0008, 0xa000, 0x7fff, u16::MAX] {
@@ -145,6 +176,7 @@ fn hash_of<T: Hash>(value: &T) -> u64 {
 
 #[test]
 fn equal_sets_hash_alike(rt: HostRuntime) {
+    laws::equal_sets_hash_alike();
     let made = TunnelEncapFlags::CSum.union(TunnelEncapFlags::RemCSum);
     assert_eq!(rt;
         hash_of(&made),

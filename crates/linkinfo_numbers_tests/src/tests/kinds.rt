@@ -1,6 +1,8 @@
 //! Kinds of links and ports: names, tags, attributes.
 
-use linkinfo_numbers::{InfoKind, InfoPortKind, KindTag, PortTag, port_tag_of_name, tag_of_name};
+use linkinfo_numbers::{
+    InfoKind, InfoPortKind, KindTag, PortTag, laws, port_tag_of_name, tag_of_name,
+};
 use nla_frame::{Cause, DecodeError, ExactEq, Family, Nla, NlaBuffer, Parseable, Text, is_equal};
 use std::alloc::Global;
 use std::process::Abort;
@@ -177,6 +179,21 @@ fn fault(kind: u16, cause: Cause) -> DecodeError {
         family: Family::LinkInfo,
         kind,
         cause,
+    }
+}
+
+#[test]
+fn kinds_of_tags(rt: HostRuntime) {
+    laws::kind_texts();
+    for (name, tag) in KINDS {
+        let kind = InfoKind::from_tag(*tag);
+        assert_eq!(rt; kind.as_ref().map(|kind| kind.name()), Some(*name));
+    }
+    assert!(rt; InfoKind::from_tag(KindTag::Other).is_none());
+    for (name, tag) in PORT_KINDS {
+        let kind = InfoPortKind::from_tag(*tag);
+        let wanted = (*tag != PortTag::Other).then_some(*name);
+        assert_eq!(rt; kind.as_ref().map(|kind| kind.name()), wanted);
     }
 }
 

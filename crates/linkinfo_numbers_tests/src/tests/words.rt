@@ -2,7 +2,7 @@
 
 use linkinfo_numbers::{
     AmtMode, ErSpanDir, GeneveDf, GreEncapType, GtpRole, IpVlanMode, MacVlanMode, NetkitMode,
-    NetkitPolicy, NetkitScrub, TunnelEncapType, VxlanDf,
+    NetkitPolicy, NetkitScrub, TunnelEncapType, VxlanDf, laws,
 };
 use nla_frame::{Cause, DecodeError, Family};
 use std::alloc::Global;
@@ -17,6 +17,15 @@ fn check_texts<T: Display>(rt: &impl Abort, alloc: Global, rows: &[(T, &str)]) -
         assert_eq!(rt; value.to_string(alloc)?.as_str(), *text);
     }
     Ok(())
+}
+
+/// The fault of a text that names no value of the family.
+fn word_fault(family: Family) -> DecodeError {
+    DecodeError {
+        family,
+        kind: 0,
+        cause: Cause::Word,
+    }
 }
 
 /// Each named value's text reads back as it, and the other texts are refused.
@@ -34,165 +43,124 @@ where
         assert_eq!(rt; T::from_str(text), Ok(*value));
     }
     for text in ["", "0", "other", "L2", "Gateway", "gateway ", "set\0"] {
-        assert_eq!(rt;
-            T::from_str(text),
-            Err(DecodeError {
-                family,
-                kind: 0,
-                cause: Cause::Word,
-            })
-        );
+        assert_eq!(rt; T::from_str(text), Err(word_fault(family)));
     }
     Ok(())
 }
 
+// The values that a word names, and their words.
+
+const AMT_WORDS: &[(AmtMode, &str)] = &[(AmtMode::Gateway, "gateway"), (AmtMode::Relay, "relay")];
+
+const GENEVE_WORDS: &[(GeneveDf, &str)] = &[
+    (GeneveDf::Unset, "unset"),
+    (GeneveDf::Set, "set"),
+    (GeneveDf::Inherit, "inherit"),
+];
+
+const IP_VLAN_WORDS: &[(IpVlanMode, &str)] = &[
+    (IpVlanMode::L2, "l2"),
+    (IpVlanMode::L3, "l3"),
+    (IpVlanMode::L3S, "l3s"),
+];
+
+const MAC_VLAN_WORDS: &[(MacVlanMode, &str)] = &[
+    (MacVlanMode::Private, "private"),
+    (MacVlanMode::Vepa, "vepa"),
+    (MacVlanMode::Bridge, "bridge"),
+    (MacVlanMode::Passthrough, "passthru"),
+    (MacVlanMode::Source, "source"),
+];
+
+const NETKIT_MODE_WORDS: &[(NetkitMode, &str)] = &[(NetkitMode::L2, "l2"), (NetkitMode::L3, "l3")];
+
+const NETKIT_POLICY_WORDS: &[(NetkitPolicy, &str)] = &[
+    (NetkitPolicy::Pass, "forward"),
+    (NetkitPolicy::Drop, "blackhole"),
+    (NetkitPolicy::Redirect, "redirect"),
+];
+
+const NETKIT_SCRUB_WORDS: &[(NetkitScrub, &str)] = &[
+    (NetkitScrub::None, "none"),
+    (NetkitScrub::Default, "default"),
+];
+
 #[test]
 fn words(rt: HostRuntime) -> Result<(), Fail> {
     let alloc = rt.alloc();
-    check_words(
-        &rt,
-        alloc,
-        Family::Amt,
-        &[(AmtMode::Gateway, "gateway"), (AmtMode::Relay, "relay")],
-    )?;
-    check_words(
-        &rt,
-        alloc,
-        Family::Geneve,
-        &[
-            (GeneveDf::Unset, "unset"),
-            (GeneveDf::Set, "set"),
-            (GeneveDf::Inherit, "inherit"),
-        ],
-    )?;
-    check_words(
-        &rt,
-        alloc,
-        Family::IpVlan,
-        &[
-            (IpVlanMode::L2, "l2"),
-            (IpVlanMode::L3, "l3"),
-            (IpVlanMode::L3S, "l3s"),
-        ],
-    )?;
-    check_words(
-        &rt,
-        alloc,
-        Family::MacVlan,
-        &[
-            (MacVlanMode::Private, "private"),
-            (MacVlanMode::Vepa, "vepa"),
-            (MacVlanMode::Bridge, "bridge"),
-            (MacVlanMode::Passthrough, "passthru"),
-            (MacVlanMode::Source, "source"),
-        ],
-    )?;
-    check_words(
-        &rt,
-        alloc,
-        Family::Netkit,
-        &[(NetkitMode::L2, "l2"), (NetkitMode::L3, "l3")],
-    )?;
-    check_words(
-        &rt,
-        alloc,
-        Family::Netkit,
-        &[
-            (NetkitPolicy::Pass, "forward"),
-            (NetkitPolicy::Drop, "blackhole"),
-            (NetkitPolicy::Redirect, "redirect"),
-        ],
-    )?;
-    check_words(
-        &rt,
-        alloc,
-        Family::Netkit,
-        &[
-            (NetkitScrub::None, "none"),
-            (NetkitScrub::Default, "default"),
-        ],
-    )?;
+    laws::word_round_trip();
+    check_words(&rt, alloc, Family::Amt, AMT_WORDS)?;
+    check_words(&rt, alloc, Family::Geneve, GENEVE_WORDS)?;
+    check_words(&rt, alloc, Family::IpVlan, IP_VLAN_WORDS)?;
+    check_words(&rt, alloc, Family::MacVlan, MAC_VLAN_WORDS)?;
+    check_words(&rt, alloc, Family::Netkit, NETKIT_MODE_WORDS)?;
+    check_words(&rt, alloc, Family::Netkit, NETKIT_POLICY_WORDS)?;
+    check_words(&rt, alloc, Family::Netkit, NETKIT_SCRUB_WORDS)?;
     assert_eq!(rt;
         NetkitMode::from_str("l3s"),
-        Err(DecodeError {
-            family: Family::Netkit,
-            kind: 0,
-            cause: Cause::Word,
-        })
+        Err(word_fault(Family::Netkit))
     );
     Ok(())
 }
 
+// Values and their texts, where no word is read or the text is none.
+
+const AMT_TEXTS: &[(AmtMode, &str)] = &[
+    (AmtMode::Other(2), "2"),
+    (AmtMode::Other(u32::MAX), "4294967295"),
+];
+
+const VXLAN_TEXTS: &[(VxlanDf, &str)] = &[
+    (VxlanDf::Unset, "unset"),
+    (VxlanDf::Set, "set"),
+    (VxlanDf::Inherit, "inherit"),
+    (VxlanDf::Other(3), "3"),
+];
+
+const GTP_TEXTS: &[(GtpRole, &str)] = &[
+    (GtpRole::Ggsn, "ggsn"),
+    (GtpRole::Sgsn, "sgsn"),
+    (GtpRole::Other(9), "unknown(9)"),
+];
+
+const NETKIT_POLICY_TEXTS: &[(NetkitPolicy, &str)] = &[
+    (NetkitPolicy::Forward, "forward"),
+    (NetkitPolicy::Other(1), "1"),
+];
+
+const GRE_ENCAP_TEXTS: &[(GreEncapType, &str)] = &[
+    (GreEncapType::None, "none"),
+    (GreEncapType::Fou, "fou"),
+    (GreEncapType::Gue, "gue"),
+    (GreEncapType::Other(9), "other(9)"),
+];
+
+const TUNNEL_ENCAP_TEXTS: &[(TunnelEncapType, &str)] = &[
+    (TunnelEncapType::None, "none"),
+    (TunnelEncapType::Fou, "fou"),
+    (TunnelEncapType::Gue, "gue"),
+    (TunnelEncapType::Mpls, "mpls"),
+    (TunnelEncapType::Other(9), "9"),
+];
+
+const ER_SPAN_TEXTS: &[(ErSpanDir, &str)] = &[
+    (ErSpanDir::Ingress, "ingress"),
+    (ErSpanDir::Egress, "egress"),
+    (ErSpanDir::Other(2), "other(2)"),
+];
+
 #[test]
 fn texts(rt: HostRuntime) -> Result<(), Fail> {
     let alloc = rt.alloc();
-    check_texts(
-        &rt,
-        alloc,
-        &[
-            (AmtMode::Other(2), "2"),
-            (AmtMode::Other(u32::MAX), "4294967295"),
-        ],
-    )?;
+    check_texts(&rt, alloc, AMT_TEXTS)?;
+    check_texts(&rt, alloc, VXLAN_TEXTS)?;
+    check_texts(&rt, alloc, GTP_TEXTS)?;
+    check_texts(&rt, alloc, NETKIT_POLICY_TEXTS)?;
+    check_texts(&rt, alloc, GRE_ENCAP_TEXTS)?;
+    check_texts(&rt, alloc, TUNNEL_ENCAP_TEXTS)?;
+    check_texts(&rt, alloc, ER_SPAN_TEXTS)?;
     check_texts(&rt, alloc, &[(GeneveDf::Other(255), "255")])?;
-    check_texts(
-        &rt,
-        alloc,
-        &[
-            (VxlanDf::Unset, "unset"),
-            (VxlanDf::Set, "set"),
-            (VxlanDf::Inherit, "inherit"),
-            (VxlanDf::Other(3), "3"),
-        ],
-    )?;
-    check_texts(
-        &rt,
-        alloc,
-        &[
-            (GtpRole::Ggsn, "ggsn"),
-            (GtpRole::Sgsn, "sgsn"),
-            (GtpRole::Other(9), "unknown(9)"),
-        ],
-    )?;
     check_texts(&rt, alloc, &[(IpVlanMode::Other(3), "3")])?;
     check_texts(&rt, alloc, &[(MacVlanMode::Other(3), "3")])?;
-    check_texts(&rt, alloc, &[(NetkitMode::Other(2), "2")])?;
-    check_texts(
-        &rt,
-        alloc,
-        &[
-            (NetkitPolicy::Forward, "forward"),
-            (NetkitPolicy::Other(1), "1"),
-        ],
-    )?;
-    check_texts(
-        &rt,
-        alloc,
-        &[
-            (GreEncapType::None, "none"),
-            (GreEncapType::Fou, "fou"),
-            (GreEncapType::Gue, "gue"),
-            (GreEncapType::Other(9), "other(9)"),
-        ],
-    )?;
-    check_texts(
-        &rt,
-        alloc,
-        &[
-            (TunnelEncapType::None, "none"),
-            (TunnelEncapType::Fou, "fou"),
-            (TunnelEncapType::Gue, "gue"),
-            (TunnelEncapType::Mpls, "mpls"),
-            (TunnelEncapType::Other(9), "9"),
-        ],
-    )?;
-    check_texts(
-        &rt,
-        alloc,
-        &[
-            (ErSpanDir::Ingress, "ingress"),
-            (ErSpanDir::Egress, "egress"),
-            (ErSpanDir::Other(2), "other(2)"),
-        ],
-    )
+    check_texts(&rt, alloc, &[(NetkitMode::Other(2), "2")])
 }

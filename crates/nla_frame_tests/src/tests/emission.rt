@@ -3,7 +3,7 @@
 use super::attributes_of;
 use nla_frame::{
     Bytes, DefaultNla, Emitable, Nla, ToVecError, emit_nlas, nlas_buffer_len, nlas_fit_len,
-    nlas_to_vec, put_frame,
+    nlas_to_vec, put_attribute, put_attributes, put_bytes, put_bytes_attribute, put_frame,
 };
 use std::test::Fail;
 
@@ -35,6 +35,9 @@ fn emits_one_attribute(rt: HostRuntime) -> Result<(), Fail> {
     let mut value = [255; 2];
     nla.emit_value(&mut value);
     assert_eq!(rt; value, [1, 2]);
+    let mut front = [255; 3];
+    let taken = nla.emit_payload(&mut front);
+    assert_eq!(rt; (taken, front), (2, [1, 2, 255]));
 
     // Padding is zero whatever stood in the buffer, and the bytes behind stay.
     let mut buffer = [255; 11];
@@ -69,6 +72,28 @@ fn emits_lists(rt: HostRuntime) -> Result<(), Fail> {
         [
             5, 0, 1, 0, 7, 0, 0, 0, 4, 0, 2, 0, 8, 0, 3, 0, 1, 2, 3, 4, 255, 255, 255
         ]
+    );
+    Ok(())
+}
+
+#[test]
+fn puts_attributes_in_front(rt: HostRuntime) -> Result<(), Fail> {
+    let list = attributes_of(rt.alloc(), &[(0x8009, &[7]), (2, &[])])?;
+    assert!(rt; nlas_fit_len(&list) == Some(12));
+    assert!(rt; nlas_buffer_len(&list) == 12);
+    let mut buffer = [255; 13];
+    let taken = put_attributes(&list, &mut buffer);
+    assert_eq!(rt;
+        (taken, buffer),
+        (12, [5, 0, 9, 0x80, 7, 0, 0, 0, 4, 0, 2, 0, 255])
+    );
+
+    let nla = DefaultNla::new(3, vec![in rt.alloc(); 1u8, 2]?);
+    assert!(rt; nla.value.len() == 2);
+    let taken = put_attribute(&nla, &mut buffer);
+    assert_eq!(rt;
+        (taken, buffer),
+        (8, [6, 0, 3, 0, 1, 2, 0, 0, 4, 0, 2, 0, 255])
     );
     Ok(())
 }
@@ -115,5 +140,19 @@ fn frames_are_put_round_payloads(rt: HostRuntime) {
     put_frame(&mut buffer, 0x8007, 5);
     assert_eq!(rt; buffer, [9, 0, 7, 0x80, 1, 2, 3, 4, 5, 0, 0, 0, 255]);
     put_frame(&mut buffer, 1, 0);
+    assert_eq!(rt; buffer, [4, 0, 1, 0, 1, 2, 3, 4, 5, 0, 0, 0, 255]);
+}
+
+#[test]
+fn bytes_are_put_in_front(rt: HostRuntime) {
+    let mut buffer = [255; 13];
+    assert_eq!(rt; put_bytes(&[1, 2, 3], &mut buffer), 3);
+    assert_eq!(rt; &buffer[..5], [1, 2, 3, 255, 255].as_slice());
+    assert_eq!(rt;
+        put_bytes_attribute(0x8007, &[1, 2, 3, 4, 5], &mut buffer),
+        12
+    );
+    assert_eq!(rt; buffer, [9, 0, 7, 0x80, 1, 2, 3, 4, 5, 0, 0, 0, 255]);
+    assert_eq!(rt; put_bytes_attribute(1, &[], &mut buffer), 4);
     assert_eq!(rt; buffer, [4, 0, 1, 0, 1, 2, 3, 4, 5, 0, 0, 0, 255]);
 }

@@ -153,29 +153,16 @@ fn passes_over_padding(rt: HostRuntime) -> Result<(), Fail> {
     let fault = Some(HEADER_FAULT);
 
     // The last attribute's padding may be absent, cut short, or anything.
-    check_walk(&rt, alloc, &[5, 0, 1, 0, 7], &[(1, &[7])], (none, 1, 5))?;
-    check_walk(&rt, alloc, &[5, 0, 1, 0, 7, 1], &[(1, &[7])], (none, 1, 6))?;
-    check_walk(
-        &rt,
-        alloc,
-        &[5, 0, 1, 0, 7, 1, 2],
-        &[(1, &[7])],
-        (none, 1, 7),
-    )?;
-    check_walk(
-        &rt,
-        alloc,
-        &[5, 0, 1, 0, 7, 1, 2, 3],
-        &[(1, &[7])],
-        (none, 1, 8),
-    )?;
-    check_walk(
-        &rt,
-        alloc,
-        &[5, 0, 1, 0, 7, 1, 2, 3, 4],
-        &[(1, &[7])],
-        (fault, 1, 8),
-    )?;
+    let bytes = [5, 0, 1, 0, 7, 1, 2, 3, 4];
+    for (len, fault, place) in [
+        (5, none, 5),
+        (6, none, 6),
+        (7, none, 7),
+        (8, none, 8),
+        (9, fault, 8),
+    ] {
+        check_walk(&rt, alloc, &bytes[..len], &[(1, &[7])], (fault, 1, place))?;
+    }
 
     // Padding inside the list is passed over whatever it holds; a fault comes after what is in front of it.
     let two = [6, 0, 1, 0, 7, 8, 255, 255, 4, 0, 2, 0];
@@ -219,6 +206,7 @@ fn reads_one_attribute(rt: HostRuntime) -> Result<(), Fail> {
     );
     let mut count = HeaderCount::new();
     let same = NlaBuffer::new_counted(&bytes, &mut count)?;
+    laws::borrowed(&same);
     let other = NlaBuffer::new_checked(&[6, 0, 1, 0x40, 7, 8])?;
     check_equality(&rt, &nla, &same, &other)
 }

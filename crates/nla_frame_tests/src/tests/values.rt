@@ -43,6 +43,19 @@ fn displays_errors(rt: HostRuntime) -> Result<(), Fail> {
 }
 
 #[test]
+fn names_families_and_causes(rt: HostRuntime) {
+    assert_eq!(rt;
+        [
+            Family::LinkInfo.name(),
+            Family::TeamPort.name(),
+            Cause::AddressKind.name(),
+            Cause::WrongType.name(),
+        ],
+        ["linkinfo", "teamport", "addresskind", "wrongtype"]
+    );
+}
+
+#[test]
 fn numbers_causes(rt: HostRuntime) {
     assert_eq!(rt; [Cause::Header as u8, Cause::Memory as u8], [1, 10]);
     assert_eq!(rt; [Cause::Depth.number(), Cause::Peer.number()], [9, 11]);

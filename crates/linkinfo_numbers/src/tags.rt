@@ -3,7 +3,7 @@
 ghost use Rattle.std.specs.Prelude.{◌≡◌, length};
 ghost use Rattle.linkinfo_numbers.specs.Kind.{kind_table, kind_tags, kinds_of_length, tag_of_name};
 ghost use Rattle.linkinfo_numbers.specs.PortKind.{port_tag_of_name};
-ghost use Rattle.linkinfo_numbers.specs.Names.{tag_among};
+ghost use Rattle.linkinfo_numbers.specs.Tags.{tag_among};
 
 use nla_frame::ExactEq;
 

@@ -3,7 +3,7 @@ use Rattle.std.proofs.Common.{arith, sym, ◌∙◌, ◌≡◌, false, length, �
 use Rattle.std.specs.List.{list_any}
 use Rattle.std.proofs.lemmas.Bool.Decides.{nat_tests}
 use Rattle.linkinfo_numbers.specs.Kind.{tag_of_name-length, tag_of_name-other_length, name_lengths}
-use Rattle.linkinfo_numbers.proofs.names.tag_of_name.Goals as goal
+use Rattle.linkinfo_numbers.proofs.tags.tag_of_name.Goals as goal
 
 pub returns-in-3 : goal.returns-in-3
 returns-in-3 c = c.tag_of_three.ensures ∙ sym (tag_of_name-length 3 c.args.name.now c.in-3.is)
