@@ -2,7 +2,9 @@
 use Rattle.std.proofs.Common.{◌≡◌, ℕ, List, [], ◌∷◌, length, refl, sym, ap, ◌∙◌, Option, Some, None, Result, Ok, Err, length-append}
 use Rattle.nla_frame.specs.declared.error.Cause.{Cause}
 use Rattle.std.specs.declared.net.ip_addr.IpAddr.TheVariants as ip
-use Rattle.linkinfo_shapes.specs.Shapes.{IsPlain, Carrier, means, canon, Holds, verdict}
+use Rattle.std.specs.Prelude.{IsOk}
+use Rattle.nla_frame.specs.Canonical.{bytes_for}
+use Rattle.linkinfo_shapes.specs.Shapes.{IsPlain, IsAccepted, Carrier, means, canon, canonical, Holds, verdict}
 use Rattle.linkinfo_shapes.specs.Data.{Value, number, signed, truth, empty, text, v4, v6, mac, pair, bytes, value_of, wrap, unwrap, Suits, wrapped, reads, written, ReadsAs, fixed_length, value_length}
 use Rattle.linkinfo_shapes.specs.declared.datum.Datum.{Datum}
 use Rattle.linkinfo_shapes.specs.declared.shape.Shape.{Shape}
@@ -172,6 +174,23 @@ read_verdict shape payload (Err c) h = sym (ap verdict (read_fails shape payload
 pub written_is : (shape : Shape) (value : Value) → written shape value ≡ canon shape (unwrap shape value)
 unfolding written
 written_is shape value = refl
+
+-- a payload without a fault: what is written for its datum is its canonical payload, and reading it has no fault
+pub canonical_is : (shape : Shape) (payload : List ℕ) (x : Carrier shape) → means shape payload ≡ Ok x → canonical shape payload ≡ canon shape x
+unfolding canonical
+canonical_is shape payload x e = ap (λ (m : Result (Carrier shape) Cause). bytes_for (canon shape) m) e
+
+pub read_written : (shape : Shape) (payload : List ℕ) (d : Datum) → ReadsAs shape payload (Ok d) → written shape (value_of d) ≡ canonical shape payload
+read_written shape payload d h =
+    written_is shape (value_of d) ∙ sym (canonical_is shape payload (unwrap shape (value_of d)) (read_means shape payload d h))
+
+pub read_accepted : (shape : Shape) (payload : List ℕ) (c : Cause) → IsAccepted shape payload → ReadsAs shape payload (Err c) → ⊥
+unfolding IsAccepted
+read_accepted shape payload c h k = not_ok (means shape payload) h (read_fails shape payload c k)
+  where
+    not_ok : (m : Result (Carrier shape) Cause) → IsOk m → m ≡ Err c → ⊥
+    not_ok (Ok x) i e = absurd cc
+    not_ok (Err d) i e = absurd cc
 
 -- ---- lengths
 

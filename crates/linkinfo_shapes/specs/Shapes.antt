@@ -9,6 +9,7 @@ use Rattle.std.specs.declared.net.ip_addr.IpAddr.TheVariants as ip
 use Rattle.std.specs.declared.net.ipv4_addr.Ipv4Addr.{Ipv4Addr}
 use Rattle.std.specs.declared.net.ipv6_addr.Ipv6Addr.{Ipv6Addr}
 use Rattle.nla_frame.specs.Attribute.{IsBytes}
+use Rattle.nla_frame.specs.Canonical.{bytes_for}
 use Rattle.nla_frame.specs.Payload.{of_length, ip_of, ipv4_of, ipv6_of, stripped}
 use Rattle.nla_frame.specs.declared.error.Cause.{Cause}
 use Rattle.nla_frame.specs.declared.error.Cause.TheVariants as cause
@@ -151,6 +152,10 @@ canon Scrub b = to_le_bytes w32 (truth_number b)
 canon Raw bytes = bytes
 canon SelfList x = []
 canon Peer x = []
+
+-- the one payload that is written for what an accepted payload means
+unfoldable pub canonical : Shape → List ℕ → List ℕ
+canonical shape payload = bytes_for (canon shape) (means shape payload)
 
 -- four octets
 abbrev pub IsIpv4 : Ipv4Addr → Type 0

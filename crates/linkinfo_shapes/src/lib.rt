@@ -2,6 +2,7 @@
 //! attribute of a link info family has.
 #![tactic(auto)]
 
+mod canonical;
 mod datum;
 pub mod laws;
 mod payload;
@@ -10,6 +11,7 @@ mod shape;
 mod table;
 mod writers;
 
+pub use canonical::{shape_canonical_len, shape_put_attribute, shape_put_canonical};
 pub use datum::Datum;
 pub use payload::{datum_len, read_datum, shape_check, shape_same, write_datum};
 pub use shape::Shape;

@@ -6,6 +6,7 @@ ghost use Rattle.linkinfo_shapes.specs.Data.{Suits, value_of, written};
 
 use crate::datum::Datum;
 use crate::shape::Shape;
+use nla_frame::{emit_i32, emit_u16, emit_u16_be, emit_u32, emit_u32_be, emit_u64, emit_u64_be};
 use std::net::IpAddr;
 
 #[inline(always)]
@@ -23,7 +24,7 @@ pub fn write_le16(datum: &Datum<'_>, buffer: &mut [u8])
     requires exact { length buffer.old ≡ length (written Shape.Le16 (value_of datum.now)) }
     ensures { buffer.new ≡ written Shape.Le16 (value_of datum.now) }
 {
-    buffer.copy_from_slice(&datum.u16_or_zero().to_le_bytes());
+    emit_u16(buffer, datum.u16_or_zero());
 }
 
 #[inline(always)]
@@ -32,7 +33,7 @@ pub fn write_le32(datum: &Datum<'_>, buffer: &mut [u8])
     requires exact { length buffer.old ≡ length (written Shape.Le32 (value_of datum.now)) }
     ensures { buffer.new ≡ written Shape.Le32 (value_of datum.now) }
 {
-    buffer.copy_from_slice(&datum.u32_or_zero().to_le_bytes());
+    emit_u32(buffer, datum.u32_or_zero());
 }
 
 #[inline(always)]
@@ -41,7 +42,7 @@ pub fn write_le64(datum: &Datum<'_>, buffer: &mut [u8])
     requires exact { length buffer.old ≡ length (written Shape.Le64 (value_of datum.now)) }
     ensures { buffer.new ≡ written Shape.Le64 (value_of datum.now) }
 {
-    buffer.copy_from_slice(&datum.u64_or_zero().to_le_bytes());
+    emit_u64(buffer, datum.u64_or_zero());
 }
 
 #[inline(always)]
@@ -50,7 +51,7 @@ pub fn write_be16(datum: &Datum<'_>, buffer: &mut [u8])
     requires exact { length buffer.old ≡ length (written Shape.Be16 (value_of datum.now)) }
     ensures { buffer.new ≡ written Shape.Be16 (value_of datum.now) }
 {
-    buffer.copy_from_slice(&datum.u16_or_zero().to_be_bytes());
+    emit_u16_be(buffer, datum.u16_or_zero());
 }
 
 #[inline(always)]
@@ -59,7 +60,7 @@ pub fn write_be32(datum: &Datum<'_>, buffer: &mut [u8])
     requires exact { length buffer.old ≡ length (written Shape.Be32 (value_of datum.now)) }
     ensures { buffer.new ≡ written Shape.Be32 (value_of datum.now) }
 {
-    buffer.copy_from_slice(&datum.u32_or_zero().to_be_bytes());
+    emit_u32_be(buffer, datum.u32_or_zero());
 }
 
 #[inline(always)]
@@ -68,7 +69,7 @@ pub fn write_be64(datum: &Datum<'_>, buffer: &mut [u8])
     requires exact { length buffer.old ≡ length (written Shape.Be64 (value_of datum.now)) }
     ensures { buffer.new ≡ written Shape.Be64 (value_of datum.now) }
 {
-    buffer.copy_from_slice(&datum.u64_or_zero().to_be_bytes());
+    emit_u64_be(buffer, datum.u64_or_zero());
 }
 
 #[inline(always)]
@@ -77,7 +78,7 @@ pub fn write_i32(datum: &Datum<'_>, buffer: &mut [u8])
     requires exact { length buffer.old ≡ length (written Shape.I32 (value_of datum.now)) }
     ensures { buffer.new ≡ written Shape.I32 (value_of datum.now) }
 {
-    buffer.copy_from_slice(&datum.i32_or_zero().to_le_bytes());
+    emit_i32(buffer, datum.i32_or_zero());
 }
 
 #[inline(always)]
@@ -181,8 +182,8 @@ pub fn write_be_pair(datum: &Datum<'_>, buffer: &mut [u8])
     ensures { buffer.new ≡ written Shape.BePair (value_of datum.now) }
 {
     let (first, second) = datum.u16_pair_or_zeros();
-    buffer[..2].copy_from_slice(&first.to_be_bytes());
-    buffer[2..].copy_from_slice(&second.to_be_bytes());
+    emit_u16_be(buffer, first);
+    emit_u16_be(&mut buffer[2..], second);
 }
 
 #[inline(always)]
@@ -192,8 +193,8 @@ pub fn write_flag_pair(datum: &Datum<'_>, buffer: &mut [u8])
     ensures { buffer.new ≡ written Shape.FlagPair (value_of datum.now) }
 {
     let (flags, mask) = datum.u32_pair_or_zeros();
-    buffer[..4].copy_from_slice(&flags.to_le_bytes());
-    buffer[4..].copy_from_slice(&mask.to_le_bytes());
+    emit_u32(buffer, flags);
+    emit_u32(&mut buffer[4..], mask);
 }
 
 #[inline(always)]
@@ -213,7 +214,7 @@ pub fn write_scrub(datum: &Datum<'_>, buffer: &mut [u8])
     requires exact { length buffer.old ≡ length (written Shape.Scrub (value_of datum.now)) }
     ensures { buffer.new ≡ written Shape.Scrub (value_of datum.now) }
 {
-    buffer.copy_from_slice(&u32::from(datum.bool_or_false()).to_le_bytes());
+    emit_u32(buffer, u32::from(datum.bool_or_false()));
 }
 
 #[inline(always)]

@@ -1,4 +1,5 @@
 pub mod BytesPeer
+pub mod Canonical
 pub mod Codecs
 pub mod FamilyRowLaws
 pub mod FamilyRows

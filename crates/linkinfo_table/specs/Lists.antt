@@ -1,7 +1,8 @@
 -- What a list of attributes means, over the pieces of its string, given what one attribute means. A state may go along, as the kind in force
 -- does at top level: `m t a` is the meaning of an attribute under the state, `after t a` the state behind it.
 use Rattle.std.specs.Prelude.{if◌then◌else◌, ◌≡◌, ◌≢◌, ℕ, ◌+◌, Bool, true, false, ◌&&◌, ◌||◌, is_ok, List, [], ◌∷◌, ◌++◌, Result, Ok, Err}
-use Rattle.nla_frame.specs.Attribute.{Attribute}
+use Rattle.nla_frame.specs.Attribute.{Attribute, canonical_string, list_string}
+use Rattle.nla_frame.specs.Canonical.{attribute_for, attributes_for}
 use Rattle.nla_frame.specs.Error.{header_fault, memory_fault}
 use Rattle.nla_frame.specs.declared.error.DecodeError.{DecodeError}
 
@@ -83,6 +84,10 @@ memory_of m needs ps = memory_under (λ _ a. m a) (λ _ a. needs a) (tt {0}) ps
 abbrev pub AllWell : {X : Type 0} → (X → Type 0) → List X → Type 0
 AllWell well xs = well_under (λ _ x. well x) (λ t _. t) (tt {0}) xs
 
+-- the canonical string of what a list means
+abbrev pub canonical_list : {X : Type 0} → (X → Attribute) → (Attribute → Result X DecodeError) → List (Result Attribute ℕ) → List ℕ
+canonical_list attribute m ps = list_string (attributes_for attribute (values m ps))
+
 -- The first attribute alone: what follows it is not looked at.
 abbrev pub first_meaning : {X : Type 0} → (Attribute → Result X DecodeError) → List (Result Attribute ℕ) → Result X DecodeError
 first_meaning m [] = Err header_fault
@@ -102,3 +107,7 @@ abbrev pub first_memory : (Attribute → Bool) → List (Result Attribute ℕ) �
 first_memory needs [] = false
 first_memory needs ((Err n) ∷ more) = false
 first_memory needs ((Ok a) ∷ more) = needs a
+
+-- the canonical string of what the first attribute means
+abbrev pub canonical_first : {X : Type 0} → (X → Attribute) → (Attribute → Result X DecodeError) → List (Result Attribute ℕ) → List ℕ
+canonical_first attribute m ps = canonical_string (attribute_for attribute (first_meaning m ps))

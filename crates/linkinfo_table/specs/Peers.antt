@@ -1,5 +1,5 @@
 -- A payload that is a peer of a type that is handed in: what its calls answer, the codec, and that it is lawful where the peer is.
-use Rattle.std.specs.Prelude.{◌≡◌, ◌≢◌, ◌↔◌, ℕ, Bool, true, List, Option, Some, None, Result, Ok, Err}
+use Rattle.std.specs.Prelude.{◌≡◌, ◌≢◌, ◌↔◌, ℕ, Bool, true, List, [], Option, Some, None, Result, Ok, Err}
 use Rattle.std.proofs.Common.{arith, ap}
 use Rattle.nla_frame.specs.Attribute.{IsBytes}
 use Rattle.nla_frame.specs.Error.{memory_fault}
@@ -13,6 +13,11 @@ abbrev pub PeerGives : {P : Type 0} → Result P PeerFault → Option P → Type
 PeerGives (Ok peer) meaning = meaning ≡ Some peer
 PeerGives (Err fault.Refused) meaning = meaning ≡ None
 PeerGives (Err fault.Memory) meaning = Unit {0}
+
+-- the payload that is written for the peer that a payload means; where it means none, the empty one
+abbrev pub payload_for : {P : Type 0} → (P → List ℕ) → Option P → List ℕ
+payload_for canonical (Some peer) = canonical peer
+payload_for canonical None = []
 
 -- a payload without a meaning has the cause Peer
 abbrev pub peer_or_fault : {P : Type 0} → Option P → Result P Fault

@@ -1,9 +1,10 @@
 //! Families of attributes: what a family's types are read, checked, compared and written as.
 
-ghost use Rattle.std.specs.Prelude.{◌≡◌, ◌≢◌, ◌↔◌, ℕ, ◌+◌, ◌*◌, ◌/◌, ◌<◌, ◌≤◌, ◌^◌, Bool, true, false, Err, Ok, IsOk, IsTrue, Result, length};
+ghost use Rattle.std.specs.Prelude.{◌≡◌, ◌≢◌, ◌↔◌, ℕ, ◌+◌, ◌*◌, ◌/◌, ◌<◌, ◌≤◌, ◌^◌, ◌++◌, Bool, true, false, Err, Ok, IsOk, IsTrue, Result, SomeIff, drop, length};
 ghost use Rattle.std.specs.Bool.{OnTrue};
 ghost use Rattle.nla_frame.specs.Answers.{CertainUnless, Gives, OnAnswer, verdict};
-ghost use Rattle.nla_frame.specs.Attribute.{Attribute, Fits, IsAttribute, masked};
+ghost use Rattle.nla_frame.specs.Attribute.{Attribute, Fits, IsAttribute, buffer_len_of, canonical_string, masked};
+ghost use Rattle.nla_frame.specs.Canonical.{attribute_for};
 ghost use Rattle.nla_frame.specs.Error.{memory_fault};
 ghost use Rattle.nla_frame.specs.Kept.{attribute_of};
 ghost use Rattle.nla_frame.specs.declared.default_nla.DefaultNla.{DefaultNla};
@@ -22,8 +23,10 @@ use std::alloc::Global;
 /// A context says what the meaning of an attribute depends on beside its bytes: the kind of the link, the number of lists round the
 /// attribute, or nothing.
 pub trait LinkFamily: Nla + Sized + Drop {
+    /// What the meaning of an attribute depends on beside its bytes.
     type Context: Copy;
 
+    /// Its name, which its faults bear.
     const FAMILY: Family;
 
     ghost FAMILY: { Family };
@@ -112,6 +115,21 @@ pub trait LinkFamily: Nla + Sized + Drop {
         ensures counted { OnTrue result (count.new ≡ count.old + (headers ctx a.now + headers ctx b.now)) }
         ensures rises { count.old ≤ count.new }
         ensures quarter { 4 * count.new ≤ 4 * count.old + (length a.now.value + length b.now.value) };
+
+    /// The length of the canonical payload of the value that an attribute means, where it fits, and else `None`. Asks that it means one, and takes
+    /// no memory.
+    fn canonical_len(nla: &NlaBuffer<'_>, ctx: Self::Context) -> Option<usize>
+        requires { IsOk (meaning ctx nla.now) }
+        ensures { let canonical = attribute_for Self.attribute (meaning ctx nla.now) in SomeIff result (Fits canonical) (length canonical.value) };
+
+    /// Writes the canonical attribute of the value that an attribute means, its header, payload and zero padding, at the front of the buffer, leaves
+    /// the bytes behind it, and answers its length. Asks that it means one, which fits, and for a buffer of at least that length; takes no memory.
+    fn put_canonical(nla: &NlaBuffer<'_>, ctx: Self::Context, buffer: &mut [u8]) -> usize
+        requires accepted { IsOk (meaning ctx nla.now) }
+        requires fits { Fits (attribute_for Self.attribute (meaning ctx nla.now)) }
+        requires room { buffer_len_of (attribute_for Self.attribute (meaning ctx nla.now)) ≤ length buffer.old }
+        ensures taken { result ≡ buffer_len_of (attribute_for Self.attribute (meaning ctx nla.now)) }
+        ensures written { let canonical = attribute_for Self.attribute (meaning ctx nla.now) in buffer.new ≡ canonical_string canonical ++ drop (buffer_len_of canonical) buffer.old };
 
     ghost keeps: { (nla : DefaultNla) → Self.attribute (keeping nla) ≡ attribute_of nla };
 

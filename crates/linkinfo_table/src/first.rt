@@ -1,14 +1,14 @@
 //! The first attribute alone of a byte slice. What follows it is not looked at.
 
-ghost use Rattle.std.specs.Prelude.{◌≡◌, ◌↔◌, ◌+◌, ◌*◌, ◌/◌, ◌<◌, ◌≤◌, ◌^◌, IsOk, IsTrue, length};
+ghost use Rattle.std.specs.Prelude.{◌≡◌, ◌↔◌, ◌+◌, ◌*◌, ◌/◌, ◌<◌, ◌≤◌, ◌^◌, ◌++◌, IsOk, IsTrue, SomeIff, drop, length};
 ghost use Rattle.std.specs.Bool.{OnTrue};
 ghost use Rattle.nla_frame.specs.Answers.{CertainUnless, Gives, OnAnswer, verdict};
 ghost use Rattle.nla_frame.specs.Error.{header_fault};
 ghost use Rattle.nla_frame.specs.Pieces.{pieces};
-ghost use Rattle.linkinfo_table.specs.Lists.{first_alike, first_headers, first_meaning, first_memory};
+ghost use Rattle.linkinfo_table.specs.Lists.{canonical_first, first_alike, first_headers, first_meaning, first_memory};
 
 use crate::family::LinkFamily;
-use nla_frame::{Cause, DecodeError, Family, HeaderCount, next_piece};
+use nla_frame::{Cause, DecodeError, Family, HeaderCount, fitting, next_piece};
 use std::alloc::Global;
 
 fn no_attribute() -> DecodeError
@@ -80,4 +80,32 @@ pub fn first_same<F: LinkFamily>(
     let (p, _) = next_piece(a, count).unwrap().unwrap();
     let (q, _) = next_piece(b, count).unwrap().unwrap();
     F::same_value(&p, &q, ctx, count)
+}
+
+/// The length of the canonical string of the value that the first attribute means, or `None` above 65531, the most bytes of a payload. Asks that
+/// there is one that is accepted, and takes no memory.
+pub fn first_canonical_len<F: LinkFamily>(bytes: &[u8], ctx: F::Context) -> Option<usize>
+    requires { IsOk (first_meaning (F.meaning ctx) (pieces bytes.now)) }
+    ensures { let len = length (canonical_first F.attribute (F.meaning ctx) (pieces bytes.now)) in SomeIff result (len ≤ 65531) len }
+{
+    match next_piece(bytes, &mut HeaderCount::new()) {
+        Some(Ok((nla, _))) => fitting(4 + F::canonical_len(&nla, ctx)?.next_multiple_of(4)),
+        _ => unreachable!(),
+    }
+}
+
+/// Writes the canonical string of the value that the first attribute means at the front of the buffer, leaves the bytes behind it, and answers its
+/// length. Asks that there is one that is accepted and its canonical string has at most 65531 bytes, and for a buffer of at least as many; takes no
+/// memory.
+pub fn first_put_canonical<F: LinkFamily>(bytes: &[u8], ctx: F::Context, buffer: &mut [u8]) -> usize
+    requires accepted { IsOk (first_meaning (F.meaning ctx) (pieces bytes.now)) }
+    requires fits { length (canonical_first F.attribute (F.meaning ctx) (pieces bytes.now)) ≤ 65531 }
+    requires room { length (canonical_first F.attribute (F.meaning ctx) (pieces bytes.now)) ≤ length buffer.old }
+    ensures taken { result ≡ length (canonical_first F.attribute (F.meaning ctx) (pieces bytes.now)) }
+    ensures written { let string = canonical_first F.attribute (F.meaning ctx) (pieces bytes.now) in buffer.new ≡ string ++ drop (length string) buffer.old }
+{
+    match next_piece(bytes, &mut HeaderCount::new()) {
+        Some(Ok((nla, _))) => F::put_canonical(&nla, ctx, buffer),
+        _ => unreachable!(),
+    }
 }

@@ -2,6 +2,7 @@
 
 ghost use Rattle.linkinfo_table.specs.LookupLaws.{flat_unnested};
 
+use crate::canonical::{row_canonical_len, row_put_canonical};
 use crate::row_family::{FlatFamily, RowFamily};
 use crate::rows::{row_check, row_put, row_read, row_same};
 use crate::unnested::UnnestedFamily;
@@ -41,5 +42,17 @@ impl<F: FlatFamily> UnnestedFamily for F {
 
     fn same_by_row(a: &NlaBuffer<'_>, b: &NlaBuffer<'_>, ctx: <F as RowFamily>::Context) -> bool {
         row_same::<F>(a, b, ctx)
+    }
+
+    fn canonical_len_by_row(nla: &NlaBuffer<'_>, ctx: <F as RowFamily>::Context) -> Option<usize> {
+        row_canonical_len::<F>(nla, ctx)
+    }
+
+    fn put_canonical_by_row(
+        nla: &NlaBuffer<'_>,
+        ctx: <F as RowFamily>::Context,
+        buffer: &mut [u8],
+    ) -> usize {
+        row_put_canonical::<F>(nla, ctx, buffer)
     }
 }

@@ -2,6 +2,7 @@
 #![tactic(auto)]
 
 mod by_rows;
+mod canonical;
 mod family;
 mod first;
 mod flat;
@@ -20,13 +21,15 @@ mod rows;
 mod table_family;
 mod unnested;
 
+pub use canonical::{row_canonical_len, row_put_canonical};
 pub use family::LinkFamily;
-pub use first::{first_check, first_read, first_same};
+pub use first::{first_canonical_len, first_check, first_put_canonical, first_read, first_same};
 pub use found::Found;
 pub use linkinfo_shapes::{
-    Datum, Shape, datum_len, read_datum, shape_check, shape_same, table_shape, write_datum,
+    Datum, Shape, datum_len, read_datum, shape_canonical_len, shape_check, shape_put_attribute,
+    shape_put_canonical, shape_same, table_shape, write_datum,
 };
-pub use list::{list_check, list_read, list_same};
+pub use list::{list_canonical_len, list_check, list_put_canonical, list_read, list_same};
 pub use listed::ListedFamily;
 pub use lookup::Lookup;
 pub use part::Part;

@@ -1,10 +1,10 @@
 //! Peers of a type that the layer above hands in.
 
-ghost use Rattle.std.specs.Prelude.{◌≡◌, ◌↔◌, ◌≤◌, ℕ, Bool, true, List, Option, Some, IsSome, IsTrue, SomeIff, length};
+ghost use Rattle.std.specs.Prelude.{◌≡◌, ◌↔◌, ◌≤◌, ◌++◌, ℕ, Bool, true, List, Option, Some, IsSome, IsTrue, SomeIff, drop, length};
 ghost use Rattle.nla_frame.specs.Attribute.{IsBytes};
-ghost use Rattle.linkinfo_table.specs.Peers.{PeerGives};
+ghost use Rattle.linkinfo_table.specs.Peers.{PeerGives, payload_for};
 
-use nla_frame::{Bytes, ExactEq, fitting};
+use nla_frame::{Bytes, ExactEq, fitting, put_bytes};
 use std::alloc::Global;
 
 /// Why a peer was not read.
@@ -60,6 +60,21 @@ pub trait LinkPeer: Sized + Eq + ExactEq + Drop {
         requires { length buffer.old ≡ length (canonical self.now) }
         ensures { buffer.new ≡ canonical self.now };
 
+    /// The length of the canonical payload of the peer that a payload means, where it is at most 65531, and else `None`. Asks that it means one,
+    /// and takes no memory.
+    fn canonical_len(payload: &[u8]) -> Option<usize>
+        requires { IsSome (meaning payload.now) }
+        ensures { let len = length (payload_for canonical (meaning payload.now)) in SomeIff result (len ≤ 65531) len };
+
+    /// Writes the canonical payload of the peer that a payload means at the front of the buffer, leaves the bytes behind it, and answers its
+    /// length. Asks that it means one, of which the canonical payload has at most 65531 bytes, and for a buffer of at least as many; takes no memory.
+    fn put_canonical(payload: &[u8], buffer: &mut [u8]) -> usize
+        requires accepted { IsSome (meaning payload.now) }
+        requires fits { length (payload_for canonical (meaning payload.now)) ≤ 65531 }
+        requires room { length (payload_for canonical (meaning payload.now)) ≤ length buffer.old }
+        ensures taken { result ≡ length (payload_for canonical (meaning payload.now)) }
+        ensures written { buffer.new ≡ payload_for canonical (meaning payload.now) ++ drop (length (payload_for canonical (meaning payload.now))) buffer.old };
+
     ghost alike_is: { (p q : List ℕ) (x y : Self) → IsBytes p → IsBytes q → meaning p ≡ Some x → meaning q ≡ Some y → (alike p q ≡ true) ↔ (x ≡ y) };
 
     ghost meaning_well: { (p : List ℕ) (x : Self) → IsBytes p → meaning p ≡ Some x → well x };
@@ -111,5 +126,13 @@ impl LinkPeer for Bytes {
 
     fn emit(&self, buffer: &mut [u8]) {
         buffer.copy_from_slice(self.as_slice());
+    }
+
+    fn canonical_len(payload: &[u8]) -> Option<usize> {
+        fitting(payload.len())
+    }
+
+    fn put_canonical(payload: &[u8], buffer: &mut [u8]) -> usize {
+        put_bytes(payload, buffer)
     }
 }

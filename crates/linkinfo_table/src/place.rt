@@ -17,6 +17,7 @@ pub trait Place<T>: Sized {
     /// Whether a value can be put there for certain, without memory.
     ghost is_certain: { Bool };
 
+    /// Puts a value there; an error where the place grows and memory is refused.
     fn put(&mut self, value: T) -> Result<(), AllocError>
         ensures held { OnOk result (held self.new ≡ with self.old value) }
         ensures certain { is_certain ≡ true → IsOk result };
@@ -34,7 +35,8 @@ impl<T: Drop> Place<T> for Vec<T> {
 
     #[inline(always)]
     fn put(&mut self, value: T) -> Result<(), AllocError> {
-        self.push(value)?;
+        self.reserve(1)?;
+        self.push_reserved(value);
         Ok(())
     }
 }

@@ -1,9 +1,10 @@
 //! A family by rows of which no attribute holds others is a `LinkFamily`.
 
-ghost use Rattle.std.specs.Prelude.{◌≡◌, ℕ, false, IsOk};
+ghost use Rattle.std.specs.Prelude.{◌≡◌, ◌≤◌, ◌++◌, ℕ, false, IsOk, SomeIff, drop, length};
 ghost use Rattle.std.proofs.Common.{◌∙◌};
 ghost use Rattle.nla_frame.specs.Answers.{CertainUnless, Gives, verdict};
-ghost use Rattle.nla_frame.specs.Attribute.{masked};
+ghost use Rattle.nla_frame.specs.Attribute.{Fits, buffer_len_of, canonical_string, masked};
+ghost use Rattle.nla_frame.specs.Canonical.{attribute_for};
 ghost use Rattle.linkinfo_table.specs.FamilyRows.{IsUnnested, lookup_of, row_of};
 ghost use Rattle.linkinfo_table.specs.Lists.{Appends, push_memory};
 ghost use Rattle.linkinfo_table.specs.LookupLaws.{rows_say};
@@ -54,6 +55,25 @@ pub trait UnnestedFamily: RowFamily + Nla {
         requires first { IsOk (meaning_in Self.FAMILY Self.other (λ n. row_of (Self.rows ctx n)) a.now) }
         requires second { IsOk (meaning_in Self.FAMILY Self.other (λ n. row_of (Self.rows ctx n)) b.now) }
         ensures { result ≡ alike_in (λ n. row_of (Self.rows ctx n)) a.now b.now };
+
+    /// The length of the canonical payload of the value that an attribute means, where it fits, and else `None`. Asks that it means one, and takes
+    /// no memory.
+    fn canonical_len_by_row(nla: &NlaBuffer<'_>, ctx: <Self as RowFamily>::Context) -> Option<usize>
+        requires { IsOk (meaning_in Self.FAMILY Self.other (λ n. row_of (Self.rows ctx n)) nla.now) }
+        ensures { let canonical = attribute_for Self.canonical (meaning_in Self.FAMILY Self.other (λ n. row_of (Self.rows ctx n)) nla.now) in SomeIff result (Fits canonical) (length canonical.value) };
+
+    /// Writes the canonical attribute of the value that an attribute means at the front of the buffer, leaves the bytes behind it, and answers its
+    /// length. Asks that it means one, which fits, and for a buffer of at least that length; takes no memory.
+    fn put_canonical_by_row(
+        nla: &NlaBuffer<'_>,
+        ctx: <Self as RowFamily>::Context,
+        buffer: &mut [u8],
+    ) -> usize
+        requires accepted { IsOk (meaning_in Self.FAMILY Self.other (λ n. row_of (Self.rows ctx n)) nla.now) }
+        requires fits { Fits (attribute_for Self.canonical (meaning_in Self.FAMILY Self.other (λ n. row_of (Self.rows ctx n)) nla.now)) }
+        requires room { buffer_len_of (attribute_for Self.canonical (meaning_in Self.FAMILY Self.other (λ n. row_of (Self.rows ctx n)) nla.now)) ≤ length buffer.old }
+        ensures taken { result ≡ buffer_len_of (attribute_for Self.canonical (meaning_in Self.FAMILY Self.other (λ n. row_of (Self.rows ctx n)) nla.now)) }
+        ensures written { let canonical = attribute_for Self.canonical (meaning_in Self.FAMILY Self.other (λ n. row_of (Self.rows ctx n)) nla.now) in buffer.new ≡ canonical_string canonical ++ drop (buffer_len_of canonical) buffer.old };
 
     ghost written: { (x : Self) → Self.attribute x ≡ Self.canonical x };
 
@@ -137,5 +157,17 @@ impl<F: UnnestedFamily> LinkFamily for F {
         _count: &mut HeaderCount,
     ) -> bool {
         F::same_by_row(a, b, ctx)
+    }
+
+    fn canonical_len(nla: &NlaBuffer<'_>, ctx: <F as RowFamily>::Context) -> Option<usize> {
+        F::canonical_len_by_row(nla, ctx)
+    }
+
+    fn put_canonical(
+        nla: &NlaBuffer<'_>,
+        ctx: <F as RowFamily>::Context,
+        buffer: &mut [u8],
+    ) -> usize {
+        F::put_canonical_by_row(nla, ctx, buffer)
     }
 }

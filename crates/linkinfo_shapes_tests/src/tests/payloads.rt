@@ -1,6 +1,9 @@
 //! Payloads under each shape.
 
-use linkinfo_shapes::{Datum, Shape, datum_len, read_datum, shape_check, shape_same, write_datum};
+use linkinfo_shapes::{
+    Datum, Shape, datum_len, read_datum, shape_canonical_len, shape_check, shape_put_attribute,
+    shape_put_canonical, shape_same, write_datum,
+};
 use nla_frame::Cause;
 use std::net::{Ipv4Addr, Ipv6Addr};
 use std::process::Abort;
@@ -103,6 +106,59 @@ fn rewrite<'a>(
     Some((datum, len))
 }
 
+/// The length of the canonical payload of a payload that is accepted under a plain shape, which is written alone and as an attribute of type 7.
+#[tactic(auto, using(linkinfo_shapes::specs::ShapeLaws::checked))]
+fn canonicalize(
+    shape: Shape,
+    payload: &[u8],
+    alone: &mut [u8; 17],
+    framed: &mut [u8; 25],
+) -> Option<[usize; 3]> {
+    if !shape.is_plain() {
+        return None;
+    }
+    let Ok(()) = shape_check(shape, payload) else {
+        return None;
+    };
+    let len = shape_canonical_len(shape, payload)?;
+    if len > 16 {
+        return None;
+    }
+    let written = shape_put_canonical(shape, payload, alone);
+    Some([len, written, shape_put_attribute(shape, 7, payload, framed)])
+}
+
+/// The canonical payload of an accepted payload, without a datum.
+fn check_canonical(rt: &impl Abort, shape: Shape, payload: &[u8], written: &[u8]) {
+    let len = written.len();
+    assert!(rt; len <= 16);
+    let mut alone = [0xee; 17];
+    let mut framed = [0xee; 25];
+    let found = canonicalize(shape, payload, &mut alone, &mut framed);
+    assert_eq!(rt;
+        (shape, payload, found),
+        (
+            shape,
+            payload,
+            Some([len, len, 4 + len.next_multiple_of(4)])
+        )
+    );
+    assert_eq!(rt;
+        (
+            shape,
+            payload,
+            &alone[..len],
+            alone[16],
+            &framed[4..4 + len]
+        ),
+        (shape, payload, written, 0xee, written)
+    );
+    assert_eq!(rt;
+        (&framed[..4], framed[24]),
+        ([4 + len as u8, 0, 7, 0].as_slice(), 0xee)
+    );
+}
+
 /// What an accepted payload holds, and what is written for it.
 fn check_payload(rt: &impl Abort, shape: Shape, payload: &[u8], datum: Datum<'_>, written: &[u8]) {
     let len = written.len();
@@ -117,6 +173,7 @@ fn check_payload(rt: &impl Abort, shape: Shape, payload: &[u8], datum: Datum<'_>
         (shape, payload, &buffer[..len], buffer[16]),
         (shape, payload, written, 0xee)
     );
+    check_canonical(rt, shape, payload, written);
 }
 
 const EIGHT: [u8; 8] = [1, 0, 0, 0, 0xff, 0, 0, 0x80];

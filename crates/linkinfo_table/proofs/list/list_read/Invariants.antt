@@ -1,4 +1,4 @@
-use Rattle.std.proofs.Common.{◌≡◌, ◌+◌, ◌*◌, ◌≤◌, false, length}
+use Rattle.std.proofs.Common.{◌≡◌, ◌+◌, ◌*◌, ◌≤◌, true, length}
 use Rattle.nla_frame.specs.Pieces.{pieces}
 use Rattle.linkinfo_table.specs.Lists.{values, behind, headers_of, memory_of}
 use Rattle.linkinfo_table.proofs.list.list_read.Given as goal
@@ -11,7 +11,7 @@ invariant-loop-next g l =
     let needs = g.F.LinkFamily.needs_memory l.ctx in
     record {
       answer : behind l.items.items (values m (pieces l.rest)) ≡ values m (pieces l.bytes);
-      certain : memory_of m needs (pieces l.bytes) ≡ false → memory_of m needs (pieces l.rest) ≡ false;
+      certain : memory_of m needs (pieces l.bytes) ≡ true;
       counted : l.count + headers_of m h (pieces l.rest) ≡ l.fn.count + headers_of m h (pieces l.bytes);
       rises : l.fn.count ≤ l.count;
       room : 4 * l.count + length l.rest ≤ 4 * l.fn.count + length l.bytes;

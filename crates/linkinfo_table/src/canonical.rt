@@ -1,0 +1,72 @@
+//! The canonical attribute of what an accepted attribute means, by its row, without a value.
+
+ghost use Rattle.std.specs.Prelude.{◌≡◌, ◌≤◌, ◌++◌, IsOk, SomeIff, drop, length};
+ghost use Rattle.nla_frame.specs.Attribute.{Fits, buffer_len_of, canonical_string, masked};
+ghost use Rattle.nla_frame.specs.Canonical.{attribute_for};
+ghost use Rattle.linkinfo_table.specs.Canonical.{IsWrittenFrom};
+ghost use Rattle.linkinfo_table.specs.FamilyRows.{IsFlat, row_of};
+ghost use Rattle.linkinfo_table.specs.Rows.{meaning_in};
+
+use crate::lookup::Lookup;
+use crate::row_family::RowFamily;
+use linkinfo_shapes::{Shape, shape_canonical_len, shape_put_attribute};
+use nla_frame::{NlaBuffer, fitting, put_bytes_attribute};
+
+/// What the canonical attribute of an accepted attribute is written from.
+#[derive(Clone, Copy)]
+pub(crate) enum Written<'a> {
+    /// A type number, its shape, and a payload that is accepted under it.
+    Typed(u16, Shape, &'a [u8]),
+    /// A 16-bit type and a payload, which are kept as they came.
+    Kept(u16, &'a [u8]),
+}
+
+/// What an attribute's canonical attribute is written from, by its row. Asks that the attribute means a value, and that its row has a shape of the
+/// table, or none.
+#[inline(always)]
+fn written_from<'a, F: RowFamily>(nla: &NlaBuffer<'a>, ctx: F::Context) -> Written<'a>
+    requires flat { IsFlat (F.rows ctx (masked nla.now.kind)) }
+    requires accepted { IsOk (meaning_in F.FAMILY F.other (λ n. row_of (F.rows ctx n)) nla.now) }
+    ensures { IsWrittenFrom result (attribute_for F.canonical (meaning_in F.FAMILY F.other (λ n. row_of (F.rows ctx n)) nla.now)) }
+{
+    let kind = nla.kind();
+    match F::shape(ctx, kind) {
+        Lookup::Is(shape) => Written::Typed(kind, shape, nla.value()),
+        Lookup::Refused(_) => unreachable!(),
+        Lookup::Unknown => Written::Kept(nla.raw_kind(), nla.value()),
+    }
+}
+
+/// The length of the canonical payload of the value that an attribute means, where it fits, and else `None`. Takes no memory. Asks the same.
+#[inline(always)]
+pub fn row_canonical_len<F: RowFamily>(nla: &NlaBuffer<'_>, ctx: F::Context) -> Option<usize>
+    requires flat { IsFlat (F.rows ctx (masked nla.now.kind)) }
+    requires accepted { IsOk (meaning_in F.FAMILY F.other (λ n. row_of (F.rows ctx n)) nla.now) }
+    ensures { let canonical = attribute_for F.canonical (meaning_in F.FAMILY F.other (λ n. row_of (F.rows ctx n)) nla.now) in SomeIff result (Fits canonical) (length canonical.value) }
+{
+    match written_from::<F>(nla, ctx) {
+        Written::Typed(_, shape, payload) => shape_canonical_len(shape, payload),
+        Written::Kept(_, payload) => fitting(payload.len()),
+    }
+}
+
+/// Writes the canonical attribute of the value that an attribute means at the front of the buffer, leaves the bytes behind it, and answers its
+/// length. Takes no memory. Asks the same, that the canonical attribute fits, and for a buffer of at least its length.
+#[inline(always)]
+pub fn row_put_canonical<F: RowFamily>(
+    nla: &NlaBuffer<'_>,
+    ctx: F::Context,
+    buffer: &mut [u8],
+) -> usize
+    requires flat { IsFlat (F.rows ctx (masked nla.now.kind)) }
+    requires accepted { IsOk (meaning_in F.FAMILY F.other (λ n. row_of (F.rows ctx n)) nla.now) }
+    requires fits { Fits (attribute_for F.canonical (meaning_in F.FAMILY F.other (λ n. row_of (F.rows ctx n)) nla.now)) }
+    requires room { buffer_len_of (attribute_for F.canonical (meaning_in F.FAMILY F.other (λ n. row_of (F.rows ctx n)) nla.now)) ≤ length buffer.old }
+    ensures taken { result ≡ buffer_len_of (attribute_for F.canonical (meaning_in F.FAMILY F.other (λ n. row_of (F.rows ctx n)) nla.now)) }
+    ensures written { let canonical = attribute_for F.canonical (meaning_in F.FAMILY F.other (λ n. row_of (F.rows ctx n)) nla.now) in buffer.new ≡ canonical_string canonical ++ drop (buffer_len_of canonical) buffer.old }
+{
+    match written_from::<F>(nla, ctx) {
+        Written::Typed(kind, shape, payload) => shape_put_attribute(shape, kind, payload, buffer),
+        Written::Kept(kind, payload) => put_bytes_attribute(kind, payload, buffer),
+    }
+}
