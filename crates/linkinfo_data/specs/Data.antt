@@ -1,6 +1,6 @@
 -- Data of links: what a payload means under a kind.
-use Rattle.linkinfo_numbers.specs.declared.names.KindTag.{KindTag}
-use Rattle.linkinfo_numbers.specs.declared.names.KindTag.TheVariants as tag
+use Rattle.linkinfo_numbers.specs.declared.tags.KindTag.{KindTag}
+use Rattle.linkinfo_numbers.specs.declared.tags.KindTag.TheVariants as tag
 use Rattle.linkinfo_data.specs.declared.data.DataFamily.{DataFamily}
 use Rattle.linkinfo_data.specs.declared.data.DataFamily.TheVariants as of
 use Rattle.linkinfo_data.specs.declared.devices.DeviceFamily.TheVariants as device

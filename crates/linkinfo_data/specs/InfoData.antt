@@ -1,7 +1,7 @@
 -- The canonical payload of data. What an attribute of ipip, sit and ip6tnl is written as does not depend on the kind, so any tag stands for all three.
 use Rattle.std.specs.Prelude.{ℕ, List, map}
 use Rattle.nla_frame.specs.Attribute.{Attribute, canonical_string, list_string}
-use Rattle.linkinfo_numbers.specs.declared.names.KindTag.TheVariants as tag
+use Rattle.linkinfo_numbers.specs.declared.tags.KindTag.TheVariants as tag
 use Rattle.linkinfo_data.specs.declared.info_data.InfoDataOf.{InfoDataOf}
 use Rattle.linkinfo_data.specs.declared.info_data.InfoDataOf.TheVariants as info
 use Rattle.linkinfo_data.specs.Families.{Families}

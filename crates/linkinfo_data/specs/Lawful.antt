@@ -1,13 +1,12 @@
 -- Data of each family, and port data, is lawful.
-use Rattle.linkinfo_table.specs.Codecs.{IsCodec}
 use Rattle.linkinfo_data.specs.declared.data.DataFamily.{DataFamily}
 use Rattle.linkinfo_data.specs.declared.port_data.PortFamily.{PortFamily}
 use Rattle.linkinfo_data.specs.Data.{data_of}
 use Rattle.linkinfo_data.specs.Families.{Families}
 use Rattle.linkinfo_data.specs.InfoData.{data_payload}
-use Rattle.linkinfo_data.specs.Payloads.{payload_codec}
+use Rattle.linkinfo_data.specs.Payloads.{IsLawful}
 use Rattle.linkinfo_data.specs.PortData.{port_data_of, port_data_payload}
 
 pub record AreLawful {P : Type 0} (families : Families P) : Type 0 where
-  pub link : (f : DataFamily) → IsCodec (payload_codec (data_of families f) (data_payload families))
-  pub port : (f : PortFamily) → IsCodec (payload_codec (port_data_of f) port_data_payload)
+  pub link : (f : DataFamily) → IsLawful (data_of families f) (data_payload families)
+  pub port : (f : PortFamily) → IsLawful (port_data_of f) port_data_payload

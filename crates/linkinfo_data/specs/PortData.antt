@@ -1,8 +1,8 @@
 -- Data of ports: what a payload means under a port kind.
 use Rattle.std.specs.Prelude.{ℕ, List, map}
 use Rattle.nla_frame.specs.Attribute.{Attribute, list_string}
-use Rattle.linkinfo_numbers.specs.declared.names.PortTag.{PortTag}
-use Rattle.linkinfo_numbers.specs.declared.names.PortTag.TheVariants as tag
+use Rattle.linkinfo_numbers.specs.declared.tags.PortTag.{PortTag}
+use Rattle.linkinfo_numbers.specs.declared.tags.PortTag.TheVariants as tag
 use Rattle.linkinfo_data.specs.declared.port_data.InfoPortData.{InfoPortData}
 use Rattle.linkinfo_data.specs.declared.port_data.InfoPortData.TheVariants as info
 use Rattle.linkinfo_data.specs.declared.port_data.PortFamily.{PortFamily}

@@ -12,7 +12,7 @@ use crate::peers::PeeredFamily;
 use crate::tunnels::TunnelFamily;
 use linkinfo_numbers::KindTag;
 use linkinfo_table::LinkPeer;
-use nla_frame::{Bytes, DecodeError, HeaderCount};
+use nla_frame::{Bytes, DecodeError, ExactEq, HeaderCount, fitting, put_bytes};
 use std::alloc::Global;
 
 /// The family of the attributes in a kind's data.
@@ -28,6 +28,17 @@ pub enum DataFamily {
     Peered(PeeredFamily),
     /// None: the data is bytes.
     Raw,
+}
+
+impl ExactEq for DataFamily {
+    ghost use Rattle.nla_frame.specs.Derived.{derived_decides, no_field, one_field};
+    ghost use Rattle.linkinfo_data.specs.contracts.lower.LowerFamilyExactEq.TheImpl.Laws.{exact-law as lower_exact};
+    ghost use Rattle.linkinfo_data.specs.contracts.devices.DeviceFamilyExactEq.TheImpl.Laws.{exact-law as device_exact};
+    ghost use Rattle.linkinfo_data.specs.contracts.tunnels.TunnelFamilyExactEq.TheImpl.Laws.{exact-law as tunnel_exact};
+    ghost use Rattle.linkinfo_data.specs.contracts.peers.PeeredFamilyExactEq.TheImpl.Laws.{exact-law as peered_exact};
+    ghost use Rattle.linkinfo_data.specs.contracts.data.DataFamily.{enum};
+
+    ghost exact = { derived_decides enum _ (one_field lower_exact, (one_field device_exact, (one_field tunnel_exact, (one_field peered_exact, (no_field, tt))))) };
 }
 
 /// The family of the data of a kind.
@@ -95,6 +106,7 @@ impl<P: LinkPeer> PayloadFamily<InfoDataOf<P>> for DataFamily {
         }
     }
 
+    #[inline(always)]
     fn check(self, payload: &[u8], count: &mut HeaderCount) -> Result<(), DecodeError> {
         match self {
             DataFamily::Lower(family) => PayloadFamily::<InfoDataOf<P>>::check(
@@ -120,6 +132,42 @@ impl<P: LinkPeer> PayloadFamily<InfoDataOf<P>> for DataFamily {
             DataFamily::Tunnel(family) => PayloadFamily::<InfoDataOf<P>>::same(family, a, b, count),
             DataFamily::Peered(family) => PayloadFamily::<InfoDataOf<P>>::same(family, a, b, count),
             DataFamily::Raw => a == b,
+        }
+    }
+
+    fn canonical_len(self, payload: &[u8]) -> Option<usize> {
+        match self {
+            DataFamily::Lower(family) => PayloadFamily::<InfoDataOf<P>>::canonical_len(
+                family, payload,
+            ),
+            DataFamily::Device(family) => PayloadFamily::<InfoDataOf<P>>::canonical_len(
+                family, payload,
+            ),
+            DataFamily::Tunnel(family) => PayloadFamily::<InfoDataOf<P>>::canonical_len(
+                family, payload,
+            ),
+            DataFamily::Peered(family) => PayloadFamily::<InfoDataOf<P>>::canonical_len(
+                family, payload,
+            ),
+            DataFamily::Raw => fitting(payload.len()),
+        }
+    }
+
+    fn put_canonical(self, payload: &[u8], buffer: &mut [u8]) -> usize {
+        match self {
+            DataFamily::Lower(family) => PayloadFamily::<InfoDataOf<P>>::put_canonical(
+                family, payload, buffer,
+            ),
+            DataFamily::Device(family) => PayloadFamily::<InfoDataOf<P>>::put_canonical(
+                family, payload, buffer,
+            ),
+            DataFamily::Tunnel(family) => PayloadFamily::<InfoDataOf<P>>::put_canonical(
+                family, payload, buffer,
+            ),
+            DataFamily::Peered(family) => PayloadFamily::<InfoDataOf<P>>::put_canonical(
+                family, payload, buffer,
+            ),
+            DataFamily::Raw => put_bytes(payload, buffer),
         }
     }
 }

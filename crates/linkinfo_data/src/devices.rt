@@ -9,8 +9,8 @@ use linkinfo_devices::{
     InfoIpVlan, InfoIpVtap, InfoIpoib, InfoMacSec, InfoMacVlan, InfoMacVtap, InfoRmNet, InfoVrf,
     InfoXfrm,
 };
-use linkinfo_table::{LinkPeer, list_check, list_same};
-use nla_frame::{DecodeError, HeaderCount};
+use linkinfo_table::{LinkPeer, list_canonical_len, list_check, list_put_canonical, list_same};
+use nla_frame::{DecodeError, ExactEq, HeaderCount};
 use std::alloc::Global;
 
 /// The families of ipvlan, ipvtap, macvlan, macvtap, vrf, ipoib, xfrm, macsec and rmnet links.
@@ -34,6 +34,12 @@ pub enum DeviceFamily {
     MacSec,
     /// That of `rmnet`.
     RmNet,
+}
+
+impl ExactEq for DeviceFamily {
+    ghost use Rattle.std.proofs.Common.{rules};
+
+    ghost exact = { Prim.search rules };
 }
 
 impl<P: LinkPeer> PayloadFamily<InfoDataOf<P>> for DeviceFamily {
@@ -83,6 +89,34 @@ impl<P: LinkPeer> PayloadFamily<InfoDataOf<P>> for DeviceFamily {
             DeviceFamily::Xfrm => list_same::<InfoXfrm>(a, b, (), count),
             DeviceFamily::MacSec => list_same::<InfoMacSec>(a, b, (), count),
             DeviceFamily::RmNet => list_same::<InfoRmNet>(a, b, (), count),
+        }
+    }
+
+    fn canonical_len(self, payload: &[u8]) -> Option<usize> {
+        match self {
+            DeviceFamily::IpVlan => list_canonical_len::<InfoIpVlan>(payload, ()),
+            DeviceFamily::IpVtap => list_canonical_len::<InfoIpVtap>(payload, ()),
+            DeviceFamily::MacVlan => list_canonical_len::<InfoMacVlan>(payload, 0),
+            DeviceFamily::MacVtap => list_canonical_len::<InfoMacVtap>(payload, 0),
+            DeviceFamily::Vrf => list_canonical_len::<InfoVrf>(payload, ()),
+            DeviceFamily::Ipoib => list_canonical_len::<InfoIpoib>(payload, ()),
+            DeviceFamily::Xfrm => list_canonical_len::<InfoXfrm>(payload, ()),
+            DeviceFamily::MacSec => list_canonical_len::<InfoMacSec>(payload, ()),
+            DeviceFamily::RmNet => list_canonical_len::<InfoRmNet>(payload, ()),
+        }
+    }
+
+    fn put_canonical(self, payload: &[u8], buffer: &mut [u8]) -> usize {
+        match self {
+            DeviceFamily::IpVlan => list_put_canonical::<InfoIpVlan>(payload, (), buffer),
+            DeviceFamily::IpVtap => list_put_canonical::<InfoIpVtap>(payload, (), buffer),
+            DeviceFamily::MacVlan => list_put_canonical::<InfoMacVlan>(payload, 0, buffer),
+            DeviceFamily::MacVtap => list_put_canonical::<InfoMacVtap>(payload, 0, buffer),
+            DeviceFamily::Vrf => list_put_canonical::<InfoVrf>(payload, (), buffer),
+            DeviceFamily::Ipoib => list_put_canonical::<InfoIpoib>(payload, (), buffer),
+            DeviceFamily::Xfrm => list_put_canonical::<InfoXfrm>(payload, (), buffer),
+            DeviceFamily::MacSec => list_put_canonical::<InfoMacSec>(payload, (), buffer),
+            DeviceFamily::RmNet => list_put_canonical::<InfoRmNet>(payload, (), buffer),
         }
     }
 }

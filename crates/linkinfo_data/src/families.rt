@@ -20,7 +20,7 @@ ghost use Rattle.linkinfo_tunnels.specs.declared.amt.InfoAmt.{InfoAmt};
 ghost use Rattle.linkinfo_tunnels.specs.declared.bare_udp.InfoBareUdp.{InfoBareUdp};
 ghost use Rattle.linkinfo_peers.specs.declared.batadv.InfoBatAdv.{InfoBatAdv};
 ghost use Rattle.linkinfo_peers.specs.declared.wwan.InfoWwan.{InfoWwan};
-ghost use Rattle.linkinfo_numbers.specs.declared.names.KindTag.{KindTag};
+ghost use Rattle.linkinfo_numbers.specs.declared.tags.KindTag.{KindTag};
 ghost use Rattle.linkinfo_table.specs.Members.{Members};
 ghost use Rattle.linkinfo_table.specs.declared.rowless.Rowless.{Rowless};
 ghost use Rattle.linkinfo_data.specs.Families.{Families};

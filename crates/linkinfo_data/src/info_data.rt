@@ -7,13 +7,13 @@ ghost use Rattle.linkinfo_data.specs.Data.{data_of, family_of};
 use crate::data::family_of;
 use crate::families::DataFamilies;
 use crate::payload_family::PayloadFamily;
-use crate::written::{list_fit_len, one_fit_len, put_bytes, put_list, put_one};
+use crate::written::{list_fit_len, one_fit_len, put_list, put_one};
 use linkinfo_devices::{
     InfoIpVlan, InfoIpVtap, InfoIpoib, InfoMacSec, InfoMacVlan, InfoMacVtap, InfoRmNet, InfoVrf,
     InfoXfrm,
 };
 use linkinfo_lower::{InfoBond, InfoBridge, InfoCan, InfoDsa, InfoHsr, InfoVlan};
-use linkinfo_numbers::InfoKind;
+use linkinfo_numbers::{IFLA_INFO_DATA, InfoKind};
 use linkinfo_peers::{
     InfoBatAdv, InfoNetkitOf, InfoPfcp, InfoTun, InfoVethOf, InfoVxcanOf, InfoWireguard, InfoWwan,
 };
@@ -21,11 +21,8 @@ use linkinfo_table::LinkPeer;
 use linkinfo_tunnels::{
     InfoAmt, InfoBareUdp, InfoGeneve, InfoGre, InfoGre6, InfoGtp, InfoIpTunnel, InfoVti, InfoVxlan,
 };
-use nla_frame::{Bytes, DecodeError, ExactEq, HeaderCount, Nla, Nlas, fitting};
+use nla_frame::{Bytes, DecodeError, ExactEq, HeaderCount, Nla, Nlas, fitting, put_bytes};
 use std::alloc::Global;
-
-/// `IFLA_INFO_DATA`.
-const IFLA_INFO_DATA: u16 = 2;
 
 /// The data of a link: attributes of the family of its kind, or the bytes.
 #[derive(Debug, PartialEq, Eq, Clone, Drop)]
@@ -189,7 +186,7 @@ impl<P: LinkPeer> Nla for InfoDataOf<P> {
     }
 
     fn emit_payload(&self, buffer: &mut [u8]) -> usize {
-        of_data!(self, it => put_list(it, buffer), put_one(it, buffer), put_bytes(it, buffer))
+        of_data!(self, it => put_list(it, buffer), put_one(it, buffer), put_bytes(it.as_slice(), buffer))
     }
 
     #[tactic(auto, using(nla_frame::proofs::Emitting::whole))]

@@ -1,9 +1,8 @@
 //! Laws of data, each the contract of a function without code.
 
-ghost use Rattle.linkinfo_table.specs.Codecs.{IsCodec};
 ghost use Rattle.linkinfo_data.specs.InfoData.{data_payload};
 ghost use Rattle.linkinfo_data.specs.Lawful.{AreLawful};
-ghost use Rattle.linkinfo_data.specs.Payloads.{payload_codec};
+ghost use Rattle.linkinfo_data.specs.Payloads.{IsLawful};
 ghost use Rattle.linkinfo_data.specs.PortData.{port_data_of, port_data_payload};
 ghost use Rattle.linkinfo_data.specs.declared.port_data.PortFamily.{PortFamily};
 ghost use Rattle.linkinfo_data.specs.LowerData.{lower_data_of};
@@ -46,7 +45,7 @@ pub fn families_lawful<P: LinkPeer>()
 
 /// So is data of bridge, vlan, bond, hsr, can and dsa links.
 fn lower_lawful<P: LinkPeer>()
-    ensures { (f : LowerFamily) → IsCodec (payload_codec (lower_data_of f) (data_payload ⟦<P as DataFamilies>⟧.families)) }
+    ensures { (f : LowerFamily) → IsLawful (lower_data_of f) (data_payload ⟦<P as DataFamilies>⟧.families) }
 {
     lawful::<InfoBridge>();
     lawful::<InfoVlan>();
@@ -58,7 +57,7 @@ fn lower_lawful<P: LinkPeer>()
 
 /// So is data of ipvlan, ipvtap, macvlan, macvtap, vrf, ipoib, xfrm, macsec and rmnet links.
 fn devices_lawful<P: LinkPeer>()
-    ensures { (f : DeviceFamily) → IsCodec (payload_codec (devices_data_of f) (data_payload ⟦<P as DataFamilies>⟧.families)) }
+    ensures { (f : DeviceFamily) → IsLawful (devices_data_of f) (data_payload ⟦<P as DataFamilies>⟧.families) }
 {
     lawful::<InfoIpVlan>();
     lawful::<InfoIpVtap>();
@@ -73,7 +72,7 @@ fn devices_lawful<P: LinkPeer>()
 
 /// So is data of tunnels.
 fn tunnels_lawful<P: LinkPeer>()
-    ensures { (f : TunnelFamily) → IsCodec (payload_codec (tunnels_data_of f) (data_payload ⟦<P as DataFamilies>⟧.families)) }
+    ensures { (f : TunnelFamily) → IsLawful (tunnels_data_of f) (data_payload ⟦<P as DataFamilies>⟧.families) }
 {
     lawful::<InfoVxlan>();
     lawful::<InfoGre>();
@@ -88,7 +87,7 @@ fn tunnels_lawful<P: LinkPeer>()
 
 /// So is data of links with a peer, and of tun, wireguard, batadv, wwan and pfcp links.
 fn peers_lawful<P: LinkPeer>()
-    ensures { (f : PeeredFamily) → IsCodec (payload_codec (peers_data_of ⟦<P as DataFamilies>⟧.families f) (data_payload ⟦<P as DataFamilies>⟧.families)) }
+    ensures { (f : PeeredFamily) → IsLawful (peers_data_of ⟦<P as DataFamilies>⟧.families f) (data_payload ⟦<P as DataFamilies>⟧.families) }
 {
     lawful::<InfoTun>();
     lawful::<InfoVethOf<P>>();
@@ -102,7 +101,7 @@ fn peers_lawful<P: LinkPeer>()
 
 /// So is port data.
 fn ports_lawful()
-    ensures { (f : PortFamily) → IsCodec (payload_codec (port_data_of f) port_data_payload) }
+    ensures { (f : PortFamily) → IsLawful (port_data_of f) port_data_payload }
 {
     lawful::<InfoBondPort>();
     lawful::<InfoBridgePort>();

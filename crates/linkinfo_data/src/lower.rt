@@ -6,8 +6,8 @@ use crate::info_data::InfoDataOf;
 use crate::payload_family::PayloadFamily;
 use crate::written::read_nlas;
 use linkinfo_lower::{InfoBond, InfoBridge, InfoCan, InfoDsa, InfoHsr, InfoVlan};
-use linkinfo_table::{LinkPeer, list_check, list_same};
-use nla_frame::{DecodeError, HeaderCount};
+use linkinfo_table::{LinkPeer, list_canonical_len, list_check, list_put_canonical, list_same};
+use nla_frame::{DecodeError, ExactEq, HeaderCount};
 use std::alloc::Global;
 
 /// The families of bridge, vlan, bond, hsr, can and dsa links.
@@ -25,6 +25,12 @@ pub enum LowerFamily {
     Can,
     /// That of `dsa`.
     Dsa,
+}
+
+impl ExactEq for LowerFamily {
+    ghost use Rattle.std.proofs.Common.{rules};
+
+    ghost exact = { Prim.search rules };
 }
 
 impl<P: LinkPeer> PayloadFamily<InfoDataOf<P>> for LowerFamily {
@@ -65,6 +71,28 @@ impl<P: LinkPeer> PayloadFamily<InfoDataOf<P>> for LowerFamily {
             LowerFamily::Hsr => list_same::<InfoHsr>(a, b, (), count),
             LowerFamily::Can => list_same::<InfoCan>(a, b, (), count),
             LowerFamily::Dsa => list_same::<InfoDsa>(a, b, (), count),
+        }
+    }
+
+    fn canonical_len(self, payload: &[u8]) -> Option<usize> {
+        match self {
+            LowerFamily::Bridge => list_canonical_len::<InfoBridge>(payload, ()),
+            LowerFamily::Vlan => list_canonical_len::<InfoVlan>(payload, ()),
+            LowerFamily::Bond => list_canonical_len::<InfoBond>(payload, ()),
+            LowerFamily::Hsr => list_canonical_len::<InfoHsr>(payload, ()),
+            LowerFamily::Can => list_canonical_len::<InfoCan>(payload, ()),
+            LowerFamily::Dsa => list_canonical_len::<InfoDsa>(payload, ()),
+        }
+    }
+
+    fn put_canonical(self, payload: &[u8], buffer: &mut [u8]) -> usize {
+        match self {
+            LowerFamily::Bridge => list_put_canonical::<InfoBridge>(payload, (), buffer),
+            LowerFamily::Vlan => list_put_canonical::<InfoVlan>(payload, (), buffer),
+            LowerFamily::Bond => list_put_canonical::<InfoBond>(payload, (), buffer),
+            LowerFamily::Hsr => list_put_canonical::<InfoHsr>(payload, (), buffer),
+            LowerFamily::Can => list_put_canonical::<InfoCan>(payload, (), buffer),
+            LowerFamily::Dsa => list_put_canonical::<InfoDsa>(payload, (), buffer),
         }
     }
 }

@@ -1,6 +1,6 @@
-//! Payloads that are read, checked and compared by a family chosen among several.
+//! Payloads that are read, checked, compared and written by a family chosen among several.
 
-ghost use Rattle.std.specs.Prelude.{◌≡◌, ◌+◌, ◌*◌, ◌/◌, ◌<◌, ◌≤◌, ◌^◌, IsOk, length};
+ghost use Rattle.std.specs.Prelude.{◌≡◌, ◌+◌, ◌*◌, ◌/◌, ◌<◌, ◌≤◌, ◌^◌, ◌++◌, IsOk, SomeIff, drop, length};
 ghost use Rattle.std.specs.Bool.{OnTrue};
 ghost use Rattle.nla_frame.specs.Answers.{CertainUnless, Gives, OnAnswer, verdict};
 ghost use Rattle.linkinfo_data.specs.Payloads.{Payload};
@@ -38,4 +38,18 @@ pub trait PayloadFamily<D: Drop>: Copy {
         ensures counted { OnTrue result (count.new ≡ count.old + ((data_of self).headers a.now + (data_of self).headers b.now)) }
         ensures rises { count.old ≤ count.new }
         ensures quarter { 4 * count.new ≤ 4 * count.old + (length a.now + length b.now) };
+
+    /// The length of the canonical payload of the data that a payload means, or `None` above 65531. Asks that it means some, and takes no memory.
+    fn canonical_len(self, payload: &[u8]) -> Option<usize>
+        requires { IsOk ((data_of self).means payload.now) }
+        ensures { let len = length ((data_of self).canonical payload.now) in SomeIff result (len ≤ 65531) len };
+
+    /// Writes the canonical payload of the data that a payload means at the front of the buffer, leaves the bytes behind it, and answers its length. Asks
+    /// that the payload means some, of which the canonical payload has at most 65531 bytes, and for a buffer of at least as many; takes no memory.
+    fn put_canonical(self, payload: &[u8], buffer: &mut [u8]) -> usize
+        requires accepted { IsOk ((data_of self).means payload.now) }
+        requires fits { length ((data_of self).canonical payload.now) ≤ 65531 }
+        requires room { length ((data_of self).canonical payload.now) ≤ length buffer.old }
+        ensures taken { result ≡ length ((data_of self).canonical payload.now) }
+        ensures written { buffer.new ≡ (data_of self).canonical payload.now ++ drop (length ((data_of self).canonical payload.now)) buffer.old };
 }

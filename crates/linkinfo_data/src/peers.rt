@@ -9,8 +9,11 @@ use crate::written::read_nlas;
 use linkinfo_peers::{
     InfoBatAdv, InfoNetkitOf, InfoPfcp, InfoTun, InfoVethOf, InfoVxcanOf, InfoWireguard, InfoWwan,
 };
-use linkinfo_table::{LinkPeer, first_check, first_read, first_same, list_check, list_same};
-use nla_frame::{DecodeError, HeaderCount};
+use linkinfo_table::{
+    LinkPeer, first_canonical_len, first_check, first_put_canonical, first_read, first_same,
+    list_canonical_len, list_check, list_put_canonical, list_same,
+};
+use nla_frame::{DecodeError, ExactEq, HeaderCount};
 use std::alloc::Global;
 
 /// The families of links with a peer, and of tun, wireguard, batadv, wwan and pfcp links.
@@ -32,6 +35,12 @@ pub enum PeeredFamily {
     Wwan,
     /// That of `pfcp`.
     Pfcp,
+}
+
+impl ExactEq for PeeredFamily {
+    ghost use Rattle.std.proofs.Common.{rules};
+
+    ghost exact = { Prim.search rules };
 }
 
 impl<P: LinkPeer> PayloadFamily<InfoDataOf<P>> for PeeredFamily {
@@ -78,6 +87,32 @@ impl<P: LinkPeer> PayloadFamily<InfoDataOf<P>> for PeeredFamily {
             PeeredFamily::BatAdv => list_same::<InfoBatAdv>(a, b, (), count),
             PeeredFamily::Wwan => list_same::<InfoWwan>(a, b, (), count),
             PeeredFamily::Pfcp => list_same::<InfoPfcp>(a, b, (), count),
+        }
+    }
+
+    fn canonical_len(self, payload: &[u8]) -> Option<usize> {
+        match self {
+            PeeredFamily::Tun => list_canonical_len::<InfoTun>(payload, ()),
+            PeeredFamily::Veth => first_canonical_len::<InfoVethOf<P>>(payload, ()),
+            PeeredFamily::Wireguard => list_canonical_len::<InfoWireguard>(payload, ()),
+            PeeredFamily::Netkit => list_canonical_len::<InfoNetkitOf<P>>(payload, ()),
+            PeeredFamily::Vxcan => first_canonical_len::<InfoVxcanOf<P>>(payload, ()),
+            PeeredFamily::BatAdv => list_canonical_len::<InfoBatAdv>(payload, ()),
+            PeeredFamily::Wwan => list_canonical_len::<InfoWwan>(payload, ()),
+            PeeredFamily::Pfcp => list_canonical_len::<InfoPfcp>(payload, ()),
+        }
+    }
+
+    fn put_canonical(self, payload: &[u8], buffer: &mut [u8]) -> usize {
+        match self {
+            PeeredFamily::Tun => list_put_canonical::<InfoTun>(payload, (), buffer),
+            PeeredFamily::Veth => first_put_canonical::<InfoVethOf<P>>(payload, (), buffer),
+            PeeredFamily::Wireguard => list_put_canonical::<InfoWireguard>(payload, (), buffer),
+            PeeredFamily::Netkit => list_put_canonical::<InfoNetkitOf<P>>(payload, (), buffer),
+            PeeredFamily::Vxcan => first_put_canonical::<InfoVxcanOf<P>>(payload, (), buffer),
+            PeeredFamily::BatAdv => list_put_canonical::<InfoBatAdv>(payload, (), buffer),
+            PeeredFamily::Wwan => list_put_canonical::<InfoWwan>(payload, (), buffer),
+            PeeredFamily::Pfcp => list_put_canonical::<InfoPfcp>(payload, (), buffer),
         }
     }
 }

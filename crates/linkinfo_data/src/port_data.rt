@@ -6,17 +6,14 @@ ghost use Rattle.linkinfo_numbers.specs.PortKind.{tag_of_port_kind};
 ghost use Rattle.linkinfo_data.specs.PortData.{port_data_of, port_family_of};
 
 use crate::payload_family::PayloadFamily;
-use crate::written::{list_fit_len, put_bytes, put_list, read_nlas};
+use crate::written::{list_fit_len, put_list, read_nlas};
 use linkinfo_devices::InfoVrfPort;
 use linkinfo_lower::{InfoBondPort, InfoBridgePort};
-use linkinfo_numbers::{InfoPortKind, PortTag};
+use linkinfo_numbers::{IFLA_INFO_SLAVE_DATA, InfoPortKind, PortTag};
 use linkinfo_peers::InfoTeamPort;
-use linkinfo_table::{list_check, list_same};
-use nla_frame::{Bytes, DecodeError, ExactEq, HeaderCount, Nla, Nlas, fitting};
+use linkinfo_table::{list_canonical_len, list_check, list_put_canonical, list_same};
+use nla_frame::{Bytes, DecodeError, ExactEq, HeaderCount, Nla, Nlas, fitting, put_bytes};
 use std::alloc::Global;
-
-/// `IFLA_INFO_SLAVE_DATA`.
-const IFLA_INFO_SLAVE_DATA: u16 = 5;
 
 /// The family of the attributes in a port kind's data.
 #[derive(Clone, Copy, Debug, PartialEq, Eq)]
@@ -31,6 +28,12 @@ pub enum PortFamily {
     Team,
     /// None: the data is bytes.
     Raw,
+}
+
+impl ExactEq for PortFamily {
+    ghost use Rattle.std.proofs.Common.{rules};
+
+    ghost exact = { Prim.search rules };
 }
 
 /// The family of the data of a port kind.
@@ -98,6 +101,26 @@ impl PayloadFamily<InfoPortData> for PortFamily {
             PortFamily::Raw => a == b,
         }
     }
+
+    fn canonical_len(self, payload: &[u8]) -> Option<usize> {
+        match self {
+            PortFamily::Bond => list_canonical_len::<InfoBondPort>(payload, ()),
+            PortFamily::Bridge => list_canonical_len::<InfoBridgePort>(payload, ()),
+            PortFamily::Vrf => list_canonical_len::<InfoVrfPort>(payload, ()),
+            PortFamily::Team => list_canonical_len::<InfoTeamPort>(payload, ()),
+            PortFamily::Raw => fitting(payload.len()),
+        }
+    }
+
+    fn put_canonical(self, payload: &[u8], buffer: &mut [u8]) -> usize {
+        match self {
+            PortFamily::Bond => list_put_canonical::<InfoBondPort>(payload, (), buffer),
+            PortFamily::Bridge => list_put_canonical::<InfoBridgePort>(payload, (), buffer),
+            PortFamily::Vrf => list_put_canonical::<InfoVrfPort>(payload, (), buffer),
+            PortFamily::Team => list_put_canonical::<InfoTeamPort>(payload, (), buffer),
+            PortFamily::Raw => put_bytes(payload, buffer),
+        }
+    }
 }
 
 impl InfoPortData {
@@ -139,7 +162,7 @@ impl Nla for InfoPortData {
             InfoPortData::BridgePort(list) => put_list(list, buffer),
             InfoPortData::VrfPort(list) => put_list(list, buffer),
             InfoPortData::TeamPort(list) => put_list(list, buffer),
-            InfoPortData::Other(bytes) => put_bytes(bytes, buffer),
+            InfoPortData::Other(bytes) => put_bytes(bytes.as_slice(), buffer),
         }
     }
 

@@ -6,11 +6,11 @@ use crate::info_data::InfoDataOf;
 use crate::payload_family::PayloadFamily;
 use crate::written::read_nlas;
 use linkinfo_numbers::KindTag;
-use linkinfo_table::{LinkPeer, list_check, list_same};
+use linkinfo_table::{LinkPeer, list_canonical_len, list_check, list_put_canonical, list_same};
 use linkinfo_tunnels::{
     InfoAmt, InfoBareUdp, InfoGeneve, InfoGre, InfoGre6, InfoGtp, InfoIpTunnel, InfoVti, InfoVxlan,
 };
-use nla_frame::{DecodeError, HeaderCount};
+use nla_frame::{DecodeError, ExactEq, HeaderCount};
 use std::alloc::Global;
 
 /// The families of tunnels.
@@ -42,6 +42,14 @@ pub enum TunnelFamily {
     ErSpan,
     /// That of `ip6erspan`.
     Ip6ErSpan,
+}
+
+impl ExactEq for TunnelFamily {
+    ghost use Rattle.nla_frame.specs.Derived.{derived_decides, no_field, one_field};
+    ghost use Rattle.linkinfo_numbers.specs.contracts.tags.KindTagExactEq.TheImpl.Laws.{exact-law as tag_exact};
+    ghost use Rattle.linkinfo_data.specs.contracts.tunnels.TunnelFamily.{enum};
+
+    ghost exact = { derived_decides enum _ (no_field, (no_field, (no_field, (one_field tag_exact, (no_field, (no_field, (no_field, (no_field, (no_field, (no_field, (no_field, (no_field, (no_field, tt))))))))))))) };
 }
 
 impl<P: LinkPeer> PayloadFamily<InfoDataOf<P>> for TunnelFamily {
@@ -105,6 +113,42 @@ impl<P: LinkPeer> PayloadFamily<InfoDataOf<P>> for TunnelFamily {
             TunnelFamily::BareUdp => list_same::<InfoBareUdp>(a, b, (), count),
             TunnelFamily::ErSpan => list_same::<InfoGre>(a, b, (), count),
             TunnelFamily::Ip6ErSpan => list_same::<InfoGre6>(a, b, (), count),
+        }
+    }
+
+    fn canonical_len(self, payload: &[u8]) -> Option<usize> {
+        match self {
+            TunnelFamily::Vxlan => list_canonical_len::<InfoVxlan>(payload, ()),
+            TunnelFamily::GreTap => list_canonical_len::<InfoGre>(payload, ()),
+            TunnelFamily::GreTap6 => list_canonical_len::<InfoGre6>(payload, ()),
+            TunnelFamily::IpTunnel(tag) => list_canonical_len::<InfoIpTunnel>(payload, tag),
+            TunnelFamily::GreTun => list_canonical_len::<InfoGre>(payload, ()),
+            TunnelFamily::GreTun6 => list_canonical_len::<InfoGre6>(payload, ()),
+            TunnelFamily::Vti => list_canonical_len::<InfoVti>(payload, ()),
+            TunnelFamily::Gtp => list_canonical_len::<InfoGtp>(payload, ()),
+            TunnelFamily::Geneve => list_canonical_len::<InfoGeneve>(payload, ()),
+            TunnelFamily::Amt => list_canonical_len::<InfoAmt>(payload, ()),
+            TunnelFamily::BareUdp => list_canonical_len::<InfoBareUdp>(payload, ()),
+            TunnelFamily::ErSpan => list_canonical_len::<InfoGre>(payload, ()),
+            TunnelFamily::Ip6ErSpan => list_canonical_len::<InfoGre6>(payload, ()),
+        }
+    }
+
+    fn put_canonical(self, payload: &[u8], buffer: &mut [u8]) -> usize {
+        match self {
+            TunnelFamily::Vxlan => list_put_canonical::<InfoVxlan>(payload, (), buffer),
+            TunnelFamily::GreTap => list_put_canonical::<InfoGre>(payload, (), buffer),
+            TunnelFamily::GreTap6 => list_put_canonical::<InfoGre6>(payload, (), buffer),
+            TunnelFamily::IpTunnel(tag) => list_put_canonical::<InfoIpTunnel>(payload, tag, buffer),
+            TunnelFamily::GreTun => list_put_canonical::<InfoGre>(payload, (), buffer),
+            TunnelFamily::GreTun6 => list_put_canonical::<InfoGre6>(payload, (), buffer),
+            TunnelFamily::Vti => list_put_canonical::<InfoVti>(payload, (), buffer),
+            TunnelFamily::Gtp => list_put_canonical::<InfoGtp>(payload, (), buffer),
+            TunnelFamily::Geneve => list_put_canonical::<InfoGeneve>(payload, (), buffer),
+            TunnelFamily::Amt => list_put_canonical::<InfoAmt>(payload, (), buffer),
+            TunnelFamily::BareUdp => list_put_canonical::<InfoBareUdp>(payload, (), buffer),
+            TunnelFamily::ErSpan => list_put_canonical::<InfoGre>(payload, (), buffer),
+            TunnelFamily::Ip6ErSpan => list_put_canonical::<InfoGre6>(payload, (), buffer),
         }
     }
 }

@@ -8,8 +8,7 @@ ghost use Rattle.linkinfo_table.specs.Lists.{headers_of, memory_of, values};
 
 use linkinfo_table::{LinkFamily, list_read};
 use nla_frame::{
-    Bytes, DecodeError, HeaderCount, Nla, Nlas, fitting, nlas_fit_len, put_attribute,
-    put_attributes,
+    DecodeError, HeaderCount, Nla, Nlas, fitting, nlas_fit_len, put_attribute, put_attributes,
 };
 use std::alloc::Global;
 
@@ -59,17 +58,6 @@ pub(crate) fn put_one<T: Nla>(nla: &T, buffer: &mut [u8]) -> usize
     ensures written { buffer.new ≡ canonical_string (T.attribute nla.now) ++ drop (length (canonical_string (T.attribute nla.now))) buffer.old }
 {
     put_attribute(nla, buffer)
-}
-
-/// Writes bytes in the same way.
-pub(crate) fn put_bytes(bytes: &Bytes, buffer: &mut [u8]) -> usize
-    requires { length bytes.now ≤ length buffer.old }
-    ensures taken { result ≡ length bytes.now }
-    ensures written { buffer.new ≡ bytes.now ++ drop (length bytes.now) buffer.old }
-{
-    let len = bytes.len();
-    buffer[..len].copy_from_slice(bytes.as_slice());
-    len
 }
 
 /// The length of the attribute's string where a payload of it fits, and else `None`.

@@ -1,9 +1,10 @@
 -- An attribute that holds a list, answered by what its list answers.
-use Rattle.std.specs.Prelude.{◌≡◌, ℕ, ◌+◌, ◌==◌, ◌&&◌, Bool, true, false, List, Result, Ok, Err, IsOk, refl}
+use Rattle.std.specs.Prelude.{◌≡◌, ℕ, ◌+◌, ◌==◌, ◌&&◌, Bool, true, false, List, map, Result, Ok, Err, IsOk, refl}
 use Rattle.std.specs.Bool.{OnTrue}
 use Rattle.std.proofs.Common.{sym, ap, subst, ◌∙◌, arith}
 use Rattle.std.proofs.lemmas.Bool.{eq-eqb, ne_eqb}
-use Rattle.nla_frame.specs.Attribute.{Attribute, masked}
+use Rattle.nla_frame.specs.Attribute.{Attribute, list_string, masked}
+use Rattle.nla_frame.specs.Canonical.{attribute_for, attributes_for}
 use Rattle.nla_frame.specs.Answers.{Answers, CertainUnless, Gives, OnAnswer, verdict}
 use Rattle.nla_frame.specs.declared.error.DecodeError.{DecodeError}
 use Rattle.linkinfo_table.specs.FamilyRows.{FamilyRow, IsFlat, row_of}
@@ -87,3 +88,16 @@ unfolding alike_in
 flat_pair rows a b flat alike =
     let same = alike_masked (row_of (rows (masked a.kind))) a b alike in
     omega (arith, flat_headers rows a flat, flat_headers rows b (subst (λ n. IsFlat (rows n)) (sym same) flat))
+
+-- written: the attribute that holds the list which a payload means
+pub list_attribute : {X : Type 0} (canonical : X → Attribute) (label : List X → X) → ((xs : List X) → canonical (label xs) ≡ record { kind = 5; value = list_string (map canonical xs) }) →
+    (inner : List ℕ → Result (List X) DecodeError) (p q : List ℕ) (m : Result X DecodeError) → p ≡ q → m ≡ in_list label (inner q) → IsOk m →
+    attribute_for canonical m ≡ record { kind = 5; value = list_string (attributes_for canonical (inner p)) }
+list_attribute {X = X} canonical label written inner p q m same means ok =
+    ap (λ t. attribute_for canonical t) means
+    ∙ go (inner q) (subst IsOk means ok)
+    ∙ ap (λ s. record { kind = 5; value = list_string (attributes_for canonical (inner s)) }) (sym same)
+  where
+    go : (r : Result (List X) DecodeError) → IsOk (in_list label r) → attribute_for canonical (in_list label r) ≡ record { kind = 5; value = list_string (attributes_for canonical r) }
+    go (Ok xs) h = written xs
+    go (Err e) h = absurd cc

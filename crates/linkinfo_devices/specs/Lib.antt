@@ -2,10 +2,10 @@ pub mod Ipoib
 pub mod Ipvlan
 pub mod Ipvtap
 pub mod MacRows
-pub mod MacVlan
-pub mod MacVlanEqual
-pub mod MacVtap
-pub mod MacVtapEqual
+pub mod Macvlan
+pub mod MacvlanEqual
+pub mod Macvtap
+pub mod MacvtapEqual
 pub mod Macsec
 pub mod ModeAndFlags
 pub mod Nested

@@ -9,6 +9,7 @@ mod macsec;
 mod macvlan;
 mod macvtap;
 mod nested_calls;
+mod nested_canonical;
 mod nested_emission;
 mod nested_family;
 mod rmnet;

@@ -1,6 +1,6 @@
 //! Macvlan links.
 
-ghost use Rattle.linkinfo_devices.specs.MacVlan.{mac_vlan_attribute, mac_vlan_holds_list, mac_vlan_keep, mac_vlan_keeps, mac_vlan_owes, mac_vlan_plain_rows, mac_vlan_rows, mac_vlan_says};
+ghost use Rattle.linkinfo_devices.specs.Macvlan.{mac_vlan_attribute, mac_vlan_holds_list, mac_vlan_keep, mac_vlan_keeps, mac_vlan_owes, mac_vlan_plain_rows, mac_vlan_rows, mac_vlan_says};
 ghost use Rattle.linkinfo_devices.specs.Nested.{LendsList, flat_elsewhere, list_alike, list_headers, list_means, list_needs_memory, nested_quarter};
 ghost use Rattle.linkinfo_devices.specs.declared.macvlan.InfoMacVlan as macvlan;
 ghost use Rattle.linkinfo_table.specs.FamilyRows.{Puts, SuitsFound, found_needs_memory, lookup_of, row_of, table_row};
@@ -10,7 +10,8 @@ ghost use Rattle.nla_frame.specs.declared.error.Family.TheVariants as family;
 ghost use Rattle.std.specs.Prelude.{◌≡◌, true, IsOk, OnOk, refl};
 
 use crate::mac_rows::mac_rows;
-use crate::nested_calls::{nested_check, nested_parse, nested_read, nested_same};
+use crate::nested_calls::{nested_check, nested_parse, nested_push, nested_read, nested_same};
+use crate::nested_canonical::{nested_canonical_len, nested_put_canonical};
 use crate::nested_emission::{
     nested_emit_payload, nested_emit_value, nested_fit_len, nested_kind, nested_value_len,
 };
@@ -84,13 +85,13 @@ impl RowFamily for InfoMacVlan {
 
     ghost keeps_other = { λ d. mac_vlan_keep.other d };
 
-    #[tactic(auto, using(crate::specs::MacVlan::mac_vlan_lookup))]
+    #[tactic(auto, using(crate::specs::Macvlan::mac_vlan_lookup))]
     #[inline(always)]
     fn shape(lists: u8, kind: u16) -> Lookup {
         nested_shape(Family::MacVlan, lists, kind)
     }
 
-    #[tactic(auto, using(crate::specs::MacVlan::mac_vlan_suits, crate::specs::MacVlan::mac_vlan_puts))]
+    #[tactic(auto, using(crate::specs::Macvlan::mac_vlan_suits, crate::specs::Macvlan::mac_vlan_puts))]
     #[inline(always)]
     fn put_found<P: Place<InfoMacVlan>>(
         place: &mut P,
@@ -124,6 +125,8 @@ impl NestedFamily for InfoMacVlan {
             _ => None,
         }
     }
+
+    ghost list_written = { λ xs. mac_vlan_keep.mac_addr_data xs };
 
     ghost list_means = { λ c a. list_means family.MacVlan (λ d. macvlan.Other d) mac_vlan_attribute (λ xs. macvlan.MacAddrData xs) (mac_vlan_plain_rows) c a };
 
@@ -212,6 +215,16 @@ impl LinkFamily for InfoMacVlan {
         nested_read(alloc, nla, lists, count)
     }
 
+    fn push(
+        items: &mut Vec<InfoMacVlan>,
+        alloc: Global,
+        nla: &NlaBuffer<'_>,
+        lists: u8,
+        count: &mut HeaderCount,
+    ) -> Result<(), DecodeError> {
+        nested_push(items, alloc, nla, lists, count)
+    }
+
     fn check_value(
         nla: &NlaBuffer<'_>,
         lists: u8,
@@ -228,6 +241,14 @@ impl LinkFamily for InfoMacVlan {
     ) -> bool {
         nested_same::<InfoMacVlan>(a, b, lists, count)
     }
+
+    fn canonical_len(nla: &NlaBuffer<'_>, lists: u8) -> Option<usize> {
+        nested_canonical_len::<InfoMacVlan>(nla, lists)
+    }
+
+    fn put_canonical(nla: &NlaBuffer<'_>, lists: u8, buffer: &mut [u8]) -> usize {
+        nested_put_canonical::<InfoMacVlan>(nla, lists, buffer)
+    }
 }
 
 /// Reads the attribute, inside no list. A payload of another length than its row's is (MacVlan, type, Length), a list inside 128 others is
@@ -243,7 +264,7 @@ impl<'a> Parseable<NlaBuffer<'a>> for InfoMacVlan {
 }
 
 impl ExactEq for InfoMacVlan {
-    ghost use Rattle.linkinfo_devices.specs.MacVlanEqual.{mac_vlan_decides};
+    ghost use Rattle.linkinfo_devices.specs.MacvlanEqual.{mac_vlan_decides};
 
     ghost exact = { mac_vlan_decides };
 }

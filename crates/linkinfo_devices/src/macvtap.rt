@@ -1,6 +1,6 @@
 //! Macvtap links. Their attributes have the types of those of macvlan links.
 
-ghost use Rattle.linkinfo_devices.specs.MacVtap.{mac_vtap_attribute, mac_vtap_holds_list, mac_vtap_keep, mac_vtap_keeps, mac_vtap_owes, mac_vtap_plain_rows, mac_vtap_rows, mac_vtap_says};
+ghost use Rattle.linkinfo_devices.specs.Macvtap.{mac_vtap_attribute, mac_vtap_holds_list, mac_vtap_keep, mac_vtap_keeps, mac_vtap_owes, mac_vtap_plain_rows, mac_vtap_rows, mac_vtap_says};
 ghost use Rattle.linkinfo_devices.specs.Nested.{LendsList, flat_elsewhere, list_alike, list_headers, list_means, list_needs_memory, nested_quarter};
 ghost use Rattle.linkinfo_devices.specs.declared.macvtap.InfoMacVtap as macvtap;
 ghost use Rattle.linkinfo_table.specs.FamilyRows.{Puts, SuitsFound, found_needs_memory, lookup_of, row_of, table_row};
@@ -10,7 +10,8 @@ ghost use Rattle.nla_frame.specs.declared.error.Family.TheVariants as family;
 ghost use Rattle.std.specs.Prelude.{◌≡◌, true, IsOk, OnOk, refl};
 
 use crate::mac_rows::mac_rows;
-use crate::nested_calls::{nested_check, nested_parse, nested_read, nested_same};
+use crate::nested_calls::{nested_check, nested_parse, nested_push, nested_read, nested_same};
+use crate::nested_canonical::{nested_canonical_len, nested_put_canonical};
 use crate::nested_emission::{
     nested_emit_payload, nested_emit_value, nested_fit_len, nested_kind, nested_value_len,
 };
@@ -84,13 +85,13 @@ impl RowFamily for InfoMacVtap {
 
     ghost keeps_other = { λ d. mac_vtap_keep.other d };
 
-    #[tactic(auto, using(crate::specs::MacVtap::mac_vtap_lookup))]
+    #[tactic(auto, using(crate::specs::Macvtap::mac_vtap_lookup))]
     #[inline(always)]
     fn shape(lists: u8, kind: u16) -> Lookup {
         nested_shape(Family::MacVtap, lists, kind)
     }
 
-    #[tactic(auto, using(crate::specs::MacVtap::mac_vtap_suits, crate::specs::MacVtap::mac_vtap_puts))]
+    #[tactic(auto, using(crate::specs::Macvtap::mac_vtap_suits, crate::specs::Macvtap::mac_vtap_puts))]
     #[inline(always)]
     fn put_found<P: Place<InfoMacVtap>>(
         place: &mut P,
@@ -124,6 +125,8 @@ impl NestedFamily for InfoMacVtap {
             _ => None,
         }
     }
+
+    ghost list_written = { λ xs. mac_vtap_keep.mac_addr_data xs };
 
     ghost list_means = { λ c a. list_means family.MacVtap (λ d. macvtap.Other d) mac_vtap_attribute (λ xs. macvtap.MacAddrData xs) (mac_vtap_plain_rows) c a };
 
@@ -212,6 +215,16 @@ impl LinkFamily for InfoMacVtap {
         nested_read(alloc, nla, lists, count)
     }
 
+    fn push(
+        items: &mut Vec<InfoMacVtap>,
+        alloc: Global,
+        nla: &NlaBuffer<'_>,
+        lists: u8,
+        count: &mut HeaderCount,
+    ) -> Result<(), DecodeError> {
+        nested_push(items, alloc, nla, lists, count)
+    }
+
     fn check_value(
         nla: &NlaBuffer<'_>,
         lists: u8,
@@ -228,6 +241,14 @@ impl LinkFamily for InfoMacVtap {
     ) -> bool {
         nested_same::<InfoMacVtap>(a, b, lists, count)
     }
+
+    fn canonical_len(nla: &NlaBuffer<'_>, lists: u8) -> Option<usize> {
+        nested_canonical_len::<InfoMacVtap>(nla, lists)
+    }
+
+    fn put_canonical(nla: &NlaBuffer<'_>, lists: u8, buffer: &mut [u8]) -> usize {
+        nested_put_canonical::<InfoMacVtap>(nla, lists, buffer)
+    }
 }
 
 /// Reads the attribute, inside no list. A payload of another length than its row's is (MacVtap, type, Length), a list inside 128 others is
@@ -243,7 +264,7 @@ impl<'a> Parseable<NlaBuffer<'a>> for InfoMacVtap {
 }
 
 impl ExactEq for InfoMacVtap {
-    ghost use Rattle.linkinfo_devices.specs.MacVtapEqual.{mac_vtap_decides};
+    ghost use Rattle.linkinfo_devices.specs.MacvtapEqual.{mac_vtap_decides};
 
     ghost exact = { mac_vtap_decides };
 }

@@ -1,16 +1,16 @@
 //! Reading, checking and comparing attributes of a family that holds lists of its own, and such lists, by calls that lead to each other.
 
-ghost use Rattle.std.specs.Prelude.{◌≡◌, ◌+◌, ◌*◌, ◌/◌, ◌<◌, ◌≤◌, ◌^◌, IsOk, length};
+ghost use Rattle.std.specs.Prelude.{◌≡◌, ◌+◌, ◌*◌, ◌/◌, ◌<◌, ◌≤◌, ◌^◌, false, IsOk, length};
 ghost use Rattle.std.specs.Bool.{OnTrue};
 ghost use Rattle.nla_frame.specs.Answers.{CertainUnless, Gives, OnAnswer, verdict};
 ghost use Rattle.nla_frame.specs.Pieces.{pieces};
 ghost use Rattle.linkinfo_table.specs.FamilyRows.{row_of};
-ghost use Rattle.linkinfo_table.specs.Lists.{alike_pairs, headers_of, memory_of, values};
+ghost use Rattle.linkinfo_table.specs.Lists.{Appends, alike_pairs, headers_of, memory_of, push_memory, values};
 ghost use Rattle.linkinfo_table.specs.Rows.{alike_in, headers_inside, meaning_in, memory_in};
 ghost use Rattle.linkinfo_devices.specs.Nested.{in_list};
 
 use crate::nested_family::{LIST_TYPE, MOST_LISTS, NestedFamily};
-use linkinfo_table::{row_check, row_read, row_same};
+use linkinfo_table::{row_check, row_put, row_read, row_same};
 use nla_frame::{DecodeError, HeaderCount, NlaBuffer, Nlas, laws, next_piece};
 use std::alloc::Global;
 
@@ -36,6 +36,30 @@ pub fn nested_read<F: NestedFamily>(
     }
 }
 
+/// Reads an attribute inside `lists` lists, and puts its value behind others.
+#[cycle(nested_read)]
+pub fn nested_push<F: NestedFamily>(
+    items: &mut Vec<F>,
+    alloc: Global,
+    nla: &NlaBuffer<'_>,
+    lists: u8,
+    count: &mut HeaderCount,
+) -> Result<(), DecodeError>
+    requires { count.old + length nla.now.value / 4 < 2 ^ 64 }
+    ensures answer { Appends items.old.items items.new.items result (meaning_in F.FAMILY F.other (λ n. row_of (F.rows lists n)) nla.now) }
+    ensures certain { push_memory (memory_in (λ n. row_of (F.rows lists n)) nla.now) (meaning_in F.FAMILY F.other (λ n. row_of (F.rows lists n)) nla.now) ≡ false → result ≡ verdict (meaning_in F.FAMILY F.other (λ n. row_of (F.rows lists n)) nla.now) }
+    ensures counted { OnAnswer result (count.new ≡ count.old + headers_inside (λ n. row_of (F.rows lists n)) nla.now) }
+    ensures rises { count.old ≤ count.new }
+    ensures quarter { 4 * count.new ≤ 4 * count.old + length nla.now.value }
+{
+    if nla.kind() == LIST_TYPE && lists < MOST_LISTS {
+        items.push(nested_read(alloc, nla, lists, count)?)?;
+        Ok(())
+    } else {
+        row_put::<F, Vec<F>>(items, alloc, nla, lists)
+    }
+}
+
 /// Reads a list whose attributes stand inside `lists` lists.
 #[cycle(nested_read)]
 fn nested_list_read<F: NestedFamily>(
@@ -56,7 +80,7 @@ fn nested_list_read<F: NestedFamily>(
     let mut rest = bytes;
     while let Some(next) = next_piece(rest, count) {
         let (nla, after) = next?;
-        items.push(nested_read(alloc, &nla, lists, count)?)?;
+        nested_push(&mut items, alloc, &nla, lists, count)?;
         rest = after;
     }
     Ok(items)

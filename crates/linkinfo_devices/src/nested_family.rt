@@ -1,7 +1,7 @@
 //! Families whose attributes of one type hold lists of the family's own attributes.
 
-ghost use Rattle.std.specs.Prelude.{◌≡◌, ◌+◌, ◌==◌, ◌&&◌, ◌<◌, ◌≤◌, ℕ, List, Option};
-ghost use Rattle.nla_frame.specs.Attribute.{Attribute, masked};
+ghost use Rattle.std.specs.Prelude.{◌≡◌, ◌+◌, ◌==◌, ◌&&◌, ◌<◌, ◌≤◌, ℕ, List, Option, map};
+ghost use Rattle.nla_frame.specs.Attribute.{Attribute, list_string, masked};
 ghost use Rattle.nla_frame.specs.Pieces.{pieces};
 ghost use Rattle.linkinfo_shapes.specs.Table.{shape_of};
 ghost use Rattle.linkinfo_table.specs.FamilyRows.{IsFlat, lookup_in, row_of};
@@ -31,6 +31,8 @@ pub trait NestedFamily: RowFamily<Context = u8> {
     /// The list that a value holds, where its payload is one.
     fn list(&self) -> Option<&Nlas<Self>>
         ensures { LendsList Self.canonical Self.is_custom self.now result };
+
+    ghost list_written: { (xs : List Self) → Self.canonical (list_value xs) ≡ record { kind = 5; value = list_string (map Self.canonical xs) } };
 
     ghost list_means: { (c : ℕ) (a : Attribute) → c < 128 → masked a.kind ≡ 5 → meaning_in Self.FAMILY Self.other (λ n. row_of (Self.rows c n)) a ≡ in_list list_value (values (meaning_in Self.FAMILY Self.other (λ n. row_of (Self.rows (c + 1) n))) (pieces a.value)) };
 

@@ -2,5 +2,9 @@
 //! over the same helpers.
 #![tactic(auto)]
 
+mod vlan;
+
+pub use vlan::InfoVlanRow;
+
 #[cfg(test)]
 mod tests;

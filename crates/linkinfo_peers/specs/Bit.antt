@@ -1,13 +1,15 @@
 -- A bit as a peer: one byte, which is true where it is not zero, as payloads of truths are.
 use Rattle.std.specs.Prelude.{◌≡◌, ◌↔◌, ℕ, Bool, true, false, List, Option, Some, None, Result, Ok, Err, IsSome, refl}
 use Rattle.nla_frame.specs.Attribute.{IsBytes}
+use Rattle.nla_frame.specs.Canonical.{bytes_for}
 use Rattle.nla_frame.specs.declared.error.Cause.{Cause}
 use Rattle.linkinfo_shapes.specs.declared.shape.Shape.TheVariants.{Truth}
-use Rattle.linkinfo_shapes.specs.Shapes.{IsAccepted, means, canon, payload_alike}
+use Rattle.linkinfo_shapes.specs.Shapes.{IsAccepted, means, canon, canonical, payload_alike}
 use Rattle.linkinfo_shapes.specs.ShapeLaws.{accepted, means_alike, means-canon, IsBytes-canon}
 use Rattle.linkinfo_shapes.specs.declared.datum.Datum.{Datum}
 use Rattle.linkinfo_shapes.specs.Data.{IsDatumOr, ReadsAs, unwrap, value_of}
 use Rattle.linkinfo_shapes.specs.DataLaws.{read_means, read_suits}
+use Rattle.linkinfo_table.specs.Peers.{payload_for}
 use Rattle.linkinfo_peers.specs.declared.bit.BitPeer.{BitPeer}
 use Rattle.std.proofs.Common.{sym, ap, ◌∙◌}
 
@@ -59,3 +61,12 @@ bit_well_means x = ap bit_of (means-canon Truth x.0 tt)
 
 pub bit_well_bytes : (x : BitPeer) → IsBytes (bit_payload x)
 bit_well_bytes x = IsBytes-canon Truth x.0 tt
+
+-- a bit is written as the canonical payload of a truth
+pub bit_written : (p : List ℕ) → payload_for bit_payload (bit_meaning p) ≡ canonical Truth p
+unfolding canonical
+bit_written p = go (means Truth p)
+  where
+    go : (r : Result Bool Cause) → payload_for bit_payload (bit_of r) ≡ bytes_for (canon Truth) r
+    go (Ok b) = refl
+    go (Err c) = refl

@@ -1,5 +1,5 @@
 -- The rows of veth links, over a peer's meaning, what makes two of its payloads alike, its canonical payload, and what holds of it.
-use Rattle.std.specs.Prelude.{◌≡◌, ℕ, Bool, true, false, List, [], Option}
+use Rattle.std.specs.Prelude.{ℕ, Bool, true, false, List, [], Option}
 use Rattle.nla_frame.specs.Attribute.{Attribute}
 use Rattle.nla_frame.specs.Kept.{attribute_of}
 use Rattle.linkinfo_table.specs.FamilyRows.{FamilyRow, PlainRow, EachKeeps}

@@ -5,7 +5,10 @@ ghost use Rattle.linkinfo_table.specs.Peers.{PeerGives};
 ghost use Rattle.linkinfo_table.specs.declared.peer.PeerFault.TheVariants as fault;
 ghost use Rattle.linkinfo_peers.specs.Bit.{bit_alike, bit_alike_is, bit_meaning, bit_payload, bit_well_bytes, bit_well_means};
 
-use linkinfo_shapes::{Datum, Shape, read_datum, shape_check, shape_same, write_datum};
+use linkinfo_shapes::{
+    Datum, Shape, read_datum, shape_canonical_len, shape_check, shape_put_canonical, shape_same,
+    write_datum,
+};
 use linkinfo_table::{LinkPeer, PeerFault};
 use nla_frame::ExactEq;
 use std::alloc::Global;
@@ -60,6 +63,16 @@ impl LinkPeer for BitPeer {
     #[tactic(auto, unfolding(linkinfo_shapes::specs::Data::Suits, linkinfo_shapes::specs::Data::written))]
     fn emit(&self, buffer: &mut [u8]) {
         write_datum(Shape::Truth, &Datum::Truth(self.0), buffer);
+    }
+
+    #[tactic(auto, using(crate::specs::Bit::bit_accepted, crate::specs::Bit::bit_written))]
+    fn canonical_len(payload: &[u8]) -> Option<usize> {
+        shape_canonical_len(Shape::Truth, payload)
+    }
+
+    #[tactic(auto, using(crate::specs::Bit::bit_accepted, crate::specs::Bit::bit_written))]
+    fn put_canonical(payload: &[u8], buffer: &mut [u8]) -> usize {
+        shape_put_canonical(Shape::Truth, payload, buffer)
     }
 }
 

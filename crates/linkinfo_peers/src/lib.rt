@@ -7,6 +7,7 @@ mod bit;
 pub mod laws;
 mod netkit;
 mod peer_calls;
+mod peer_canonical;
 mod peer_family;
 mod rowless;
 mod veth;

@@ -12,6 +12,7 @@ use crate::peer_calls::{
     peer_check, peer_emit_payload, peer_emit_value, peer_fit_len, peer_kind, peer_read, peer_same,
     peer_value_len,
 };
+use crate::peer_canonical::{peer_canonical_len, peer_put_canonical};
 use crate::peer_family::PeerFamily;
 use linkinfo_numbers::{NetkitMode, NetkitPolicy, NetkitScrub};
 use linkinfo_table::{
@@ -124,6 +125,8 @@ impl<P: LinkPeer> PeerFamily for InfoNetkitOf<P> {
 
     ghost peer_value = { λ peer. netkit.Peer peer };
 
+    ghost peer_written = { λ _. refl };
+
     ghost peer_means = { λ _ _. refl };
 
     ghost peer_needs_memory = { λ _ _. refl };
@@ -198,6 +201,14 @@ impl<P: LinkPeer> UnnestedFamily for InfoNetkitOf<P> {
 
     fn same_by_row(a: &NlaBuffer<'_>, b: &NlaBuffer<'_>, ctx: ()) -> bool {
         peer_same::<InfoNetkitOf<P>>(a, b, ctx)
+    }
+
+    fn canonical_len_by_row(nla: &NlaBuffer<'_>, ctx: ()) -> Option<usize> {
+        peer_canonical_len::<InfoNetkitOf<P>>(nla, ctx)
+    }
+
+    fn put_canonical_by_row(nla: &NlaBuffer<'_>, ctx: (), buffer: &mut [u8]) -> usize {
+        peer_put_canonical::<InfoNetkitOf<P>>(nla, ctx, buffer)
     }
 }
 

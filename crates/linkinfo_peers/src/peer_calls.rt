@@ -19,7 +19,7 @@ use std::alloc::Global;
 
 /// The type of a peer: `VETH_INFO_PEER` (include/uapi/linux/veth.h), `VXCAN_INFO_PEER` (include/uapi/linux/can/vxcan.h) and
 /// `IFLA_NETKIT_PEER_INFO` (include/uapi/linux/if_link.h).
-const PEER: u16 = 1;
+pub(crate) const PEER: u16 = 1;
 
 fn refused(family: Family, kind: u16) -> DecodeError
     ensures { result ≡ record { family = family; kind = kind; cause = cause.Peer } }

@@ -25,6 +25,8 @@ pub trait PeerFamily: RowFamily {
         ensures some { IfSome result (λ peer. Self.canonical self.now ≡ record { kind = 1; value = Self.Peer.LinkPeer.canonical peer.now }) }
         ensures none { IsNone result → Self.is_custom self.now ≡ false };
 
+    ghost peer_written: { (peer : Self.Peer) → Self.canonical (peer_value peer) ≡ record { kind = 1; value = Self.Peer.LinkPeer.canonical peer } };
+
     ghost peer_means: { (c : Self.Context) (a : Attribute) → row_meaning Self.FAMILY Self.other (row_of (Self.rows c 1)) a ≡ peer_meaning Self.FAMILY peer_value Self.Peer.LinkPeer.meaning a };
 
     ghost peer_needs_memory: { (c : Self.Context) (a : Attribute) → row_needs_memory (row_of (Self.rows c 1)) a ≡ true };

@@ -12,6 +12,7 @@ use crate::peer_calls::{
     peer_check, peer_emit_payload, peer_emit_value, peer_fit_len, peer_kind, peer_read, peer_same,
     peer_value_len,
 };
+use crate::peer_canonical::{peer_canonical_len, peer_put_canonical};
 use crate::peer_family::PeerFamily;
 use linkinfo_table::{
     Found, LinkPeer, Lookup, Part, Place, RowFamily, UnnestedFamily, table_lookup,
@@ -81,6 +82,8 @@ impl<P: LinkPeer> PeerFamily for InfoVxcanOf<P> {
     type Peer = P;
 
     ghost peer_value = { λ peer. vxcan.Peer peer };
+
+    ghost peer_written = { λ _. refl };
 
     ghost peer_means = { λ _ _. refl };
 
@@ -156,6 +159,14 @@ impl<P: LinkPeer> UnnestedFamily for InfoVxcanOf<P> {
 
     fn same_by_row(a: &NlaBuffer<'_>, b: &NlaBuffer<'_>, ctx: ()) -> bool {
         peer_same::<InfoVxcanOf<P>>(a, b, ctx)
+    }
+
+    fn canonical_len_by_row(nla: &NlaBuffer<'_>, ctx: ()) -> Option<usize> {
+        peer_canonical_len::<InfoVxcanOf<P>>(nla, ctx)
+    }
+
+    fn put_canonical_by_row(nla: &NlaBuffer<'_>, ctx: (), buffer: &mut [u8]) -> usize {
+        peer_put_canonical::<InfoVxcanOf<P>>(nla, ctx, buffer)
     }
 }
 

@@ -15,8 +15,8 @@ use Rattle.linkinfo_shapes.specs.declared.shape.Shape.TheVariants.{Le32, Ip, U8,
 use Rattle.linkinfo_numbers.specs.Table.{key-value_of}
 use Rattle.linkinfo_numbers.specs.Ip.{ip_protocol, ip_protocol_number, ip_protocol_table_holds}
 use Rattle.linkinfo_numbers.specs.Tunnel.{tunnel_encap_type, tunnel_encap_type_number, tunnel_encap_type_table_holds, tunnel_encap_flags, ip6_tunnel_flags}
-use Rattle.linkinfo_numbers.specs.declared.names.KindTag.{KindTag}
-use Rattle.linkinfo_numbers.specs.declared.names.KindTag.TheVariants as tag
+use Rattle.linkinfo_numbers.specs.declared.tags.KindTag.{KindTag}
+use Rattle.linkinfo_numbers.specs.declared.tags.KindTag.TheVariants as tag
 use Rattle.linkinfo_table.specs.Labels.{each_keeps}
 use Rattle.linkinfo_tunnels.specs.declared.ip_tunnel.InfoIpTunnel.{InfoIpTunnel}
 use Rattle.linkinfo_tunnels.specs.declared.ip_tunnel.InfoIpTunnel.TheVariants.{Link, Local, Remote, Ttl, Tos, EncapLimit, FlowInfo, Ipv4Flags, Ipv6SitFlags, Ipv6Flags, Protocol, PMtuDisc, Ipv6RdPrefix, Ipv6RdRelayPrefix, Ipv6RdPrefixLen, Ipv6RdRelayPrefixLen, EncapType, EncapFlags, EncapSPort, EncapDPort, CollectMetadata, FwMark, Other}

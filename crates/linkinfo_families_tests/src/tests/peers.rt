@@ -1,9 +1,9 @@
 //! Both peers through each call of the families with a peer.
 
 use super::rows::{
-    UNLISTED, are_same, compare, compare_lists, error, first_checked, has_shapes, is_emitted,
-    is_list, is_not_parsed, is_parsed, is_read, is_refused, keeps_unlisted, list_checked,
-    same_with_flags, unlisted,
+    UNLISTED, are_same, compare, compare_lists, error, first_checked, first_is_written_as,
+    has_shapes, is_emitted, is_list, is_not_parsed, is_parsed, is_read, is_refused, keeps_unlisted,
+    list_checked, list_is_written_as, same_with_flags, unlisted,
 };
 use linkinfo_peers::{
     BitPeer, InfoNetkit, InfoNetkitOf, InfoVeth, InfoVethOf, InfoVxcan, InfoVxcanOf,
@@ -168,6 +168,8 @@ where
     let mut count = HeaderCount::new();
     let same = first_same::<F>(TAIL, TAIL, (), &mut count);
     assert_eq!(rt; (same, count.get()), (true, 2));
+    first_is_written_as::<F>(rt, (), TAIL, &[6, 0, 1, 0, 0xaa, 0xbb, 0, 0]);
+    list_is_written_as::<F>(rt, (), LIST_OF_BYTES, LIST_OF_BYTES);
 }
 
 /// A peer of `aa bb` is no bit, so lists and first attributes that begin with one are refused.

@@ -7,8 +7,9 @@ use super::rows::{
 };
 use linkinfo_lower::{
     InfoBond, InfoBondPort, InfoBridge, InfoBridgePort, InfoCan, InfoDsa, InfoHsr, InfoVlan,
+    laws as lower_laws,
 };
-use linkinfo_peers::{InfoPfcp, InfoTeamPort, InfoTun, InfoWireguard};
+use linkinfo_peers::{InfoPfcp, InfoTeamPort, InfoTun, InfoWireguard, laws as peer_laws};
 use linkinfo_table::{LinkFamily, Rowless, laws};
 use nla_frame::{Cause, DefaultNla, Family};
 use std::alloc::Global;
@@ -122,6 +123,7 @@ fn keeps_every_attribute<const NUMBER: u8>(
 
 #[test]
 fn ports_and_their_devices(rt: HostRuntime) {
+    lower_laws::named();
     let alloc = rt.alloc();
     let bond = InfoBond::Other(marked(&rt, alloc));
     keeps_every_attribute(&rt, alloc, Family::Bond, bond);
@@ -150,6 +152,7 @@ fn networks_and_rings(rt: HostRuntime) {
 
 #[test]
 fn tunnels(rt: HostRuntime) {
+    peer_laws::named();
     let alloc = rt.alloc();
     let tun = InfoTun::Other(marked(&rt, alloc));
     keeps_every_attribute(&rt, alloc, Family::Tun, tun);

@@ -5,7 +5,8 @@ ghost use Rattle.nla_frame.specs.Pieces.{pieces};
 ghost use Rattle.linkinfo_table.specs.Lists.{values};
 
 use linkinfo_table::{
-    LinkFamily, Lookup, Shape, first_check, laws, list_check, list_read, list_same,
+    LinkFamily, Lookup, Shape, first_canonical_len, first_check, first_put_canonical, laws,
+    list_canonical_len, list_check, list_put_canonical, list_read, list_same,
 };
 use nla_frame::{
     Cause, DecodeError, DefaultNla, ExactEq, Family, HeaderCount, Nla, NlaBuffer, Parseable,
@@ -43,6 +44,7 @@ pub(super) fn error(family: Family, kind: u16, cause: Cause) -> DecodeError {
 
 /// The family has these shapes by masked type, and no other row up to 39.
 pub(super) fn has_shapes<F: LinkFamily>(rt: &impl Abort, ctx: F::Context, rows: &[(u16, Shape)]) {
+    laws::looked_up::<F>(ctx);
     for kind in 0..40 {
         let mut wanted = Lookup::Unknown;
         for row in rows {
@@ -149,6 +151,10 @@ pub(super) fn is_emitted<F: Nla>(rt: &impl Abort, value: &F, bytes: &[u8]) {
     let mut buffer = [255; 27];
     value.emit(&mut buffer);
     begins_with(rt, &buffer, bytes);
+    let mut front = [255; 27];
+    let taken = value.emit_payload(&mut front);
+    assert!(rt; taken == payload);
+    begins_with(rt, &front, nla.value());
 }
 
 /// The attribute of the bytes, which is accepted.
@@ -159,6 +165,34 @@ fn accepted<'a, F: LinkFamily>(rt: &impl Abort, ctx: F::Context, bytes: &'a [u8]
     let checked = F::check_value(&nla, ctx, &mut HeaderCount::new());
     assert!(rt; checked.is_ok());
     nla
+}
+
+/// What is written for the accepted attribute, which has at most 24 bytes, and how many they are.
+fn rewritten<F: LinkFamily>(
+    rt: &impl Abort,
+    ctx: F::Context,
+    bytes: &[u8],
+    buffer: &mut [u8; 27],
+) -> usize {
+    let nla = accepted::<F>(rt, ctx, bytes);
+    let len = F::canonical_len(&nla, ctx).expect(rt, "an attribute that fits");
+    assert!(rt; len <= 20);
+    F::put_canonical(&nla, ctx, buffer)
+}
+
+/// The accepted attribute is written as these bytes, without its value, and nothing behind them is changed.
+pub(super) fn is_written_as<F: LinkFamily>(
+    rt: &impl Abort,
+    ctx: F::Context,
+    bytes: &[u8],
+    canonical: &[u8],
+) {
+    let mut buffer = [255; 27];
+    assert_eq!(rt;
+        rewritten::<F>(rt, ctx, bytes, &mut buffer),
+        canonical.len()
+    );
+    begins_with(rt, &buffer, canonical);
 }
 
 /// Whether two accepted attributes are the same. Asks that they are accepted.
@@ -210,6 +244,7 @@ pub(super) fn is_row<F: LinkFamily + ExactEq>(
     is_read(rt, alloc, ctx, bytes, value);
     assert!(rt; same_with_flags::<F>(rt, ctx, bytes));
     is_emitted(rt, value, bytes);
+    is_written_as::<F>(rt, ctx, bytes, bytes);
 }
 
 /// The attribute with a payload of one byte more, and of one byte less, is refused with the cause Length.
@@ -242,6 +277,7 @@ pub(super) fn is_mark<F: LinkFamily + ExactEq>(
     assert!(rt; bytes.len() == 4);
     is_row(rt, alloc, ctx, bytes, value);
     is_read(rt, alloc, ctx, &[5, 0, bytes[2], 0, 7, 0, 0, 0], value);
+    is_written_as::<F>(rt, ctx, &[5, 0, bytes[2], 0, 7, 0, 0, 0], bytes);
 }
 
 /// `UNLISTED` is kept as the value: its flag bits count. A clone is equal.
@@ -433,6 +469,38 @@ fn is_accepted<F: LinkFamily>(rt: &impl Abort, ctx: F::Context, bytes: &[u8])
     assert!(rt; checked.is_ok());
 }
 
+/// The accepted list, which has at most 24 bytes, is written as these bytes, without its values, and nothing behind them is changed.
+pub(super) fn list_is_written_as<F: LinkFamily>(
+    rt: &impl Abort,
+    ctx: F::Context,
+    bytes: &[u8],
+    canonical: &[u8],
+) {
+    is_accepted::<F>(rt, ctx, bytes);
+    let len = list_canonical_len::<F>(bytes, ctx).expect(rt, "a list that fits");
+    assert!(rt; len == canonical.len() && len <= 24);
+    let mut buffer = [255; 27];
+    assert_eq!(rt; list_put_canonical::<F>(bytes, ctx, &mut buffer), len);
+    begins_with(rt, &buffer, canonical);
+}
+
+/// The first attribute alone is written as these bytes, of which there are at most 24, without its value, and nothing behind them is changed.
+pub(super) fn first_is_written_as<F: LinkFamily>(
+    rt: &impl Abort,
+    ctx: F::Context,
+    bytes: &[u8],
+    canonical: &[u8],
+) {
+    assert!(rt; bytes.len() < 1000);
+    let checked = first_check::<F>(bytes, ctx, &mut HeaderCount::new());
+    assert!(rt; checked.is_ok());
+    let len = first_canonical_len::<F>(bytes, ctx).expect(rt, "an attribute that fits");
+    assert!(rt; len == canonical.len() && len <= 24);
+    let mut buffer = [255; 27];
+    assert_eq!(rt; first_put_canonical::<F>(bytes, ctx, &mut buffer), len);
+    begins_with(rt, &buffer, canonical);
+}
+
 /// Whether two accepted lists are the same, with the headers that were looked at for the answer.
 fn lists_same<F: LinkFamily>(
     rt: &impl Abort,
@@ -481,6 +549,7 @@ fn is_list_of<F: LinkFamily + ExactEq>(
     let len = bytes.len();
     assert!(rt; len <= 24);
     laws::reading_back::<F>(bytes, ctx);
+    laws::list_framed::<F>(bytes, ctx);
     let mut count = HeaderCount::new();
     let read = list_read::<F>(alloc, bytes, ctx, &mut count).expect(rt, "a list");
     assert_eq!(rt;

@@ -1,7 +1,7 @@
 //! Peers of plain bytes, and what was read of attributes and what values show.
 
 use super::rows::kept;
-use linkinfo_table::{Datum, Found, LinkPeer, Part, PeerFault, Shape};
+use linkinfo_table::{Datum, Found, LinkPeer, Part, PeerFault, Shape, laws};
 use nla_frame::{Bytes, DefaultNla};
 use std::alloc::Global;
 use std::process::Abort;
@@ -72,6 +72,7 @@ fn kept_compare(first: DefaultNla, second: DefaultNla) -> [bool; 2] {
 
 #[test]
 fn parts_compare_by_what_they_hold(rt: HostRuntime) {
+    laws::equal_parts();
     let alloc = rt.alloc();
     let text = [b'a', b'b'];
     let same = [b'a', b'b'];

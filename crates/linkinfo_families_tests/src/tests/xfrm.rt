@@ -48,6 +48,7 @@ fn rows_of_xfrm(rt: HostRuntime) {
 #[test]
 fn rows_of_vrf(rt: HostRuntime) {
     let alloc = rt.alloc();
+    laws::lawful::<InfoVrf>();
     has_shapes::<InfoVrf>(&rt, (), &[(1, Shape::Le32)]);
     has_rows(&rt, alloc, &ROWS_OF_VRF);
     keeps_unlisted(
@@ -162,4 +163,5 @@ fn first_attributes_stand_alone(rt: HostRuntime) {
     }
     assert_eq!(rt; firsts_same(&rt, &one, &two), (true, 2));
     laws::reading_back::<InfoVrf>(&one, ());
+    laws::first_framed::<InfoVrf>(&two, ());
 }

@@ -40,3 +40,8 @@ pub nested_read-returns-else-kind-eq-LIST_TYPE-clause-counted : goal.nested_read
 nested_read-returns-else-kind-eq-LIST_TYPE-clause-counted g t c =
     let flat = g.met.F.NestedFamily.flat_elsewhere c.args.lists (masked c.args.nla.now.kind) (λ e. omega (arith, e, c.kind.ensures, c.else-kind-eq-LIST_TYPE.either)) in
     on_each c.row_read.result (omega (arith, flat_headers (g.F.RowFamily.rows c.args.lists) c.args.nla.now flat))
+
+pub nested_push-returns-else-kind-eq-LIST_TYPE-clause-counted : goal.nested_push-returns-else-kind-eq-LIST_TYPE-clause-counted
+nested_push-returns-else-kind-eq-LIST_TYPE-clause-counted g t c =
+    let flat = g.met.F.NestedFamily.flat_elsewhere c.args.lists (masked c.args.nla.now.kind) (λ e. omega (arith, e, c.kind.ensures, c.else-kind-eq-LIST_TYPE.either)) in
+    on_each c.row_put.result (omega (arith, flat_headers (g.F.RowFamily.rows c.args.lists) c.args.nla.now flat))

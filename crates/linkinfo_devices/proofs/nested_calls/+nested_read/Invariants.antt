@@ -22,7 +22,10 @@ abbrev pub decreases-nested_list_read-loop-next : goal.decreases-nested_list_rea
 decreases-nested_list_read-loop-next g l = length l.rest
 
 abbrev pub decreases-nested_read : goal.decreases-nested_read
-decreases-nested_read g l = 2 * (128 - l.lists) + 1
+decreases-nested_read g l = 3 * (128 - l.lists) + 1
+
+abbrev pub decreases-nested_push : goal.decreases-nested_push
+decreases-nested_push g l = 3 * (128 - l.lists) + 2
 
 abbrev pub decreases-nested_list_read : goal.decreases-nested_list_read
-decreases-nested_list_read g l = 2 * (128 - l.lists) + 2
+decreases-nested_list_read g l = 3 * (128 - l.lists) + 3

@@ -1,0 +1,119 @@
+//! A family of one's own, whose rows the table of all families does not have: attributes of vlan links (`IFLA_VLAN_UNSPEC` and on,
+//! include/uapi/linux/if_link.h), which the list keeps as they came.
+
+ghost use Rattle.linkinfo_table.specs.FamilyRowLaws.{table_flat, table_owes};
+ghost use Rattle.linkinfo_table.specs.FamilyRows.{table_row};
+ghost use Rattle.linkinfo_families_tests.specs.Vlan.{vlan_attribute, vlan_keeps, vlan_rows};
+ghost use Rattle.linkinfo_families_tests.specs.declared.vlan.InfoVlanRow.TheVariants.{Other};
+ghost use Rattle.nla_frame.specs.declared.error.Family.TheVariants as family;
+ghost use Rattle.std.specs.Prelude.{false, refl};
+
+use linkinfo_table::{
+    FlatFamily, Found, Lookup, Part, Place, RowFamily, Shape, part_by_rows, put_by_rows,
+    row_emit_payload, row_emit_value, row_fit_len, row_kind, row_value_len,
+};
+use nla_frame::{DefaultNla, ExactEq, Family, Nla};
+use std::alloc::{AllocError, Global};
+
+/// An attribute of a vlan link.
+#[derive(Debug, PartialEq, Eq, Clone, Drop)]
+pub enum InfoVlanRow {
+    /// The identifier of the vlan (`IFLA_VLAN_ID`), native byte order.
+    Id(u16),
+    /// Flags and the mask of those that are meant (`IFLA_VLAN_FLAGS`), native byte order.
+    Flags((u32, u32)),
+    /// The protocol of the tag (`IFLA_VLAN_PROTOCOL`), network byte order.
+    Protocol(u16),
+    /// An attribute of another type, kept as it came.
+    Other(DefaultNla),
+}
+
+macro_rules! rows {
+    ($body:ident $given:tt) => {
+        $body! { InfoVlanRow $given;
+            (IFLA_VLAN_ID = 1, le16, Id),
+            (IFLA_VLAN_FLAGS = 2, flag_pair, Flags),
+            (IFLA_VLAN_PROTOCOL = 5, be16, Protocol),
+        }
+    };
+}
+
+impl RowFamily for InfoVlanRow {
+    type Context = ();
+
+    const FAMILY: Family = Family::Vlan;
+
+    ghost FAMILY = { family.Vlan };
+
+    ghost rows = { λ _ n. table_row vlan_rows n };
+
+    ghost other = { λ nla. Other nla };
+
+    ghost canonical = { vlan_attribute };
+
+    ghost is_custom = { λ _. false };
+
+    ghost owes = { λ _ n. table_owes vlan_attribute vlan_rows vlan_keeps n };
+
+    ghost keeps_other = { λ _. refl };
+
+    fn shape(_ctx: (), kind: u16) -> Lookup {
+        match kind {
+            1 => Lookup::Is(Shape::Le16),
+            2 => Lookup::Is(Shape::FlagPair),
+            5 => Lookup::Is(Shape::Be16),
+            _ => Lookup::Unknown,
+        }
+    }
+
+    fn put_found<P: Place<InfoVlanRow>>(
+        place: &mut P,
+        alloc: Global,
+        _ctx: (),
+        found: Found<'_>,
+    ) -> Result<(), AllocError> {
+        rows!(put_by_rows(place, alloc, found))
+    }
+
+    fn to_part(&self) -> Part<'_> {
+        rows!(part_by_rows self)
+    }
+}
+
+impl FlatFamily for InfoVlanRow {
+    ghost flat = { λ _ n. table_flat vlan_attribute vlan_rows vlan_keeps n };
+
+    ghost never_custom = { λ _. refl };
+
+    ghost written = { λ _. refl };
+}
+
+impl Nla for InfoVlanRow {
+    ghost attribute = { vlan_attribute };
+
+    fn value_len(&self) -> usize {
+        row_value_len(self)
+    }
+
+    fn kind(&self) -> u16 {
+        row_kind(self)
+    }
+
+    fn emit_value(&self, buffer: &mut [u8]) {
+        row_emit_value(self, buffer);
+    }
+
+    fn emit_payload(&self, buffer: &mut [u8]) -> usize {
+        row_emit_payload(self, buffer)
+    }
+
+    fn fit_len(&self) -> Option<usize> {
+        row_fit_len(self)
+    }
+}
+
+impl ExactEq for InfoVlanRow {
+    ghost use Rattle.std.proofs.Common.{rules};
+
+    ghost exact = { Prim.search rules };
+}
