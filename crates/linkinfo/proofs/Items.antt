@@ -1,11 +1,12 @@
 -- The laws of the attributes of a list: each row owes what a row of a family owes, and the kinds in force behind an attribute are those behind
 -- its value.
 use Rattle.std.proofs.Common.{◌≡◌, ℕ, zero, suc, ◌*◌, ◌≤◌, true, eqb, List, length, refl, sym, ap, subst, ◌∙◌, arith, Result, Ok, Err, Option, Some, None, lit<}
-use Rattle.std.specs.Prelude.{◌≢◌, ◌↔◌}
+use Rattle.std.specs.Prelude.{◌≢◌, ◌↔◌, IsOk}
 use Rattle.std.specs.Str.{bytes_eq}
 use Rattle.std.proofs.lemmas.Bool.{eqb-true, ne_eqb, and_parts}
 use Rattle.std.proofs.lemmas.Slice.Eq.{bytes_eq-Decides}
 use Rattle.nla_frame.specs.Attribute.{Attribute, IsAttribute, Fits, masked}
+use Rattle.nla_frame.specs.Canonical.{attribute_for, bytes_for}
 use Rattle.nla_frame.specs.Error.{memory_fault}
 use Rattle.nla_frame.specs.declared.default_nla.DefaultNla.{DefaultNla}
 use Rattle.nla_frame.specs.declared.error.Cause.{Cause}
@@ -14,13 +15,13 @@ use Rattle.nla_frame.specs.declared.error.Family.TheVariants as family
 use Rattle.nla_frame.specs.declared.error.DecodeError.{DecodeError}
 use Rattle.linkinfo_numbers.specs.declared.kind.InfoKind.{InfoKind}
 use Rattle.linkinfo_numbers.specs.declared.port_kind.InfoPortKind.{InfoPortKind}
-use Rattle.linkinfo_numbers.specs.declared.names.KindTag.{KindTag}
-use Rattle.linkinfo_numbers.specs.declared.names.PortTag.{PortTag}
+use Rattle.linkinfo_numbers.specs.declared.tags.KindTag.{KindTag}
+use Rattle.linkinfo_numbers.specs.declared.tags.PortTag.{PortTag}
 use Rattle.linkinfo_numbers.specs.Kind.{kind_of_name, text_of_kind, text_of_kind-kind_of_name, tag_of_name, tag_of_kind-kind_of_name}
 use Rattle.linkinfo_numbers.specs.PortKind.{port_kind_of_name, text_of_port_kind, text_of_port_kind-port_kind_of_name, port_tag_of_name, tag_of_port_kind-port_kind_of_name}
 use Rattle.linkinfo_numbers.specs.Name.{name_attribute}
 use Rattle.nla_frame.specs.Payload.{stripped}
-use Rattle.linkinfo_shapes.specs.Shapes.{means, text_of}
+use Rattle.linkinfo_shapes.specs.Shapes.{canon, canonical, means, text_of}
 use Rattle.linkinfo_shapes.specs.declared.shape.Shape.TheVariants.{Name, Raw}
 use Rattle.linkinfo_data.specs.Families.{Families}
 use Rattle.linkinfo_data.specs.Lawful.{AreLawful}
@@ -36,8 +37,10 @@ use Rattle.linkinfo.specs.declared.role.InForce.{InForce}
 use Rattle.linkinfo.specs.declared.role.Role.{Role}
 use Rattle.linkinfo.specs.declared.role.Role.TheVariants as role
 use Rattle.linkinfo_data.specs.Data.{data_of, family_of}
-use Rattle.linkinfo_data.specs.PortData.{port_data_of, port_family_of}
-use Rattle.linkinfo.specs.Items.{link_attribute, link_other, link_row, link_rows, link_meaning, link_headers, link_alike, link_well}
+use Rattle.linkinfo_data.specs.InfoData.{data_payload}
+use Rattle.linkinfo_data.specs.Payloads.{IsLawful, Payload}
+use Rattle.linkinfo_data.specs.PortData.{port_data_of, port_data_payload, port_family_of}
+use Rattle.linkinfo.specs.Items.{link_attribute, link_other, link_row, link_rows, link_meaning, link_headers, link_alike, link_well, written_attribute}
 use Rattle.linkinfo.specs.Roles.{behind_role, name_meaning, name_or_fault, role_of, role_at, role_under, with_name}
 use Rattle.linkinfo.specs.Strings.{or_stay, force_after, force_behind}
 
@@ -90,7 +93,7 @@ module _ {P : Type 0} (peer : Families P) where
 
   module _ (law : AreLawful peer) where
     data_owes : (o : Option KindTag) → RowOwes attribute 2 (link_row peer (role_under o (λ tag. role.Data tag)))
-    data_owes (Some tag) = record { low = lit< tt; codec = law.link (family_of tag); keeps = λ d. refl; same = λ x y _ _ e. cc }
+    data_owes (Some tag) = record { low = lit< tt; codec = (law.link (family_of tag)).codec; keeps = λ d. refl; same = λ x y _ _ e. cc }
     data_owes None = not_memory
 
     xstats_owes : (o : Option KindTag) → RowOwes attribute 3 (link_row peer (role_under o (λ _. role.Xstats)))
@@ -98,7 +101,7 @@ module _ {P : Type 0} (peer : Families P) where
     xstats_owes None = not_memory
 
     port_data_owes : (o : Option PortTag) → RowOwes attribute 5 (link_row peer (role_under o (λ tag. role.PortData tag)))
-    port_data_owes (Some tag) = record { low = lit< tt; codec = law.port (port_family_of tag); keeps = λ d. refl; same = λ x y _ _ e. cc }
+    port_data_owes (Some tag) = record { low = lit< tt; codec = (law.port (port_family_of tag)).codec; keeps = λ d. refl; same = λ x y _ _ e. cc }
     port_data_owes None = not_memory
 
     link_owes : (t : InForce) (n : ℕ) → RowOwes attribute n (link_rows peer t n)
@@ -130,6 +133,40 @@ module _ {P : Type 0} (peer : Families P) where
 
     pub link_well_attribute : (t : InForce) (x : LinkInfoOf P) → link_well peer t x → Fits (attribute x) → IsAttribute (attribute x)
     link_well_attribute t x w fits = rows_well_attribute family.LinkInfo link_other attribute (link_rows peer t) (is_row t) keeps_other x w fits
+
+    -- what is written for an accepted attribute is the canonical attribute of what it means
+    name_written : (number : ℕ) (label : List ℕ → LinkInfoOf P) → ((name : List ℕ) → attribute (label name) ≡ record { kind = number; value = canon Name name }) → (a : Attribute) →
+        IsOk (labelled family.LinkInfo (masked a.kind) label (own (means Name a.value))) →
+        attribute_for attribute (labelled family.LinkInfo (masked a.kind) label (own (means Name a.value))) ≡ record { kind = number; value = canonical Name a.value }
+    unfolding canonical
+    name_written number label keeps a ok = go (means Name a.value) ok
+      where
+        go : (m : Result (List ℕ) Cause) → IsOk (labelled family.LinkInfo (masked a.kind) label (own m)) →
+            attribute_for attribute (labelled family.LinkInfo (masked a.kind) label (own m)) ≡ record { kind = number; value = bytes_for (canon Name) m }
+        go (Ok name) h = keeps name
+        go (Err c) h = absurd cc
+
+    data_written : {D : Type 0} (number : ℕ) (payload : Payload D) (canon : D → List ℕ) → IsLawful payload canon → (label : D → LinkInfoOf P) →
+        ((d : D) → attribute (label d) ≡ record { kind = number; value = canon d }) → (a : Attribute) →
+        IsOk (labelled family.LinkInfo (masked a.kind) label (inside (payload.means a.value))) →
+        attribute_for attribute (labelled family.LinkInfo (masked a.kind) label (inside (payload.means a.value))) ≡ record { kind = number; value = payload.canonical a.value }
+    data_written {D = D} number payload canon lawful label keeps a ok = go (payload.means a.value) refl ok
+      where
+        go : (m : Result D DecodeError) → payload.means a.value ≡ m → IsOk (labelled family.LinkInfo (masked a.kind) label (inside m)) →
+            attribute_for attribute (labelled family.LinkInfo (masked a.kind) label (inside m)) ≡ record { kind = number; value = payload.canonical a.value }
+        go (Ok d) e h = keeps d ∙ ap (λ (v : List ℕ). record { kind = number; value = v }) (sym (lawful.canonical a.value d e))
+        go (Err f) e h = absurd cc
+
+    pub role_written : (r : Role) (a : Attribute) → IsOk (row_meaning family.LinkInfo link_other (link_row peer r) a) →
+        attribute_for attribute (row_meaning family.LinkInfo link_other (link_row peer r) a) ≡ written_attribute peer r a
+    role_written role.Kind a ok = name_written 1 (λ name. info.Kind (kind_of_name name)) kind_owes.keeps a ok
+    role_written (role.Data tag) a ok = data_written 2 (data_of peer (family_of tag)) (data_payload peer) (law.link (family_of tag)) (λ d. info.Data d) (λ d. refl) a ok
+    role_written role.Xstats a ok = refl
+    role_written role.PortKind a ok = name_written 4 (λ name. info.PortKind (port_kind_of_name name)) port_kind_owes.keeps a ok
+    role_written (role.PortData tag) a ok =
+        data_written 5 (port_data_of (port_family_of tag)) port_data_payload (law.port (port_family_of tag)) (λ d. info.PortData d) (λ d. refl) a ok
+    role_written role.Misplaced a ok = absurd cc
+    role_written role.Unknown a ok = refl
 
     -- no meaning is want of memory
     pub link_no_memory : (t : InForce) (a : Attribute) → link_meaning peer t a ≢ Err memory_fault

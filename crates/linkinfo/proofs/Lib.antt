@@ -3,6 +3,8 @@ pub mod Naming
 pub mod Pairs
 pub mod Pfcp
 pub mod Places
+pub mod Placing
 pub mod Steps
 pub mod Walking
 pub mod Whole
+pub mod Writing

@@ -1,5 +1,5 @@
 -- The rows of names, from what their name is.
-use Rattle.std.proofs.Common.{◌≡◌, ℕ, Bool, true, false, List, refl, sym, ap, subst, ◌∙◌, Result, Ok, Err, inl, inr}
+use Rattle.std.proofs.Common.{◌≡◌, ℕ, Bool, true, false, List, Option, Some, None, refl, sym, ap, subst, ◌∙◌, Result, Ok, Err, inl, inr}
 use Rattle.std.specs.Prelude.{IsOk, if◌then◌else◌}
 use Rattle.std.specs.Str.{is_utf8}
 use Rattle.nla_frame.specs.Answers.{verdict}
@@ -102,6 +102,31 @@ module _ {K : Type 0} (f : List ℕ → K) where
   pub made_named : (a : Attribute) (name : List ℕ) (k : K) → name_meaning a ≡ Ok name → k ≡ f name → with_name (name_meaning a) f ≡ Ok k
   made_named a name k e is =
       ap (λ (r : Result (List ℕ) DecodeError). with_name r f) e ∙ ap (λ (x : K). let r : Result K DecodeError = Ok x in r) (sym is)
+
+-- ---- what a name is known by
+
+abbrev tagged_by : {T : Type 0} → (List ℕ → T) → Result (List ℕ) DecodeError → Result (Option T) DecodeError
+tagged_by tag_of r = with_name r (λ name. Some (tag_of name))
+
+-- the tag of a name that an attribute holds
+tag_at : {T : Type 0} (tag_of : List ℕ → T) (r : Result (List ℕ) DecodeError) (name : List ℕ) (t : T) → tagged_by tag_of r ≡ Ok (Some t) → r ≡ Ok name → tag_of name ≡ t
+tag_at tag_of (Ok n) name t e is = let same : name ≡ n = cc in ap tag_of same ∙ cc
+tag_at tag_of (Err d) name t e is = absurd cc
+
+module _ {T K : Type 0} (tag_of : List ℕ → T) (kind_of : List ℕ → K) (of_tag : T → Option K) (a : Attribute) (t : T) (tagged : tagged_by tag_of (name_meaning a) ≡ Ok (Some t)) where
+  -- the kind of a name is that of its tag, where the tag has one ..
+  pub kind_by_tag : (k : K) → of_tag t ≡ Some k → ((name : List ℕ) (x : K) → of_tag (tag_of name) ≡ Some x → kind_of name ≡ x) → with_name (name_meaning a) kind_of ≡ Ok k
+  kind_by_tag k e by_tag = go (name_meaning a) refl tagged
+    where
+      go : (r : Result (List ℕ) DecodeError) → name_meaning a ≡ r → tagged_by tag_of r ≡ Ok (Some t) → with_name (name_meaning a) kind_of ≡ Ok k
+      go (Ok name) is h = made_named kind_of a name k is (sym (by_tag name k (ap of_tag (tag_at tag_of (Ok name) name t h refl) ∙ e)))
+      go (Err d) is h = absurd cc
+
+  -- .. and else that of another name
+  pub kind_by_name : (other : List ℕ → K) (name text : List ℕ) → of_tag t ≡ None → name_meaning a ≡ Ok name → text ≡ name →
+      ((n : List ℕ) → of_tag (tag_of n) ≡ None → kind_of n ≡ other n) → with_name (name_meaning a) kind_of ≡ Ok (other text)
+  kind_by_name other name text e is same by_name =
+      made_named kind_of a name (other text) is (ap other same ∙ sym (by_name name (ap of_tag (tag_at tag_of (name_meaning a) name t tagged is) ∙ e)))
 
 module _ {K X : Type 0} (f : List ℕ → K) (label : K → X) where
   pub made_ok : (a : Attribute) (k : K) → with_name (name_meaning a) f ≡ Ok k → named (λ name. label (f name)) a ≡ Ok (label k)

@@ -5,8 +5,8 @@ use Rattle.std.proofs.lemmas.Bool.{and_parts, eq-eqb, eqb-true}
 use Rattle.nla_frame.specs.Attribute.{Attribute, masked}
 use Rattle.nla_frame.specs.declared.error.DecodeError.{DecodeError}
 use Rattle.nla_frame.specs.declared.error.Family.TheVariants as family
-use Rattle.linkinfo_numbers.specs.declared.names.KindTag.{KindTag}
-use Rattle.linkinfo_numbers.specs.declared.names.KindTag.TheVariants as tag
+use Rattle.linkinfo_numbers.specs.declared.tags.KindTag.{KindTag}
+use Rattle.linkinfo_numbers.specs.declared.tags.KindTag.TheVariants as tag
 use Rattle.linkinfo_data.specs.declared.info_data.InfoDataOf.TheVariants as held
 use Rattle.linkinfo.specs.declared.link_info.LinkInfoOf.TheVariants as info
 use Rattle.linkinfo_data.specs.Data.{family_of}

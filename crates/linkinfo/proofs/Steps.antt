@@ -65,6 +65,7 @@ module _ {P : Type 0} (peer : Families P) where
     pub headers : headers_from peer s.force (pieces (left s)) ≡ 1 + (row_headers (link_row peer r) a + if_read (meant r a) (headers_from peer t.force (pieces (left t))))
     pub memory : memory_from peer s.force (pieces (left s)) ≡ (row_needs_memory (link_row peer r) a || is_ok (meant r a))
     pub clean : IsOk (behind_role r none_in_force a)
+    pub behind : behind_role r s.force a ≡ Ok t.force
     pub attribute : IsAttribute a
     pub examined : t.attributes.examined ≡ s.attributes.examined + 1
     pub room : length (left t) + (4 + length a.value) ≤ length (left s)
@@ -74,6 +75,7 @@ module _ {P : Type 0} (peer : Families P) where
       let after = after_is s.force t.force a h.behind in
       let means = meaning_is s.force a r h.role in
       let more : List (Result Attribute ℕ) = pieces (left t) in
+      let behind_is = ap (λ (q : Role). behind_role q s.force a) h.role ∙ h.behind in
       record {
         values =
             ap (λ (ps : List (Result Attribute ℕ)). values_from peer s.force ps) h.pieces_are
@@ -88,7 +90,8 @@ module _ {P : Type 0} (peer : Families P) where
             ap (λ (ps : List (Result Attribute ℕ)). memory_from peer s.force ps) h.pieces_are
             ∙ ap (λ (m : Result (LinkInfoOf P) DecodeError). link_needs_memory peer s.force a || is_ok m) means
             ∙ ap (λ (n : Bool). n || is_ok (meant r a)) (memory_is s.force a r h.role);
-        clean = entered_any r s.force t.force a (ap (λ (q : Role). behind_role q s.force a) h.role ∙ h.behind);
+        clean = entered_any r s.force t.force a behind_is;
+        behind = behind_is;
         attribute = h.attribute;
         examined = h.examined;
         room = h.room;

@@ -10,8 +10,8 @@ use Rattle.nla_frame.specs.Pieces.{pieces}
 use Rattle.nla_frame.specs.declared.error.Family.TheVariants as family
 use Rattle.nla_frame.specs.declared.error.DecodeError.{DecodeError}
 use Rattle.nla_frame.proofs.ByteLists.{IsBytes-nil, IsBytes-cons}
-use Rattle.linkinfo_numbers.specs.declared.names.KindTag.{KindTag}
-use Rattle.linkinfo_numbers.specs.declared.names.PortTag.{PortTag}
+use Rattle.linkinfo_numbers.specs.declared.tags.KindTag.{KindTag}
+use Rattle.linkinfo_numbers.specs.declared.tags.PortTag.{PortTag}
 use Rattle.linkinfo_numbers.specs.Kind.{tag_of_name}
 use Rattle.linkinfo_numbers.specs.PortKind.{port_tag_of_name}
 use Rattle.linkinfo_data.specs.Families.{Families}
@@ -22,7 +22,8 @@ use Rattle.linkinfo.specs.declared.link_info.LinkInfoOf.{LinkInfoOf}
 use Rattle.linkinfo.specs.declared.role.InForce.{InForce}
 use Rattle.linkinfo.specs.declared.role.Role.{Role}
 use Rattle.linkinfo.specs.declared.role.Role.TheVariants as role
-use Rattle.linkinfo.specs.Comparing.{same_answer}
+use Rattle.linkinfo.specs.Comparing.{same_answer, same_placed_answer}
+use Rattle.linkinfo.specs.declared.placed.FaultIn.{FaultIn}
 use Rattle.linkinfo.specs.Items.{link_attribute, link_headers, link_meaning, link_alike, link_well, link_row, link_other}
 use Rattle.linkinfo.specs.Roles.{behind_role, name_meaning, none_in_force, role_of, role_under, with_name}
 use Rattle.linkinfo.specs.Strings.{or_stay, force_after, force_behind, headers_from, reading, alike_strings, WellFormed}
@@ -132,13 +133,13 @@ module _ {P : Type 0} (peer : Families P) (law : AreLawful peer) where
 
   -- equal strings, of which the first has this verdict
   pub same_of_equal : (p q : List ℕ) → IsBytes p → IsBytes q → p ≡ q → Ok tt ≡ verdict (reading peer p) →
-      Ok true ≡ same_answer (reading peer p) (reading peer q) (alike_strings peer p q)
+      Ok true ≡ same_placed_answer (reading peer p) (reading peer q) (alike_strings peer p q)
   same_of_equal p q bp bq e accepted = go (reading peer p) (reading peer q) refl refl accepted
     where
-      go : (s t : Result (List (LinkInfoOf P)) DecodeError) → reading peer p ≡ s → reading peer q ≡ t → Ok tt ≡ verdict s → Ok true ≡ same_answer s t (alike_strings peer p q)
+      go : (s t : Result (List (LinkInfoOf P)) DecodeError) → reading peer p ≡ s → reading peer q ≡ t → Ok tt ≡ verdict s → Ok true ≡ same_placed_answer s t (alike_strings peer p q)
       go (Ok xs) (Ok ys) h k v =
           let lists : xs ≡ ys = ok_same xs ys (sym h ∙ ap (reading peer) e ∙ k) in
-          ap (λ (b : Bool). let r : Result Bool DecodeError = Ok b in r) (sym ((strings_alike p q xs ys bp bq h k).1 lists))
+          ap (λ (b : Bool). let r : Result Bool FaultIn = Ok b in r) (sym ((strings_alike p q xs ys bp bq h k).1 lists))
       go (Ok xs) (Err d) h k v = absurd (apart (sym h ∙ ap (reading peer) e ∙ k))
         where
           apart : ok_of xs ≡ Err d → ⊥

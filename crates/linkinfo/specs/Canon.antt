@@ -1,10 +1,13 @@
 -- The refusals of a canonical string.
-use Rattle.std.specs.Prelude.{◌≡◌, ◌≢◌, ℕ, List, [], ◌∷◌, map, codes, IsOk, Result, Ok, Err}
+use Rattle.std.specs.Prelude.{◌≡◌, ◌≢◌, ◌<◌, ℕ, List, [], ◌∷◌, ◌++◌, length, map, codes, IsOk, Result, Ok, Err}
+use Rattle.std.specs.Fmt.{decimal}
 use Rattle.nla_frame.specs.Attribute.{Attribute, ListFits, list_string}
 use Rattle.nla_frame.specs.Error.{error_text, memory_fault}
 use Rattle.nla_frame.specs.declared.error.DecodeError.{DecodeError}
 use Rattle.linkinfo.specs.declared.canonical.CanonError.{CanonError}
 use Rattle.linkinfo.specs.declared.canonical.CanonError.TheVariants as refused
+use Rattle.linkinfo.specs.declared.canonicalize.CanonIntoError.{CanonIntoError}
+use Rattle.linkinfo.specs.declared.canonicalize.CanonIntoError.TheVariants as into
 
 abbrev pub canon_error_text : CanonError → List ℕ
 canon_error_text (refused.Refused fault) = error_text fault
@@ -30,3 +33,31 @@ abbrev pub CanonIsCertain : {F V : Type 0} → Result (List F) DecodeError → R
 CanonIsCertain (Err fault) result = result ≡ Err (refused.Refused fault)
 CanonIsCertain (Ok []) result = IsOk result
 CanonIsCertain (Ok (x ∷ list)) result = Unit {0}
+
+-- ---- written into a buffer
+
+abbrev pub canon_into_error_text : CanonIntoError → List ℕ
+canon_into_error_text (into.Refused fault) = error_text fault
+canon_into_error_text into.Unfit = codes "unfit"
+canon_into_error_text (into.Short needed) = codes "short " ++ decimal needed
+
+-- where there is no canonical string, none is written
+abbrev pub into_error : CanonError → CanonIntoError
+into_error (refused.Refused fault) = into.Refused fault
+into_error refused.Unfit = into.Unfit
+
+-- the length of the canonical string of what a string means, which is a list that fits
+abbrev pub IsCanonicalLength : {F : Type 0} → (F → Attribute) → Result (List F) DecodeError → ℕ → Type 0
+IsCanonicalLength attribute (Ok list) n = ListFits (map attribute list) × (n ≡ length (list_string (map attribute list)))
+IsCanonicalLength attribute (Err fault) n = ⊥
+
+-- why there is none: the fault, or a list that does not fit
+abbrev pub LengthRefuses : {F : Type 0} → (F → Attribute) → Result (List F) DecodeError → CanonError → Type 0
+LengthRefuses attribute meaning (refused.Refused fault) = meaning ≡ Err fault
+LengthRefuses attribute meaning refused.Unfit = IsUnfit attribute meaning
+
+-- why it is not written into a buffer of so many bytes: the fault, a list that does not fit, or a canonical string that is longer
+abbrev pub IntoRefuses : {F : Type 0} → (F → Attribute) → Result (List F) DecodeError → ℕ → CanonIntoError → Type 0
+IntoRefuses attribute meaning room (into.Refused fault) = meaning ≡ Err fault
+IntoRefuses attribute meaning room into.Unfit = IsUnfit attribute meaning
+IntoRefuses attribute meaning room (into.Short needed) = IsCanonicalLength attribute meaning needed × (room < needed)

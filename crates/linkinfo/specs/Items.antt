@@ -1,5 +1,5 @@
 -- Attributes of the list: what each means by its role, as a row of a table that the kinds in force choose.
-use Rattle.std.specs.Prelude.{ℕ, Bool, Result}
+use Rattle.std.specs.Prelude.{ℕ, Bool, [], Result}
 use Rattle.nla_frame.specs.Attribute.{Attribute}
 use Rattle.nla_frame.specs.Kept.{attribute_of}
 use Rattle.nla_frame.specs.declared.default_nla.DefaultNla.{DefaultNla}
@@ -10,6 +10,7 @@ use Rattle.linkinfo_numbers.specs.Kind.{kind_attribute, kind_of_name}
 use Rattle.linkinfo_numbers.specs.PortKind.{port_kind_attribute, port_kind_of_name}
 use Rattle.linkinfo_shapes.specs.declared.shape.Shape.TheVariants.{Name, Raw}
 use Rattle.linkinfo_data.specs.Families.{Families}
+use Rattle.linkinfo_shapes.specs.Shapes.{canonical}
 use Rattle.linkinfo_table.specs.FamilyRows.{shape_codec}
 use Rattle.linkinfo_table.specs.Rows.{Row, Is, Refused, Unknown, meaning_in, alike_in, headers_inside, memory_in, WellFormed}
 use Rattle.linkinfo.specs.declared.link_info.LinkInfoOf.{LinkInfoOf}
@@ -60,6 +61,17 @@ link_rows peer t n = link_row peer (role_of t n)
 -- what an attribute of the list means under the kinds in force, or its fault
 abbrev pub link_meaning : {P : Type 0} → Families P → InForce → Attribute → Result (LinkInfoOf P) DecodeError
 link_meaning peer t a = meaning_in family.LinkInfo link_other (link_rows peer t) a
+
+-- what is written for an accepted attribute, by its role: names and data in their canonical payloads, with their types; statistics and attributes of an
+-- unknown type as they came
+abbrev pub written_attribute : {P : Type 0} → Families P → Role → Attribute → Attribute
+written_attribute peer role.Kind a = record { kind = 1; value = canonical Name a.value }
+written_attribute peer (role.Data tag) a = record { kind = 2; value = (data_of peer (family_of tag)).canonical a.value }
+written_attribute peer role.Xstats a = record { kind = 3; value = a.value }
+written_attribute peer role.PortKind a = record { kind = 4; value = canonical Name a.value }
+written_attribute peer (role.PortData tag) a = record { kind = 5; value = (port_data_of (port_family_of tag)).canonical a.value }
+written_attribute peer role.Misplaced a = record { kind = 0; value = [] }
+written_attribute peer role.Unknown a = record { kind = a.kind; value = a.value }
 
 -- the headers inside it
 abbrev pub link_headers : {P : Type 0} → Families P → InForce → Attribute → ℕ

@@ -3,6 +3,7 @@ pub mod Canon
 pub mod Comparing
 pub mod Items
 pub mod LinkEqual
+pub mod Placed
 pub mod Roles
 pub mod Strings
 pub mod Walks

@@ -6,8 +6,8 @@ use Rattle.nla_frame.specs.Error.{header_fault}
 use Rattle.nla_frame.specs.Pieces.{pieces}
 use Rattle.nla_frame.specs.Walk.{Walk, unread}
 use Rattle.nla_frame.specs.declared.error.DecodeError.{DecodeError}
-use Rattle.linkinfo_numbers.specs.declared.names.KindTag.{KindTag}
-use Rattle.linkinfo_numbers.specs.declared.names.PortTag.{PortTag}
+use Rattle.linkinfo_numbers.specs.declared.tags.KindTag.{KindTag}
+use Rattle.linkinfo_numbers.specs.declared.tags.PortTag.{PortTag}
 use Rattle.linkinfo.specs.declared.role.InForce.{InForce}
 use Rattle.linkinfo.specs.declared.role.Role.{Role}
 use Rattle.linkinfo.specs.declared.walk.LinkInfoItem.{LinkInfoItem}

@@ -8,10 +8,10 @@ ghost use Rattle.linkinfo.specs.Items.{link_attribute};
 ghost use Rattle.linkinfo.specs.Strings.{reading, reading_needs_memory};
 ghost use Rattle.linkinfo.specs.declared.canonical.CanonError.TheVariants as refused;
 
-use crate::list::VecLinkInfoOf;
+use crate::canonicalize::{canonical_len_of, put_canonical_of};
 use linkinfo_data::DataFamilies;
 use linkinfo_table::LinkPeer;
-use nla_frame::{Bytes, DecodeError, ExactEq, ToVecError};
+use nla_frame::{Bytes, DecodeError, ExactEq};
 use std::alloc::{AllocError, Global};
 use std::error::Error;
 use std::fmt;
@@ -66,21 +66,21 @@ impl ExactEq for CanonError {
     ghost exact = { derived_decides enum _ (one_field fault_exact, (no_field, tt)) };
 }
 
-/// The canonical string of the list that the bytes frame, with peers of type `P`: `parse` and `to_vec` in one call.
+/// The canonical string of the list that the bytes frame, with peers of type `P`: that of `parse` and `to_vec`, without values.
 ///
 /// Refused with the fault of `parse`, as `Unfit` where the list does not fit, and with (Frame, 0, Memory) where an allocation was refused. A fault
-/// before the first value that is kept, and the empty string, take no memory.
+/// and the empty string take no memory.
+#[tactic(auto, using(crate::proofs::Writing::length_accepted, crate::proofs::Writing::length_fits, crate::proofs::Writing::length_same, crate::proofs::Writing::written_whole))]
 pub fn canon_of<P: LinkPeer>(alloc: Global, bytes: &[u8]) -> Result<Vec<u8>, CanonError>
     ensures string { IfOk result (λ canonical. IsCanonical (link_attribute ⟦<P as DataFamilies>⟧.families) (reading ⟦<P as DataFamilies>⟧.families bytes.now) canonical.items) }
     ensures refused { IfErr result (CanonRefuses (link_attribute ⟦<P as DataFamilies>⟧.families) (reading ⟦<P as DataFamilies>⟧.families bytes.now)) }
     ensures certain { reading_needs_memory ⟦<P as DataFamilies>⟧.families bytes.now ≡ false → CanonIsCertain (reading ⟦<P as DataFamilies>⟧.families bytes.now) result }
 {
-    let list = VecLinkInfoOf::<P>::parse(alloc, bytes)?;
-    match list.to_vec(alloc) {
-        Ok(canonical) => Ok(canonical),
-        Err(ToVecError::Unfit) => Err(CanonError::Unfit),
-        Err(ToVecError::Memory) => Err(CanonError::from(AllocError)),
-    }
+    let len = canonical_len_of::<P>(bytes)?;
+    let mut string = Vec::new(alloc);
+    string.resize(len, 0)?;
+    put_canonical_of::<P>(bytes, &mut string);
+    Ok(string)
 }
 
 /// `canon_of`, with peers kept as bytes.

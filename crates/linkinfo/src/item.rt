@@ -1,37 +1,46 @@
-//! Reading, checking and comparing one attribute of the list.
+//! Reading, checking, comparing and writing one attribute of the list.
 
-ghost use Rattle.std.specs.Prelude.{◌≡◌, ◌==◌, ◌&&◌, ◌+◌, ◌*◌, ◌/◌, ◌<◌, ◌≤◌, ◌^◌, IsOk, length};
+ghost use Rattle.std.specs.Prelude.{◌≡◌, ◌==◌, ◌&&◌, ◌+◌, ◌*◌, ◌/◌, ◌<◌, ◌≤◌, ◌^◌, ◌++◌, IsOk, Ok, Some, SomeIff, drop, length};
 ghost use Rattle.std.specs.Bool.{OnTrue};
 ghost use Rattle.std.specs.Str.{bytes_eq};
 ghost use Rattle.nla_frame.specs.Answers.{CertainUnless, Gives, OnAnswer, verdict};
 ghost use Rattle.nla_frame.specs.declared.error.Family.TheVariants as family;
 ghost use Rattle.linkinfo_table.specs.Rows.{row_alike, row_headers, row_meaning, row_needs_memory};
-ghost use Rattle.linkinfo.specs.Items.{link_other, link_row};
-ghost use Rattle.linkinfo_numbers.specs.Kind.{kind_of_name};
-ghost use Rattle.linkinfo_numbers.specs.PortKind.{port_kind_of_name};
+ghost use Rattle.linkinfo.specs.Items.{link_other, link_row, written_attribute};
+ghost use Rattle.linkinfo_numbers.specs.Kind.{kind_of_name, tag_of_name};
+ghost use Rattle.linkinfo_numbers.specs.PortKind.{port_kind_of_name, port_tag_of_name};
 ghost use Rattle.linkinfo_shapes.specs.Shapes.{needs_memory};
 ghost use Rattle.linkinfo.specs.Roles.{behind_role, name_meaning, none_in_force, with_name};
-ghost use Rattle.nla_frame.specs.Attribute.{masked};
+ghost use Rattle.nla_frame.specs.Attribute.{Fits, buffer_len_of, canonical_string, masked};
 
 use crate::link_info::LinkInfoOf;
-use crate::role::{Role, fault, name_in};
+use crate::role::{InForce, Role, fault, name_in};
 use crate::xstats::LinkXstats;
-use linkinfo_data::{DataFamilies, InfoDataOf, PayloadFamily, family_of, port_family_of};
-use linkinfo_numbers::{InfoKind, InfoPortKind, port_tag_of_name, tag_of_name};
-use linkinfo_table::{LinkPeer, Shape, shape_same};
+use linkinfo_data::{
+    DataFamilies, DataFamily, InfoDataOf, InfoPortData, PayloadFamily, PortFamily, family_of,
+    port_family_of,
+};
+use linkinfo_numbers::{
+    IFLA_INFO_DATA, IFLA_INFO_KIND, IFLA_INFO_SLAVE_DATA, IFLA_INFO_SLAVE_KIND, IFLA_INFO_XSTATS,
+    InfoKind, InfoPortKind, KindTag, PortTag,
+};
+use linkinfo_table::{LinkPeer, Shape, shape_canonical_len, shape_put_attribute, shape_same};
 use nla_frame::{
-    Bytes, Cause, DecodeError, DefaultNla, HeaderCount, Nla, NlaBuffer, Parseable, without_nul,
+    Bytes, Cause, DecodeError, DefaultNla, HeaderCount, Nla, NlaBuffer, Parseable, Text, fitting,
+    put_bytes_attribute, put_frame,
 };
 use std::alloc::Global;
 
-/// Reads an attribute by its role.
+/// Reads an attribute by its role. Asks for the kinds in force behind it, as a walk leaves them: those of a name are the kinds that it gives.
 pub(crate) fn read_item<P: LinkPeer>(
     alloc: Global,
     nla: &NlaBuffer<'_>,
     role: Role,
+    behind: InForce,
     count: &mut HeaderCount,
 ) -> Result<LinkInfoOf<P>, DecodeError>
-    requires { count.old + length nla.now.value / 4 < 2 ^ 64 }
+    requires entered { (before : InForce) × (behind_role role before nla.now ≡ Ok behind) }
+    requires room { count.old + length nla.now.value / 4 < 2 ^ 64 }
     ensures answer { Gives (λ value. value) result (row_meaning family.LinkInfo link_other (link_row ⟦<P as DataFamilies>⟧.families role) nla.now) }
     ensures certain { CertainUnless (row_needs_memory (link_row ⟦<P as DataFamilies>⟧.families role) nla.now) (λ value. value) result (row_meaning family.LinkInfo link_other (link_row ⟦<P as DataFamilies>⟧.families role) nla.now) }
     ensures counted { OnAnswer result (count.new ≡ count.old + row_headers (link_row ⟦<P as DataFamilies>⟧.families role) nla.now) }
@@ -39,7 +48,7 @@ pub(crate) fn read_item<P: LinkPeer>(
     ensures quarter { 4 * count.new ≤ 4 * count.old + length nla.now.value }
 {
     match role {
-        Role::Kind => Ok(LinkInfoOf::Kind(read_kind(alloc, nla)?)),
+        Role::Kind => Ok(LinkInfoOf::Kind(read_kind(alloc, nla, behind.kind)?)),
         Role::Data(tag) => {
             let data = family_of(tag).read(alloc, nla.value(), count)?;
             Ok(LinkInfoOf::Data(data))
@@ -48,7 +57,7 @@ pub(crate) fn read_item<P: LinkPeer>(
             let bytes = Bytes::copy_of(alloc, nla.value())?;
             Ok(LinkInfoOf::Xstats(LinkXstats::Other(bytes)))
         }
-        Role::PortKind => Ok(LinkInfoOf::PortKind(read_port_kind(alloc, nla)?)),
+        Role::PortKind => Ok(LinkInfoOf::PortKind(read_port_kind(alloc, nla, behind.port)?)),
         Role::PortData(tag) => {
             let data = port_family_of(tag).read(alloc, nla.value(), count)?;
             Ok(LinkInfoOf::PortData(data))
@@ -58,30 +67,43 @@ pub(crate) fn read_item<P: LinkPeer>(
     }
 }
 
-/// The kind that an attribute names. A known name is known by its bytes, and takes no memory; only every other is tested for UTF-8 and copied.
-fn read_kind(alloc: Global, nla: &NlaBuffer<'_>) -> Result<InfoKind, DecodeError>
+/// The kind that an attribute names, by the tag of its name. A known name takes no memory; only every other is copied.
+fn read_kind(
+    alloc: Global,
+    nla: &NlaBuffer<'_>,
+    tag: Option<KindTag>,
+) -> Result<InfoKind, DecodeError>
+    requires { with_name (name_meaning nla.now) (λ name. Some (tag_of_name name)) ≡ Ok tag }
     ensures answer { Gives (λ kind. kind) result (with_name (name_meaning nla.now) kind_of_name) }
     ensures certain { CertainUnless (needs_memory Shape.Name nla.now.value) (λ kind. kind) result (with_name (name_meaning nla.now) kind_of_name) }
 {
-    match InfoKind::from_tag(tag_of_name(without_nul(nla.value()))) {
+    let Some(tag) = tag else { unreachable!() };
+    match InfoKind::from_tag(tag) {
         Some(kind) => Ok(kind),
-        None => Ok(InfoKind::from_text(alloc, name_in(nla)?)?),
+        None => Ok(InfoKind::Other(Text::copy_of(alloc, name_in(nla)?)?)),
     }
 }
 
 /// The same of the port kind that an attribute names.
-fn read_port_kind(alloc: Global, nla: &NlaBuffer<'_>) -> Result<InfoPortKind, DecodeError>
+fn read_port_kind(
+    alloc: Global,
+    nla: &NlaBuffer<'_>,
+    tag: Option<PortTag>,
+) -> Result<InfoPortKind, DecodeError>
+    requires { with_name (name_meaning nla.now) (λ name. Some (port_tag_of_name name)) ≡ Ok tag }
     ensures answer { Gives (λ kind. kind) result (with_name (name_meaning nla.now) port_kind_of_name) }
     ensures certain { CertainUnless (needs_memory Shape.Name nla.now.value) (λ kind. kind) result (with_name (name_meaning nla.now) port_kind_of_name) }
 {
-    match InfoPortKind::from_tag(port_tag_of_name(without_nul(nla.value()))) {
+    let Some(tag) = tag else { unreachable!() };
+    match InfoPortKind::from_tag(tag) {
         Some(kind) => Ok(kind),
-        None => Ok(InfoPortKind::from_text(alloc, name_in(nla)?)?),
+        None => Ok(InfoPortKind::Other(Text::copy_of(alloc, name_in(nla)?)?)),
     }
 }
 
 /// Whether `read_item` would succeed, or its fault. Asks for an attribute without a fault of its own, as a walk gives it, and takes no
 /// memory.
+#[inline(always)]
 pub(crate) fn check_item<P: LinkPeer>(
     nla: &NlaBuffer<'_>,
     role: Role,
@@ -138,4 +160,71 @@ pub(crate) fn same_item<P: LinkPeer>(
         Role::Misplaced => false,
         Role::Unknown => b.raw_kind() == a.raw_kind() && a.value() == b.value(),
     }
+}
+
+/// The length of the canonical payload of what an attribute means by its role, where it fits, and else `None`. Asks that it means something, and takes
+/// no memory.
+pub(crate) fn item_canonical_len<P: LinkPeer>(nla: &NlaBuffer<'_>, role: Role) -> Option<usize>
+    requires { IsOk (row_meaning family.LinkInfo link_other (link_row ⟦<P as DataFamilies>⟧.families role) nla.now) }
+    ensures { let canonical = written_attribute ⟦<P as DataFamilies>⟧.families role nla.now in SomeIff result (Fits canonical) (length canonical.value) }
+{
+    let value = nla.value();
+    match role {
+        Role::Kind => shape_canonical_len(Shape::Name, value),
+        Role::Data(tag) => PayloadFamily::<InfoDataOf<P>>::canonical_len(family_of(tag), value),
+        Role::Xstats => fitting(value.len()),
+        Role::PortKind => shape_canonical_len(Shape::Name, value),
+        Role::PortData(tag) => port_family_of(tag).canonical_len(value),
+        Role::Misplaced => unreachable!(),
+        Role::Unknown => fitting(value.len()),
+    }
+}
+
+/// Writes the canonical attribute of what an attribute means by its role at the front of the buffer, leaves the bytes behind it, and answers its
+/// length. Asks that it means something, which fits, and for a buffer of at least that length; takes no memory.
+pub(crate) fn put_item<P: LinkPeer>(nla: &NlaBuffer<'_>, role: Role, buffer: &mut [u8]) -> usize
+    requires accepted { IsOk (row_meaning family.LinkInfo link_other (link_row ⟦<P as DataFamilies>⟧.families role) nla.now) }
+    requires fits { Fits (written_attribute ⟦<P as DataFamilies>⟧.families role nla.now) }
+    requires room { buffer_len_of (written_attribute ⟦<P as DataFamilies>⟧.families role nla.now) ≤ length buffer.old }
+    ensures taken { result ≡ buffer_len_of (written_attribute ⟦<P as DataFamilies>⟧.families role nla.now) }
+    ensures written { buffer.new ≡ canonical_string (written_attribute ⟦<P as DataFamilies>⟧.families role nla.now) ++ drop (buffer_len_of (written_attribute ⟦<P as DataFamilies>⟧.families role nla.now)) buffer.old }
+{
+    let value = nla.value();
+    match role {
+        Role::Kind => shape_put_attribute(Shape::Name, IFLA_INFO_KIND, value, buffer),
+        Role::Data(tag) => {
+            put_payload::<InfoDataOf<P>, DataFamily>(family_of(tag), IFLA_INFO_DATA, value, buffer)
+        }
+        Role::Xstats => put_bytes_attribute(IFLA_INFO_XSTATS, value, buffer),
+        Role::PortKind => shape_put_attribute(Shape::Name, IFLA_INFO_SLAVE_KIND, value, buffer),
+        Role::PortData(tag) => {
+            put_payload::<InfoPortData, PortFamily>(
+                port_family_of(tag),
+                IFLA_INFO_SLAVE_DATA,
+                value,
+                buffer,
+            )
+        }
+        Role::Misplaced => unreachable!(),
+        Role::Unknown => put_bytes_attribute(nla.raw_kind(), value, buffer),
+    }
+}
+
+/// Writes the attribute of a type and the canonical payload of the data that a payload means in the same way: the payload behind the room of its header,
+/// and then header and padding.
+fn put_payload<D: Drop, F: PayloadFamily<D>>(
+    family: F,
+    kind: u16,
+    payload: &[u8],
+    buffer: &mut [u8],
+) -> usize
+    requires accepted { IsOk ((F.data_of family).means payload.now) }
+    requires fits { length ((F.data_of family).canonical payload.now) ≤ 65531 }
+    requires room { buffer_len_of (record { kind = kind; value = (F.data_of family).canonical payload.now }) ≤ length buffer.old }
+    ensures taken { result ≡ buffer_len_of (record { kind = kind; value = (F.data_of family).canonical payload.now }) }
+    ensures written { buffer.new ≡ canonical_string (record { kind = kind; value = (F.data_of family).canonical payload.now }) ++ drop (buffer_len_of (record { kind = kind; value = (F.data_of family).canonical payload.now })) buffer.old }
+{
+    let len = family.put_canonical(payload, &mut buffer[4..]);
+    put_frame(buffer, kind, len);
+    4 + len.next_multiple_of(4)
 }

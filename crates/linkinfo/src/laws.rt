@@ -10,7 +10,7 @@ ghost use Rattle.linkinfo_table.specs.Readings.{IsDecided};
 ghost use Rattle.linkinfo.specs.BeforePfcp.{HasNoPfcpData, alike_strings_before, is_pfcp_data, meaning_before, reading_before};
 ghost use Rattle.linkinfo.specs.declared.link_info.LinkInfoOf.TheVariants as info;
 ghost use Rattle.linkinfo_data.specs.declared.info_data.InfoDataOf.TheVariants as data_of;
-ghost use Rattle.linkinfo_numbers.specs.declared.names.KindTag.TheVariants as tag;
+ghost use Rattle.linkinfo_numbers.specs.declared.tags.KindTag.TheVariants as tag;
 ghost use Rattle.linkinfo.specs.declared.role.Role.{Role};
 ghost use Rattle.linkinfo.specs.Items.{link_meaning, link_other};
 ghost use Rattle.linkinfo.specs.Roles.{none_in_force, role_at};

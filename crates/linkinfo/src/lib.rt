@@ -5,31 +5,36 @@
 #![tactic(auto)]
 
 mod canonical;
+mod canonicalize;
 mod collection;
 mod item;
 pub mod laws;
 mod link_info;
 mod list;
+mod placed;
 mod role;
 mod walk;
 mod xstats;
 
 // For who reads, writes and compares lists.
 pub use canonical::{CanonError, canon, canon_of};
+pub use canonicalize::{CanonIntoError, canon_into, canon_into_of};
 pub use link_info::{LinkInfo, LinkInfoOf};
 pub use linkinfo_data::{InfoData, InfoDataOf, InfoPortData};
 pub use linkinfo_numbers::{
+    IFLA_INFO_DATA, IFLA_INFO_KIND, IFLA_INFO_SLAVE_DATA, IFLA_INFO_SLAVE_KIND, IFLA_INFO_XSTATS,
     InfoKind, InfoPortKind, KindTag, PortTag, port_tag_of_name, tag_of_name,
 };
 pub use list::{
     VecLinkInfo, VecLinkInfoOf, check, check_counted, check_counted_of, check_of, same,
-    same_counted, same_counted_of, same_of,
+    same_counted, same_counted_of, same_of, same_placed, same_placed_of,
 };
 pub use nla_frame::{
     Bytes, Cause, DecodeError, DefaultNla, Emitable, ExactEq, Family, HeaderCount, Nla, Nlas,
     Parseable, ParseableParametrized, Text, ToVecError, emit_nlas, is_equal, nlas_buffer_len,
     nlas_fit_len, nlas_to_vec,
 };
+pub use placed::{FaultIn, PlacedFault, check_placed, check_placed_of};
 pub use walk::{LinkInfoItem, LinkInfoWalk};
 pub use xstats::LinkXstats;
 
@@ -68,7 +73,7 @@ pub use nla_frame::{
     NlaBuffer, NlasIterator, emit_i32, emit_u16, emit_u16_be, emit_u32, emit_u32_be, emit_u64,
     emit_u64_be, next_piece, parse_i32, parse_ip, parse_ipv4_addr, parse_ipv6_addr, parse_mac,
     parse_u8, parse_u16, parse_u16_be, parse_u32, parse_u32_be, parse_u64, parse_u64_be,
-    put_attribute, put_attributes, put_frame, without_nul,
+    put_attribute, put_attributes, put_bytes, put_bytes_attribute, put_frame, without_nul,
 };
 
 // For who writes a family of attributes, the peer of veth, vxcan and netkit links, or a flag set, of one's own. Every peer has `DataFamilies` and every
@@ -78,11 +83,13 @@ pub use linkinfo_numbers::{KeepsEveryBit, bits_again};
 pub use linkinfo_peers::BitPeer;
 pub use linkinfo_table::{
     Datum, FlatFamily, Found, LinkFamily, LinkPeer, ListedFamily, Lookup, Part, PeerFault, Place,
-    RowFamily, Rowless, Shape, TableFamily, UnnestedFamily, WrittenByTable, datum_len, first_check,
-    first_read, first_same, list_check, list_read, list_same, part_by_rows, parts, put_by_rows,
-    read_datum, row_check, row_emit_payload, row_emit_value, row_fit_len, row_kind, row_put,
-    row_read, row_same, row_value_len, rowless, shape_check, shape_same, table_lookup, table_shape,
-    write_datum,
+    RowFamily, Rowless, Shape, TableFamily, UnnestedFamily, WrittenByTable, datum_len,
+    first_canonical_len, first_check, first_put_canonical, first_read, first_same,
+    list_canonical_len, list_check, list_put_canonical, list_read, list_same, part_by_rows, parts,
+    put_by_rows, read_datum, row_canonical_len, row_check, row_emit_payload, row_emit_value,
+    row_fit_len, row_kind, row_put, row_put_canonical, row_read, row_same, row_value_len, rowless,
+    shape_canonical_len, shape_check, shape_put_attribute, shape_put_canonical, shape_same,
+    table_lookup, table_shape, write_datum,
 };
 pub use nla_frame::fitting;
 

@@ -2,12 +2,9 @@
 
 use crate::xstats::LinkXstats;
 use linkinfo_data::{DataFamilies, InfoDataOf, InfoPortData};
-use linkinfo_numbers::{InfoKind, InfoPortKind};
+use linkinfo_numbers::{IFLA_INFO_XSTATS, InfoKind, InfoPortKind};
 use linkinfo_table::LinkPeer;
 use nla_frame::{Bytes, DefaultNla, Emitable, ExactEq, Nla, fitting};
-
-/// `IFLA_INFO_XSTATS`.
-const IFLA_INFO_XSTATS: u16 = 3;
 
 /// An attribute of the list, with peers of type `P`.
 #[derive(Debug, PartialEq, Eq, Clone, Drop)]

@@ -9,10 +9,10 @@ ghost use Rattle.nla_frame.specs.Attribute.{Fits, ListFits, list_string};
 ghost use Rattle.nla_frame.specs.declared.to_vec.ToVecError.TheVariants as refused;
 ghost use Rattle.std.specs.Iterator.Adapters.{IterYieldsInOrder, IterYieldsInReverse};
 ghost use Rattle.std.specs.Slice.Iter.{iter_rest};
-ghost use Rattle.std.specs.Prelude.{ℕ, List, [], ◌++◌, ◌%◌, map, Err, IfOk, Ok, OnOk, true};
+ghost use Rattle.std.specs.Prelude.{ℕ, List, [], ◌++◌, ◌%◌, map, Err, IfErr, IfOk, Ok, OnOk, true};
 ghost use Rattle.std.specs.List.{AllByRecursion};
 ghost use Rattle.linkinfo_data.specs.BytesPeer.{bytes_peer};
-ghost use Rattle.linkinfo.specs.Comparing.{same_answer, same_counts};
+ghost use Rattle.linkinfo.specs.Comparing.{fault_in, same_answer, same_counts, same_placed_answer};
 ghost use Rattle.linkinfo.specs.Items.{link_attribute};
 ghost use Rattle.linkinfo.specs.Roles.{none_in_force};
 ghost use Rattle.linkinfo.specs.Strings.{alike_from, headers_from, memory_from, values_from, alike_strings, headers_of_string, reading, reading_needs_memory, WellFormed};
@@ -20,6 +20,7 @@ ghost use Rattle.linkinfo.specs.Walks.{left};
 
 use crate::item::{check_item, read_item, same_item};
 use crate::link_info::LinkInfoOf;
+use crate::placed::FaultIn;
 use crate::role::{InForce, behind, role_of};
 use crate::walk::LinkInfoWalk;
 use linkinfo_data::DataFamilies;
@@ -47,7 +48,7 @@ fn read_rest<P: LinkPeer>(
     let mut items = Vec::new(alloc);
     while let Some(next) = walk.advance() {
         let (nla, role) = next?;
-        match read_item(alloc, &nla, role, count) {
+        match read_item(alloc, &nla, role, walk.in_force(), count) {
             Ok(item) => items.push(item)?,
             Err(fault) => return Err(fault),
         }
@@ -56,6 +57,7 @@ fn read_rest<P: LinkPeer>(
 }
 
 /// Checks the attributes that a walk has not gone over, as `read_rest` reads them. Takes no memory.
+#[inline(always)]
 fn check_rest<P: LinkPeer>(
     walk: &mut LinkInfoWalk<'_>,
     count: &mut HeaderCount,
@@ -287,25 +289,42 @@ pub fn same_counted_of<P: LinkPeer>(
 
 /// A law, without code: an accepted string means the same as one of equal bytes.
 fn equal_bytes_are_same<P: LinkPeer>(a: &[u8], b: &[u8])
-    ensures { a.now ≡ b.now → Ok tt ≡ verdict (reading ⟦<P as DataFamilies>⟧.families a.now) → Ok true ≡ same_answer (reading ⟦<P as DataFamilies>⟧.families a.now) (reading ⟦<P as DataFamilies>⟧.families b.now) (alike_strings ⟦<P as DataFamilies>⟧.families a.now b.now) }
+    ensures { a.now ≡ b.now → Ok tt ≡ verdict (reading ⟦<P as DataFamilies>⟧.families a.now) → Ok true ≡ same_placed_answer (reading ⟦<P as DataFamilies>⟧.families a.now) (reading ⟦<P as DataFamilies>⟧.families b.now) (alike_strings ⟦<P as DataFamilies>⟧.families a.now b.now) }
 {
     families_lawful::<P>();
 }
 
-/// The answer of `same_counted_of` where nothing is counted: equal strings mean the same list where the first means one.
+/// `same_of`, and which of the two strings has the fault. Takes no memory.
 #[tactic(auto, unfolding(crate::specs::Strings::reading, crate::specs::Strings::alike_strings))]
+pub fn same_placed_of<P: LinkPeer>(a: &[u8], b: &[u8]) -> Result<bool, FaultIn>
+    ensures answer { result ≡ same_placed_answer (reading ⟦<P as DataFamilies>⟧.families a.now) (reading ⟦<P as DataFamilies>⟧.families b.now) (alike_strings ⟦<P as DataFamilies>⟧.families a.now b.now) }
+    ensures no_memory { IfErr result (λ at. fault_in at ≢ memory_fault) }
+{
+    equal_bytes_are_same::<P>(a, b);
+    match check_of::<P>(a) {
+        Ok(()) => {}
+        Err(fault) => return Err(FaultIn::First(fault)),
+    }
+    // Equal strings mean the same list where the first means one.
+    if a == b {
+        return Ok(true);
+    }
+    if let Err(fault) = check_of::<P>(b) {
+        return Err(FaultIn::Second(fault));
+    }
+    let mut count = HeaderCount::new();
+    Ok(same_strings::<P>(a, b, &mut count))
+}
+
+/// The answer of `same_counted_of` where nothing is counted.
 fn same_uncounted<P: LinkPeer>(a: &[u8], b: &[u8]) -> Result<bool, DecodeError>
     ensures answer { result ≡ same_answer (reading ⟦<P as DataFamilies>⟧.families a.now) (reading ⟦<P as DataFamilies>⟧.families b.now) (alike_strings ⟦<P as DataFamilies>⟧.families a.now b.now) }
     ensures no_memory { result ≢ Err memory_fault }
 {
-    equal_bytes_are_same::<P>(a, b);
-    check_of::<P>(a)?;
-    if a == b {
-        return Ok(true);
+    match same_placed_of::<P>(a, b) {
+        Ok(same) => Ok(same),
+        Err(FaultIn::First(fault) | FaultIn::Second(fault)) => Err(fault),
     }
-    check_of::<P>(b)?;
-    let mut count = HeaderCount::new();
-    Ok(same_strings::<P>(a, b, &mut count))
 }
 
 /// Whether two strings mean the same list, with peers of type `P`: the first string's fault, else the second's, else whether they are alike.
@@ -372,4 +391,20 @@ pub fn same_counted(a: &[u8], b: &[u8], count: &mut HeaderCount) -> Result<bool,
     ensures half { count.new ≤ (length a.now + length b.now) / 2 }
 {
     same_counted_of::<Bytes>(a, b, count)
+}
+
+/// `same_placed_of`, with peers kept as bytes.
+///
+/// ```text
+/// match same_placed(&wanted, &received) {
+///     Ok(same) => ..,
+///     Err(FaultIn::First(fault)) => .., // what is wanted is at fault
+///     Err(FaultIn::Second(fault)) => ..,
+/// }
+/// ```
+pub fn same_placed(a: &[u8], b: &[u8]) -> Result<bool, FaultIn>
+    ensures answer { result ≡ same_placed_answer (reading bytes_peer a.now) (reading bytes_peer b.now) (alike_strings bytes_peer a.now b.now) }
+    ensures no_memory { IfErr result (λ at. fault_in at ≢ memory_fault) }
+{
+    same_placed_of::<Bytes>(a, b)
 }

@@ -6,19 +6,12 @@ ghost use Rattle.linkinfo_numbers.specs.Kind.{tag_of_name};
 ghost use Rattle.linkinfo_numbers.specs.PortKind.{port_tag_of_name};
 ghost use Rattle.linkinfo.specs.Roles.{behind_role, fault_of_item, name_meaning, role_of, with_name};
 
-use linkinfo_numbers::{KindTag, PortTag, port_tag_of_name, tag_of_name};
+use linkinfo_numbers::{
+    IFLA_INFO_DATA, IFLA_INFO_KIND, IFLA_INFO_SLAVE_DATA, IFLA_INFO_SLAVE_KIND, IFLA_INFO_XSTATS,
+    KindTag, PortTag, port_tag_of_name, tag_of_name,
+};
 use linkinfo_table::{Shape, read_datum};
 use nla_frame::{Cause, DecodeError, ExactEq, Family, NlaBuffer, without_nul};
-
-const IFLA_INFO_KIND: u16 = 1;
-
-const IFLA_INFO_DATA: u16 = 2;
-
-const IFLA_INFO_XSTATS: u16 = 3;
-
-const IFLA_INFO_SLAVE_KIND: u16 = 4;
-
-const IFLA_INFO_SLAVE_DATA: u16 = 5;
 
 /// The kinds in force: that of the link is the last one named, that of the port the last one named that no port data used up.
 #[derive(Clone, Copy, Debug, PartialEq, Eq)]
@@ -31,8 +24,8 @@ impl ExactEq for InForce {
     ghost use Rattle.std.specs.Prelude.{refl};
     ghost use Rattle.nla_frame.specs.Derived.{fields_decide, two_fields};
     ghost use Rattle.linkinfo_data.specs.Equal.{option_decides};
-    ghost use Rattle.linkinfo_numbers.specs.contracts.names.KindTagExactEq.TheImpl.Laws.{exact-law as kind_exact};
-    ghost use Rattle.linkinfo_numbers.specs.contracts.names.PortTagExactEq.TheImpl.Laws.{exact-law as port_exact};
+    ghost use Rattle.linkinfo_numbers.specs.contracts.tags.KindTagExactEq.TheImpl.Laws.{exact-law as kind_exact};
+    ghost use Rattle.linkinfo_numbers.specs.contracts.tags.PortTagExactEq.TheImpl.Laws.{exact-law as port_exact};
 
     ghost exact = { fields_decide (λ t. (t.kind, t.port)) (λ z. record { kind = z.0; port = z.1 }) (λ t. refl) (two_fields (option_decides kind_exact) (option_decides port_exact)) };
 }

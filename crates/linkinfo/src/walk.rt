@@ -77,6 +77,14 @@ impl<'a> LinkInfoWalk<'a> {
         }
     }
 
+    /// The kinds in force where the walk stands.
+    #[inline(always)]
+    pub(crate) fn in_force(&self) -> InForce
+        ensures { result ≡ self.now.force }
+    {
+        self.force
+    }
+
     /// The next attribute, with its role under the kinds in force before it.
     #[inline(always)]
     pub(crate) fn advance(&mut self) -> Option<Result<(NlaBuffer<'a>, Role), DecodeError>>

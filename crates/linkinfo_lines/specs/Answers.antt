@@ -102,6 +102,6 @@ line_answer line = words_answer (words_of line) ++ 10 ∷ []
 abbrev pub answer_of : List ℕ → List ℕ
 answer_of input = flat_map line_answer (lines_of input)
 
--- a text has answers to the input so far, and a line what it leaves unanswered: whatever follows, its answers are the text and then those to the line and what follows
+-- the text answers the input but for its last line, which has not ended: whatever follows the input, the answers are the text and then those to the line with what follows
 abbrev pub Answered : List ℕ → List ℕ → List ℕ → Type 0
 Answered input text line = (more : List ℕ) → answer_of (input ++ more) ≡ text ++ answer_of (line ++ more)

@@ -11,7 +11,7 @@ use linkinfo::{CanonError, Cause, DecodeError};
 use std::alloc::{AllocError, Global};
 use std::io::Write;
 
-/// The answers to an input that comes in parts. Lines are answered once they have ended, so that of the input only the line is kept that has not.
+/// The answers to an input that comes in parts. A line is answered once it has ended; of the input only the last line is kept, where it has not ended.
 #[derive(Drop)]
 pub struct InputAnswers {
     answers: Answers,

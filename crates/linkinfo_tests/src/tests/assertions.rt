@@ -1,9 +1,9 @@
 //! What the tests ask of one string or one value.
 
 use linkinfo::{
-    Bytes, CanonError, Cause, DecodeError, DefaultNla, Family, HeaderCount, InfoData, InfoKind,
-    LinkInfo, Nla, Nlas, Text, VecLinkInfo, VecLinkInfoOf, canon, check, check_counted, emit_nlas,
-    nlas_buffer_len, nlas_fit_len, same,
+    Bytes, CanonError, CanonIntoError, Cause, DecodeError, DefaultNla, Family, HeaderCount,
+    InfoData, InfoKind, LinkInfo, LinkInfoWalk, Nla, Nlas, Text, VecLinkInfo, VecLinkInfoOf, canon,
+    canon_into, check, check_counted, emit_nlas, nlas_buffer_len, nlas_fit_len, same,
 };
 use std::alloc::Global;
 use std::process::Abort;
@@ -138,6 +138,40 @@ pub fn assert_read_as<const N: usize>(
     assert_read(rt, alloc, bytes, &list_of(rt, alloc, items));
 }
 
+/// The canonical string of the bytes is refused to a buffer of this many bytes, which stays as it was.
+pub fn assert_not_written(
+    rt: &impl Abort,
+    alloc: Global,
+    bytes: &[u8],
+    room: usize,
+    refused: CanonIntoError,
+) {
+    let mut buffer = repeated(rt, alloc, 255, room);
+    assert_eq!(rt;
+        (canon_into(bytes, &mut buffer), buffer.as_slice()),
+        (Err(refused), repeated(rt, alloc, 255, room).as_slice()),
+        "{bytes:?} in {room} bytes"
+    );
+}
+
+/// The bytes are written as the canonical string into every buffer that has room for it, which keeps what stands behind, and into none that is
+/// shorter.
+pub fn assert_canon_into(rt: &impl Abort, alloc: Global, bytes: &[u8], canonical: &[u8]) {
+    let len = canonical.len();
+    for room in 0..len {
+        assert_not_written(rt, alloc, bytes, room, CanonIntoError::Short(len));
+    }
+    let mut exact = repeated(rt, alloc, 255, len);
+    assert_eq!(rt;
+        (canon_into(bytes, &mut exact), exact.as_slice()),
+        (Ok(len), canonical)
+    );
+    assert!(rt; len <= 100_000);
+    let mut longer = repeated(rt, alloc, 255, len + 3);
+    assert_eq!(rt; canon_into(bytes, &mut longer), Ok(len));
+    assert_written(rt, &longer, canonical);
+}
+
 /// The bytes are accepted, are the same as the canonical string in either order, and are made that string in one call.
 fn assert_accepted(rt: &impl Abort, alloc: Global, bytes: &[u8], canonical: &[u8]) {
     let string = canon(alloc, bytes).expect(rt, "a canonical string");
@@ -159,11 +193,31 @@ fn parsed_counted(rt: &impl Abort, alloc: Global, bytes: &[u8]) -> VecLinkInfo {
     VecLinkInfo::parse_counted(alloc, bytes, &mut count).expect(rt, "a list")
 }
 
+/// A walk gives each attribute of the list in order, at its place, and ends where the bytes do.
+fn assert_walked(rt: &impl Abort, bytes: &[u8], list: &VecLinkInfo) {
+    let mut walk = LinkInfoWalk::new(bytes);
+    for item in list.iter() {
+        let Some(Ok(found)) = walk.next() else {
+            panic!(rt; "an attribute");
+        };
+        assert_eq!(rt; found.raw_kind & 0x3fff, item.kind() & 0x3fff);
+        let behind = bytes.get(found.place..).unwrap_or_default();
+        assert!(rt;
+            behind
+                .get(4..)
+                .is_some_and(|payload| payload.starts_with(found.value))
+        );
+    }
+    assert!(rt; walk.next().is_none());
+    assert_eq!(rt; walk.place(), bytes.len());
+}
+
 /// The bytes are read as the list, whether headers are counted or not.
 fn assert_read(rt: &impl Abort, alloc: Global, bytes: &[u8], wanted: &VecLinkInfo) {
     let equal = parsed(rt, alloc, bytes) == *wanted;
     let counted = parsed_counted(rt, alloc, bytes) == *wanted;
     assert_eq!(rt; (bytes, equal, counted), (bytes, true, true));
+    assert_walked(rt, bytes, wanted);
 }
 
 /// The string is read as the list, and the list is emitted as its canonical string, which reads as the same list.
@@ -175,6 +229,8 @@ fn assert_list(rt: &impl Abort, alloc: Global, text: &str, list: &VecLinkInfo, c
     assert_read(rt, alloc, &string, list);
     assert_accepted(rt, alloc, &bytes, &string);
     assert_accepted(rt, alloc, &string, &string);
+    assert_canon_into(rt, alloc, &bytes, &string);
+    assert_canon_into(rt, alloc, &string, &string);
 }
 
 /// The string is read as the list of these attributes, which is emitted as its canonical string.
@@ -217,6 +273,9 @@ pub fn assert_refused(rt: &impl Abort, alloc: Global, bytes: &[u8], fault: Decod
         ),
         "calls of {bytes:?}"
     );
+    for room in [0, 100] {
+        assert_not_written(rt, alloc, bytes, room, CanonIntoError::Refused(fault));
+    }
 }
 
 /// Checking and reading the string each look at this many headers, and answer this fault or none.
@@ -249,12 +308,16 @@ fn assert_payload<T: Nla>(rt: &impl Abort, alloc: Global, value: &T, string: &[u
         (payload_len, string.get(4..4 + len)),
         (len, Some(buffer.as_slice()))
     );
+    let mut longer = vec![in alloc; 255u8; len + 3].expect(rt, "memory");
+    let taken = value.emit_payload(&mut longer);
+    assert_eq!(rt; taken, len);
+    assert_written(rt, &longer, &buffer);
 }
 
 /// The attribute is emitted as the string, with its type, and its payload by itself.
 pub fn assert_attribute<T: Nla>(rt: &impl Abort, alloc: Global, value: &T, string: &[u8]) {
     assert_payload(rt, alloc, value, string);
-    value.fit_len().expect(rt, "a value that fits");
+    assert!(rt; value.fit_len().is_some());
     let len = value.buffer_len();
     assert_eq!(rt;
         (len, string.get(2..4)),

@@ -3,7 +3,7 @@
 //! Links of these kinds were made in a network namespace, and their link info was taken out of a dump by `RTM_GETLINK`. Each string is
 //! in the grammar and is its own canonical string.
 
-use super::assertions::{assert_emitted, bytes_of, parsed};
+use super::assertions::{assert_canon_into, assert_emitted, bytes_of, parsed};
 use linkinfo::{check, same};
 use std::alloc::Global;
 use std::process::Abort;
@@ -134,6 +134,7 @@ const DUMPS: &[(&str, &str)] = &[
 fn assert_reads_back(rt: &impl Abort, alloc: Global, bytes: &[u8]) {
     let read = parsed(rt, alloc, bytes);
     assert_emitted(rt, alloc, read.as_slice(), bytes);
+    assert_canon_into(rt, alloc, bytes, bytes);
 }
 
 #[test]

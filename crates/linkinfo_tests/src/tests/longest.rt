@@ -1,12 +1,13 @@
 //! Values as long as one attribute holds, and longer ones.
 
 use super::assertions::{
-    HEADER_FAULT, assert_attribute, assert_built, assert_read_as, assert_refused, parsed, repeated,
+    HEADER_FAULT, assert_attribute, assert_built, assert_not_written, assert_read_as,
+    assert_refused, parsed, repeated,
 };
 use super::fronts::assert_fronts;
 use linkinfo::{
-    CanonError, DefaultNla, InfoKind, LinkInfo, Nla, Text, ToVecError, canon, check, nlas_fit_len,
-    same,
+    CanonError, CanonIntoError, DefaultNla, InfoKind, LinkInfo, Nla, Text, ToVecError, canon,
+    check, nlas_fit_len, same,
 };
 use std::alloc::Global;
 use std::process::Abort;
@@ -70,6 +71,9 @@ fn assert_unfit(rt: &impl Abort, alloc: Global, string: &[u8]) {
         ),
         (None, Some(ToVecError::Unfit), Some(CanonError::Unfit))
     );
+    for room in [0, 70_000] {
+        assert_not_written(rt, alloc, string, room, CanonIntoError::Unfit);
+    }
 }
 
 #[test]

@@ -1,6 +1,6 @@
 //! Address lists inside address lists.
 
-use super::assertions::{assert_emitted, assert_headers, parsed};
+use super::assertions::{assert_canon_into, assert_emitted, assert_headers, parsed};
 use super::fronts::assert_fronts;
 use linkinfo::{Cause, DecodeError, Family, InfoData, InfoMacVlan, LinkInfo, same};
 use std::alloc::Global;
@@ -88,6 +88,7 @@ fn assert_chain(rt: &impl Abort, alloc: Global, bytes: &[u8], depth: u16) {
     };
     assert_eq!(rt; depth_of(items.as_slice()), usize::from(depth));
     assert_emitted(rt, alloc, read.as_slice(), bytes);
+    assert_canon_into(rt, alloc, bytes, bytes);
 }
 
 #[test]

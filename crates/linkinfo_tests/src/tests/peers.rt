@@ -1,11 +1,11 @@
 //! Lists with peers of another type.
 
-use super::assertions::{assert_emitted, bytes_of, nlas};
+use super::assertions::{assert_emitted, bytes_of, nlas, repeated};
 use super::worked::VETH_TAIL;
 use linkinfo::{
-    BitPeer, CanonError, Cause, DecodeError, Family, HeaderCount, InfoDataOf, InfoKind,
-    InfoNetkitOf, InfoVethOf, InfoVxcanOf, LinkInfoOf, VecLinkInfoOf, canon_of, check_counted_of,
-    check_of, same, same_counted_of, same_of,
+    BitPeer, CanonError, CanonIntoError, Cause, DecodeError, Family, HeaderCount, InfoDataOf,
+    InfoKind, InfoNetkitOf, InfoVethOf, InfoVxcanOf, LinkInfoOf, VecLinkInfoOf, canon_into_of,
+    canon_of, check_counted_of, check_of, same, same_counted_of, same_of,
 };
 use std::alloc::Global;
 use std::process::Abort;
@@ -54,6 +54,20 @@ fn assert_written(rt: &impl Abort, alloc: Global, list: &VecLinkInfoOf<BitPeer>,
 fn assert_canonical(rt: &impl Abort, alloc: Global, bytes: &[u8], canonical: &[u8]) {
     let string = canon_of::<BitPeer>(alloc, bytes).expect(rt, "a canonical string");
     assert_eq!(rt; string.as_slice(), canonical);
+    let len = canonical.len();
+    let mut buffer = repeated(rt, alloc, 255, len);
+    assert_eq!(rt;
+        (
+            canon_into_of::<BitPeer>(bytes, &mut buffer),
+            buffer.as_slice()
+        ),
+        (Ok(len), canonical)
+    );
+    let mut none = [];
+    assert_eq!(rt;
+        canon_into_of::<BitPeer>(bytes, &mut none),
+        Err(CanonIntoError::Short(len))
+    );
 }
 
 /// The list is that of the string and of the canonical one, by this many headers, and is written as the canonical one.
@@ -171,6 +185,7 @@ fn refuses_other_peers(rt: HostRuntime) {
             check_of::<BitPeer>(&bytes),
             fault_of(alloc, &bytes),
             canon_of::<BitPeer>(alloc, &bytes).err(),
+            canon_into_of::<BitPeer>(&bytes, &mut []),
             same_of::<BitPeer>(&bytes, &[]),
             same_of::<BitPeer>(&[], &bytes)
         ),
@@ -178,6 +193,7 @@ fn refuses_other_peers(rt: HostRuntime) {
             Err(PEER_REFUSED),
             Some(PEER_REFUSED),
             Some(CanonError::Refused(PEER_REFUSED)),
+            Err(CanonIntoError::Refused(PEER_REFUSED)),
             Err(PEER_REFUSED),
             Err(PEER_REFUSED)
         )

@@ -1,8 +1,11 @@
 //! The borrowed walk.
 
-use super::assertions::{HEADER_FAULT, bytes_of, link_fault};
+use super::assertions::{HEADER_FAULT, assert_built, bytes_of, link, link_fault, nlas};
 use super::worked::{DATA_TWICE, FIRST_FAULT, SECOND_PORT_DATA};
-use linkinfo::{Cause, DecodeError, KindTag, LinkInfoItem, LinkInfoWalk, PortTag};
+use linkinfo::{
+    Cause, DecodeError, InfoData, InfoKind, InfoVxlan, KindTag, LinkInfoItem, LinkInfoWalk,
+    PortTag, same,
+};
 use std::process::Abort;
 
 /// The walk gives these items, each at its place.
@@ -92,6 +95,26 @@ fn walks_over_kinds_and_data(rt: HostRuntime) {
     ];
     let bytes = bytes_of(&rt, alloc, FIRST_FAULT);
     assert_walk(&rt, &bytes, &items, Some(HEADER_FAULT), 20, 2);
+}
+
+/// A vxlan link with its identifier and its port.
+const VXLAN: [u8; 32] = [
+    10, 0, 1, 0, b'v', b'x', b'l', b'a', b'n', 0, 0, 0, 20, 0, 2, 0, 8, 0, 1, 0, 42, 0, 0, 0, 6, 0,
+    15, 0, 0x12, 0xb5, 0, 0,
+];
+
+#[test]
+fn walks_over_what_was_built(rt: HostRuntime) {
+    let alloc = rt.alloc();
+    let data = nlas(&rt, alloc, [InfoVxlan::Id(42), InfoVxlan::Port(4789)]);
+    let items = link(InfoKind::Vxlan, InfoData::Vxlan(data));
+    assert_built(&rt, alloc, items, &VXLAN);
+    assert_eq!(rt; same(&VXLAN, &VXLAN[..12]), Ok(false));
+    let items = [
+        item(0, 1, b"vxlan\0"),
+        under(KindTag::Vxlan, item(12, 2, &VXLAN[16..])),
+    ];
+    assert_walk(&rt, &VXLAN, &items, None, 32, 2);
 }
 
 #[test]

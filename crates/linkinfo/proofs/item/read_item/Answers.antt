@@ -1,20 +1,21 @@
-use Rattle.std.proofs.Common.{◌≡◌, ◌∙◌, false, sym, ap, Err, rules}
+use Rattle.std.proofs.Common.{◌≡◌, ◌∙◌, ℕ, List, Some, false, sym, ap, Result, Ok, Err, rules}
 use Rattle.std.specs.Prelude.{◌≢◌}
 use Rattle.nla_frame.specs.Attribute.{Attribute}
 use Rattle.nla_frame.specs.Error.{memory_fault}
 use Rattle.nla_frame.specs.declared.error.DecodeError.{DecodeError}
 use Rattle.nla_frame.specs.declared.error.Family.TheVariants as family
-use Rattle.linkinfo_numbers.specs.Kind.{kind_of_name}
-use Rattle.linkinfo_numbers.specs.PortKind.{port_kind_of_name}
+use Rattle.linkinfo_numbers.specs.Kind.{kind_of_name, tag_of_name}
+use Rattle.linkinfo_numbers.specs.PortKind.{port_kind_of_name, port_tag_of_name}
 use Rattle.linkinfo_shapes.specs.Shapes.{needs_memory}
 use Rattle.linkinfo_shapes.specs.declared.shape.Shape.TheVariants.{Name}
 use Rattle.linkinfo_table.specs.Rows.{row_meaning, row_needs_memory}
 use Rattle.linkinfo_data.specs.Families.{Families}
 use Rattle.linkinfo.specs.declared.link_info.LinkInfoOf.TheVariants as info
+use Rattle.linkinfo.specs.declared.role.InForce.{InForce}
 use Rattle.linkinfo.specs.declared.role.Role.{Role}
 use Rattle.linkinfo.specs.declared.role.Role.TheVariants as role
 use Rattle.linkinfo.specs.Items.{link_other, link_row}
-use Rattle.linkinfo.specs.Roles.{name_meaning, with_name}
+use Rattle.linkinfo.specs.Roles.{behind_role, name_meaning, with_name}
 use Rattle.linkinfo.proofs.Naming.{made_err, made_ok}
 use Rattle.linkinfo.proofs.item.read_item.Goals as goal
 use Rattle.linkinfo_data.specs.PeerFamilies.{families_of}
@@ -72,3 +73,27 @@ returns-in_ok-read_port_kind-in-PortKind-clause-answer g c =
 
 pub returns-in_ok-read_port_kind-in-PortKind-clause-certain : goal.returns-in_ok-read_port_kind-in-PortKind-clause-certain
 returns-in_ok-read_port_kind-in-PortKind-clause-certain g c = λ _. returns-in_ok-read_port_kind-in-PortKind-clause-answer g c
+
+-- a name in force behind an attribute is the one that it holds
+module _ (r : Role) (t u : InForce) (a : Attribute) (b : behind_role r t a ≡ Ok u) where
+  kind_behind : r ≡ role.Kind → with_name (name_meaning a) (λ name. Some (tag_of_name name)) ≡ Ok u.kind
+  kind_behind is = go (name_meaning a) (ap (λ (s : Role). behind_role s t a) (sym is) ∙ b)
+    where
+      go : (n : Result (List ℕ) DecodeError) → with_name n (λ name. let f : InForce = record { kind = Some (tag_of_name name); port = t.port } in f) ≡ Ok u →
+          with_name n (λ name. Some (tag_of_name name)) ≡ Ok u.kind
+      go (Ok name) e = cc
+      go (Err d) e = absurd cc
+
+  port_behind : r ≡ role.PortKind → with_name (name_meaning a) (λ name. Some (port_tag_of_name name)) ≡ Ok u.port
+  port_behind is = go (name_meaning a) (ap (λ (s : Role). behind_role s t a) (sym is) ∙ b)
+    where
+      go : (n : Result (List ℕ) DecodeError) → with_name n (λ name. let f : InForce = record { kind = t.kind; port = Some (port_tag_of_name name) } in f) ≡ Ok u →
+          with_name n (λ name. Some (port_tag_of_name name)) ≡ Ok u.port
+      go (Ok name) e = cc
+      go (Err d) e = absurd cc
+
+pub read_kind-requires : goal.read_kind-requires
+read_kind-requires g c = kind_behind _ c.requires.entered.0 _ c.args.nla.now c.requires.entered.1 c.in-Kind.is
+
+pub read_port_kind-requires : goal.read_port_kind-requires
+read_port_kind-requires g c = port_behind _ c.requires.entered.0 _ c.args.nla.now c.requires.entered.1 c.in-PortKind.is

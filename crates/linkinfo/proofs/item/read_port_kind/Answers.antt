@@ -1,28 +1,29 @@
-use Rattle.std.proofs.Common.{◌≡◌, ◌∙◌, sym, ap, Some, None}
-use Rattle.nla_frame.specs.Payload.{stripped}
-use Rattle.linkinfo_numbers.specs.PortKind.{port_kind_of_tag, port_tag_of_name, port_kind_of_name, port_kind_of_name-tagged, port_tag_of_name-utf8}
-use Rattle.linkinfo_numbers.specs.declared.names.PortTag.{PortTag}
-use Rattle.linkinfo_numbers.specs.declared.names.PortTag.TheVariants as tag
-use Rattle.linkinfo_numbers.specs.declared.port_kind.InfoPortKind.{InfoPortKind}
-use Rattle.linkinfo.proofs.Naming.{made_known, name_needs, not_both}
+use Rattle.std.proofs.Common.{◌∙◌, sym, ap, Option, Result, Ok}
+use Rattle.nla_frame.specs.declared.error.DecodeError.{DecodeError}
+use Rattle.linkinfo_numbers.specs.PortKind.{port_kind_of_name, port_kind_of_name-tagged, port_kind_of_name-untagged, port_kind_of_tag, port_tag_of_name}
+use Rattle.linkinfo_numbers.specs.declared.tags.PortTag.{PortTag}
+use Rattle.linkinfo_numbers.specs.declared.port_kind.InfoPortKind.TheVariants as kind
+use Rattle.linkinfo.proofs.Naming.{kind_by_name, kind_by_tag, name_needs, not_both}
 use Rattle.linkinfo.proofs.item.read_port_kind.Goals as goal
 
--- the tag of a known kind is not `Other`
-known : (t : PortTag) (k : InfoPortKind) → port_kind_of_tag t ≡ Some k → t ≡ tag.Other → ⊥
-known t k is e = absurd_none (sym (ap port_kind_of_tag e) ∙ is)
-  where
-    absurd_none : None ≡ Some k → ⊥
-    absurd_none h = cc
+abbrev given : Option PortTag → Result (Option PortTag) DecodeError
+given tag = Ok tag
 
-pub returns-in-Some-clause-answer : goal.returns-in-Some-clause-answer
-returns-in-Some-clause-answer c =
-    let name = c.without_nul.result.now in
-    let tagged : port_kind_of_tag (port_tag_of_name name) ≡ Some c.in-Some.kind = cc in
-    made_known port_kind_of_name c.args.nla.now name c.in-Some.kind (c.without_nul.ensures ∙ ap stripped c.value.ensures.value)
-    (port_tag_of_name-utf8 name (known (port_tag_of_name name) c.in-Some.kind tagged)) (port_kind_of_name-tagged name c.in-Some.kind tagged)
+pub returns-in-Some-from_tag-clause-answer : goal.returns-in-Some-from_tag-clause-answer
+returns-in-Some-from_tag-clause-answer c =
+    kind_by_tag port_tag_of_name port_kind_of_name port_kind_of_tag c.args.nla.now c.in-Some.tag (c.requires ∙ ap given c.in-Some.is) c.in-Some-from_tag.kind
+    (sym c.from_tag.ensures ∙ c.in-Some-from_tag.is) port_kind_of_name-tagged
 
-pub returns-in-Some-clause-certain : goal.returns-in-Some-clause-certain
-returns-in-Some-clause-certain c = λ _. returns-in-Some-clause-answer c
+pub returns-in-Some-from_tag-clause-certain : goal.returns-in-Some-from_tag-clause-certain
+returns-in-Some-from_tag-clause-certain c = λ _. returns-in-Some-from_tag-clause-answer c
 
-pub returns-in_err-from_text-in-None-clause-certain : goal.returns-in_err-from_text-in-None-clause-certain
-returns-in_err-from_text-in-None-clause-certain c = λ none. absurd (not_both _ (name_needs _ _ c.in_ok-name_in-in-None.ensures) none)
+pub returns-in_err-copy_of-in-None-clause-certain : goal.returns-in_err-copy_of-in-None-clause-certain
+returns-in_err-copy_of-in-None-clause-certain c = λ none. absurd (not_both _ (name_needs _ _ c.in_ok-name_in-in-None.ensures) none)
+
+pub returns-in_ok-copy_of-in-None-clause-answer : goal.returns-in_ok-copy_of-in-None-clause-answer
+returns-in_ok-copy_of-in-None-clause-answer c =
+    kind_by_name port_tag_of_name port_kind_of_name port_kind_of_tag c.args.nla.now c.in-Some.tag (c.requires ∙ ap given c.in-Some.is) (λ text. kind.Other text) _ _
+    (sym c.from_tag.ensures ∙ c.in-None.is) c.in_ok-name_in-in-None.ensures c.in_ok-copy_of-in-None.ensures port_kind_of_name-untagged
+
+pub returns-in_ok-copy_of-in-None-clause-certain : goal.returns-in_ok-copy_of-in-None-clause-certain
+returns-in_ok-copy_of-in-None-clause-certain c = λ _. returns-in_ok-copy_of-in-None-clause-answer c

@@ -1,8 +1,8 @@
 use Rattle.std.proofs.Common.{refl}
 use Rattle.std.specs.Cmp.Lexicographic.{bytes_decides}
 use Rattle.std.proofs.lemmas.Bool.Decides.{Decides-eqb}
-use Rattle.linkinfo_numbers.specs.contracts.names.KindTagExactEq.TheImpl.Laws.{exact-law as kind_exact}
-use Rattle.linkinfo_numbers.specs.contracts.names.PortTagExactEq.TheImpl.Laws.{exact-law as port_exact}
+use Rattle.linkinfo_numbers.specs.contracts.tags.KindTagExactEq.TheImpl.Laws.{exact-law as kind_exact}
+use Rattle.linkinfo_numbers.specs.contracts.tags.PortTagExactEq.TheImpl.Laws.{exact-law as port_exact}
 use Rattle.nla_frame.specs.Derived.{fields_decide, two_fields}
 use Rattle.linkinfo_data.specs.Equal.{option_decides}
 use Rattle.linkinfo.specs.Walks.{held}

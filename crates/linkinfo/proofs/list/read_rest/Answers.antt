@@ -1,10 +1,20 @@
-use Rattle.std.proofs.Common.{rules, arith}
+use Rattle.std.proofs.Common.{◌∙◌, rules, arith, sym, ap, Result, Ok}
+use Rattle.nla_frame.specs.declared.error.DecodeError.{DecodeError}
+use Rattle.linkinfo.specs.declared.role.InForce.{InForce}
 use Rattle.nla_frame.specs.Pieces.{pieces}
 use Rattle.linkinfo.specs.Strings.{headers_from}
 use Rattle.linkinfo.specs.Walks.{left}
 use Rattle.linkinfo.proofs.Steps.{entered, stopped, on_value, on_fault, on_fault_unless, counted_fault, headers_on, needs_off, value_needs}
 use Rattle.linkinfo.proofs.list.read_rest.Goals as goal
 use Rattle.linkinfo_data.specs.PeerFamilies.{families_of}
+
+abbrev in_force : InForce → Result InForce DecodeError
+in_force force = Ok force
+
+pub read_item-requires-clause-entered : goal.read_item-requires-clause-entered
+read_item-requires-clause-entered g c =
+    let step = entered (families_of g.row.P g.P.LinkPeer) _ _ _ _ (rw c.in_ok-nla.was at c.in-Some.ensures.step) in
+    (c.loop-next.walk.force, step.behind ∙ ap in_force (sym c.in_force.ensures))
 
 pub returns-in_err-nla-clause-answer : goal.returns-in_err-nla-clause-answer
 returns-in_err-nla-clause-answer g c = let stop = stopped (families_of g.row.P g.P.LinkPeer) _ _ _ (rw c.in_err-nla.was at c.in-Some.ensures.step) in search rules

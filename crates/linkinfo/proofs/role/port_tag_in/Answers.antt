@@ -2,7 +2,7 @@ use Rattle.std.proofs.Common.{◌∙◌, sym, ap, Ok, Result}
 use Rattle.nla_frame.specs.Payload.{stripped}
 use Rattle.nla_frame.specs.declared.error.DecodeError.{DecodeError}
 use Rattle.linkinfo_numbers.specs.PortKind.{port_tag_of_name, port_tag_of_name-utf8}
-use Rattle.linkinfo_numbers.specs.declared.names.PortTag.{PortTag}
+use Rattle.linkinfo_numbers.specs.declared.tags.PortTag.{PortTag}
 use Rattle.linkinfo.proofs.Naming.{made_known, made_of_name}
 use Rattle.linkinfo.proofs.role.port_tag_in.Goals as goal
 

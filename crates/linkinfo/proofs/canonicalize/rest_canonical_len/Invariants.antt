@@ -1,0 +1,28 @@
+use Rattle.std.proofs.Common.{◌≡◌, ◌+◌, ◌<◌, ◌^◌, length}
+use Rattle.std.specs.Prelude.{IsOk}
+use Rattle.std.specs.List.{AllByRecursion}
+use Rattle.nla_frame.specs.Attribute.{Fits, list_string}
+use Rattle.nla_frame.specs.Canonical.{attributes_for}
+use Rattle.nla_frame.specs.Pieces.{pieces}
+use Rattle.linkinfo_data.specs.PeerFamilies.{families_of}
+use Rattle.linkinfo.specs.Items.{link_attribute}
+use Rattle.linkinfo.specs.Strings.{values_from}
+use Rattle.linkinfo.specs.Walks.{left}
+use Rattle.linkinfo.proofs.canonicalize.rest_canonical_len.Given as goal
+
+abbrev pub invariant-loop-next : goal.invariant-loop-next
+invariant-loop-next g l =
+    let peer = families_of g.row.P g.P.LinkPeer in
+    let first = l.initial.walk in
+    let all = attributes_for (link_attribute peer) (values_from peer first.force (pieces (left first))) in
+    let now = attributes_for (link_attribute peer) (values_from peer l.walk.force (pieces (left l.walk))) in
+    record {
+      accepted : IsOk (values_from peer l.walk.force (pieces (left l.walk)));
+      small : l.total < 2 ^ 64;
+      so_far : l.total + length (list_string now) ≡ length (list_string all);
+      each : AllByRecursion Fits now → AllByRecursion Fits all;
+      needed : AllByRecursion Fits all → AllByRecursion Fits now;
+    }
+
+abbrev pub decreases-loop-next : goal.decreases-loop-next
+decreases-loop-next g l = length (left l.walk)

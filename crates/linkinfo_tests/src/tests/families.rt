@@ -1,0 +1,107 @@
+//! Which family the data of a kind has, and payloads read, checked and compared by it.
+
+ghost use Rattle.std.specs.Prelude.{IsOk};
+
+use super::assertions::nlas;
+use linkinfo::{
+    Bytes, Cause, DataFamily, DecodeError, DeviceFamily, Family, HeaderCount, InfoData,
+    InfoPortData, InfoVrf, KindTag, LowerFamily, PayloadFamily, PeeredFamily, PortFamily, PortTag,
+    TunnelFamily, data_laws, family_of, port_family_of,
+};
+use std::alloc::Global;
+use std::process::Abort;
+
+#[test]
+fn kinds_have_families(rt: HostRuntime) {
+    for (tag, family) in [
+        (KindTag::Bond, DataFamily::Lower(LowerFamily::Bond)),
+        (KindTag::Vrf, DataFamily::Device(DeviceFamily::Vrf)),
+        (KindTag::Vti6, DataFamily::Tunnel(TunnelFamily::Vti)),
+        (
+            KindTag::SitTun,
+            DataFamily::Tunnel(TunnelFamily::IpTunnel(KindTag::SitTun)),
+        ),
+        (KindTag::Pfcp, DataFamily::Peered(PeeredFamily::Pfcp)),
+        (KindTag::Dummy, DataFamily::Raw),
+        (KindTag::Other, DataFamily::Raw),
+    ] {
+        assert_eq!(rt; (tag, family_of(tag)), (tag, family));
+    }
+    for (tag, family) in [
+        (PortTag::Bond, PortFamily::Bond),
+        (PortTag::Bridge, PortFamily::Bridge),
+        (PortTag::Vrf, PortFamily::Vrf),
+        (PortTag::Team, PortFamily::Team),
+        (PortTag::Other, PortFamily::Raw),
+    ] {
+        assert_eq!(rt; (tag, port_family_of(tag)), (tag, family));
+    }
+}
+
+/// The table 5 of a vrf.
+const TABLE: [u8; 8] = [8, 0, 1, 0, 5, 0, 0, 0];
+
+/// The same with a flag bit in its type.
+const MARKED: [u8; 8] = [8, 0, 1, 0x80, 5, 0, 0, 0];
+
+/// Another table.
+const OTHER_TABLE: [u8; 8] = [8, 0, 1, 0, 6, 0, 0, 0];
+
+/// A table of one byte.
+const SHORT: [u8; 5] = [5, 0, 1, 0, 5];
+
+/// The payload is accepted by the family.
+fn accepts<D: Drop, F: PayloadFamily<D>>(rt: &impl Abort, family: F, payload: &[u8])
+    ensures { IsOk ((F.data_of family).means payload.now) }
+{
+    assert!(rt; payload.len() < 1000);
+    let mut count = HeaderCount::new();
+    let checked = PayloadFamily::<D>::check(family, payload, &mut count);
+    assert!(rt; checked.is_ok());
+}
+
+/// Whether two accepted payloads mean the same by the family, with the headers that were looked at for the answer.
+fn are_same<D: Drop, F: PayloadFamily<D>>(
+    rt: &impl Abort,
+    family: F,
+    a: &[u8],
+    b: &[u8],
+) -> (bool, usize) {
+    accepts::<D, F>(rt, family, a);
+    accepts::<D, F>(rt, family, b);
+    let mut count = HeaderCount::new();
+    let same = PayloadFamily::<D>::same(family, a, b, &mut count);
+    (same, count.get())
+}
+
+/// `TABLE` is read as the data by the family of vrf, the same as `MARKED` and no other, and a table of one byte is refused.
+fn has_tables<D: Drop + PartialEq, F: PayloadFamily<D>>(
+    rt: &impl Abort,
+    alloc: Global,
+    family: F,
+    data: D,
+) {
+    let mut count = HeaderCount::new();
+    let read = PayloadFamily::<D>::read(family, alloc, &TABLE, &mut count).expect(rt, "data");
+    assert_eq!(rt; (read == data, count.get()), (true, 1));
+    assert_eq!(rt; are_same::<D, F>(rt, family, &TABLE, &MARKED), (true, 2));
+    assert!(rt; !are_same::<D, F>(rt, family, &TABLE, &OTHER_TABLE).0);
+    let fault = DecodeError {
+        family: Family::Vrf,
+        kind: 1,
+        cause: Cause::Length,
+    };
+    let mut count = HeaderCount::new();
+    let checked = PayloadFamily::<D>::check(family, &SHORT, &mut count);
+    assert_eq!(rt; (checked, count.get()), (Err(fault), 1));
+}
+
+#[test]
+fn payloads_of_families(rt: HostRuntime) {
+    let alloc = rt.alloc();
+    data_laws::families_lawful::<Bytes>();
+    let data = InfoData::Vrf(nlas(&rt, alloc, [InfoVrf::TableId(5)]));
+    has_tables(&rt, alloc, family_of(KindTag::Vrf), data);
+    let data = InfoPortData::VrfPort(nlas(&rt, alloc, [InfoVrf::TableId(5)]));
+    has_tables(&rt, alloc, port_family_of(PortTag::Vrf), data);
+}
