@@ -4,14 +4,22 @@
 //   driver LISTS grow ROUNDS   nanoseconds a byte of lists up to 64 KiB, and of lists nested to 128
 //   driver LISTS count         for callgrind: a dump for each list and operation, of 200 runs
 //
+// Each list is answered once before it is measured: a wrong answer ends the program with status 1.
+//
 // A list is a line: its name, how its data is framed (`-`: as bytes; `a`: as attributes; `n`: so are those of type 5 inside), and its bytes as hex.
+// One whose name begins with `err-` is refused, every other one accepted.
 #include <stdbool.h>
 #include <stdint.h>
 #include <stdio.h>
 #include <stdlib.h>
 #include <string.h>
 #include <time.h>
+#if __has_include(<valgrind/callgrind.h>)
 #include <valgrind/callgrind.h>
+#else
+#define CALLGRIND_ZERO_STATS
+#define CALLGRIND_DUMP_STATS_AT(name) ((void)(name))
+#endif
 
 bool bench_check(const uint8_t *bytes, size_t len);
 bool bench_same(const uint8_t *a, size_t a_len, const uint8_t *b, size_t b_len);
@@ -22,6 +30,7 @@ typedef struct {
     char name[32], data;
     uint8_t *bytes, *equal, *alike, *out;
     size_t len;
+    bool accepted;
 } List;
 
 enum { CHECK, EQUAL, SAME, PARSE, EMIT, SCAN, OPERATIONS };
@@ -43,6 +52,31 @@ static __attribute__((noinline)) bool scan(const uint8_t *p, size_t n, int depth
         n -= step;
     }
     return true;
+}
+
+static void expect(const List *l, const char *what, size_t answer, size_t wanted) {
+    if (answer == wanted) return;
+    fprintf(stderr, "%s: %s answers %zu, not %zu\n", l->name, what, answer, wanted);
+    exit(1);
+}
+
+// Each call answers what it must: a list is accepted or refused by all, the same as its equal, the same as its alike where the first type is known,
+// and emitted as a string that means the same and is emitted as itself.
+static void judge(const List *l) {
+    size_t first = (l->bytes[2] | l->bytes[3] << 8) & 0x3fff, room = l->len + 4096;
+    expect(l, "check", bench_check(l->bytes, l->len), l->accepted);
+    expect(l, "equal", bench_same(l->bytes, l->len, l->equal, l->len), l->accepted);
+    expect(l, "same", bench_same(l->bytes, l->len, l->alike, l->len), l->accepted && first >= 1 && first <= 5);
+    expect(l, "parse", bench_parse(l->bytes, l->len), l->accepted);
+    size_t len = bench_emit(l->bytes, l->len, l->out, room, 1);
+    expect(l, "emit", len != 0, l->accepted);
+    if (!l->accepted) return;
+    expect(l, "same of what is emitted", bench_same(l->out, len, l->bytes, l->len), true);
+    uint8_t *again = malloc(room);
+    expect(l, "emit of what is emitted", bench_emit(l->out, len, again, room, 1), len);
+    expect(l, "what is emitted twice", memcmp(again, l->out, len) == 0, true);
+    free(again);
+    expect(l, "scan", scan(l->bytes, l->len, 0, l->data), true);
 }
 
 static void run(const List *l, int operation, uint32_t times) {
@@ -97,6 +131,8 @@ static List *add(const char *name, char data, const uint8_t *bytes, size_t len) 
     memcpy(l->equal, bytes, len);
     memcpy(l->alike, bytes, len);
     if (len > 3) l->alike[3] |= 0x80;
+    l->accepted = strncmp(name, "err-", 4) != 0;
+    judge(l);
     return l;
 }
 
@@ -127,16 +163,15 @@ static void table(int rounds) {
     printf("  check/scan\n");
     for (int i = 0; i < n_lists; i++) {
         List *l = &lists[i];
-        bool accepted = bench_check(l->bytes, l->len);
         double each[OPERATIONS];
         printf("%-14s %5zu", l->name, l->len);
         for (int op = 0; op < OPERATIONS; op++) {
-            if (op == EMIT && !accepted) { printf(" %8s", "-"); continue; }
+            if (op == EMIT && !l->accepted) { printf(" %8s", "-"); continue; }
             each[op] = least(l, op, rounds);
-            if (accepted) sum[op] += each[op];
+            if (l->accepted) sum[op] += each[op];
             printf(" %8.1f", each[op]);
         }
-        if (accepted) bytes += l->len;
+        if (l->accepted) bytes += l->len;
         printf(" %11.2f\n", each[CHECK] / each[SCAN]);
     }
     printf("%-14s %5zu", "sum", bytes);
@@ -192,7 +227,7 @@ static void count(void) {
         for (int op = 0; op < OPERATIONS; op++) {
             List *l = &lists[i];
             char name[64], less[65];
-            if (op == EMIT && !bench_check(l->bytes, l->len)) continue;
+            if (op == EMIT && !l->accepted) continue;
             snprintf(name, sizeof name, "%.31s %s", l->name, NAMES[op]);
             snprintf(less, sizeof less, "-%s", name);
             run(l, op, 50);

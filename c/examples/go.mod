@@ -1,0 +1,3 @@
+module linkinfo_show
+
+go 1.19

@@ -1,0 +1,83 @@
+/* The shapes that linkinfo_attributes answers for each kind and type, against lines of rows.py on standard input: 'link NAME TYPE SHAPE' or 'port NAME TYPE
+ * SHAPE'. A type without a line has no shape. */
+#include "linkinfo.h"
+#include <stdio.h>
+#include <string.h>
+
+enum { MOST_KINDS = 64, TYPES = 128 };
+
+static const char *const names[] = {
+    [LINKINFO_SHAPE_NONE] = "None",           [LINKINFO_SHAPE_U8] = "U8",
+    [LINKINFO_SHAPE_LE16] = "Le16",           [LINKINFO_SHAPE_LE32] = "Le32",
+    [LINKINFO_SHAPE_LE64] = "Le64",           [LINKINFO_SHAPE_BE16] = "Be16",
+    [LINKINFO_SHAPE_BE32] = "Be32",           [LINKINFO_SHAPE_BE64] = "Be64",
+    [LINKINFO_SHAPE_I32] = "I32",             [LINKINFO_SHAPE_TRUTH] = "Truth",
+    [LINKINFO_SHAPE_TRUTH_ONE] = "TruthOne",  [LINKINFO_SHAPE_MARK] = "Mark",
+    [LINKINFO_SHAPE_NAME] = "Name",           [LINKINFO_SHAPE_V4] = "V4",
+    [LINKINFO_SHAPE_V6] = "V6",               [LINKINFO_SHAPE_GENEVE_V4] = "GeneveV4",
+    [LINKINFO_SHAPE_GENEVE_V6] = "GeneveV6",  [LINKINFO_SHAPE_IP] = "Ip",
+    [LINKINFO_SHAPE_MAC] = "Mac",             [LINKINFO_SHAPE_BE_PAIR] = "BePair",
+    [LINKINFO_SHAPE_FLAG_PAIR] = "FlagPair",  [LINKINFO_SHAPE_EMPTY_OR_BYTE] = "EmptyOrByte",
+    [LINKINFO_SHAPE_SCRUB] = "Scrub",         [LINKINFO_SHAPE_RAW] = "Raw",
+    [LINKINFO_SHAPE_SELF_LIST] = "SelfList",  [LINKINFO_SHAPE_PEER] = "Peer",
+};
+enum { SHAPES = sizeof names / sizeof *names };
+
+static struct {
+  char way[8], name[32];
+  uint16_t kind;
+  uint16_t shapes[TYPES];
+  int rows;
+} kinds[MOST_KINDS];
+static size_t kind_count;
+
+static size_t kind_at(const char *way, const char *name) {
+  size_t at = 0;
+  while (at < kind_count && (strcmp(kinds[at].way, way) != 0 || strcmp(kinds[at].name, name) != 0)) at++;
+  if (at == kind_count && kind_count < MOST_KINDS) {
+    strcpy(kinds[at].way, way);
+    strcpy(kinds[at].name, name);
+    kinds[at].kind = strcmp(way, "port") == 0 ? linkinfo_port_kind_of_name(name, strlen(name)) : linkinfo_kind_of_name(name, strlen(name));
+    kind_count++;
+  }
+  return at;
+}
+
+/* One attribute of a type without a payload, inside data of the kind. */
+static int is_answered(size_t at, unsigned type) {
+  uint8_t bytes[4] = {4, 0, (uint8_t)type, 0};
+  struct linkinfo_attribute attribute = {0, 0, 0, 0, 0, 0};
+  struct linkinfo_found found = linkinfo_attributes(bytes, sizeof bytes, kinds[at].kind, &attribute, 1);
+  if (found.count == (kinds[at].rows > 0 ? 1 : found.count) && attribute.shape == kinds[at].shapes[type]) return 1;
+  fprintf(stderr, "%s %s, type %u: shape %u, and not %s\n", kinds[at].way, kinds[at].name, type, attribute.shape, names[kinds[at].shapes[type]]);
+  return 0;
+}
+
+int main(void) {
+  char way[8], name[32], shape[32];
+  unsigned type, seen[SHAPES] = {0};
+  size_t rows = 0;
+  while (scanf("%7s %31s %u %31s", way, name, &type, shape) == 4) {
+    uint16_t number = 0;
+    while (number < SHAPES && strcmp(names[number], shape) != 0) number++;
+    size_t at = kind_at(way, name);
+    if (number == SHAPES || at == MOST_KINDS || type >= TYPES) return 1;
+    kinds[at].shapes[type] = number;
+    kinds[at].rows += number != LINKINFO_SHAPE_NONE;
+    rows += number != LINKINFO_SHAPE_NONE;
+    seen[number]++;
+  }
+  int status = kind_count == 50 ? 0 : 1;
+  for (unsigned number = 0; number < SHAPES; number++) {
+    /* no family has a row of bytes as they came */
+    if ((seen[number] == 0) != (number == LINKINFO_SHAPE_RAW)) {
+      fprintf(stderr, "shape %s: %u rows\n", names[number], seen[number]);
+      status = 1;
+    }
+  }
+  for (size_t at = 0; at < kind_count; at++)
+    for (type = 0; type < TYPES; type++)
+      if (!is_answered(at, type)) status = 1;
+  printf("rows: %zu of %zu kinds and port kinds have their shapes\n", rows, kind_count);
+  return status;
+}

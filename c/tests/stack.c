@@ -1,0 +1,80 @@
+/* The most stack that a call takes: with 128 lists inside one another, the most that are read, each call runs on a stack filled with one byte, and what it
+ * changed is counted. Writes a line for each call, and ends with status 1 where one takes more than MOST bytes. */
+#define _GNU_SOURCE
+#include "linkinfo.h"
+#include <pthread.h>
+#include <stdio.h>
+#include <string.h>
+#include <sys/mman.h>
+
+enum { LISTS = 128, STACK = 1 << 20, FILL = 0x5a, MOST = 24 * 1024 };
+
+/* The data of a macvlan with lists of addresses inside one another (IFLA_MACVLAN_MACADDR_DATA, type 5), the innermost empty. */
+static uint8_t list[12 + 4 + 4 * LISTS];
+
+static void header(uint8_t *at, size_t length, unsigned type) {
+  at[0] = (uint8_t)(length % 256);
+  at[1] = (uint8_t)(length / 256);
+  at[2] = (uint8_t)type;
+  at[3] = 0;
+}
+
+static void make_list(void) {
+  header(list, 12, 1);
+  memcpy(list + 4, "macvlan", 8);
+  header(list + 12, sizeof list - 12, 2);
+  for (size_t at = 16; at < sizeof list; at += 4) header(list + at, sizeof list - at, 5);
+}
+
+static void *nothing(void *wrong) { return wrong; }
+static void *check(void *wrong) { return linkinfo_check(list, sizeof list).cause == 0 ? NULL : wrong; }
+static void *count(void *wrong) { return linkinfo_count(list, sizeof list).count == 2 + LISTS ? NULL : wrong; }
+static void *same(void *wrong) {
+  uint8_t padded[sizeof list + 4];
+  memcpy(padded, list, sizeof list);
+  header(padded + sizeof list, 4, 0);
+  struct linkinfo_same itself = linkinfo_same(list, sizeof list, list, sizeof list), other = linkinfo_same(list, sizeof list, padded, sizeof padded);
+  return itself.same && other.fault.cause == 0 && !other.same ? NULL : wrong;
+}
+static void *canon(void *wrong) {
+  uint8_t buffer[sizeof list];
+  return linkinfo_canon(list, sizeof list, buffer, sizeof buffer).length == sizeof list && memcmp(buffer, list, sizeof list) == 0 ? NULL : wrong;
+}
+static void *placed(void *wrong) { return linkinfo_check_placed(list, sizeof list).fault.cause == 0 ? NULL : wrong; }
+static void *items(void *wrong) {
+  struct linkinfo_item found[2];
+  return linkinfo_items(list, sizeof list, found, 2).count == 2 ? NULL : wrong;
+}
+
+/* The bytes of a stack of its own that a call changed, or 0 where it answered wrong. */
+static size_t stack_of(void *(*call)(void *)) {
+  static uint8_t wrong;
+  uint8_t *stack = mmap(NULL, STACK, PROT_READ | PROT_WRITE, MAP_PRIVATE | MAP_ANONYMOUS, -1, 0);
+  if (stack == MAP_FAILED) return 0;
+  memset(stack, FILL, STACK);
+  pthread_attr_t attributes;
+  pthread_t thread;
+  void *answer = &wrong;
+  if (pthread_attr_init(&attributes) == 0 && pthread_attr_setstack(&attributes, stack, STACK) == 0 && pthread_create(&thread, &attributes, call, &wrong) == 0)
+    pthread_join(thread, &answer);
+  size_t left = 0;
+  while (left < STACK && stack[left] == FILL) left++;
+  munmap(stack, STACK);
+  return answer == NULL || call == nothing ? STACK - left : 0;
+}
+
+int main(void) {
+  const struct {
+    const char *name;
+    void *(*call)(void *);
+  } calls[] = {{"check", check}, {"same", same}, {"count", count}, {"canon", canon}, {"check_placed", placed}, {"items", items}};
+  int status = 0;
+  make_list();
+  size_t thread = stack_of(nothing);
+  for (size_t i = 0; i < sizeof calls / sizeof *calls; i++) {
+    size_t taken = stack_of(calls[i].call);
+    printf("linkinfo_%s: %zu bytes of stack\n", calls[i].name, taken == 0 ? 0 : taken - thread);
+    if (taken == 0 || taken - thread > MOST) status = 1;
+  }
+  return status;
+}

@@ -1,0 +1,3 @@
+pub mod Framed
+pub mod Listing
+pub mod Walked

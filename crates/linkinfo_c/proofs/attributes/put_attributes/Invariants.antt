@@ -1,0 +1,10 @@
+use Rattle.std.proofs.Common.{length}
+use Rattle.nla_frame.specs.Walk.{items_left}
+use Rattle.linkinfo_c.proofs.Framed.{Framed}
+use Rattle.linkinfo_c.proofs.attributes.put_attributes.Given as goal
+
+abbrev pub invariant-loop-next : goal.invariant-loop-next
+invariant-loop-next l = Framed l.bytes l.family l.kind l.initial.attributes l.attributes l.count l.place l.nlas
+
+abbrev pub decreases-loop-next : goal.decreases-loop-next
+decreases-loop-next l = length (items_left l.nlas)
