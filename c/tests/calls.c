@@ -343,6 +343,14 @@ static void worked_canon(void) {
   memcpy(letters, "\xff\xff\1\0", 4);
   canon = linkinfo_canon(letters, sizeof letters, large, sizeof large);
   CHECK(canon.status == LINKINFO_CANON_UNFIT && canon.length == 0 && is_none(canon.fault));
+  /* one letter less leaves room for its NUL, the most that a length field says */
+  letters[0] = 0xfe;
+  memset(large, GUARD, sizeof large);
+  canon = linkinfo_canon(letters, sizeof letters - 1, large, 65535);
+  CHECK(canon.status == LINKINFO_CANON_SHORT && canon.length == 65536 && is_guard(large, sizeof large));
+  canon = linkinfo_canon(letters, sizeof letters - 1, large, 65536);
+  CHECK(canon.status == LINKINFO_CANON_WRITTEN && canon.length == 65536 && memcmp(large, "\xff\xff\1\0", 4) == 0);
+  CHECK(memcmp(large + 4, letters + 4, sizeof letters - 5) == 0 && large[65534] == 0 && large[65535] == 0 && is_guard(large + 65536, sizeof large - 65536));
 }
 
 /* Lists inside lists: 128 are read, and one more is refused where its data stands. */
