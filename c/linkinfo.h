@@ -3,14 +3,16 @@
  * linkinfo: what stands inside IFLA_LINKINFO (include/uapi/linux/if_link.h) checked, compared, written in its canonical form and gone over, by proved code.
  *
  * A list is given as a pointer to its bytes and their number, without the header of IFLA_LINKINFO itself. A null pointer with length 0 is the
- * empty list; a null pointer with another length is the caller's fault, as a length is above what the pointer points to.
+ * empty list, array, buffer or name; a null pointer with another length is the caller's fault, as a length is above what the pointer points to.
+ * Arrays and buffers to be written to may hold anything.
  *
  * Every call returns, whatever the bytes are. No call keeps a pointer, allocates, has a global, takes a lock or calls back: each may be called in any
  * thread, and in a signal handler with room for it: a call takes up to 24 KiB of stack, which is more than SIGSTKSZ. What a call writes to must not overlap
  * what it reads.
  *
  * A number in one of the tables below stays what it is: new ones come at the end. Structs do not grow; a new answer is a new call.
- * Native numbers are little-endian; big-endian machines are not supported.
+ * Native numbers are little-endian; big-endian machines are not supported. In C++, where linkinfo_same, linkinfo_canon and linkinfo_count are each a struct
+ * and a call, the struct is written with the word, as `struct linkinfo_same`.
  */
 #ifndef LINKINFO_H
 #define LINKINFO_H
@@ -213,7 +215,7 @@ struct linkinfo_item {
 /* How many attributes were found, and what ends them. */
 struct linkinfo_found {
   struct linkinfo_fault fault;
-  size_t place; /* where that fault stands; the number of bytes without one */
+  size_t place; /* where that fault stands; without one the number of bytes, or 0 where data is bytes */
   size_t count; /* how many there are in all, whatever the array holds */
 };
 
@@ -248,7 +250,7 @@ enum linkinfo_shape {
   LINKINFO_SHAPE_FLAG_PAIR = 20, /* flags and their mask, little-endian, of four bytes each */
   LINKINFO_SHAPE_EMPTY_OR_BYTE = 21, /* nothing or one byte */
   LINKINFO_SHAPE_SCRUB = 22, /* a little-endian number of four bytes: 0 is no scrubbing */
-  LINKINFO_SHAPE_RAW = 23, /* any bytes */
+  LINKINFO_SHAPE_RAW = 23, /* any bytes; no call here answers it */
   LINKINFO_SHAPE_SELF_LIST = 24, /* a list of attributes of the same family */
   LINKINFO_SHAPE_PEER = 25 /* the peer of a veth, vxcan or netkit */
 };
@@ -265,8 +267,8 @@ struct linkinfo_attribute {
 
 /* The attributes inside data of a kind, or inside port data of a port kind, given as the payload that an item holds (type 2 or 5) and the number of the kind
  * or port kind in force before it. As many as the array holds, which stays as it was behind them, up to the first that has no header. Where such data is bytes
- * there are none, and place is 0. Data of bonds, bridges, vlan, tun, hsr, can, dsa and wireguard, and of ports of bonds and bridges, has attributes without a
- * known shape: a vlan's number is two bytes that the caller reads. The payload of shape SELF_LIST is such data again. What follows the first attribute of veth and vxcan data is here
+ * there are none, and place is 0. Data of bonds, bridges, vlan, tun, hsr, can, dsa, wireguard and pfcp, and of ports of bonds, bridges and teams, has attributes
+ * without a known shape: a vlan's number is two bytes that the caller reads. The payload of shape SELF_LIST is such data again. What follows the first attribute of veth and vxcan data is here
  * too; who reads such data drops it. Payloads are not refused here: that is for linkinfo_check of the list. */
 struct linkinfo_found linkinfo_attributes(const uint8_t *LINKINFO_RESTRICT bytes, size_t length, uint16_t kind,
                                           struct linkinfo_attribute *LINKINFO_RESTRICT attributes, size_t attributes_length);

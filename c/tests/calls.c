@@ -16,6 +16,19 @@
 
 enum { ROOM = 1 << 16, GUARD = 0xa5, GUARDS = 64 };
 
+/* What the library passes, as the compilers of every language have to lay it out. */
+_Static_assert(sizeof(struct linkinfo_fault) == 8 && offsetof(struct linkinfo_fault, type) == 2 && offsetof(struct linkinfo_fault, cause) == 4, "fault");
+_Static_assert(sizeof(struct linkinfo_placed_fault) == 16 && offsetof(struct linkinfo_placed_fault, place) == 8, "placed fault");
+_Static_assert(sizeof(struct linkinfo_same) == 16 && offsetof(struct linkinfo_same, faulty) == 8 && offsetof(struct linkinfo_same, same) == 12, "same");
+_Static_assert(sizeof(struct linkinfo_canon) == 24 && offsetof(struct linkinfo_canon, status) == 8 && offsetof(struct linkinfo_canon, length) == 16, "canon");
+_Static_assert(sizeof(struct linkinfo_count) == 16 && offsetof(struct linkinfo_count, count) == 8, "count");
+_Static_assert(sizeof(struct linkinfo_found) == 24 && offsetof(struct linkinfo_found, place) == 8 && offsetof(struct linkinfo_found, count) == 16, "found");
+_Static_assert(sizeof(struct linkinfo_item) == 24 && offsetof(struct linkinfo_item, length) == 8 && offsetof(struct linkinfo_item, raw_type) == 16 &&
+                   offsetof(struct linkinfo_item, kind) == 18 && offsetof(struct linkinfo_item, port_kind) == 20, "item");
+_Static_assert(sizeof(struct linkinfo_attribute) == 32 && offsetof(struct linkinfo_attribute, length) == 8 && offsetof(struct linkinfo_attribute, number) == 16 &&
+                   offsetof(struct linkinfo_attribute, raw_type) == 24 && offsetof(struct linkinfo_attribute, shape) == 26 &&
+                   offsetof(struct linkinfo_attribute, is_number) == 28, "attribute");
+
 /* The end of ROOM bytes of memory behind which no memory is. */
 static uint8_t *guarded(void) {
   size_t page = (size_t)sysconf(_SC_PAGESIZE);
@@ -42,6 +55,9 @@ static void guards_stand(size_t size) {
 }
 
 static int is_none(struct linkinfo_fault fault) { return fault.family == 0 && fault.type == 0 && fault.cause == 0; }
+
+/* A cause that the header says is answered. */
+static int is_answered(uint32_t cause) { return cause <= LINKINFO_CAUSE_ADDRESS_KIND || cause == LINKINFO_CAUSE_DEPTH; }
 
 static int equal(struct linkinfo_fault a, struct linkinfo_fault b) { return a.family == b.family && a.type == b.type && a.cause == b.cause; }
 
@@ -100,7 +116,7 @@ static int is_guard(const void *memory, size_t size) {
 static void items_of(const uint8_t *bytes, size_t length) {
   static struct linkinfo_item all[MOST_BYTES / 4 + 1];
   struct linkinfo_found found = linkinfo_items(bytes, length, all, length / 4);
-  CHECK(found.count <= length / 4 && found.place <= length);
+  CHECK(found.count <= length / 4 && found.place <= length && is_answered(found.fault.cause) && linkinfo_items(bytes, length, NULL, 0).count == found.count);
   struct linkinfo_fault fault = linkinfo_check(bytes, length);
   if (is_none(fault)) {
     static struct linkinfo_item wanted[MOST_BYTES / 4 + 1];
@@ -152,7 +168,7 @@ static int equal_attributes(const struct linkinfo_attribute *a, const struct lin
 static size_t attributes_of(const uint8_t *bytes, size_t length, uint16_t kind) {
   static struct linkinfo_attribute all[MOST_BYTES / 4 + 1];
   struct linkinfo_found found = linkinfo_attributes(bytes, length, kind, all, length / 4);
-  CHECK(found.count <= length / 4 && found.place <= length);
+  CHECK(found.count <= length / 4 && found.place <= length && linkinfo_attributes(bytes, length, kind, NULL, 0).count == found.count);
   size_t place = 0;
   for (size_t i = 0; i < found.count; i++) {
     CHECK(all[i].place == place && all[i].length == bytes[place] + 256u * bytes[place + 1] - 4 && all[i].raw_type == bytes[place + 2] + 256u * bytes[place + 3]);
@@ -245,6 +261,7 @@ static void canonical(const uint8_t *bytes, size_t length) {
 static void of_string(const uint8_t *bytes, size_t length) {
   bytes = at_end(bytes, length);
   struct linkinfo_fault fault = linkinfo_check(bytes, length);
+  CHECK(is_answered(fault.cause));
   struct linkinfo_count count = linkinfo_count(bytes, length);
   CHECK(equal(count.fault, fault) && count.count <= length / 4);
   struct linkinfo_same same = linkinfo_same(bytes, length, bytes, length);

@@ -41,6 +41,7 @@ static struct linkinfo_fault one(const uint8_t *bytes, size_t length) {
   struct linkinfo_placed_fault placed = linkinfo_check_placed(bytes, length);
   struct linkinfo_count count = linkinfo_count(bytes, length);
   struct linkinfo_found found = linkinfo_items(bytes, length, items, ROOM / 4);
+  CHECK(fault.cause <= LINKINFO_CAUSE_ADDRESS_KIND || fault.cause == LINKINFO_CAUSE_DEPTH);
   CHECK(memcmp(&placed.fault, &fault, sizeof fault) == 0 && memcmp(&count.fault, &fault, sizeof fault) == 0 && count.count <= length / 4);
   CHECK(linkinfo_fault_text(fault, text, sizeof text) == strlen(text) && (text[0] != 0) == (fault.cause != 0));
   CHECK(found.count <= length / 4 && found.place <= length && (fault.cause != 0 || (found.fault.cause == 0 && found.place == length)));

@@ -45,6 +45,26 @@ static void *items(void *wrong) {
   struct linkinfo_item found[2];
   return linkinfo_items(list, sizeof list, found, 2).count == 2 ? NULL : wrong;
 }
+static void *attributes(void *wrong) {
+  struct linkinfo_attribute found[2];
+  return linkinfo_attributes(list + 16, sizeof list - 16, LINKINFO_KIND_MACVLAN, found, 2).count == 1 ? NULL : wrong;
+}
+static void *texts(void *wrong) {
+  char text[32];
+  struct linkinfo_fault fault = {LINKINFO_FAMILY_BRIDGEPORT, 65535, LINKINFO_CAUSE_ADDRESS_KIND};
+  return linkinfo_fault_text(fault, text, sizeof text) == 28 && linkinfo_family_name(fault.family, text, sizeof text) == 10 &&
+                 linkinfo_cause_name(fault.cause, text, sizeof text) == 11
+             ? NULL
+             : wrong;
+}
+static void *names(void *wrong) {
+  char text[32];
+  return linkinfo_kind_name(LINKINFO_KIND_IP6ERSPAN, text, sizeof text) == 9 && linkinfo_kind_of_name("ip6erspan", 9) == LINKINFO_KIND_IP6ERSPAN &&
+                 linkinfo_port_kind_name(LINKINFO_PORT_KIND_BRIDGE, text, sizeof text) == 6 &&
+                 linkinfo_port_kind_of_name("bridge", 6) == LINKINFO_PORT_KIND_BRIDGE
+             ? NULL
+             : wrong;
+}
 
 /* The bytes of a stack of its own that a call changed, or 0 where it answered wrong. */
 static size_t stack_of(void *(*call)(void *)) {
@@ -67,7 +87,8 @@ int main(void) {
   const struct {
     const char *name;
     void *(*call)(void *);
-  } calls[] = {{"check", check}, {"same", same}, {"count", count}, {"canon", canon}, {"check_placed", placed}, {"items", items}};
+  } calls[] = {{"check", check}, {"same", same}, {"count", count}, {"canon", canon}, {"check_placed", placed}, {"items", items}, {"attributes", attributes},
+               {"fault_text, _family_name, _cause_name", texts}, {"kind_name, _kind_of_name, _port_kind_name, _port_kind_of_name", names}};
   int status = 0;
   make_list();
   size_t thread = stack_of(nothing);

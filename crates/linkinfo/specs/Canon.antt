@@ -28,11 +28,11 @@ abbrev pub CanonRefuses : {F : Type 0} → (F → Attribute) → Result (List F)
 CanonRefuses attribute meaning (refused.Refused fault) = fault ≢ memory_fault → meaning ≡ Err fault
 CanonRefuses attribute meaning refused.Unfit = IsUnfit attribute meaning
 
--- what no want of memory stands in the way of: the fault, and the string of the empty list
-abbrev pub CanonIsCertain : {F V : Type 0} → Result (List F) DecodeError → Result V CanonError → Type 0
-CanonIsCertain (Err fault) result = result ≡ Err (refused.Refused fault)
-CanonIsCertain (Ok []) result = IsOk result
-CanonIsCertain (Ok (x ∷ list)) result = Unit {0}
+-- what no want of memory stands in the way of: the fault, that a list does not fit, and the string of the empty list
+abbrev pub CanonIsCertain : {F V : Type 0} → (F → Attribute) → Result (List F) DecodeError → Result V CanonError → Type 0
+CanonIsCertain attribute (Err fault) result = result ≡ Err (refused.Refused fault)
+CanonIsCertain attribute (Ok []) result = IsOk result
+CanonIsCertain attribute (Ok (x ∷ list)) result = ¬ ListFits (map attribute (x ∷ list)) → result ≡ Err refused.Unfit
 
 -- ---- written into a buffer
 

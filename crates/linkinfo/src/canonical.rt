@@ -1,11 +1,11 @@
 //! The canonical string of what a string means.
 
-ghost use Rattle.std.specs.Prelude.{◌≡◌, false, IfErr, IfOk};
+ghost use Rattle.std.specs.Prelude.{◌≡◌, IfErr, IfOk};
 ghost use Rattle.nla_frame.specs.Error.{memory_fault};
 ghost use Rattle.linkinfo_data.specs.BytesPeer.{bytes_peer};
 ghost use Rattle.linkinfo.specs.Canon.{CanonIsCertain, CanonRefuses, IsCanonical, canon_error_text};
 ghost use Rattle.linkinfo.specs.Items.{link_attribute};
-ghost use Rattle.linkinfo.specs.Strings.{reading, reading_needs_memory};
+ghost use Rattle.linkinfo.specs.Strings.{reading};
 ghost use Rattle.linkinfo.specs.declared.canonical.CanonError.TheVariants as refused;
 
 use crate::canonicalize::{canonical_len_of, put_canonical_of};
@@ -68,13 +68,13 @@ impl ExactEq for CanonError {
 
 /// The canonical string of the list that the bytes frame, with peers of type `P`: that of `parse` and `to_vec`, without values.
 ///
-/// Refused with the fault of `parse`, as `Unfit` where the list does not fit, and with (Frame, 0, Memory) where an allocation was refused. A fault
+/// Refused with the fault of `parse`, as `Unfit` where the list does not fit, and with (Frame, 0, Memory) where an allocation was refused. A refusal
 /// and the empty string take no memory.
 #[tactic(auto, using(crate::proofs::Writing::length_accepted, crate::proofs::Writing::length_fits, crate::proofs::Writing::length_same, crate::proofs::Writing::written_whole))]
 pub fn canon_of<P: LinkPeer>(alloc: Global, bytes: &[u8]) -> Result<Vec<u8>, CanonError>
     ensures string { IfOk result (λ canonical. IsCanonical (link_attribute ⟦<P as DataFamilies>⟧.families) (reading ⟦<P as DataFamilies>⟧.families bytes.now) canonical.items) }
     ensures refused { IfErr result (CanonRefuses (link_attribute ⟦<P as DataFamilies>⟧.families) (reading ⟦<P as DataFamilies>⟧.families bytes.now)) }
-    ensures certain { reading_needs_memory ⟦<P as DataFamilies>⟧.families bytes.now ≡ false → CanonIsCertain (reading ⟦<P as DataFamilies>⟧.families bytes.now) result }
+    ensures certain { CanonIsCertain (link_attribute ⟦<P as DataFamilies>⟧.families) (reading ⟦<P as DataFamilies>⟧.families bytes.now) result }
 {
     let len = canonical_len_of::<P>(bytes)?;
     let mut string = Vec::new(alloc);
@@ -91,7 +91,7 @@ pub fn canon_of<P: LinkPeer>(alloc: Global, bytes: &[u8]) -> Result<Vec<u8>, Can
 pub fn canon(alloc: Global, bytes: &[u8]) -> Result<Vec<u8>, CanonError>
     ensures string { IfOk result (λ canonical. IsCanonical (link_attribute bytes_peer) (reading bytes_peer bytes.now) canonical.items) }
     ensures refused { IfErr result (CanonRefuses (link_attribute bytes_peer) (reading bytes_peer bytes.now)) }
-    ensures certain { reading_needs_memory bytes_peer bytes.now ≡ false → CanonIsCertain (reading bytes_peer bytes.now) result }
+    ensures certain { CanonIsCertain (link_attribute bytes_peer) (reading bytes_peer bytes.now) result }
 {
     canon_of::<Bytes>(alloc, bytes)
 }

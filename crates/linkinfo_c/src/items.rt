@@ -32,7 +32,7 @@ pub struct LinkinfoItem {
 pub struct LinkinfoFound {
     /// The fault that ends them, or none.
     pub fault: LinkinfoFault,
-    /// Where that fault stands; the number of bytes without one.
+    /// Where that fault stands; without one the number of bytes, or 0 where data is bytes.
     pub place: usize,
     /// How many there are in all, whatever the array holds.
     pub count: usize,
