@@ -105,6 +105,7 @@ fn same_strings<P: LinkPeer>(a: &[u8], b: &[u8], count: &mut HeaderCount) -> boo
 }
 
 /// Checks a whole string, and counts each header once.
+#[inline(always)]
 #[tactic(auto, unfolding(crate::specs::Strings::reading, crate::specs::Strings::headers_of_string))]
 fn check_string<P: LinkPeer>(bytes: &[u8], count: &mut HeaderCount) -> Result<(), DecodeError>
     requires { count.old + length bytes.now / 4 < 2 ^ 64 }

@@ -64,6 +64,7 @@ impl<P: LinkPeer> PayloadFamily<InfoDataOf<P>> for DeviceFamily {
         })
     }
 
+    #[inline(always)]
     fn check(self, payload: &[u8], count: &mut HeaderCount) -> Result<(), DecodeError> {
         match self {
             DeviceFamily::IpVlan => list_check::<InfoIpVlan>(payload, (), count),

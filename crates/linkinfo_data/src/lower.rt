@@ -52,6 +52,7 @@ impl<P: LinkPeer> PayloadFamily<InfoDataOf<P>> for LowerFamily {
         })
     }
 
+    #[inline(always)]
     fn check(self, payload: &[u8], count: &mut HeaderCount) -> Result<(), DecodeError> {
         match self {
             LowerFamily::Bridge => list_check::<InfoBridge>(payload, (), count),

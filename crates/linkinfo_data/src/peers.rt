@@ -64,6 +64,7 @@ impl<P: LinkPeer> PayloadFamily<InfoDataOf<P>> for PeeredFamily {
         })
     }
 
+    #[inline(always)]
     fn check(self, payload: &[u8], count: &mut HeaderCount) -> Result<(), DecodeError> {
         match self {
             PeeredFamily::Tun => list_check::<InfoTun>(payload, (), count),

@@ -82,6 +82,7 @@ impl PayloadFamily<InfoPortData> for PortFamily {
         })
     }
 
+    #[inline(always)]
     fn check(self, payload: &[u8], count: &mut HeaderCount) -> Result<(), DecodeError> {
         match self {
             PortFamily::Bond => list_check::<InfoBondPort>(payload, (), count),

@@ -80,6 +80,7 @@ impl<P: LinkPeer> PayloadFamily<InfoDataOf<P>> for TunnelFamily {
         })
     }
 
+    #[inline(always)]
     fn check(self, payload: &[u8], count: &mut HeaderCount) -> Result<(), DecodeError> {
         match self {
             TunnelFamily::Vxlan => list_check::<InfoVxlan>(payload, (), count),
