@@ -1,0 +1,122 @@
+"""What a check's output says of a mutant.
+
+A mutant counts as refused only where the check says of the very function that its line `fn:` names
+that a goal is not proved which the function promises: what it ensures, at each return, and of its
+loops the invariant before the first round and after each, and that the measure falls. What a call
+requires (`CALLEE-requires`, also `unreachable!` and the measure of a recursion), an index in range
+(`bounds-`), a number that does not wrap (`overflow_`) or a divisor that is not 0 (`nonzero_`) does
+not count. Of an impl it counts that one of its laws has no proof.
+"""
+import itertools
+import re
+
+PROMISED = re.compile(r"returns(-|$)|loop-([\w-]+-)?(init|preserved|smaller)(-|$)")
+# Errors of a proof file that names a step or a field which the edit took away, or of what rests on
+# such an error. They say nothing of the contract.
+LOST = re.compile(r"has no field|is not in scope|has no `|cannot be named from here")
+AFTER_LOST = re.compile(r"was not admitted|was not checked")
+# The last line of a check, of a whole crate or of some functions.
+PROVED = re.compile(r"^logic=proved|^only=(\d+) proved=\1$", re.M)
+NOT_PROVED = re.compile(r"^logic=not-proved|^only=\d+ proved=", re.M)
+SEARCHED = re.compile(r"; `search` did not prove ((?:`[\w+-]+`(?:, )?)+)")
+NOTE = re.compile(r"note: src/\S+: it is not proved that ")
+NOTE_OF_GOAL = re.compile(r"note: src/\S+: it is not proved that .*? \(`([\w+-]+)`\)")
+IMPL_LAW = re.compile(r"impl \S+: not proved; antt refuses `([\w-]+)` in `[\w.]+\.TheImpl\.Laws`")
+
+
+def is_promised(function, goal):
+    """Whether a goal is one of what the function promises. The goals of mutually recursive
+    functions begin with the name of their own."""
+    return bool(PROMISED.match(goal.removeprefix(function.split("::")[-1] + "-")))
+
+
+def goal_of_error(error):
+    """The goal, lemma or invariant of an explicit proof in which an error is, or nothing."""
+    named = re.search(r": error: `([\w+-]+)`: ", error)
+    return named[1] if named else ""
+
+
+class Report:
+    """What a check printed."""
+
+    def __init__(self, text, status, seconds=0.0):
+        self.lines, self.seconds = text.split("\n"), seconds
+        # (a crate that does not compile, or a check that was stopped, has no such last line)
+        self.is_proved = status == 0 and bool(PROVED.search(text))
+        self.is_judged = self.is_proved or status == 1 and bool(NOT_PROVED.search(text))
+
+    def line_of(self, function):
+        """The check's line of a function or an impl, or nothing."""
+        starts = (f"fn {function}: ", f"impl {function}: ")
+        return next((it for it in self.lines if it.startswith(starts)), "")
+
+    def is_proved_line(self, function):
+        return bool(re.match(r"\w+ \S+: proved\b", self.line_of(function)))
+
+    def refuses(self, edit):
+        """What shows that a goal which the edit's function promises is not proved, or nothing."""
+        line = self.line_of(edit.function)
+        if line.startswith("impl "):
+            return self.law_refused(edit.function, line)
+        if not re.search(r": (not proved|no proof)", line):
+            return ""
+        goals = SEARCHED.search(line)
+        names = re.findall(r"`([\w+-]+)`", goals[1]) if goals else []
+        searched = [line] if any(is_promised(edit.function, it) for it in names) else []
+        errors = self.errors_of(edit.function)
+        noted = self.promises_noted(edit.function, line)
+        explicit = [it for it in errors if not AFTER_LOST.search(it)
+                    and is_promised(edit.function, goal_of_error(it))]
+        # Where explicit answers fail and name steps that are gone or others now, a right body has
+        # open goals too. A goal that is false has no proof in any words.
+        if errors and edit.moves_steps or any(map(LOST.search, errors)):
+            explicit, searched = [], []
+            noted = [it for it in noted if "at which this goal is false" in it]
+        return next(iter(explicit + searched + noted), "")
+
+    def law_refused(self, path, line):
+        """The error that says that a law of the impl has no proof, or nothing."""
+        law = IMPL_LAW.match(line)
+        for it in self.before(line) if law and f".{path.split('::')[-1]}.TheImpl." in line else []:
+            if re.match(rf"src/\S+: error: `{re.escape(law[1])}`: ", it) and not LOST.search(it):
+                return it
+        return ""
+
+    def kinds_of(self, edit):
+        """Of which kinds a right body is: that its function is still proved, or what is changed in
+        or about one that is not."""
+        if self.is_proved_line(edit.function):
+            return {"outside"} if edit.is_outside else {"still proved"}
+        errors = self.errors_of(edit.function)
+        are_lost = any(map(LOST.search, errors))
+        is_moved = bool(errors) and edit.moves_steps and not are_lost
+        told = {"names lost": are_lost, "steps moved": is_moved}
+        about = {"ring": edit.is_in_ring, "loop": edit.has_loop, "constant": edit.is_constant}
+        return {it for it, is_told in {**told, **about}.items() if is_told}
+
+    def errors_of(self, function):
+        """The errors in the function's explicit proof, or, where mutually recursive functions have
+        one proof, at the goals and invariants of this one."""
+        *inside, name = function.split("::")[1:]
+        own = re.escape("/".join([*inside, name])) + r"/\S+: error"
+        shared = "/".join([*inside, rf"\+\w+/\S+: error: `(invariant-|decreases-)?{name}[-`]"])
+        mine = re.compile(rf"(\./)?proofs/({own}|{shared})")
+        return [" ".join([it, *self.after(at)]) for at, it in enumerate(self.lines)
+                if mine.match(it)]
+
+    def after(self, at):
+        """The lines that continue the message of a line: those below it that are indented."""
+        below = self.lines[at + 1 :]
+        return [it.strip() for it in itertools.takewhile(lambda it: it.startswith("  "), below)]
+
+    def promises_noted(self, function, line):
+        """The notes before a function's line on goals which it promises. The open goal is named in
+        parentheses."""
+        noted = [(it, NOTE_OF_GOAL.match(it)) for it in self.before(line) if NOTE.match(it)]
+        return [note for note, goal in noted if goal and is_promised(function, goal[1])]
+
+    def before(self, line):
+        """The lines before a function's or an impl's line that are of it, the nearest first."""
+        above = reversed(self.lines[: self.lines.index(line)])
+        item = re.compile(r"(fn|impl|struct|enum|trait) ")
+        return list(itertools.takewhile(lambda it: not item.match(it), above))

@@ -1,0 +1,165 @@
+"""The command `./wrong`."""
+import os
+import re
+import sys
+import tempfile
+from concurrent.futures import ThreadPoolExecutor
+
+from . import seen
+from .batches import Lane
+from .crates import PARTS, ROOT, BadEdit, below, crates_of, folder_of, jobs, write
+from .edits import CONTROL, Edit
+from .marks import Marks
+from .proving import prove
+from .rooms import leave_stamps, stamps_of
+from .tally import Tally
+
+USAGE = """./wrong: tries the mutants whose verdict can have changed, and a draw of the others.
+./wrong --all: tries every mutant, and writes wrong.seen.
+./wrong CRATE..: tries those of the named crates that were not seen refused as they are.
+./wrong --behind-gate [--all]: the same without proving anything first, right after `rt ci`.
+./wrong --stamps: right after `rt ci`, marks the libraries that it built as built."""
+# The kinds of right bodies of which a run of all mutants needs one each.
+CONTROLS = {"still proved", "names lost", "steps moved", "ring", "loop", "constant", "outside"}
+FOLDERS = {*PARTS, "wrong", "must-fail", "out", "data"}
+
+
+def edits_of(crate, tally):
+    """The edits of a crate that can be applied. What else is in their folders counts as failed."""
+    found, folder = [], folder_of(crate)
+    for name in folder.names("."):
+        if name not in FOLDERS and os.path.isdir(f"{folder.top}/{name}"):
+            tally.say(f"{crate}/{name}", "no folder of that name is read", False)
+    for at in ("wrong", CONTROL):
+        for name in folder.names(at):
+            if name.endswith(".edit"):
+                edit = Edit(crate, f"{at}/{name}")
+                try:
+                    edit.look(folder)
+                    found.append(edit)
+                except BadEdit as why:
+                    tally.failed(edit, str(why))
+            elif f"{at}/{name}" != CONTROL:
+                tally.say(f"{crate}/{at}/{name}", "it is no file NAME.edit", False)
+    if has_contracts(folder) and all(it.is_control for it in found):
+        tally.say(f"{crate}/wrong", "there is no mutant of this crate", False)
+    return found
+
+
+def has_contracts(folder):
+    """Whether a function of the crate promises something. Those of tests do so for tests alone."""
+    files = [it for it in folder.files("src") if not re.match(r"src/tests[./]", it)]
+    return any(re.search(r"^ *ensures ", folder.read(it), re.M) for it in files)
+
+
+def try_crate(crates, edits, tally, top, stamps, lanes):
+    """Tries these edits of a crate, in so many lanes side by side."""
+    lanes = min(lanes, len(edits))
+    with ThreadPoolExecutor(lanes or 1) as pool:
+        parts = [edits[at::lanes] for at in range(lanes)]
+        tried = pool.map(lambda at: Lane(crates, tally.crate, f"{top}/{tally.crate}-{at}", stamps)
+                         .try_all(parts[at], seen.draw()), range(lanes))
+        for it in tried:
+            tally.add(it)
+    print("\n".join([*tally.lines, tally.summary()]), flush=True)
+    return tally
+
+
+def try_crates(crates, edits, tallies, stamps):
+    """Tries the edits of all crates, first of those that take the longest."""
+    by_crate = {name: [it for it in edits if it.crate == name] for name in tallies}
+    names = sorted(tallies, key=lambda it: -len(by_crate[it]) * (1 + len(below(crates, it))))
+    busy = sum(bool(it) for it in by_crate.values()) or 1
+    with tempfile.TemporaryDirectory(prefix="wrong-") as top:
+        with ThreadPoolExecutor(jobs()) as pool:
+            # (of few crates the edits of each go in several lanes)
+            lanes = max(1, jobs() // busy)
+            list(pool.map(lambda it: try_crate(crates, by_crate[it], tallies[it], top, stamps,
+                                               lanes), names))
+
+
+def kept_path(crate):
+    return f"{ROOT}/crates/{crate}/out/wrong"
+
+
+def new_of(edits, tallies):
+    """The edits that earlier runs over named crates have not seen refused as they are. Right bodies
+    go along with mutants alone."""
+    marks, found = Marks(ROOT), []
+    for crate, tally in tallies.items():
+        folder = folder_of(crate)
+        kept = {*folder.read("out/wrong").split("\n")} if folder.has("out/wrong") else set()
+        own = [it for it in edits if it.crate == crate]
+        known = [it for it in own if not it.is_control and f"{it.label} {marks.mark(it)}" in kept]
+        tally.seen += known
+        left = [it for it in own if it not in known]
+        found += left if any(not it.is_control for it in left) else []
+        if known:
+            tally.lines.append(f"wrong: {crate}: {len(known)} not tried: seen refused, and nothing "
+                               "that the verdict rests on has changed since")
+    return found
+
+
+def keep(tallies):
+    """Keeps which edits were seen refused."""
+    marks = Marks(ROOT)
+    for crate, tally in tallies.items():
+        write(kept_path(crate), "\n".join(f"{it.label} {marks.mark(it)}" for it in tally.seen))
+
+
+def main(words):
+    crates, named = crates_of(), [it for it in words if not it.startswith("--")]
+    flags = {*words} - {*named}
+    unknown = [it for it in named if it not in crates]
+    if unknown or flags - {"--all", "--behind-gate", "--stamps"} or named and flags:
+        why = f"wrong: crates.txt names no crate {unknown[0]}" if unknown else USAGE
+        print(why, file=sys.stderr)
+        return 2
+    if "--stamps" in flags:
+        return leave_stamps(crates)
+    tallies = {it: Tally(it) for it in crates if not named or it in named}
+    edits = [edit for it, tally in tallies.items() for edit in edits_of(it, tally)]
+    drawn, left = [], 0
+    if named:
+        stamps, unproved = None, prove(named)
+    else:
+        stamps = stamps_of(crates) if "--behind-gate" in flags else None
+        if "--behind-gate" in flags and not stamps:
+            print("wrong: the libraries are not all as one run of `rt ci` built them, so the "
+                  "crates are proved first", flush=True)
+        unproved = [] if stamps else prove([])
+    if unproved is None:
+        print("0 passed, 1 failed")
+        return 1
+    if named:
+        edits = new_of(edits, tallies)
+    elif "--all" not in flags:
+        edits, drawn, left, said = seen.chosen(edits)
+        print(f"wrong: {said}", flush=True)
+    try_crates(crates, edits, tallies, stamps)
+    if named:
+        keep(tallies)
+    return conclude(tallies, unproved, named, drawn, left, "--all" in flags)
+
+
+def conclude(tallies, unproved, named, drawn, left, is_all):
+    """Prints the counts, and returns the status."""
+    passed = sum(it.passes for it in tallies.values())
+    failed = sum(it.failures for it in tallies.values()) + len(unproved)
+    for name in unproved:
+        print(f"wrong: {name}: the crate as it is is not proved")
+    missing = CONTROLS.difference(*[it.controls for it in tallies.values()])
+    if missing and not named:
+        print(f"wrong: no right body of these kinds was tried: {', '.join(sorted(missing))}")
+        failed += 1
+    refused = {edit.label for it in tallies.values() for edit in it.seen}
+    void = [it.label for it in drawn if it.label not in refused]
+    if void:
+        print(f"wrong: FAILED: wrong.seen is void: drawn and not refused: {', '.join(void)}")
+    if is_all and not failed:
+        print(f"wrong: {seen.write_seen()}")
+    tried = len(refused)
+    print(f"wrong: {tried} mutants tried and refused, {len(drawn)} of them drawn; {left} not "
+          "tried, since nothing that their verdict rests on has changed")
+    print(f"{passed} passed, {failed} failed")
+    return 1 if failed else 0

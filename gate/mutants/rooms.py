@@ -1,0 +1,96 @@
+"""Copies of crates in which mutants are checked, and the libraries that `rt ci` has built."""
+import importlib.machinery
+import importlib.util
+import os
+import re
+import shutil
+import subprocess
+import sys
+
+from .crates import PARTS, ROOT, below, folder_of, write
+from .judging import Report
+
+
+def check(folder, texts, only=()):
+    """Checks the crate in that folder with these texts in place of its own: whole, or only these
+    functions and those that they call."""
+    own = {path: folder.read(path) for path in texts}
+    for path, text in texts.items():
+        write(f"{folder.top}/{path}", text)
+    try:
+        words = [word for it in sorted({*only}) for word in ("--only", it.partition("::")[2])]
+        return run(folder.top, words)
+    finally:
+        for path, text in own.items():
+            write(f"{folder.top}/{path}", text)
+
+
+def run(folder, words):
+    """Runs `rt check` with these words in the folder."""
+    words = ["rt", "check", "--jobs", "1", *words]
+    pipes = {"stdin": subprocess.DEVNULL, "stdout": subprocess.PIPE, "stderr": subprocess.STDOUT}
+    with subprocess.Popen(words, cwd=folder, text=True, errors="replace", **pipes) as started:
+        said = started.stdout.read()
+        _, status, used = os.wait4(started.pid, 0)
+        started.returncode = os.waitstatus_to_exitcode(status)
+    return Report(said, started.returncode, used.ru_utime + used.ru_stime)
+
+
+def room_for(crates, name, top, stamps):
+    """A copy of the crate, with what its check kept, and of the libraries below it as they were
+    built. With stamps the crate has no kept work, and each library its stamp."""
+    room = f"{top}/{name}"
+    os.makedirs(f"{room}/.git")
+    wanted = [*below(crates, name), name]
+    with open(f"{ROOT}/crates.txt", encoding="utf-8") as lines:
+        listed = [it for it in lines if re.match(r"\w*", it)[0] in wanted]
+    write(f"{room}/crates.txt", "".join(listed))
+    for it in wanted:
+        kept = ["out/rlib"] if it != name else [] if stamps else ["out"]
+        for part in (*PARTS, *kept):
+            if os.path.isdir(f"{ROOT}/crates/{it}/{part}"):
+                shutil.copytree(f"{ROOT}/crates/{it}/{part}", f"{room}/crates/{it}/{part}")
+        if stamps and it != name:
+            write(f"{room}/crates/{it}/out/rlib/stamp", stamps[it])
+    return folder_of(name, room)
+
+
+def stamps_of(crates):
+    """Right after `rt ci`: the stamp of each library, by which `rt check` knows it as built from
+    the files beside it, or None where one is not as built. `rt ci` itself leaves none: the
+    libraries of its run fit one another and no others, and a room has those of one run alone."""
+    command = os.path.dirname(os.path.realpath(shutil.which("rt") or ""))
+    try:
+        sys.dont_write_bytecode = True
+        loader = importlib.machinery.SourceFileLoader("rtlib", f"{command}/rtlib.py")
+        spec = importlib.util.spec_from_loader("rtlib", loader)
+        rtlib = importlib.util.module_from_spec(spec)
+        loader.exec_module(rtlib)
+        names = {it for deps in crates.values() for it in deps}
+        made = {it: rtlib.Crate(f"{ROOT}/crates/{it}", ROOT, {}).stamp() for it in names}
+    except (AttributeError, OSError, SystemExit, TypeError):
+        return None
+    # (libraries with a stamp of their own are not of `rt ci`'s run)
+    stamped = {os.path.isfile(f"{ROOT}/crates/{it}/out/rlib/stamp") for it in made}
+    is_one_run = len(stamped) == 1
+    return made if is_one_run and all(is_built(it, stamp) for it, stamp in made.items()) else None
+
+
+def is_built(name, stamp):
+    """Whether the library is built, no file of it is younger, and its stamp, if any, is this."""
+    folder = folder_of(name)
+    files = [f"{folder.top}/{it}" for part in PARTS for it in folder.files(part)]
+    own = folder.read("out/rlib/stamp") if folder.has("out/rlib/stamp") else stamp
+    built = f"{folder.top}/out/rlib/{name}.rlib"
+    if own != stamp or not os.path.isdir(built):
+        return False
+    return all(os.path.getmtime(it) < os.path.getmtime(built) for it in files)
+
+
+def leave_stamps(crates):
+    """Right after `rt ci`: gives each library that it built its stamp, so that `rt lib` takes the
+    library as it is. The status is 1 where not all are as built."""
+    stamps = stamps_of(crates)
+    for name, stamp in (stamps or {}).items():
+        write(f"{ROOT}/crates/{name}/out/rlib/stamp", stamp)
+    return 0 if stamps else 1

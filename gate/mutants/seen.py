@@ -1,0 +1,92 @@
+"""wrong.seen: the commit and the toolchain at which every mutant was last seen refused.
+
+`./wrong --all` alone writes it. At a landing a mutant whose verdict rests on the same as at that
+commit is not tried again, but for a draw.
+"""
+import io
+import random
+import re
+import subprocess
+import tarfile
+import tempfile
+
+from .crates import ROOT, toolchain, write
+from .marks import Marks
+
+SEEN = f"{ROOT}/wrong.seen"
+# Mutants drawn among those that need not be tried.
+DRAWN = 48
+
+
+def git(*words):
+    """What git prints, or None where it fails or is not there."""
+    try:
+        ran = subprocess.run(["git", "-c", "safe.directory=*", *words], cwd=ROOT,
+                             stdout=subprocess.PIPE, stderr=subprocess.DEVNULL, check=False)
+    except OSError:
+        return None
+    return ran.stdout if ran.returncode == 0 else None
+
+
+def commit_name():
+    """The name of the present commit, or nothing where there is no history."""
+    return (git("rev-parse", "HEAD") or b"").decode().strip()
+
+
+def draw():
+    """What is drawn with, by the present commit's name: nobody can know it before the commit is
+    made, and everybody can draw the same again."""
+    return random.Random(commit_name())
+
+
+def seen_commit():
+    """The commit of wrong.seen, and why it is of no use, if so."""
+    try:
+        with open(SEEN, encoding="utf-8") as it:
+            lines = it.read().splitlines()
+    except OSError:
+        return "", "there is no file wrong.seen"
+    named = re.fullmatch(r"([0-9a-f]{40}) (.+)", lines[0] if len(lines) == 1 else "")
+    if not named:
+        return "", "wrong.seen is no line of a commit and a toolchain"
+    if named[2] != toolchain():
+        return "", f"wrong.seen is of another toolchain: {named[2]}"
+    if git("merge-base", "--is-ancestor", named[1], "HEAD") is None:
+        return "", f"the history here has no commit {named[1]} before the present one"
+    return named[1], ""
+
+
+def unchanged(edits):
+    """Those of the edits whose verdict rests on the same as at the commit of wrong.seen, and what
+    to say of it."""
+    commit, why = seen_commit()
+    if why:
+        return [], f"every mutant is tried: {why}"
+    with tempfile.TemporaryDirectory(prefix="wrong-seen-") as old:
+        archive = git("archive", commit, "crates", "crates.txt", "gate", "wrong")
+        if archive is None:
+            return [], f"every mutant is tried: commit {commit} has not the code that judges"
+        with tarfile.open(fileobj=io.BytesIO(archive)) as it:
+            it.extractall(old, filter="data")
+        before, now = Marks(old), Marks(ROOT)
+        same = [it for it in edits if before.of_label(it.crate, it.path) == now.mark(it)]
+    return same, f"all mutants were last seen refused at commit {commit}"
+
+
+def chosen(edits):
+    """The edits to try at a landing, those of them that were drawn, the number of those not to be
+    tried, and what to say of it."""
+    same, said = unchanged([it for it in edits if not it.is_control])
+    drawn = draw().sample(same, min(DRAWN, len(same)))
+    left = {it.label for it in same} - {it.label for it in drawn}
+    return [it for it in edits if it.label not in left], drawn, len(left), said
+
+
+def write_seen():
+    """Names the present commit in wrong.seen, where the files that verdicts rest on are its files,
+    and says what was done."""
+    told = git("status", "--porcelain", "--", "crates", "crates.txt", "gate", "wrong")
+    if told is None or told.strip() or not commit_name():
+        return "wrong.seen stays: what was tried is not the present commit"
+    write(SEEN, f"{commit_name()} {toolchain()}\n")
+    return f"wrong.seen names the present commit {commit_name()}"

@@ -1,0 +1,115 @@
+"""Where the bodies of functions and the constants of a source file are.
+
+The toolchain's gate holds every file to one layout: a block ends at the first line of its own
+indentation that begins with a closing brace.
+"""
+import functools
+import re
+
+FUNCTION = re.compile(
+    r'\s*(?:pub(?:\([^)]*\))? )?(const )?(?:unsafe )?(?:extern "C" )?fn (\w+)'
+)
+BLOCK = re.compile(r"\s*(pub )?(unsafe )?(impl|trait)\b")
+CONSTANT = re.compile(
+    r"^ *(?:pub(?:\([^)]*\))? )?(?:const \w+: |type \w+ = )[^;]*;$", re.M | re.S
+)
+UNSEEN = re.compile(r"^\s*(//.*|#\[inline(\(\w+\))?\])\n", re.M)
+
+
+def words_of(kind):
+    """A type as the check writes it in the name of an impl: `&'a Vec<u8>` is RefVecU8. Lifetimes
+    and type parameters are left out."""
+    kind = re.sub(r"'\w+", "", kind).replace("&", " Ref ")
+    words = [it.split("::")[-1] for it in re.findall(r"[\w:]+", kind)]
+    return "".join(it[0].upper() + it[1:] for it in words if not re.fullmatch(r"[A-Z]|mut|dyn", it))
+
+
+def closing(text, at):
+    """Where the angle bracket at `at` closes."""
+    depth = 0
+    for place in range(at, len(text)):
+        depth += (text[place] == "<") - (text[place] == ">" and text[place - 1] != "-")
+        if depth == 0:
+            return place
+    return len(text)
+
+
+def block_name(header):
+    """The name of an impl or a trait in the paths of its functions: `impl From<u32> for AmtMode`
+    is AmtModeFromU32."""
+    header = re.sub(r"^(\s*(pub )?(unsafe )?)", "", header)
+    if header.startswith("trait"):
+        return re.match(r"trait (\w+)", header)[1]
+    header = re.sub(r"^impl\s*", "", header)
+    if header.startswith("<"):
+        header = header[closing(header, 0) + 1 :]
+    trait, _, kind = header.rpartition(" for ")
+    return (words_of(kind.partition("<")[0]) or "Any") + words_of(trait)
+
+
+@functools.cache
+def bodies_of(crate, path, text):
+    """The path, start and end of each function body of a file, and whether the function is const.
+    A body begins after the clauses."""
+    inside = path[len("src/") : -len(".rt")].split("/")
+    inside = [it for it in inside if it not in ("lib", "main", "mod")]
+    lines, at, found, block = text.split("\n"), 0, [], ("", "")
+    for number, line in enumerate(lines):
+        indent = line[: len(line) - len(line.lstrip())]
+        if BLOCK.match(line) and not line.endswith(("}", ";")):
+            block = (block_name(line.rstrip(" {")), indent)
+        elif line == block[1] + "}":
+            block = ("", "")
+        named = FUNCTION.match(line)
+        span = body_span(lines, number, at, indent) if named else None
+        if span:
+            names = [crate, *inside, *[it for it in [block[0]] if it], named[2]]
+            found.append(("::".join(names), *span, bool(named[1])))
+        at += len(line) + 1
+    return found
+
+
+def body_of(crate, path, text, function):
+    """Where the body of that function starts and ends, or twice the start of the file."""
+    found = (it[1:3] for it in bodies_of(crate, path, text) if it[0] == function)
+    return next(found, (0, 0))
+
+
+def body_span(lines, number, at, indent):
+    """Where the body of the function whose first line this is starts and ends in the text, or None
+    where the function has no body."""
+    start = None
+    for line in lines[number:]:
+        opens = line.endswith(" {") and not is_clause(line, indent)
+        if start is None and (line == indent + "{" or opens):
+            start = at + len(line)
+        if line == indent + "}" and start is not None:
+            return start, at
+        if start is None and (line == indent + "{}" or line.endswith(("{}", ";"))):
+            return None
+        at += len(line) + 1
+    return None
+
+
+def is_clause(line, indent):
+    """Whether a line of a function's head opens a clause that goes on below it, or is among its
+    generic bounds."""
+    return bool(re.match(indent + r"\s+(requires|ensures|ghost|measure|where)\b", line))
+
+
+def constants_of(text):
+    """Where each constant of a file starts and ends, and each type alias."""
+    return [it.span() for it in CONSTANT.finditer(text)]
+
+
+@functools.cache
+def visible(crate, path, text, shown=frozenset()):
+    """What a check of another function reads of a source file: all but comments, hints on inlining
+    and the bodies of functions, which contracts hide. Bodies of const functions, which a constant
+    may be made of, and of the functions in `shown` stay."""
+    found, at = [], 0
+    for name, start, end, is_const in bodies_of(crate, path, text):
+        if name not in shown and not is_const and at <= start:
+            found.append(text[at:start])
+            at = end
+    return UNSEEN.sub("", "".join([*found, text[at:]]))

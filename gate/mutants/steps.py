@@ -1,0 +1,44 @@
+"""Steps of a body that explicit proofs name.
+
+Answers by an author name a step by the function that is called and its number, so where an edit
+moves a call they fail for a right body too, and such a failure says nothing of the contract.
+"""
+import re
+
+# A call, by its function, a constant of a type parameter, and a `?`.
+STEP = re.compile(r"\b([a-z_]\w*)!?(?:::<[^()]*>)?\(|\b[A-Z]::([A-Z_]{2,})\b|(\?)")
+PROOFS = ("Answers.antt", "Invariants.antt")
+
+
+def are_moved(old, new):
+    """Whether the steps of a body are no more there in their number and order (steps of other names
+    may be in between), or the body has the same words in another order."""
+    words, other = [re.findall(r"\w+", body) for body in (old, new)]
+    before, after = [[next(filter(None, it)) for it in STEP.findall(body)] for body in (old, new)]
+    is_turned_round = words != other and sorted(words) == sorted(other)
+    return is_turned_round or [it for it in after if it in before] != before
+
+
+def proofs_in(path, folder):
+    """The texts of the explicit proof in a folder of the crate, by their names."""
+    return {it: folder.read(f"{path}/{it}") for it in PROOFS if folder.has(f"{path}/{it}")}
+
+
+def ring_of(function, folder):
+    """The folder, and the texts by their names, of the one explicit proof of mutually recursive
+    functions of which this is one, or twice nothing."""
+    *inside, name = function.split("::")[1:]
+    top = "/".join(["proofs", *inside])
+    goal = re.compile(rf"goal\.(invariant-|decreases-)?{name}(-|$)", re.M)
+    for it in folder.names(top):
+        texts = proofs_in(f"{top}/{it}", folder) if it.startswith("+") else {}
+        if any(map(goal.search, texts.values())):
+            return it, texts
+    return "", {}
+
+
+def names_steps(function, folder):
+    """Whether explicit answers, which name steps, are read for goals of the function."""
+    own = proofs_in("/".join(["proofs", *function.split("::")[1:]]), folder)
+    shared = ring_of(function, folder)[1].get("Answers.antt", "")
+    return "Answers.antt" in own or f"goal.{function.split('::')[-1]}-" in shared

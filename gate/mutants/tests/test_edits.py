@@ -1,0 +1,123 @@
+"""Reading edits, and what they change."""
+import os
+import tempfile
+import unittest
+
+from mutants.crates import BadEdit
+from mutants.edits import Edit
+from mutants.sources import bodies_of, visible
+from mutants.steps import are_moved
+
+SOURCE = """//! A module.
+
+/// How many.
+#[derive(Debug, PartialEq)]
+pub struct Count {
+    n: u8,
+}
+
+/// The most.
+pub const MOST: u8 = 4;
+
+impl From<u8> for Count {
+    fn from(n: u8) -> Count {
+        Count { n: n.min(MOST) }
+    }
+}
+
+impl Count {
+    /// One more.
+    #[inline(always)]
+    pub fn next(&self) -> u8
+        requires { self.n < 4 }
+        ensures { result ≡ self.n + 1 }
+    {
+        self.n + 1
+    }
+
+    pub const fn zero() -> Count {
+        Count { n: 0 }
+    }
+}
+"""
+NEXT = "one::count::Count::next"
+FROM = "one::count::CountFromU8::from"
+
+
+class Edits(unittest.TestCase):
+    """Edits of a crate `one` with one file."""
+
+    def setUp(self):
+        self.top = tempfile.TemporaryDirectory()
+        self.addCleanup(self.top.cleanup)
+        os.makedirs(f"{self.top.name}/crates/one/wrong/control")
+
+    def applied(self, text, name="wrong/it.edit"):
+        """The file as the edit makes it, and the edit."""
+        with open(f"{self.top.name}/crates/one/{name}", "w", encoding="utf-8") as it:
+            it.write(text)
+        edit = Edit("one", name, self.top.name)
+        return edit.applied(lambda path: SOURCE)["src/count.rt"], edit
+
+    def refused(self, text):
+        with self.assertRaises(BadEdit):
+            self.applied(text)
+
+    def test_bodies(self):
+        found = bodies_of("one", "src/count.rt", SOURCE)
+        self.assertEqual([it[0] for it in found], [FROM, NEXT, "one::count::Count::zero"])
+
+    def test_body(self):
+        text, edit = self.applied(f"fn: {NEXT}\nfile: src/count.rt\nold: n + 1\nnew: n\n")
+        self.assertIn("{\n        self.n\n", text)
+        self.assertIn("result ≡ self.n + 1", text)
+        self.assertEqual(edit.kind(), (False, False))
+
+    def test_constant(self):
+        text, edit = self.applied(f"fn: {FROM}\nfile: src/count.rt\nold: u8 = 4\nnew: u8 = 3\n")
+        self.assertIn("MOST: u8 = 3;", text)
+        self.assertTrue(edit.is_constant)
+
+    def test_outside_of_bodies(self):
+        derive = "old: #[derive(Debug, PartialEq)]\nnew: #[derive(Debug)]\n"
+        text, edit = self.applied(f"fn: one::count::CountExactEq\nfile: src/count.rt\n{derive}")
+        self.assertIn("#[derive(Debug)]\npub struct", text)
+        self.assertTrue(edit.is_outside)
+
+    def test_text_of_another_body(self):
+        self.refused(f"fn: {NEXT}\nfile: src/count.rt\nold: n.min(MOST)\nnew: n\n")
+
+    def test_text_that_is_there_twice_or_never(self):
+        self.refused(f"fn: {NEXT}\nfile: src/count.rt\nold: fn\nnew: n\n")
+        self.refused(f"fn: {NEXT}\nfile: src/count.rt\nold: no such text\nnew: n\n")
+
+    def test_lines_that_no_edit_has(self):
+        self.refused(f"file: src/count.rt\nold: n + 1\nnew: n\n")
+        self.refused(f"fn: {NEXT}\nfile: src/count.rt\nold: n + 1\n")
+        self.refused(f"fn: {NEXT}\nfile: specs/X.antt\nold: n + 1\nnew: n\n")
+        self.refused(f"fn: {NEXT}\nfile: src/count.rt\nold: n + 1\nnew: n\nmore\n")
+
+    def test_control(self):
+        text = f"fn: {FROM}\nin: {NEXT}\nfile: src/count.rt\nold: n + 1\nnew: n + 1 + 0\n"
+        _, edit = self.applied(text, "wrong/control/it.edit")
+        self.assertTrue(edit.is_control)
+        self.assertEqual((edit.function, edit.turned), (FROM, NEXT))
+
+    def test_what_others_see(self):
+        seen = visible("one", "src/count.rt", SOURCE)
+        for it in ("self.n + 1\n    }", "n.min(MOST)", "///", "//!", "inline"):
+            self.assertNotIn(it, seen)
+        for it in ("result ≡ self.n + 1", "requires", "MOST: u8 = 4", "Count { n: 0 }", "derive"):
+            self.assertIn(it, seen)
+        own = visible("one", "src/count.rt", SOURCE, frozenset({FROM}))
+        self.assertIn("n.min(MOST)", own)
+
+    def test_moved_steps(self):
+        self.assertTrue(are_moved("f(x); g(y)?", "g(y)?; f(x)"))
+        self.assertTrue(are_moved("f(x)?", "f(x)"))
+        self.assertTrue(are_moved("a < b", "b < a"))
+        self.assertFalse(are_moved("f(x)?", "h(1); f(x + 1)?"))
+
+
+if __name__ == "__main__":
+    unittest.main()

@@ -1,0 +1,161 @@
+"""What is tried at a landing, in a small repository of its own."""
+import os
+import subprocess
+import tempfile
+import unittest
+from unittest import mock
+
+from mutants import marks, seen
+from mutants.crates import write
+from mutants.edits import Edit
+
+LOW = """/// Twice.
+pub fn twice(n: u8) -> u16
+    ensures { result ≡ 2 * n }
+{
+    2 * u16::from(n)
+}
+
+pub fn once(n: u8) -> u8
+    ensures { result ≡ n }
+{
+    n
+}
+"""
+HIGH = """pub fn four_times(n: u8) -> u16
+    ensures { result ≡ 4 * n }
+{
+    2 * low::twice(n)
+}
+"""
+EDITS = {
+    "low/wrong/twice.edit": "fn: low::twice\nfile: src/lib.rt\nold: 2 * u16\nnew: 3 * u16\n",
+    "low/wrong/once.edit": "fn: low::once\nfile: src/lib.rt\nold: n\nnew: 0\n",
+    "high/wrong/four.edit": "fn: high::four_times\nfile: src/lib.rt\nold: 2 *\nnew: 3 *\n",
+}
+
+
+class Seen(unittest.TestCase):
+    """Two crates, `high` over `low`, with three mutants."""
+
+    def setUp(self):
+        top = tempfile.TemporaryDirectory()
+        self.addCleanup(top.cleanup)
+        self.root = top.name
+        for path, text in {
+            "crates.txt": "low:\nhigh: low\n",
+            "wrong": "the script\n",
+            "gate/mutants/main.py": "the code that judges\n",
+            "crates/low/src/lib.rt": LOW,
+            "crates/low/specs/Lib.antt": "-- A comment.\npub mod Two\n",
+            "crates/high/src/lib.rt": HIGH,
+            **{f"crates/{path}": text for path, text in EDITS.items()},
+        }.items():
+            self.put(path, text)
+        self.git("init", "-q")
+        self.commit()
+        for name, value in {"ROOT": self.root, "SEEN": f"{self.root}/wrong.seen"}.items():
+            patch = mock.patch.object(seen, name, value)
+            patch.start()
+            self.addCleanup(patch.stop)
+        patch = mock.patch.object(seen, "toolchain", lambda: "the toolchain")
+        patch.start()
+        self.addCleanup(patch.stop)
+        seen.write_seen()
+
+    def put(self, path, text):
+        os.makedirs(os.path.dirname(f"{self.root}/{path}"), exist_ok=True)
+        write(f"{self.root}/{path}", text)
+
+    def change(self, path, old, new):
+        with open(f"{self.root}/{path}", encoding="utf-8") as it:
+            text = it.read()
+        self.assertIn(old, text)
+        write(f"{self.root}/{path}", text.replace(old, new))
+
+    def git(self, *words):
+        who = ["-c", "user.name=it", "-c", "user.email=it@example.org"]
+        subprocess.run(["git", *who, *words], cwd=self.root, check=True)
+
+    def commit(self):
+        self.git("add", "-A")
+        self.git("commit", "-q", "-m", "A state")
+
+    def tried(self, drawn=0):
+        """The names of the edits that are tried, without the drawn ones."""
+        edits = [Edit(path.split("/")[0], path.partition("/")[2], self.root) for path in EDITS
+                 if os.path.exists(f"{self.root}/crates/{path}")]
+        with mock.patch.object(seen, "DRAWN", drawn):
+            chosen, _, _, self.said = seen.chosen(edits)
+        return sorted(it.path[len("wrong/") : -len(".edit")] for it in chosen)
+
+    def test_nothing_changed(self):
+        self.assertEqual(self.tried(), [])
+        self.assertIn("were last seen refused at commit", self.said)
+
+    def test_draw(self):
+        self.assertEqual(len(self.tried(drawn=2)), 2)
+        self.assertEqual(self.tried(drawn=48), ["four", "once", "twice"])
+
+    def test_comments_and_hints(self):
+        self.change("crates/low/src/lib.rt", "/// Twice.", "/// Two times.\n#[inline(always)]")
+        self.change("crates/low/specs/Lib.antt", "A comment", "Another")
+        self.assertEqual(self.tried(), [])
+
+    def test_body(self):
+        self.change("crates/low/src/lib.rt", "2 * u16::from(n)", "u16::from(n) * 2")
+        self.assertEqual(self.tried(), ["twice"])
+
+    def test_contract_of_a_library(self):
+        self.change("crates/low/src/lib.rt", "result ≡ 2 * n", "result ≡ n + n")
+        self.assertEqual(self.tried(), ["four", "once", "twice"])
+
+    def test_definition(self):
+        self.put("crates/high/specs/Lib.antt", "pub mod Four\n")
+        self.assertEqual(self.tried(), ["four"])
+
+    def test_lemma_of_a_library(self):
+        self.put("crates/low/proofs/Lib.antt", "pub mod Sums\n")
+        self.assertEqual(self.tried(), ["four", "once", "twice"])
+
+    def test_edit(self):
+        self.change("crates/low/wrong/once.edit", "new: 0", "new: 1")
+        self.assertEqual(self.tried(), ["once"])
+
+    def test_code_that_judges(self):
+        self.change("gate/mutants/main.py", "judges", "judges otherwise")
+        self.assertEqual(self.tried(), ["four", "once", "twice"])
+
+    def test_another_toolchain(self):
+        with mock.patch.object(seen, "toolchain", lambda: "another"):
+            self.assertEqual(self.tried(), ["four", "once", "twice"])
+        self.assertIn("another toolchain", self.said)
+
+    def test_without_history(self):
+        write(f"{self.root}/wrong.seen", f"{'0' * 40} the toolchain\n")
+        self.assertEqual(self.tried(), ["four", "once", "twice"])
+        os.remove(f"{self.root}/wrong.seen")
+        self.assertEqual(self.tried(), ["four", "once", "twice"])
+
+    def test_commit_that_is_not_before_this_one(self):
+        self.git("checkout", "-q", "--orphan", "other")
+        self.change("crates/low/src/lib.rt", "Twice", "Two times")
+        self.commit()
+        self.assertEqual(self.tried(), ["four", "once", "twice"])
+        self.assertIn("has no commit", self.said)
+
+    def test_uncommitted_changes_are_not_named(self):
+        os.remove(f"{self.root}/wrong.seen")
+        self.change("crates/low/src/lib.rt", "Twice", "Two times")
+        self.assertIn("stays", seen.write_seen())
+        self.assertFalse(os.path.exists(f"{self.root}/wrong.seen"))
+
+    def test_same_marks_of_the_same_state(self):
+        a, b = marks.Marks(self.root), marks.Marks(self.root)
+        edit = Edit("high", "wrong/four.edit", self.root)
+        self.assertEqual(a.mark(edit), b.mark(edit))
+        self.assertEqual(a.of_label("high", "wrong/none.edit"), "")
+
+
+if __name__ == "__main__":
+    unittest.main()
