@@ -44,9 +44,6 @@ pub use linkinfo_devices::{
     InfoIpVlan, InfoIpVtap, InfoIpoib, InfoMacSec, InfoMacVlan, InfoMacVtap, InfoRmNet, InfoVrf,
     InfoVrfPort, InfoXfrm,
 };
-pub use linkinfo_lower::{
-    InfoBond, InfoBondPort, InfoBridge, InfoBridgePort, InfoCan, InfoDsa, InfoHsr, InfoVlan,
-};
 pub use linkinfo_numbers::{
     AmtMode, ErSpanDir, EthernetProtocol, GeneveDf, GreEncapFlags, GreEncapType, GreIOFlags,
     GtpRole, InfoRmNetFlags, Ip6TunnelFlags, IpProtocol, IpVlanFlags, IpVlanMode, IpVtapFlags,
@@ -57,6 +54,9 @@ pub use linkinfo_numbers::{
 pub use linkinfo_peers::{
     InfoBatAdv, InfoNetkit, InfoNetkitOf, InfoPfcp, InfoTeamPort, InfoTun, InfoVeth, InfoVethOf,
     InfoVxcan, InfoVxcanOf, InfoWireguard, InfoWwan,
+};
+pub use linkinfo_table::lower::{
+    InfoBond, InfoBondPort, InfoBridge, InfoBridgePort, InfoCan, InfoDsa, InfoHsr, InfoVlan,
 };
 pub use linkinfo_tunnels::{
     InfoAmt, InfoBareUdp, InfoGeneve, InfoGre, InfoGre6, InfoGtp, InfoIpTunnel, InfoVti, InfoVxlan,
@@ -95,9 +95,9 @@ pub use nla_frame::fitting;
 
 // What follows from the contracts, by layer: functions without code, each there for its contract. Those of the list are `laws`.
 pub use linkinfo_data::laws as data_laws;
-pub use linkinfo_lower::laws as lower_laws;
 pub use linkinfo_numbers::laws as number_laws;
 pub use linkinfo_peers::laws as peer_laws;
 pub use linkinfo_shapes::laws as shape_laws;
 pub use linkinfo_table::laws as family_laws;
+pub use linkinfo_table::lower_laws;
 pub use nla_frame::laws as frame_laws;

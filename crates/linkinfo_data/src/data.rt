@@ -18,7 +18,7 @@ use std::alloc::Global;
 /// The family of the attributes in a kind's data.
 #[derive(Clone, Copy, Debug, PartialEq, Eq)]
 pub enum DataFamily {
-    /// One of `linkinfo_lower`.
+    /// One that is kept verbatim (`linkinfo_table::lower`).
     Lower(LowerFamily),
     /// One of `linkinfo_devices`.
     Device(DeviceFamily),

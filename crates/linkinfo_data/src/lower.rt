@@ -5,7 +5,7 @@ ghost use Rattle.linkinfo_data.specs.LowerData.{lower_data_of};
 use crate::info_data::InfoDataOf;
 use crate::payload_family::PayloadFamily;
 use crate::written::read_nlas;
-use linkinfo_lower::{InfoBond, InfoBridge, InfoCan, InfoDsa, InfoHsr, InfoVlan};
+use linkinfo_table::lower::{InfoBond, InfoBridge, InfoCan, InfoDsa, InfoHsr, InfoVlan};
 use linkinfo_table::{LinkPeer, list_canonical_len, list_check, list_put_canonical, list_same};
 use nla_frame::{DecodeError, ExactEq, HeaderCount};
 use std::alloc::Global;

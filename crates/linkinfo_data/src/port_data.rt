@@ -8,7 +8,7 @@ ghost use Rattle.linkinfo_data.specs.PortData.{port_data_of, port_family_of};
 use crate::payload_family::PayloadFamily;
 use crate::written::{list_fit_len, put_list, read_nlas};
 use linkinfo_devices::InfoVrfPort;
-use linkinfo_lower::{InfoBondPort, InfoBridgePort};
+use linkinfo_table::lower::{InfoBondPort, InfoBridgePort};
 use linkinfo_numbers::{IFLA_INFO_SLAVE_DATA, InfoPortKind, PortTag};
 use linkinfo_peers::InfoTeamPort;
 use linkinfo_table::{list_canonical_len, list_check, list_put_canonical, list_same};

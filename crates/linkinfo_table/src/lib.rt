@@ -11,6 +11,8 @@ pub mod laws;
 mod list;
 mod listed;
 mod lookup;
+pub mod lower;
+pub mod lower_laws;
 mod part;
 pub mod parts;
 mod peer;

@@ -1,12 +1,12 @@
-//! Laws of families, each the contract of a function without code.
+//! Laws of the families that are kept verbatim, each the contract of a function without code.
 
 ghost use Rattle.std.specs.Prelude.{◌≡◌};
 ghost use Rattle.nla_frame.specs.declared.error.Family.TheVariants as family;
 
-use crate::{
+use crate::family::LinkFamily;
+use crate::lower::{
     InfoBond, InfoBondPort, InfoBridge, InfoBridgePort, InfoCan, InfoDsa, InfoHsr, InfoVlan,
 };
-use linkinfo_table::LinkFamily;
 
 /// Each name is of the family that it is named after.
 pub fn named()
