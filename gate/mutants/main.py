@@ -139,11 +139,13 @@ def main(words):
     try_crates(crates, edits, tallies, stamps)
     if named:
         keep(tallies)
-    return conclude(tallies, unproved, named, drawn, left, "--all" in flags)
+    tried = sum(not it.is_control for it in edits)
+    return conclude(tallies, unproved, named, (tried, drawn, left), "--all" in flags)
 
 
-def conclude(tallies, unproved, named, drawn, left, is_all):
-    """Prints the counts, and returns the status."""
+def conclude(tallies, unproved, named, numbers, is_all):
+    """Prints the counts, of mutants tried, drawn and left, and returns the status."""
+    tried, drawn, left = numbers
     passed = sum(it.passes for it in tallies.values())
     failed = sum(it.failures for it in tallies.values()) + len(unproved)
     for name in unproved:
@@ -158,8 +160,7 @@ def conclude(tallies, unproved, named, drawn, left, is_all):
         print(f"wrong: FAILED: wrong.seen is void: drawn and not refused: {', '.join(void)}")
     if is_all and not failed:
         print(f"wrong: {seen.write_seen()}")
-    tried = len(refused)
-    print(f"wrong: {tried} mutants tried and refused, {len(drawn)} of them drawn; {left} not "
-          "tried, since nothing that their verdict rests on has changed")
+    print(f"wrong: {tried} mutants tried, {len(drawn)} of them drawn; {left} not tried, since "
+          "nothing that their verdict rests on has changed")
     print(f"{passed} passed, {failed} failed")
     return 1 if failed else 0
