@@ -58,7 +58,6 @@ impl TableFamily for InfoBatAdv {
 
     ghost in_table = { λ n. table_lookup batadv_rows n };
 
-    #[tactic(auto, unfolding(linkinfo_table::specs::FamilyRows::found_needs_memory))]
     #[inline(always)]
     fn put_found<P: Place<InfoBatAdv>>(
         place: &mut P,

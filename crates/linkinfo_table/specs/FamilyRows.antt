@@ -164,9 +164,8 @@ abbrev pub Puts : {F H : Type 0} → (F → H) → (DefaultNla → F) → (ℕ �
 Puts with other rows (found.Typed number datum) held = PutsLabelled with (rows number) (value_of datum) held
 Puts with other rows (found.Kept nla) held = held ≡ with (other nla)
 
--- making a value of what was read may need memory; not unfolded by a search, which would read a family's
--- whole table once for each of its rows
-unfoldable pub found_needs_memory : {F : Type 0} → (ℕ → FamilyRow F) → Found → Bool
+-- making a value of what was read may need memory
+abbrev pub found_needs_memory : {F : Type 0} → (ℕ → FamilyRow F) → Found → Bool
 found_needs_memory rows (found.Typed number datum) = row_owns_memory (rows number)
 found_needs_memory rows (found.Kept nla) = false
 

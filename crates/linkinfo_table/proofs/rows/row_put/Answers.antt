@@ -4,7 +4,7 @@ use Rattle.nla_frame.specs.Attribute.{masked}
 use Rattle.nla_frame.specs.Answers.{verdict}
 use Rattle.nla_frame.specs.declared.error.DecodeError.{DecodeError}
 use Rattle.linkinfo_shapes.specs.DataLaws.{read_fails}
-use Rattle.linkinfo_table.specs.FamilyRows.{found_needs_memory, row_of}
+use Rattle.linkinfo_table.specs.FamilyRows.{row_of}
 use Rattle.linkinfo_table.specs.Rows.{memory_in, meaning_in, row_meaning}
 use Rattle.linkinfo_table.proofs.RowAnswers.{flat_at, suits_row, meaning_at, refuse_row, refused_row, kept_same, needs_at, needs_kept, needs_row, no_error, put_row, put_kept_row, put_at, put_verdict, row_ok, read_puts, needs_puts, verdict_err}
 use Rattle.linkinfo_table.proofs.rows.row_put.Goals as goal
@@ -22,7 +22,6 @@ put_found-requires g c =
     suits_row (rows k) c.in-Is.shape c.value.result.now c.in-Ok.datum flat is c.in-Ok.ensures
 
 pub returns-in_err-put_found-in-Ok-clause-certain : goal.returns-in_err-put_found-in-Ok-clause-certain
-unfolding found_needs_memory
 returns-in_err-put_found-in-Ok-clause-certain g c = λ none.
     let f = g.F.RowFamily.FAMILY in
     let other = g.F.RowFamily.other in
