@@ -5,19 +5,19 @@ ghost use Rattle.linkinfo_devices.specs.Ipvlan.{ip_vlan_attribute, ip_vlan_keeps
 ghost use Rattle.linkinfo_table.specs.FamilyRows.{row_of, table_row};
 ghost use Rattle.linkinfo_table.specs.Rows.{meaning_in, memory_in};
 ghost use Rattle.nla_frame.specs.declared.error.Family.TheVariants as family;
-ghost use Rattle.std.specs.Prelude.{refl};
+ghost use Rattle.std.specs.Prelude.{◌≡◌, refl};
 
 use bitflags::Flags;
 use linkinfo_numbers::{IpVlanFlags, IpVlanMode};
 use linkinfo_table::{
-    Found, Part, Place, TableFamily, WrittenByTable, part_by_rows, put_by_rows, row_emit_payload,
-    row_emit_value, row_fit_len, row_kind, row_read, row_value_len,
+    Found, Part, Place, TableFamily, WrittenByTable, clone_by_rows, part_by_rows, put_by_rows,
+    row_emit_payload, row_emit_value, row_fit_len, row_kind, row_read, row_value_len,
 };
 use nla_frame::{DecodeError, DefaultNla, ExactEq, Family, Nla, NlaBuffer, Parseable};
 use std::alloc::{AllocError, Global};
 
 /// An attribute of an ipvlan link: of a link of the kind `ipvlan` (include/uapi/linux/if_link.h).
-#[derive(Debug, PartialEq, Eq, Clone, Drop)]
+#[derive(Debug, PartialEq, Eq, Drop)]
 pub enum InfoIpVlan {
     /// The mode (`IFLA_IPVLAN_MODE`), native byte order.
     Mode(IpVlanMode),
@@ -34,6 +34,15 @@ macro_rules! rows {
             (IFLA_IPVLAN_FLAGS = 2, le16, Flags as flags IpVlanFlags),
         }
     };
+}
+
+/// A clone equals its source.
+impl Clone for InfoIpVlan {
+    ghost is_clone = { λ source copy. copy ≡ source };
+
+    fn clone(&self) -> Result<InfoIpVlan, AllocError> {
+        rows!(clone_by_rows self)
+    }
 }
 
 impl TableFamily for InfoIpVlan {

@@ -5,18 +5,18 @@ ghost use Rattle.linkinfo_devices.specs.Macsec.{mac_sec_attribute, mac_sec_keeps
 ghost use Rattle.linkinfo_table.specs.FamilyRows.{row_of, table_row};
 ghost use Rattle.linkinfo_table.specs.Rows.{meaning_in, memory_in};
 ghost use Rattle.nla_frame.specs.declared.error.Family.TheVariants as family;
-ghost use Rattle.std.specs.Prelude.{refl};
+ghost use Rattle.std.specs.Prelude.{◌≡◌, refl};
 
 use linkinfo_numbers::{MacSecCipherId, MacSecOffload, MacSecValidate};
 use linkinfo_table::{
-    Found, Part, Place, TableFamily, WrittenByTable, part_by_rows, put_by_rows, row_emit_payload,
-    row_emit_value, row_fit_len, row_kind, row_read, row_value_len,
+    Found, Part, Place, TableFamily, WrittenByTable, clone_by_rows, part_by_rows, put_by_rows,
+    row_emit_payload, row_emit_value, row_fit_len, row_kind, row_read, row_value_len,
 };
 use nla_frame::{DecodeError, DefaultNla, ExactEq, Family, Nla, NlaBuffer, Parseable};
 use std::alloc::{AllocError, Global};
 
 /// An attribute of a MACsec link: of a link of the kind `macsec` (include/uapi/linux/if_link.h).
-#[derive(Debug, PartialEq, Eq, Clone, Drop)]
+#[derive(Debug, PartialEq, Eq, Drop)]
 pub enum InfoMacSec {
     /// The identifier of the secure channel (`IFLA_MACSEC_SCI`), read as little-endian; the kernel holds its bytes in network byte order.
     Sci(u64),
@@ -69,6 +69,15 @@ macro_rules! rows {
             (IFLA_MACSEC_OFFLOAD = 15, u8, Offload as MacSecOffload),
         }
     };
+}
+
+/// A clone equals its source.
+impl Clone for InfoMacSec {
+    ghost is_clone = { λ source copy. copy ≡ source };
+
+    fn clone(&self) -> Result<InfoMacSec, AllocError> {
+        rows!(clone_by_rows self)
+    }
 }
 
 impl TableFamily for InfoMacSec {

@@ -10,14 +10,14 @@ ghost use Rattle.std.specs.Prelude.{◌≡◌, refl};
 use bitflags::Flags;
 use linkinfo_numbers::{InfoRmNetFlags, RmNetFlags};
 use linkinfo_table::{
-    Found, Part, Place, TableFamily, WrittenByTable, part_by_rows, put_by_rows, row_emit_payload,
-    row_emit_value, row_fit_len, row_kind, row_read, row_value_len,
+    Found, Part, Place, TableFamily, WrittenByTable, clone_by_rows, part_by_rows, put_by_rows,
+    row_emit_payload, row_emit_value, row_fit_len, row_kind, row_read, row_value_len,
 };
 use nla_frame::{DecodeError, DefaultNla, ExactEq, Family, Nla, NlaBuffer, Parseable};
 use std::alloc::{AllocError, Global};
 
 /// An attribute of a link to a Qualcomm modem: of a link of the kind `rmnet` (include/uapi/linux/if_link.h).
-#[derive(Debug, PartialEq, Eq, Clone, Drop)]
+#[derive(Debug, PartialEq, Eq, Drop)]
 pub enum InfoRmNet {
     /// The number of the channel among those of the modem (`IFLA_RMNET_MUX_ID`), native byte order.
     MuxId(u16),
@@ -34,6 +34,15 @@ macro_rules! rows {
             (IFLA_RMNET_FLAGS = 2, flag_pair, Flags by flags_of, pair_of),
         }
     };
+}
+
+/// A clone equals its source.
+impl Clone for InfoRmNet {
+    ghost is_clone = { λ source copy. copy ≡ source };
+
+    fn clone(&self) -> Result<InfoRmNet, AllocError> {
+        rows!(clone_by_rows self)
+    }
 }
 
 impl TableFamily for InfoRmNet {

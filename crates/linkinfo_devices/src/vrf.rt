@@ -5,17 +5,17 @@ ghost use Rattle.linkinfo_devices.specs.Vrf.{vrf_attribute, vrf_keeps, vrf_looku
 ghost use Rattle.linkinfo_table.specs.FamilyRows.{row_of, table_row};
 ghost use Rattle.linkinfo_table.specs.Rows.{meaning_in, memory_in};
 ghost use Rattle.nla_frame.specs.declared.error.Family.TheVariants as family;
-ghost use Rattle.std.specs.Prelude.{refl};
+ghost use Rattle.std.specs.Prelude.{◌≡◌, refl};
 
 use linkinfo_table::{
-    Found, Part, Place, TableFamily, WrittenByTable, part_by_rows, put_by_rows, row_emit_payload,
-    row_emit_value, row_fit_len, row_kind, row_read, row_value_len,
+    Found, Part, Place, TableFamily, WrittenByTable, clone_by_rows, part_by_rows, put_by_rows,
+    row_emit_payload, row_emit_value, row_fit_len, row_kind, row_read, row_value_len,
 };
 use nla_frame::{DecodeError, DefaultNla, ExactEq, Family, Nla, NlaBuffer, Parseable};
 use std::alloc::{AllocError, Global};
 
 /// An attribute of a vrf, or of a port of one.
-#[derive(Debug, PartialEq, Eq, Clone, Drop)]
+#[derive(Debug, PartialEq, Eq, Drop)]
 pub enum InfoVrf {
     /// The number of its routing table (`IFLA_VRF_TABLE`, and of a port `IFLA_VRF_PORT_TABLE`), native byte order.
     TableId(u32),
@@ -32,6 +32,15 @@ macro_rules! rows {
             (IFLA_VRF_TABLE = 1, le32, TableId),
         }
     };
+}
+
+/// A clone equals its source.
+impl Clone for InfoVrf {
+    ghost is_clone = { λ source copy. copy ≡ source };
+
+    fn clone(&self) -> Result<InfoVrf, AllocError> {
+        rows!(clone_by_rows self)
+    }
 }
 
 impl TableFamily for InfoVrf {

@@ -6,17 +6,17 @@ ghost use Rattle.linkinfo_table.specs.FamilyRows.{row_of, table_row};
 ghost use Rattle.linkinfo_table.specs.Rows.{meaning_in, memory_in};
 ghost use Rattle.linkinfo_table.specs.FamilyRowLaws.{table_lookup};
 ghost use Rattle.nla_frame.specs.declared.error.Family.TheVariants as family;
-ghost use Rattle.std.specs.Prelude.{refl};
+ghost use Rattle.std.specs.Prelude.{◌≡◌, refl};
 
 use linkinfo_table::{
-    Found, Part, Place, TableFamily, WrittenByTable, part_by_rows, put_by_rows, row_emit_payload,
-    row_emit_value, row_fit_len, row_kind, row_read, row_value_len,
+    Found, Part, Place, TableFamily, WrittenByTable, clone_by_rows, part_by_rows, put_by_rows,
+    row_emit_payload, row_emit_value, row_fit_len, row_kind, row_read, row_value_len,
 };
 use nla_frame::{DecodeError, DefaultNla, ExactEq, Family, Nla, NlaBuffer, Parseable, Text};
 use std::alloc::{AllocError, Global};
 
 /// An attribute of a B.A.T.M.A.N. link: of a link of the kind `batadv`.
-#[derive(Debug, PartialEq, Eq, Clone, Drop)]
+#[derive(Debug, PartialEq, Eq, Drop)]
 pub enum InfoBatAdv {
     /// The name of the routing algorithm (`IFLA_BATADV_ALGO_NAME`), closed by a zero byte.
     AlgoName(Text),
@@ -30,6 +30,15 @@ macro_rules! rows {
             (IFLA_BATADV_ALGO_NAME = 1, name, AlgoName),
         }
     };
+}
+
+/// A clone equals its source.
+impl Clone for InfoBatAdv {
+    ghost is_clone = { λ source copy. copy ≡ source };
+
+    fn clone(&self) -> Result<InfoBatAdv, AllocError> {
+        rows!(clone_by_rows self)
+    }
 }
 
 impl TableFamily for InfoBatAdv {

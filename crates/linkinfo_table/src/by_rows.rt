@@ -1,4 +1,4 @@
-//! Reading and writing by one list of rows.
+//! Reading, writing and cloning by one list of rows.
 //!
 //! A family gives its list as a macro of its own, a row of the list for each row of its table:
 //!
@@ -190,6 +190,33 @@ macro_rules! part_row {
     };
     ($number:literal, $shape:ident, $x:ident by $to:ident) => {
         $crate::parts::$shape($number, $to(*$x))
+    };
+}
+
+/// A clone of a value, by the rows: `rows!(clone_by_rows self)`. Allocates memory for a name and for `Other`.
+#[macro_export]
+macro_rules! clone_by_rows {
+    ($family:ident $value:tt; $(($name:ident = $number:literal, $shape:ident, $variant:ident $(or $empty:ident)? $(as $($named:tt)+)? $(by $from:ident, $to:ident)?)),* $(,)? $(; else $($elsewhere:ident),+)?) => {
+        Ok(match $value {
+            $($crate::row_pattern!($shape, $family $variant, x) => $crate::clone_row!($shape, $family $variant, x),
+            $($family::$empty => $family::$empty,)?)*
+            $($($family::$elsewhere(x) => $family::$elsewhere(*x),)+)?
+            $family::Other(nla) => $family::Other(nla.clone()?),
+        })
+    };
+}
+
+/// A clone of one row's value.
+#[macro_export]
+macro_rules! clone_row {
+    (mark, $family:ident $variant:ident, $x:ident) => {
+        $family::$variant
+    };
+    (name, $family:ident $variant:ident, $x:ident) => {
+        $family::$variant($x.clone()?)
+    };
+    ($shape:ident, $family:ident $variant:ident, $x:ident) => {
+        $family::$variant(*$x)
     };
 }
 

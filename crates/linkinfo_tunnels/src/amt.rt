@@ -5,19 +5,19 @@ ghost use Rattle.linkinfo_tunnels.specs.Amt.{amt_attribute, amt_keeps, amt_looku
 ghost use Rattle.linkinfo_table.specs.FamilyRows.{row_of, table_row};
 ghost use Rattle.linkinfo_table.specs.Rows.{meaning_in, memory_in};
 ghost use Rattle.nla_frame.specs.declared.error.Family.TheVariants as family;
-ghost use Rattle.std.specs.Prelude.{refl};
+ghost use Rattle.std.specs.Prelude.{◌≡◌, refl};
 
 use linkinfo_numbers::AmtMode;
 use linkinfo_table::{
-    Found, Part, Place, TableFamily, WrittenByTable, part_by_rows, put_by_rows, row_emit_payload,
-    row_emit_value, row_fit_len, row_kind, row_read, row_value_len,
+    Found, Part, Place, TableFamily, WrittenByTable, clone_by_rows, part_by_rows, put_by_rows,
+    row_emit_payload, row_emit_value, row_fit_len, row_kind, row_read, row_value_len,
 };
 use nla_frame::{DecodeError, DefaultNla, ExactEq, Family, Nla, NlaBuffer, Parseable};
 use std::alloc::{AllocError, Global};
 use std::net::IpAddr;
 
 /// An attribute of an AMT tunnel: of a link of the kind `amt` (include/uapi/linux/amt.h).
-#[derive(Debug, PartialEq, Eq, Clone, Drop)]
+#[derive(Debug, PartialEq, Eq, Drop)]
 pub enum InfoAmt {
     /// The role of this end (`IFLA_AMT_MODE`), native byte order.
     Mode(AmtMode),
@@ -52,6 +52,15 @@ macro_rules! rows {
             (IFLA_AMT_MAX_TUNNELS = 8, le32, MaxTunnels),
         }
     };
+}
+
+/// A clone equals its source.
+impl Clone for InfoAmt {
+    ghost is_clone = { λ source copy. copy ≡ source };
+
+    fn clone(&self) -> Result<InfoAmt, AllocError> {
+        rows!(clone_by_rows self)
+    }
 }
 
 impl TableFamily for InfoAmt {

@@ -5,18 +5,18 @@ ghost use Rattle.linkinfo_tunnels.specs.BareUdp.{bare_udp_attribute, bare_udp_ke
 ghost use Rattle.linkinfo_table.specs.FamilyRows.{row_of, table_row};
 ghost use Rattle.linkinfo_table.specs.Rows.{meaning_in, memory_in};
 ghost use Rattle.nla_frame.specs.declared.error.Family.TheVariants as family;
-ghost use Rattle.std.specs.Prelude.{refl};
+ghost use Rattle.std.specs.Prelude.{◌≡◌, refl};
 
 use linkinfo_numbers::EthernetProtocol;
 use linkinfo_table::{
-    Found, Part, Place, TableFamily, WrittenByTable, part_by_rows, put_by_rows, row_emit_payload,
-    row_emit_value, row_fit_len, row_kind, row_read, row_value_len,
+    Found, Part, Place, TableFamily, WrittenByTable, clone_by_rows, part_by_rows, put_by_rows,
+    row_emit_payload, row_emit_value, row_fit_len, row_kind, row_read, row_value_len,
 };
 use nla_frame::{DecodeError, DefaultNla, ExactEq, Family, Nla, NlaBuffer, Parseable};
 use std::alloc::{AllocError, Global};
 
 /// An attribute of a bare UDP tunnel: of a link of the kind `bareudp` (include/uapi/linux/if_link.h).
-#[derive(Debug, PartialEq, Eq, Clone, Drop)]
+#[derive(Debug, PartialEq, Eq, Drop)]
 pub enum InfoBareUdp {
     /// The UDP destination port (`IFLA_BAREUDP_PORT`), network byte order.
     Port(u16),
@@ -39,6 +39,15 @@ macro_rules! rows {
             (IFLA_BAREUDP_MULTIPROTO_MODE = 4, mark, MultiprotoMode),
         }
     };
+}
+
+/// A clone equals its source.
+impl Clone for InfoBareUdp {
+    ghost is_clone = { λ source copy. copy ≡ source };
+
+    fn clone(&self) -> Result<InfoBareUdp, AllocError> {
+        rows!(clone_by_rows self)
+    }
 }
 
 impl TableFamily for InfoBareUdp {

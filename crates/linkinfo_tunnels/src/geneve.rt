@@ -5,19 +5,19 @@ ghost use Rattle.linkinfo_tunnels.specs.Geneve.{geneve_attribute, geneve_keeps, 
 ghost use Rattle.linkinfo_table.specs.FamilyRows.{row_of, table_row};
 ghost use Rattle.linkinfo_table.specs.Rows.{meaning_in, memory_in};
 ghost use Rattle.nla_frame.specs.declared.error.Family.TheVariants as family;
-ghost use Rattle.std.specs.Prelude.{refl};
+ghost use Rattle.std.specs.Prelude.{◌≡◌, refl};
 
 use linkinfo_numbers::GeneveDf;
 use linkinfo_table::{
-    Found, Part, Place, TableFamily, WrittenByTable, part_by_rows, put_by_rows, row_emit_payload,
-    row_emit_value, row_fit_len, row_kind, row_read, row_value_len,
+    Found, Part, Place, TableFamily, WrittenByTable, clone_by_rows, part_by_rows, put_by_rows,
+    row_emit_payload, row_emit_value, row_fit_len, row_kind, row_read, row_value_len,
 };
 use nla_frame::{DecodeError, DefaultNla, ExactEq, Family, Nla, NlaBuffer, Parseable};
 use std::alloc::{AllocError, Global};
 use std::net::{Ipv4Addr, Ipv6Addr};
 
 /// An attribute of a Geneve tunnel: of a link of the kind `geneve` (include/uapi/linux/if_link.h).
-#[derive(Debug, PartialEq, Eq, Clone, Drop)]
+#[derive(Debug, PartialEq, Eq, Drop)]
 pub enum InfoGeneve {
     /// The identifier of the network, 24 bits (`IFLA_GENEVE_ID`), native byte order.
     Id(u32),
@@ -76,6 +76,15 @@ macro_rules! rows {
             (IFLA_GENEVE_LOCAL6 = 18, geneve_v6, Local6),
         }
     };
+}
+
+/// A clone equals its source.
+impl Clone for InfoGeneve {
+    ghost is_clone = { λ source copy. copy ≡ source };
+
+    fn clone(&self) -> Result<InfoGeneve, AllocError> {
+        rows!(clone_by_rows self)
+    }
 }
 
 impl TableFamily for InfoGeneve {

@@ -5,20 +5,20 @@ ghost use Rattle.linkinfo_tunnels.specs.Gre6.{gre6_attribute, gre6_keeps, gre6_l
 ghost use Rattle.linkinfo_table.specs.FamilyRows.{row_of, table_row};
 ghost use Rattle.linkinfo_table.specs.Rows.{meaning_in, memory_in};
 ghost use Rattle.nla_frame.specs.declared.error.Family.TheVariants as family;
-ghost use Rattle.std.specs.Prelude.{refl};
+ghost use Rattle.std.specs.Prelude.{◌≡◌, refl};
 
 use bitflags::Flags;
 use linkinfo_numbers::{ErSpanDir, GreEncapFlags, GreEncapType, GreIOFlags};
 use linkinfo_table::{
-    Found, Part, Place, TableFamily, WrittenByTable, part_by_rows, put_by_rows, row_emit_payload,
-    row_emit_value, row_fit_len, row_kind, row_read, row_value_len,
+    Found, Part, Place, TableFamily, WrittenByTable, clone_by_rows, part_by_rows, put_by_rows,
+    row_emit_payload, row_emit_value, row_fit_len, row_kind, row_read, row_value_len,
 };
 use nla_frame::{DecodeError, DefaultNla, ExactEq, Family, Nla, NlaBuffer, Parseable};
 use std::alloc::{AllocError, Global};
 use std::net::Ipv6Addr;
 
 /// An attribute of a GRE tunnel over IPv6: of a link of the kind `ip6gre`, `ip6gretap` or `ip6erspan` (include/uapi/linux/if_tunnel.h).
-#[derive(Debug, PartialEq, Eq, Clone, Drop)]
+#[derive(Debug, PartialEq, Eq, Drop)]
 pub enum InfoGre6 {
     /// The index of the underlying interface (`IFLA_GRE_LINK`), native byte order.
     Link(u32),
@@ -92,6 +92,15 @@ macro_rules! rows {
             (IFLA_GRE_ERSPAN_HWID = 24, le16, ErSpanHwId),
         }
     };
+}
+
+/// A clone equals its source.
+impl Clone for InfoGre6 {
+    ghost is_clone = { λ source copy. copy ≡ source };
+
+    fn clone(&self) -> Result<InfoGre6, AllocError> {
+        rows!(clone_by_rows self)
+    }
 }
 
 impl TableFamily for InfoGre6 {

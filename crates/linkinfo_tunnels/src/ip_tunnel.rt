@@ -14,9 +14,9 @@ use linkinfo_numbers::{
     InfoKind, Ip6TunnelFlags, IpProtocol, KindTag, TunnelEncapFlags, TunnelEncapType,
 };
 use linkinfo_table::{
-    Datum, FlatFamily, Found, Lookup, Part, Place, RowFamily, Shape, part_by_rows, parts,
-    put_by_rows, row_emit_payload, row_emit_value, row_fit_len, row_kind, row_read, row_value_len,
-    table_lookup,
+    Datum, FlatFamily, Found, Lookup, Part, Place, RowFamily, Shape, clone_by_rows, part_by_rows,
+    parts, put_by_rows, row_emit_payload, row_emit_value, row_fit_len, row_kind, row_read,
+    row_value_len, table_lookup,
 };
 use nla_frame::{
     Cause, DecodeError, DefaultNla, ExactEq, Family, Nla, NlaBuffer, ParseableParametrized,
@@ -27,7 +27,7 @@ use std::net::{IpAddr, Ipv4Addr, Ipv6Addr};
 const IFLA_IPTUN_FLAGS: u16 = 8;
 
 /// An attribute of an IP tunnel: of a link of the kind `ipip`, `sit` or `ip6tnl` (include/uapi/linux/if_tunnel.h).
-#[derive(Debug, PartialEq, Eq, Clone, Drop)]
+#[derive(Debug, PartialEq, Eq, Drop)]
 pub enum InfoIpTunnel {
     /// The index of the underlying interface (`IFLA_IPTUN_LINK`), native byte order.
     Link(u32),
@@ -102,6 +102,15 @@ macro_rules! rows {
             ; else Ipv4Flags, Ipv6SitFlags, Ipv6Flags
         }
     };
+}
+
+/// A clone equals its source.
+impl Clone for InfoIpTunnel {
+    ghost is_clone = { λ source copy. copy ≡ source };
+
+    fn clone(&self) -> Result<InfoIpTunnel, AllocError> {
+        rows!(clone_by_rows self)
+    }
 }
 
 impl RowFamily for InfoIpTunnel {

@@ -5,18 +5,18 @@ ghost use Rattle.linkinfo_tunnels.specs.Vti.{vti_attribute, vti_keeps, vti_looku
 ghost use Rattle.linkinfo_table.specs.FamilyRows.{row_of, table_row};
 ghost use Rattle.linkinfo_table.specs.Rows.{meaning_in, memory_in};
 ghost use Rattle.nla_frame.specs.declared.error.Family.TheVariants as family;
-ghost use Rattle.std.specs.Prelude.{refl};
+ghost use Rattle.std.specs.Prelude.{◌≡◌, refl};
 
 use linkinfo_table::{
-    Found, Part, Place, TableFamily, WrittenByTable, part_by_rows, put_by_rows, row_emit_payload,
-    row_emit_value, row_fit_len, row_kind, row_read, row_value_len,
+    Found, Part, Place, TableFamily, WrittenByTable, clone_by_rows, part_by_rows, put_by_rows,
+    row_emit_payload, row_emit_value, row_fit_len, row_kind, row_read, row_value_len,
 };
 use nla_frame::{DecodeError, DefaultNla, ExactEq, Family, Nla, NlaBuffer, Parseable};
 use std::alloc::{AllocError, Global};
 use std::net::IpAddr;
 
 /// An attribute of a VTI tunnel: of a link of the kind `vti` or `vti6` (include/uapi/linux/if_tunnel.h).
-#[derive(Debug, PartialEq, Eq, Clone, Drop)]
+#[derive(Debug, PartialEq, Eq, Drop)]
 pub enum InfoVti {
     /// The index of the underlying interface (`IFLA_VTI_LINK`), native byte order.
     Link(u32),
@@ -45,6 +45,15 @@ macro_rules! rows {
             (IFLA_VTI_FWMARK = 6, le32, FwMark),
         }
     };
+}
+
+/// A clone equals its source.
+impl Clone for InfoVti {
+    ghost is_clone = { λ source copy. copy ≡ source };
+
+    fn clone(&self) -> Result<InfoVti, AllocError> {
+        rows!(clone_by_rows self)
+    }
 }
 
 impl TableFamily for InfoVti {

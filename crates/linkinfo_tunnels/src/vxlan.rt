@@ -5,19 +5,19 @@ ghost use Rattle.linkinfo_tunnels.specs.Vxlan.{vxlan_attribute, vxlan_keeps, vxl
 ghost use Rattle.linkinfo_table.specs.FamilyRows.{row_of, table_row};
 ghost use Rattle.linkinfo_table.specs.Rows.{meaning_in, memory_in};
 ghost use Rattle.nla_frame.specs.declared.error.Family.TheVariants as family;
-ghost use Rattle.std.specs.Prelude.{refl};
+ghost use Rattle.std.specs.Prelude.{◌≡◌, refl};
 
 use linkinfo_numbers::VxlanDf;
 use linkinfo_table::{
-    Found, Part, Place, TableFamily, WrittenByTable, part_by_rows, put_by_rows, row_emit_payload,
-    row_emit_value, row_fit_len, row_kind, row_read, row_value_len,
+    Found, Part, Place, TableFamily, WrittenByTable, clone_by_rows, part_by_rows, put_by_rows,
+    row_emit_payload, row_emit_value, row_fit_len, row_kind, row_read, row_value_len,
 };
 use nla_frame::{DecodeError, DefaultNla, ExactEq, Family, Nla, NlaBuffer, Parseable};
 use std::alloc::{AllocError, Global};
 use std::net::{Ipv4Addr, Ipv6Addr};
 
 /// An attribute of a VXLAN tunnel: of a link of the kind `vxlan` (include/uapi/linux/if_link.h).
-#[derive(Debug, PartialEq, Eq, Clone, Drop)]
+#[derive(Debug, PartialEq, Eq, Drop)]
 pub enum InfoVxlan {
     /// The identifier of the network, 24 bits (`IFLA_VXLAN_ID`), native byte order.
     Id(u32),
@@ -132,6 +132,15 @@ macro_rules! rows {
             (IFLA_VXLAN_MC_ROUTE = 34, truth, McRoute),
         }
     };
+}
+
+/// A clone equals its source.
+impl Clone for InfoVxlan {
+    ghost is_clone = { λ source copy. copy ≡ source };
+
+    fn clone(&self) -> Result<InfoVxlan, AllocError> {
+        rows!(clone_by_rows self)
+    }
 }
 
 impl TableFamily for InfoVxlan {
