@@ -17,7 +17,7 @@ use Rattle.linkinfo_numbers.specs.Table.{Table, IsTable, by_name, value_of, IsPr
 use Rattle.linkinfo_numbers.specs.Name.{name_of, name_attribute, name_of-name_attribute, name_of_is_utf8}
 use Rattle.linkinfo_numbers.specs.NameNumber.{TellsBytes, ascii_is_bytes, bytes_from, bytes_from-padded, is_numbered, is_numbered_then, number_of_name}
 use Rattle.linkinfo_numbers.specs.NameNumber.{part_of_first-alike, same-is_numbered, same-is_numbered_then}
-use Rattle.linkinfo_numbers.specs.Tags.{Tags, IsTagged, ascii_is_utf8, is_ascii, tag_among, tag_at, tag-value_of, kind-tag_at, tag_at-key}
+use Rattle.linkinfo_numbers.specs.Tags.{Tags, IsOtherOrTagged, IsTagged, ascii_is_utf8, is_ascii, tag_among, tag_at, tag-value_of, kind-tag_at, tag_at-key}
 use Rattle.linkinfo_numbers.specs.Tags.{tag_among-of_length, tag_among-other_length}
 
 -- the text of each kind
@@ -205,6 +205,21 @@ kind_table_holds = record {
 
 pub kind_tags_hold : IsTagged kind_table kind_tags
 kind_tags_hold = record { tagged = elim [ kind.Other name ↦ inl refl | _ ↦ inr refl ]; other_untagged = λ name. refl }
+
+tagged_choice : (k : InfoKind) → IsOtherOrTagged kind_table kind_tags k → ((text : List ℕ) → k ≢ kind.Other text) →
+    kind_of_tag (tag_of_kind k) ≡ Some k
+tagged_choice k (inl q) named = absurd (named (text_of_kind k) q)
+tagged_choice k (inr e) named = e
+
+-- the kind of the tag of a kind that is not `Other` is that kind
+pub kind_of_tag-tag_of_kind : (k : InfoKind) → ((text : List ℕ) → k ≢ kind.Other text) → kind_of_tag (tag_of_kind k) ≡ Some k
+kind_of_tag-tag_of_kind k named = tagged_choice k (kind_tags_hold.tagged k) named
+
+pub only_kind : (got k : InfoKind) → Some got ≡ Some k → got ≡ k
+only_kind got k e = ap (λ o. unwrap_or o got) e
+
+pub no_kind : (k : InfoKind) → None ≢ Some k
+no_kind k e = let never : true ≡ false = ap is_none e in cc
 
 -- the tag of the kind of a name is the tag of that name
 pub tag_of_kind-kind_of_name : (name : List ℕ) → tag_of_kind (kind_of_name name) ≡ tag_of_name name
