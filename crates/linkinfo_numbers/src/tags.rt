@@ -174,15 +174,25 @@ pub fn tag_of_name(name: &[u8]) -> KindTag
 }
 
 const IFB: u32 = number_of_four!(b"ifb\0");
+
 const TUN: u32 = number_of_four!(b"tun\0");
+
 const SIT: u32 = number_of_four!(b"sit\0");
+
 const GRE: u32 = number_of_four!(b"gre\0");
+
 const VTI: u32 = number_of_four!(b"vti\0");
+
 const VRF: u32 = number_of_four!(b"vrf\0");
+
 const GTP: u32 = number_of_four!(b"gtp\0");
+
 const HSR: u32 = number_of_four!(b"hsr\0");
+
 const AMT: u32 = number_of_four!(b"amt\0");
+
 const CAN: u32 = number_of_four!(b"can\0");
+
 const DSA: u32 = number_of_four!(b"dsa\0");
 
 /// The tag of the name of three bytes that has this number.
@@ -207,14 +217,23 @@ fn tag_of_three(number: u32) -> KindTag
 }
 
 const VLAN: u32 = number_of_four!(b"vlan");
+
 const VETH: u32 = number_of_four!(b"veth");
+
 const BOND: u32 = number_of_four!(b"bond");
+
 const IPIP: u32 = number_of_four!(b"ipip");
+
 const VTI6: u32 = number_of_four!(b"vti6");
+
 const XFRM: u32 = number_of_four!(b"xfrm");
+
 const VCAN: u32 = number_of_four!(b"vcan");
+
 const WWAN: u32 = number_of_four!(b"wwan");
+
 const TEAM: u32 = number_of_four!(b"team");
+
 const PFCP: u32 = number_of_four!(b"pfcp");
 
 /// The tag of the name of four bytes that has this number.
@@ -238,10 +257,15 @@ fn tag_of_four(number: u32) -> KindTag
 }
 
 const DUMMY: u64 = number_of_eight!(b"dummy\0\0\0");
+
 const NLMON: u64 = number_of_eight!(b"nlmon\0\0\0");
+
 const VXLAN: u64 = number_of_eight!(b"vxlan\0\0\0");
+
 const IPOIB: u64 = number_of_eight!(b"ipoib\0\0\0");
+
 const VXCAN: u64 = number_of_eight!(b"vxcan\0\0\0");
+
 const RMNET: u64 = number_of_eight!(b"rmnet\0\0\0");
 
 /// The tag of the name of five bytes that has this number.
@@ -261,15 +285,25 @@ fn tag_of_five(number: u64) -> KindTag
 }
 
 const BRIDGE: u64 = number_of_eight!(b"bridge\0\0");
+
 const IPVLAN: u64 = number_of_eight!(b"ipvlan\0\0");
+
 const IPVTAP: u64 = number_of_eight!(b"ipvtap\0\0");
+
 const GRETAP: u64 = number_of_eight!(b"gretap\0\0");
+
 const IP6TNL: u64 = number_of_eight!(b"ip6tnl\0\0");
+
 const IP6GRE: u64 = number_of_eight!(b"ip6gre\0\0");
+
 const MACSEC: u64 = number_of_eight!(b"macsec\0\0");
+
 const GENEVE: u64 = number_of_eight!(b"geneve\0\0");
+
 const NETKIT: u64 = number_of_eight!(b"netkit\0\0");
+
 const BATADV: u64 = number_of_eight!(b"batadv\0\0");
+
 const ERSPAN: u64 = number_of_eight!(b"erspan\0\0");
 
 /// The tag of the name of six bytes that has this number.
@@ -294,7 +328,9 @@ fn tag_of_six(number: u64) -> KindTag
 }
 
 const MACVLAN: u64 = number_of_eight!(b"macvlan\0");
+
 const MACVTAP: u64 = number_of_eight!(b"macvtap\0");
+
 const BAREUDP: u64 = number_of_eight!(b"bareudp\0");
 
 /// The tag of the name of seven bytes that has this number.
@@ -311,9 +347,13 @@ fn tag_of_seven(number: u64) -> KindTag
 }
 
 const IP6GRETAP: u64 = number_of_eight!(b"ip6gretap");
+
 const WIREGUARD: u64 = number_of_eight!(b"wireguard");
+
 const NETDEVSIM: u64 = number_of_eight!(b"netdevsim");
+
 const VIRT_WIFI: u64 = number_of_eight!(b"virt_wifi");
+
 const IP6ERSPAN: u64 = number_of_eight!(b"ip6erspan");
 
 /// The tag of a name of nine bytes, given by the number of the first eight and the last.

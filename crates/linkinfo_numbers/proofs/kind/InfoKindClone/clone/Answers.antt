@@ -6,7 +6,7 @@ use Rattle.linkinfo_numbers.proofs.kind.InfoKindClone.clone.Goals as goal
 pub returns-in-Some : goal.returns-in-Some
 returns-in-Some c = record {
   cases = only_kind c.in-Some.kind c.args.self.now
-  (sym c.in-Some.is ∙ (c.from_tag.ensures ∙ (ap kind_of_tag c.tag.ensures ∙ kind_of_tag-tag_of_kind c.args.self.now c.in_default.not-Other)));
+      (sym c.in-Some.is ∙ (c.from_tag.ensures ∙ (ap kind_of_tag c.tag.ensures ∙ kind_of_tag-tag_of_kind c.args.self.now c.in_default.not-Other)));
 }
 
 pub unreachable-requires : goal.unreachable-requires
