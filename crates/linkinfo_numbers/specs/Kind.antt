@@ -1,19 +1,23 @@
 -- The names of link kinds.
-use Rattle.std.specs.Prelude.{◌≡◌, ◌≢◌, ◌==◌, ℕ, true, false, List, [], ◌∷◌, filter, length, codes, Option, Some, None, unwrap_or}
+use Rattle.std.specs.Prelude.{◌≡◌, ◌≢◌, ◌==◌, ℕ, true, false, List, [], ◌∷◌, ◌++◌, ◌+◌, ◌-◌, filter, length, replicate, codes, Option, Some, None, unwrap_or}
 use Rattle.std.specs.Prelude.{is_none, ◌↔◌, Bool, Result, Ok, Err, refl}
-use Rattle.std.specs.List.{list_all, list_any}
-use Rattle.std.specs.Str.{is_utf8}
-use Rattle.std.proofs.Common.{inl, inr, sym, ap, subst, ◌∙◌, lit<}
+use Rattle.std.specs.List.{list_all, list_any, slice_index}
+use Rattle.std.specs.Str.{bytes_eq, is_utf8}
+use Rattle.std.specs.Int.{Width, byte_len, from_le_bytes}
+use Rattle.std.proofs.Common.{arith, inl, inr, sym, ap, subst, suc, ◌≤◌, ◌∙◌, lit<}
+use Rattle.std.proofs.lemmas.Bool.Decides.{Decides-eqb}
 use Rattle.std.proofs.lemmas.Slice.Eq.{bytes_eq-Decides}
-use Rattle.nla_frame.specs.Attribute.{Attribute}
+use Rattle.nla_frame.specs.Attribute.{Attribute, IsBytes}
 use Rattle.nla_frame.specs.declared.error.DecodeError.{DecodeError}
 use Rattle.linkinfo_numbers.specs.declared.tags.KindTag.{KindTag}
 use Rattle.linkinfo_numbers.specs.declared.tags.KindTag.TheVariants as tag
 use Rattle.linkinfo_numbers.specs.declared.kind.InfoKind.{InfoKind}
 use Rattle.linkinfo_numbers.specs.declared.kind.InfoKind.TheVariants as kind
-use Rattle.linkinfo_numbers.specs.Table.{Table, IsTable, by_name, value_of, IsProper, apart_by, key-value_of, value_of-key, value_of_is_proper}
+use Rattle.linkinfo_numbers.specs.Table.{Table, IsTable, by_name, value_of, IsProper, apart_by, key-value_of, value_of-key, value_of_is_proper, part_of_first}
 use Rattle.linkinfo_numbers.specs.Name.{name_of, name_attribute, name_of-name_attribute, name_of_is_utf8}
-use Rattle.linkinfo_numbers.specs.Tags.{Tags, IsTagged, ascii_is_utf8, is_ascii, tag_among, tag_at, tag-value_of, kind-tag_at, tag_at-key}
+use Rattle.linkinfo_numbers.specs.NameNumber.{TellsBytes, ascii_is_bytes, bytes_from, bytes_from-padded, is_numbered, is_numbered_then, number_of_name}
+use Rattle.linkinfo_numbers.specs.NameNumber.{part_of_first-alike, same-is_numbered, same-is_numbered_then}
+use Rattle.linkinfo_numbers.specs.Tags.{Tags, IsOtherOrTagged, IsTagged, ascii_is_utf8, is_ascii, tag_among, tag_at, tag-value_of, kind-tag_at, tag_at-key}
 use Rattle.linkinfo_numbers.specs.Tags.{tag_among-of_length, tag_among-other_length}
 
 -- the text of each kind
@@ -202,6 +206,21 @@ kind_table_holds = record {
 pub kind_tags_hold : IsTagged kind_table kind_tags
 kind_tags_hold = record { tagged = elim [ kind.Other name ↦ inl refl | _ ↦ inr refl ]; other_untagged = λ name. refl }
 
+tagged_choice : (k : InfoKind) → IsOtherOrTagged kind_table kind_tags k → ((text : List ℕ) → k ≢ kind.Other text) →
+    kind_of_tag (tag_of_kind k) ≡ Some k
+tagged_choice k (inl q) named = absurd (named (text_of_kind k) q)
+tagged_choice k (inr e) named = e
+
+-- the kind of the tag of a kind that is not `Other` is that kind
+pub kind_of_tag-tag_of_kind : (k : InfoKind) → ((text : List ℕ) → k ≢ kind.Other text) → kind_of_tag (tag_of_kind k) ≡ Some k
+kind_of_tag-tag_of_kind k named = tagged_choice k (kind_tags_hold.tagged k) named
+
+pub only_kind : (got k : InfoKind) → Some got ≡ Some k → got ≡ k
+only_kind got k e = ap (λ o. unwrap_or o got) e
+
+pub no_kind : (k : InfoKind) → None ≢ Some k
+no_kind k e = let never : true ≡ false = ap is_none e in cc
+
 -- the tag of the kind of a name is the tag of that name
 pub tag_of_kind-kind_of_name : (name : List ℕ) → tag_of_kind (kind_of_name name) ≡ tag_of_name name
 unfolding kind_of_name tag_of_name
@@ -252,6 +271,55 @@ unfolding tag_of_name
 tag_of_name-length n name h =
     tag_among-of_length kind_table kind_tags bytes_eq-Decides known_kinds name
     ∙ ap (λ k. tag_among kind_table kind_tags (kinds_of_length k) name) h
+
+known_ascii : list_all (λ k. is_ascii (text_of_kind k)) known_kinds ≡ true
+unfolding known_kinds
+known_ascii = refl
+
+-- the tag of the first known kind of this length whose name passes
+abbrev pub tag_by : (List ℕ → Bool) → ℕ → KindTag
+tag_by test n = part_of_first (λ k. test (text_of_kind k)) tag_of_kind tag.Other (kinds_of_length n)
+
+-- a name is looked for by each test that says which names of its length it is
+pub tag_of_name-by : (test : List ℕ → Bool) (name : List ℕ) →
+    ((text : List ℕ) → length text ≡ length name → IsBytes text → bytes_eq text name ≡ test text) →
+    tag_of_name name ≡ tag_by test (length name)
+tag_of_name-by test name same =
+    tag_of_name-length (length name) name refl
+    ∙ part_of_first-alike (λ k. is_ascii (text_of_kind k)) (λ k. length (text_of_kind k) == length name)
+    (λ k. bytes_eq (text_of_kind k) name) (λ k. test (text_of_kind k)) tag_of_kind tag.Other
+    (λ k ascii long. same (text_of_kind k) ((Decides-eqb (length (text_of_kind k)) (length name)).0 long) (ascii_is_bytes (text_of_kind k) ascii))
+    known_kinds known_ascii
+
+-- the tag of the name of this length and number
+abbrev pub tag_of_number : Width → ℕ → ℕ → KindTag
+tag_of_number w n number = tag_by (is_numbered w number) n
+
+-- a name is looked for by the number of its bytes, with zeros behind them
+pub tag_of_name-number : (w : Width) → TellsBytes w → (n number : ℕ) (name : List ℕ) → IsBytes name → length name ≡ n →
+    n + (byte_len w - n) ≡ byte_len w → number ≡ from_le_bytes w (bytes_from 0 n name ++ replicate (byte_len w - n) 0) →
+    tag_of_number w n number ≡ tag_of_name name
+tag_of_name-number w tells n number name of_name long fits is =
+    let padded : number ≡ number_of_name w name =
+    is ∙ ap (from_le_bytes w) (bytes_from-padded 0 n (byte_len w - n) (byte_len w) name (omega (arith, long)) fits) in
+    let found : tag_of_name name ≡ tag_by (is_numbered w (number_of_name w name)) (length name) =
+    tag_of_name-by (is_numbered w (number_of_name w name)) name
+    (λ text same of_text. same-is_numbered w tells name text of_name of_text same (omega (arith, fits, long, same))) in
+    rw (← long, padded) (sym found)
+
+-- the tag of the name of this length whose first bytes have this number, and whose next byte is this
+abbrev pub tag_of_number_then : Width → ℕ → ℕ → ℕ → KindTag
+tag_of_number_then w n number last = tag_by (is_numbered_then w number last) n
+
+-- a name is looked for by the number of its first bytes and the next one
+pub tag_of_name-number_then : (w : Width) → TellsBytes w → (n number last : ℕ) (name : List ℕ) → IsBytes name → length name ≡ n →
+    n ≤ suc (byte_len w) → number ≡ number_of_name w name → last ≡ slice_index name (byte_len w) →
+    tag_of_number_then w n number last ≡ tag_of_name name
+tag_of_name-number_then w tells n number last name of_name long fits is ends =
+    let found : tag_of_name name ≡ tag_by (is_numbered_then w (number_of_name w name) (slice_index name (byte_len w))) (length name) =
+    tag_of_name-by (is_numbered_then w (number_of_name w name) (slice_index name (byte_len w))) name
+    (λ text same of_text. same-is_numbered_then w tells name text of_name of_text same (omega (arith, fits, long, same))) in
+    rw (← long, is, ends) (sym found)
 
 -- the lengths of the known names
 abbrev pub name_lengths : List ℕ

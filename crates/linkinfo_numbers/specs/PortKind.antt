@@ -1,7 +1,7 @@
 -- The names of port kinds.
 use Rattle.std.specs.Prelude.{◌≡◌, ◌≢◌, ℕ, true, false, List, [], ◌∷◌, codes, Option, Some, None, unwrap_or, is_none, ◌↔◌, Bool, Result}
 use Rattle.std.specs.Prelude.{Ok, Err, refl}
-use Rattle.std.specs.Str.{is_utf8}
+use Rattle.std.specs.Str.{bytes_eq, is_utf8}
 use Rattle.std.proofs.Common.{inl, inr, sym, ap, subst, ◌∙◌, lit<}
 use Rattle.std.proofs.lemmas.Slice.Eq.{bytes_eq-Decides}
 use Rattle.nla_frame.specs.Attribute.{Attribute}
@@ -11,6 +11,12 @@ use Rattle.linkinfo_numbers.specs.declared.tags.PortTag.TheVariants as tag
 use Rattle.linkinfo_numbers.specs.declared.port_kind.InfoPortKind.{InfoPortKind}
 use Rattle.linkinfo_numbers.specs.declared.port_kind.InfoPortKind.TheVariants as kind
 use Rattle.linkinfo_numbers.specs.Table.{Table, IsTable, by_name, value_of, IsProper, apart_by, key-value_of, value_of-key, value_of_is_proper}
+use Rattle.linkinfo_numbers.specs.Table.{part_of_first-missed}
+use Rattle.linkinfo_numbers.specs.Kind.{known_kinds, kind_of_name-tagged, kind_of_tag, tag_of_name, text_of_kind, text_of_kind-kind_of_name}
+use Rattle.linkinfo_numbers.specs.declared.tags.KindTag.{KindTag}
+use Rattle.linkinfo_numbers.specs.declared.tags.KindTag.TheVariants as link
+use Rattle.linkinfo_numbers.specs.declared.kind.InfoKind.{InfoKind}
+use Rattle.linkinfo_numbers.specs.declared.kind.InfoKind.TheVariants as link_kind
 use Rattle.linkinfo_numbers.specs.Name.{name_of, name_attribute, name_of-name_attribute, name_of_is_utf8}
 use Rattle.linkinfo_numbers.specs.Tags.{Tags, IsTagged, ascii_is_utf8, is_ascii, tag_at, tag-value_of, kind-tag_at, tag_at-key}
 
@@ -166,3 +172,58 @@ read_from_name (Err fault) utf8 k e = cc
 -- a kind that is read is not `Other` of a known name, and its text is UTF-8
 pub port_kind_meaning_is_proper : (a : Attribute) (k : InfoPortKind) → port_kind_meaning a ≡ Ok k → IsProper port_kind_table k × (is_utf8 (text_of_port_kind k) ≡ true)
 port_kind_meaning_is_proper a k e = read_from_name (name_of 4 a) (name_of_is_utf8 4 a) k e
+
+-- ---- the names of port kinds are names of link kinds
+
+-- a name that has the tag of a known link kind is the text of that kind
+pub name_of_tagged : (name : List ℕ) (k : InfoKind) → kind_of_tag (tag_of_name name) ≡ Some k → name ≡ text_of_kind k
+name_of_tagged name k e = sym (text_of_kind-kind_of_name name) ∙ ap text_of_kind (kind_of_name-tagged name k e)
+
+-- so the tag of a name as a port kind follows from its tag as a link kind
+pub port_tag-bond : (name : List ℕ) → tag_of_name name ≡ link.Bond → tag.Bond ≡ port_tag_of_name name
+unfolding known_port_kinds port_tag_of_name
+port_tag-bond name e = rw (name_of_tagged name link_kind.Bond (ap kind_of_tag e)) refl
+
+pub port_tag-bridge : (name : List ℕ) → tag_of_name name ≡ link.Bridge → tag.Bridge ≡ port_tag_of_name name
+unfolding known_port_kinds port_tag_of_name
+port_tag-bridge name e = rw (name_of_tagged name link_kind.Bridge (ap kind_of_tag e)) refl
+
+pub port_tag-vrf : (name : List ℕ) → tag_of_name name ≡ link.Vrf → tag.Vrf ≡ port_tag_of_name name
+unfolding known_port_kinds port_tag_of_name
+port_tag-vrf name e = rw (name_of_tagged name link_kind.Vrf (ap kind_of_tag e)) refl
+
+pub port_tag-team : (name : List ℕ) → tag_of_name name ≡ link.Team → tag.Team ≡ port_tag_of_name name
+unfolding known_port_kinds port_tag_of_name
+port_tag-team name e = rw (name_of_tagged name link_kind.Team (ap kind_of_tag e)) refl
+
+not_text : (k : InfoPortKind) (name : List ℕ) (t : KindTag) → tag_of_name (text_of_port_kind k) ≡ t → tag_of_name name ≢ t →
+    ¬ (bytes_eq (text_of_port_kind k) name ≡ true)
+not_text k name t is other found = other (ap tag_of_name (sym ((bytes_eq-Decides (text_of_port_kind k) name).0 found)) ∙ is)
+
+tag_of_bond : tag_of_name (codes "bond") ≡ link.Bond
+unfolding tag_of_name known_kinds
+tag_of_bond = refl
+
+tag_of_bridge : tag_of_name (codes "bridge") ≡ link.Bridge
+unfolding tag_of_name known_kinds
+tag_of_bridge = refl
+
+tag_of_vrf : tag_of_name (codes "vrf") ≡ link.Vrf
+unfolding tag_of_name known_kinds
+tag_of_vrf = refl
+
+tag_of_team : tag_of_name (codes "team") ≡ link.Team
+unfolding tag_of_name known_kinds
+tag_of_team = refl
+
+pub port_tag-other : (name : List ℕ) → tag_of_name name ≢ link.Bond → tag_of_name name ≢ link.Bridge → tag_of_name name ≢ link.Vrf →
+    tag_of_name name ≢ link.Team → tag.Other ≡ port_tag_of_name name
+unfolding known_port_kinds port_tag_of_name
+port_tag-other name bond bridge vrf team =
+    sym (part_of_first-missed (λ k. bytes_eq (text_of_port_kind k) name) tag_of_port_kind tag.Other known_port_kinds (
+      not_text kind.Bond name link.Bond tag_of_bond bond,
+      (
+        not_text kind.Bridge name link.Bridge tag_of_bridge bridge,
+        (not_text kind.Vrf name link.Vrf tag_of_vrf vrf, (not_text kind.Team name link.Team tag_of_team team, tt)),
+      ),
+    ))

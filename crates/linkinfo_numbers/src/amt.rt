@@ -56,7 +56,7 @@ impl fmt::Display for AmtMode {
         match self {
             AmtMode::Gateway => f.write_str("gateway"),
             AmtMode::Relay => f.write_str("relay"),
-            AmtMode::Other(number) => write!(f, "{number}"),
+            AmtMode::Other(number) => fmt::Display::fmt(number, f),
         }
     }
 }

@@ -61,7 +61,7 @@ impl fmt::Display for GeneveDf {
             GeneveDf::Unset => f.write_str("unset"),
             GeneveDf::Set => f.write_str("set"),
             GeneveDf::Inherit => f.write_str("inherit"),
-            GeneveDf::Other(number) => write!(f, "{number}"),
+            GeneveDf::Other(number) => fmt::Display::fmt(number, f),
         }
     }
 }

@@ -63,7 +63,7 @@ impl fmt::Display for IpVlanMode {
             IpVlanMode::L2 => f.write_str("l2"),
             IpVlanMode::L3 => f.write_str("l3"),
             IpVlanMode::L3S => f.write_str("l3s"),
-            IpVlanMode::Other(number) => write!(f, "{number}"),
+            IpVlanMode::Other(number) => fmt::Display::fmt(number, f),
         }
     }
 }

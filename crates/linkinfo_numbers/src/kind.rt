@@ -11,7 +11,7 @@ use std::alloc::{AllocError, Global};
 use std::fmt;
 
 /// The kind of a link: `IFLA_INFO_KIND`, the name of its driver (include/uapi/linux/if_link.h).
-#[derive(Clone, Debug, PartialEq, Eq, Drop)]
+#[derive(Debug, PartialEq, Eq, Drop)]
 pub enum InfoKind {
     /// `dummy`
     Dummy,
@@ -226,6 +226,21 @@ impl InfoKind {
         ensures { result ≡ kind_of_tag tag }
     {
         kinds!(kind_by_kinds tag)
+    }
+}
+
+/// A clone is equal. It takes memory for `Other` alone, and fails only where memory runs out.
+impl Clone for InfoKind {
+    ghost is_clone = { λ source copy. copy ≡ source };
+
+    fn clone(&self) -> Result<InfoKind, AllocError> {
+        match self {
+            InfoKind::Other(text) => Ok(InfoKind::Other(text.clone()?)),
+            known => match InfoKind::from_tag(known.tag()) {
+                Some(kind) => Ok(kind),
+                None => unreachable!(),
+            },
+        }
     }
 }
 

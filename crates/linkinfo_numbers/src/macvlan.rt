@@ -73,7 +73,7 @@ impl fmt::Display for MacVlanMode {
             MacVlanMode::Bridge => f.write_str("bridge"),
             MacVlanMode::Passthrough => f.write_str("passthru"),
             MacVlanMode::Source => f.write_str("source"),
-            MacVlanMode::Other(number) => write!(f, "{number}"),
+            MacVlanMode::Other(number) => fmt::Display::fmt(number, f),
         }
     }
 }

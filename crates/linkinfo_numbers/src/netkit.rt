@@ -56,7 +56,7 @@ impl fmt::Display for NetkitMode {
         match self {
             NetkitMode::L2 => f.write_str("l2"),
             NetkitMode::L3 => f.write_str("l3"),
-            NetkitMode::Other(number) => write!(f, "{number}"),
+            NetkitMode::Other(number) => fmt::Display::fmt(number, f),
         }
     }
 }
@@ -144,7 +144,7 @@ impl fmt::Display for NetkitPolicy {
             NetkitPolicy::Pass => f.write_str("forward"),
             NetkitPolicy::Drop => f.write_str("blackhole"),
             NetkitPolicy::Redirect => f.write_str("redirect"),
-            NetkitPolicy::Other(number) => write!(f, "{number}"),
+            NetkitPolicy::Other(number) => fmt::Display::fmt(number, f),
         }
     }
 }

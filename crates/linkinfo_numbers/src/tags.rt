@@ -1,9 +1,9 @@
 //! The names of link kinds and port kinds, and their tags.
 
-ghost use Rattle.std.specs.Prelude.{◌≡◌, length};
-ghost use Rattle.linkinfo_numbers.specs.Kind.{kind_table, kind_tags, kinds_of_length, tag_of_name};
+ghost use Rattle.std.specs.Int.{w32, w64};
+ghost use Rattle.std.specs.Prelude.{◌≡◌};
+ghost use Rattle.linkinfo_numbers.specs.Kind.{tag_of_name, tag_of_number, tag_of_number_then};
 ghost use Rattle.linkinfo_numbers.specs.PortKind.{port_tag_of_name};
-ghost use Rattle.linkinfo_numbers.specs.Tags.{tag_among};
 
 use nla_frame::ExactEq;
 
@@ -133,143 +133,253 @@ impl ExactEq for PortTag {
     ghost exact = { Prim.search rules };
 }
 
+/// The number of the first four bytes of a name, the lowest one first, as `u32::from_le_bytes` has it. A shorter name ends in zeros.
+macro_rules! number_of_four {
+    ($name:literal) => {
+        $name[0] as u32
+            | ($name[1] as u32) << 8
+            | ($name[2] as u32) << 16
+            | ($name[3] as u32) << 24
+    };
+}
+
+/// The number of the first eight bytes of a name, the lowest one first, as `u64::from_le_bytes` has it. A shorter name ends in zeros.
+macro_rules! number_of_eight {
+    ($name:literal) => {
+        number_of_four!($name) as u64
+            | ($name[4] as u64) << 32
+            | ($name[5] as u64) << 40
+            | ($name[6] as u64) << 48
+            | ($name[7] as u64) << 56
+    };
+}
+
 /// The tag of the kind of this name, given without a closing NUL; `Other` for every name that is not known.
+///
+/// A name is compared as a number, a word at a time.
 pub fn tag_of_name(name: &[u8]) -> KindTag
     ensures { result ≡ tag_of_name name.now }
 {
-    match name.len() {
-        3 => tag_of_three(name),
-        4 => tag_of_four(name),
-        5 => tag_of_five(name),
-        6 => tag_of_six(name),
-        7 => tag_of_seven(name),
-        9 => tag_of_nine(name),
+    match *name {
+        [a, b, c] => tag_of_three(u32::from_le_bytes([a, b, c, 0])),
+        [a, b, c, d] => tag_of_four(u32::from_le_bytes([a, b, c, d])),
+        [a, b, c, d, e] => tag_of_five(u64::from_le_bytes([a, b, c, d, e, 0, 0, 0])),
+        [a, b, c, d, e, f] => tag_of_six(u64::from_le_bytes([a, b, c, d, e, f, 0, 0])),
+        [a, b, c, d, e, f, g] => tag_of_seven(u64::from_le_bytes([a, b, c, d, e, f, g, 0])),
+        [a, b, c, d, e, f, g, h, last] => {
+            tag_of_nine(u64::from_le_bytes([a, b, c, d, e, f, g, h]), last)
+        }
         _ => KindTag::Other,
     }
 }
 
-/// The tag of a name of three bytes.
+const IFB: u32 = number_of_four!(b"ifb\0");
+
+const TUN: u32 = number_of_four!(b"tun\0");
+
+const SIT: u32 = number_of_four!(b"sit\0");
+
+const GRE: u32 = number_of_four!(b"gre\0");
+
+const VTI: u32 = number_of_four!(b"vti\0");
+
+const VRF: u32 = number_of_four!(b"vrf\0");
+
+const GTP: u32 = number_of_four!(b"gtp\0");
+
+const HSR: u32 = number_of_four!(b"hsr\0");
+
+const AMT: u32 = number_of_four!(b"amt\0");
+
+const CAN: u32 = number_of_four!(b"can\0");
+
+const DSA: u32 = number_of_four!(b"dsa\0");
+
+/// The tag of the name of three bytes that has this number.
 #[tactic(auto, unfolding(crate::specs::Kind::known_kinds))]
-fn tag_of_three(name: &[u8]) -> KindTag
-    requires { length name.now ≡ 3 }
-    ensures { result ≡ tag_among kind_table kind_tags (kinds_of_length 3) name.now }
+fn tag_of_three(number: u32) -> KindTag
+    ensures { result ≡ tag_of_number w32 3 number }
 {
-    match name {
-        [b'i', b'f', b'b'] => KindTag::Ifb,
-        [b't', b'u', b'n'] => KindTag::Tun,
-        [b's', b'i', b't'] => KindTag::SitTun,
-        [b'g', b'r', b'e'] => KindTag::GreTun,
-        [b'v', b't', b'i'] => KindTag::Vti,
-        [b'v', b'r', b'f'] => KindTag::Vrf,
-        [b'g', b't', b'p'] => KindTag::Gtp,
-        [b'h', b's', b'r'] => KindTag::Hsr,
-        [b'a', b'm', b't'] => KindTag::Amt,
-        [b'c', b'a', b'n'] => KindTag::Can,
-        [b'd', b's', b'a'] => KindTag::Dsa,
+    match number {
+        IFB => KindTag::Ifb,
+        TUN => KindTag::Tun,
+        SIT => KindTag::SitTun,
+        GRE => KindTag::GreTun,
+        VTI => KindTag::Vti,
+        VRF => KindTag::Vrf,
+        GTP => KindTag::Gtp,
+        HSR => KindTag::Hsr,
+        AMT => KindTag::Amt,
+        CAN => KindTag::Can,
+        DSA => KindTag::Dsa,
         _ => KindTag::Other,
     }
 }
 
-/// The tag of a name of four bytes.
+const VLAN: u32 = number_of_four!(b"vlan");
+
+const VETH: u32 = number_of_four!(b"veth");
+
+const BOND: u32 = number_of_four!(b"bond");
+
+const IPIP: u32 = number_of_four!(b"ipip");
+
+const VTI6: u32 = number_of_four!(b"vti6");
+
+const XFRM: u32 = number_of_four!(b"xfrm");
+
+const VCAN: u32 = number_of_four!(b"vcan");
+
+const WWAN: u32 = number_of_four!(b"wwan");
+
+const TEAM: u32 = number_of_four!(b"team");
+
+const PFCP: u32 = number_of_four!(b"pfcp");
+
+/// The tag of the name of four bytes that has this number.
 #[tactic(auto, unfolding(crate::specs::Kind::known_kinds))]
-fn tag_of_four(name: &[u8]) -> KindTag
-    requires { length name.now ≡ 4 }
-    ensures { result ≡ tag_among kind_table kind_tags (kinds_of_length 4) name.now }
+fn tag_of_four(number: u32) -> KindTag
+    ensures { result ≡ tag_of_number w32 4 number }
 {
-    match name {
-        [b'v', b'l', b'a', b'n'] => KindTag::Vlan,
-        [b'v', b'e', b't', b'h'] => KindTag::Veth,
-        [b'b', b'o', b'n', b'd'] => KindTag::Bond,
-        [b'i', b'p', b'i', b'p'] => KindTag::IpIp,
-        [b'v', b't', b'i', b'6'] => KindTag::Vti6,
-        [b'x', b'f', b'r', b'm'] => KindTag::Xfrm,
-        [b'v', b'c', b'a', b'n'] => KindTag::Vcan,
-        [b'w', b'w', b'a', b'n'] => KindTag::Wwan,
-        [b't', b'e', b'a', b'm'] => KindTag::Team,
-        [b'p', b'f', b'c', b'p'] => KindTag::Pfcp,
+    match number {
+        VLAN => KindTag::Vlan,
+        VETH => KindTag::Veth,
+        BOND => KindTag::Bond,
+        IPIP => KindTag::IpIp,
+        VTI6 => KindTag::Vti6,
+        XFRM => KindTag::Xfrm,
+        VCAN => KindTag::Vcan,
+        WWAN => KindTag::Wwan,
+        TEAM => KindTag::Team,
+        PFCP => KindTag::Pfcp,
         _ => KindTag::Other,
     }
 }
 
-/// The tag of a name of five bytes.
+const DUMMY: u64 = number_of_eight!(b"dummy\0\0\0");
+
+const NLMON: u64 = number_of_eight!(b"nlmon\0\0\0");
+
+const VXLAN: u64 = number_of_eight!(b"vxlan\0\0\0");
+
+const IPOIB: u64 = number_of_eight!(b"ipoib\0\0\0");
+
+const VXCAN: u64 = number_of_eight!(b"vxcan\0\0\0");
+
+const RMNET: u64 = number_of_eight!(b"rmnet\0\0\0");
+
+/// The tag of the name of five bytes that has this number.
 #[tactic(auto, unfolding(crate::specs::Kind::known_kinds))]
-fn tag_of_five(name: &[u8]) -> KindTag
-    requires { length name.now ≡ 5 }
-    ensures { result ≡ tag_among kind_table kind_tags (kinds_of_length 5) name.now }
+fn tag_of_five(number: u64) -> KindTag
+    ensures { result ≡ tag_of_number w64 5 number }
 {
-    match name {
-        [b'd', b'u', b'm', b'm', b'y'] => KindTag::Dummy,
-        [b'n', b'l', b'm', b'o', b'n'] => KindTag::Nlmon,
-        [b'v', b'x', b'l', b'a', b'n'] => KindTag::Vxlan,
-        [b'i', b'p', b'o', b'i', b'b'] => KindTag::Ipoib,
-        [b'v', b'x', b'c', b'a', b'n'] => KindTag::Vxcan,
-        [b'r', b'm', b'n', b'e', b't'] => KindTag::RmNet,
+    match number {
+        DUMMY => KindTag::Dummy,
+        NLMON => KindTag::Nlmon,
+        VXLAN => KindTag::Vxlan,
+        IPOIB => KindTag::Ipoib,
+        VXCAN => KindTag::Vxcan,
+        RMNET => KindTag::RmNet,
         _ => KindTag::Other,
     }
 }
 
-/// The tag of a name of six bytes.
+const BRIDGE: u64 = number_of_eight!(b"bridge\0\0");
+
+const IPVLAN: u64 = number_of_eight!(b"ipvlan\0\0");
+
+const IPVTAP: u64 = number_of_eight!(b"ipvtap\0\0");
+
+const GRETAP: u64 = number_of_eight!(b"gretap\0\0");
+
+const IP6TNL: u64 = number_of_eight!(b"ip6tnl\0\0");
+
+const IP6GRE: u64 = number_of_eight!(b"ip6gre\0\0");
+
+const MACSEC: u64 = number_of_eight!(b"macsec\0\0");
+
+const GENEVE: u64 = number_of_eight!(b"geneve\0\0");
+
+const NETKIT: u64 = number_of_eight!(b"netkit\0\0");
+
+const BATADV: u64 = number_of_eight!(b"batadv\0\0");
+
+const ERSPAN: u64 = number_of_eight!(b"erspan\0\0");
+
+/// The tag of the name of six bytes that has this number.
 #[tactic(auto, unfolding(crate::specs::Kind::known_kinds))]
-fn tag_of_six(name: &[u8]) -> KindTag
-    requires { length name.now ≡ 6 }
-    ensures { result ≡ tag_among kind_table kind_tags (kinds_of_length 6) name.now }
+fn tag_of_six(number: u64) -> KindTag
+    ensures { result ≡ tag_of_number w64 6 number }
 {
-    match name {
-        [b'b', b'r', b'i', b'd', b'g', b'e'] => KindTag::Bridge,
-        [b'i', b'p', b'v', b'l', b'a', b'n'] => KindTag::IpVlan,
-        [b'i', b'p', b'v', b't', b'a', b'p'] => KindTag::IpVtap,
-        [b'g', b'r', b'e', b't', b'a', b'p'] => KindTag::GreTap,
-        [b'i', b'p', b'6', b't', b'n', b'l'] => KindTag::Ip6Tnl,
-        [b'i', b'p', b'6', b'g', b'r', b'e'] => KindTag::GreTun6,
-        [b'm', b'a', b'c', b's', b'e', b'c'] => KindTag::MacSec,
-        [b'g', b'e', b'n', b'e', b'v', b'e'] => KindTag::Geneve,
-        [b'n', b'e', b't', b'k', b'i', b't'] => KindTag::Netkit,
-        [b'b', b'a', b't', b'a', b'd', b'v'] => KindTag::BatAdv,
-        [b'e', b'r', b's', b'p', b'a', b'n'] => KindTag::ErSpan,
+    match number {
+        BRIDGE => KindTag::Bridge,
+        IPVLAN => KindTag::IpVlan,
+        IPVTAP => KindTag::IpVtap,
+        GRETAP => KindTag::GreTap,
+        IP6TNL => KindTag::Ip6Tnl,
+        IP6GRE => KindTag::GreTun6,
+        MACSEC => KindTag::MacSec,
+        GENEVE => KindTag::Geneve,
+        NETKIT => KindTag::Netkit,
+        BATADV => KindTag::BatAdv,
+        ERSPAN => KindTag::ErSpan,
         _ => KindTag::Other,
     }
 }
 
-/// The tag of a name of seven bytes.
+const MACVLAN: u64 = number_of_eight!(b"macvlan\0");
+
+const MACVTAP: u64 = number_of_eight!(b"macvtap\0");
+
+const BAREUDP: u64 = number_of_eight!(b"bareudp\0");
+
+/// The tag of the name of seven bytes that has this number.
 #[tactic(auto, unfolding(crate::specs::Kind::known_kinds))]
-fn tag_of_seven(name: &[u8]) -> KindTag
-    requires { length name.now ≡ 7 }
-    ensures { result ≡ tag_among kind_table kind_tags (kinds_of_length 7) name.now }
+fn tag_of_seven(number: u64) -> KindTag
+    ensures { result ≡ tag_of_number w64 7 number }
 {
-    match name {
-        [b'm', b'a', b'c', b'v', b'l', b'a', b'n'] => KindTag::MacVlan,
-        [b'm', b'a', b'c', b'v', b't', b'a', b'p'] => KindTag::MacVtap,
-        [b'b', b'a', b'r', b'e', b'u', b'd', b'p'] => KindTag::BareUdp,
+    match number {
+        MACVLAN => KindTag::MacVlan,
+        MACVTAP => KindTag::MacVtap,
+        BAREUDP => KindTag::BareUdp,
         _ => KindTag::Other,
     }
 }
 
-/// The tag of a name of nine bytes.
+const IP6GRETAP: u64 = number_of_eight!(b"ip6gretap");
+
+const WIREGUARD: u64 = number_of_eight!(b"wireguard");
+
+const NETDEVSIM: u64 = number_of_eight!(b"netdevsim");
+
+const VIRT_WIFI: u64 = number_of_eight!(b"virt_wifi");
+
+const IP6ERSPAN: u64 = number_of_eight!(b"ip6erspan");
+
+/// The tag of a name of nine bytes, given by the number of the first eight and the last.
 #[tactic(auto, unfolding(crate::specs::Kind::known_kinds))]
-fn tag_of_nine(name: &[u8]) -> KindTag
-    requires { length name.now ≡ 9 }
-    ensures { result ≡ tag_among kind_table kind_tags (kinds_of_length 9) name.now }
+fn tag_of_nine(front: u64, last: u8) -> KindTag
+    ensures { result ≡ tag_of_number_then w64 9 front last }
 {
-    match name {
-        [b'i', b'p', b'6', b'g', b'r', b'e', b't', b'a', b'p'] => KindTag::GreTap6,
-        [b'w', b'i', b'r', b'e', b'g', b'u', b'a', b'r', b'd'] => KindTag::Wireguard,
-        [b'n', b'e', b't', b'd', b'e', b'v', b's', b'i', b'm'] => KindTag::Netdevsim,
-        [b'v', b'i', b'r', b't', b'_', b'w', b'i', b'f', b'i'] => KindTag::VirtWifi,
-        [b'i', b'p', b'6', b'e', b'r', b's', b'p', b'a', b'n'] => KindTag::Ip6ErSpan,
+    match (front, last) {
+        (IP6GRETAP, b'p') => KindTag::GreTap6,
+        (WIREGUARD, b'd') => KindTag::Wireguard,
+        (NETDEVSIM, b'm') => KindTag::Netdevsim,
+        (VIRT_WIFI, b'i') => KindTag::VirtWifi,
+        (IP6ERSPAN, b'n') => KindTag::Ip6ErSpan,
         _ => KindTag::Other,
     }
 }
 
 /// The tag of the port kind of this name, given without a closing NUL; `Other` for every name that is not known.
-#[tactic(auto, unfolding(crate::specs::PortKind::port_tag_of_name, crate::specs::PortKind::known_port_kinds))]
 pub fn port_tag_of_name(name: &[u8]) -> PortTag
     ensures { result ≡ port_tag_of_name name.now }
 {
-    match name {
-        [b'b', b'o', b'n', b'd'] => PortTag::Bond,
-        [b'b', b'r', b'i', b'd', b'g', b'e'] => PortTag::Bridge,
-        [b'v', b'r', b'f'] => PortTag::Vrf,
-        [b't', b'e', b'a', b'm'] => PortTag::Team,
+    match tag_of_name(name) {
+        KindTag::Bond => PortTag::Bond,
+        KindTag::Bridge => PortTag::Bridge,
+        KindTag::Vrf => PortTag::Vrf,
+        KindTag::Team => PortTag::Team,
         _ => PortTag::Other,
     }
 }

@@ -66,7 +66,7 @@ impl fmt::Display for TunnelEncapType {
             TunnelEncapType::Fou => f.write_str("fou"),
             TunnelEncapType::Gue => f.write_str("gue"),
             TunnelEncapType::Mpls => f.write_str("mpls"),
-            TunnelEncapType::Other(number) => write!(f, "{number}"),
+            TunnelEncapType::Other(number) => fmt::Display::fmt(number, f),
         }
     }
 }

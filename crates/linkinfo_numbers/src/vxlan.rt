@@ -59,7 +59,7 @@ impl fmt::Display for VxlanDf {
             VxlanDf::Unset => f.write_str("unset"),
             VxlanDf::Set => f.write_str("set"),
             VxlanDf::Inherit => f.write_str("inherit"),
-            VxlanDf::Other(number) => write!(f, "{number}"),
+            VxlanDf::Other(number) => fmt::Display::fmt(number, f),
         }
     }
 }

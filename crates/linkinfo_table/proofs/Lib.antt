@@ -1,2 +1,3 @@
 pub mod RowAnswers
 pub mod Writing
+mod Firsts

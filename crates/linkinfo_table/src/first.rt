@@ -88,10 +88,8 @@ pub fn first_canonical_len<F: LinkFamily>(bytes: &[u8], ctx: F::Context) -> Opti
     requires { IsOk (first_meaning (F.meaning ctx) (pieces bytes.now)) }
     ensures { let len = length (canonical_first F.attribute (F.meaning ctx) (pieces bytes.now)) in SomeIff result (len ≤ 65531) len }
 {
-    match next_piece(bytes, &mut HeaderCount::new()) {
-        Some(Ok((nla, _))) => fitting(4 + F::canonical_len(&nla, ctx)?.next_multiple_of(4)),
-        _ => unreachable!(),
-    }
+    let (nla, _) = next_piece(bytes, &mut HeaderCount::new()).unwrap().unwrap();
+    fitting(4 + F::canonical_len(&nla, ctx)?.next_multiple_of(4))
 }
 
 /// Writes the canonical string of the value that the first attribute means at the front of the buffer, leaves the bytes behind it, and answers its
@@ -104,8 +102,6 @@ pub fn first_put_canonical<F: LinkFamily>(bytes: &[u8], ctx: F::Context, buffer:
     ensures taken { result ≡ length (canonical_first F.attribute (F.meaning ctx) (pieces bytes.now)) }
     ensures written { let string = canonical_first F.attribute (F.meaning ctx) (pieces bytes.now) in buffer.new ≡ string ++ drop (length string) buffer.old }
 {
-    match next_piece(bytes, &mut HeaderCount::new()) {
-        Some(Ok((nla, _))) => F::put_canonical(&nla, ctx, buffer),
-        _ => unreachable!(),
-    }
+    let (nla, _) = next_piece(bytes, &mut HeaderCount::new()).unwrap().unwrap();
+    F::put_canonical(&nla, ctx, buffer)
 }
