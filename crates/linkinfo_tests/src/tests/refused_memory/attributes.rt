@@ -1,6 +1,7 @@
 //! Single attributes that are read.
 
-use crate::answers::MEMORY;
+use super::answers::MEMORY;
+use crate::tests::assertions::assert_holds;
 use linkinfo::{
     BitPeer, DecodeError, DefaultNla, HeaderCount, InfoAmt, InfoBareUdp, InfoBatAdv, InfoBond,
     InfoBondPort, InfoBridge, InfoBridgePort, InfoCan, InfoDsa, InfoGeneve, InfoGre, InfoGre6,
@@ -73,69 +74,71 @@ fn is_kept<'a, F: LinkFamily<Context = ()> + Parseable<NlaBuffer<'a>>>(
 }
 
 /// Whether each of the families keeps the attribute of a type that it does not have.
-macro_rules! all_keep {
-    ($alloc:expr; $($family:ty),*) => {
-        match NlaBuffer::new_checked(&UNKNOWN) {
-            Ok(nla) => $(is_kept::<$family>($alloc, &nla))&&*,
-            Err(_) => false,
-        }
+macro_rules! assert_kept {
+    ($rt:expr; $($family:ty),*) => {
+        let nla = NlaBuffer::new_checked(&UNKNOWN).expect(&$rt, "an attribute");
+        $(assert_holds(&$rt, &stringify!($family), is_kept::<$family>($rt.alloc(), &nla));)*
     };
 }
 
-pub(crate) fn without_a_family(alloc: Global) -> bool {
-    match NlaBuffer::new_checked(&UNKNOWN) {
-        Ok(nla) => parses_unknown::<DefaultNla>(alloc, &nla),
-        Err(_) => false,
-    }
+#[test]
+fn without_a_family(rt: HostRuntime) {
+    let nla = NlaBuffer::new_checked(&UNKNOWN).expect(&rt, "an attribute");
+    let kept = parses_unknown::<DefaultNla>(rt.alloc(), &nla);
+    assert_holds(&rt, &UNKNOWN, kept);
 }
 
-pub(crate) fn of_tunnels_over_udp(alloc: Global) -> bool {
-    all_keep!(alloc; InfoVxlan, InfoGeneve, InfoBareUdp, InfoGtp, InfoAmt)
+#[test]
+fn of_tunnels_over_udp(rt: HostRuntime) {
+    assert_kept!(rt; InfoVxlan, InfoGeneve, InfoBareUdp, InfoGtp, InfoAmt);
 }
 
-pub(crate) fn of_tunnels(alloc: Global) -> bool {
-    all_keep!(alloc; InfoGre, InfoGre6, InfoVti, InfoIpoib, InfoWwan)
+#[test]
+fn of_tunnels(rt: HostRuntime) {
+    assert_kept!(rt; InfoGre, InfoGre6, InfoVti, InfoIpoib, InfoWwan);
 }
 
-pub(crate) fn of_devices(alloc: Global) -> bool {
-    all_keep!(alloc; InfoXfrm, InfoVrf, InfoIpVlan, InfoIpVtap, InfoMacSec, InfoRmNet)
+#[test]
+fn of_devices(rt: HostRuntime) {
+    assert_kept!(rt; InfoXfrm, InfoVrf, InfoIpVlan, InfoIpVtap, InfoMacSec, InfoRmNet);
 }
 
-pub(crate) fn of_peers(alloc: Global) -> bool {
-    all_keep!(alloc; InfoVeth, InfoVxcan, InfoNetkit, InfoVethOf<BitPeer>, InfoBatAdv, InfoTun)
+#[test]
+fn of_peers(rt: HostRuntime) {
+    assert_kept!(rt; InfoVeth, InfoVxcan, InfoNetkit, InfoVethOf<BitPeer>, InfoBatAdv, InfoTun);
 }
 
-pub(crate) fn of_bonds_and_bridges(alloc: Global) -> bool {
-    all_keep!(alloc; InfoBond, InfoBondPort, InfoBridge, InfoBridgePort, InfoTeamPort, InfoVlan)
+#[test]
+fn of_bonds_and_bridges(rt: HostRuntime) {
+    assert_kept!(rt; InfoBond, InfoBondPort, InfoBridge, InfoBridgePort, InfoTeamPort, InfoVlan);
 }
 
-pub(crate) fn without_rows(alloc: Global) -> bool {
-    all_keep!(alloc; InfoCan, InfoHsr, InfoDsa, InfoWireguard, InfoPfcp)
+#[test]
+fn without_rows(rt: HostRuntime) {
+    assert_kept!(rt; InfoCan, InfoHsr, InfoDsa, InfoWireguard, InfoPfcp);
 }
 
 /// Families that are read under a context.
-pub(crate) fn by_context(alloc: Global) -> bool {
-    let Ok(nla) = NlaBuffer::new_checked(&UNKNOWN) else {
-        return false;
-    };
+#[test]
+fn by_context(rt: HostRuntime) {
+    let alloc = rt.alloc();
+    let nla = NlaBuffer::new_checked(&UNKNOWN).expect(&rt, "an attribute");
     let tunnel = match InfoIpTunnel::parse_with_param(alloc, &nla, &InfoKind::IpIp) {
         Err(MEMORY) => InfoIpTunnel::parse_with_param(alloc, &nla, &InfoKind::IpIp),
         answer => answer,
     };
-    is_written(tunnel, &KEPT)
-        && reads_unknown::<InfoIpTunnel>(alloc, &nla, KindTag::IpIp)
-        && parses_unknown::<InfoMacVlan>(alloc, &nla)
-        && reads_unknown::<InfoMacVlan>(alloc, &nla, 0)
-        && parses_unknown::<InfoMacVtap>(alloc, &nla)
-        && reads_unknown::<InfoMacVtap>(alloc, &nla, 0)
+    assert_holds(&rt, &"ipip", is_written(tunnel, &KEPT));
+    let read = reads_unknown::<InfoIpTunnel>(alloc, &nla, KindTag::IpIp);
+    assert_holds(&rt, &"ipip, read", read);
+    assert_holds(&rt, &"macvlan", parses_unknown::<InfoMacVlan>(alloc, &nla));
+    assert_holds(&rt, &"macvlan, read", reads_unknown::<InfoMacVlan>(alloc, &nla, 0));
+    assert_holds(&rt, &"macvtap", parses_unknown::<InfoMacVtap>(alloc, &nla));
+    assert_holds(&rt, &"macvtap, read", reads_unknown::<InfoMacVtap>(alloc, &nla, 0));
 }
 
-pub(crate) fn port_kinds(alloc: Global) -> bool {
-    match NlaBuffer::new_checked(&[5, 0, 4, 0, b'x']) {
-        Ok(nla) => is_written(
-            parse_at_last::<InfoPortKind>(alloc, &nla),
-            &[6, 0, 4, 0, b'x', 0, 0, 0],
-        ),
-        Err(_) => false,
-    }
+#[test]
+fn port_kinds(rt: HostRuntime) {
+    let nla = NlaBuffer::new_checked(&[5, 0, 4, 0, b'x']).expect(&rt, "an attribute");
+    let read = parse_at_last::<InfoPortKind>(rt.alloc(), &nla);
+    assert_holds(&rt, &"x", is_written(read, &[6, 0, 4, 0, b'x', 0, 0, 0]));
 }
