@@ -1,4 +1,4 @@
-//! Tests over worked strings, and over what a Linux kernel answered.
+//! Tests over worked strings, over what a Linux kernel answered, of lines that are read and answered, and of refused memory.
 
 mod assertions;
 mod attributes;

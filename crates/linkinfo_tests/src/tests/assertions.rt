@@ -207,7 +207,12 @@ fn assert_walked(rt: &impl Abort, bytes: &[u8], list: &VecLinkInfo) {
         let Some(Ok(found)) = walk.next() else {
             panic!(rt; "an attribute");
         };
-        assert_equal(rt, &bytes, &(found.raw_kind & 0x3fff), &(item.kind() & 0x3fff));
+        assert_equal(
+            rt,
+            &bytes,
+            &(found.raw_kind & 0x3fff),
+            &(item.kind() & 0x3fff),
+        );
         let behind = bytes.get(found.place..).unwrap_or_default();
         let payload = behind.get(4..4 + found.value.len());
         assert_equal(rt, &bytes, &payload, &Some(found.value));
@@ -294,7 +299,12 @@ fn assert_payload<T: Nla>(rt: &impl Abort, alloc: Global, value: &T, string: &[u
     let payload_len = value.value_len();
     value.emit_value(&mut buffer);
     assert_equal(rt, &string, &payload_len, &len);
-    assert_equal(rt, &string, &string.get(4..4 + len), &Some(buffer.as_slice()));
+    assert_equal(
+        rt,
+        &string,
+        &string.get(4..4 + len),
+        &Some(buffer.as_slice()),
+    );
     let mut longer = vec![in alloc; 255u8; len + 3].expect(rt, "memory");
     let taken = value.emit_payload(&mut longer);
     assert_equal(rt, &string, &taken, &len);
@@ -307,7 +317,12 @@ pub fn assert_attribute<T: Nla>(rt: &impl Abort, alloc: Global, value: &T, strin
     assert!(rt; value.fit_len().is_some());
     let len = value.buffer_len();
     assert_equal(rt, &string, &len, &string.len());
-    assert_equal(rt, &string, &string.get(2..4), &Some(value.kind().to_le_bytes().as_slice()));
+    assert_equal(
+        rt,
+        &string,
+        &string.get(2..4),
+        &Some(value.kind().to_le_bytes().as_slice()),
+    );
     assert!(rt; len <= 100_000);
     let mut buffer = vec![in alloc; 255u8; len + 3].expect(rt, "memory");
     value.emit(&mut buffer);

@@ -44,7 +44,12 @@ fn answers_the_first_fault(rt: HostRuntime) {
     let fault = link_fault(2, Cause::Order);
     let accepted = bytes_of(&rt, alloc, XFRM);
     assert_equal(&rt, &"order, header", &same(&order, &header), &Err(fault));
-    assert_equal(&rt, &"header, order", &same(&header, &order), &Err(HEADER_FAULT));
+    assert_equal(
+        &rt,
+        &"header, order",
+        &same(&header, &order),
+        &Err(HEADER_FAULT),
+    );
     assert_equal(&rt, &"none, order", &same(&accepted, &order), &Err(fault));
 }
 

@@ -66,8 +66,18 @@ fn assert_unfit(rt: &impl Abort, alloc: Global, string: &[u8]) {
     let read = parsed(rt, alloc, string);
     let case = "a list that does not fit";
     assert_equal(rt, &case, &nlas_fit_len(read.as_slice()), &None);
-    assert_equal(rt, &case, &read.to_vec(alloc).err(), &Some(ToVecError::Unfit));
-    assert_equal(rt, &case, &canon(alloc, string).err(), &Some(CanonError::Unfit));
+    assert_equal(
+        rt,
+        &case,
+        &read.to_vec(alloc).err(),
+        &Some(ToVecError::Unfit),
+    );
+    assert_equal(
+        rt,
+        &case,
+        &canon(alloc, string).err(),
+        &Some(CanonError::Unfit),
+    );
     assert_not_written(rt, alloc, string, 0, CanonIntoError::Unfit);
     assert_not_written(rt, alloc, string, 70_000, CanonIntoError::Unfit);
 }

@@ -1,8 +1,6 @@
 //! Address lists inside address lists.
 
-use super::assertions::{
-    assert_canon_into, assert_emitted, assert_equal, assert_headers, parsed,
-};
+use super::assertions::{assert_canon_into, assert_emitted, assert_equal, assert_headers, parsed};
 use super::fronts::assert_fronts;
 use linkinfo::{Cause, DecodeError, Family, InfoData, InfoMacVlan, LinkInfo, same};
 use std::alloc::Global;

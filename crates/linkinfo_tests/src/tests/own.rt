@@ -13,12 +13,7 @@ const PEERS: [&str; 2] = [
 ];
 
 /// The string is accepted, and read as the list.
-fn assert_accepted(
-    rt: &impl Abort,
-    alloc: Global,
-    bytes: &[u8],
-    list: &VecLinkInfoOf<AnyPeer>,
-) {
+fn assert_accepted(rt: &impl Abort, alloc: Global, bytes: &[u8], list: &VecLinkInfoOf<AnyPeer>) {
     let read = VecLinkInfoOf::<AnyPeer>::parse(alloc, bytes).expect(rt, "a list");
     assert_holds(rt, &bytes, read == *list);
     assert_equal(rt, &bytes, &check_of::<AnyPeer>(bytes), &Ok(()));

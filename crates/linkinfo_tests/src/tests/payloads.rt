@@ -133,7 +133,12 @@ fn port_data_by_kind(rt: HostRuntime) {
     assert_port_bytes(&rt, alloc, "x");
     assert_port_bytes(&rt, alloc, "vrf");
     let short = read_port_data(alloc, &[5, 0, 1, 0, 7], &InfoPortKind::Vrf).err();
-    assert_equal(&rt, &"a short table", &short, &Some(length_fault(Family::Vrf)));
+    assert_equal(
+        &rt,
+        &"a short table",
+        &short,
+        &Some(length_fault(Family::Vrf)),
+    );
 }
 
 /// The statistics are read under this kind as these bytes.

@@ -165,10 +165,30 @@ fn refuses_other_peers(rt: HostRuntime) {
     let case = VETH_TAIL;
     assert_equal(&rt, &case, &check_of::<BitPeer>(&bytes), &Err(PEER_REFUSED));
     assert_equal(&rt, &case, &fault_of(alloc, &bytes), &Some(PEER_REFUSED));
-    assert_equal(&rt, &case, &rewritten, &Some(CanonError::Refused(PEER_REFUSED)));
-    assert_equal(&rt, &case, &written, &Err(CanonIntoError::Refused(PEER_REFUSED)));
-    assert_equal(&rt, &case, &same_of::<BitPeer>(&bytes, &[]), &Err(PEER_REFUSED));
-    assert_equal(&rt, &case, &same_of::<BitPeer>(&[], &bytes), &Err(PEER_REFUSED));
+    assert_equal(
+        &rt,
+        &case,
+        &rewritten,
+        &Some(CanonError::Refused(PEER_REFUSED)),
+    );
+    assert_equal(
+        &rt,
+        &case,
+        &written,
+        &Err(CanonIntoError::Refused(PEER_REFUSED)),
+    );
+    assert_equal(
+        &rt,
+        &case,
+        &same_of::<BitPeer>(&bytes, &[]),
+        &Err(PEER_REFUSED),
+    );
+    assert_equal(
+        &rt,
+        &case,
+        &same_of::<BitPeer>(&[], &bytes),
+        &Err(PEER_REFUSED),
+    );
 }
 
 /// Links with a peer of two bytes, and the families that their faults name.

@@ -61,7 +61,12 @@ fn faults_of_bits_have_places(rt: HostRuntime) {
         place: 12,
     };
     let bytes = bytes_of(&rt, alloc, two);
-    assert_equal(&rt, &two, &check_placed_of::<BitPeer>(&bytes), &Err(refused));
+    assert_equal(
+        &rt,
+        &two,
+        &check_placed_of::<BitPeer>(&bytes),
+        &Err(refused),
+    );
     assert_equal(&rt, &two, &check_placed(&bytes), &Ok(()));
     let elsewhere = PlacedFault {
         place: 0,
@@ -71,12 +76,7 @@ fn faults_of_bits_have_places(rt: HostRuntime) {
 }
 
 /// Comparing the strings answers this, whether peers are bytes or bits.
-fn assert_compared(
-    rt: &impl Abort,
-    a: &[u8],
-    b: &[u8],
-    answer: Result<bool, FaultIn>,
-) {
+fn assert_compared(rt: &impl Abort, a: &[u8], b: &[u8], answer: Result<bool, FaultIn>) {
     let case = (a, b);
     assert_equal(rt, &case, &same_placed(a, b), &answer);
     assert_equal(rt, &case, &same_placed_of::<BitPeer>(a, b), &answer);

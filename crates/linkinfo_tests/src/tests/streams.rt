@@ -225,6 +225,12 @@ fn answers_input_in_pieces(rt: HostRuntime) {
     for piece in 1..INPUT.len() + 2 {
         let mut reader = PieceReader::new(piece, 0);
         let writer = ArrayWriter::new(128, true);
-        assert_ended(&rt, rt.alloc(), piece, (&mut reader, writer), (Ok(()), ANSWER));
+        assert_ended(
+            &rt,
+            rt.alloc(),
+            piece,
+            (&mut reader, writer),
+            (Ok(()), ANSWER),
+        );
     }
 }

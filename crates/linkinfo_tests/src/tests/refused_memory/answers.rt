@@ -1,8 +1,6 @@
 //! The answers that a call may give where a request may be refused.
 
-use linkinfo::{
-    Cause, DecodeError, Family, LinkInfo, VecLinkInfo, emit_nlas, nlas_fit_len,
-};
+use linkinfo::{Cause, DecodeError, Family, LinkInfo, VecLinkInfo, emit_nlas, nlas_fit_len};
 use std::alloc::Global;
 
 /// Want of memory.

@@ -131,9 +131,17 @@ fn by_context(rt: HostRuntime) {
     let read = reads_unknown::<InfoIpTunnel>(alloc, &nla, KindTag::IpIp);
     assert_holds(&rt, &"ipip, read", read);
     assert_holds(&rt, &"macvlan", parses_unknown::<InfoMacVlan>(alloc, &nla));
-    assert_holds(&rt, &"macvlan, read", reads_unknown::<InfoMacVlan>(alloc, &nla, 0));
+    assert_holds(
+        &rt,
+        &"macvlan, read",
+        reads_unknown::<InfoMacVlan>(alloc, &nla, 0),
+    );
     assert_holds(&rt, &"macvtap", parses_unknown::<InfoMacVtap>(alloc, &nla));
-    assert_holds(&rt, &"macvtap, read", reads_unknown::<InfoMacVtap>(alloc, &nla, 0));
+    assert_holds(
+        &rt,
+        &"macvtap, read",
+        reads_unknown::<InfoMacVtap>(alloc, &nla, 0),
+    );
 }
 
 #[test]

@@ -23,7 +23,12 @@ fn checks(rt: HostRuntime) {
     assert_equal(&rt, &"nothing", &check(&[]), &Ok(()));
     assert_equal(&rt, &"xfrm", &check(&XFRM), &Ok(()));
     assert_equal(&rt, &"data twice", &check(&SECOND_PORT_DATA), &Err(order));
-    assert_equal(&rt, &"a stray byte", &check(&[4, 0, 9, 0, 0]), &Err(HEADER_FAULT));
+    assert_equal(
+        &rt,
+        &"a stray byte",
+        &check(&[4, 0, 9, 0, 0]),
+        &Err(HEADER_FAULT),
+    );
     assert_equal(&rt, &"counted", &check_counted(&XFRM, &mut count), &Ok(()));
     assert_equal(&rt, &"headers", &count.get(), &4);
 }
@@ -36,8 +41,18 @@ fn compares(rt: HostRuntime) {
     let order = link_fault(5, Cause::Order);
     assert_equal(&rt, &"names", &same(&open, &closed), &Ok(true));
     assert_equal(&rt, &"nothing", &same(&[], &[4, 0, 9, 0]), &Ok(false));
-    assert_equal(&rt, &"data twice", &same(&XFRM, &SECOND_PORT_DATA), &Err(order));
-    assert_equal(&rt, &"counted", &same_counted(&open, &closed, &mut count), &Ok(true));
+    assert_equal(
+        &rt,
+        &"data twice",
+        &same(&XFRM, &SECOND_PORT_DATA),
+        &Err(order),
+    );
+    assert_equal(
+        &rt,
+        &"counted",
+        &same_counted(&open, &closed, &mut count),
+        &Ok(true),
+    );
     assert_equal(&rt, &"headers", &count.get(), &4);
 }
 
