@@ -11,6 +11,7 @@ use linkinfo::{
     InfoWwan, InfoXfrm, KindTag, LinkFamily, Nla, NlaBuffer, Parseable, ParseableParametrized,
 };
 use std::alloc::Global;
+use std::process::Abort;
 
 /// An attribute of a type that no family has.
 const UNKNOWN: [u8; 5] = [5, 0, 255, 0, 1];
@@ -65,19 +66,23 @@ fn parses_unknown<'a, T: Parseable<NlaBuffer<'a>> + Nla + Drop>(
     is_written(parse_at_last::<T>(alloc, nla), &KEPT)
 }
 
-/// The same of both, where the context is none.
-fn is_kept<'a, F: LinkFamily<Context = ()> + Parseable<NlaBuffer<'a>>>(
+/// The family keeps the attribute by both calls, where the context is none.
+fn assert_kept<'a, F: LinkFamily<Context = ()> + Parseable<NlaBuffer<'a>>>(
+    rt: &impl Abort,
     alloc: Global,
     nla: &NlaBuffer<'a>,
-) -> bool {
-    parses_unknown::<F>(alloc, nla) && reads_unknown::<F>(alloc, nla, ())
+    family: &str,
+) {
+    assert_holds(rt, &family, parses_unknown::<F>(alloc, nla));
+    assert_holds(rt, &family, reads_unknown::<F>(alloc, nla, ()));
 }
 
-/// Whether each of the families keeps the attribute of a type that it does not have.
-macro_rules! assert_kept {
+/// Each of the families keeps the attribute of a type that it does not have.
+macro_rules! assert_all_kept {
     ($rt:expr; $($family:ty),*) => {
+        let alloc = $rt.alloc();
         let nla = NlaBuffer::new_checked(&UNKNOWN).expect(&$rt, "an attribute");
-        $(assert_holds(&$rt, &stringify!($family), is_kept::<$family>($rt.alloc(), &nla));)*
+        $(assert_kept::<$family>(&$rt, alloc, &nla, stringify!($family));)*
     };
 }
 
@@ -90,32 +95,32 @@ fn without_a_family(rt: HostRuntime) {
 
 #[test]
 fn of_tunnels_over_udp(rt: HostRuntime) {
-    assert_kept!(rt; InfoVxlan, InfoGeneve, InfoBareUdp, InfoGtp, InfoAmt);
+    assert_all_kept!(rt; InfoVxlan, InfoGeneve, InfoBareUdp, InfoGtp, InfoAmt);
 }
 
 #[test]
 fn of_tunnels(rt: HostRuntime) {
-    assert_kept!(rt; InfoGre, InfoGre6, InfoVti, InfoIpoib, InfoWwan);
+    assert_all_kept!(rt; InfoGre, InfoGre6, InfoVti, InfoIpoib, InfoWwan);
 }
 
 #[test]
 fn of_devices(rt: HostRuntime) {
-    assert_kept!(rt; InfoXfrm, InfoVrf, InfoIpVlan, InfoIpVtap, InfoMacSec, InfoRmNet);
+    assert_all_kept!(rt; InfoXfrm, InfoVrf, InfoIpVlan, InfoIpVtap, InfoMacSec, InfoRmNet);
 }
 
 #[test]
 fn of_peers(rt: HostRuntime) {
-    assert_kept!(rt; InfoVeth, InfoVxcan, InfoNetkit, InfoVethOf<BitPeer>, InfoBatAdv, InfoTun);
+    assert_all_kept!(rt; InfoVeth, InfoVxcan, InfoNetkit, InfoVethOf<BitPeer>, InfoBatAdv, InfoTun);
 }
 
 #[test]
 fn of_bonds_and_bridges(rt: HostRuntime) {
-    assert_kept!(rt; InfoBond, InfoBondPort, InfoBridge, InfoBridgePort, InfoTeamPort, InfoVlan);
+    assert_all_kept!(rt; InfoBond, InfoBondPort, InfoBridge, InfoBridgePort, InfoTeamPort, InfoVlan);
 }
 
 #[test]
 fn without_rows(rt: HostRuntime) {
-    assert_kept!(rt; InfoCan, InfoHsr, InfoDsa, InfoWireguard, InfoPfcp);
+    assert_all_kept!(rt; InfoCan, InfoHsr, InfoDsa, InfoWireguard, InfoPfcp);
 }
 
 /// Families that are read under a context.

@@ -10,7 +10,7 @@ fn other_kinds(rt: HostRuntime) {
         Err(AllocError) => InfoKind::from_text(rt.alloc(), "abc"),
         made => made,
     };
-    let made = matches!(answer, Ok(InfoKind::Other(name)) if name.as_str() == "abc");
+    let made = matches!(&answer, Ok(InfoKind::Other(name)) if name.as_str() == "abc");
     assert_holds(&rt, &"abc", made);
 }
 
@@ -20,6 +20,6 @@ fn other_port_kinds(rt: HostRuntime) {
         Err(AllocError) => InfoPortKind::from_text(rt.alloc(), "abc"),
         made => made,
     };
-    let made = matches!(answer, Ok(InfoPortKind::Other(name)) if name.as_str() == "abc");
+    let made = matches!(&answer, Ok(InfoPortKind::Other(name)) if name.as_str() == "abc");
     assert_holds(&rt, &"abc", made);
 }

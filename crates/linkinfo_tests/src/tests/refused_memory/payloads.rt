@@ -23,7 +23,7 @@ fn data(rt: HostRuntime) {
         Err(MEMORY) => InfoData::parse_with_param(alloc, &XFRM, &InfoKind::Xfrm),
         read => read,
     };
-    let read = matches!(answer, Ok(InfoData::Xfrm(items)) if is_xfrm(items.as_slice()));
+    let read = matches!(&answer, Ok(InfoData::Xfrm(items)) if is_xfrm(items.as_slice()));
     assert_holds(&rt, &XFRM, read);
 }
 
@@ -55,7 +55,7 @@ fn data_of_other_ports(rt: HostRuntime) {
         Err(MEMORY) => InfoPortData::parse_with_param(alloc, &[7], &kind),
         read => read,
     };
-    let Ok(InfoPortData::Other(read)) = answer else {
+    let Ok(InfoPortData::Other(read)) = &answer else {
         panic!(rt; "bytes");
     };
     assert_equal(&rt, &"a byte", &read.as_slice(), &[7].as_slice());
@@ -74,7 +74,7 @@ fn first_attributes(rt: HostRuntime) {
         }
         read => read,
     };
-    let Ok(InfoVeth::Peer(peer)) = answer else {
+    let Ok(InfoVeth::Peer(peer)) = &answer else {
         panic!(rt; "a peer");
     };
     assert_equal(&rt, &bytes, &peer.as_slice(), &[0xaa, 0xbb].as_slice());
@@ -89,6 +89,7 @@ fn statistics(rt: HostRuntime) {
         Err(MEMORY) => LinkXstats::parse_with_param(alloc, &nla, &InfoKind::Can),
         read => read,
     };
-    let LinkXstats::Other(read) = answer.expect(&rt, "statistics");
-    assert_equal(&rt, &"statistics", &read.as_slice(), &[1, 2].as_slice());
+    let read = answer.expect(&rt, "statistics");
+    let LinkXstats::Other(bytes) = &read;
+    assert_equal(&rt, &"statistics", &bytes.as_slice(), &[1, 2].as_slice());
 }
