@@ -1,10 +1,8 @@
 //! A test that the script has to see fail.
 
-use crate::tests::assertions::assert_holds;
-
-/// Fails where its one request is refused: so the script knows that requests are.
+/// Fails where its request for memory is refused, or that for more: so the script knows that both are.
 #[test]
 fn fails_without_memory(rt: HostRuntime) {
-    let made = Vec::from_array(rt.alloc(), [0u8]);
-    assert_holds(&rt, &"one byte", made.is_ok());
+    let mut bytes = Vec::from_array(rt.alloc(), [0u8]).expect(&rt, "memory");
+    bytes.extend_from_slice(&[0; 100]).expect(&rt, "memory");
 }
