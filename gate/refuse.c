@@ -1,5 +1,7 @@
-/* Refuses one request for memory. Loaded in front of the C library by LD_PRELOAD; its two variables say which request, counted from 1, and to what file
- * descriptor it notes each: '.' for one that is served, 'x' for the refused one. It includes no header, so that the toolchain's clang builds it. */
+/* Refuses one request for memory: it is loaded in front of the C library by LD_PRELOAD. Its two
+ * variables say which request, counted from 1, and the file descriptor at which it notes each: a
+ * dot for one that is served, an x for the refused one. It includes no header, so that the
+ * clang of the toolchain builds it. */
 extern void *__libc_malloc(unsigned long), *__libc_realloc(void *, unsigned long);
 extern char *getenv(const char *);
 extern unsigned long strtoul(const char *, char **, int);

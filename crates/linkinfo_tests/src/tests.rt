@@ -1,4 +1,5 @@
-//! Tests over worked strings, over what a Linux kernel answered, of lines that are read and answered, and of refused memory.
+//! Tests over worked strings, over what a Linux kernel answered, of lines that are read and
+//! answered, and of refused memory.
 
 mod assertions;
 mod attributes;

@@ -11,7 +11,7 @@ use std::process::Abort;
 
 /// Both values are equal: else prints the case, and both of them.
 ///
-/// `assert_eq!` is proved anew wherever it is written, with all that prints its values. This is proved once.
+/// `assert_eq!` is proved wherever it is written, with all that prints its values; this once.
 pub fn assert_equal<C: Debug, T: Debug + PartialEq>(
     rt: &impl Abort,
     case: &C,

@@ -124,7 +124,8 @@ fn line_of(rt: &impl Abort, alloc: Global, text: &str) -> String {
     format!(in alloc; "{text}\n").expect(rt, "memory")
 }
 
-/// The line is answered by this one, whether a line feed ends it or not: without one, the empty line is none.
+/// The line is answered by this one, whether a line feed ends it or not: without one, the empty
+/// line is none.
 fn assert_line(rt: &impl Abort, alloc: Global, line: &str, answer: &str) {
     let wanted = line_of(rt, alloc, answer);
     let ended = line_of(rt, alloc, line);
@@ -141,7 +142,8 @@ fn answers_each_line(rt: HostRuntime) {
     }
 }
 
-/// A kind whose name has 65531 letters is accepted, and too long to be written with its closing zero byte.
+/// A kind whose name has 65531 letters is accepted, and too long to be written with its closing
+/// zero byte.
 #[test]
 fn answers_a_list_that_does_not_fit(rt: HostRuntime) {
     let alloc = rt.alloc();

@@ -60,7 +60,8 @@ impl Read for EndlessReader {
     }
 }
 
-/// Keeps what it takes in an array, at most seven bytes a write and up to a limit; from then on it fails or takes nothing.
+/// Keeps what it takes in an array, at most seven bytes a write and up to a limit; from then on it
+/// fails or takes nothing.
 #[derive(Drop)]
 pub struct ArrayWriter {
     held: [u8; 128],
@@ -108,7 +109,8 @@ impl Write for ArrayWriter {
     }
 }
 
-/// A run over the reader ends so, and the writer has taken these bytes. The number of the case is printed where that does not hold.
+/// A run over the reader ends so, and the writer has taken these bytes. The number of the case is
+/// printed where that does not hold.
 fn assert_ended<R: Read>(
     rt: &impl Abort,
     alloc: Global,
@@ -198,7 +200,8 @@ impl Read for MemoryTaker<'_> {
     }
 }
 
-/// Once no memory is left after this read, a run that needs more ends with `Memory` and has written nothing.
+/// Once no memory is left after this read, a run that needs more ends with `Memory` and has written
+/// nothing.
 fn assert_starved(rt: &impl Abort, alloc: Global, takes_at: u32) {
     let mut reader = MemoryTaker {
         reader: PieceReader::new(9, 0),
