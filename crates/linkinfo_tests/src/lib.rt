@@ -1,5 +1,6 @@
-//! Tests of `linkinfo`, by its public calls alone: a crate with tests is proved twice, so these stand in one of their own. So does a peer of one's
-//! own, as a user of `linkinfo` writes it.
+//! Tests of `linkinfo` and `linkinfo_lines`, by their public calls alone, and a custom peer as a
+//! user of `linkinfo` writes it. They are a crate of their own, since a crate with tests is proved
+//! twice.
 #![tactic(auto)]
 
 mod any_peer;

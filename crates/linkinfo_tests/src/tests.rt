@@ -1,4 +1,5 @@
-//! Tests over worked strings, and over what a Linux kernel answered.
+//! Tests over worked strings, over what a Linux kernel answered, of lines that are read and
+//! answered, and of refused memory.
 
 mod assertions;
 mod attributes;
@@ -12,6 +13,7 @@ mod faults;
 mod fronts;
 mod kinds;
 mod laws;
+mod lines;
 mod lists;
 mod longest;
 mod nesting;
@@ -21,6 +23,8 @@ mod peers;
 mod pfcp;
 mod placed;
 mod readme;
+mod refused_memory;
+mod streams;
 mod values;
 mod walks;
 mod worked;

@@ -2,9 +2,6 @@
 //! lists mean the same.
 #![tactic(auto)]
 
-#[cfg(test)]
-mod tests;
-
 use linkinfo_lines::run;
 use std::process::ExitCode;
 

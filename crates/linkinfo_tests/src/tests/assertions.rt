@@ -6,7 +6,25 @@ use linkinfo::{
     canon_into, check, check_counted, emit_nlas, nlas_buffer_len, nlas_fit_len, same,
 };
 use std::alloc::Global;
+use std::fmt::Debug;
 use std::process::Abort;
+
+/// Both values are equal: else prints the case, and both of them.
+///
+/// `assert_eq!` is proved wherever it is written, with all that prints its values; this once.
+pub fn assert_equal<C: Debug, T: Debug + PartialEq>(
+    rt: &impl Abort,
+    case: &C,
+    found: &T,
+    wanted: &T,
+) {
+    assert_eq!(rt; found, wanted, "{case:?}");
+}
+
+/// The condition holds: else prints the case.
+pub fn assert_holds<C: Debug>(rt: &impl Abort, case: &C, holds: bool) {
+    assert!(rt; holds, "{case:?}");
+}
 
 /// The fault of a header that is not accepted.
 pub const HEADER_FAULT: DecodeError = DecodeError {
@@ -94,17 +112,16 @@ pub fn list_of<const N: usize>(
 /// The buffer begins with the string, and the three bytes behind it are 255, as they were.
 fn assert_written(rt: &impl Abort, buffer: &[u8], string: &[u8]) {
     let len = string.len();
-    assert_eq!(rt;
-        (buffer.get(..len), buffer.get(len..)),
-        (Some(string), Some([255; 3].as_slice()))
-    );
+    assert_equal(rt, &string, &buffer.get(..len), &Some(string));
+    assert_equal(rt, &string, &buffer.get(len..), &Some([255; 3].as_slice()));
 }
 
 /// The list is emitted as the string into a longer buffer, whose last three bytes stay.
 pub fn assert_emitted<T: Nla>(rt: &impl Abort, alloc: Global, items: &[T], string: &[u8]) {
     let fit = nlas_fit_len(items).expect(rt, "a list that fits");
     let len = nlas_buffer_len(items);
-    assert_eq!(rt; (string, fit, len), (string, string.len(), string.len()));
+    assert_equal(rt, &string, &fit, &string.len());
+    assert_equal(rt, &string, &len, &string.len());
     assert!(rt; len <= 100_000);
     let mut buffer = vec![in alloc; 255u8; len + 3].expect(rt, "memory");
     emit_nlas(items, &mut buffer);
@@ -147,11 +164,9 @@ pub fn assert_not_written(
     refused: CanonIntoError,
 ) {
     let mut buffer = repeated(rt, alloc, 255, room);
-    assert_eq!(rt;
-        (canon_into(bytes, &mut buffer), buffer.as_slice()),
-        (Err(refused), repeated(rt, alloc, 255, room).as_slice()),
-        "{bytes:?} in {room} bytes"
-    );
+    let case = (bytes, room);
+    assert_equal(rt, &case, &canon_into(bytes, &mut buffer), &Err(refused));
+    assert_equal(rt, &case, &buffer, &repeated(rt, alloc, 255, room));
 }
 
 /// The bytes are written as the canonical string into every buffer that has room for it, which keeps what stands behind, and into none that is
@@ -162,29 +177,21 @@ pub fn assert_canon_into(rt: &impl Abort, alloc: Global, bytes: &[u8], canonical
         assert_not_written(rt, alloc, bytes, room, CanonIntoError::Short(len));
     }
     let mut exact = repeated(rt, alloc, 255, len);
-    assert_eq!(rt;
-        (canon_into(bytes, &mut exact), exact.as_slice()),
-        (Ok(len), canonical)
-    );
+    assert_equal(rt, &bytes, &canon_into(bytes, &mut exact), &Ok(len));
+    assert_equal(rt, &bytes, &exact.as_slice(), &canonical);
     assert!(rt; len <= 100_000);
     let mut longer = repeated(rt, alloc, 255, len + 3);
-    assert_eq!(rt; canon_into(bytes, &mut longer), Ok(len));
+    assert_equal(rt, &bytes, &canon_into(bytes, &mut longer), &Ok(len));
     assert_written(rt, &longer, canonical);
 }
 
 /// The bytes are accepted, are the same as the canonical string in either order, and are made that string in one call.
 fn assert_accepted(rt: &impl Abort, alloc: Global, bytes: &[u8], canonical: &[u8]) {
     let string = canon(alloc, bytes).expect(rt, "a canonical string");
-    assert_eq!(rt;
-        (
-            bytes,
-            check(bytes),
-            same(bytes, canonical),
-            same(canonical, bytes),
-            string.as_slice()
-        ),
-        (bytes, Ok(()), Ok(true), Ok(true), canonical)
-    );
+    assert_equal(rt, &bytes, &check(bytes), &Ok(()));
+    assert_equal(rt, &bytes, &same(bytes, canonical), &Ok(true));
+    assert_equal(rt, &bytes, &same(canonical, bytes), &Ok(true));
+    assert_equal(rt, &bytes, &string.as_slice(), &canonical);
 }
 
 /// The list that the string is read as, where headers are counted.
@@ -200,23 +207,24 @@ fn assert_walked(rt: &impl Abort, bytes: &[u8], list: &VecLinkInfo) {
         let Some(Ok(found)) = walk.next() else {
             panic!(rt; "an attribute");
         };
-        assert_eq!(rt; found.raw_kind & 0x3fff, item.kind() & 0x3fff);
-        let behind = bytes.get(found.place..).unwrap_or_default();
-        assert!(rt;
-            behind
-                .get(4..)
-                .is_some_and(|payload| payload.starts_with(found.value))
+        assert_equal(
+            rt,
+            &bytes,
+            &(found.raw_kind & 0x3fff),
+            &(item.kind() & 0x3fff),
         );
+        let behind = bytes.get(found.place..).unwrap_or_default();
+        let payload = behind.get(4..4 + found.value.len());
+        assert_equal(rt, &bytes, &payload, &Some(found.value));
     }
-    assert!(rt; walk.next().is_none());
-    assert_eq!(rt; walk.place(), bytes.len());
+    assert_holds(rt, &bytes, walk.next().is_none());
+    assert_equal(rt, &bytes, &walk.place(), &bytes.len());
 }
 
 /// The bytes are read as the list, whether headers are counted or not.
 fn assert_read(rt: &impl Abort, alloc: Global, bytes: &[u8], wanted: &VecLinkInfo) {
-    let equal = parsed(rt, alloc, bytes) == *wanted;
-    let counted = parsed_counted(rt, alloc, bytes) == *wanted;
-    assert_eq!(rt; (bytes, equal, counted), (bytes, true, true));
+    assert_holds(rt, &bytes, parsed(rt, alloc, bytes) == *wanted);
+    assert_holds(rt, &bytes, parsed_counted(rt, alloc, bytes) == *wanted);
     assert_walked(rt, bytes, wanted);
 }
 
@@ -248,7 +256,7 @@ pub fn assert_reads<const N: usize>(
 pub fn assert_value(rt: &impl Abort, alloc: Global, text: &str, canonical: &str, value: &str) {
     let read = parsed(rt, alloc, &bytes_of(rt, alloc, text));
     let written = format!(in alloc; "{:?}", read.as_slice()).expect(rt, "memory");
-    assert_eq!(rt; (text, written.as_str()), (text, value));
+    assert_equal(rt, &text, &written.as_str(), &value);
     assert_list(rt, alloc, text, &read, canonical);
 }
 
@@ -256,26 +264,13 @@ pub fn assert_value(rt: &impl Abort, alloc: Global, text: &str, canonical: &str,
 pub fn assert_refused(rt: &impl Abort, alloc: Global, bytes: &[u8], fault: DecodeError) {
     let read = VecLinkInfo::parse(alloc, bytes).err();
     let rewritten = canon(alloc, bytes).err();
-    assert_eq!(rt;
-        (
-            check(bytes),
-            read,
-            same(bytes, &[]),
-            same(&[], bytes),
-            rewritten
-        ),
-        (
-            Err(fault),
-            Some(fault),
-            Err(fault),
-            Err(fault),
-            Some(CanonError::Refused(fault))
-        ),
-        "calls of {bytes:?}"
-    );
-    for room in [0, 100] {
-        assert_not_written(rt, alloc, bytes, room, CanonIntoError::Refused(fault));
-    }
+    assert_equal(rt, &bytes, &check(bytes), &Err(fault));
+    assert_equal(rt, &bytes, &read, &Some(fault));
+    assert_equal(rt, &bytes, &same(bytes, &[]), &Err(fault));
+    assert_equal(rt, &bytes, &same(&[], bytes), &Err(fault));
+    assert_equal(rt, &bytes, &rewritten, &Some(CanonError::Refused(fault)));
+    assert_not_written(rt, alloc, bytes, 0, CanonIntoError::Refused(fault));
+    assert_not_written(rt, alloc, bytes, 100, CanonIntoError::Refused(fault));
 }
 
 /// Checking and reading the string each look at this many headers, and answer this fault or none.
@@ -290,11 +285,10 @@ pub fn assert_headers(
     let checked = check_counted(bytes, &mut checking);
     let mut reading = HeaderCount::new();
     let read = VecLinkInfo::parse_counted(alloc, bytes, &mut reading);
-    assert_eq!(rt;
-        (checked.err(), read.err(), checking.get(), reading.get()),
-        (fault, fault, headers, headers),
-        "headers of {bytes:?}"
-    );
+    assert_equal(rt, &bytes, &checked.err(), &fault);
+    assert_equal(rt, &bytes, &read.err(), &fault);
+    assert_equal(rt, &bytes, &checking.get(), &headers);
+    assert_equal(rt, &bytes, &reading.get(), &headers);
 }
 
 /// The payload of the attribute is emitted by itself as what stands behind the header of the string.
@@ -304,13 +298,16 @@ fn assert_payload<T: Nla>(rt: &impl Abort, alloc: Global, value: &T, string: &[u
     let mut buffer = vec![in alloc; 255u8; len].expect(rt, "memory");
     let payload_len = value.value_len();
     value.emit_value(&mut buffer);
-    assert_eq!(rt;
-        (payload_len, string.get(4..4 + len)),
-        (len, Some(buffer.as_slice()))
+    assert_equal(rt, &string, &payload_len, &len);
+    assert_equal(
+        rt,
+        &string,
+        &string.get(4..4 + len),
+        &Some(buffer.as_slice()),
     );
     let mut longer = vec![in alloc; 255u8; len + 3].expect(rt, "memory");
     let taken = value.emit_payload(&mut longer);
-    assert_eq!(rt; taken, len);
+    assert_equal(rt, &string, &taken, &len);
     assert_written(rt, &longer, &buffer);
 }
 
@@ -319,9 +316,12 @@ pub fn assert_attribute<T: Nla>(rt: &impl Abort, alloc: Global, value: &T, strin
     assert_payload(rt, alloc, value, string);
     assert!(rt; value.fit_len().is_some());
     let len = value.buffer_len();
-    assert_eq!(rt;
-        (len, string.get(2..4)),
-        (string.len(), Some(value.kind().to_le_bytes().as_slice()))
+    assert_equal(rt, &string, &len, &string.len());
+    assert_equal(
+        rt,
+        &string,
+        &string.get(2..4),
+        &Some(value.kind().to_le_bytes().as_slice()),
     );
     assert!(rt; len <= 100_000);
     let mut buffer = vec![in alloc; 255u8; len + 3].expect(rt, "memory");

@@ -1,6 +1,8 @@
 //! Each value written as an attribute.
 
-use super::assertions::{assert_attribute, bytes_of, copied, default_nla, nlas, repeated};
+use super::assertions::{
+    assert_attribute, assert_equal, assert_holds, bytes_of, copied, default_nla, nlas, repeated,
+};
 use linkinfo::{
     BitPeer, Bytes, InfoData, InfoDataOf, InfoKind, InfoPortData, InfoPortKind, InfoVeth,
     InfoVethOf, InfoVrf, InfoXfrm, LinkInfo, LinkXstats, Nla,
@@ -20,8 +22,7 @@ fn assert_clones<T: Nla + Drop + Clone + PartialEq>(
     value: T,
     string: &str,
 ) {
-    let equal = value.clone().expect(rt, "memory") == value;
-    assert_eq!(rt; (string, equal), (string, true));
+    assert_holds(rt, &string, value.clone().expect(rt, "memory") == value);
     assert_written(rt, alloc, value, string);
 }
 
@@ -55,13 +56,9 @@ fn len_of_bytes(rt: &impl Abort, alloc: Global, count: usize) -> Option<usize> {
 #[test]
 fn longest_data_fits(rt: HostRuntime) {
     let alloc = rt.alloc();
-    assert_eq!(rt;
-        [
-            len_of_bytes(&rt, alloc, 65531),
-            len_of_bytes(&rt, alloc, 65532)
-        ],
-        [Some(65531), None]
-    );
+    let longest = len_of_bytes(&rt, alloc, 65531);
+    assert_equal(&rt, &"65531 bytes", &longest, &Some(65531));
+    assert_equal(&rt, &"65532 bytes", &len_of_bytes(&rt, alloc, 65532), &None);
 }
 
 #[test]

@@ -1,6 +1,6 @@
 //! Why a string has no canonical string, in words.
 
-use super::assertions::link_fault;
+use super::assertions::{assert_equal, link_fault};
 use linkinfo::{CanonError, CanonIntoError, Cause};
 
 #[test]
@@ -8,7 +8,7 @@ fn refusals_in_words(rt: HostRuntime) {
     let alloc = rt.alloc();
     let refused = CanonError::Refused(link_fault(2, Cause::Order));
     let text = format!(in alloc; "{refused}, {}", CanonError::Unfit).expect(&rt, "memory");
-    assert_eq!(rt; text.as_str(), "linkinfo 2 order, unfit");
+    assert_equal(&rt, &"as text", &text.as_str(), &"linkinfo 2 order, unfit");
 }
 
 #[test]
@@ -19,5 +19,6 @@ fn refusals_to_write_in_words(rt: HostRuntime) {
     let text = format!(in alloc; "{refused}, {unfit}, {}", CanonIntoError::Short(12)).expect(
         &rt, "memory",
     );
-    assert_eq!(rt; text.as_str(), "linkinfo 2 order, unfit, short 12");
+    let wanted = "linkinfo 2 order, unfit, short 12";
+    assert_equal(&rt, &"as text", &text.as_str(), &wanted);
 }

@@ -1,6 +1,6 @@
 //! Strings that are compared.
 
-use super::assertions::{bytes_of, reads_equal};
+use super::assertions::{assert_equal, bytes_of, reads_equal};
 use super::worked::{
     DATA_TWICE, GRE_DISCOVERY, GRE_NO_DISCOVERY, IP6TNL_FLAGS, IPIP_FLAGS, IPVLAN, IPVLAN_NO_FLAGS,
     IPVTAP, LATER_KIND, MACVLAN_LIST, MACVLAN_SHORT_LIST, NETKIT_SCRUB, NETKIT_SCRUB_DEFAULT,
@@ -54,10 +54,10 @@ fn compares_strings(rt: HostRuntime) {
         let equal = reads_equal(&rt, alloc, &first, &second);
         let mut count = HeaderCount::new();
         let counted = same_counted(&first, &second, &mut count);
-        assert_eq!(rt;
-            (same(&first, &second), same(&second, &first), counted, equal),
-            (Ok(*wanted), Ok(*wanted), Ok(*wanted), *wanted),
-            "{a} and {b}"
-        );
+        let case = (a, b);
+        assert_equal(&rt, &case, &same(&first, &second), &Ok(*wanted));
+        assert_equal(&rt, &case, &same(&second, &first), &Ok(*wanted));
+        assert_equal(&rt, &case, &counted, &Ok(*wanted));
+        assert_equal(&rt, &case, &equal, wanted);
     }
 }

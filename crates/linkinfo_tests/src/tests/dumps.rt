@@ -3,7 +3,7 @@
 //! Links of these kinds were made in a network namespace, and their link info was taken out of a dump by `RTM_GETLINK`. Each string is
 //! in the grammar and is its own canonical string.
 
-use super::assertions::{assert_canon_into, assert_emitted, bytes_of, parsed};
+use super::assertions::{assert_canon_into, assert_emitted, assert_equal, bytes_of, parsed};
 use linkinfo::{check, same};
 use std::alloc::Global;
 use std::process::Abort;
@@ -142,10 +142,8 @@ fn dumps_are_canonical(rt: HostRuntime) {
     let alloc = rt.alloc();
     for (name, text) in DUMPS {
         let bytes = bytes_of(&rt, alloc, text);
-        assert_eq!(rt;
-            (name, check(&bytes), same(&bytes, &bytes)),
-            (name, Ok(()), Ok(true))
-        );
+        assert_equal(&rt, name, &check(&bytes), &Ok(()));
+        assert_equal(&rt, name, &same(&bytes, &bytes), &Ok(true));
         assert_reads_back(&rt, alloc, &bytes);
     }
 }

@@ -2,7 +2,7 @@
 
 ghost use Rattle.std.specs.Prelude.{IsOk};
 
-use super::assertions::nlas;
+use super::assertions::{assert_equal, assert_holds, nlas};
 use linkinfo::{
     Bytes, Cause, DataFamily, DecodeError, DeviceFamily, Family, HeaderCount, InfoData,
     InfoPortData, InfoVrf, KindTag, LowerFamily, PayloadFamily, PeeredFamily, PortFamily, PortTag,
@@ -11,30 +11,36 @@ use linkinfo::{
 use std::alloc::Global;
 use std::process::Abort;
 
+/// Kinds, with the families of their data.
+const FAMILIES: &[(KindTag, DataFamily)] = &[
+    (KindTag::Bond, DataFamily::Lower(LowerFamily::Bond)),
+    (KindTag::Vrf, DataFamily::Device(DeviceFamily::Vrf)),
+    (KindTag::Vti6, DataFamily::Tunnel(TunnelFamily::Vti)),
+    (
+        KindTag::SitTun,
+        DataFamily::Tunnel(TunnelFamily::IpTunnel(KindTag::SitTun)),
+    ),
+    (KindTag::Pfcp, DataFamily::Peered(PeeredFamily::Pfcp)),
+    (KindTag::Dummy, DataFamily::Raw),
+    (KindTag::Other, DataFamily::Raw),
+];
+
+/// Port kinds, with the families of their data.
+const PORT_FAMILIES: &[(PortTag, PortFamily)] = &[
+    (PortTag::Bond, PortFamily::Bond),
+    (PortTag::Bridge, PortFamily::Bridge),
+    (PortTag::Vrf, PortFamily::Vrf),
+    (PortTag::Team, PortFamily::Team),
+    (PortTag::Other, PortFamily::Raw),
+];
+
 #[test]
 fn kinds_have_families(rt: HostRuntime) {
-    for (tag, family) in [
-        (KindTag::Bond, DataFamily::Lower(LowerFamily::Bond)),
-        (KindTag::Vrf, DataFamily::Device(DeviceFamily::Vrf)),
-        (KindTag::Vti6, DataFamily::Tunnel(TunnelFamily::Vti)),
-        (
-            KindTag::SitTun,
-            DataFamily::Tunnel(TunnelFamily::IpTunnel(KindTag::SitTun)),
-        ),
-        (KindTag::Pfcp, DataFamily::Peered(PeeredFamily::Pfcp)),
-        (KindTag::Dummy, DataFamily::Raw),
-        (KindTag::Other, DataFamily::Raw),
-    ] {
-        assert_eq!(rt; (tag, family_of(tag)), (tag, family));
+    for (tag, family) in FAMILIES {
+        assert_equal(&rt, tag, &family_of(*tag), family);
     }
-    for (tag, family) in [
-        (PortTag::Bond, PortFamily::Bond),
-        (PortTag::Bridge, PortFamily::Bridge),
-        (PortTag::Vrf, PortFamily::Vrf),
-        (PortTag::Team, PortFamily::Team),
-        (PortTag::Other, PortFamily::Raw),
-    ] {
-        assert_eq!(rt; (tag, port_family_of(tag)), (tag, family));
+    for (tag, family) in PORT_FAMILIES {
+        assert_equal(&rt, tag, &port_family_of(*tag), family);
     }
 }
 
@@ -83,9 +89,13 @@ fn has_tables<D: Drop + PartialEq, F: PayloadFamily<D>>(
 ) {
     let mut count = HeaderCount::new();
     let read = PayloadFamily::<D>::read(family, alloc, &TABLE, &mut count).expect(rt, "data");
-    assert_eq!(rt; (read == data, count.get()), (true, 1));
-    assert_eq!(rt; are_same::<D, F>(rt, family, &TABLE, &MARKED), (true, 2));
-    assert!(rt; !are_same::<D, F>(rt, family, &TABLE, &OTHER_TABLE).0);
+    assert_holds(rt, &TABLE, read == data);
+    assert_equal(rt, &TABLE, &count.get(), &1);
+    let (same, headers) = are_same::<D, F>(rt, family, &TABLE, &MARKED);
+    assert_holds(rt, &MARKED, same);
+    assert_equal(rt, &MARKED, &headers, &2);
+    let (same, _) = are_same::<D, F>(rt, family, &TABLE, &OTHER_TABLE);
+    assert_holds(rt, &OTHER_TABLE, !same);
     let fault = DecodeError {
         family: Family::Vrf,
         kind: 1,
@@ -93,7 +103,8 @@ fn has_tables<D: Drop + PartialEq, F: PayloadFamily<D>>(
     };
     let mut count = HeaderCount::new();
     let checked = PayloadFamily::<D>::check(family, &SHORT, &mut count);
-    assert_eq!(rt; (checked, count.get()), (Err(fault), 1));
+    assert_equal(rt, &SHORT, &checked, &Err(fault));
+    assert_equal(rt, &SHORT, &count.get(), &1);
 }
 
 #[test]

@@ -1,8 +1,10 @@
 //! Strings that are refused.
 
-use super::assertions::{HEADER_FAULT, assert_refused, bytes_of, link_fault};
+use super::assertions::{HEADER_FAULT, assert_equal, assert_refused, bytes_of, link_fault};
 use super::worked::{FIRST_FAULT, IP6TNL_SHORT_FLAGS, SECOND_PORT_DATA, VETH_EMPTY, XFRM};
 use linkinfo::{Cause, DecodeError, Family, VecLinkInfo, check, same};
+use std::alloc::Global;
+use std::process::Abort;
 
 /// Strings that are refused at their own level: the family, the type and the cause of the fault.
 const REFUSED: &[(&str, Family, u16, Cause)] = &[
@@ -41,29 +43,27 @@ fn answers_the_first_fault(rt: HostRuntime) {
     let header = [8, 0, 1];
     let fault = link_fault(2, Cause::Order);
     let accepted = bytes_of(&rt, alloc, XFRM);
-    assert_eq!(rt;
-        [
-            same(&order, &header),
-            same(&header, &order),
-            same(&accepted, &order)
-        ],
-        [Err(fault), Err(HEADER_FAULT), Err(fault)]
+    assert_equal(&rt, &"order, header", &same(&order, &header), &Err(fault));
+    assert_equal(
+        &rt,
+        &"header, order",
+        &same(&header, &order),
+        &Err(HEADER_FAULT),
     );
+    assert_equal(&rt, &"none, order", &same(&accepted, &order), &Err(fault));
 }
 
 #[test]
 fn accepted_fronts_of_one_string(rt: HostRuntime) {
     let alloc = rt.alloc();
     let bytes = bytes_of(&rt, alloc, XFRM);
-    assert_eq!(rt; bytes.len(), 32);
-    for end in 0..=32 {
+    assert_equal(&rt, &XFRM, &bytes.len(), &32);
+    for end in 0..=bytes.len() {
         let front = &bytes[..end];
         if end == 0 || (9..=12).contains(&end) || end == 32 {
-            let fault = VecLinkInfo::parse(alloc, front).err();
-            assert_eq!(rt;
-                (end, check(front), fault, same(front, front)),
-                (end, Ok(()), None, Ok(true))
-            );
+            assert_equal(&rt, &end, &check(front), &Ok(()));
+            assert_equal(&rt, &end, &VecLinkInfo::parse(alloc, front).err(), &None);
+            assert_equal(&rt, &end, &same(front, front), &Ok(true));
         } else {
             assert_refused(&rt, alloc, front, HEADER_FAULT);
         }
@@ -147,18 +147,30 @@ const REFUSED_DATA: &[(&str, Family, u16, Cause)] = &[
     ),
 ];
 
+/// The string is refused with the fault of this family, type and cause by every call.
+fn assert_text_refused(
+    rt: &impl Abort,
+    alloc: Global,
+    text: &str,
+    family: Family,
+    kind: u16,
+    cause: Cause,
+) {
+    let fault = DecodeError {
+        family,
+        kind,
+        cause,
+    };
+    assert_refused(rt, alloc, &bytes_of(rt, alloc, text), fault);
+}
+
 #[test]
 fn refuses_strings(rt: HostRuntime) {
     let alloc = rt.alloc();
-    for rows in [REFUSED, REFUSED_DATA] {
-        for (text, family, kind, cause) in rows {
-            let bytes = bytes_of(&rt, alloc, text);
-            let fault = DecodeError {
-                family: *family,
-                kind: *kind,
-                cause: *cause,
-            };
-            assert_refused(&rt, alloc, &bytes, fault);
-        }
+    for (text, family, kind, cause) in REFUSED {
+        assert_text_refused(&rt, alloc, text, *family, *kind, *cause);
+    }
+    for (text, family, kind, cause) in REFUSED_DATA {
+        assert_text_refused(&rt, alloc, text, *family, *kind, *cause);
     }
 }

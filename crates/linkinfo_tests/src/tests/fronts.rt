@@ -1,6 +1,6 @@
 //! Every front of every worked string: `check` and `parse` agree, and an accepted front is the same as itself.
 
-use super::assertions::{HEADER_FAULT, bytes_of};
+use super::assertions::{HEADER_FAULT, assert_equal, assert_holds, bytes_of};
 use super::worked::{
     BAREUDP, BATADV, BOND_PORT, DATA_TWICE, EMPTY_NAME, FIRST_FAULT, GTP, IP6TNL_SHORT_FLAGS,
     IPIP_FLAGS, IPOIB, IPVLAN, IPVLAN_NO_FLAGS, IPVTAP, LATER_KIND, MACVLAN_LIST,
@@ -96,11 +96,8 @@ pub fn assert_fronts(rt: &impl Abort, alloc: Global, bytes: &[u8]) {
             None => Ok(true),
             Some(fault) => Err(fault),
         };
-        assert_eq!(rt;
-            (check(front).err(), same(front, front)),
-            (fault, wanted),
-            "the front of {end} of {bytes:?}"
-        );
+        assert_equal(rt, &front, &check(front).err(), &fault);
+        assert_equal(rt, &front, &same(front, front), &wanted);
     }
 }
 
@@ -137,16 +134,10 @@ fn assert_front_of_bits(rt: &impl Abort, alloc: Global, front: &[u8], fault: Opt
     let mut count = HeaderCount::new();
     let read = VecLinkInfoOf::<BitPeer>::parse_counted(alloc, front, &mut count).err();
     let compared = same_of::<BitPeer>(front, front);
-    assert_eq!(rt;
-        (
-            check_of::<BitPeer>(front).err(),
-            read,
-            compared.err(),
-            compared == Ok(false)
-        ),
-        (fault, fault, fault, false),
-        "the front {front:?}"
-    );
+    assert_equal(rt, &front, &check_of::<BitPeer>(front).err(), &fault);
+    assert_equal(rt, &front, &read, &fault);
+    assert_equal(rt, &front, &compared.err(), &fault);
+    assert_holds(rt, &front, compared != Ok(false));
 }
 
 #[test]

@@ -1,6 +1,8 @@
 //! The laws, whose functions do nothing, each beside calls that it speaks of.
 
-use super::assertions::{HEADER_FAULT, assert_headers, assert_value, bytes_of};
+use super::assertions::{
+    HEADER_FAULT, assert_equal, assert_headers, assert_holds, assert_value, bytes_of,
+};
 use super::worked::{
     DATA_TWICE, FIRST_FAULT, LATER_KIND, PFCP_NO_NUL, PFCP_NOT_FRAMED, SECOND_PORT_DATA, XFRM,
 };
@@ -17,17 +19,20 @@ const LENGTH_FAULT: DecodeError = DecodeError {
     cause: Cause::Length,
 };
 
+/// Strings, their faults, and how many headers are looked at.
+const FRAMED: &[(&str, Option<DecodeError>, usize)] = &[
+    (XFRM, None, 4),
+    (FIRST_FAULT, Some(LENGTH_FAULT), 3),
+    ("080001", Some(HEADER_FAULT), 0),
+];
+
 #[test]
 fn strings_are_framed(rt: HostRuntime) {
     let alloc = rt.alloc();
-    for (text, fault, headers) in [
-        (XFRM, None, 4),
-        (FIRST_FAULT, Some(LENGTH_FAULT), 3),
-        ("080001", Some(HEADER_FAULT), 0),
-    ] {
+    for (text, fault, headers) in FRAMED {
         let bytes = bytes_of(&rt, alloc, text);
         laws::framed::<Bytes>(&bytes);
-        assert_headers(&rt, alloc, &bytes, fault, headers);
+        assert_headers(&rt, alloc, &bytes, *fault, *headers);
     }
 }
 
@@ -36,12 +41,12 @@ fn assert_tags(rt: &impl Abort, bytes: &[u8], tags: &[(Option<KindTag>, Option<P
     let mut walk = LinkInfoWalk::new(bytes);
     for wanted in tags {
         let Some(Ok(item)) = walk.next() else {
-            panic!(rt; "an item under {wanted:?}");
+            panic!(rt; "an item");
         };
-        assert_eq!(rt; (item.kind_tag, item.port_tag), *wanted);
+        assert_equal(rt, &bytes, &(item.kind_tag, item.port_tag), wanted);
     }
     let further = matches!(walk.next(), Some(Ok(_)));
-    assert!(rt; !further, "no further item of {bytes:?}");
+    assert_holds(rt, &bytes, !further);
 }
 
 #[test]
@@ -70,37 +75,34 @@ fn items_are_equal_wherever_they_are(rt: HostRuntime) {
     let mut walk = LinkInfoWalk::new(&bytes);
     let mut other = LinkInfoWalk::new(&copy);
     let first = walk.next();
-    assert_eq!(rt;
-        [first == other.next(), first == other.next()],
-        [true, false]
-    );
+    assert_holds(&rt, &"the first of each", first == other.next());
+    assert_holds(&rt, &"the first and the second", first != other.next());
 }
 
 #[test]
 fn no_string_means_want_of_memory(rt: HostRuntime) {
     let alloc = rt.alloc();
     laws::no_memory::<BitPeer>();
-    for (text, fault) in [
-        (XFRM, None),
-        (FIRST_FAULT, Some(LENGTH_FAULT)),
-        ("080001", Some(HEADER_FAULT)),
-    ] {
+    for (text, fault, _) in FRAMED {
         let bytes = bytes_of(&rt, alloc, text);
-        assert_eq!(rt; check_of::<BitPeer>(&bytes).err(), fault, "{text}");
+        assert_equal(&rt, text, &check_of::<BitPeer>(&bytes).err(), fault);
     }
 }
+
+/// Strings with pfcp and without, and their faults.
+const BY_PFCP: &[(&str, Option<DecodeError>)] = &[
+    (PFCP_NO_NUL, None),
+    (XFRM, None),
+    (PFCP_NOT_FRAMED, Some(HEADER_FAULT)),
+];
 
 #[test]
 fn data_under_pfcp_changed_alone(rt: HostRuntime) {
     let alloc = rt.alloc();
-    for (text, fault) in [
-        (PFCP_NO_NUL, None),
-        (XFRM, None),
-        (PFCP_NOT_FRAMED, Some(HEADER_FAULT)),
-    ] {
+    for (text, fault) in BY_PFCP {
         let bytes = bytes_of(&rt, alloc, text);
         laws::pfcp::<Bytes>(&bytes);
-        assert_eq!(rt; check(&bytes).err(), fault, "{text}");
+        assert_equal(&rt, text, &check(&bytes).err(), fault);
     }
 }
 

@@ -1,6 +1,8 @@
 //! Lists that are read and emitted.
 
-use super::assertions::{assert_built, assert_reads, bytes_of, link, list_of, nlas, parsed};
+use super::assertions::{
+    assert_built, assert_equal, assert_holds, assert_reads, bytes_of, link, list_of, nlas, parsed,
+};
 use super::worked::{EMPTY_NAME, LATER_KIND, OTHER_PORT, PORT_DATA, VETH, XFRM, XSTATS};
 use linkinfo::{InfoData, InfoKind, InfoXfrm, LinkInfo, Nla, Nlas, VecLinkInfo, nlas_fit_len};
 use std::alloc::Global;
@@ -9,7 +11,7 @@ use std::process::Abort;
 #[test]
 fn the_empty_list_fits(rt: HostRuntime) {
     let none: [LinkInfo; 0] = [];
-    assert_eq!(rt; nlas_fit_len(&none), Some(0));
+    assert_equal(&rt, &"the empty list", &nlas_fit_len(&none), &Some(0));
 }
 
 #[test]
@@ -27,15 +29,17 @@ fn emits_what_is_not_well_formed(rt: HostRuntime) {
 /// A clone of what the string is read as is equal to it.
 fn assert_clones(rt: &impl Abort, alloc: Global, text: &str) {
     let list = parsed(rt, alloc, &bytes_of(rt, alloc, text));
-    let equal = list.clone().expect(rt, "memory") == list;
-    assert_eq!(rt; (text, equal), (text, true));
+    assert_holds(rt, &text, list.clone().expect(rt, "memory") == list);
 }
+
+/// A string of each sort of attribute.
+const CLONED: &[&str] = &[
+    XFRM, VETH, XSTATS, OTHER_PORT, PORT_DATA, EMPTY_NAME, "04000980",
+];
 
 #[test]
 fn clones_are_equal(rt: HostRuntime) {
-    for text in [
-        XFRM, VETH, XSTATS, OTHER_PORT, PORT_DATA, EMPTY_NAME, "04000980",
-    ] {
+    for text in CLONED {
         assert_clones(&rt, rt.alloc(), text);
     }
 }
@@ -43,7 +47,7 @@ fn clones_are_equal(rt: HostRuntime) {
 /// The list is written for debugging as this text.
 fn assert_displays(rt: &impl Abort, alloc: Global, list: VecLinkInfo, wanted: &str) {
     let text = format!(in alloc; "{list:?}").expect(rt, "memory");
-    assert_eq!(rt; text.as_str(), wanted);
+    assert_equal(rt, &"as text", &text.as_str(), &wanted);
 }
 
 #[test]
@@ -58,7 +62,7 @@ fn lists_display_for_debugging(rt: HostRuntime) {
 fn assert_written(rt: &impl Abort, alloc: Global, list: VecLinkInfo, text: &str) {
     let written = list.to_vec(alloc).expect(rt, "a string");
     let wanted = bytes_of(rt, alloc, text);
-    assert_eq!(rt; written.as_slice(), wanted.as_slice());
+    assert_equal(rt, &text, &written, &wanted);
 }
 
 #[test]
@@ -77,10 +81,10 @@ fn assert_types(rt: &impl Abort, alloc: Global, list: &VecLinkInfo, wanted: &[u1
         types.push(item.kind()).expect(rt, "memory");
     }
     let ends = list.iter().rev().next() == list.as_slice().last();
-    assert_eq!(rt;
-        (types.as_slice(), list.len(), list.is_empty(), ends),
-        (wanted, wanted.len(), wanted.is_empty(), true)
-    );
+    assert_equal(rt, &wanted, &types.as_slice(), &wanted);
+    assert_equal(rt, &wanted, &list.len(), &wanted.len());
+    assert_equal(rt, &wanted, &list.is_empty(), &wanted.is_empty());
+    assert_holds(rt, &wanted, ends);
 }
 
 /// The list of the attributes that a list gives.
@@ -97,8 +101,8 @@ fn assert_gone_over(rt: &impl Abort, alloc: Global, text: &str, types: &[u16]) {
     let list = parsed(rt, alloc, &bytes_of(rt, alloc, text));
     assert_types(rt, alloc, &list, types);
     let items = collected(rt, alloc, list.clone().expect(rt, "memory"));
-    assert!(rt; items == list, "the attributes of {text}");
-    assert_eq!(rt; list.into_vec().len(), types.len());
+    assert_holds(rt, &text, items == list);
+    assert_equal(rt, &text, &list.into_vec().len(), &types.len());
 }
 
 #[test]

@@ -1,7 +1,7 @@
 //! Values as long as one attribute holds, and longer ones.
 
 use super::assertions::{
-    HEADER_FAULT, assert_attribute, assert_built, assert_not_written, assert_read_as,
+    HEADER_FAULT, assert_attribute, assert_built, assert_equal, assert_not_written, assert_read_as,
     assert_refused, parsed, repeated,
 };
 use super::fronts::assert_fronts;
@@ -40,18 +40,19 @@ fn longest_name(rt: HostRuntime) {
     let mut string = letters_behind(&rt, alloc, [255, 255, 1, 0], 65530);
     let unclosed = letters_behind(&rt, alloc, [254, 255, 1, 0], 65530);
     string.push(0).expect(&rt, "memory");
-    assert_eq!(rt; (string.len(), same(&string, &unclosed)), (65535, Ok(true)));
+    assert_equal(&rt, &"the longest", &string.len(), &65535);
+    assert_equal(&rt, &"without NUL", &same(&string, &unclosed), &Ok(true));
     assert_read_as(&rt, alloc, &string, list_of_letters(&rt, alloc, 65530));
     assert_read_as(&rt, alloc, &unclosed, list_of_letters(&rt, alloc, 65530));
     string.push(0).expect(&rt, "memory");
-    assert_eq!(rt; string.len(), 65536);
+    assert_equal(&rt, &"padded", &string.len(), &65536);
     assert_kind(&rt, alloc, kind_of_letters(&rt, alloc, 65530), &string);
     assert_built(&rt, alloc, list_of_letters(&rt, alloc, 65530), &string);
 }
 
 /// The kind has 65531 bytes, and is emitted as the string.
 fn assert_kind(rt: &impl Abort, alloc: Global, kind: InfoKind, string: &[u8]) {
-    assert_eq!(rt; kind.fit_len(), Some(65531));
+    assert_equal(rt, &"the kind", &kind.fit_len(), &Some(65531));
     assert_attribute(rt, alloc, &kind, string);
 }
 
@@ -63,28 +64,32 @@ fn len_of_letters(rt: &impl Abort, alloc: Global, count: usize) -> Option<usize>
 /// The list of the string does not fit.
 fn assert_unfit(rt: &impl Abort, alloc: Global, string: &[u8]) {
     let read = parsed(rt, alloc, string);
-    assert_eq!(rt;
-        (
-            nlas_fit_len(read.as_slice()),
-            read.to_vec(alloc).err(),
-            canon(alloc, string).err()
-        ),
-        (None, Some(ToVecError::Unfit), Some(CanonError::Unfit))
+    let case = "a list that does not fit";
+    assert_equal(rt, &case, &nlas_fit_len(read.as_slice()), &None);
+    assert_equal(
+        rt,
+        &case,
+        &read.to_vec(alloc).err(),
+        &Some(ToVecError::Unfit),
     );
-    for room in [0, 70_000] {
-        assert_not_written(rt, alloc, string, room, CanonIntoError::Unfit);
-    }
+    assert_equal(
+        rt,
+        &case,
+        &canon(alloc, string).err(),
+        &Some(CanonError::Unfit),
+    );
+    assert_not_written(rt, alloc, string, 0, CanonIntoError::Unfit);
+    assert_not_written(rt, alloc, string, 70_000, CanonIntoError::Unfit);
 }
 
 #[test]
 fn name_that_does_not_fit(rt: HostRuntime) {
     let alloc = rt.alloc();
-    assert_eq!(rt; len_of_letters(&rt, alloc, 65531), None);
+    let case = "65531 letters";
+    assert_equal(&rt, &case, &len_of_letters(&rt, alloc, 65531), &None);
     let string = letters_behind(&rt, alloc, [255, 255, 1, 0], 65531);
-    assert_eq!(rt;
-        (check(&string), same(&string, &string)),
-        (Ok(()), Ok(true))
-    );
+    assert_equal(&rt, &case, &check(&string), &Ok(()));
+    assert_equal(&rt, &case, &same(&string, &string), &Ok(true));
     assert_unfit(&rt, alloc, &string);
     assert_read_as(&rt, alloc, &string, list_of_letters(&rt, alloc, 65531));
     assert_fronts(&rt, alloc, &string);

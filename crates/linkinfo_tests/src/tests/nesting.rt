@@ -1,6 +1,6 @@
 //! Address lists inside address lists.
 
-use super::assertions::{assert_canon_into, assert_emitted, assert_headers, parsed};
+use super::assertions::{assert_canon_into, assert_emitted, assert_equal, assert_headers, parsed};
 use super::fronts::assert_fronts;
 use linkinfo::{Cause, DecodeError, Family, InfoData, InfoMacVlan, LinkInfo, same};
 use std::alloc::Global;
@@ -52,10 +52,8 @@ fn counts_of_chains(rt: HostRuntime) {
     let alloc = rt.alloc();
     for (depth, begin, quarter, headers, fault) in CHAINS {
         let bytes = chain(&rt, alloc, *depth);
-        assert_eq!(rt;
-            (depth, bytes.get(12..20), bytes.len() / 4),
-            (depth, Some(begin.as_slice()), *quarter)
-        );
+        assert_equal(&rt, depth, &bytes.get(12..20), &Some(begin.as_slice()));
+        assert_equal(&rt, depth, &(bytes.len() / 4), quarter);
         assert_headers(&rt, alloc, &bytes, *fault, *headers);
     }
 }
@@ -86,7 +84,7 @@ fn assert_chain(rt: &impl Abort, alloc: Global, bytes: &[u8], depth: u16) {
     let [LinkInfo::Kind(_), LinkInfo::Data(InfoData::MacVlan(items))] = read.as_slice() else {
         panic!(rt; "a macvlan link");
     };
-    assert_eq!(rt; depth_of(items.as_slice()), usize::from(depth));
+    assert_equal(rt, &depth, &depth_of(items.as_slice()), &usize::from(depth));
     assert_emitted(rt, alloc, read.as_slice(), bytes);
     assert_canon_into(rt, alloc, bytes, bytes);
 }
@@ -94,9 +92,9 @@ fn assert_chain(rt: &impl Abort, alloc: Global, bytes: &[u8], depth: u16) {
 #[test]
 fn chains_are_canonical(rt: HostRuntime) {
     let alloc = rt.alloc();
-    for depth in [100, 128] {
-        assert_chain(&rt, alloc, &chain(&rt, alloc, depth), depth);
-    }
+    assert_chain(&rt, alloc, &chain(&rt, alloc, 100), 100);
+    assert_chain(&rt, alloc, &chain(&rt, alloc, 128), 128);
     let longer = chain(&rt, alloc, 101);
-    assert_eq!(rt; same(&longer, &chain(&rt, alloc, 100)), Ok(false));
+    let compared = same(&longer, &chain(&rt, alloc, 100));
+    assert_equal(&rt, &"101 and 100 levels", &compared, &Ok(false));
 }

@@ -1,14 +1,23 @@
 //! A peer of one's own: links with it read, checked, compared and written.
 
-use super::assertions::{assert_emitted, bytes_of, nlas};
+use super::assertions::{assert_emitted, assert_equal, assert_holds, bytes_of, nlas};
 use crate::AnyPeer;
 use linkinfo::{InfoDataOf, InfoKind, InfoVethOf, LinkInfoOf, VecLinkInfoOf, check_of, same_of};
+use std::alloc::Global;
+use std::process::Abort;
 
 /// Veth links whose peers are two bytes, and none.
 const PEERS: [&str; 2] = [
     "09000100 76657468 00000000 0a000200 06000100 aabb",
     "09000100 76657468 00000000 08000200 04000100",
 ];
+
+/// The string is accepted, and read as the list.
+fn assert_accepted(rt: &impl Abort, alloc: Global, bytes: &[u8], list: &VecLinkInfoOf<AnyPeer>) {
+    let read = VecLinkInfoOf::<AnyPeer>::parse(alloc, bytes).expect(rt, "a list");
+    assert_holds(rt, &bytes, read == *list);
+    assert_equal(rt, &bytes, &check_of::<AnyPeer>(bytes), &Ok(()));
+}
 
 #[test]
 fn peer_of_ones_own(rt: HostRuntime) {
@@ -19,11 +28,8 @@ fn peer_of_ones_own(rt: HostRuntime) {
     let [two, none] = PEERS;
     let two = bytes_of(&rt, alloc, two);
     let none = bytes_of(&rt, alloc, none);
-    for bytes in [&two, &none] {
-        let read = VecLinkInfoOf::<AnyPeer>::parse(alloc, bytes).expect(&rt, "a list");
-        assert!(rt; read == list);
-        assert_eq!(rt; check_of::<AnyPeer>(bytes), Ok(()));
-    }
-    assert_eq!(rt; same_of::<AnyPeer>(&two, &none), Ok(true));
+    assert_accepted(&rt, alloc, &two, &list);
+    assert_accepted(&rt, alloc, &none, &list);
+    assert_equal(&rt, &"both", &same_of::<AnyPeer>(&two, &none), &Ok(true));
     assert_emitted(&rt, alloc, list.as_slice(), &none);
 }

@@ -1,6 +1,8 @@
 //! Data, port data and statistics read by themselves.
 
-use super::assertions::{HEADER_FAULT, copied, default_nla, nlas, text_of};
+use super::assertions::{
+    HEADER_FAULT, assert_equal, assert_holds, copied, default_nla, nlas, text_of,
+};
 use linkinfo::{
     BitPeer, Bytes, Cause, DecodeError, Emitable, Family, InfoData, InfoDataOf, InfoKind,
     InfoPortData, InfoPortKind, InfoVeth, InfoVethOf, InfoVrf, InfoXfrm, LinkXstats, NlaBuffer,
@@ -35,15 +37,10 @@ fn read_port_data(
     InfoPortData::parse_with_param(alloc, payload, kind)
 }
 
-/// Whether two values are equal.
-fn are_equal<T: PartialEq + Drop>(first: T, second: T) -> bool {
-    first == second
-}
-
 /// A payload is read as this data of a link of the kind.
 fn assert_data(rt: &impl Abort, alloc: Global, payload: &[u8], kind: InfoKind, data: InfoData) {
-    let equal = are_equal(read_data(alloc, payload, &kind).expect(rt, "data"), data);
-    assert_eq!(rt; (payload, equal), (payload, true));
+    let read = read_data(alloc, payload, &kind).expect(rt, "data");
+    assert_holds(rt, &payload, read == data);
 }
 
 #[test]
@@ -64,10 +61,9 @@ fn data_of_families(rt: HostRuntime) {
 #[test]
 fn data_of_bits(rt: HostRuntime) {
     let bit = [5, 0, 1, 0, 7];
-    let read = InfoDataOf::<BitPeer>::parse_with_param(rt.alloc(), &bit, &InfoKind::Veth).expect(
-        &rt, "data",
-    );
-    assert!(rt; read == InfoDataOf::Veth(InfoVethOf::Peer(BitPeer(true))));
+    let read = InfoDataOf::<BitPeer>::parse_with_param(rt.alloc(), &bit, &InfoKind::Veth);
+    let wanted = InfoDataOf::Veth(InfoVethOf::Peer(BitPeer(true)));
+    assert_holds(&rt, &bit, read.expect(&rt, "data") == wanted);
 }
 
 /// A payload of five bytes read under a kind without a family is kept as bytes.
@@ -85,30 +81,27 @@ fn data_without_a_family(rt: HostRuntime) {
     assert_bytes(&rt, alloc, InfoKind::Other(text_of(&rt, alloc, "xfrm")));
 }
 
-/// The fault of a payload read as data of a kind.
-fn fault_of_data(alloc: Global, payload: &[u8], kind: &InfoKind) -> Option<DecodeError> {
-    read_data(alloc, payload, kind).err()
+/// A payload is refused with this fault as data of a kind.
+fn assert_fault(
+    rt: &impl Abort,
+    alloc: Global,
+    payload: &[u8],
+    kind: &InfoKind,
+    fault: DecodeError,
+) {
+    let found = read_data(alloc, payload, kind).err();
+    assert_equal(rt, &payload, &found, &Some(fault));
 }
 
 #[test]
 fn faults_of_data(rt: HostRuntime) {
     let alloc = rt.alloc();
     let short = [5, 0, 1, 0, 7];
-    let faults = [
-        fault_of_data(alloc, &short, &InfoKind::Xfrm),
-        fault_of_data(alloc, &short, &InfoKind::Vrf),
-        fault_of_data(alloc, &[], &InfoKind::Veth),
-        fault_of_data(alloc, &[7], &InfoKind::Xfrm),
-    ];
-    assert_eq!(rt;
-        faults,
-        [
-            Some(length_fault(Family::Xfrm)),
-            Some(length_fault(Family::Vrf)),
-            Some(HEADER_FAULT),
-            Some(HEADER_FAULT),
-        ]
-    );
+    let (xfrm, vrf) = (length_fault(Family::Xfrm), length_fault(Family::Vrf));
+    assert_fault(&rt, alloc, &short, &InfoKind::Xfrm, xfrm);
+    assert_fault(&rt, alloc, &short, &InfoKind::Vrf, vrf);
+    assert_fault(&rt, alloc, &[], &InfoKind::Veth, HEADER_FAULT);
+    assert_fault(&rt, alloc, &[7], &InfoKind::Xfrm, HEADER_FAULT);
 }
 
 /// A payload is read as this data of a port of the kind.
@@ -120,10 +113,8 @@ fn assert_port_data(
     data: InfoPortData,
 ) {
     let read = read_port_data(alloc, payload, &kind).expect(rt, "data");
-    assert_eq!(rt;
-        (payload, is_equal(&read, &data), read == data),
-        (payload, true, true)
-    );
+    assert_holds(rt, &payload, is_equal(&read, &data));
+    assert_holds(rt, &payload, read == data);
 }
 
 /// A payload of one byte read under a port kind of an unknown name is kept as bytes.
@@ -139,18 +130,22 @@ fn port_data_by_kind(rt: HostRuntime) {
     let data = InfoPortData::VrfPort(nlas(&rt, alloc, [InfoVrf::TableId(5)]));
     let table = [8, 0, 1, 0, 5, 0, 0, 0];
     assert_port_data(&rt, alloc, &table, InfoPortKind::Vrf, data);
-    for name in ["x", "vrf"] {
-        assert_port_bytes(&rt, alloc, name);
-    }
+    assert_port_bytes(&rt, alloc, "x");
+    assert_port_bytes(&rt, alloc, "vrf");
     let short = read_port_data(alloc, &[5, 0, 1, 0, 7], &InfoPortKind::Vrf).err();
-    assert_eq!(rt; short, Some(length_fault(Family::Vrf)));
+    assert_equal(
+        &rt,
+        &"a short table",
+        &short,
+        &Some(length_fault(Family::Vrf)),
+    );
 }
 
 /// The statistics are read under this kind as these bytes.
 fn assert_statistics(rt: &impl Abort, alloc: Global, kind: InfoKind, xstats: &LinkXstats) {
     let nla = NlaBuffer::new_checked(&[6, 0, 3, 0, 1, 2]).expect(rt, "an attribute");
     let read = LinkXstats::parse_with_param(alloc, &nla, &kind).expect(rt, "statistics");
-    assert!(rt; read == *xstats);
+    assert_holds(rt, &"statistics", read == *xstats);
 }
 
 #[test]
@@ -159,9 +154,10 @@ fn statistics_are_bytes(rt: HostRuntime) {
     let xstats = LinkXstats::Other(copied(&rt, alloc, &[1, 2]));
     assert_statistics(&rt, alloc, InfoKind::Can, &xstats);
     assert_statistics(&rt, alloc, InfoKind::Xfrm, &xstats);
-    let equal = is_equal(&xstats.clone().expect(&rt, "memory"), &xstats);
+    let copy = xstats.clone().expect(&rt, "memory");
+    assert_holds(&rt, &"a clone", is_equal(&copy, &xstats));
     assert!(rt; xstats.buffer_len() == 2);
     let mut buffer = [255; 5];
     xstats.emit(&mut buffer);
-    assert_eq!(rt; (equal, buffer), (true, [1, 2, 255, 255, 255]));
+    assert_equal(&rt, &"emitted", &buffer, &[1, 2, 255, 255, 255]);
 }

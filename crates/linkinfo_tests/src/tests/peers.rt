@@ -1,6 +1,6 @@
 //! Lists with peers of another type.
 
-use super::assertions::{assert_emitted, bytes_of, nlas, repeated};
+use super::assertions::{assert_emitted, assert_equal, assert_holds, bytes_of, nlas, repeated};
 use super::worked::VETH_TAIL;
 use linkinfo::{
     BitPeer, CanonError, CanonIntoError, Cause, DecodeError, Family, HeaderCount, InfoDataOf,
@@ -31,43 +31,33 @@ fn assert_read(
     wanted: &VecLinkInfoOf<BitPeer>,
     headers: usize,
 ) {
-    let equal = VecLinkInfoOf::<BitPeer>::parse(alloc, bytes).expect(rt, "a list") == *wanted;
+    let read = VecLinkInfoOf::<BitPeer>::parse(alloc, bytes).expect(rt, "a list");
+    assert_holds(rt, &bytes, read == *wanted);
     let mut count = HeaderCount::new();
-    let counted = VecLinkInfoOf::<BitPeer>::parse_counted(alloc, bytes, &mut count).expect(
-        rt, "a list",
-    ) == *wanted;
-    assert_eq!(rt;
-        (bytes, equal, counted, count.get()),
-        (bytes, true, true, headers)
-    );
+    let counted = VecLinkInfoOf::<BitPeer>::parse_counted(alloc, bytes, &mut count);
+    assert_holds(rt, &bytes, counted.expect(rt, "a list") == *wanted);
+    assert_equal(rt, &bytes, &count.get(), &headers);
 }
 
 /// The list is equal to its clone, and is written as the canonical string into a buffer and in one call.
 fn assert_written(rt: &impl Abort, alloc: Global, list: &VecLinkInfoOf<BitPeer>, canonical: &[u8]) {
-    let equal = list.clone().expect(rt, "memory") == *list;
+    assert_holds(rt, &canonical, list.clone().expect(rt, "memory") == *list);
     assert_emitted(rt, alloc, list.as_slice(), canonical);
     let written = list.to_vec(alloc).expect(rt, "a string");
-    assert_eq!(rt; (equal, written.as_slice()), (true, canonical));
+    assert_equal(rt, &canonical, &written.as_slice(), &canonical);
 }
 
 /// The bytes are made the canonical string in one call.
 fn assert_canonical(rt: &impl Abort, alloc: Global, bytes: &[u8], canonical: &[u8]) {
     let string = canon_of::<BitPeer>(alloc, bytes).expect(rt, "a canonical string");
-    assert_eq!(rt; string.as_slice(), canonical);
+    assert_equal(rt, &bytes, &string.as_slice(), &canonical);
     let len = canonical.len();
     let mut buffer = repeated(rt, alloc, 255, len);
-    assert_eq!(rt;
-        (
-            canon_into_of::<BitPeer>(bytes, &mut buffer),
-            buffer.as_slice()
-        ),
-        (Ok(len), canonical)
-    );
-    let mut none = [];
-    assert_eq!(rt;
-        canon_into_of::<BitPeer>(bytes, &mut none),
-        Err(CanonIntoError::Short(len))
-    );
+    let written = canon_into_of::<BitPeer>(bytes, &mut buffer);
+    assert_equal(rt, &bytes, &written, &Ok(len));
+    assert_equal(rt, &bytes, &buffer.as_slice(), &canonical);
+    let written = canon_into_of::<BitPeer>(bytes, &mut []);
+    assert_equal(rt, &bytes, &written, &Err(CanonIntoError::Short(len)));
 }
 
 /// The list is that of the string and of the canonical one, by this many headers, and is written as the canonical one.
@@ -97,14 +87,8 @@ fn assert_bits(
     let bytes = bytes_of(rt, alloc, text);
     assert_list(rt, alloc, list, (&bytes, &canonical), headers);
     let other = bytes_of(rt, alloc, other);
-    assert_eq!(rt;
-        (
-            text,
-            same_of::<BitPeer>(&bytes, &other),
-            same(&bytes, &other)
-        ),
-        (text, Ok(true), Ok(false))
-    );
+    assert_equal(rt, &text, &same_of::<BitPeer>(&bytes, &other), &Ok(true));
+    assert_equal(rt, &text, &same(&bytes, &other), &Ok(false));
     assert_canonical(rt, alloc, &bytes, &canonical);
     assert_canonical(rt, alloc, &other, &canonical);
 }
@@ -151,24 +135,20 @@ fn checks_and_compares_bits(rt: HostRuntime) {
     let alloc = rt.alloc();
     let seven = bytes_of(&rt, alloc, PEER_OF_SEVEN);
     let nine = bytes_of(&rt, alloc, PEER_OF_NINE);
-    assert_eq!(rt;
-        (
-            check_of::<BitPeer>(&seven),
-            same_of::<BitPeer>(&seven, &nine),
-            same(&seven, &nine)
-        ),
-        (Ok(()), Ok(true), Ok(false))
-    );
+    let case = "peers of seven and nine";
+    assert_equal(&rt, &case, &check_of::<BitPeer>(&seven), &Ok(()));
+    assert_equal(&rt, &case, &same_of::<BitPeer>(&seven, &nine), &Ok(true));
+    assert_equal(&rt, &case, &same(&seven, &nine), &Ok(false));
     let mut checking = HeaderCount::new();
     let checked = check_counted_of::<BitPeer>(&seven, &mut checking);
+    assert_equal(&rt, &case, &checked, &Ok(()));
+    assert_equal(&rt, &case, &checking.get(), &3);
 
     // Each string is looked at to be checked, and again to be compared.
     let mut comparing = HeaderCount::new();
     let answer = same_counted_of::<BitPeer>(&seven, &nine, &mut comparing);
-    assert_eq!(rt;
-        (checked, checking.get(), answer, comparing.get()),
-        (Ok(()), 3, Ok(true), 12)
-    );
+    assert_equal(&rt, &case, &answer, &Ok(true));
+    assert_equal(&rt, &case, &comparing.get(), &12);
 }
 
 /// The fault of a string, where peers are bits.
@@ -180,23 +160,34 @@ fn fault_of(alloc: Global, bytes: &[u8]) -> Option<DecodeError> {
 fn refuses_other_peers(rt: HostRuntime) {
     let alloc = rt.alloc();
     let bytes = bytes_of(&rt, alloc, VETH_TAIL);
-    assert_eq!(rt;
-        (
-            check_of::<BitPeer>(&bytes),
-            fault_of(alloc, &bytes),
-            canon_of::<BitPeer>(alloc, &bytes).err(),
-            canon_into_of::<BitPeer>(&bytes, &mut []),
-            same_of::<BitPeer>(&bytes, &[]),
-            same_of::<BitPeer>(&[], &bytes)
-        ),
-        (
-            Err(PEER_REFUSED),
-            Some(PEER_REFUSED),
-            Some(CanonError::Refused(PEER_REFUSED)),
-            Err(CanonIntoError::Refused(PEER_REFUSED)),
-            Err(PEER_REFUSED),
-            Err(PEER_REFUSED)
-        )
+    let rewritten = canon_of::<BitPeer>(alloc, &bytes).err();
+    let written = canon_into_of::<BitPeer>(&bytes, &mut []);
+    let case = VETH_TAIL;
+    assert_equal(&rt, &case, &check_of::<BitPeer>(&bytes), &Err(PEER_REFUSED));
+    assert_equal(&rt, &case, &fault_of(alloc, &bytes), &Some(PEER_REFUSED));
+    assert_equal(
+        &rt,
+        &case,
+        &rewritten,
+        &Some(CanonError::Refused(PEER_REFUSED)),
+    );
+    assert_equal(
+        &rt,
+        &case,
+        &written,
+        &Err(CanonIntoError::Refused(PEER_REFUSED)),
+    );
+    assert_equal(
+        &rt,
+        &case,
+        &same_of::<BitPeer>(&bytes, &[]),
+        &Err(PEER_REFUSED),
+    );
+    assert_equal(
+        &rt,
+        &case,
+        &same_of::<BitPeer>(&[], &bytes),
+        &Err(PEER_REFUSED),
     );
 }
 
@@ -225,13 +216,8 @@ fn peers_that_are_no_bits(rt: HostRuntime) {
             family: *family,
             ..PEER_REFUSED
         };
-        assert_eq!(rt;
-            (
-                check_of::<BitPeer>(&bytes),
-                fault_of(alloc, &bytes),
-                same(&bytes, &bytes)
-            ),
-            (Err(fault), Some(fault), Ok(true))
-        );
+        assert_equal(&rt, text, &check_of::<BitPeer>(&bytes), &Err(fault));
+        assert_equal(&rt, text, &fault_of(alloc, &bytes), &Some(fault));
+        assert_equal(&rt, text, &same(&bytes, &bytes), &Ok(true));
     }
 }

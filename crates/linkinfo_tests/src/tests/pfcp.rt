@@ -1,8 +1,8 @@
 //! Links of the kind pfcp, whose data is attributes of a family without rows.
 
 use super::assertions::{
-    HEADER_FAULT, assert_built, assert_reads, assert_refused, bytes_of, copied, default_nla, link,
-    nlas, parsed,
+    HEADER_FAULT, assert_built, assert_equal, assert_holds, assert_reads, assert_refused, bytes_of,
+    copied, default_nla, link, nlas, parsed,
 };
 use super::worked::{PFCP_ATTRIBUTE, PFCP_EMPTY, PFCP_MARKED, PFCP_NOT_FRAMED, PFCP_SHORT};
 use linkinfo::{DecodeError, InfoData, InfoKind, InfoPfcp, LinkInfo, Nlas};
@@ -46,7 +46,7 @@ fn pfcp_of_bytes(rt: &impl Abort, alloc: Global, payload: &[u8]) -> [LinkInfo; 2
 /// The string is read as another list than that of these attributes.
 fn assert_read_otherwise(rt: &impl Abort, alloc: Global, string: &[u8], items: [LinkInfo; 2]) {
     let equal = parsed(rt, alloc, string).as_slice() == items.as_slice();
-    assert!(rt; !equal);
+    assert_holds(rt, &string, !equal);
 }
 
 /// Bytes as data of pfcp are not well formed: they are emitted, and their string is refused or reads as attributes.
@@ -68,8 +68,8 @@ fn moved(alloc: Global, payload: &[u8]) -> Result<InfoData, DecodeError> {
 
 /// Bytes that were kept are moved to one attribute.
 fn assert_moved(rt: &impl Abort, alloc: Global, payload: &[u8], attribute: InfoData) {
-    let equal = moved(alloc, payload).expect(rt, "data") == attribute;
-    assert!(rt; equal);
+    let read = moved(alloc, payload).expect(rt, "data");
+    assert_holds(rt, &payload, read == attribute);
 }
 
 #[test]
@@ -78,5 +78,5 @@ fn moves_bytes_under_pfcp(rt: HostRuntime) {
     let attribute = kept(&rt, alloc, 0x8001, &[1, 0, 0, 0]);
     assert_moved(&rt, alloc, &[8, 0, 1, 0x80, 1, 0, 0, 0], attribute);
     let fault = moved(alloc, &[1, 2, 3]).err();
-    assert_eq!(rt; fault, Some(HEADER_FAULT));
+    assert_equal(&rt, &"three bytes", &fault, &Some(HEADER_FAULT));
 }

@@ -1,11 +1,12 @@
 //! Where in a string the first fault stands.
 
-use super::assertions::{HEADER_FAULT, bytes_of, link_fault};
+use super::assertions::{HEADER_FAULT, assert_equal, assert_holds, bytes_of, link_fault};
 use super::worked::{FIRST_FAULT, PFCP_NOT_FRAMED, SECOND_PORT_DATA, XFRM};
 use linkinfo::{
     BitPeer, Cause, DecodeError, Family, FaultIn, PlacedFault, check_placed, check_placed_of,
     is_equal, same_placed, same_placed_of,
 };
+use std::process::Abort;
 
 /// Strings that are refused, with their faults, and where the attribute of the list begins that has it.
 const PLACES: &[(&str, DecodeError, usize)] = &[
@@ -30,21 +31,21 @@ const PLACES: &[(&str, DecodeError, usize)] = &[
 fn faults_have_places(rt: HostRuntime) {
     let alloc = rt.alloc();
     let accepted = check_placed(&bytes_of(&rt, alloc, XFRM));
-    assert_eq!(rt; accepted, Ok(()));
+    assert_equal(&rt, &XFRM, &accepted, &Ok(()));
     for (text, fault, place) in PLACES {
         let at = PlacedFault {
             fault: *fault,
             place: *place,
         };
         let checked = check_placed(&bytes_of(&rt, alloc, text));
-        assert_eq!(rt; (text, checked), (text, Err(at)));
+        assert_equal(&rt, text, &checked, &Err(at));
     }
     let order = PlacedFault {
         fault: link_fault(5, Cause::Order),
         place: 12,
     };
     let checked = check_placed(&bytes_of(&rt, alloc, SECOND_PORT_DATA));
-    assert_eq!(rt; checked, Err(order));
+    assert_equal(&rt, &SECOND_PORT_DATA, &checked, &Err(order));
 }
 
 #[test]
@@ -60,19 +61,25 @@ fn faults_of_bits_have_places(rt: HostRuntime) {
         place: 12,
     };
     let bytes = bytes_of(&rt, alloc, two);
-    assert_eq!(rt;
-        (check_placed_of::<BitPeer>(&bytes), check_placed(&bytes)),
-        (Err(refused), Ok(()))
+    assert_equal(
+        &rt,
+        &two,
+        &check_placed_of::<BitPeer>(&bytes),
+        &Err(refused),
     );
-    assert!(rt;
-        !is_equal(
-            &refused,
-            &PlacedFault {
-                place: 0,
-                ..refused
-            }
-        )
-    );
+    assert_equal(&rt, &two, &check_placed(&bytes), &Ok(()));
+    let elsewhere = PlacedFault {
+        place: 0,
+        ..refused
+    };
+    assert_holds(&rt, &two, !is_equal(&refused, &elsewhere));
+}
+
+/// Comparing the strings answers this, whether peers are bytes or bits.
+fn assert_compared(rt: &impl Abort, a: &[u8], b: &[u8], answer: Result<bool, FaultIn>) {
+    let case = (a, b);
+    assert_equal(rt, &case, &same_placed(a, b), &answer);
+    assert_equal(rt, &case, &same_placed_of::<BitPeer>(a, b), &answer);
 }
 
 #[test]
@@ -83,41 +90,15 @@ fn faults_of_two_strings(rt: HostRuntime) {
     let order = link_fault(5, Cause::Order);
     let short = bytes_of(&rt, alloc, "09000100 78");
     let kind = bytes_of(&rt, alloc, "09000100 7866726d 00000000");
-    for (a, b, answer) in [
-        (accepted.as_slice(), accepted.as_slice(), Ok(true)),
-        (accepted.as_slice(), kind.as_slice(), Ok(false)),
-        (
-            accepted.as_slice(),
-            refused.as_slice(),
-            Err(FaultIn::Second(order)),
-        ),
-        (
-            refused.as_slice(),
-            accepted.as_slice(),
-            Err(FaultIn::First(order)),
-        ),
-        (
-            short.as_slice(),
-            refused.as_slice(),
-            Err(FaultIn::First(HEADER_FAULT)),
-        ),
-        (
-            refused.as_slice(),
-            refused.as_slice(),
-            Err(FaultIn::First(order)),
-        ),
-    ] {
-        assert_eq!(rt;
-            (same_placed(a, b), same_placed_of::<BitPeer>(a, b)),
-            (answer, answer)
-        );
-    }
-    assert_eq!(rt;
-        (
-            FaultIn::First(order).fault(),
-            FaultIn::Second(HEADER_FAULT).fault()
-        ),
-        (order, HEADER_FAULT)
-    );
-    assert!(rt; !is_equal(&FaultIn::First(order), &FaultIn::Second(order)));
+    assert_compared(&rt, &accepted, &accepted, Ok(true));
+    assert_compared(&rt, &accepted, &kind, Ok(false));
+    assert_compared(&rt, &accepted, &refused, Err(FaultIn::Second(order)));
+    assert_compared(&rt, &refused, &accepted, Err(FaultIn::First(order)));
+    assert_compared(&rt, &short, &refused, Err(FaultIn::First(HEADER_FAULT)));
+    assert_compared(&rt, &refused, &refused, Err(FaultIn::First(order)));
+    let (first, second) = (FaultIn::First(order), FaultIn::Second(order));
+    assert_equal(&rt, &"the first", &first.fault(), &order);
+    let header = FaultIn::Second(HEADER_FAULT);
+    assert_equal(&rt, &"the second", &header.fault(), &HEADER_FAULT);
+    assert_holds(&rt, &"one fault in either", !is_equal(&first, &second));
 }

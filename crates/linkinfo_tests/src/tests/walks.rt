@@ -1,6 +1,8 @@
 //! The borrowed walk.
 
-use super::assertions::{HEADER_FAULT, assert_built, bytes_of, link, link_fault, nlas};
+use super::assertions::{
+    HEADER_FAULT, assert_built, assert_equal, assert_holds, bytes_of, link, link_fault, nlas,
+};
 use super::worked::{DATA_TWICE, FIRST_FAULT, SECOND_PORT_DATA};
 use linkinfo::{
     Cause, DecodeError, InfoData, InfoKind, InfoVxlan, KindTag, LinkInfoItem, LinkInfoWalk,
@@ -11,11 +13,11 @@ use std::process::Abort;
 /// The walk gives these items, each at its place.
 fn assert_items(rt: &impl Abort, walk: &mut LinkInfoWalk<'_>, items: &[LinkInfoItem<'_>]) {
     for wanted in items {
-        assert_eq!(rt; walk.place(), wanted.place);
+        assert_equal(rt, wanted, &walk.place(), &wanted.place);
         let Some(Ok(item)) = walk.next() else {
-            panic!(rt; "an item {wanted:?}");
+            panic!(rt; "an item");
         };
-        assert!(rt; item == *wanted, "{item:?} for {wanted:?}");
+        assert_equal(rt, &"an item", &item, wanted);
     }
 }
 
@@ -24,7 +26,7 @@ fn next_fault(rt: &impl Abort, walk: &mut LinkInfoWalk<'_>) -> Option<DecodeErro
     match walk.next() {
         None => None,
         Some(Err(fault)) => Some(fault),
-        Some(Ok(item)) => panic!(rt; "a further item {item:?}"),
+        Some(Ok(_)) => panic!(rt; "a further item"),
     }
 }
 
@@ -38,16 +40,13 @@ fn assert_walk(
     examined: usize,
 ) {
     let mut walk = LinkInfoWalk::new(bytes);
-    assert_eq!(rt; walk.examined(), 0);
+    assert_equal(rt, &bytes, &walk.examined(), &0);
     assert_items(rt, &mut walk, items);
-    let place = walk.place();
-    let last = next_fault(rt, &mut walk);
-    let behind = next_fault(rt, &mut walk);
-    assert_eq!(rt;
-        (place, last, behind, walk.place(), walk.examined()),
-        (end, fault, None, end, examined),
-        "the end of {bytes:?}"
-    );
+    assert_equal(rt, &bytes, &walk.place(), &end);
+    assert_equal(rt, &bytes, &next_fault(rt, &mut walk), &fault);
+    assert_equal(rt, &bytes, &next_fault(rt, &mut walk), &None);
+    assert_equal(rt, &bytes, &walk.place(), &end);
+    assert_equal(rt, &bytes, &walk.examined(), &examined);
 }
 
 /// An item with no kind in force.
@@ -109,7 +108,7 @@ fn walks_over_what_was_built(rt: HostRuntime) {
     let data = nlas(&rt, alloc, [InfoVxlan::Id(42), InfoVxlan::Port(4789)]);
     let items = link(InfoKind::Vxlan, InfoData::Vxlan(data));
     assert_built(&rt, alloc, items, &VXLAN);
-    assert_eq!(rt; same(&VXLAN, &VXLAN[..12]), Ok(false));
+    assert_equal(&rt, &VXLAN, &same(&VXLAN, &VXLAN[..12]), &Ok(false));
     let items = [
         item(0, 1, b"vxlan\0"),
         under(KindTag::Vxlan, item(12, 2, &VXLAN[16..])),
@@ -162,12 +161,10 @@ fn compares_and_clones_walks(rt: HostRuntime) {
     let mut walk = LinkInfoWalk::new(&bytes);
     walk.next();
     let mut copy = walk.clone().expect(&rt, "memory");
-    let (same, new) = (copy == walk, copy == LinkInfoWalk::new(&bytes));
+    assert_holds(&rt, &"equal to its clone", copy == walk);
+    assert_holds(&rt, &"unlike a new one", copy != LinkInfoWalk::new(&bytes));
     walk.next();
-    let behind = copy == walk;
+    assert_holds(&rt, &"unlike the one behind", copy != walk);
     copy.next();
-    assert_eq!(rt;
-        (same, new, behind, copy == walk),
-        (true, false, false, true)
-    );
+    assert_holds(&rt, &"equal again", copy == walk);
 }

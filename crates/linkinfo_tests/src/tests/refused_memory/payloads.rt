@@ -1,11 +1,12 @@
 //! Payloads that are read by themselves.
 
-use crate::answers::MEMORY;
+use super::answers::MEMORY;
+use crate::tests::assertions::{assert_equal, assert_holds};
 use linkinfo::{
     HeaderCount, InfoData, InfoKind, InfoPortData, InfoPortKind, InfoVeth, InfoXfrm, LinkXstats,
     NlaBuffer, ParseableParametrized, Text, first_read, list_read,
 };
-use std::alloc::{AllocError, Global};
+use std::alloc::AllocError;
 
 /// The data of an xfrm link with its underlying interface and its identifier.
 const XFRM: [u8; 16] = [8, 0, 1, 0, 2, 0, 0, 0, 8, 0, 2, 0, 10, 0, 0, 0];
@@ -15,18 +16,20 @@ fn is_xfrm(items: &[InfoXfrm]) -> bool {
     items == [InfoXfrm::Link(2), InfoXfrm::IfId(10)].as_slice()
 }
 
-pub(crate) fn data(alloc: Global) -> bool {
+#[test]
+fn data(rt: HostRuntime) {
+    let alloc = rt.alloc();
     let answer = match InfoData::parse_with_param(alloc, &XFRM, &InfoKind::Xfrm) {
         Err(MEMORY) => InfoData::parse_with_param(alloc, &XFRM, &InfoKind::Xfrm),
         read => read,
     };
-    match answer {
-        Ok(InfoData::Xfrm(items)) => is_xfrm(items.as_slice()),
-        _ => false,
-    }
+    let read = matches!(&answer, Ok(InfoData::Xfrm(items)) if is_xfrm(items.as_slice()));
+    assert_holds(&rt, &XFRM, read);
 }
 
-pub(crate) fn attributes_of_data(alloc: Global) -> bool {
+#[test]
+fn attributes_of_data(rt: HostRuntime) {
+    let alloc = rt.alloc();
     let mut count = HeaderCount::new();
     let answer = match list_read(alloc, &XFRM, (), &mut count) {
         Err(MEMORY) => {
@@ -35,31 +38,33 @@ pub(crate) fn attributes_of_data(alloc: Global) -> bool {
         }
         read => read,
     };
-    answer.is_ok_and(|items| is_xfrm(items.as_slice()))
+    let items = answer.expect(&rt, "attributes");
+    assert_holds(&rt, &XFRM, is_xfrm(items.as_slice()));
 }
 
 /// Data under a port kind without a family.
-pub(crate) fn data_of_other_ports(alloc: Global) -> bool {
+#[test]
+fn data_of_other_ports(rt: HostRuntime) {
+    let alloc = rt.alloc();
     let name = match Text::copy_of(alloc, "x") {
         Err(AllocError) => Text::copy_of(alloc, "x"),
         made => made,
     };
-    let Ok(name) = name else {
-        return false;
-    };
-    let kind = InfoPortKind::Other(name);
+    let kind = InfoPortKind::Other(name.expect(&rt, "a name"));
     let answer = match InfoPortData::parse_with_param(alloc, &[7], &kind) {
         Err(MEMORY) => InfoPortData::parse_with_param(alloc, &[7], &kind),
         read => read,
     };
-    match answer {
-        Ok(InfoPortData::Other(bytes)) => bytes.as_slice() == [7].as_slice(),
-        _ => false,
-    }
+    let Ok(InfoPortData::Other(read)) = &answer else {
+        panic!(rt; "bytes");
+    };
+    assert_equal(&rt, &"a byte", &read.as_slice(), &[7].as_slice());
 }
 
 /// The first attribute of a veth link, whose payload has two bytes.
-pub(crate) fn first_attributes(alloc: Global) -> bool {
+#[test]
+fn first_attributes(rt: HostRuntime) {
+    let alloc = rt.alloc();
     let bytes = [6, 0, 1, 0, 0xaa, 0xbb];
     let mut count = HeaderCount::new();
     let answer = match first_read(alloc, &bytes, (), &mut count) {
@@ -69,23 +74,22 @@ pub(crate) fn first_attributes(alloc: Global) -> bool {
         }
         read => read,
     };
-    match answer {
-        Ok(InfoVeth::Peer(peer)) => peer.as_slice() == [0xaa, 0xbb].as_slice(),
-        _ => false,
-    }
+    let Ok(InfoVeth::Peer(peer)) = &answer else {
+        panic!(rt; "a peer");
+    };
+    assert_equal(&rt, &bytes, &peer.as_slice(), &[0xaa, 0xbb].as_slice());
 }
 
 /// Statistics of a can link.
-pub(crate) fn statistics(alloc: Global) -> bool {
-    let Ok(nla) = NlaBuffer::new_checked(&[6, 0, 3, 0, 1, 2]) else {
-        return false;
-    };
+#[test]
+fn statistics(rt: HostRuntime) {
+    let alloc = rt.alloc();
+    let nla = NlaBuffer::new_checked(&[6, 0, 3, 0, 1, 2]).expect(&rt, "an attribute");
     let answer = match LinkXstats::parse_with_param(alloc, &nla, &InfoKind::Can) {
         Err(MEMORY) => LinkXstats::parse_with_param(alloc, &nla, &InfoKind::Can),
         read => read,
     };
-    match answer {
-        Ok(LinkXstats::Other(bytes)) => bytes.as_slice() == [1, 2].as_slice(),
-        Err(_) => false,
-    }
+    let read = answer.expect(&rt, "statistics");
+    let LinkXstats::Other(bytes) = &read;
+    assert_equal(&rt, &"statistics", &bytes.as_slice(), &[1, 2].as_slice());
 }

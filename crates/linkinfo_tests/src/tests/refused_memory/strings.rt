@@ -1,7 +1,10 @@
-//! Accepted strings.
+//! Accepted strings that are read.
+
+use super::answers::reads;
+use crate::tests::assertions::assert_holds;
 
 /// What each string has, the string, and its canonical string.
-pub(crate) const STRINGS: &[(&str, &[u8], &[u8])] = &[
+const STRINGS: &[(&str, &[u8], &[u8])] = &[
     (
         "xfrm",
         &[
@@ -338,7 +341,7 @@ pub(crate) const STRINGS: &[(&str, &[u8], &[u8])] = &[
 ];
 
 /// What each canonical string has, and the string: one of each family that the strings above lack.
-pub(crate) const CANONICAL: &[(&str, &[u8])] = &[
+const CANONICAL: &[(&str, &[u8])] = &[
     (
         "the name of a kind that is empty",
         &[5, 0, 1, 0, 0, 0, 0, 0],
@@ -499,3 +502,17 @@ pub(crate) const CANONICAL: &[(&str, &[u8])] = &[
         ],
     ),
 ];
+
+#[test]
+fn accepted_strings(rt: HostRuntime) {
+    for (name, bytes, canonical) in STRINGS {
+        assert_holds(&rt, name, reads(rt.alloc(), bytes, canonical));
+    }
+}
+
+#[test]
+fn canonical_strings(rt: HostRuntime) {
+    for (name, bytes) in CANONICAL {
+        assert_holds(&rt, name, reads(rt.alloc(), bytes, bytes));
+    }
+}

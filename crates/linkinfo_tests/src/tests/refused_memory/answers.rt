@@ -1,37 +1,20 @@
 //! The answers that a call may give where a request may be refused.
 
-use linkinfo::{LinkInfo, VecLinkInfo, emit_nlas, nlas_fit_len};
-use nla_frame::{Cause, DecodeError, Family};
+use linkinfo::{Cause, DecodeError, Family, LinkInfo, VecLinkInfo, emit_nlas, nlas_fit_len};
 use std::alloc::Global;
 
 /// Want of memory.
-pub(crate) const MEMORY: DecodeError = DecodeError {
+pub const MEMORY: DecodeError = DecodeError {
     family: Family::Frame,
     kind: 0,
     cause: Cause::Memory,
 };
 
-/// The fault of a header that is not accepted.
-pub(crate) const HEADER_FAULT: DecodeError = DecodeError {
-    family: Family::Frame,
-    kind: 0,
-    cause: Cause::Header,
-};
-
 /// The room for an emitted list.
 const ROOM: usize = 1024;
 
-/// A fault of an attribute of the list itself.
-pub(crate) fn link_fault(kind: u16, cause: Cause) -> DecodeError {
-    DecodeError {
-        family: Family::LinkInfo,
-        kind,
-        cause,
-    }
-}
-
 /// What reading answers where it is not refused memory: read once more after an answer of Memory.
-pub(crate) fn read_at_last(alloc: Global, bytes: &[u8]) -> Result<VecLinkInfo, DecodeError> {
+pub fn read_at_last(alloc: Global, bytes: &[u8]) -> Result<VecLinkInfo, DecodeError> {
     match VecLinkInfo::parse(alloc, bytes) {
         Err(MEMORY) => VecLinkInfo::parse(alloc, bytes),
         answer => answer,
@@ -40,7 +23,7 @@ pub(crate) fn read_at_last(alloc: Global, bytes: &[u8]) -> Result<VecLinkInfo, D
 
 /// Whether the list is emitted as the string, which takes no memory, and no byte behind it is written. A list that was read has no other such
 /// string.
-pub(crate) fn is_emitted(items: &[LinkInfo], string: &[u8]) -> bool {
+pub fn is_emitted(items: &[LinkInfo], string: &[u8]) -> bool {
     let mut buffer = [255; ROOM];
     match nlas_fit_len(items) {
         Some(len) if len <= ROOM => {
@@ -53,16 +36,16 @@ pub(crate) fn is_emitted(items: &[LinkInfo], string: &[u8]) -> bool {
 }
 
 /// Whether reading answers Memory or the list of this canonical string, and at last the latter.
-pub(crate) fn reads(alloc: Global, bytes: &[u8], canonical: &[u8]) -> bool {
+pub fn reads(alloc: Global, bytes: &[u8], canonical: &[u8]) -> bool {
     read_at_last(alloc, bytes).is_ok_and(|list| is_emitted(list.as_slice(), canonical))
 }
 
 /// Whether reading answers Memory or the fault, and at last the latter.
-pub(crate) fn is_refused_at_last(alloc: Global, bytes: &[u8], fault: DecodeError) -> bool {
+pub fn is_refused_at_last(alloc: Global, bytes: &[u8], fault: DecodeError) -> bool {
     read_at_last(alloc, bytes).err() == Some(fault)
 }
 
 /// Whether reading answers the fault whichever request is refused.
-pub(crate) fn is_refused(alloc: Global, bytes: &[u8], fault: DecodeError) -> bool {
+pub fn is_refused(alloc: Global, bytes: &[u8], fault: DecodeError) -> bool {
     VecLinkInfo::parse(alloc, bytes).err() == Some(fault)
 }

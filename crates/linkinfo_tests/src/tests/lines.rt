@@ -1,0 +1,168 @@
+//! Lines that are read and answered over memory.
+
+ghost use Rattle.std.specs.Prelude.{◌≡◌, IfOk};
+ghost use Rattle.linkinfo_lines.specs.Answers.{answer_of};
+
+use super::assertions::{assert_equal, assert_holds};
+use linkinfo_lines::{RunError, laws, run};
+use std::alloc::Global;
+use std::process::Abort;
+
+/// Lines of each command, and such as are none.
+pub const INPUT: &[u8] = b"check 090001007866726d00000000140002000800010002000000080002000a000000
+canon 090001007866726d00000000140002000800010002000000080002000a000000
+canon 0800010070666370
+check 0800020000000000
+canon -
+check 0
+";
+
+/// What is written for them.
+pub const ANSWER: &[u8] = b"ok
+090001007866726d00000000140002000800010002000000080002000a000000
+090001007066637000000000
+err linkinfo 2 order
+-
+bad line
+";
+
+/// A run over memory.
+fn answer_in_memory(alloc: Global, input: &[u8]) -> Result<Vec<u8>, RunError>
+    ensures { IfOk result (λ output. output.items ≡ answer_of input.now) }
+{
+    let mut reader = input;
+    let mut output = Vec::new(alloc);
+    run(alloc, &mut reader, &mut output)?;
+    Ok(output)
+}
+
+/// The input is answered by these bytes.
+fn assert_answered(rt: &impl Abort, alloc: Global, input: &[u8], wanted: &[u8]) {
+    let output = answer_in_memory(alloc, input).expect(rt, "an answer");
+    assert_equal(rt, &wanted, &output.as_slice(), &wanted);
+}
+
+#[test]
+fn answers_over_memory(rt: HostRuntime) {
+    laws::line_by_line();
+    laws::commands();
+    laws::hex_words();
+    laws::fitting();
+    laws::no_memory();
+    let mut input = INPUT;
+    let mut output = Vec::new(rt.alloc());
+    let ended = run(rt.alloc(), &mut input, &mut output);
+    assert_equal(&rt, &INPUT, &ended, &Ok(()));
+    assert_equal(&rt, &INPUT, &output.as_slice(), &ANSWER);
+    assert_holds(&rt, &INPUT, input.is_empty());
+    assert_answered(&rt, rt.alloc(), b"", b"");
+}
+
+/// Lines, and the answer to each.
+const LINES: &[(&str, &str)] = &[
+    ("", "bad line"),
+    ("check", "bad line"),
+    ("check ", "bad line"),
+    ("check -", "ok"),
+    ("check  -", "bad line"),
+    (" check -", "bad line"),
+    ("check - ", "bad line"),
+    ("check - -", "bad line"),
+    ("check -\r", "bad line"),
+    ("check --", "bad line"),
+    ("CHECK -", "bad line"),
+    ("checks -", "bad line"),
+    ("check 04000900", "ok"),
+    ("check 0400090", "bad line"),
+    ("check 0400090g", "bad line"),
+    ("check 04 000900", "bad line"),
+    ("check 040009", "err frame 0 header"),
+    ("check 06000100c328", "err linkinfo 1 utf8"),
+    (
+        "check 080001007672660009000200050001000700000001",
+        "err vrf 1 length",
+    ),
+    ("canon", "bad line"),
+    ("canon - -", "bad line"),
+    ("canon 0400Ffc0", "0400ffc0"),
+    ("canon 0400fFC0", "0400ffc0"),
+    ("canon 090001807866726d00000000", "090001007866726d00000000"),
+    ("canon 0800020000000000", "err linkinfo 2 order"),
+    (
+        "canon 090001007665746800000000110002000600010 0aabb00000500090007",
+        "bad line",
+    ),
+    (
+        "canon 0900010076657468000000001100020006000100aabb00000500090007",
+        "0900010076657468000000000c00020006000100aabb0000",
+    ),
+    ("same", "bad line"),
+    ("same -", "bad line"),
+    ("same - -", "true"),
+    ("same - - ", "bad line"),
+    ("same - - -", "bad line"),
+    ("same -  -", "bad line"),
+    ("same - 0", "bad line"),
+    ("same 0 -", "bad line"),
+    ("same 04000900 04000980", "false"),
+    ("same 0800010070666370 090001007066637000000000", "true"),
+    (
+        "same 090001807866726D00000000 090001007866726d",
+        "err frame 0 header",
+    ),
+    (
+        "same 090001807866726D00000000 090001007866726d00000000",
+        "true",
+    ),
+    ("same 0800020000000000 080001", "err linkinfo 2 order"),
+    ("same 080001 0800020000000000", "err frame 0 header"),
+    ("same 0 080001", "bad line"),
+];
+
+/// The text and a line feed.
+fn line_of(rt: &impl Abort, alloc: Global, text: &str) -> String {
+    format!(in alloc; "{text}\n").expect(rt, "memory")
+}
+
+/// The line is answered by this one, whether a line feed ends it or not: without one, the empty
+/// line is none.
+fn assert_line(rt: &impl Abort, alloc: Global, line: &str, answer: &str) {
+    let wanted = line_of(rt, alloc, answer);
+    let ended = line_of(rt, alloc, line);
+    assert_answered(rt, alloc, ended.as_bytes(), wanted.as_bytes());
+    if !line.is_empty() {
+        assert_answered(rt, alloc, line.as_bytes(), wanted.as_bytes());
+    }
+}
+
+#[test]
+fn answers_each_line(rt: HostRuntime) {
+    for (line, answer) in LINES {
+        assert_line(&rt, rt.alloc(), line, answer);
+    }
+}
+
+/// A kind whose name has 65531 letters is accepted, and too long to be written with its closing
+/// zero byte.
+#[test]
+fn answers_a_list_that_does_not_fit(rt: HostRuntime) {
+    let alloc = rt.alloc();
+    let letters = "61".repeat(alloc, 65_531).expect(&rt, "memory");
+    let input = format!(in alloc; "check ffff0100{letters}\ncanon ffff0100{letters}\ncanon -");
+    let input = input.expect(&rt, "memory");
+    assert_answered(&rt, alloc, input.as_bytes(), b"ok\nunfit\n-\n");
+}
+
+/// The error is displayed as this text, and is equal to its clone.
+fn assert_displays(rt: &impl Abort, alloc: Global, error: RunError, wanted: &str) {
+    let text = error.to_string(alloc).expect(rt, "memory");
+    assert_equal(rt, &wanted, &text.as_str(), &wanted);
+    assert_equal(rt, &wanted, &error.clone().expect(rt, "a clone"), &error);
+}
+
+#[test]
+fn displays_errors(rt: HostRuntime) {
+    assert_displays(&rt, rt.alloc(), RunError::Read, "read");
+    assert_displays(&rt, rt.alloc(), RunError::Write, "write");
+    assert_displays(&rt, rt.alloc(), RunError::Memory, "memory");
+}

@@ -1,0 +1,157 @@
+//! Single attributes that are read.
+
+use super::answers::MEMORY;
+use crate::tests::assertions::assert_holds;
+use linkinfo::{
+    BitPeer, DecodeError, DefaultNla, HeaderCount, InfoAmt, InfoBareUdp, InfoBatAdv, InfoBond,
+    InfoBondPort, InfoBridge, InfoBridgePort, InfoCan, InfoDsa, InfoGeneve, InfoGre, InfoGre6,
+    InfoGtp, InfoHsr, InfoIpTunnel, InfoIpVlan, InfoIpVtap, InfoIpoib, InfoKind, InfoMacSec,
+    InfoMacVlan, InfoMacVtap, InfoNetkit, InfoPfcp, InfoPortKind, InfoRmNet, InfoTeamPort, InfoTun,
+    InfoVeth, InfoVethOf, InfoVlan, InfoVrf, InfoVti, InfoVxcan, InfoVxlan, InfoWireguard,
+    InfoWwan, InfoXfrm, KindTag, LinkFamily, Nla, NlaBuffer, Parseable, ParseableParametrized,
+};
+use std::alloc::Global;
+use std::process::Abort;
+
+/// An attribute of a type that no family has.
+const UNKNOWN: [u8; 5] = [5, 0, 255, 0, 1];
+
+/// What it is emitted as.
+const KEPT: [u8; 8] = [5, 0, 255, 0, 1, 0, 0, 0];
+
+/// What `parse` answers where it is not refused memory: called once more after an answer of Memory.
+fn parse_at_last<'a, T: Parseable<NlaBuffer<'a>>>(
+    alloc: Global,
+    nla: &NlaBuffer<'a>,
+) -> Result<T, DecodeError> {
+    match T::parse(alloc, nla) {
+        Err(MEMORY) => T::parse(alloc, nla),
+        answer => answer,
+    }
+}
+
+/// Whether the answer is a value that is emitted as this string.
+fn is_written<T: Nla + Drop>(answer: Result<T, DecodeError>, string: &[u8; 8]) -> bool {
+    let mut buffer = [255; 8];
+    match answer {
+        Ok(value) if value.fit_len().is_some() && value.buffer_len() == 8 => {
+            value.emit(&mut buffer);
+            buffer == *string
+        }
+        _ => false,
+    }
+}
+
+/// Whether a family's `read` under the context keeps the attribute, whose type it does not have.
+fn reads_unknown<F: LinkFamily>(alloc: Global, nla: &NlaBuffer<'_>, ctx: F::Context) -> bool {
+    if nla.value().len() > 1 {
+        return false;
+    }
+    let mut count = HeaderCount::new();
+    let answer = match F::read(alloc, nla, ctx, &mut count) {
+        Err(MEMORY) => {
+            let mut count = HeaderCount::new();
+            F::read(alloc, nla, ctx, &mut count)
+        }
+        answer => answer,
+    };
+    is_written(answer, &KEPT)
+}
+
+/// The same of `parse`.
+fn parses_unknown<'a, T: Parseable<NlaBuffer<'a>> + Nla + Drop>(
+    alloc: Global,
+    nla: &NlaBuffer<'a>,
+) -> bool {
+    is_written(parse_at_last::<T>(alloc, nla), &KEPT)
+}
+
+/// The family keeps the attribute by both calls, where the context is none.
+fn assert_kept<'a, F: LinkFamily<Context = ()> + Parseable<NlaBuffer<'a>>>(
+    rt: &impl Abort,
+    alloc: Global,
+    nla: &NlaBuffer<'a>,
+    family: &str,
+) {
+    assert_holds(rt, &family, parses_unknown::<F>(alloc, nla));
+    assert_holds(rt, &family, reads_unknown::<F>(alloc, nla, ()));
+}
+
+/// Each of the families keeps the attribute of a type that it does not have.
+macro_rules! assert_all_kept {
+    ($rt:expr; $($family:ty),*) => {
+        let alloc = $rt.alloc();
+        let nla = NlaBuffer::new_checked(&UNKNOWN).expect(&$rt, "an attribute");
+        $(assert_kept::<$family>(&$rt, alloc, &nla, stringify!($family));)*
+    };
+}
+
+#[test]
+fn without_a_family(rt: HostRuntime) {
+    let nla = NlaBuffer::new_checked(&UNKNOWN).expect(&rt, "an attribute");
+    let kept = parses_unknown::<DefaultNla>(rt.alloc(), &nla);
+    assert_holds(&rt, &UNKNOWN, kept);
+}
+
+#[test]
+fn of_tunnels_over_udp(rt: HostRuntime) {
+    assert_all_kept!(rt; InfoVxlan, InfoGeneve, InfoBareUdp, InfoGtp, InfoAmt);
+}
+
+#[test]
+fn of_tunnels(rt: HostRuntime) {
+    assert_all_kept!(rt; InfoGre, InfoGre6, InfoVti, InfoIpoib, InfoWwan);
+}
+
+#[test]
+fn of_devices(rt: HostRuntime) {
+    assert_all_kept!(rt; InfoXfrm, InfoVrf, InfoIpVlan, InfoIpVtap, InfoMacSec, InfoRmNet);
+}
+
+#[test]
+fn of_peers(rt: HostRuntime) {
+    assert_all_kept!(rt; InfoVeth, InfoVxcan, InfoNetkit, InfoVethOf<BitPeer>, InfoBatAdv, InfoTun);
+}
+
+#[test]
+fn of_bonds_and_bridges(rt: HostRuntime) {
+    assert_all_kept!(rt; InfoBond, InfoBondPort, InfoBridge, InfoBridgePort, InfoTeamPort, InfoVlan);
+}
+
+#[test]
+fn without_rows(rt: HostRuntime) {
+    assert_all_kept!(rt; InfoCan, InfoHsr, InfoDsa, InfoWireguard, InfoPfcp);
+}
+
+/// Families that are read under a context.
+#[test]
+fn by_context(rt: HostRuntime) {
+    let alloc = rt.alloc();
+    let nla = NlaBuffer::new_checked(&UNKNOWN).expect(&rt, "an attribute");
+    let tunnel = match InfoIpTunnel::parse_with_param(alloc, &nla, &InfoKind::IpIp) {
+        Err(MEMORY) => InfoIpTunnel::parse_with_param(alloc, &nla, &InfoKind::IpIp),
+        answer => answer,
+    };
+    assert_holds(&rt, &"ipip", is_written(tunnel, &KEPT));
+    let read = reads_unknown::<InfoIpTunnel>(alloc, &nla, KindTag::IpIp);
+    assert_holds(&rt, &"ipip, read", read);
+    assert_holds(&rt, &"macvlan", parses_unknown::<InfoMacVlan>(alloc, &nla));
+    assert_holds(
+        &rt,
+        &"macvlan, read",
+        reads_unknown::<InfoMacVlan>(alloc, &nla, 0),
+    );
+    assert_holds(&rt, &"macvtap", parses_unknown::<InfoMacVtap>(alloc, &nla));
+    assert_holds(
+        &rt,
+        &"macvtap, read",
+        reads_unknown::<InfoMacVtap>(alloc, &nla, 0),
+    );
+}
+
+#[test]
+fn port_kinds(rt: HostRuntime) {
+    let nla = NlaBuffer::new_checked(&[5, 0, 4, 0, b'x']).expect(&rt, "an attribute");
+    let read = parse_at_last::<InfoPortKind>(rt.alloc(), &nla);
+    assert_holds(&rt, &"x", is_written(read, &[6, 0, 4, 0, b'x', 0, 0, 0]));
+}

@@ -1,0 +1,239 @@
+//! Runs over readers and writers that cut what they give and take, and that fail.
+
+ghost use Rattle.std.specs.Prelude.{◌≤◌};
+
+use super::assertions::{assert_equal, assert_holds};
+use super::lines::{ANSWER, INPUT};
+use linkinfo_lines::{MOST_READS, RunError, run};
+use std::alloc::{AllocError, Global};
+use std::io;
+use std::io::{ErrorKind, Read, Write};
+use std::process::Abort;
+
+/// Gives its bytes in pieces, and fails at one of its reads.
+#[derive(Drop)]
+struct PieceReader<'a> {
+    left: &'a [u8],
+    piece: usize,
+    reads: u32,
+    fails_at: u32,
+}
+
+impl PieceReader<'static> {
+    fn new(piece: usize, fails_at: u32) -> PieceReader<'static> {
+        PieceReader {
+            left: INPUT,
+            piece,
+            reads: 0,
+            fails_at,
+        }
+    }
+}
+
+impl Read for PieceReader<'_> {
+    fn read(&mut self, buf: &mut [u8]) -> io::Result<usize> {
+        self.reads = self.reads.saturating_add(1);
+        if self.reads == self.fails_at {
+            return Err(io::Error::from(ErrorKind::Interrupted));
+        }
+        let n = self.left.len().min(self.piece).min(buf.len());
+        buf[..n].copy_from_slice(&self.left[..n]);
+        self.left = &self.left[n..];
+        Ok(n)
+    }
+}
+
+/// Gives one byte at each read, without end.
+#[derive(Drop)]
+struct EndlessReader {
+    reads: u32,
+}
+
+impl Read for EndlessReader {
+    fn read(&mut self, buf: &mut [u8]) -> io::Result<usize> {
+        self.reads = self.reads.saturating_add(1);
+        if buf.is_empty() {
+            return Ok(0);
+        }
+        buf[0] = b'-';
+        Ok(1)
+    }
+}
+
+/// Keeps what it takes in an array, at most seven bytes a write and up to a limit; from then on it
+/// fails or takes nothing.
+#[derive(Drop)]
+pub struct ArrayWriter {
+    held: [u8; 128],
+    len: usize,
+    limit: usize,
+    fails: bool,
+    ghost within: { len ≤ 128 },
+}
+
+impl ArrayWriter {
+    /// A writer that takes this many bytes, and then fails or takes none.
+    pub fn new(limit: usize, fails: bool) -> ArrayWriter {
+        ArrayWriter {
+            held: [0; 128],
+            len: 0,
+            limit,
+            fails,
+        }
+    }
+
+    /// What it has taken.
+    pub fn as_slice(&self) -> &[u8] {
+        &self.held[..self.len]
+    }
+}
+
+impl Write for ArrayWriter {
+    ghost use Rattle.std.specs.Prelude.{Some, take};
+
+    ghost contents = { λ w. Some (take w.len w.held) };
+
+    fn write(&mut self, buf: &[u8]) -> io::Result<usize> {
+        let room = self.limit.min(128).saturating_sub(self.len);
+        let n = buf.len().min(room).min(7);
+        if n == 0 && self.fails {
+            return Err(io::Error::from(ErrorKind::Interrupted));
+        }
+        self.held[self.len..self.len + n].copy_from_slice(&buf[..n]);
+        self.len += n;
+        Ok(n)
+    }
+
+    fn flush(&mut self) -> io::Result<()> {
+        Ok(())
+    }
+}
+
+/// A run over the reader ends so, and the writer has taken these bytes. The number of the case is
+/// printed where that does not hold.
+fn assert_ended<R: Read>(
+    rt: &impl Abort,
+    alloc: Global,
+    case: usize,
+    (reader, mut writer): (&mut R, ArrayWriter),
+    (ended, written): (Result<(), RunError>, &[u8]),
+) {
+    assert_equal(rt, &case, &run(alloc, reader, &mut writer), &ended);
+    assert_equal(rt, &case, &writer.as_slice(), &written);
+}
+
+#[test]
+fn ends_at_a_failed_read(rt: HostRuntime) {
+    let reads = INPUT.len() as u32 + 1;
+    for k in 1..reads + 2 {
+        let mut reader = PieceReader::new(1, k);
+        let writer = ArrayWriter::new(128, true);
+        let wanted = if k <= reads {
+            (Err(RunError::Read), b"".as_slice())
+        } else {
+            (Ok(()), ANSWER)
+        };
+        assert_ended(&rt, rt.alloc(), k as usize, (&mut reader, writer), wanted);
+    }
+}
+
+/// A writer that fails after this many bytes, or takes no more, ends the run.
+fn assert_cut(rt: &impl Abort, alloc: Global, limit: usize, fails: bool) {
+    let mut reader = PieceReader::new(9, 0);
+    let writer = ArrayWriter::new(limit, fails);
+    let wanted = (Err(RunError::Write), ANSWER.get(..limit).unwrap_or(ANSWER));
+    assert_ended(rt, alloc, limit, (&mut reader, writer), wanted);
+}
+
+#[test]
+fn ends_at_a_failed_write(rt: HostRuntime) {
+    for limit in 0..ANSWER.len() {
+        assert_cut(&rt, rt.alloc(), limit, true);
+        assert_cut(&rt, rt.alloc(), limit, false);
+    }
+}
+
+#[test]
+fn ends_after_the_most_reads(rt: HostRuntime) {
+    let mut reader = EndlessReader { reads: 0 };
+    let writer = ArrayWriter::new(128, true);
+    let wanted = (Err(RunError::Read), b"".as_slice());
+    assert_ended(&rt, rt.alloc(), 0, (&mut reader, writer), wanted);
+    assert_equal(&rt, &"reads", &reader.reads, &16_777_216);
+    assert_equal(&rt, &"the most", &MOST_READS, &16_777_216);
+}
+
+/// Takes all address space there is, in smaller and smaller blocks that are never touched.
+fn take_all_memory(alloc: Global) -> Result<Vec<Vec<u8>>, AllocError> {
+    let mut held = Vec::with_capacity(alloc, 200_000)?;
+    let mut size = 1usize << 40;
+    for _ in 0..200_000 {
+        match Vec::<u8>::with_capacity(alloc, size) {
+            Ok(block) => held.push(block)?,
+            Err(_) => {
+                if size == 1 {
+                    break;
+                }
+                size /= 2;
+            }
+        }
+    }
+    Ok(held)
+}
+
+/// Gives its bytes in pieces, and takes all memory at one of its reads.
+#[derive(Drop)]
+struct MemoryTaker<'a> {
+    reader: PieceReader<'a>,
+    alloc: Global,
+    takes_at: u32,
+    held: Vec<Vec<u8>>,
+}
+
+impl Read for MemoryTaker<'_> {
+    fn read(&mut self, buf: &mut [u8]) -> io::Result<usize> {
+        let n = self.reader.read(buf)?;
+        if self.reader.reads == self.takes_at {
+            self.held = take_all_memory(self.alloc)?;
+        }
+        Ok(n)
+    }
+}
+
+/// Once no memory is left after this read, a run that needs more ends with `Memory` and has written
+/// nothing.
+fn assert_starved(rt: &impl Abort, alloc: Global, takes_at: u32) {
+    let mut reader = MemoryTaker {
+        reader: PieceReader::new(9, 0),
+        alloc,
+        takes_at,
+        held: Vec::new(alloc),
+    };
+    let writer = ArrayWriter::new(128, true);
+    let wanted = (Err(RunError::Memory), b"".as_slice());
+    assert_ended(rt, alloc, takes_at as usize, (&mut reader, writer), wanted);
+}
+
+#[test]
+fn ends_where_no_memory_is_left(rt: HostRuntime) {
+    assert_starved(&rt, rt.alloc(), 1);
+    assert_starved(&rt, rt.alloc(), 5);
+    assert_starved(&rt, rt.alloc(), 10);
+    assert_starved(&rt, rt.alloc(), 15);
+}
+
+/// Wherever reads cut the input, its lines are answered as ever.
+#[test]
+fn answers_input_in_pieces(rt: HostRuntime) {
+    for piece in 1..INPUT.len() + 2 {
+        let mut reader = PieceReader::new(piece, 0);
+        let writer = ArrayWriter::new(128, true);
+        assert_ended(
+            &rt,
+            rt.alloc(),
+            piece,
+            (&mut reader, writer),
+            (Ok(()), ANSWER),
+        );
+    }
+}
