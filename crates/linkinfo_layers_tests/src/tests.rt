@@ -1,4 +1,5 @@
-//! Tests over worked strings, values and payloads: what the contracts call a value, a length, a text, a number or a row is what the format says.
+//! Tests over worked strings, values and payloads: what the contracts call a value, a length, a
+//! text, a number or a row is what the format says.
 
 mod assertions;
 mod data;

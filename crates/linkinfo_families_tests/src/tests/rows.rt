@@ -16,7 +16,8 @@ use std::alloc::Global;
 use std::fmt::Debug;
 use std::process::Abort;
 
-/// What was found in this case is what is wanted. It is proved once, where an `assert_eq!` is proved at each place.
+/// What was found in this case is what is wanted. It is proved once, where an `assert_eq!` is
+/// proved at each place.
 pub(super) fn assert_is<T: PartialEq + Debug + Drop>(
     rt: &impl Abort,
     case: impl Debug + Drop,

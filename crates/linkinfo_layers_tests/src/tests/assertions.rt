@@ -1,4 +1,5 @@
-//! What the tests ask of values, and the values that they make. Each helper is proved once, where an `assert_eq!` is proved at each place.
+//! What the tests ask of values, and the values that they make. Each helper is proved once, where
+//! an `assert_eq!` is proved at each place.
 
 use nla_frame::{
     Bytes, Cause, DecodeError, DefaultNla, ExactEq, Family, NlaBuffer, Text, is_equal,
@@ -28,7 +29,8 @@ pub(super) fn assert_displayed(
     assert_is(rt, value, displayed.as_str(), text);
 }
 
-/// The value and a clone of it are equal to `same`, and the value is not to `other`, by `==` and by `is_equal`.
+/// The value and a clone of it are equal to `same`, and the value is not to `other`, by `==` and by
+/// `is_equal`.
 pub(super) fn assert_equality<T: ExactEq + Clone + Drop>(
     rt: &impl Abort,
     value: &T,

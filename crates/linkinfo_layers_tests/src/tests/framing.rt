@@ -99,7 +99,8 @@ fn check_walk(
     assert_is(rt, ("steps", bytes), &steps(rt, alloc, bytes), &wanted);
 }
 
-/// A string, its attributes, its fault, the headers looked at, and where an iterator stands at the end.
+/// A string, its attributes, its fault, the headers looked at, and where an iterator stands at the
+/// end.
 type Framed = (
     &'static [u8],
     &'static [(u16, &'static [u8])],

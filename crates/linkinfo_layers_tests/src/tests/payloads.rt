@@ -337,7 +337,8 @@ fn write_name(rt: &impl Abort, text: &str, buffer: &mut [u8]) {
     write_datum(Shape::Name, &Datum::Text(text), buffer);
 }
 
-/// Lengths of names of letters, with what is written for the name and for plain bytes, if that fits.
+/// Lengths of names of letters, with what is written for the name and for plain bytes, if that
+/// fits.
 const LONG: &[(usize, (Option<usize>, Option<usize>))] = &[
     (65530, (Some(65531), Some(65530))),
     (65531, (None, Some(65531))),
