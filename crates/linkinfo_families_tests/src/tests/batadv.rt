@@ -1,7 +1,7 @@
 //! Rows of B.A.T.M.A.N. links.
 
 use super::rows::{
-    UNLISTED, are_same, has_shapes, is_list, is_parsed, is_read, is_refused, is_row,
+    UNLISTED, are_same, assert_is, has_shapes, is_list, is_parsed, is_read, is_refused, is_row,
     keeps_unlisted, unlisted,
 };
 use linkinfo_peers::InfoBatAdv;
@@ -32,13 +32,11 @@ fn has_name(rt: &impl Abort, alloc: Global, bytes: &[u8], name: &str, canonical:
     is_read(rt, alloc, (), bytes, &value);
     is_row(rt, alloc, (), canonical, &value);
     let same = are_same::<InfoBatAdv>(rt, (), canonical, bytes);
-    assert_eq!(rt;
-        (
-            bytes,
-            same,
-            is_equal(&value.clone().expect(rt, "memory"), &value)
-        ),
-        (bytes, true, true)
+    assert_is(
+        rt,
+        ("same, a clone", bytes),
+        (same, is_equal(&value.clone().expect(rt, "memory"), &value)),
+        (true, true),
     );
 }
 

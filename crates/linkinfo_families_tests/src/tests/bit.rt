@@ -1,5 +1,6 @@
 //! Peers of one bit; the calls of the families with a peer are tested over both peers beside them.
 
+use super::rows::assert_is;
 use linkinfo_peers::BitPeer;
 use linkinfo_table::{LinkPeer, PeerFault};
 use nla_frame::is_equal;
@@ -20,7 +21,12 @@ const PAYLOADS: &[(&[u8], Result<BitPeer, PeerFault>)] = &[
 fn is_emitted(rt: &impl Abort, peer: BitPeer, byte: u8) {
     let mut buffer = [255];
     LinkPeer::emit(&peer, &mut buffer);
-    assert_eq!(rt; (LinkPeer::fit_len(&peer), buffer), (Some(1), [byte]));
+    assert_is(
+        rt,
+        "fit_len, emit",
+        (LinkPeer::fit_len(&peer), buffer),
+        (Some(1), [byte]),
+    );
 }
 
 #[test]
@@ -28,17 +34,19 @@ fn bits_are_peers(rt: HostRuntime) {
     for (payload, peer) in PAYLOADS {
         let checked = <BitPeer as LinkPeer>::check(payload);
         let read = <BitPeer as LinkPeer>::read(rt.alloc(), payload);
-        assert_eq!(rt; (payload, checked, read), (payload, peer.is_ok(), *peer));
+        assert_is(&rt, payload, (checked, read), (peer.is_ok(), *peer));
     }
     is_emitted(&rt, BitPeer(true), 1);
     is_emitted(&rt, BitPeer(false), 0);
-    assert_eq!(rt;
+    assert_is(
+        &rt,
+        "same, is_equal",
         [
             <BitPeer as LinkPeer>::same(&[7], &[9]),
             <BitPeer as LinkPeer>::same(&[7], &[0]),
             is_equal(&BitPeer(true), &BitPeer(true)),
             is_equal(&BitPeer(true), &BitPeer(false)),
         ],
-        [true, false, true, false]
+        [true, false, true, false],
     );
 }

@@ -4,7 +4,7 @@ ghost use Rattle.std.specs.Prelude.{IsOk};
 ghost use Rattle.linkinfo_table.specs.FamilyRows.{row_of};
 ghost use Rattle.linkinfo_table.specs.Rows.{meaning_in};
 
-use super::rows::{attribute, error, kept};
+use super::rows::{assert_is, attribute, error, kept};
 use linkinfo_devices::InfoXfrm;
 use linkinfo_table::{
     Datum, FlatFamily, Found, Lookup, Part, Place, RowFamily, Shape, UnnestedFamily, row_check,
@@ -47,11 +47,21 @@ fn is_read_by_row<F: FlatFamily + ExactEq>(
     let read = row_read::<F>(alloc, nla, ctx).expect(rt, "a value");
     let mut list = Vec::new(alloc);
     row_put::<F, Vec<F>>(&mut list, alloc, nla, ctx).expect(rt, "a value");
-    assert_eq!(rt; are_equal(&read, &list, value), [true; 2]);
+    assert_is(
+        rt,
+        "row_read, row_put",
+        are_equal(&read, &list, value),
+        [true; 2],
+    );
     let read = F::read_by_row(alloc, nla, ctx).expect(rt, "a value");
     let mut list = Vec::new(alloc);
     F::push_by_row(&mut list, alloc, nla, ctx).expect(rt, "a value");
-    assert_eq!(rt; are_equal(&read, &list, value), [true; 2]);
+    assert_is(
+        rt,
+        "read_by_row, push_by_row",
+        are_equal(&read, &list, value),
+        [true; 2],
+    );
 }
 
 #[test]
@@ -65,13 +75,15 @@ fn reads_by_rows(rt: HostRuntime) {
     is_read_by_row(&rt, alloc, &attribute(&rt, &nla), (), &other);
     let short = attribute(&rt, &SHORT);
     let fault = Some(error(Family::Xfrm, 1, Cause::Length));
-    assert_eq!(rt;
+    assert_is(
+        &rt,
+        "a short number",
         [
             row_read::<InfoXfrm>(alloc, &short, ()).err(),
             row_check::<InfoXfrm>(&short, ()).err(),
             InfoXfrm::check_by_row(&short, ()).err(),
         ],
-        [fault; 3]
+        [fault; 3],
     );
 }
 
@@ -104,21 +116,33 @@ fn same_by_row<F: FlatFamily>(
 #[test]
 fn compares_by_rows(rt: HostRuntime) {
     for (other, same) in [(&LINK, true), (&MARKED, true), (&OTHER_LINK, false)] {
-        assert_eq!(rt; same_by_row::<InfoXfrm>(&rt, (), &LINK, other), [same; 2]);
+        assert_is(
+            &rt,
+            ("same_by_row", other),
+            same_by_row::<InfoXfrm>(&rt, (), &LINK, other),
+            [same; 2],
+        );
     }
 }
 
 /// The value is written with this type and this payload by its row.
 fn is_written_by_row<F: FlatFamily>(rt: &impl Abort, value: &F, kind: u16, payload: [u8; 4]) {
     assert!(rt; row_fit_len(value) == Some(4));
-    assert_eq!(rt; (row_kind(value), row_value_len(value)), (kind, 4));
+    assert_is(
+        rt,
+        "kind, value_len",
+        (row_kind(value), row_value_len(value)),
+        (kind, 4),
+    );
     let mut exact = [255; 4];
     row_emit_value(value, &mut exact);
     let mut longer = [255; 6];
     let taken = row_emit_payload(value, &mut longer);
-    assert_eq!(rt;
+    assert_is(
+        rt,
+        "emit_value, emit_payload",
         (exact, taken, &longer[..4], &longer[4..]),
-        (payload, 4, payload.as_slice(), [255; 2].as_slice())
+        (payload, 4, payload.as_slice(), [255; 2].as_slice()),
     );
 }
 
@@ -138,7 +162,7 @@ fn tables_say_shapes(rt: HostRuntime) {
         (Family::BatAdv, 1, Lookup::Is(Shape::Name)),
         (Family::Tun, 1, Lookup::Unknown),
     ] {
-        assert_eq!(rt; (kind, table_lookup(family, kind)), (kind, answer));
+        assert_is(&rt, (family, kind), table_lookup(family, kind), answer);
     }
 }
 
@@ -150,15 +174,22 @@ fn values_are_put_in_places(rt: HostRuntime) {
     list.put(2).expect(&rt, "memory");
     let mut alone = Some(1u8);
     alone.put(2).expect(&rt, "no memory");
-    assert_eq!(rt; (list.as_slice(), alone), ([1, 2].as_slice(), Some(2)));
+    assert_is(
+        &rt,
+        "a list, an option",
+        (list.as_slice(), alone),
+        ([1, 2].as_slice(), Some(2)),
+    );
 
     let mut place = None;
     let found = Found::Typed(2, Datum::Number(7));
     <InfoXfrm as RowFamily>::put_found(&mut place, alloc, (), found).expect(&rt, "no memory");
     let value = place.expect(&rt, "a value");
     assert!(rt; is_equal(&value, &InfoXfrm::IfId(7)));
-    assert_eq!(rt;
+    assert_is(
+        &rt,
+        "to_part",
         <InfoXfrm as RowFamily>::to_part(&value),
-        Part::Typed(2, Shape::Le32, Datum::Number(7))
+        Part::Typed(2, Shape::Le32, Datum::Number(7)),
     );
 }

@@ -1,7 +1,8 @@
 //! Address lists inside address lists.
 
 use super::rows::{
-    attribute, compare_lists, error, is_emitted, is_not_parsed, is_parsed, is_refused, list_checked,
+    assert_is, attribute, compare_lists, error, is_emitted, is_not_parsed, is_parsed, is_refused,
+    list_checked,
 };
 use linkinfo_devices::{InfoMacVlan, InfoMacVtap};
 use linkinfo_table::{LinkFamily, Lookup, Shape, laws, list_read};
@@ -68,7 +69,7 @@ fn is_written<F: Nla>(rt: &impl Abort, items: &[F], bytes: &[u8]) {
     assert!(rt; nlas_buffer_len(items) == len);
     let mut buffer = [255; 1000];
     emit_nlas(items, &mut buffer);
-    assert_eq!(rt; &buffer[..len], bytes);
+    assert_is(rt, "emit_nlas", &buffer[..len], bytes);
     assert!(rt; buffer[len] == 255);
 }
 
@@ -84,13 +85,15 @@ where
     let read: Vec<F> = list_read(alloc, bytes, 0, &mut count).expect(rt, "a list");
     assert!(rt; read.len() == 1);
     let headers = usize::from(lists);
-    assert_eq!(rt;
+    assert_is(
+        rt,
+        ("list read", bytes),
         (
             is_equal(&read[0], &value),
             count.get(),
-            list_checked::<F>(rt, 0, bytes)
+            list_checked::<F>(rt, 0, bytes),
         ),
-        (true, headers, (Ok(()), headers))
+        (true, headers, (Ok(()), headers)),
     );
     is_written(rt, read.as_slice(), bytes);
 }
@@ -107,9 +110,11 @@ fn chains_of_at_most_128_lists(rt: HostRuntime) {
 
 /// The string has this length and this header.
 fn begins_with(rt: &impl Abort, bytes: Vec<u8>, len: usize, header: [u8; 4]) {
-    assert_eq!(rt;
+    assert_is(
+        rt,
+        "length, header",
         (bytes.len(), bytes.as_slice().get(..4)),
-        (len, Some(header.as_slice()))
+        (len, Some(header.as_slice())),
     );
 }
 
@@ -121,9 +126,11 @@ fn chain_of_129_lists(rt: HostRuntime) {
     let bytes = chain(&rt, alloc, 129);
     let deep = error(Family::MacVlan, 5, Cause::Depth);
     is_not_parsed::<InfoMacVlan>(&rt, alloc, bytes.as_slice(), deep);
-    assert_eq!(rt;
+    assert_is(
+        &rt,
+        "129 lists",
         list_checked::<InfoMacVlan>(&rt, 0, bytes.as_slice()),
-        (Err(deep), 129)
+        (Err(deep), 129),
     );
     let deep = error(Family::MacVtap, 5, Cause::Depth);
     is_not_parsed::<InfoMacVtap>(&rt, alloc, bytes.as_slice(), deep);
@@ -141,9 +148,11 @@ where
     let bytes = [5, 0, 5, 0xc0, 1, 0, 0, 0];
     let nla = attribute(rt, &bytes);
     let mut count = HeaderCount::new();
-    assert_eq!(rt;
+    assert_is(
+        rt,
+        "inside 127 lists",
         F::check_value(&nla, 127, &mut count),
-        Err(error(Family::Frame, 0, Cause::Header))
+        Err(error(Family::Frame, 0, Cause::Header)),
     );
     for lists in [128, 255] {
         assert!(rt; <F as LinkFamily>::shape(lists, 5) == Lookup::Refused(Cause::Depth));
@@ -151,12 +160,14 @@ where
     }
     // Inside 127 lists it may be empty, and may not hold another.
     let deep = error(<F as LinkFamily>::FAMILY, 5, Cause::Depth);
-    assert_eq!(rt;
+    assert_is(
+        rt,
+        "inside 127 lists",
         [
             list_checked::<F>(rt, 127, &[4, 0, 5, 0]),
             list_checked::<F>(rt, 127, &[8, 0, 5, 0, 4, 0, 5, 0]),
         ],
-        [(Ok(()), 1), (Err(deep), 2)]
+        [(Ok(()), 1), (Err(deep), 2)],
     );
 }
 
@@ -178,7 +189,7 @@ fn has_worked_list(rt: &impl Abort, alloc: Global, value: InfoMacVlan) {
     assert!(rt; value.value_len() == 12);
     let mut payload = [255; 12];
     value.emit_value(&mut payload);
-    assert_eq!(rt; payload.as_slice(), &padded[4..]);
+    assert_is(rt, "emit_value", payload.as_slice(), &padded[4..]);
 }
 
 #[test]
@@ -288,14 +299,16 @@ where
 {
     let list = list_of(rt, alloc, one.clone().expect(rt, "memory"));
     let empty = F::from_list(Nlas::new(Vec::new(alloc)));
-    assert_eq!(rt;
+    assert_is(
+        rt,
+        "a list",
         [
             list.kind() == 5,
             one.kind() == 5,
             is_equal(&list, &empty),
             is_equal(&list, one),
         ],
-        [true, false, false, false]
+        [true, false, false, false],
     );
 }
 
@@ -306,12 +319,14 @@ where
 {
     let [one, other] = &values;
     differs_from_list(rt, alloc, one);
-    assert_eq!(rt;
+    assert_is(
+        rt,
+        "equal, other items",
         [
             lists_equal(rt, alloc, one, one),
-            lists_equal(rt, alloc, one, other)
+            lists_equal(rt, alloc, one, other),
         ],
-        [true, false]
+        [true, false],
     );
 }
 
@@ -322,12 +337,14 @@ where
 {
     let deep: F = chain_value(rt, alloc, 128);
     let deeper: F = chain_value(rt, alloc, 129);
-    assert_eq!(rt;
+    assert_is(
+        rt,
+        "equal, deeper",
         [
             is_equal(&deep, &deep.clone().expect(rt, "memory")),
-            is_equal(&deep, &deeper)
+            is_equal(&deep, &deeper),
         ],
-        [true, false]
+        [true, false],
     );
 }
 
@@ -361,16 +378,18 @@ where
     emit_nlas(items.as_slice(), buffer.as_mut_slice());
     assert!(rt; buffer.as_slice() == bytes.as_slice());
     let deep = error(<F as LinkFamily>::FAMILY, 5, Cause::Depth);
-    assert_eq!(rt;
+    assert_is(
+        rt,
+        ("list_check", lists),
         list_checked::<F>(rt, 0, bytes.as_slice()),
-        (Err(deep), 129)
+        (Err(deep), 129),
     );
 }
 
 /// The value of a chain has this length, if it fits.
 fn has_fit_len(rt: &impl Abort, alloc: Global, lists: u16, wanted: Option<usize>) {
     let value: InfoMacVlan = chain_value(rt, alloc, lists);
-    assert_eq!(rt; (lists, value.fit_len()), (lists, wanted));
+    assert_is(rt, ("fit_len", lists), value.fit_len(), wanted);
 }
 
 #[test]

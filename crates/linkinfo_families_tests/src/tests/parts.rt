@@ -1,11 +1,14 @@
 //! What values show of their attributes, by a function for each shape.
 
+use super::rows::assert_is;
 use linkinfo_table::{Datum, Part, Shape, parts};
 use std::net::{IpAddr, Ipv4Addr, Ipv6Addr};
 
 #[test]
 fn numbers_of_parts(rt: HostRuntime) {
-    assert_eq!(rt;
+    assert_is(
+        &rt,
+        "numbers",
         [
             parts::u8(1, 7),
             parts::le16(2, 0x0102),
@@ -25,13 +28,15 @@ fn numbers_of_parts(rt: HostRuntime) {
             Part::Typed(6, Shape::Be32, Datum::Number(0x0102_0304)),
             Part::Typed(7, Shape::Be64, Datum::Number(u64::MAX)),
             Part::Typed(8, Shape::I32, Datum::Signed(-2)),
-        ]
+        ],
     );
 }
 
 #[test]
 fn truths_and_texts_of_parts(rt: HostRuntime) {
-    assert_eq!(rt;
+    assert_is(
+        &rt,
+        "truths and texts",
         [
             parts::truth(1, true),
             parts::truth_one(2, false),
@@ -49,7 +54,7 @@ fn truths_and_texts_of_parts(rt: HostRuntime) {
             Part::Typed(5, Shape::Name, Datum::Text("ab")),
             Part::Typed(6, Shape::EmptyOrByte, Datum::Empty),
             Part::Typed(7, Shape::EmptyOrByte, Datum::Number(9)),
-        ]
+        ],
     );
 }
 
@@ -57,7 +62,9 @@ fn truths_and_texts_of_parts(rt: HostRuntime) {
 fn addresses_and_pairs_of_parts(rt: HostRuntime) {
     let four = Ipv4Addr::from_octets([192, 0, 2, 1]);
     let six = Ipv6Addr::from_octets([1, 2, 3, 4, 5, 6, 7, 8, 9, 10, 11, 12, 13, 14, 15, 16]);
-    assert_eq!(rt;
+    assert_is(
+        &rt,
+        "addresses and pairs",
         [
             parts::v4(1, four),
             parts::v6(2, six),
@@ -79,6 +86,6 @@ fn addresses_and_pairs_of_parts(rt: HostRuntime) {
             Part::Typed(7, Shape::Mac, Datum::Mac([1, 2, 3, 4, 5, 6])),
             Part::Typed(8, Shape::BePair, Datum::Pair(1, 2)),
             Part::Typed(9, Shape::FlagPair, Datum::Pair(3, u32::MAX)),
-        ]
+        ],
     );
 }

@@ -1,9 +1,9 @@
 //! Both peers through each call of the families with a peer.
 
 use super::rows::{
-    UNLISTED, are_same, compare, compare_lists, error, first_checked, first_is_written_as,
-    has_shapes, is_emitted, is_list, is_not_parsed, is_parsed, is_read, is_refused, keeps_unlisted,
-    list_checked, list_is_written_as, same_with_flags, unlisted,
+    UNLISTED, are_same, assert_is, compare, compare_lists, error, first_checked,
+    first_is_written_as, has_shapes, is_emitted, is_list, is_not_parsed, is_parsed, is_read,
+    is_refused, keeps_unlisted, list_checked, list_is_written_as, same_with_flags, unlisted,
 };
 use linkinfo_peers::{
     BitPeer, InfoNetkit, InfoNetkitOf, InfoVeth, InfoVethOf, InfoVxcan, InfoVxcanOf,
@@ -67,14 +67,15 @@ where
     is_read(rt, alloc, (), bytes, value);
     let marked = same_with_flags::<F>(rt, (), bytes);
     let same = are_same::<F>(rt, (), bytes, canonical);
-    assert_eq!(rt;
+    assert_is(
+        rt,
+        ("flag bits, same, a clone", bytes),
         (
-            bytes,
             marked,
             same,
-            is_equal(&value.clone().expect(rt, "memory"), value)
+            is_equal(&value.clone().expect(rt, "memory"), value),
         ),
-        (bytes, true, true, true)
+        (true, true, true),
     );
     is_emitted(rt, value, canonical);
 }
@@ -158,16 +159,18 @@ where
     for bytes in [&TAIL[..6], TAIL] {
         let mut count = HeaderCount::new();
         let read = first_read::<F>(alloc, bytes, (), &mut count).expect(rt, "a value");
-        assert_eq!(rt;
-            (bytes, is_equal(&read, value), count.get()),
-            (bytes, true, 1)
+        assert_is(
+            rt,
+            ("first_read", bytes),
+            (is_equal(&read, value), count.get()),
+            (true, 1),
         );
     }
     let mut count = HeaderCount::new();
     assert!(rt; first_check::<F>(TAIL, (), &mut count).is_ok());
     let mut count = HeaderCount::new();
     let same = first_same::<F>(TAIL, TAIL, (), &mut count);
-    assert_eq!(rt; (same, count.get()), (true, 2));
+    assert_is(rt, "first_same", (same, count.get()), (true, 2));
     first_is_written_as::<F>(rt, (), TAIL, &[6, 0, 1, 0, 0xaa, 0xbb, 0, 0]);
     list_is_written_as::<F>(rt, (), LIST_OF_BYTES, LIST_OF_BYTES);
 }
@@ -175,12 +178,14 @@ where
 /// A peer of `aa bb` is no bit, so lists and first attributes that begin with one are refused.
 fn refuses_two_bytes<F: LinkFamily<Context = ()>>(rt: &impl Abort) {
     let fault = refused(F::FAMILY);
-    assert_eq!(rt;
+    assert_is(
+        rt,
+        "first_check, list_check",
         [
             first_checked::<F>(rt, (), TAIL),
-            list_checked::<F>(rt, (), TAIL)
+            list_checked::<F>(rt, (), TAIL),
         ],
-        [(Err(fault), 1), (Err(fault), 1)]
+        [(Err(fault), 1), (Err(fault), 1)],
     );
 }
 
@@ -218,7 +223,7 @@ fn veth_with_peers_of_bits(rt: HostRuntime) {
     let alloc = rt.alloc();
     has_shapes::<InfoVethOf<BitPeer>>(&rt, (), &[(1, Shape::Peer)]);
     let family = <InfoVethOf<BitPeer> as LinkFamily>::FAMILY;
-    assert_eq!(rt; family, Family::Veth);
+    assert_is(&rt, "family", family, Family::Veth);
     let (set, clear) = (
         InfoVethOf::Peer(BitPeer(true)),
         InfoVethOf::Peer(BitPeer(false)),
@@ -232,7 +237,7 @@ fn vxcan_with_peers_of_bits(rt: HostRuntime) {
     let alloc = rt.alloc();
     has_shapes::<InfoVxcanOf<BitPeer>>(&rt, (), &[(1, Shape::Peer)]);
     let family = <InfoVxcanOf<BitPeer> as LinkFamily>::FAMILY;
-    assert_eq!(rt; family, Family::Vxcan);
+    assert_is(&rt, "family", family, Family::Vxcan);
     let (set, clear) = (
         InfoVxcanOf::Peer(BitPeer(true)),
         InfoVxcanOf::Peer(BitPeer(false)),
@@ -245,7 +250,7 @@ fn vxcan_with_peers_of_bits(rt: HostRuntime) {
 fn netkit_with_peers_of_bits(rt: HostRuntime) {
     let alloc = rt.alloc();
     let family = <InfoNetkitOf<BitPeer> as LinkFamily>::FAMILY;
-    assert_eq!(rt; family, Family::Netkit);
+    assert_is(&rt, "family", family, Family::Netkit);
     let (set, clear) = (
         InfoNetkitOf::Peer(BitPeer(true)),
         InfoNetkitOf::Peer(BitPeer(false)),
@@ -269,7 +274,7 @@ fn types_without_a_row(rt: HostRuntime) {
 
 /// The value has this length, if it fits.
 fn has_len<F: Nla + Drop>(rt: &impl Abort, value: F, wanted: Option<usize>) {
-    assert_eq!(rt; value.fit_len(), wanted);
+    assert_is(rt, "fit_len", value.fit_len(), wanted);
 }
 
 /// A peer of this many bytes.

@@ -1,9 +1,9 @@
 //! Families without rows keep every attribute as it came.
 
 use super::rows::{
-    UNLISTED, are_same, attribute, compare, compare_lists, error, first_checked, has_shapes,
-    is_emitted, is_list, is_parsed, is_read, keeps_unlisted, kept, list_checked, list_fault,
-    unlisted,
+    UNLISTED, are_same, assert_is, attribute, compare, compare_lists, error, first_checked,
+    has_shapes, is_emitted, is_list, is_parsed, is_read, keeps_unlisted, kept, list_checked,
+    list_fault, unlisted,
 };
 use linkinfo_lower::{
     InfoBond, InfoBondPort, InfoBridge, InfoBridgePort, InfoCan, InfoDsa, InfoHsr, InfoVlan,
@@ -46,9 +46,11 @@ fn last(rt: &impl Abort, alloc: Global) -> DefaultNla {
 /// The attribute is kept as it came.
 fn keeps<const NUMBER: u8>(rt: &impl Abort, alloc: Global, bytes: &[u8], kept: DefaultNla) {
     let nla = attribute(rt, bytes);
-    assert_eq!(rt;
+    assert_is(
+        rt,
+        ("kept", bytes),
         (kept.kind, kept.value.as_slice()),
-        (nla.raw_kind(), nla.value())
+        (nla.raw_kind(), nla.value()),
     );
     let value = Rowless::<NUMBER>::Other(kept);
     is_read(rt, alloc, (), bytes, &value);
@@ -73,14 +75,21 @@ const PAIRS_OF_LISTS: &[(&[u8], &[u8], Option<usize>)] = &[(
 /// A list with a stray byte is (Frame, 0, Header); its first attribute stands alone.
 fn refuses_stray_bytes<F: LinkFamily<Context = ()>>(rt: &impl Abort, alloc: Global) {
     let fault = error(Family::Frame, 0, Cause::Header);
-    assert_eq!(rt;
+    assert_is(
+        rt,
+        "list_check, first_check",
         [
             list_checked::<F>(rt, (), &STRAY),
-            first_checked::<F>(rt, (), &STRAY)
+            first_checked::<F>(rt, (), &STRAY),
         ],
-        [(Err(fault), 1), (Ok(()), 1)]
+        [(Err(fault), 1), (Ok(()), 1)],
     );
-    assert_eq!(rt; list_fault::<F>(rt, alloc, (), &STRAY), (Some(fault), 1));
+    assert_is(
+        rt,
+        "list_read",
+        list_fault::<F>(rt, alloc, (), &STRAY),
+        (Some(fault), 1),
+    );
 }
 
 /// Lists of the family are read and emitted.
@@ -107,7 +116,12 @@ fn keeps_every_attribute<const NUMBER: u8>(
     value: Rowless<NUMBER>,
 ) {
     laws::kept_as_it_came::<NUMBER>();
-    assert_eq!(rt; <Rowless<NUMBER> as LinkFamily>::FAMILY, family);
+    assert_is(
+        rt,
+        ("name of", family),
+        <Rowless<NUMBER> as LinkFamily>::FAMILY,
+        family,
+    );
     keeps_marked(rt, alloc, value);
     has_shapes::<Rowless<NUMBER>>(rt, (), &[]);
     keeps::<NUMBER>(rt, alloc, &PLAIN, plain(rt, alloc));

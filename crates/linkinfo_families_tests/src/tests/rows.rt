@@ -13,7 +13,19 @@ use nla_frame::{
     emit_nlas, is_equal, nlas_buffer_len, nlas_fit_len,
 };
 use std::alloc::Global;
+use std::fmt::Debug;
 use std::process::Abort;
+
+/// What was found in this case is what is wanted. It is proved once, where an `assert_eq!` is
+/// proved at each place.
+pub(super) fn assert_is<T: PartialEq + Debug + Drop>(
+    rt: &impl Abort,
+    case: impl Debug + Drop,
+    found: T,
+    wanted: T,
+) {
+    assert_eq!(rt; found, wanted, "case {case:?}");
+}
 
 /// An attribute of one byte and a type that no family here has, flag bits included.
 pub(super) const UNLISTED: [u8; 8] = [5, 0, 0xff, 0x80, 1, 0, 0, 0];
@@ -78,9 +90,11 @@ pub(super) fn is_read<F: LinkFamily + ExactEq>(
 ) {
     let nla = attribute(rt, bytes);
     let read = F::read(alloc, &nla, ctx, &mut HeaderCount::new()).expect(rt, "a value");
-    assert_eq!(rt;
-        (bytes, is_equal(&read, value), checked::<F>(rt, ctx, bytes)),
-        (bytes, true, (None, 0))
+    assert_is(
+        rt,
+        ("read and checked", bytes),
+        (is_equal(&read, value), checked::<F>(rt, ctx, bytes)),
+        (true, (None, 0)),
     );
 }
 
@@ -117,13 +131,14 @@ pub(super) fn is_refused<F: LinkFamily>(
     cause: Cause,
 ) {
     let fault = Some(error(F::FAMILY, attribute(rt, bytes).kind(), cause));
-    assert_eq!(rt;
-        (
-            bytes,
+    assert_is(
+        rt,
+        ("refused", bytes),
+        [
             checked::<F>(rt, ctx, bytes),
-            read_fault::<F>(rt, alloc, ctx, bytes)
-        ),
-        (bytes, (fault, 0), (fault, 0))
+            read_fault::<F>(rt, alloc, ctx, bytes),
+        ],
+        [(fault, 0); 2],
     );
 }
 
@@ -131,9 +146,11 @@ pub(super) fn is_refused<F: LinkFamily>(
 fn begins_with(rt: &impl Abort, buffer: &[u8; 27], bytes: &[u8]) {
     let len = bytes.len();
     assert!(rt; len <= 24);
-    assert_eq!(rt;
+    assert_is(
+        rt,
+        "front, behind",
         (&buffer[..len], &buffer[len..]),
-        (bytes, &[255; 27][len..])
+        (bytes, &[255; 27][len..]),
     );
 }
 
@@ -144,9 +161,11 @@ pub(super) fn is_emitted<F: Nla>(rt: &impl Abort, value: &F, bytes: &[u8]) {
     assert!(rt; value.fit_len() == Some(payload));
     let written = value.buffer_len();
     assert!(rt; written == bytes.len() && written <= 24);
-    assert_eq!(rt;
-        (bytes, value.kind(), value.value_len()),
-        (bytes, nla.raw_kind(), payload)
+    assert_is(
+        rt,
+        ("kind, value_len", bytes),
+        (value.kind(), value.value_len()),
+        (nla.raw_kind(), payload),
     );
     let mut buffer = [255; 27];
     value.emit(&mut buffer);
@@ -188,9 +207,11 @@ pub(super) fn is_written_as<F: LinkFamily>(
     canonical: &[u8],
 ) {
     let mut buffer = [255; 27];
-    assert_eq!(rt;
+    assert_is(
+        rt,
+        ("length written for", bytes),
         rewritten::<F>(rt, ctx, bytes, &mut buffer),
-        canonical.len()
+        canonical.len(),
     );
     begins_with(rt, &buffer, canonical);
 }
@@ -215,7 +236,7 @@ pub(super) fn compare<F: LinkFamily>(
 ) {
     for (a, b, wanted) in pairs {
         let same = are_same::<F>(rt, ctx, a, b);
-        assert_eq!(rt; (a, b, same), (a, b, *wanted));
+        assert_is(rt, ("same", a, b), same, *wanted);
     }
 }
 
@@ -289,9 +310,11 @@ pub(super) fn is_kept<F: LinkFamily + ExactEq + Clone>(
 ) {
     is_read(rt, alloc, ctx, &UNLISTED, value);
     let same = same_with_flags::<F>(rt, ctx, &UNLISTED);
-    assert_eq!(rt;
+    assert_is(
+        rt,
+        "a clone, flag bits",
         (is_equal(&value.clone().expect(rt, "memory"), value), same),
-        (true, false)
+        (true, false),
     );
     is_emitted(rt, value, &UNLISTED);
 }
@@ -304,7 +327,7 @@ pub(super) fn is_parsed<'a, F: Parseable<NlaBuffer<'a>> + ExactEq + Drop>(
     value: &F,
 ) {
     let read = F::parse(alloc, &attribute(rt, bytes)).expect(rt, "a value");
-    assert_eq!(rt; (bytes, is_equal(&read, value)), (bytes, true));
+    assert_is(rt, ("parsed", bytes), is_equal(&read, value), true);
 }
 
 /// The attribute is the canonical one of the value, is parsed as it, and takes payloads of its length alone.
@@ -420,7 +443,7 @@ pub(super) fn is_not_parsed<'a, F: Parseable<NlaBuffer<'a>> + Drop>(
     fault: DecodeError,
 ) {
     let read = F::parse(alloc, &attribute(rt, bytes));
-    assert_eq!(rt; (bytes, read.err()), (bytes, Some(fault)));
+    assert_is(rt, ("not parsed", bytes), read.err(), Some(fault));
 }
 
 /// What `list_check` answers, with the headers that were looked at for it.
@@ -480,7 +503,12 @@ pub(super) fn list_is_written_as<F: LinkFamily>(
     let len = list_canonical_len::<F>(bytes, ctx).expect(rt, "a list that fits");
     assert!(rt; len == canonical.len() && len <= 24);
     let mut buffer = [255; 27];
-    assert_eq!(rt; list_put_canonical::<F>(bytes, ctx, &mut buffer), len);
+    assert_is(
+        rt,
+        ("length written for list", bytes),
+        list_put_canonical::<F>(bytes, ctx, &mut buffer),
+        len,
+    );
     begins_with(rt, &buffer, canonical);
 }
 
@@ -497,7 +525,12 @@ pub(super) fn first_is_written_as<F: LinkFamily>(
     let len = first_canonical_len::<F>(bytes, ctx).expect(rt, "an attribute that fits");
     assert!(rt; len == canonical.len() && len <= 24);
     let mut buffer = [255; 27];
-    assert_eq!(rt; first_put_canonical::<F>(bytes, ctx, &mut buffer), len);
+    assert_is(
+        rt,
+        ("length written for first", bytes),
+        first_put_canonical::<F>(bytes, ctx, &mut buffer),
+        len,
+    );
     begins_with(rt, &buffer, canonical);
 }
 
@@ -523,7 +556,12 @@ pub(super) fn compare_lists<F: LinkFamily>(
 ) {
     for (a, b, wanted) in pairs {
         let (same, headers) = lists_same::<F>(rt, ctx, a, b);
-        assert_eq!(rt; (a, b, same.then_some(headers)), (a, b, *wanted));
+        assert_is(
+            rt,
+            ("lists, headers", a, b),
+            same.then_some(headers),
+            *wanted,
+        );
     }
 }
 
@@ -552,9 +590,11 @@ fn is_list_of<F: LinkFamily + ExactEq>(
     laws::list_framed::<F>(bytes, ctx);
     let mut count = HeaderCount::new();
     let read = list_read::<F>(alloc, bytes, ctx, &mut count).expect(rt, "a list");
-    assert_eq!(rt;
-        (bytes, read.as_slice() == values, count.get()),
-        (bytes, true, values.len())
+    assert_is(
+        rt,
+        ("list read, headers", bytes),
+        (read.as_slice() == values, count.get()),
+        (true, values.len()),
     );
     assert!(rt; nlas_fit_len(values) == Some(len));
     assert!(rt; nlas_buffer_len(values) == len);

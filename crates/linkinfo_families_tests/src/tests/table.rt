@@ -1,6 +1,6 @@
 //! Peers of plain bytes, and what was read of attributes and what values show.
 
-use super::rows::kept;
+use super::rows::{assert_is, kept};
 use linkinfo_table::{Datum, Found, LinkPeer, Part, PeerFault, Shape, laws};
 use nla_frame::{Bytes, DefaultNla};
 use std::alloc::Global;
@@ -14,9 +14,11 @@ fn is_peer(rt: &impl Abort, alloc: Global, payload: &[u8; 2]) {
     assert!(rt; peer.len() == 2);
     let mut buffer = [0; 2];
     LinkPeer::emit(&peer, &mut buffer);
-    assert_eq!(rt;
+    assert_is(
+        rt,
+        payload,
         (peer.as_slice(), buffer, LinkPeer::fit_len(&peer)),
-        (payload.as_slice(), *payload, Some(2))
+        (payload.as_slice(), *payload, Some(2)),
     );
 }
 
@@ -31,7 +33,9 @@ fn bytes_are_peers(rt: HostRuntime) {
     let alloc = rt.alloc();
     let payload = [0xaa, 0xbb];
     is_peer(&rt, alloc, &payload);
-    assert_eq!(rt;
+    assert_is(
+        &rt,
+        "check, same",
         [
             <Bytes as LinkPeer>::check(&payload),
             <Bytes as LinkPeer>::check(&[]),
@@ -39,28 +43,32 @@ fn bytes_are_peers(rt: HostRuntime) {
             <Bytes as LinkPeer>::same(&payload, &payload[..1]),
             PeerFault::Refused == PeerFault::Memory,
         ],
-        [true, true, true, false, false]
+        [true, true, true, false, false],
     );
-    assert_eq!(rt;
+    assert_is(
+        &rt,
+        "fit_len",
         [
             len_of_bytes(&rt, alloc, 65531),
-            len_of_bytes(&rt, alloc, 65532)
+            len_of_bytes(&rt, alloc, 65532),
         ],
-        [Some(65531), None]
+        [Some(65531), None],
     );
 }
 
 /// What was read with a row compares by its type and its datum.
 fn typed_compare(rt: &impl Abort, found: &Found<'_>, same: &[u8; 2]) {
     let clone = found.clone().expect(rt, "memory");
-    assert_eq!(rt;
+    assert_is(
+        rt,
+        "what was read",
         [
             *found == Found::Typed(1, Datum::Bytes(same)),
             *found != Found::Typed(2, Datum::Bytes(same)),
             *found != Found::Typed(1, Datum::Bytes(&same[..1])),
             clone == *found,
         ],
-        [true; 4]
+        [true; 4],
     );
 }
 
@@ -78,15 +86,15 @@ fn parts_compare_by_what_they_hold(rt: HostRuntime) {
     let same = [b'a', b'b'];
     typed_compare(&rt, &Found::Typed(1, Datum::Bytes(&text)), &same);
     let kept = kept_compare(kept(&rt, alloc, 7, &[1]), kept(&rt, alloc, 7, &[1]));
-    assert_eq!(rt; kept, [true; 2]);
+    assert_is(&rt, "kept attributes", kept, [true; 2]);
     let part = Part::Typed(1, Shape::Raw, Datum::Bytes(&text));
-    assert_eq!(rt;
-        [
-            Part::Custom == Part::Custom,
-            part == Part::Typed(1, Shape::Raw, Datum::Bytes(&same)),
-            part != Part::Typed(1, Shape::Name, Datum::Bytes(&same)),
-            part != Part::Custom,
-        ],
-        [true; 4]
-    );
+    let equal = Part::Typed(1, Shape::Raw, Datum::Bytes(&same));
+    let of_other_shape = Part::Typed(1, Shape::Name, Datum::Bytes(&same));
+    let compared = [
+        Part::Custom == Part::Custom,
+        part == equal,
+        part != of_other_shape,
+        part != Part::Custom,
+    ];
+    assert_is(&rt, "parts", compared, [true; 4]);
 }

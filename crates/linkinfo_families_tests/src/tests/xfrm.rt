@@ -1,8 +1,8 @@
 //! Rows of xfrm and vrf links, and lists and first attributes of a family.
 
 use super::rows::{
-    UNLISTED, compare_lists, error, first_checked, has_rows, has_shapes, is_list, is_not_parsed,
-    keeps_unlisted, list_checked, list_fault, reads, unlisted,
+    UNLISTED, assert_is, compare_lists, error, first_checked, has_rows, has_shapes, is_list,
+    is_not_parsed, keeps_unlisted, list_checked, list_fault, reads, unlisted,
 };
 use linkinfo_devices::{InfoVrf, InfoXfrm};
 use linkinfo_table::{Shape, first_check, first_read, first_same, laws};
@@ -97,17 +97,16 @@ fn lists_are_checked(rt: HostRuntime) {
         ([4, 0, 9, 0, 0].as_slice(), (Err(header), 1)),
         (&[], (Ok(()), 0)),
     ] {
-        assert_eq!(rt;
-            (bytes, list_checked::<InfoXfrm>(&rt, (), bytes)),
-            (bytes, answer)
-        );
+        assert_is(&rt, bytes, list_checked::<InfoXfrm>(&rt, (), bytes), answer);
     }
-    assert_eq!(rt;
+    assert_is(
+        &rt,
+        "list_check, list_read",
         (
             list_checked::<InfoVrf>(&rt, (), &late),
-            list_fault::<InfoVrf>(&rt, rt.alloc(), (), &late)
+            list_fault::<InfoVrf>(&rt, rt.alloc(), (), &late),
         ),
-        ((Err(length), 1), (Some(length), 1))
+        ((Err(length), 1), (Some(length), 1)),
     );
 }
 
@@ -150,18 +149,20 @@ fn first_attributes_stand_alone(rt: HostRuntime) {
     let two = [8, 0, 1, 0, 7, 0, 0, 0, 9, 9];
     let mut count = HeaderCount::new();
     let read = first_read::<InfoVrf>(rt.alloc(), &two, (), &mut count).expect(&rt, "a value");
-    assert_eq!(rt; (read == InfoVrf::TableId(7), count.get()), (true, 1));
+    assert_is(
+        &rt,
+        "first_read",
+        (read == InfoVrf::TableId(7), count.get()),
+        (true, 1),
+    );
     for (bytes, answer) in [
         (two.as_slice(), (Ok(()), 1)),
         (&[], (Err(header), 0)),
         (&[3, 0, 1, 0], (Err(header), 1)),
     ] {
-        assert_eq!(rt;
-            (bytes, first_checked::<InfoVrf>(&rt, (), bytes)),
-            (bytes, answer)
-        );
+        assert_is(&rt, bytes, first_checked::<InfoVrf>(&rt, (), bytes), answer);
     }
-    assert_eq!(rt; firsts_same(&rt, &one, &two), (true, 2));
+    assert_is(&rt, "first_same", firsts_same(&rt, &one, &two), (true, 2));
     laws::reading_back::<InfoVrf>(&one, ());
     laws::first_framed::<InfoVrf>(&two, ());
 }

@@ -1,10 +1,11 @@
 //! The rows of all families.
 
+use super::assertions::assert_is;
 use linkinfo_shapes::{Shape, table_shape};
 use nla_frame::Family;
 
 /// The names of the shapes of types 1, 2, 3 and so on; `-` stands for no row.
-const ROWS: [(Family, &str); 37] = [
+const ROWS: &[(Family, &str)] = &[
     (Family::Frame, "-"),
     (Family::LinkInfo, "-"),
     (Family::Amt, "Le32 Be16 Be16 Le32 Ip Ip Ip Le32"),
@@ -72,7 +73,7 @@ const ROWS: [(Family, &str); 37] = [
 ];
 
 /// The shapes by their names.
-const NAMES: [(&str, Shape); 25] = [
+const NAMES: &[(&str, Shape)] = &[
     ("U8", Shape::U8),
     ("Le16", Shape::Le16),
     ("Le32", Shape::Le32),
@@ -103,8 +104,8 @@ const NAMES: [(&str, Shape); 25] = [
 /// The shape of a name.
 fn shape_named(name: &str) -> Option<Shape> {
     for (known, shape) in NAMES {
-        if known == name {
-            return Some(shape);
+        if *known == name {
+            return Some(*shape);
         }
     }
     None
@@ -113,22 +114,15 @@ fn shape_named(name: &str) -> Option<Shape> {
 #[test]
 fn has_each_row(rt: HostRuntime) {
     for (family, names) in ROWS {
-        assert_eq!(rt;
-            (
-                family,
-                table_shape(family, 0),
-                table_shape(family, u16::MAX)
-            ),
-            (family, None, None)
-        );
+        let family = *family;
+        let beyond = [table_shape(family, 0), table_shape(family, u16::MAX)];
+        assert_is(&rt, (family, "types 0 and 65535"), beyond, [None; 2]);
         let mut names = names.split(' ');
         for kind in 1..=40 {
             let name = names.next().unwrap_or("-");
             let shape = shape_named(name);
-            assert_eq!(rt;
-                (family, kind, shape.is_none(), table_shape(family, kind)),
-                (family, kind, name == "-", shape)
-            );
+            assert_is(&rt, name, shape.is_none(), name == "-");
+            assert_is(&rt, (family, kind), table_shape(family, kind), shape);
         }
     }
 }

@@ -1,5 +1,6 @@
 //! What a family takes out of data.
 
+use super::assertions::assert_is;
 use linkinfo_shapes::{Datum, Shape, laws};
 use nla_frame::is_equal;
 use std::net::{IpAddr, Ipv4Addr, Ipv6Addr};
@@ -12,24 +13,35 @@ fn takes_numbers_apart(rt: HostRuntime) {
         u64::from(Datum::Number(0xffff_ffff).u32_or_zero()),
         Datum::Number(u64::MAX).u64_or_zero(),
     ];
-    assert_eq!(rt; numbers, [255, 65535, 0xffff_ffff, u64::MAX]);
-    assert_eq!(rt;
+    assert_is(
+        &rt,
+        "unsigned",
+        numbers,
+        [255, 65535, 0xffff_ffff, u64::MAX],
+    );
+    assert_is(
+        &rt,
+        "i32, bool",
         (
             Datum::Signed(-2).i32_or_zero(),
-            Datum::Truth(true).bool_or_false()
+            Datum::Truth(true).bool_or_false(),
         ),
-        (-2, true)
+        (-2, true),
     );
-    assert_eq!(rt;
+    assert_is(
+        &rt,
+        "pairs",
         (
             Datum::Pair(65535, 1).u16_pair_or_zeros(),
-            Datum::Pair(65536, 1).u32_pair_or_zeros()
+            Datum::Pair(65536, 1).u32_pair_or_zeros(),
         ),
-        ((65535, 1), (65536, 1))
+        ((65535, 1), (65536, 1)),
     );
-    assert_eq!(rt;
+    assert_is(
+        &rt,
+        "byte_or_none",
         [Datum::Number(0).byte_or_none(), Datum::Empty.byte_or_none()],
-        [Some(0), None]
+        [Some(0), None],
     );
 }
 
@@ -37,39 +49,47 @@ fn takes_numbers_apart(rt: HostRuntime) {
 fn takes_addresses_and_bytes_apart(rt: HostRuntime) {
     let v4 = Ipv4Addr::new(10, 0, 0, 1);
     let v6 = Ipv6Addr::new(0x2001, 0x0db8, 0, 0, 0, 0, 0, 1);
-    assert_eq!(rt;
+    assert_is(
+        &rt,
+        "IPv4, IPv6",
         (
             Datum::V4(v4).ipv4_or_unspecified(),
-            Datum::V6(v6).ipv6_or_unspecified()
+            Datum::V6(v6).ipv6_or_unspecified(),
         ),
-        (v4, v6)
+        (v4, v6),
     );
-    assert_eq!(rt;
+    assert_is(
+        &rt,
+        "IP",
         [
             Datum::V4(v4).ip_or_unspecified(),
-            Datum::V6(v6).ip_or_unspecified()
+            Datum::V6(v6).ip_or_unspecified(),
         ],
-        [IpAddr::V4(v4), IpAddr::V6(v6)]
+        [IpAddr::V4(v4), IpAddr::V6(v6)],
     );
     let mac = [2, 0, 0, 0, 0, 1];
-    assert_eq!(rt; Datum::Mac(mac).mac_or_zeros(), mac);
-    assert_eq!(rt;
+    assert_is(&rt, "hardware", Datum::Mac(mac).mac_or_zeros(), mac);
+    assert_is(
+        &rt,
+        "text, bytes",
         (
             Datum::Text("a").text_or_empty(),
-            Datum::Bytes(&[7]).bytes_or_empty()
+            Datum::Bytes(&[7]).bytes_or_empty(),
         ),
-        ("a", [7].as_slice())
+        ("a", [7].as_slice()),
     );
 }
 
 #[test]
 fn shapes_are_compared(rt: HostRuntime) {
-    assert_eq!(rt;
+    assert_is(
+        &rt,
+        "is_equal",
         [
             is_equal(&Shape::Raw, &Shape::Raw),
-            is_equal(&Shape::Raw, &Shape::Name)
+            is_equal(&Shape::Raw, &Shape::Name),
         ],
-        [true, false]
+        [true, false],
     );
     laws::shapes();
     laws::data();
@@ -86,41 +106,53 @@ fn numbers_of(datum: Datum<'_>) -> [i64; 4] {
     ]
 }
 
+/// Data of which none is a number, a pair, an address or bytes that fit.
+const OTHER_DATA: &[Datum<'_>] = &[Datum::Empty, Datum::Number(1 << 40), Datum::Truth(false)];
+
 #[test]
 fn takes_nothing_from_other_data(rt: HostRuntime) {
-    for datum in [Datum::Empty, Datum::Number(1 << 40), Datum::Truth(false)] {
-        assert_eq!(rt;
+    for datum in OTHER_DATA {
+        let datum = *datum;
+        assert_is(
+            &rt,
+            ("numbers", datum),
             (
                 numbers_of(datum),
                 datum.u16_pair_or_zeros(),
-                datum.byte_or_none()
+                datum.byte_or_none(),
             ),
-            ([0; 4], (0, 0), None)
+            ([0; 4], (0, 0), None),
         );
-        assert_eq!(rt;
+        assert_is(
+            &rt,
+            ("truth, text, bytes", datum),
             (
                 datum.bool_or_false(),
                 datum.text_or_empty(),
-                datum.bytes_or_empty()
+                datum.bytes_or_empty(),
             ),
-            (false, "", [].as_slice())
+            (false, "", [].as_slice()),
         );
-        assert_eq!(rt;
+        assert_is(
+            &rt,
+            ("addresses", datum),
             (
                 datum.ipv4_or_unspecified(),
                 datum.ipv6_or_unspecified(),
-                datum.mac_or_zeros()
+                datum.mac_or_zeros(),
             ),
-            (Ipv4Addr::UNSPECIFIED, Ipv6Addr::UNSPECIFIED, [0; 6])
+            (Ipv4Addr::UNSPECIFIED, Ipv6Addr::UNSPECIFIED, [0; 6]),
         );
     }
     let nothing = Datum::Empty;
-    assert_eq!(rt;
+    assert_is(
+        &rt,
+        "u64, pair of u32, IP",
         (
             nothing.u64_or_zero(),
             nothing.u32_pair_or_zeros(),
-            nothing.ip_or_unspecified()
+            nothing.ip_or_unspecified(),
         ),
-        (0, (0, 0), IpAddr::V6(Ipv6Addr::UNSPECIFIED))
+        (0, (0, 0), IpAddr::V6(Ipv6Addr::UNSPECIFIED)),
     );
 }

@@ -1,5 +1,6 @@
 //! Each number type, both ways.
 
+use super::assertions::assert_is;
 use linkinfo_numbers::{
     AmtMode, ErSpanDir, EthernetProtocol, GeneveDf, GreEncapType, GtpRole, IpProtocol, IpVlanMode,
     IpoibMode, MacSecCipherId, MacSecOffload, MacSecValidate, MacVlanMacAddressMode, MacVlanMode,
@@ -11,12 +12,12 @@ use std::process::Abort;
 /// Each number gives its value, and each value its number.
 fn check_both_ways<N, T>(rt: &impl Abort, rows: &[(N, T)])
 where
-    N: From<T> + Copy + PartialEq + Debug,
-    T: From<N> + Copy + PartialEq + Debug,
+    N: From<T> + Copy + PartialEq + Debug + Drop,
+    T: From<N> + Copy + PartialEq + Debug + Drop,
 {
     for (number, value) in rows {
-        assert_eq!(rt; T::from(*number), *value);
-        assert_eq!(rt; N::from(*value), *number);
+        assert_is(rt, ("value of", number), T::from(*number), *value);
+        assert_is(rt, ("number of", value), N::from(*value), *number);
     }
 }
 
@@ -229,43 +230,54 @@ const ER_SPAN_DIRS: &[(u8, ErSpanDir)] = &[
 #[test]
 fn numbers_of_references(rt: HostRuntime) {
     for (number, value) in GRE_ENCAP_TYPES {
-        assert_eq!(rt;
+        assert_is(
+            &rt,
+            number,
             (GreEncapType::from(*number), u16::from(value)),
-            (*value, *number)
+            (*value, *number),
         );
     }
     for (number, value) in ER_SPAN_DIRS {
-        assert_eq!(rt;
+        assert_is(
+            &rt,
+            number,
             (ErSpanDir::from(*number), u8::from(value)),
-            (*value, *number)
+            (*value, *number),
         );
     }
 }
 
+/// Numbers, their values, and the numbers of these.
+const SCRUBS: &[(u32, NetkitScrub, u32)] = &[
+    (0, NetkitScrub::None, 0),
+    (1, NetkitScrub::Default, 1),
+    (2, NetkitScrub::Default, 1),
+    (5, NetkitScrub::Default, 1),
+    (u32::MAX, NetkitScrub::Default, 1),
+];
+
 #[test]
 fn numbers_of_scrubs(rt: HostRuntime) {
-    for (number, value, again) in [
-        (0, NetkitScrub::None, 0),
-        (1, NetkitScrub::Default, 1),
-        (2, NetkitScrub::Default, 1),
-        (5, NetkitScrub::Default, 1),
-        (u32::MAX, NetkitScrub::Default, 1),
-    ] {
-        assert_eq!(rt;
-            (number, NetkitScrub::from(number), u32::from(value)),
-            (number, value, again)
+    for (number, value, again) in SCRUBS {
+        assert_is(
+            &rt,
+            number,
+            (NetkitScrub::from(*number), u32::from(*value)),
+            (*value, *again),
         );
     }
 }
 
 #[test]
 fn values_by_default(rt: HostRuntime) {
-    assert_eq!(rt;
+    assert_is(
+        &rt,
+        "GtpRole, GreEncapType, ErSpanDir",
         (
             GtpRole::default(),
             GreEncapType::default(),
-            ErSpanDir::default()
+            ErSpanDir::default(),
         ),
-        (GtpRole::Ggsn, GreEncapType::None, ErSpanDir::Ingress)
+        (GtpRole::Ggsn, GreEncapType::None, ErSpanDir::Ingress),
     );
 }

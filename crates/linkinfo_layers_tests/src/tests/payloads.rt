@@ -1,5 +1,6 @@
 //! Payloads under each shape.
 
+use super::assertions::{assert_is, repeated};
 use linkinfo_shapes::{
     Datum, Shape, datum_len, read_datum, shape_canonical_len, shape_check, shape_put_attribute,
     shape_put_canonical, shape_same, write_datum,
@@ -7,9 +8,8 @@ use linkinfo_shapes::{
 use nla_frame::Cause;
 use std::net::{Ipv4Addr, Ipv6Addr};
 use std::process::Abort;
-use std::test::Fail;
 
-const PLAIN: [Shape; 23] = [
+const PLAIN: &[Shape] = &[
     Shape::U8,
     Shape::Le16,
     Shape::Le32,
@@ -72,17 +72,13 @@ fn accepts_the_lengths_of_a_shape(rt: HostRuntime) {
     let zeros = [0; 17];
     for shape in PLAIN {
         for len in 0..=17 {
-            let cause = cause_of_zeros(shape, len);
-            assert_eq!(rt;
-                (shape, len, causes(shape, &zeros[..len])),
-                (shape, len, Some([cause, cause]))
-            );
+            let cause = cause_of_zeros(*shape, len);
+            let found = causes(*shape, &zeros[..len]);
+            assert_is(&rt, (shape, len), found, Some([cause; 2]));
         }
     }
-    assert_eq!(rt;
-        [Shape::SelfList.is_plain(), Shape::Peer.is_plain()],
-        [false, false]
-    );
+    let plain = [Shape::SelfList.is_plain(), Shape::Peer.is_plain()];
+    assert_is(&rt, "SelfList, Peer", plain, [false; 2]);
 }
 
 /// The datum that a payload of a plain shape means, and the length of what is written for it.
@@ -135,28 +131,14 @@ fn check_canonical(rt: &impl Abort, shape: Shape, payload: &[u8], written: &[u8]
     let mut alone = [0xee; 17];
     let mut framed = [0xee; 25];
     let found = canonicalize(shape, payload, &mut alone, &mut framed);
-    assert_eq!(rt;
-        (shape, payload, found),
-        (
-            shape,
-            payload,
-            Some([len, len, 4 + len.next_multiple_of(4)])
-        )
-    );
-    assert_eq!(rt;
-        (
-            shape,
-            payload,
-            &alone[..len],
-            alone[16],
-            &framed[4..4 + len]
-        ),
-        (shape, payload, written, 0xee, written)
-    );
-    assert_eq!(rt;
-        (&framed[..4], framed[24]),
-        ([4 + len as u8, 0, 7, 0].as_slice(), 0xee)
-    );
+    let wanted = Some([len, len, 4 + len.next_multiple_of(4)]);
+    assert_is(rt, ("lengths", shape, payload), found, wanted);
+    let values = (&alone[..len], &framed[4..4 + len]);
+    assert_is(rt, ("values", shape, payload), values, (written, written));
+    let header = [4 + len as u8, 0, 7, 0];
+    assert_is(rt, ("header", shape, payload), &framed[..4], &header);
+    let behind = [alone[16], framed[24]];
+    assert_is(rt, ("behind", shape, payload), behind, [0xee; 2]);
 }
 
 /// What an accepted payload holds, and what is written for it.
@@ -165,14 +147,16 @@ fn check_payload(rt: &impl Abort, shape: Shape, payload: &[u8], datum: Datum<'_>
     assert!(rt; len <= 16);
     let mut buffer = [0xee; 17];
     let found = rewrite(shape, payload, &mut buffer);
-    assert_eq!(rt;
-        (shape, payload, causes(shape, payload), found),
-        (shape, payload, Some([None, None]), Some((datum, len)))
+    let no_causes = Some([None; 2]);
+    assert_is(
+        rt,
+        ("causes", shape, payload),
+        causes(shape, payload),
+        no_causes,
     );
-    assert_eq!(rt;
-        (shape, payload, &buffer[..len], buffer[16]),
-        (shape, payload, written, 0xee)
-    );
+    assert_is(rt, ("datum", shape, payload), found, Some((datum, len)));
+    let buffers = (&buffer[..len], buffer[16]);
+    assert_is(rt, ("written", shape, payload), buffers, (written, 0xee));
     check_canonical(rt, shape, payload, written);
 }
 
@@ -254,6 +238,9 @@ const LOOSE: &[(Shape, &[u8], Datum<'_>, &[u8])] = &[
     ),
 ];
 
+/// Names that are no texts.
+const NO_TEXTS: &[&[u8]] = &[&[0xff, 0], b"\xc3\0", b"a\0\xc3"];
+
 #[test]
 fn reads_and_writes(rt: HostRuntime) {
     for (shape, payload, datum) in EXACT {
@@ -262,9 +249,9 @@ fn reads_and_writes(rt: HostRuntime) {
     for (shape, payload, datum, written) in LOOSE {
         check_payload(&rt, *shape, payload, *datum, written);
     }
-    let no_texts: &[&[u8]] = &[&[0xff, 0], b"\xc3\0", b"a\0\xc3"];
-    for name in no_texts {
-        assert_eq!(rt; shape_check(Shape::Name, name), Err(Cause::Utf8));
+    for name in NO_TEXTS {
+        let refused = shape_check(Shape::Name, name);
+        assert_is(&rt, name, refused, Err(Cause::Utf8));
     }
 }
 
@@ -286,32 +273,34 @@ fn reads_and_writes_addresses(rt: HostRuntime) {
     }
 }
 
+/// Payloads of a shape, and whether they mean the same.
+const PAIRS: &[(Shape, &[u8], &[u8], bool)] = &[
+    (Shape::Name, b"a\0", b"a", true),
+    (Shape::Name, b"a\0\0", b"a", false),
+    (Shape::Name, b"a\0\0", b"a\0", false),
+    (Shape::Name, b"a", b"b", false),
+    (Shape::Name, b"", b"\0", true),
+    (Shape::Scrub, &[5, 0, 0, 0], &[0, 0, 1, 0], true),
+    (Shape::Scrub, &[0, 0, 0, 0], &[0, 0, 1, 0], false),
+    (Shape::Scrub, &[0, 0, 0, 0], &[0, 0, 0, 0], true),
+    (Shape::TruthOne, &[0], &[2], true),
+    (Shape::TruthOne, &[1], &[2], false),
+    (Shape::TruthOne, &[1], &[1], true),
+    (Shape::Truth, &[0], &[2], false),
+    (Shape::Truth, &[1], &[2], true),
+    (Shape::Truth, &[0], &[0], true),
+    (Shape::Mark, &[], &[1, 2, 3], true),
+    (Shape::EmptyOrByte, &[], &[0], false),
+    (Shape::EmptyOrByte, &[], &[], true),
+    (Shape::Be16, &[0, 1], &[1, 0], false),
+    (Shape::Ip, &[0, 0, 0, 0], &[0; 16], false),
+    (Shape::Raw, &[1], &[1], true),
+    (Shape::Raw, &[1], &[1, 0], false),
+];
+
 #[test]
 fn compares_payloads(rt: HostRuntime) {
-    let cases: &[(Shape, &[u8], &[u8], bool)] = &[
-        (Shape::Name, b"a\0", b"a", true),
-        (Shape::Name, b"a\0\0", b"a", false),
-        (Shape::Name, b"a\0\0", b"a\0", false),
-        (Shape::Name, b"a", b"b", false),
-        (Shape::Name, b"", b"\0", true),
-        (Shape::Scrub, &[5, 0, 0, 0], &[0, 0, 1, 0], true),
-        (Shape::Scrub, &[0, 0, 0, 0], &[0, 0, 1, 0], false),
-        (Shape::Scrub, &[0, 0, 0, 0], &[0, 0, 0, 0], true),
-        (Shape::TruthOne, &[0], &[2], true),
-        (Shape::TruthOne, &[1], &[2], false),
-        (Shape::TruthOne, &[1], &[1], true),
-        (Shape::Truth, &[0], &[2], false),
-        (Shape::Truth, &[1], &[2], true),
-        (Shape::Truth, &[0], &[0], true),
-        (Shape::Mark, &[], &[1, 2, 3], true),
-        (Shape::EmptyOrByte, &[], &[0], false),
-        (Shape::EmptyOrByte, &[], &[], true),
-        (Shape::Be16, &[0, 1], &[1, 0], false),
-        (Shape::Ip, &[0, 0, 0, 0], &[0; 16], false),
-        (Shape::Raw, &[1], &[1], true),
-        (Shape::Raw, &[1], &[1, 0], false),
-    ];
-    for (shape, a, b, same) in cases {
+    for (shape, a, b, same) in PAIRS {
         check_alike(&rt, *shape, a, b, *same);
         check_alike(&rt, *shape, b, a, *same);
     }
@@ -327,10 +316,7 @@ fn alike(shape: Shape, a: &[u8], b: &[u8]) -> Option<bool> {
 }
 
 fn check_alike(rt: &impl Abort, shape: Shape, a: &[u8], b: &[u8], same: bool) {
-    assert_eq!(rt;
-        (shape, a, b, alike(shape, a, b)),
-        (shape, a, b, Some(same))
-    );
+    assert_is(rt, (shape, a, b), alike(shape, a, b), Some(same));
 }
 
 /// The length of the payload that is written for a name, and of the one for plain bytes.
@@ -351,28 +337,29 @@ fn write_name(rt: &impl Abort, text: &str, buffer: &mut [u8]) {
     write_datum(Shape::Name, &Datum::Text(text), buffer);
 }
 
+/// Lengths of names of letters, with what is written for the name and for plain bytes, if that
+/// fits.
+const LONG: &[(usize, (Option<usize>, Option<usize>))] = &[
+    (65530, (Some(65531), Some(65530))),
+    (65531, (None, Some(65531))),
+    (65532, (None, None)),
+];
+
 #[test]
-fn measures_long_names(rt: HostRuntime) -> Result<(), Fail> {
-    let alloc = rt.alloc();
-    let letters = vec![in alloc; 97u8; 65532]?;
-    for (len, wanted) in [
-        (65530, (Some(65531), Some(65530))),
-        (65531, (None, Some(65531))),
-        (65532, (None, None)),
-    ] {
-        assert!(rt; len <= letters.len());
-        assert_eq!(rt; (len, lengths(&rt, &letters[..len])), (len, wanted));
+fn measures_long_names(rt: HostRuntime) {
+    let letters = repeated(&rt, rt.alloc(), 97, 65532);
+    for (len, wanted) in LONG {
+        assert!(rt; *len <= letters.len());
+        assert_is(&rt, len, lengths(&rt, &letters[..*len]), *wanted);
     }
-    Ok(())
 }
 
 #[test]
-fn writes_the_longest_name(rt: HostRuntime) -> Result<(), Fail> {
+fn writes_the_longest_name(rt: HostRuntime) {
     let alloc = rt.alloc();
-    let text = String::from_utf8(vec![in alloc; 97u8; 65530]?).expect(&rt, "letters");
-    let mut buffer = vec![in alloc; 0xeeu8; 65531]?;
+    let text = String::from_utf8(repeated(&rt, alloc, 97, 65530)).expect(&rt, "letters");
+    let mut buffer = repeated(&rt, alloc, 0xee, 65531);
     write_name(&rt, text.as_str(), &mut buffer);
     assert!(rt; buffer.iter().take(65530).all(|byte| *byte == 97));
-    assert_eq!(rt; buffer.last(), Some(&0));
-    Ok(())
+    assert_is(&rt, "the last byte", buffer.last(), Some(&0));
 }

@@ -1,52 +1,44 @@
 //! Numbers and addresses in payloads.
 
+use super::assertions::assert_is;
 use nla_frame::*;
 use std::net::{IpAddr, Ipv4Addr, Ipv6Addr};
 
-/// The unsigned numbers in the first bytes, little-endian and then big-endian.
-fn numbers_in(bytes: &[u8; 8]) -> Result<[u64; 7], Cause> {
-    Ok([
-        u64::from(parse_u8(&bytes[..1])?),
-        u64::from(parse_u16(&bytes[..2])?),
-        u64::from(parse_u32(&bytes[..4])?),
-        parse_u64(bytes)?,
-        u64::from(parse_u16_be(&bytes[..2])?),
-        u64::from(parse_u32_be(&bytes[..4])?),
-        parse_u64_be(bytes)?,
-    ])
-}
-
 #[test]
 fn parses_numbers(rt: HostRuntime) {
-    let wanted = [
-        0x81,
-        0x0281,
-        0x0403_0281,
-        0x8807_0605_0403_0281,
-        0x8102,
-        0x8102_0304,
-        0x8102_0304_0506_0788,
-    ];
-    assert_eq!(rt; numbers_in(&[0x81, 2, 3, 4, 5, 6, 7, 0x88]), Ok(wanted));
-    assert_eq!(rt;
+    let bytes = [0x81, 2, 3, 4, 5, 6, 7, 0x88];
+    assert_is(&rt, "u8", parse_u8(&bytes[..1]), Ok(0x81));
+    let found = [parse_u16(&bytes[..2]), parse_u16_be(&bytes[..2])];
+    assert_is(&rt, "u16, both orders", found, [Ok(0x0281), Ok(0x8102)]);
+    let found = [parse_u32(&bytes[..4]), parse_u32_be(&bytes[..4])];
+    let wanted = [Ok(0x0403_0281), Ok(0x8102_0304)];
+    assert_is(&rt, "u32, both orders", found, wanted);
+    let found = [parse_u64(&bytes), parse_u64_be(&bytes)];
+    let wanted = [Ok(0x8807_0605_0403_0281), Ok(0x8102_0304_0506_0788)];
+    assert_is(&rt, "u64, both orders", found, wanted);
+    assert_is(
+        &rt,
+        "i32",
         [parse_i32(&[255, 255, 255, 255]), parse_i32(&[0, 0, 0, 128])],
-        [Ok(-1), Ok(i32::MIN)]
+        [Ok(-1), Ok(i32::MIN)],
     );
 }
 
 #[test]
 fn parses_addresses(rt: HostRuntime) {
     let mac = [0x81, 2, 3, 4, 5, 6];
-    assert_eq!(rt; parse_mac(&mac), Ok(mac));
+    assert_is(&rt, "hardware", parse_mac(&mac), Ok(mac));
     let four = [10, 0, 0, 1];
     let v4 = Ipv4Addr::new(10, 0, 0, 1);
     let sixteen = [0x20, 1, 0x0d, 0xb8, 0, 0, 0, 0, 0, 0, 0, 0, 0, 0, 0, 1];
     let v6 = Ipv6Addr::new(0x2001, 0x0db8, 0, 0, 0, 0, 0, 1);
-    assert_eq!(rt; parse_ipv4_addr(&four), Ok(v4));
-    assert_eq!(rt; parse_ipv6_addr(&sixteen), Ok(v6));
-    assert_eq!(rt;
+    assert_is(&rt, "IPv4", parse_ipv4_addr(&four), Ok(v4));
+    assert_is(&rt, "IPv6", parse_ipv6_addr(&sixteen), Ok(v6));
+    assert_is(
+        &rt,
+        "IP",
         [parse_ip(&four), parse_ip(&sixteen)],
-        [Ok(IpAddr::V4(v4)), Ok(IpAddr::V6(v6))]
+        [Ok(IpAddr::V4(v4)), Ok(IpAddr::V6(v6))],
     );
 }
 
@@ -87,10 +79,10 @@ fn refuses_other_lengths(rt: HostRuntime) {
             four,
             sixteen,
         ];
-        assert_eq!(rt; (len, accepted(&bytes[..len])), (len, wanted));
+        assert_is(&rt, len, accepted(&bytes[..len]), wanted);
     }
-    assert_eq!(rt; parse_u32(&bytes[..3]), Err(Cause::Length));
-    assert_eq!(rt; parse_ip(&bytes[..5]), Err(Cause::Length));
+    assert_is(&rt, "u32", parse_u32(&bytes[..3]), Err(Cause::Length));
+    assert_is(&rt, "IP", parse_ip(&bytes[..5]), Err(Cause::Length));
 }
 
 #[test]
@@ -112,23 +104,17 @@ fn emits_numbers(rt: HostRuntime) {
         [8, 7, 6, 5, 4, 3, 2, 1, 255],
         [1, 2, 3, 4, 5, 6, 7, 8, 255],
     ];
-    assert_eq!(rt; buffers, wanted);
+    assert_is(&rt, "each emitter", buffers, wanted);
 }
 
 #[test]
 fn takes_one_nul_off_a_name(rt: HostRuntime) {
-    assert_eq!(rt;
-        [
-            without_nul(b"vrf\0"),
-            without_nul(b"vrf\0\0"),
-            without_nul(b"vrf"),
-            without_nul(b"")
-        ],
-        [
-            b"vrf".as_slice(),
-            b"vrf\0".as_slice(),
-            b"vrf".as_slice(),
-            b"".as_slice()
-        ]
-    );
+    let names: [&[u8]; 4] = [
+        without_nul(b"vrf\0"),
+        without_nul(b"vrf\0\0"),
+        without_nul(b"vrf"),
+        without_nul(b""),
+    ];
+    let wanted: [&[u8]; 4] = [b"vrf", b"vrf\0", b"vrf", b""];
+    assert_is(&rt, "names", names, wanted);
 }

@@ -1,5 +1,6 @@
 //! Flag sets: the named bits, and every number of their width as a set.
 
+use super::assertions::assert_is;
 use bitflags::Flags;
 use linkinfo_numbers::{
     GreEncapFlags, GreIOFlags, InfoRmNetFlags, Ip6TunnelFlags, IpVlanFlags, KeepsEveryBit,
@@ -11,7 +12,9 @@ use std::hash::{Hash, Hasher};
 
 #[test]
 fn named_bits_of_gre(rt: HostRuntime) {
-    assert_eq!(rt;
+    assert_is(
+        &rt,
+        "GreIOFlags",
         [
             GreIOFlags::Checksum.bits(),
             GreIOFlags::Routing.bits(),
@@ -24,30 +27,36 @@ fn named_bits_of_gre(rt: HostRuntime) {
             GreIOFlags::Version.bits(),
         ],
         [
-            0x8000, 0x4000, 0x2000, 0x1000, 0x0800, 0x0700, 0x0080, 0x0078, 0x0007
-        ]
+            0x8000, 0x4000, 0x2000, 0x1000, 0x0800, 0x0700, 0x0080, 0x0078, 0x0007,
+        ],
     );
-    assert_eq!(rt;
+    assert_is(
+        &rt,
+        "GreEncapFlags",
         [
             GreEncapFlags::Checksum.bits(),
             GreEncapFlags::Checksum6.bits(),
             GreEncapFlags::RemoteChecksum.bits(),
         ],
-        [1, 2, 4]
+        [1, 2, 4],
     );
 }
 
 #[test]
 fn named_bits_of_tunnels(rt: HostRuntime) {
-    assert_eq!(rt;
+    assert_is(
+        &rt,
+        "TunnelEncapFlags",
         [
             TunnelEncapFlags::CSum.bits(),
             TunnelEncapFlags::CSum6.bits(),
             TunnelEncapFlags::RemCSum.bits(),
         ],
-        [1, 2, 4]
+        [1, 2, 4],
     );
-    assert_eq!(rt;
+    assert_is(
+        &rt,
+        "Ip6TunnelFlags",
         [
             Ip6TunnelFlags::IgnEncapLimit.bits(),
             Ip6TunnelFlags::UseOrigTclass.bits(),
@@ -61,23 +70,27 @@ fn named_bits_of_tunnels(rt: HostRuntime) {
             Ip6TunnelFlags::CapPerPacket.bits(),
         ],
         [
-            0x1, 0x2, 0x4, 0x8, 0x10, 0x20, 0x40, 0x10000, 0x20000, 0x40000
-        ]
+            0x1, 0x2, 0x4, 0x8, 0x10, 0x20, 0x40, 0x10000, 0x20000, 0x40000,
+        ],
     );
 }
 
 #[test]
 fn named_bits_of_devices(rt: HostRuntime) {
-    assert_eq!(rt;
+    assert_is(
+        &rt,
+        "IpVlanFlags, MacVlanFlags",
         [
             IpVlanFlags::Private.bits(),
             IpVlanFlags::Vepa.bits(),
             MacVlanFlags::NoPromisc.bits(),
             MacVlanFlags::NoDst.bits(),
         ],
-        [1, 2, 1, 2]
+        [1, 2, 1, 2],
     );
-    assert_eq!(rt;
+    assert_is(
+        &rt,
+        "RmNetFlags",
         [
             RmNetFlags::IngressDeaggregation.bits(),
             RmNetFlags::IngressCommands.bits(),
@@ -86,7 +99,7 @@ fn named_bits_of_devices(rt: HostRuntime) {
             RmNetFlags::IngressMapCksumV5.bits(),
             RmNetFlags::EgressMapCksumV5.bits(),
         ],
-        [1, 2, 4, 8, 16, 32]
+        [1, 2, 4, 8, 16, 32],
     );
 }
 
@@ -99,7 +112,9 @@ fn names<F: Flags>() -> (usize, Option<&'static str>) {
 
 #[test]
 fn flags_have_names(rt: HostRuntime) {
-    assert_eq!(rt;
+    assert_is(
+        &rt,
+        "each set",
         [
             names::<GreIOFlags>(),
             names::<GreEncapFlags>(),
@@ -117,15 +132,24 @@ fn flags_have_names(rt: HostRuntime) {
             (2, Some("Private")),
             (2, Some("NoPromisc")),
             (6, Some("IngressDeaggregation")),
-        ]
+        ],
     );
 }
 
+/// Bits of sets of 16: named ones, others, and none.
+const SHORT_SETS: &[u16] = &[0, 1, 0x0006, 0x0007, 0x0008, 0xa000, 0x7fff, u16::MAX];
+
+/// Bits of sets of 32.
+const LONG_SETS: &[u32] = &[0, 1, 0x3f, 0x40, 0x0007_0000, 0x0008_0000, u32::MAX];
+
 #[test]
 fn every_number_is_a_set(rt: HostRuntime) {
-    for bits in [0u16, 1, 0x0006, 0x0007, 0x0008, 0xa000, 0x7fff, u16::MAX] {
+    for bits in SHORT_SETS {
+        let bits = *bits;
         let kept = (Some(bits), bits);
-        assert_eq!(rt;
+        assert_is(
+            &rt,
+            bits,
             [
                 bits_again::<GreIOFlags>(bits),
                 bits_again::<GreEncapFlags>(bits),
@@ -133,17 +157,20 @@ fn every_number_is_a_set(rt: HostRuntime) {
                 bits_again::<IpVlanFlags>(bits),
                 bits_again::<MacVlanFlags>(bits),
             ],
-            [kept; 5]
+            [kept; 5],
         );
     }
-    for bits in [0u32, 1, 0x3f, 0x40, 0x0007_0000, 0x0008_0000, u32::MAX] {
+    for bits in LONG_SETS {
+        let bits = *bits;
         let kept = (Some(bits), bits);
-        assert_eq!(rt;
+        assert_is(
+            &rt,
+            bits,
             [
                 bits_again::<Ip6TunnelFlags>(bits),
-                bits_again::<RmNetFlags>(bits)
+                bits_again::<RmNetFlags>(bits),
             ],
-            [kept; 2]
+            [kept; 2],
         );
     }
 }
@@ -151,7 +178,7 @@ fn every_number_is_a_set(rt: HostRuntime) {
 #[test]
 fn sets_of_bits(rt: HostRuntime) {
     let checksum_and_key = GreIOFlags::from_bits_retain(0xa000);
-    assert_eq!(rt; checksum_and_key.bits(), 0xa000);
+    assert_is(&rt, "bits", checksum_and_key.bits(), 0xa000);
     assert!(rt; checksum_and_key == GreIOFlags::Checksum.union(GreIOFlags::Key));
     assert!(rt; !checksum_and_key.contains(GreIOFlags::Seq));
     assert!(rt; is_equal(&GreIOFlags::default(), &GreIOFlags::empty()));
@@ -164,7 +191,12 @@ fn flags_under_a_mask(rt: HostRuntime) {
     let flags = RmNetFlags::from_bits_retain(1);
     let mask = RmNetFlags::from_bits_retain(255);
     let both = InfoRmNetFlags::new(flags, mask);
-    assert_eq!(rt; (both.flags.bits(), both.mask.bits()), (1, 255));
+    assert_is(
+        &rt,
+        "flags, mask",
+        (both.flags.bits(), both.mask.bits()),
+        (1, 255),
+    );
     assert!(rt; both != InfoRmNetFlags::new(mask, flags));
 }
 
@@ -178,15 +210,19 @@ fn hash_of<T: Hash>(value: &T) -> u64 {
 fn equal_sets_hash_alike(rt: HostRuntime) {
     laws::equal_sets_hash_alike();
     let made = TunnelEncapFlags::CSum.union(TunnelEncapFlags::RemCSum);
-    assert_eq!(rt;
+    assert_is(
+        &rt,
+        "TunnelEncapFlags",
         hash_of(&made),
-        hash_of(&TunnelEncapFlags::from_bits_retain(5))
+        hash_of(&TunnelEncapFlags::from_bits_retain(5)),
     );
     assert!(rt; hash_of(&made) != hash_of(&TunnelEncapFlags::CSum));
     let made = Ip6TunnelFlags::Mip6Dev.union(Ip6TunnelFlags::CapRcv);
-    assert_eq!(rt;
+    assert_is(
+        &rt,
+        "Ip6TunnelFlags",
         hash_of(&made),
-        hash_of(&Ip6TunnelFlags::from_bits_retain(0x20008))
+        hash_of(&Ip6TunnelFlags::from_bits_retain(0x20008)),
     );
     assert!(rt; hash_of(&made) != hash_of(&Ip6TunnelFlags::Mip6Dev));
 }

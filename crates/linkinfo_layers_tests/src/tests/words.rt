@@ -1,5 +1,6 @@
 //! Texts of values, and values of words.
 
+use super::assertions::{assert_displayed, assert_is, fault};
 use linkinfo_numbers::{
     AmtMode, ErSpanDir, GeneveDf, GreEncapType, GtpRole, IpVlanMode, MacVlanMode, NetkitMode,
     NetkitPolicy, NetkitScrub, TunnelEncapType, VxlanDf, laws,
@@ -9,43 +10,30 @@ use std::alloc::Global;
 use std::fmt::{Debug, Display};
 use std::process::Abort;
 use std::str::FromStr;
-use std::test::Fail;
 
 /// Each value displays as its text.
-fn check_texts<T: Display>(rt: &impl Abort, alloc: Global, rows: &[(T, &str)]) -> Result<(), Fail> {
+fn check_texts<T: Display + Debug>(rt: &impl Abort, alloc: Global, rows: &[(T, &str)]) {
     for (value, text) in rows {
-        assert_eq!(rt; value.to_string(alloc)?.as_str(), *text);
+        assert_displayed(rt, alloc, value, text);
     }
-    Ok(())
 }
 
-/// The fault of a text that names no value of the family.
-fn word_fault(family: Family) -> DecodeError {
-    DecodeError {
-        family,
-        kind: 0,
-        cause: Cause::Word,
-    }
-}
+/// Texts that name no value.
+const NO_WORDS: &[&str] = &["", "0", "other", "L2", "Gateway", "gateway ", "set\0"];
 
 /// Each named value's text reads back as it, and the other texts are refused.
-fn check_words<T>(
-    rt: &impl Abort,
-    alloc: Global,
-    family: Family,
-    rows: &[(T, &str)],
-) -> Result<(), Fail>
+fn check_words<T>(rt: &impl Abort, alloc: Global, family: Family, rows: &[(T, &str)])
 where
-    T: Display + FromStr<Err = DecodeError> + Copy + PartialEq + Debug,
+    T: Display + FromStr<Err = DecodeError> + Copy + PartialEq + Debug + Drop,
 {
-    check_texts(rt, alloc, rows)?;
+    check_texts(rt, alloc, rows);
     for (value, text) in rows {
-        assert_eq!(rt; T::from_str(text), Ok(*value));
+        assert_is(rt, text, T::from_str(text), Ok(*value));
     }
-    for text in ["", "0", "other", "L2", "Gateway", "gateway ", "set\0"] {
-        assert_eq!(rt; T::from_str(text), Err(word_fault(family)));
+    for text in NO_WORDS {
+        let refused = Err(fault(family, 0, Cause::Word));
+        assert_is(rt, text, T::from_str(text), refused);
     }
-    Ok(())
 }
 
 // The values that a word names, and their words.
@@ -86,21 +74,18 @@ const NETKIT_SCRUB_WORDS: &[(NetkitScrub, &str)] = &[
 ];
 
 #[test]
-fn words(rt: HostRuntime) -> Result<(), Fail> {
+fn words(rt: HostRuntime) {
     let alloc = rt.alloc();
     laws::word_round_trip();
-    check_words(&rt, alloc, Family::Amt, AMT_WORDS)?;
-    check_words(&rt, alloc, Family::Geneve, GENEVE_WORDS)?;
-    check_words(&rt, alloc, Family::IpVlan, IP_VLAN_WORDS)?;
-    check_words(&rt, alloc, Family::MacVlan, MAC_VLAN_WORDS)?;
-    check_words(&rt, alloc, Family::Netkit, NETKIT_MODE_WORDS)?;
-    check_words(&rt, alloc, Family::Netkit, NETKIT_POLICY_WORDS)?;
-    check_words(&rt, alloc, Family::Netkit, NETKIT_SCRUB_WORDS)?;
-    assert_eq!(rt;
-        NetkitMode::from_str("l3s"),
-        Err(word_fault(Family::Netkit))
-    );
-    Ok(())
+    check_words(&rt, alloc, Family::Amt, AMT_WORDS);
+    check_words(&rt, alloc, Family::Geneve, GENEVE_WORDS);
+    check_words(&rt, alloc, Family::IpVlan, IP_VLAN_WORDS);
+    check_words(&rt, alloc, Family::MacVlan, MAC_VLAN_WORDS);
+    check_words(&rt, alloc, Family::Netkit, NETKIT_MODE_WORDS);
+    check_words(&rt, alloc, Family::Netkit, NETKIT_POLICY_WORDS);
+    check_words(&rt, alloc, Family::Netkit, NETKIT_SCRUB_WORDS);
+    let refused = Err(fault(Family::Netkit, 0, Cause::Word));
+    assert_is(&rt, "l3s", NetkitMode::from_str("l3s"), refused);
 }
 
 // Values and their texts, where no word is read or the text is none.
@@ -150,17 +135,17 @@ const ER_SPAN_TEXTS: &[(ErSpanDir, &str)] = &[
 ];
 
 #[test]
-fn texts(rt: HostRuntime) -> Result<(), Fail> {
+fn texts(rt: HostRuntime) {
     let alloc = rt.alloc();
-    check_texts(&rt, alloc, AMT_TEXTS)?;
-    check_texts(&rt, alloc, VXLAN_TEXTS)?;
-    check_texts(&rt, alloc, GTP_TEXTS)?;
-    check_texts(&rt, alloc, NETKIT_POLICY_TEXTS)?;
-    check_texts(&rt, alloc, GRE_ENCAP_TEXTS)?;
-    check_texts(&rt, alloc, TUNNEL_ENCAP_TEXTS)?;
-    check_texts(&rt, alloc, ER_SPAN_TEXTS)?;
-    check_texts(&rt, alloc, &[(GeneveDf::Other(255), "255")])?;
-    check_texts(&rt, alloc, &[(IpVlanMode::Other(3), "3")])?;
-    check_texts(&rt, alloc, &[(MacVlanMode::Other(3), "3")])?;
-    check_texts(&rt, alloc, &[(NetkitMode::Other(2), "2")])
+    check_texts(&rt, alloc, AMT_TEXTS);
+    check_texts(&rt, alloc, VXLAN_TEXTS);
+    check_texts(&rt, alloc, GTP_TEXTS);
+    check_texts(&rt, alloc, NETKIT_POLICY_TEXTS);
+    check_texts(&rt, alloc, GRE_ENCAP_TEXTS);
+    check_texts(&rt, alloc, TUNNEL_ENCAP_TEXTS);
+    check_texts(&rt, alloc, ER_SPAN_TEXTS);
+    check_texts(&rt, alloc, &[(GeneveDf::Other(255), "255")]);
+    check_texts(&rt, alloc, &[(IpVlanMode::Other(3), "3")]);
+    check_texts(&rt, alloc, &[(MacVlanMode::Other(3), "3")]);
+    check_texts(&rt, alloc, &[(NetkitMode::Other(2), "2")]);
 }

@@ -1,0 +1,15 @@
+//! Tests over worked strings, values and payloads: what the contracts call a value, a length, a
+//! text, a number or a row is what the format says.
+
+mod assertions;
+mod data;
+mod emission;
+mod flags;
+mod framing;
+mod kinds;
+mod numbers;
+mod payload_numbers;
+mod payloads;
+mod rows;
+mod values;
+mod words;

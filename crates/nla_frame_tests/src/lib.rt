@@ -1,5 +1,0 @@
-//! Tests of `nla_frame`, by its public calls alone: a crate with tests is proved twice, so these stand in one of their own.
-#![tactic(auto)]
-
-#[cfg(test)]
-mod tests;
