@@ -98,6 +98,5 @@ pub use linkinfo_data::laws as data_laws;
 pub use linkinfo_numbers::laws as number_laws;
 pub use linkinfo_peers::laws as peer_laws;
 pub use linkinfo_shapes::laws as shape_laws;
-pub use linkinfo_table::laws as family_laws;
-pub use linkinfo_table::lower_laws;
+pub use linkinfo_table::{laws as family_laws, lower_laws};
 pub use nla_frame::laws as frame_laws;

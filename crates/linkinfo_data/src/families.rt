@@ -29,12 +29,12 @@ use linkinfo_devices::{
     InfoIpVlan, InfoIpVtap, InfoIpoib, InfoMacSec, InfoMacVlan, InfoMacVtap, InfoRmNet, InfoVrf,
     InfoVrfPort, InfoXfrm,
 };
-use linkinfo_table::lower::{
-    InfoBond, InfoBondPort, InfoBridge, InfoBridgePort, InfoCan, InfoDsa, InfoHsr, InfoVlan,
-};
 use linkinfo_peers::{
     InfoBatAdv, InfoNetkitOf, InfoPfcp, InfoTeamPort, InfoTun, InfoVethOf, InfoVxcanOf,
     InfoWireguard, InfoWwan,
+};
+use linkinfo_table::lower::{
+    InfoBond, InfoBondPort, InfoBridge, InfoBridgePort, InfoCan, InfoDsa, InfoHsr, InfoVlan,
 };
 use linkinfo_table::{LinkPeer, ListedFamily};
 use linkinfo_tunnels::{
