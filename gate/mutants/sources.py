@@ -36,7 +36,7 @@ def closing(text, at):
 
 def block_name(header):
     """The name of an impl or a trait in the paths of its functions: `impl From<u32> for AmtMode`
-    is AmtModeFromU32."""
+    is AmtModeFromU32, and `impl<P> From<Vec<Of<P>>> for List<P>` is ListFrom."""
     header = re.sub(r"^(\s*(pub )?(unsafe )?)", "", header)
     if header.startswith("trait"):
         return re.match(r"trait (\w+)", header)[1]
@@ -44,6 +44,7 @@ def block_name(header):
     if header.startswith("<"):
         header = header[closing(header, 0) + 1 :]
     trait, _, kind = header.rpartition(" for ")
+    trait = re.sub(r"<[^<>]*<[^<>]*<.*", "", trait)
     return (words_of(kind.partition("<")[0]) or "Any") + words_of(trait)
 
 

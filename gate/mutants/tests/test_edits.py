@@ -5,7 +5,7 @@ import unittest
 
 from mutants.crates import BadEdit
 from mutants.edits import Edit
-from mutants.sources import bodies_of, visible
+from mutants.sources import block_name, bodies_of, visible
 from mutants.steps import are_moved
 
 SOURCE = """//! A module.
@@ -66,6 +66,18 @@ class Edits(unittest.TestCase):
     def test_bodies(self):
         found = bodies_of("one", "src/count.rt", SOURCE)
         self.assertEqual([it[0] for it in found], [FROM, NEXT, "one::count::Count::zero"])
+
+    def test_names_of_blocks(self):
+        for header, name in {
+            "impl From<u32> for AmtMode": "AmtModeFromU32",
+            "impl<T> From<Vec<T>> for Nlas<T>": "NlasFromVec",
+            "impl<P> From<Vec<LinkInfoOf<P>>> for VecLinkInfoOf<P>": "VecLinkInfoOfFrom",
+            "impl<'a, P: LinkPeer> Parseable<NlaBuffer<'a>> for InfoVethOf<P>":
+                "InfoVethOfParseableNlaBuffer",
+            "impl<F: RowFamily> LinkFamily for F": "AnyLinkFamily",
+            "pub trait Nla": "Nla",
+        }.items():
+            self.assertEqual(block_name(header), name)
 
     def test_body(self):
         text, edit = self.applied(f"fn: {NEXT}\nfile: src/count.rt\nold: n + 1\nnew: n\n")
