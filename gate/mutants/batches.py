@@ -27,8 +27,11 @@ def reached(path, folder):
 def are_apart(a, b, folder):
     """Whether two edits have no effect on one another's function. A contract hides a body from
     other functions, and hides no constant: those of two go together only where each is in the file
-    of the function that must refuse it, and neither file reaches the other."""
+    of the function that must refuse it, and neither file reaches the other. What is outside all
+    bodies is tried alone."""
     if {a.function, a.turned} & {b.function, b.turned}:
+        return False
+    if a.is_outside or b.is_outside:
         return False
     if not a.is_constant and not b.is_constant:
         return True

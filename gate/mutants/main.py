@@ -7,7 +7,9 @@ from concurrent.futures import ThreadPoolExecutor
 
 from . import seen
 from .batches import Lane
-from .crates import PARTS, ROOT, BadEdit, below, crates_of, folder_of, jobs, write
+from .crates import (
+    PARTS, ROOT, BadEdit, below, crates_of, folder_of, jobs, toolchain, write
+)
 from .edits import CONTROL, Edit
 from .marks import Marks
 from .proving import prove
@@ -24,16 +26,19 @@ CONTROLS = {"still proved", "names lost", "steps moved", "ring", "loop", "consta
 FOLDERS = {*PARTS, "wrong", "must-fail", "out", "data"}
 
 
-def edits_of(crate, tally):
-    """The edits of a crate that can be applied. What else is in their folders counts as failed."""
+def edits_of(crate, tally, folders=("wrong", CONTROL)):
+    """The edits of a crate that can be applied. What else is in their folders counts as failed. Of
+    must-fail/, which the toolchain's gate tries, those are read that name a function."""
     found, folder = [], folder_of(crate)
     for name in folder.names("."):
         if name not in FOLDERS and os.path.isdir(f"{folder.top}/{name}"):
             tally.say(f"{crate}/{name}", "no folder of that name is read", False)
-    for at in ("wrong", CONTROL):
+    for at in folders:
         for name in folder.names(at):
             if name.endswith(".edit"):
                 edit = Edit(crate, f"{at}/{name}")
+                if at == "must-fail" and not edit.function:
+                    continue
                 try:
                     edit.look(folder)
                     found.append(edit)
@@ -83,28 +88,31 @@ def kept_path(crate):
 
 
 def new_of(edits, tallies):
-    """The edits that earlier runs over named crates have not seen refused as they are. Right bodies
-    go along with mutants alone."""
-    marks, found = Marks(ROOT), []
+    """The edits that earlier runs over named crates have not seen refused as they are, and the
+    number of the others. Right bodies go along with mutants alone."""
+    marks, found, left_out = Marks(ROOT), [], 0
     for crate, tally in tallies.items():
         folder = folder_of(crate)
         kept = {*folder.read("out/wrong").split("\n")} if folder.has("out/wrong") else set()
         own = [it for it in edits if it.crate == crate]
-        known = [it for it in own if not it.is_control and f"{it.label} {marks.mark(it)}" in kept]
+        known = [it for it in own if not it.is_control and kept_line(it, marks) in kept]
         tally.seen += known
         left = [it for it in own if it not in known]
         found += left if any(not it.is_control for it in left) else []
-        if known:
-            tally.lines.append(f"wrong: {crate}: {len(known)} not tried: seen refused, and nothing "
-                               "that the verdict rests on has changed since")
-    return found
+        left_out += len(known)
+    return found, left_out
+
+
+def kept_line(edit, marks):
+    """What is kept of an edit that was seen refused."""
+    return f"{edit.label} {marks.mark(edit)} {toolchain()}"
 
 
 def keep(tallies):
     """Keeps which edits were seen refused."""
     marks = Marks(ROOT)
     for crate, tally in tallies.items():
-        write(kept_path(crate), "\n".join(f"{it.label} {marks.mark(it)}" for it in tally.seen))
+        write(kept_path(crate), "\n".join(kept_line(it, marks) for it in tally.seen))
 
 
 def main(words):
@@ -118,7 +126,8 @@ def main(words):
     if "--stamps" in flags:
         return leave_stamps(crates)
     tallies = {it: Tally(it) for it in crates if not named or it in named}
-    edits = [edit for it, tally in tallies.items() for edit in edits_of(it, tally)]
+    folders = ["wrong", CONTROL] + ["must-fail"] * bool(named)
+    edits = [edit for it, tally in tallies.items() for edit in edits_of(it, tally, folders)]
     drawn, left = [], 0
     if named:
         stamps, unproved = None, prove(named)
@@ -132,7 +141,7 @@ def main(words):
         print("0 passed, 1 failed")
         return 1
     if named:
-        edits = new_of(edits, tallies)
+        edits, left = new_of(edits, tallies)
     elif "--all" not in flags:
         edits, drawn, left, said = seen.chosen(edits)
         print(f"wrong: {said}", flush=True)
@@ -159,7 +168,10 @@ def conclude(tallies, unproved, named, numbers, is_all):
     if void:
         print(f"wrong: FAILED: wrong.seen is void: drawn and not refused: {', '.join(void)}")
     if is_all and not failed:
-        print(f"wrong: {seen.write_seen()}")
+        is_written = seen.write_seen()
+        failed += not is_written
+        print("wrong: wrong.seen names the present commit" if is_written else "wrong: FAILED: "
+              "wrong.seen stays, since what was tried is not the present commit")
     print(f"wrong: {tried} mutants tried, {len(drawn)} of them drawn; {left} not tried, since "
           "nothing that their verdict rests on has changed")
     print(f"{passed} passed, {failed} failed")

@@ -79,14 +79,21 @@ def chosen(edits):
     same, said = unchanged([it for it in edits if not it.is_control])
     drawn = draw().sample(same, min(DRAWN, len(same)))
     left = {it.label for it in same} - {it.label for it in drawn}
+    if left and not is_committed():
+        said += " (beside changes that are not committed, for which the draw is not made)"
     return [it for it in edits if it.label not in left], drawn, len(left), said
 
 
-def write_seen():
-    """Names the present commit in wrong.seen, where the files that verdicts rest on are its files,
-    and says what was done."""
+def is_committed():
+    """Whether the files that verdicts rest on are those of the present commit."""
     told = git("status", "--porcelain", "--", "crates", "crates.txt", "gate", "wrong")
-    if told is None or told.strip() or not commit_name():
-        return "wrong.seen stays: what was tried is not the present commit"
+    return told is not None and not told.strip() and bool(commit_name())
+
+
+def write_seen():
+    """Names the present commit in wrong.seen, and returns whether it could: only where the files
+    that verdicts rest on are its files."""
+    if not is_committed():
+        return False
     write(SEEN, f"{commit_name()} {toolchain()}\n")
-    return f"wrong.seen names the present commit {commit_name()}"
+    return True

@@ -427,12 +427,9 @@ fn assert_rewritten(rt: &impl Abort, alloc: Global, rows: &[Rewritten]) {
     }
 }
 
-/// All lists of canonical strings.
-const CANONICAL: &[&[Canonical]] = &[TUNNELS, DEVICES, PEERS, LOWER, BYTES, PORTS, ATTRIBUTES];
-
 #[test]
 fn canonical_lists(rt: HostRuntime) {
-    for rows in CANONICAL {
+    for rows in [TUNNELS, DEVICES, PEERS, LOWER, BYTES, PORTS, ATTRIBUTES] {
         assert_canonical(&rt, rt.alloc(), rows);
     }
 }

@@ -41,7 +41,7 @@ fn assert_tags(rt: &impl Abort, bytes: &[u8], tags: &[(Option<KindTag>, Option<P
     let mut walk = LinkInfoWalk::new(bytes);
     for wanted in tags {
         let Some(Ok(item)) = walk.next() else {
-            panic!(rt; "an item");
+            panic!(rt; "an item under {wanted:?}");
         };
         assert_equal(rt, &bytes, &(item.kind_tag, item.port_tag), wanted);
     }

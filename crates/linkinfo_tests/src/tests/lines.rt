@@ -39,7 +39,7 @@ fn answer_in_memory(alloc: Global, input: &[u8]) -> Result<Vec<u8>, RunError>
 /// The input is answered by these bytes.
 fn assert_answered(rt: &impl Abort, alloc: Global, input: &[u8], wanted: &[u8]) {
     let output = answer_in_memory(alloc, input).expect(rt, "an answer");
-    assert_equal(rt, &wanted, &output.as_slice(), &wanted);
+    assert_equal(rt, &input, &output.as_slice(), &wanted);
 }
 
 #[test]

@@ -15,7 +15,7 @@ fn assert_items(rt: &impl Abort, walk: &mut LinkInfoWalk<'_>, items: &[LinkInfoI
     for wanted in items {
         assert_equal(rt, wanted, &walk.place(), &wanted.place);
         let Some(Ok(item)) = walk.next() else {
-            panic!(rt; "an item");
+            panic!(rt; "an item {wanted:?}");
         };
         assert_equal(rt, &"an item", &item, wanted);
     }
@@ -26,7 +26,7 @@ fn next_fault(rt: &impl Abort, walk: &mut LinkInfoWalk<'_>) -> Option<DecodeErro
     match walk.next() {
         None => None,
         Some(Err(fault)) => Some(fault),
-        Some(Ok(_)) => panic!(rt; "a further item"),
+        Some(Ok(item)) => panic!(rt; "a further item {item:?}"),
     }
 }
 
