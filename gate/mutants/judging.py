@@ -75,12 +75,17 @@ class Report:
         return next(iter(explicit + searched + noted), "")
 
     def law_refused(self, path, line):
-        """The error that says that a law of the impl has no proof, or nothing."""
+        """The error that says that a law of the impl, in its own file, has no proof, or nothing."""
+        *inside, name = path.split("::")[1:]
         law = IMPL_LAW.match(line)
-        for it in self.before(line) if law and f".{path.split('::')[-1]}.TheImpl." in line else []:
-            if re.match(rf"src/\S+: error: `{re.escape(law[1])}`: ", it) and not LOST.search(it):
-                return it
-        return ""
+        if not law or f".{name}.TheImpl." not in line:
+            return ""
+        file = re.escape("/".join(inside) or "lib")
+        mine = re.compile(rf"src/{file}\.rt:\S+ error: `{re.escape(law[1])}`: ")
+        told = [" ".join([it, *self.after(at)]) for at, it in enumerate(self.lines)
+                if mine.match(it)]
+        lost = [it for it in told if LOST.search(it) or AFTER_LOST.search(it)]
+        return "" if lost or not told else told[0]
 
     def kinds_of(self, edit):
         """Of which kinds a right body is: that its function is still proved, or what is changed in

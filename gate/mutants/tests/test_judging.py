@@ -75,6 +75,10 @@ class Judging(unittest.TestCase):
         told = report("impl_refused")
         equal = edit("linkinfo_table::peer::PeerFaultExactEq", is_outside=True)
         self.assertIn("error: `exact-value`", told.refuses(equal))
+        told = report("impl_refused_from_nothing")
+        run = edit("linkinfo_lines::streams::RunErrorExactEq", is_outside=True)
+        self.assertIn("error: `exact-value`", told.refuses(run))
+        self.assertEqual(told.refuses(equal), "")
         other = edit("linkinfo_table::peer::OtherExactEq", is_outside=True)
         self.assertEqual(told.refuses(other), "")
 
