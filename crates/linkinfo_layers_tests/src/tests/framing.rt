@@ -81,7 +81,8 @@ fn steps(rt: &impl Abort, alloc: Global, bytes: &[u8]) -> Walked {
     }
 }
 
-/// What a string frames: its attributes, its fault, the headers looked at, and where an iterator stands at the end.
+/// What a string frames: its attributes, its error, the headers examined, and the offset of an
+/// iterator at the end.
 fn check_walk(
     rt: &impl Abort,
     alloc: Global,
@@ -99,7 +100,7 @@ fn check_walk(
     assert_is(rt, ("steps", bytes), &steps(rt, alloc, bytes), &wanted);
 }
 
-/// A string, its attributes, its fault, the headers looked at, and where an iterator stands at the
+/// A string, its attributes, its error, the headers examined, and the offset of an iterator at the
 /// end.
 type Framed = (
     &'static [u8],

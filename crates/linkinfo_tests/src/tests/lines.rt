@@ -36,7 +36,7 @@ fn answer_in_memory(alloc: Global, input: &[u8]) -> Result<Vec<u8>, RunError>
     Ok(output)
 }
 
-/// The input is answered by these bytes.
+/// A run over the input writes these bytes.
 fn assert_answered(rt: &impl Abort, alloc: Global, input: &[u8], wanted: &[u8]) {
     let output = answer_in_memory(alloc, input).expect(rt, "an answer");
     assert_equal(rt, &input, &output.as_slice(), &wanted);
@@ -124,7 +124,7 @@ fn line_of(rt: &impl Abort, alloc: Global, text: &str) -> String {
     format!(in alloc; "{text}\n").expect(rt, "memory")
 }
 
-/// The line is answered by this one, whether a line feed ends it or not: without one, the empty
+/// For the line this one is written, whether a line feed ends it or not: without one, the empty
 /// line is none.
 fn assert_line(rt: &impl Abort, alloc: Global, line: &str, answer: &str) {
     let wanted = line_of(rt, alloc, answer);

@@ -222,7 +222,7 @@ fn ends_where_no_memory_is_left(rt: HostRuntime) {
     assert_starved(&rt, rt.alloc(), 15);
 }
 
-/// Wherever reads cut the input, its lines are answered as ever.
+/// Wherever reads cut the input, the same output is written.
 #[test]
 fn answers_input_in_pieces(rt: HostRuntime) {
     for piece in 1..INPUT.len() + 2 {

@@ -58,7 +58,7 @@ fn reads_unknown<F: LinkFamily>(alloc: Global, nla: &NlaBuffer<'_>, ctx: F::Cont
     is_written(answer, &KEPT)
 }
 
-/// The same of `parse`.
+/// Whether `parse` keeps the attribute verbatim, at the second try where memory ran out.
 fn parses_unknown<'a, T: Parseable<NlaBuffer<'a>> + Nla + Drop>(
     alloc: Global,
     nla: &NlaBuffer<'a>,

@@ -71,7 +71,7 @@ fn to_vec(rt: HostRuntime) {
     assert_equal(&rt, &"a port", &bytes.as_slice(), &string.as_slice());
 }
 
-/// The canonical string of a kind without its NUL, or want of memory.
+/// The canonical string of a kind without its NUL, or out of memory.
 #[test]
 fn canonical_string(rt: HostRuntime) {
     let alloc = rt.alloc();
