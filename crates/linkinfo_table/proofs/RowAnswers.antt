@@ -23,7 +23,8 @@ use Rattle.linkinfo_table.specs.declared.lookup.Lookup.TheVariants as lookup
 use Rattle.linkinfo_table.specs.Codecs.{Own}
 use Rattle.linkinfo_table.specs.Lists.{◌>>=◌, put_memory}
 use Rattle.linkinfo_table.specs.Rows.{fault_at, labelled, row_meaning, meaning_in, row_alike, alike_in, row_needs_memory, memory_in}
-use Rattle.linkinfo_table.specs.FamilyRows.{own, FamilyRow, Plain, Custom, Refuses, Absent, row_of, lookup_of, IsFlat, SuitsRow, IsLabelled, PutsLabelled, owns_memory, row_owns_memory}
+use Rattle.linkinfo_table.specs.FamilyRows.{own, FamilyRow, Plain, Custom, Refuses, Absent, row_of, lookup_of, IsFlat, SuitsRow, IsLabelled, PutsLabelled, owns_memory, is_copied}
+use Rattle.linkinfo_table.specs.FamilyRowLaws.{copied_of}
 
 abbrev done : {A E : Type 0} → A → Result A E
 done x = Ok x
@@ -237,13 +238,14 @@ module _ {F : Type 0} where
   needs_kept (Refuses cause) a e = absurd cc
   needs_kept Absent a e = refl
 
-  -- a datum of a row that owns memory was read from a payload that needs it
+  -- a datum that is copied was read from a payload that needs memory
   pub needs_row : (r : FamilyRow F) (a : Attribute) (shape : Shape) (p : List ℕ) (d : Datum) → IsFlat r → lookup_of r ≡ lookup.Is shape → p ≡ a.value → ReadsAs shape p (Ok d) →
-      (row_owns_memory r ≡ false → ⊥) → row_needs_memory (row_of r) a ≡ true
+      (is_copied (value_of d) ≡ false → ⊥) → row_needs_memory (row_of r) a ≡ true
   needs_row (Plain s label) a shape p d flat e q k never =
+      let read = along s shape p a.value (Ok d) (shape_same s shape e) q k in
       elim (cases_Bool (owns_memory s)) [
-        | inl owns ↦ owned_shape_needs s a.value (unwrap s (value_of d)) owns (read_means s a.value d (along s shape p a.value (Ok d) (shape_same s shape e) q k))
-        | inr none ↦ absurd (never none)
+        | inl owns ↦ owned_shape_needs s a.value (unwrap s (value_of d)) owns (read_means s a.value d read)
+        | inr none ↦ absurd (never (copied_of s (value_of d) (read_suits s a.value d read) ∙ none))
       ]
   needs_row (Custom s codec label) a shape p d flat e q k never = absurd flat
   needs_row (Refuses cause) a shape p d flat e q k never = absurd cc

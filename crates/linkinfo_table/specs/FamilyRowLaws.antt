@@ -1,5 +1,5 @@
 -- Tables of plain rows are lawful: shapes are codecs, and what a table's rows keep is what each row owes.
-use Rattle.std.specs.Prelude.{◌≡◌, ◌≢◌, ℕ, ◌==◌, Bool, true, false, List, [], ◌∷◌, Option, Some, Result, Ok, Err, refl}
+use Rattle.std.specs.Prelude.{◌≡◌, ◌≢◌, ℕ, ◌==◌, Bool, true, false, List, [], ◌∷◌, Option, Some, None, Result, Ok, Err, OnOk, refl}
 use Rattle.std.proofs.Common.{sym, ap, subst, ◌∙◌, arith, inl, inr}
 use Rattle.std.proofs.lemmas.Bool.{eqb-true, cases_Bool, cond-true, cond-false}
 use Rattle.nla_frame.specs.Attribute.{Attribute}
@@ -7,16 +7,20 @@ use Rattle.nla_frame.specs.Error.{memory_fault}
 use Rattle.nla_frame.specs.declared.error.Cause.{Cause}
 use Rattle.nla_frame.specs.declared.error.Cause.TheVariants as cause
 use Rattle.linkinfo_shapes.specs.declared.shape.Shape.{Shape}
+use Rattle.linkinfo_shapes.specs.declared.shape.Shape.TheVariants.{Ip, EmptyOrByte}
+use Rattle.std.specs.declared.net.ip_addr.IpAddr.TheVariants as ip
+use Rattle.nla_frame.specs.declared.default_nla.DefaultNla.{DefaultNla}
 use Rattle.linkinfo_shapes.specs.Shapes.{Carrier, means, canon}
 use Rattle.linkinfo_shapes.specs.ShapeLaws.{means_holds, means-canon, IsBytes-canon, means_alike, means_memory}
 use Rattle.linkinfo_shapes.specs.declared.datum.Datum.{Datum}
-use Rattle.linkinfo_shapes.specs.Data.{Value, value_of}
+use Rattle.linkinfo_shapes.specs.Data.{Value, value_of, wrap, unwrap, Suits}
+use Rattle.linkinfo_shapes.specs.DataLaws.{wrap-unwrap}
 use Rattle.linkinfo_shapes.specs.Table.{found}
 use Rattle.linkinfo_table.specs.declared.found.Found.{Found}
 use Rattle.linkinfo_table.specs.declared.found.Found.TheVariants.{Typed}
 use Rattle.linkinfo_table.specs.Codecs.{Own, Inside, IsCodec}
 use Rattle.linkinfo_table.specs.Rows.{Entry, Row, Is, IsRow}
-use Rattle.linkinfo_table.specs.FamilyRows.{own, shape_codec, FamilyRow, row_of, row_if, lookup_of, RowOwes, PlainRow, plain_or_absent, table_row, without_labels, lookup_in, Keeps, EachKeeps, IsFlat, IsNoRow, SuitsFound, SuitsRow}
+use Rattle.linkinfo_table.specs.FamilyRows.{own, shape_codec, FamilyRow, Plain, row_of, row_if, lookup_of, RowOwes, PlainRow, plain_or_absent, table_row, without_labels, lookup_in, Keeps, EachKeeps, IsFlat, IsNoRow, SuitsFound, SuitsRow, Puts, PutsLabelled, owns_memory, is_copied, found_needs_memory}
 
 abbrev done : {A E : Type 0} → A → Result A E
 done x = Ok x
@@ -119,6 +123,51 @@ pub no_row_read : {F : Type 0} (rows : List (PlainRow F)) (read : Found) (n : �
     SuitsFound (λ m. table_row rows m) read → ⊥
 no_row_read {F = F} rows read n datum e none suits =
     no_row_suits rows n (value_of datum) none (subst (λ (x : Found). SuitsFound (λ m. table_row rows m) x) e suits)
+
+-- the datum that was read belongs to the shape of the row of its number
+pub suits_found : {F : Type 0} {read : Found} {n k : ℕ} {datum : Datum} {shape : Shape} {label : Carrier shape → F} (rows : ℕ → FamilyRow F) →
+    rows k ≡ Plain shape label → read ≡ Typed n datum → n ≡ k → SuitsFound rows read → Suits shape (value_of datum)
+suits_found {F = F} {datum = datum} rows row is number suits =
+    subst (λ (r : FamilyRow F). SuitsRow r (value_of datum)) (ap rows number ∙ row) (subst (λ (x : Found). SuitsFound rows x) is suits)
+
+on_ok : {T E : Type 0} (r : Result T E) (P Q : Type 0) → (P → Q) → OnOk r P → OnOk r Q
+on_ok (Ok x) P Q f h = f h
+on_ok (Err e) P Q f h = h
+
+-- what is put in a place for that datum is the label of its row
+pub puts_found : {F H T E : Type 0} {read : Found} {n k : ℕ} {datum : Datum} {shape : Shape} {label : Carrier shape → F} {u : Carrier shape}
+    (with : F → H) (other : DefaultNla → F) (ended : Result T E) (held : H) (rows : ℕ → FamilyRow F) → rows k ≡ Plain shape label →
+    read ≡ Typed n datum → n ≡ k → SuitsFound rows read → (Suits shape (value_of datum) → u ≡ unwrap shape (value_of datum)) →
+    OnOk ended (held ≡ with (label u)) → OnOk ended (Puts with other rows read held)
+puts_found {F = F} {read = read} {datum = datum} {shape = shape} {label = label} {u = u} with other ended held rows row is number suits datum_is puts =
+    on_ok ended (held ≡ with (label u)) (Puts with other rows read held) labelled_so puts
+  where
+    labelled_so : held ≡ with (label u) → Puts with other rows read held
+    labelled_so e =
+        subst (λ (x : Found). Puts with other rows x held) (sym is)
+        (subst (λ (r : FamilyRow F). PutsLabelled with r (value_of datum) held) (sym (ap rows number ∙ row))
+        (e ∙ ap (λ (x : Carrier shape). with (label x)) (datum_is (suits_found rows row is number suits))))
+
+-- a datum of a shape is copied where a value of the shape owns memory
+copied_wrap : (shape : Shape) (x : Carrier shape) → is_copied (wrap shape x) ≡ owns_memory shape
+copied_wrap Ip (ip.V4 a) = refl
+copied_wrap Ip (ip.V6 a) = refl
+copied_wrap EmptyOrByte None = refl
+copied_wrap EmptyOrByte (Some b) = refl
+copied_wrap _ x = refl
+
+pub copied_of : (shape : Shape) (value : Value) → Suits shape value → is_copied value ≡ owns_memory shape
+copied_of shape value suits = ap is_copied (sym (wrap-unwrap shape value suits)) ∙ copied_wrap shape (unwrap shape value)
+
+not_both : (b : Bool) → b ≡ true → b ≡ false → ⊥
+not_both true h k = absurd cc
+not_both false h k = absurd cc
+
+-- so making a value of a row that owns memory needs some
+pub owner_needs : {F : Type 0} {read : Found} {n k : ℕ} {datum : Datum} {shape : Shape} {label : Carrier shape → F} (rows : ℕ → FamilyRow F) →
+    rows k ≡ Plain shape label → read ≡ Typed n datum → n ≡ k → SuitsFound rows read → owns_memory shape ≡ true → found_needs_memory read ≡ false → ⊥
+owner_needs {read = read} {datum = datum} {shape = shape} rows row is number suits owns none =
+    not_both (found_needs_memory read) (ap found_needs_memory is ∙ copied_of shape (value_of datum) (suits_found rows row is number suits) ∙ owns) none
 
 -- what a family's rows owe, row by row
 pub owed : {F : Type 0} (attribute : F → Attribute) (rows : ℕ → Row F) → ((n : ℕ) → RowOwes attribute n (rows n)) →

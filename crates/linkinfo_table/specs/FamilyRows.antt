@@ -7,7 +7,7 @@ use Rattle.nla_frame.specs.declared.error.Cause.TheVariants as cause
 use Rattle.linkinfo_shapes.specs.declared.shape.Shape.{Shape}
 use Rattle.linkinfo_shapes.specs.declared.shape.Shape.TheVariants.{Name, Peer, Raw}
 use Rattle.linkinfo_shapes.specs.Shapes.{IsPlain, Carrier, means, canon, Holds, payload_alike, needs_memory}
-use Rattle.linkinfo_shapes.specs.Data.{Value, value_of, unwrap, written, Suits}
+use Rattle.linkinfo_shapes.specs.Data.{Value, text, bytes, value_of, unwrap, written, Suits}
 use Rattle.linkinfo_table.specs.declared.lookup.Lookup.{Lookup}
 use Rattle.linkinfo_table.specs.declared.lookup.Lookup.TheVariants as lookup
 use Rattle.linkinfo_table.specs.declared.part.Part.{Part}
@@ -139,15 +139,17 @@ abbrev pub IsLabelled : {F : Type 0} → FamilyRow F → Value → F → Type 0
 IsLabelled (Plain shape label) value x = x ≡ label (unwrap shape value)
 IsLabelled _ value x = ⊥
 
--- a value of this row may own memory
+-- making a value of this shape copies a text or bytes, for which memory is allocated
 abbrev pub owns_memory : Shape → Bool
 owns_memory Name = true
 owns_memory Raw = true
 owns_memory _ = false
 
-abbrev pub row_owns_memory : {F : Type 0} → FamilyRow F → Bool
-row_owns_memory (Plain shape label) = owns_memory shape
-row_owns_memory _ = true
+-- so does making a value of this datum
+abbrev pub is_copied : Value → Bool
+is_copied (text s) = true
+is_copied (bytes s) = true
+is_copied _ = false
 
 -- what was read of an attribute: a datum belongs to the row of its type
 abbrev pub SuitsFound : {F : Type 0} → (ℕ → FamilyRow F) → Found → Type 0
@@ -164,10 +166,10 @@ abbrev pub Puts : {F H : Type 0} → (F → H) → (DefaultNla → F) → (ℕ �
 Puts with other rows (found.Typed number datum) held = PutsLabelled with (rows number) (value_of datum) held
 Puts with other rows (found.Kept nla) held = held ≡ with (other nla)
 
--- making a value of what was read may need memory
-abbrev pub found_needs_memory : {F : Type 0} → (ℕ → FamilyRow F) → Found → Bool
-found_needs_memory rows (found.Typed number datum) = row_owns_memory (rows number)
-found_needs_memory rows (found.Kept nla) = false
+-- making a value of what was read needs memory
+abbrev pub found_needs_memory : Found → Bool
+found_needs_memory (found.Typed number datum) = is_copied (value_of datum)
+found_needs_memory (found.Kept nla) = false
 
 -- what a value shows of its canonical attribute: type, shape and datum, or that it is kept as it came
 abbrev pub Shows : Part → Attribute → Bool → Type 0

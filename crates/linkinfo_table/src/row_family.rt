@@ -50,7 +50,7 @@ pub trait RowFamily: Sized + Drop {
     ) -> Result<(), AllocError>
         requires { SuitsFound (rows ctx) found }
         ensures value { OnOk result (Puts (P.with place.old) other (rows ctx) found.entry (P.held place.new)) }
-        ensures certain { P.is_certain ≡ true → found_needs_memory (rows ctx) found.entry ≡ false → IsOk result };
+        ensures certain { P.is_certain ≡ true → found_needs_memory found.entry ≡ false → IsOk result };
 
     /// The type number, shape and datum of a value, or the attribute that it keeps.
     fn to_part(&self) -> Part<'_>

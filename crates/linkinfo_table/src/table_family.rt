@@ -43,7 +43,7 @@ pub trait TableFamily: Sized + Drop {
     ) -> Result<(), AllocError>
         requires { SuitsFound (λ n. table_row table n) found }
         ensures value { OnOk result (Puts (P.with place.old) other (λ n. table_row table n) found.entry (P.held place.new)) }
-        ensures certain { P.is_certain ≡ true → found_needs_memory (λ n. table_row table n) found.entry ≡ false → IsOk result };
+        ensures certain { P.is_certain ≡ true → found_needs_memory found.entry ≡ false → IsOk result };
 
     /// The type number, shape and datum of a value, or the attribute that it keeps.
     fn to_part(&self) -> Part<'_>

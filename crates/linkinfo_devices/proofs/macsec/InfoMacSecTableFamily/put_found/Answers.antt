@@ -1,58 +1,84 @@
--- Each type without a row in the list is in no row of the table. Of a type with a row, the place alone says
--- whether putting its value is certain: a search would read the whole table once for each row.
-use Rattle.std.proofs.Common.{rules}
-use Rattle.linkinfo_table.specs.FamilyRowLaws.{no_row_read}
+-- Each type without a row in the list is in no row of the table; of the others the table says what is put. A
+-- search would read the whole table once for each row.
+use Rattle.std.proofs.Common.{rules, refl}
+use Rattle.linkinfo_table.specs.FamilyRowLaws.{no_row_read, puts_found}
+use Rattle.linkinfo_table.specs.FamilyRows.{table_row}
+use Rattle.linkinfo_devices.specs.declared.macsec.InfoMacSec.TheVariants.{Other}
 use Rattle.linkinfo_devices.specs.Macsec.{mac_sec_rows}
 use Rattle.linkinfo_devices.proofs.macsec.InfoMacSecTableFamily.put_found.Goals as goal
 
 pub put_by_rows-unreachable-requires : goal.put_by_rows-unreachable-requires
 put_by_rows-unreachable-requires g c =
-    no_row_read mac_sec_rows c.args.found c.in-Typed-put_by_rows.field-0 c.in-Typed-put_by_rows.field-1 c.in-Typed-put_by_rows.is
-    (search rules) c.requires
+    no_row_read mac_sec_rows c.args.found c.in-Typed-put_by_rows.field-0 c.in-Typed-put_by_rows.field-1
+    c.in-Typed-put_by_rows.is (search rules) c.requires
 
 pub unreachable-put_by_rows : goal.unreachable-put_by_rows
 unreachable-put_by_rows g c =
-    no_row_read mac_sec_rows c.args.found c.in-Typed-put_by_rows.field-0 c.in-Typed-put_by_rows.field-1 c.in-Typed-put_by_rows.is
-    (search rules) c.requires
+    no_row_read mac_sec_rows c.args.found c.in-Typed-put_by_rows.field-0 c.in-Typed-put_by_rows.field-1
+    c.in-Typed-put_by_rows.is (search rules) c.requires
 
-pub returns-in-1-clause-certain : goal.returns-in-1-clause-certain
-returns-in-1-clause-certain g c = λ certain _. c.put_by_rows-put-in-1.ensures.certain certain
+pub returns-in-1-clause-value : goal.returns-in-1-clause-value
+returns-in-1-clause-value g c =
+    puts_found (g.P.Place.with c.args.place.now) (λ d. Other d) _ _ (λ n. table_row mac_sec_rows n)
+    refl c.in-Typed-put_by_rows.is c.in-1.is c.requires c.put_by_rows-u64_or_zero.ensures.le64.0
+    c.put_by_rows-put-in-1.ensures.held
 
-pub returns-in-2-clause-certain : goal.returns-in-2-clause-certain
-returns-in-2-clause-certain g c = λ certain _. c.put_by_rows-put-in-2.ensures.certain certain
+pub returns-in-2-clause-value : goal.returns-in-2-clause-value
+returns-in-2-clause-value g c =
+    puts_found (g.P.Place.with c.args.place.now) (λ d. Other d) _ _ (λ n. table_row mac_sec_rows n)
+    refl c.in-Typed-put_by_rows.is c.in-2.is c.requires c.put_by_rows-u16_or_zero.ensures.be16.0
+    c.put_by_rows-put-in-2.ensures.held
 
-pub returns-in-3-clause-certain : goal.returns-in-3-clause-certain
-returns-in-3-clause-certain g c = λ certain _. c.put_by_rows-put-in-3.ensures.certain certain
+pub returns-in-3-clause-value : goal.returns-in-3-clause-value
+returns-in-3-clause-value g c =
+    puts_found (g.P.Place.with c.args.place.now) (λ d. Other d) _ _ (λ n. table_row mac_sec_rows n)
+    refl c.in-Typed-put_by_rows.is c.in-3.is c.requires c.put_by_rows-u8_or_zero.ensures.0
+    c.put_by_rows-put-in-3.ensures.held
 
-pub returns-in-4-clause-certain : goal.returns-in-4-clause-certain
-returns-in-4-clause-certain g c = λ certain _. c.put_by_rows-put-in-4.ensures.certain certain
+pub returns-in-5-clause-value : goal.returns-in-5-clause-value
+returns-in-5-clause-value g c =
+    puts_found (g.P.Place.with c.args.place.now) (λ d. Other d) _ _ (λ n. table_row mac_sec_rows n)
+    refl c.in-Typed-put_by_rows.is c.in-5.is c.requires c.put_by_rows-u32_or_zero.ensures.le32.0
+    c.put_by_rows-put-in-5.ensures.held
 
-pub returns-in-5-clause-certain : goal.returns-in-5-clause-certain
-returns-in-5-clause-certain g c = λ certain _. c.put_by_rows-put-in-5.ensures.certain certain
+pub returns-in-6-clause-value : goal.returns-in-6-clause-value
+returns-in-6-clause-value g c =
+    puts_found (g.P.Place.with c.args.place.now) (λ d. Other d) _ _ (λ n. table_row mac_sec_rows n)
+    refl c.in-Typed-put_by_rows.is c.in-6.is c.requires c.put_by_rows-u8_or_zero-in-6.ensures.0
+    c.put_by_rows-put-in-6.ensures.held
 
-pub returns-in-6-clause-certain : goal.returns-in-6-clause-certain
-returns-in-6-clause-certain g c = λ certain _. c.put_by_rows-put-in-6.ensures.certain certain
+pub returns-in-7-clause-value : goal.returns-in-7-clause-value
+returns-in-7-clause-value g c =
+    puts_found (g.P.Place.with c.args.place.now) (λ d. Other d) _ _ (λ n. table_row mac_sec_rows n)
+    refl c.in-Typed-put_by_rows.is c.in-7.is c.requires c.put_by_rows-u8_or_zero-in-7.ensures.0
+    c.put_by_rows-put-in-7.ensures.held
 
-pub returns-in-7-clause-certain : goal.returns-in-7-clause-certain
-returns-in-7-clause-certain g c = λ certain _. c.put_by_rows-put-in-7.ensures.certain certain
+pub returns-in-8-clause-value : goal.returns-in-8-clause-value
+returns-in-8-clause-value g c =
+    puts_found (g.P.Place.with c.args.place.now) (λ d. Other d) _ _ (λ n. table_row mac_sec_rows n)
+    refl c.in-Typed-put_by_rows.is c.in-8.is c.requires c.put_by_rows-u8_or_zero-in-8.ensures.0
+    c.put_by_rows-put-in-8.ensures.held
 
-pub returns-in-8-clause-certain : goal.returns-in-8-clause-certain
-returns-in-8-clause-certain g c = λ certain _. c.put_by_rows-put-in-8.ensures.certain certain
+pub returns-in-9-clause-value : goal.returns-in-9-clause-value
+returns-in-9-clause-value g c =
+    puts_found (g.P.Place.with c.args.place.now) (λ d. Other d) _ _ (λ n. table_row mac_sec_rows n)
+    refl c.in-Typed-put_by_rows.is c.in-9.is c.requires c.put_by_rows-u8_or_zero-in-9.ensures.0
+    c.put_by_rows-put-in-9.ensures.held
 
-pub returns-in-9-clause-certain : goal.returns-in-9-clause-certain
-returns-in-9-clause-certain g c = λ certain _. c.put_by_rows-put-in-9.ensures.certain certain
+pub returns-in-10-clause-value : goal.returns-in-10-clause-value
+returns-in-10-clause-value g c =
+    puts_found (g.P.Place.with c.args.place.now) (λ d. Other d) _ _ (λ n. table_row mac_sec_rows n)
+    refl c.in-Typed-put_by_rows.is c.in-10.is c.requires c.put_by_rows-u8_or_zero-in-10.ensures.0
+    c.put_by_rows-put-in-10.ensures.held
 
-pub returns-in-10-clause-certain : goal.returns-in-10-clause-certain
-returns-in-10-clause-certain g c = λ certain _. c.put_by_rows-put-in-10.ensures.certain certain
+pub returns-in-11-clause-value : goal.returns-in-11-clause-value
+returns-in-11-clause-value g c =
+    puts_found (g.P.Place.with c.args.place.now) (λ d. Other d) _ _ (λ n. table_row mac_sec_rows n)
+    refl c.in-Typed-put_by_rows.is c.in-11.is c.requires c.put_by_rows-u8_or_zero-in-11.ensures.0
+    c.put_by_rows-put-in-11.ensures.held
 
-pub returns-in-11-clause-certain : goal.returns-in-11-clause-certain
-returns-in-11-clause-certain g c = λ certain _. c.put_by_rows-put-in-11.ensures.certain certain
-
-pub returns-in-12-clause-certain : goal.returns-in-12-clause-certain
-returns-in-12-clause-certain g c = λ certain _. c.put_by_rows-put-in-12.ensures.certain certain
-
-pub returns-in-13-clause-certain : goal.returns-in-13-clause-certain
-returns-in-13-clause-certain g c = λ certain _. c.put_by_rows-put-in-13.ensures.certain certain
-
-pub returns-in-15-clause-certain : goal.returns-in-15-clause-certain
-returns-in-15-clause-certain g c = λ certain _. c.put_by_rows-put-in-15.ensures.certain certain
+pub returns-in-12-clause-value : goal.returns-in-12-clause-value
+returns-in-12-clause-value g c =
+    puts_found (g.P.Place.with c.args.place.now) (λ d. Other d) _ _ (λ n. table_row mac_sec_rows n)
+    refl c.in-Typed-put_by_rows.is c.in-12.is c.requires c.put_by_rows-u8_or_zero-in-12.ensures.0
+    c.put_by_rows-put-in-12.ensures.held

@@ -1,79 +1,108 @@
--- Each type without a row in the list is in no row of the table. Of a type with a row, the place alone says
--- whether putting its value is certain: a search would read the whole table once for each row.
-use Rattle.std.proofs.Common.{rules}
-use Rattle.linkinfo_table.specs.FamilyRowLaws.{no_row_read}
+-- Each type without a row in the list is in no row of the table; of the others the table says what is put. A
+-- search would read the whole table once for each row.
+use Rattle.std.proofs.Common.{rules, refl}
+use Rattle.linkinfo_table.specs.FamilyRowLaws.{no_row_read, puts_found}
+use Rattle.linkinfo_table.specs.FamilyRows.{table_row}
+use Rattle.linkinfo_tunnels.specs.declared.gre6.InfoGre6.TheVariants.{Other}
 use Rattle.linkinfo_tunnels.specs.Gre6.{gre6_rows}
 use Rattle.linkinfo_tunnels.proofs.gre6.InfoGre6TableFamily.put_found.Goals as goal
 
 pub put_by_rows-unreachable-requires : goal.put_by_rows-unreachable-requires
 put_by_rows-unreachable-requires g c =
-    no_row_read gre6_rows c.args.found c.in-Typed-put_by_rows.field-0 c.in-Typed-put_by_rows.field-1 c.in-Typed-put_by_rows.is
-    (search rules) c.requires
+    no_row_read gre6_rows c.args.found c.in-Typed-put_by_rows.field-0 c.in-Typed-put_by_rows.field-1
+    c.in-Typed-put_by_rows.is (search rules) c.requires
 
 pub unreachable-put_by_rows : goal.unreachable-put_by_rows
 unreachable-put_by_rows g c =
-    no_row_read gre6_rows c.args.found c.in-Typed-put_by_rows.field-0 c.in-Typed-put_by_rows.field-1 c.in-Typed-put_by_rows.is
-    (search rules) c.requires
+    no_row_read gre6_rows c.args.found c.in-Typed-put_by_rows.field-0 c.in-Typed-put_by_rows.field-1
+    c.in-Typed-put_by_rows.is (search rules) c.requires
 
-pub returns-in-1-clause-certain : goal.returns-in-1-clause-certain
-returns-in-1-clause-certain g c = λ certain _. c.put_by_rows-put-in-1.ensures.certain certain
+pub returns-in-1-clause-value : goal.returns-in-1-clause-value
+returns-in-1-clause-value g c =
+    puts_found (g.P.Place.with c.args.place.now) (λ d. Other d) _ _ (λ n. table_row gre6_rows n)
+    refl c.in-Typed-put_by_rows.is c.in-1.is c.requires c.put_by_rows-u32_or_zero.ensures.le32.0
+    c.put_by_rows-put-in-1.ensures.held
 
-pub returns-in-2-clause-certain : goal.returns-in-2-clause-certain
-returns-in-2-clause-certain g c = λ certain _. c.put_by_rows-put-in-2.ensures.certain certain
+pub returns-in-4-clause-value : goal.returns-in-4-clause-value
+returns-in-4-clause-value g c =
+    puts_found (g.P.Place.with c.args.place.now) (λ d. Other d) _ _ (λ n. table_row gre6_rows n)
+    refl c.in-Typed-put_by_rows.is c.in-4.is c.requires c.put_by_rows-u32_or_zero-in-4.ensures.be32.0
+    c.put_by_rows-put-in-4.ensures.held
 
-pub returns-in-3-clause-certain : goal.returns-in-3-clause-certain
-returns-in-3-clause-certain g c = λ certain _. c.put_by_rows-put-in-3.ensures.certain certain
+pub returns-in-5-clause-value : goal.returns-in-5-clause-value
+returns-in-5-clause-value g c =
+    puts_found (g.P.Place.with c.args.place.now) (λ d. Other d) _ _ (λ n. table_row gre6_rows n)
+    refl c.in-Typed-put_by_rows.is c.in-5.is c.requires c.put_by_rows-u32_or_zero-in-5.ensures.be32.0
+    c.put_by_rows-put-in-5.ensures.held
 
-pub returns-in-4-clause-certain : goal.returns-in-4-clause-certain
-returns-in-4-clause-certain g c = λ certain _. c.put_by_rows-put-in-4.ensures.certain certain
+pub returns-in-6-clause-value : goal.returns-in-6-clause-value
+returns-in-6-clause-value g c =
+    puts_found (g.P.Place.with c.args.place.now) (λ d. Other d) _ _ (λ n. table_row gre6_rows n)
+    refl c.in-Typed-put_by_rows.is c.in-6.is c.requires c.put_by_rows-ipv6_or_unspecified.ensures.v6.0
+    c.put_by_rows-put-in-6.ensures.held
 
-pub returns-in-5-clause-certain : goal.returns-in-5-clause-certain
-returns-in-5-clause-certain g c = λ certain _. c.put_by_rows-put-in-5.ensures.certain certain
+pub returns-in-7-clause-value : goal.returns-in-7-clause-value
+returns-in-7-clause-value g c =
+    puts_found (g.P.Place.with c.args.place.now) (λ d. Other d) _ _ (λ n. table_row gre6_rows n)
+    refl c.in-Typed-put_by_rows.is c.in-7.is c.requires c.put_by_rows-ipv6_or_unspecified-in-7.ensures.v6.0
+    c.put_by_rows-put-in-7.ensures.held
 
-pub returns-in-6-clause-certain : goal.returns-in-6-clause-certain
-returns-in-6-clause-certain g c = λ certain _. c.put_by_rows-put-in-6.ensures.certain certain
+pub returns-in-8-clause-value : goal.returns-in-8-clause-value
+returns-in-8-clause-value g c =
+    puts_found (g.P.Place.with c.args.place.now) (λ d. Other d) _ _ (λ n. table_row gre6_rows n)
+    refl c.in-Typed-put_by_rows.is c.in-8.is c.requires c.put_by_rows-u8_or_zero.ensures.0
+    c.put_by_rows-put-in-8.ensures.held
 
-pub returns-in-7-clause-certain : goal.returns-in-7-clause-certain
-returns-in-7-clause-certain g c = λ certain _. c.put_by_rows-put-in-7.ensures.certain certain
+pub returns-in-9-clause-value : goal.returns-in-9-clause-value
+returns-in-9-clause-value g c =
+    puts_found (g.P.Place.with c.args.place.now) (λ d. Other d) _ _ (λ n. table_row gre6_rows n)
+    refl c.in-Typed-put_by_rows.is c.in-9.is c.requires c.put_by_rows-u8_or_zero-in-9.ensures.0
+    c.put_by_rows-put-in-9.ensures.held
 
-pub returns-in-8-clause-certain : goal.returns-in-8-clause-certain
-returns-in-8-clause-certain g c = λ certain _. c.put_by_rows-put-in-8.ensures.certain certain
+pub returns-in-11-clause-value : goal.returns-in-11-clause-value
+returns-in-11-clause-value g c =
+    puts_found (g.P.Place.with c.args.place.now) (λ d. Other d) _ _ (λ n. table_row gre6_rows n)
+    refl c.in-Typed-put_by_rows.is c.in-11.is c.requires c.put_by_rows-u8_or_zero-in-11.ensures.0
+    c.put_by_rows-put-in-11.ensures.held
 
-pub returns-in-9-clause-certain : goal.returns-in-9-clause-certain
-returns-in-9-clause-certain g c = λ certain _. c.put_by_rows-put-in-9.ensures.certain certain
+pub returns-in-12-clause-value : goal.returns-in-12-clause-value
+returns-in-12-clause-value g c =
+    puts_found (g.P.Place.with c.args.place.now) (λ d. Other d) _ _ (λ n. table_row gre6_rows n)
+    refl c.in-Typed-put_by_rows.is c.in-12.is c.requires c.put_by_rows-u32_or_zero-in-12.ensures.be32.0
+    c.put_by_rows-put-in-12.ensures.held
 
-pub returns-in-11-clause-certain : goal.returns-in-11-clause-certain
-returns-in-11-clause-certain g c = λ certain _. c.put_by_rows-put-in-11.ensures.certain certain
+pub returns-in-16-clause-value : goal.returns-in-16-clause-value
+returns-in-16-clause-value g c =
+    puts_found (g.P.Place.with c.args.place.now) (λ d. Other d) _ _ (λ n. table_row gre6_rows n)
+    refl c.in-Typed-put_by_rows.is c.in-16.is c.requires c.put_by_rows-u16_or_zero-in-16.ensures.be16.0
+    c.put_by_rows-put-in-16.ensures.held
 
-pub returns-in-12-clause-certain : goal.returns-in-12-clause-certain
-returns-in-12-clause-certain g c = λ certain _. c.put_by_rows-put-in-12.ensures.certain certain
+pub returns-in-17-clause-value : goal.returns-in-17-clause-value
+returns-in-17-clause-value g c =
+    puts_found (g.P.Place.with c.args.place.now) (λ d. Other d) _ _ (λ n. table_row gre6_rows n)
+    refl c.in-Typed-put_by_rows.is c.in-17.is c.requires c.put_by_rows-u16_or_zero-in-17.ensures.be16.0
+    c.put_by_rows-put-in-17.ensures.held
 
-pub returns-in-14-clause-certain : goal.returns-in-14-clause-certain
-returns-in-14-clause-certain g c = λ certain _. c.put_by_rows-put-in-14.ensures.certain certain
+pub returns-in-20-clause-value : goal.returns-in-20-clause-value
+returns-in-20-clause-value g c =
+    puts_found (g.P.Place.with c.args.place.now) (λ d. Other d) _ _ (λ n. table_row gre6_rows n)
+    refl c.in-Typed-put_by_rows.is c.in-20.is c.requires c.put_by_rows-u32_or_zero-in-20.ensures.le32.0
+    c.put_by_rows-put-in-20.ensures.held
 
-pub returns-in-15-clause-certain : goal.returns-in-15-clause-certain
-returns-in-15-clause-certain g c = λ certain _. c.put_by_rows-put-in-15.ensures.certain certain
+pub returns-in-21-clause-value : goal.returns-in-21-clause-value
+returns-in-21-clause-value g c =
+    puts_found (g.P.Place.with c.args.place.now) (λ d. Other d) _ _ (λ n. table_row gre6_rows n)
+    refl c.in-Typed-put_by_rows.is c.in-21.is c.requires c.put_by_rows-u32_or_zero-in-21.ensures.le32.0
+    c.put_by_rows-put-in-21.ensures.held
 
-pub returns-in-16-clause-certain : goal.returns-in-16-clause-certain
-returns-in-16-clause-certain g c = λ certain _. c.put_by_rows-put-in-16.ensures.certain certain
+pub returns-in-22-clause-value : goal.returns-in-22-clause-value
+returns-in-22-clause-value g c =
+    puts_found (g.P.Place.with c.args.place.now) (λ d. Other d) _ _ (λ n. table_row gre6_rows n)
+    refl c.in-Typed-put_by_rows.is c.in-22.is c.requires c.put_by_rows-u8_or_zero-in-22.ensures.0
+    c.put_by_rows-put-in-22.ensures.held
 
-pub returns-in-17-clause-certain : goal.returns-in-17-clause-certain
-returns-in-17-clause-certain g c = λ certain _. c.put_by_rows-put-in-17.ensures.certain certain
-
-pub returns-in-18-clause-certain : goal.returns-in-18-clause-certain
-returns-in-18-clause-certain g c = λ certain _. c.put_by_rows-put-in-18.ensures.certain certain
-
-pub returns-in-20-clause-certain : goal.returns-in-20-clause-certain
-returns-in-20-clause-certain g c = λ certain _. c.put_by_rows-put-in-20.ensures.certain certain
-
-pub returns-in-21-clause-certain : goal.returns-in-21-clause-certain
-returns-in-21-clause-certain g c = λ certain _. c.put_by_rows-put-in-21.ensures.certain certain
-
-pub returns-in-22-clause-certain : goal.returns-in-22-clause-certain
-returns-in-22-clause-certain g c = λ certain _. c.put_by_rows-put-in-22.ensures.certain certain
-
-pub returns-in-23-clause-certain : goal.returns-in-23-clause-certain
-returns-in-23-clause-certain g c = λ certain _. c.put_by_rows-put-in-23.ensures.certain certain
-
-pub returns-in-24-clause-certain : goal.returns-in-24-clause-certain
-returns-in-24-clause-certain g c = λ certain _. c.put_by_rows-put-in-24.ensures.certain certain
+pub returns-in-24-clause-value : goal.returns-in-24-clause-value
+returns-in-24-clause-value g c =
+    puts_found (g.P.Place.with c.args.place.now) (λ d. Other d) _ _ (λ n. table_row gre6_rows n)
+    refl c.in-Typed-put_by_rows.is c.in-24.is c.requires c.put_by_rows-u16_or_zero-in-24.ensures.le16.0
+    c.put_by_rows-put-in-24.ensures.held
