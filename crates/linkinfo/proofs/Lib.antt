@@ -1,3 +1,4 @@
+pub mod Ending
 pub mod Items
 pub mod Naming
 pub mod Pairs

@@ -1,9 +1,11 @@
+-- What the walk has left, after each step and at its end.
 use Rattle.std.proofs.Common.{rules, arith, sym, ap, ◌∙◌}
 use Rattle.nla_frame.specs.Answers.{verdict}
 use Rattle.nla_frame.specs.Pieces.{pieces}
 use Rattle.linkinfo.specs.Strings.{headers_from}
-use Rattle.linkinfo.specs.Walks.{left}
+use Rattle.linkinfo.specs.Walks.{LinkWalk, left}
 use Rattle.linkinfo.proofs.Steps.{entered, stopped, checked_value, checked_fault, checked_on, checked_off}
+use Rattle.linkinfo.proofs.Ending.{headers_end}
 use Rattle.linkinfo.proofs.list.check_rest.Goals as goal
 use Rattle.linkinfo_data.specs.PeerFamilies.{families_of}
 
@@ -43,3 +45,22 @@ pub returns-in_err-check_item-clause-counted : goal.returns-in_err-check_item-cl
 returns-in_err-check_item-clause-counted g c =
     let step = entered (families_of g.row.P g.P.LinkPeer) _ _ _ _ (rw c.in_ok-nla.was at c.in-Some.ensures.step) in
     omega (arith, c.loop-next.invariant.counted, step.headers, step.examined, c.in_err-check_item.ensures.counted, checked_off _ _ (headers_from (families_of g.row.P g.P.LinkPeer) c.advance.new.self.force (pieces (left c.advance.new.self))) c.in_err-check_item.ensures.answer)
+
+pub loop-next-smaller : goal.loop-next-smaller
+loop-next-smaller g c =
+    let step = entered (families_of g.row.P g.P.LinkPeer) _ _ _ _ (rw c.in_ok-nla.was at c.in-Some.ensures.step) in
+    omega (arith, step.room)
+
+pub returns-in_err-check_item-clause-quarter : goal.returns-in_err-check_item-clause-quarter
+returns-in_err-check_item-clause-quarter g c =
+    let step = entered (families_of g.row.P g.P.LinkPeer) _ _ _ _ (rw c.in_ok-nla.was at c.in-Some.ensures.step) in
+    omega (arith, c.loop-next.invariant.room, step.room, step.examined, c.in_err-check_item.ensures.quarter)
+
+pub returns-clause-counted : goal.returns-clause-counted
+returns-clause-counted g c =
+    omega (arith, c.loop-next.invariant.counted, headers_end (families_of g.row.P g.P.LinkPeer) c.loop-next.walk.force _ c.in_default.ensures.step.1,
+        ap (λ (w : LinkWalk). w.attributes.examined) c.in_default.ensures.step.0)
+
+pub returns-clause-quarter : goal.returns-clause-quarter
+returns-clause-quarter g c =
+    omega (arith, c.loop-next.invariant.room, ap (λ (w : LinkWalk). w.attributes.examined) c.in_default.ensures.step.0)

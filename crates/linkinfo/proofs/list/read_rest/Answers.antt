@@ -1,10 +1,12 @@
+-- The attributes read so far, in front of those that the walk has left.
 use Rattle.std.proofs.Common.{◌∙◌, rules, arith, sym, ap, Result, Ok}
 use Rattle.nla_frame.specs.declared.error.DecodeError.{DecodeError}
 use Rattle.linkinfo.specs.declared.role.InForce.{InForce}
 use Rattle.nla_frame.specs.Pieces.{pieces}
 use Rattle.linkinfo.specs.Strings.{headers_from}
-use Rattle.linkinfo.specs.Walks.{left}
+use Rattle.linkinfo.specs.Walks.{LinkWalk, left}
 use Rattle.linkinfo.proofs.Steps.{entered, stopped, on_value, on_fault, on_fault_unless, counted_fault, headers_on, needs_off, value_needs}
+use Rattle.linkinfo.proofs.Ending.{headers_end, read_end}
 use Rattle.linkinfo.proofs.list.read_rest.Goals as goal
 use Rattle.linkinfo_data.specs.PeerFamilies.{families_of}
 
@@ -64,3 +66,58 @@ pub returns-in_err-push-in-Ok-clause-certain : goal.returns-in_err-push-in-Ok-cl
 returns-in_err-push-in-Ok-clause-certain g c = λ none.
     let step = entered (families_of g.row.P g.P.LinkPeer) _ _ _ _ (rw c.in_ok-nla.was at c.in-Some.ensures.step) in
     absurd (value_needs _ _ _ _ step.memory c.in-Ok.ensures.answer (c.loop-next.invariant.certain none))
+
+pub read_item-requires-clause-room : goal.read_item-requires-clause-room
+read_item-requires-clause-room g c =
+    let step = entered (families_of g.row.P g.P.LinkPeer) _ _ _ _ (rw c.in_ok-nla.was at c.in-Some.ensures.step) in
+    omega (arith, c.requires, c.loop-next.invariant.room, step.room)
+
+pub loop-next-smaller : goal.loop-next-smaller
+loop-next-smaller g c =
+    let step = entered (families_of g.row.P g.P.LinkPeer) _ _ _ _ (rw c.in_ok-nla.was at c.in-Some.ensures.step) in
+    omega (arith, step.room)
+
+pub returns-in_err-nla-clause-rises : goal.returns-in_err-nla-clause-rises
+returns-in_err-nla-clause-rises g c =
+    let stop = stopped (families_of g.row.P g.P.LinkPeer) _ _ _ (rw c.in_err-nla.was at c.in-Some.ensures.step) in
+    omega (arith, stop.headers, c.loop-next.invariant.rises)
+
+pub returns-in-Err-clause-rises : goal.returns-in-Err-clause-rises
+returns-in-Err-clause-rises g c =
+    let step = entered (families_of g.row.P g.P.LinkPeer) _ _ _ _ (rw c.in_ok-nla.was at c.in-Some.ensures.step) in
+    omega (arith, c.loop-next.invariant.rises, step.examined, c.read_item.ensures.rises)
+
+pub returns-in-Err-clause-quarter : goal.returns-in-Err-clause-quarter
+returns-in-Err-clause-quarter g c =
+    let step = entered (families_of g.row.P g.P.LinkPeer) _ _ _ _ (rw c.in_ok-nla.was at c.in-Some.ensures.step) in
+    omega (arith, c.loop-next.invariant.room, step.room, step.examined, c.read_item.ensures.quarter)
+
+pub returns-in_err-push-in-Ok-clause-rises : goal.returns-in_err-push-in-Ok-clause-rises
+returns-in_err-push-in-Ok-clause-rises g c =
+    let step = entered (families_of g.row.P g.P.LinkPeer) _ _ _ _ (rw c.in_ok-nla.was at c.in-Some.ensures.step) in
+    omega (arith, c.loop-next.invariant.rises, step.examined, c.read_item.ensures.rises)
+
+pub returns-in_err-push-in-Ok-clause-quarter : goal.returns-in_err-push-in-Ok-clause-quarter
+returns-in_err-push-in-Ok-clause-quarter g c =
+    let step = entered (families_of g.row.P g.P.LinkPeer) _ _ _ _ (rw c.in_ok-nla.was at c.in-Some.ensures.step) in
+    omega (arith, c.loop-next.invariant.room, step.room, step.examined, c.read_item.ensures.quarter)
+
+pub returns-clause-answer : goal.returns-clause-answer
+returns-clause-answer g c =
+    read_end (families_of g.row.P g.P.LinkPeer) _ _ c.in_default.ensures.step.1 _ _ c.loop-next.invariant.answer
+
+pub returns-clause-certain : goal.returns-clause-certain
+returns-clause-certain g c = λ _. returns-clause-answer g c
+
+pub returns-clause-counted : goal.returns-clause-counted
+returns-clause-counted g c =
+    omega (arith, c.loop-next.invariant.counted, headers_end (families_of g.row.P g.P.LinkPeer) c.loop-next.walk.force _ c.in_default.ensures.step.1,
+        ap (λ (w : LinkWalk). w.attributes.examined) c.in_default.ensures.step.0)
+
+pub returns-clause-rises : goal.returns-clause-rises
+returns-clause-rises g c =
+    omega (arith, c.loop-next.invariant.rises, ap (λ (w : LinkWalk). w.attributes.examined) c.in_default.ensures.step.0)
+
+pub returns-clause-quarter : goal.returns-clause-quarter
+returns-clause-quarter g c =
+    omega (arith, c.loop-next.invariant.room, ap (λ (w : LinkWalk). w.attributes.examined) c.in_default.ensures.step.0)

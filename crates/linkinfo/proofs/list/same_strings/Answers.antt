@@ -1,3 +1,4 @@
+-- Each step pairs the attributes in front; the counts are sums over both strings.
 use Rattle.std.proofs.Common.{arith, ◌∙◌, sym, ap, subst, Result}
 use Rattle.std.specs.Prelude.{IsOk}
 use Rattle.nla_frame.specs.Pieces.{pieces}
@@ -70,3 +71,33 @@ loop-next-preserved g c =
       rises = omega (arith, inv.rises, on_x.counted, on_y.counted, c.same_item.ensures.rises);
       room = omega (arith, inv.room, on_x.counted, on_y.counted, on_x.room, on_y.room, c.same_item.ensures.quarter);
     }
+
+pub same_item-requires-clause-room : goal.same_item-requires-clause-room
+same_item-requires-clause-room g c =
+    let on_x = rw c.unwrap-p.ensures at c.in-Some.ensures in
+    let on_y = rw c.unwrap-q.ensures at c.in-Some-next_piece.ensures in
+    let inv = c.loop-next.invariant in
+    omega (arith, c.requires.room, inv.room, on_x.counted, on_y.counted, on_x.room, on_y.room)
+
+pub loop-next-smaller : goal.loop-next-smaller
+loop-next-smaller g c =
+    let on_x = rw c.unwrap-p.ensures at c.in-Some.ensures in
+    omega (arith, on_x.room)
+
+pub returns-then-not-same_item-clause-counted : goal.returns-then-not-same_item-clause-counted
+returns-then-not-same_item-clause-counted g c =
+    tt
+
+pub returns-then-not-same_item-clause-rises : goal.returns-then-not-same_item-clause-rises
+returns-then-not-same_item-clause-rises g c =
+    let on_x = rw c.unwrap-p.ensures at c.in-Some.ensures in
+    let on_y = rw c.unwrap-q.ensures at c.in-Some-next_piece.ensures in
+    let inv = c.loop-next.invariant in
+    omega (arith, inv.rises, on_x.counted, on_y.counted, c.same_item.ensures.rises)
+
+pub returns-then-not-same_item-clause-quarter : goal.returns-then-not-same_item-clause-quarter
+returns-then-not-same_item-clause-quarter g c =
+    let on_x = rw c.unwrap-p.ensures at c.in-Some.ensures in
+    let on_y = rw c.unwrap-q.ensures at c.in-Some-next_piece.ensures in
+    let inv = c.loop-next.invariant in
+    omega (arith, inv.room, on_x.counted, on_y.counted, on_x.room, on_y.room, c.same_item.ensures.quarter)

@@ -1,5 +1,5 @@
--- Each type without a row in the list is in no row of the table; of the others the table says what is put. A
--- search would read the whole table once for each row.
+-- Each type without a row in the list is in no row of the table; of the others the table says what
+-- is put. A search would read the whole table once for each row.
 use Rattle.std.proofs.Common.{rules, refl}
 use Rattle.linkinfo_table.specs.FamilyRowLaws.{no_row_read, puts_found}
 use Rattle.linkinfo_table.specs.FamilyRows.{table_row}
@@ -9,13 +9,13 @@ use Rattle.linkinfo_devices.proofs.macsec.InfoMacSecTableFamily.put_found.Goals 
 
 pub put_by_rows-unreachable-requires : goal.put_by_rows-unreachable-requires
 put_by_rows-unreachable-requires g c =
-    no_row_read mac_sec_rows c.args.found c.in-Typed-put_by_rows.field-0 c.in-Typed-put_by_rows.field-1
-    c.in-Typed-put_by_rows.is (search rules) c.requires
+    no_row_read mac_sec_rows c.args.found c.in-Typed-put_by_rows.field-0
+    c.in-Typed-put_by_rows.field-1 c.in-Typed-put_by_rows.is (search rules) c.requires
 
 pub unreachable-put_by_rows : goal.unreachable-put_by_rows
 unreachable-put_by_rows g c =
-    no_row_read mac_sec_rows c.args.found c.in-Typed-put_by_rows.field-0 c.in-Typed-put_by_rows.field-1
-    c.in-Typed-put_by_rows.is (search rules) c.requires
+    no_row_read mac_sec_rows c.args.found c.in-Typed-put_by_rows.field-0
+    c.in-Typed-put_by_rows.field-1 c.in-Typed-put_by_rows.is (search rules) c.requires
 
 pub returns-in-1-clause-value : goal.returns-in-1-clause-value
 returns-in-1-clause-value g c =
@@ -81,4 +81,4 @@ pub returns-in-12-clause-value : goal.returns-in-12-clause-value
 returns-in-12-clause-value g c =
     puts_found (g.P.Place.with c.args.place.now) (λ d. Other d) _ _ (λ n. table_row mac_sec_rows n)
     refl c.in-Typed-put_by_rows.is c.in-12.is c.requires c.put_by_rows-u8_or_zero-in-12.ensures.0
-    c.put_by_rows-put-in-12.ensures.held
+    c.put_by_rows-put-in-12.ensures.held 

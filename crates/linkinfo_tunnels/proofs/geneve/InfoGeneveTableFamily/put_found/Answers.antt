@@ -1,5 +1,5 @@
--- Each type without a row in the list is in no row of the table; of the others the table says what is put. A
--- search would read the whole table once for each row.
+-- Each type without a row in the list is in no row of the table; of the others the table says what
+-- is put. A search would read the whole table once for each row.
 use Rattle.std.proofs.Common.{rules, refl}
 use Rattle.linkinfo_table.specs.FamilyRowLaws.{no_row_read, puts_found}
 use Rattle.linkinfo_table.specs.FamilyRows.{table_row}
@@ -9,13 +9,13 @@ use Rattle.linkinfo_tunnels.proofs.geneve.InfoGeneveTableFamily.put_found.Goals 
 
 pub put_by_rows-unreachable-requires : goal.put_by_rows-unreachable-requires
 put_by_rows-unreachable-requires g c =
-    no_row_read geneve_rows c.args.found c.in-Typed-put_by_rows.field-0 c.in-Typed-put_by_rows.field-1
-    c.in-Typed-put_by_rows.is (search rules) c.requires
+    no_row_read geneve_rows c.args.found c.in-Typed-put_by_rows.field-0
+    c.in-Typed-put_by_rows.field-1 c.in-Typed-put_by_rows.is (search rules) c.requires
 
 pub unreachable-put_by_rows : goal.unreachable-put_by_rows
 unreachable-put_by_rows g c =
-    no_row_read geneve_rows c.args.found c.in-Typed-put_by_rows.field-0 c.in-Typed-put_by_rows.field-1
-    c.in-Typed-put_by_rows.is (search rules) c.requires
+    no_row_read geneve_rows c.args.found c.in-Typed-put_by_rows.field-0
+    c.in-Typed-put_by_rows.field-1 c.in-Typed-put_by_rows.is (search rules) c.requires
 
 pub returns-in-1-clause-value : goal.returns-in-1-clause-value
 returns-in-1-clause-value g c =
@@ -26,8 +26,8 @@ returns-in-1-clause-value g c =
 pub returns-in-2-clause-value : goal.returns-in-2-clause-value
 returns-in-2-clause-value g c =
     puts_found (g.P.Place.with c.args.place.now) (λ d. Other d) _ _ (λ n. table_row geneve_rows n)
-    refl c.in-Typed-put_by_rows.is c.in-2.is c.requires c.put_by_rows-ipv4_or_unspecified.ensures.geneve_v4.0
-    c.put_by_rows-put-in-2.ensures.held
+    refl c.in-Typed-put_by_rows.is c.in-2.is c.requires
+    c.put_by_rows-ipv4_or_unspecified.ensures.geneve_v4.0 c.put_by_rows-put-in-2.ensures.held
 
 pub returns-in-3-clause-value : goal.returns-in-3-clause-value
 returns-in-3-clause-value g c =
@@ -50,8 +50,8 @@ returns-in-5-clause-value g c =
 pub returns-in-7-clause-value : goal.returns-in-7-clause-value
 returns-in-7-clause-value g c =
     puts_found (g.P.Place.with c.args.place.now) (λ d. Other d) _ _ (λ n. table_row geneve_rows n)
-    refl c.in-Typed-put_by_rows.is c.in-7.is c.requires c.put_by_rows-ipv6_or_unspecified.ensures.geneve_v6.0
-    c.put_by_rows-put-in-7.ensures.held
+    refl c.in-Typed-put_by_rows.is c.in-7.is c.requires
+    c.put_by_rows-ipv6_or_unspecified.ensures.geneve_v6.0 c.put_by_rows-put-in-7.ensures.held
 
 pub returns-in-8-clause-value : goal.returns-in-8-clause-value
 returns-in-8-clause-value g c =
@@ -62,35 +62,36 @@ returns-in-8-clause-value g c =
 pub returns-in-9-clause-value : goal.returns-in-9-clause-value
 returns-in-9-clause-value g c =
     puts_found (g.P.Place.with c.args.place.now) (λ d. Other d) _ _ (λ n. table_row geneve_rows n)
-    refl c.in-Typed-put_by_rows.is c.in-9.is c.requires c.put_by_rows-bool_or_false-in-9.ensures.truth.0
-    c.put_by_rows-put-in-9.ensures.held
+    refl c.in-Typed-put_by_rows.is c.in-9.is c.requires
+    c.put_by_rows-bool_or_false-in-9.ensures.truth.0 c.put_by_rows-put-in-9.ensures.held
 
 pub returns-in-10-clause-value : goal.returns-in-10-clause-value
 returns-in-10-clause-value g c =
     puts_found (g.P.Place.with c.args.place.now) (λ d. Other d) _ _ (λ n. table_row geneve_rows n)
-    refl c.in-Typed-put_by_rows.is c.in-10.is c.requires c.put_by_rows-bool_or_false-in-10.ensures.truth.0
-    c.put_by_rows-put-in-10.ensures.held
+    refl c.in-Typed-put_by_rows.is c.in-10.is c.requires
+    c.put_by_rows-bool_or_false-in-10.ensures.truth.0 c.put_by_rows-put-in-10.ensures.held
 
 pub returns-in-11-clause-value : goal.returns-in-11-clause-value
 returns-in-11-clause-value g c =
     puts_found (g.P.Place.with c.args.place.now) (λ d. Other d) _ _ (λ n. table_row geneve_rows n)
-    refl c.in-Typed-put_by_rows.is c.in-11.is c.requires c.put_by_rows-u32_or_zero-in-11.ensures.be32.0
-    c.put_by_rows-put-in-11.ensures.held
+    refl c.in-Typed-put_by_rows.is c.in-11.is c.requires
+    c.put_by_rows-u32_or_zero-in-11.ensures.be32.0 c.put_by_rows-put-in-11.ensures.held
 
 pub returns-in-12-clause-value : goal.returns-in-12-clause-value
 returns-in-12-clause-value g c =
     puts_found (g.P.Place.with c.args.place.now) (λ d. Other d) _ _ (λ n. table_row geneve_rows n)
-    refl c.in-Typed-put_by_rows.is c.in-12.is c.requires c.put_by_rows-bool_or_false-in-12.ensures.truth.0
-    c.put_by_rows-put-in-12.ensures.held
+    refl c.in-Typed-put_by_rows.is c.in-12.is c.requires
+    c.put_by_rows-bool_or_false-in-12.ensures.truth.0 c.put_by_rows-put-in-12.ensures.held
 
 pub returns-in-17-clause-value : goal.returns-in-17-clause-value
 returns-in-17-clause-value g c =
     puts_found (g.P.Place.with c.args.place.now) (λ d. Other d) _ _ (λ n. table_row geneve_rows n)
-    refl c.in-Typed-put_by_rows.is c.in-17.is c.requires c.put_by_rows-ipv4_or_unspecified-in-17.ensures.geneve_v4.0
-    c.put_by_rows-put-in-17.ensures.held
+    refl c.in-Typed-put_by_rows.is c.in-17.is c.requires
+    c.put_by_rows-ipv4_or_unspecified-in-17.ensures.geneve_v4.0 c.put_by_rows-put-in-17.ensures.held
 
 pub returns-in-18-clause-value : goal.returns-in-18-clause-value
 returns-in-18-clause-value g c =
     puts_found (g.P.Place.with c.args.place.now) (λ d. Other d) _ _ (λ n. table_row geneve_rows n)
-    refl c.in-Typed-put_by_rows.is c.in-18.is c.requires c.put_by_rows-ipv6_or_unspecified-in-18.ensures.geneve_v6.0
-    c.put_by_rows-put-in-18.ensures.held
+    refl c.in-Typed-put_by_rows.is c.in-18.is c.requires
+    c.put_by_rows-ipv6_or_unspecified-in-18.ensures.geneve_v6.0 c.put_by_rows-put-in-18.ensures.held
+    

@@ -1,5 +1,5 @@
--- Each type without a row in the list is in no row of the table; of the others the table says what is put. A
--- search would read the whole table once for each row.
+-- Each type without a row in the list is in no row of the table; of the others the table says what
+-- is put. A search would read the whole table once for each row.
 use Rattle.std.proofs.Common.{rules, refl}
 use Rattle.linkinfo_table.specs.FamilyRowLaws.{no_row_read, puts_found}
 use Rattle.linkinfo_table.specs.FamilyRows.{table_row}
@@ -19,84 +19,84 @@ unreachable-put_by_rows g c =
 
 pub returns-in-1-clause-value : goal.returns-in-1-clause-value
 returns-in-1-clause-value g c =
-    puts_found (g.P.Place.with c.args.place.now) (λ d. Other d) _ _ (λ n. table_row gre_rows n)
-    refl c.in-Typed-put_by_rows.is c.in-1.is c.requires c.put_by_rows-u32_or_zero.ensures.le32.0
+    puts_found (g.P.Place.with c.args.place.now) (λ d. Other d) _ _ (λ n. table_row gre_rows n) refl
+    c.in-Typed-put_by_rows.is c.in-1.is c.requires c.put_by_rows-u32_or_zero.ensures.le32.0
     c.put_by_rows-put-in-1.ensures.held
 
 pub returns-in-4-clause-value : goal.returns-in-4-clause-value
 returns-in-4-clause-value g c =
-    puts_found (g.P.Place.with c.args.place.now) (λ d. Other d) _ _ (λ n. table_row gre_rows n)
-    refl c.in-Typed-put_by_rows.is c.in-4.is c.requires c.put_by_rows-u32_or_zero-in-4.ensures.be32.0
+    puts_found (g.P.Place.with c.args.place.now) (λ d. Other d) _ _ (λ n. table_row gre_rows n) refl
+    c.in-Typed-put_by_rows.is c.in-4.is c.requires c.put_by_rows-u32_or_zero-in-4.ensures.be32.0
     c.put_by_rows-put-in-4.ensures.held
 
 pub returns-in-5-clause-value : goal.returns-in-5-clause-value
 returns-in-5-clause-value g c =
-    puts_found (g.P.Place.with c.args.place.now) (λ d. Other d) _ _ (λ n. table_row gre_rows n)
-    refl c.in-Typed-put_by_rows.is c.in-5.is c.requires c.put_by_rows-u32_or_zero-in-5.ensures.be32.0
+    puts_found (g.P.Place.with c.args.place.now) (λ d. Other d) _ _ (λ n. table_row gre_rows n) refl
+    c.in-Typed-put_by_rows.is c.in-5.is c.requires c.put_by_rows-u32_or_zero-in-5.ensures.be32.0
     c.put_by_rows-put-in-5.ensures.held
 
 pub returns-in-6-clause-value : goal.returns-in-6-clause-value
 returns-in-6-clause-value g c =
-    puts_found (g.P.Place.with c.args.place.now) (λ d. Other d) _ _ (λ n. table_row gre_rows n)
-    refl c.in-Typed-put_by_rows.is c.in-6.is c.requires c.put_by_rows-ipv4_or_unspecified.ensures.v4.0
+    puts_found (g.P.Place.with c.args.place.now) (λ d. Other d) _ _ (λ n. table_row gre_rows n) refl
+    c.in-Typed-put_by_rows.is c.in-6.is c.requires c.put_by_rows-ipv4_or_unspecified.ensures.v4.0
     c.put_by_rows-put-in-6.ensures.held
 
 pub returns-in-7-clause-value : goal.returns-in-7-clause-value
 returns-in-7-clause-value g c =
-    puts_found (g.P.Place.with c.args.place.now) (λ d. Other d) _ _ (λ n. table_row gre_rows n)
-    refl c.in-Typed-put_by_rows.is c.in-7.is c.requires c.put_by_rows-ipv4_or_unspecified-in-7.ensures.v4.0
-    c.put_by_rows-put-in-7.ensures.held
+    puts_found (g.P.Place.with c.args.place.now) (λ d. Other d) _ _ (λ n. table_row gre_rows n) refl
+    c.in-Typed-put_by_rows.is c.in-7.is c.requires
+    c.put_by_rows-ipv4_or_unspecified-in-7.ensures.v4.0 c.put_by_rows-put-in-7.ensures.held
 
 pub returns-in-8-clause-value : goal.returns-in-8-clause-value
 returns-in-8-clause-value g c =
-    puts_found (g.P.Place.with c.args.place.now) (λ d. Other d) _ _ (λ n. table_row gre_rows n)
-    refl c.in-Typed-put_by_rows.is c.in-8.is c.requires c.put_by_rows-u8_or_zero.ensures.0
+    puts_found (g.P.Place.with c.args.place.now) (λ d. Other d) _ _ (λ n. table_row gre_rows n) refl
+    c.in-Typed-put_by_rows.is c.in-8.is c.requires c.put_by_rows-u8_or_zero.ensures.0
     c.put_by_rows-put-in-8.ensures.held
 
 pub returns-in-9-clause-value : goal.returns-in-9-clause-value
 returns-in-9-clause-value g c =
-    puts_found (g.P.Place.with c.args.place.now) (λ d. Other d) _ _ (λ n. table_row gre_rows n)
-    refl c.in-Typed-put_by_rows.is c.in-9.is c.requires c.put_by_rows-u8_or_zero-in-9.ensures.0
+    puts_found (g.P.Place.with c.args.place.now) (λ d. Other d) _ _ (λ n. table_row gre_rows n) refl
+    c.in-Typed-put_by_rows.is c.in-9.is c.requires c.put_by_rows-u8_or_zero-in-9.ensures.0
     c.put_by_rows-put-in-9.ensures.held
 
 pub returns-in-10-clause-value : goal.returns-in-10-clause-value
 returns-in-10-clause-value g c =
-    puts_found (g.P.Place.with c.args.place.now) (λ d. Other d) _ _ (λ n. table_row gre_rows n)
-    refl c.in-Typed-put_by_rows.is c.in-10.is c.requires c.put_by_rows-bool_or_false.ensures.truth_one.0
+    puts_found (g.P.Place.with c.args.place.now) (λ d. Other d) _ _ (λ n. table_row gre_rows n) refl
+    c.in-Typed-put_by_rows.is c.in-10.is c.requires c.put_by_rows-bool_or_false.ensures.truth_one.0
     c.put_by_rows-put-in-10.ensures.held
 
 pub returns-in-16-clause-value : goal.returns-in-16-clause-value
 returns-in-16-clause-value g c =
-    puts_found (g.P.Place.with c.args.place.now) (λ d. Other d) _ _ (λ n. table_row gre_rows n)
-    refl c.in-Typed-put_by_rows.is c.in-16.is c.requires c.put_by_rows-u16_or_zero-in-16.ensures.be16.0
+    puts_found (g.P.Place.with c.args.place.now) (λ d. Other d) _ _ (λ n. table_row gre_rows n) refl
+    c.in-Typed-put_by_rows.is c.in-16.is c.requires c.put_by_rows-u16_or_zero-in-16.ensures.be16.0
     c.put_by_rows-put-in-16.ensures.held
 
 pub returns-in-17-clause-value : goal.returns-in-17-clause-value
 returns-in-17-clause-value g c =
-    puts_found (g.P.Place.with c.args.place.now) (λ d. Other d) _ _ (λ n. table_row gre_rows n)
-    refl c.in-Typed-put_by_rows.is c.in-17.is c.requires c.put_by_rows-u16_or_zero-in-17.ensures.be16.0
+    puts_found (g.P.Place.with c.args.place.now) (λ d. Other d) _ _ (λ n. table_row gre_rows n) refl
+    c.in-Typed-put_by_rows.is c.in-17.is c.requires c.put_by_rows-u16_or_zero-in-17.ensures.be16.0
     c.put_by_rows-put-in-17.ensures.held
 
 pub returns-in-20-clause-value : goal.returns-in-20-clause-value
 returns-in-20-clause-value g c =
-    puts_found (g.P.Place.with c.args.place.now) (λ d. Other d) _ _ (λ n. table_row gre_rows n)
-    refl c.in-Typed-put_by_rows.is c.in-20.is c.requires c.put_by_rows-u32_or_zero-in-20.ensures.le32.0
+    puts_found (g.P.Place.with c.args.place.now) (λ d. Other d) _ _ (λ n. table_row gre_rows n) refl
+    c.in-Typed-put_by_rows.is c.in-20.is c.requires c.put_by_rows-u32_or_zero-in-20.ensures.le32.0
     c.put_by_rows-put-in-20.ensures.held
 
 pub returns-in-21-clause-value : goal.returns-in-21-clause-value
 returns-in-21-clause-value g c =
-    puts_found (g.P.Place.with c.args.place.now) (λ d. Other d) _ _ (λ n. table_row gre_rows n)
-    refl c.in-Typed-put_by_rows.is c.in-21.is c.requires c.put_by_rows-u32_or_zero-in-21.ensures.le32.0
+    puts_found (g.P.Place.with c.args.place.now) (λ d. Other d) _ _ (λ n. table_row gre_rows n) refl
+    c.in-Typed-put_by_rows.is c.in-21.is c.requires c.put_by_rows-u32_or_zero-in-21.ensures.le32.0
     c.put_by_rows-put-in-21.ensures.held
 
 pub returns-in-22-clause-value : goal.returns-in-22-clause-value
 returns-in-22-clause-value g c =
-    puts_found (g.P.Place.with c.args.place.now) (λ d. Other d) _ _ (λ n. table_row gre_rows n)
-    refl c.in-Typed-put_by_rows.is c.in-22.is c.requires c.put_by_rows-u8_or_zero-in-22.ensures.0
+    puts_found (g.P.Place.with c.args.place.now) (λ d. Other d) _ _ (λ n. table_row gre_rows n) refl
+    c.in-Typed-put_by_rows.is c.in-22.is c.requires c.put_by_rows-u8_or_zero-in-22.ensures.0
     c.put_by_rows-put-in-22.ensures.held
 
 pub returns-in-24-clause-value : goal.returns-in-24-clause-value
 returns-in-24-clause-value g c =
-    puts_found (g.P.Place.with c.args.place.now) (λ d. Other d) _ _ (λ n. table_row gre_rows n)
-    refl c.in-Typed-put_by_rows.is c.in-24.is c.requires c.put_by_rows-u16_or_zero-in-24.ensures.le16.0
-    c.put_by_rows-put-in-24.ensures.held
+    puts_found (g.P.Place.with c.args.place.now) (λ d. Other d) _ _ (λ n. table_row gre_rows n) refl
+    c.in-Typed-put_by_rows.is c.in-24.is c.requires c.put_by_rows-u16_or_zero-in-24.ensures.le16.0
+    c.put_by_rows-put-in-24.ensures.held 

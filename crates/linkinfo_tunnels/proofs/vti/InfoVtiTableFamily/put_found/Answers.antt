@@ -1,5 +1,5 @@
--- Each type without a row in the list is in no row of the table; of the others the table says what is put. A
--- search would read the whole table once for each row.
+-- Each type without a row in the list is in no row of the table; of the others the table says what
+-- is put. A search would read the whole table once for each row.
 use Rattle.std.proofs.Common.{rules, refl}
 use Rattle.linkinfo_table.specs.FamilyRowLaws.{no_row_read, puts_found}
 use Rattle.linkinfo_table.specs.FamilyRows.{table_row}
@@ -19,36 +19,36 @@ unreachable-put_by_rows g c =
 
 pub returns-in-1-clause-value : goal.returns-in-1-clause-value
 returns-in-1-clause-value g c =
-    puts_found (g.P.Place.with c.args.place.now) (λ d. Other d) _ _ (λ n. table_row vti_rows n)
-    refl c.in-Typed-put_by_rows.is c.in-1.is c.requires c.put_by_rows-u32_or_zero.ensures.le32.0
+    puts_found (g.P.Place.with c.args.place.now) (λ d. Other d) _ _ (λ n. table_row vti_rows n) refl
+    c.in-Typed-put_by_rows.is c.in-1.is c.requires c.put_by_rows-u32_or_zero.ensures.le32.0
     c.put_by_rows-put-in-1.ensures.held
 
 pub returns-in-2-clause-value : goal.returns-in-2-clause-value
 returns-in-2-clause-value g c =
-    puts_found (g.P.Place.with c.args.place.now) (λ d. Other d) _ _ (λ n. table_row vti_rows n)
-    refl c.in-Typed-put_by_rows.is c.in-2.is c.requires c.put_by_rows-u32_or_zero-in-2.ensures.be32.0
+    puts_found (g.P.Place.with c.args.place.now) (λ d. Other d) _ _ (λ n. table_row vti_rows n) refl
+    c.in-Typed-put_by_rows.is c.in-2.is c.requires c.put_by_rows-u32_or_zero-in-2.ensures.be32.0
     c.put_by_rows-put-in-2.ensures.held
 
 pub returns-in-3-clause-value : goal.returns-in-3-clause-value
 returns-in-3-clause-value g c =
-    puts_found (g.P.Place.with c.args.place.now) (λ d. Other d) _ _ (λ n. table_row vti_rows n)
-    refl c.in-Typed-put_by_rows.is c.in-3.is c.requires c.put_by_rows-u32_or_zero-in-3.ensures.be32.0
+    puts_found (g.P.Place.with c.args.place.now) (λ d. Other d) _ _ (λ n. table_row vti_rows n) refl
+    c.in-Typed-put_by_rows.is c.in-3.is c.requires c.put_by_rows-u32_or_zero-in-3.ensures.be32.0
     c.put_by_rows-put-in-3.ensures.held
 
 pub returns-in-4-clause-value : goal.returns-in-4-clause-value
 returns-in-4-clause-value g c =
-    puts_found (g.P.Place.with c.args.place.now) (λ d. Other d) _ _ (λ n. table_row vti_rows n)
-    refl c.in-Typed-put_by_rows.is c.in-4.is c.requires c.put_by_rows-ip_or_unspecified.ensures.0
+    puts_found (g.P.Place.with c.args.place.now) (λ d. Other d) _ _ (λ n. table_row vti_rows n) refl
+    c.in-Typed-put_by_rows.is c.in-4.is c.requires c.put_by_rows-ip_or_unspecified.ensures.0
     c.put_by_rows-put-in-4.ensures.held
 
 pub returns-in-5-clause-value : goal.returns-in-5-clause-value
 returns-in-5-clause-value g c =
-    puts_found (g.P.Place.with c.args.place.now) (λ d. Other d) _ _ (λ n. table_row vti_rows n)
-    refl c.in-Typed-put_by_rows.is c.in-5.is c.requires c.put_by_rows-ip_or_unspecified-in-5.ensures.0
+    puts_found (g.P.Place.with c.args.place.now) (λ d. Other d) _ _ (λ n. table_row vti_rows n) refl
+    c.in-Typed-put_by_rows.is c.in-5.is c.requires c.put_by_rows-ip_or_unspecified-in-5.ensures.0
     c.put_by_rows-put-in-5.ensures.held
 
 pub returns-in-6-clause-value : goal.returns-in-6-clause-value
 returns-in-6-clause-value g c =
-    puts_found (g.P.Place.with c.args.place.now) (λ d. Other d) _ _ (λ n. table_row vti_rows n)
-    refl c.in-Typed-put_by_rows.is c.in-6.is c.requires c.put_by_rows-u32_or_zero-in-6.ensures.le32.0
-    c.put_by_rows-put-in-6.ensures.held
+    puts_found (g.P.Place.with c.args.place.now) (λ d. Other d) _ _ (λ n. table_row vti_rows n) refl
+    c.in-Typed-put_by_rows.is c.in-6.is c.requires c.put_by_rows-u32_or_zero-in-6.ensures.le32.0
+    c.put_by_rows-put-in-6.ensures.held 
