@@ -58,8 +58,12 @@ returns-in_err-check_item-clause-quarter g c =
 
 pub returns-clause-counted : goal.returns-clause-counted
 returns-clause-counted g c =
-    omega (arith, c.loop-next.invariant.counted, headers_end (families_of g.row.P g.P.LinkPeer) c.loop-next.walk.force _ c.in_default.ensures.step.1,
-        ap (λ (w : LinkWalk). w.attributes.examined) c.in_default.ensures.step.0)
+    omega (
+      arith,
+      c.loop-next.invariant.counted,
+      headers_end (families_of g.row.P g.P.LinkPeer) c.loop-next.walk.force _ c.in_default.ensures.step.1,
+      ap (λ (w : LinkWalk). w.attributes.examined) c.in_default.ensures.step.0,
+    )
 
 pub returns-clause-quarter : goal.returns-clause-quarter
 returns-clause-quarter g c =

@@ -111,8 +111,12 @@ returns-clause-certain g c = λ _. returns-clause-answer g c
 
 pub returns-clause-counted : goal.returns-clause-counted
 returns-clause-counted g c =
-    omega (arith, c.loop-next.invariant.counted, headers_end (families_of g.row.P g.P.LinkPeer) c.loop-next.walk.force _ c.in_default.ensures.step.1,
-        ap (λ (w : LinkWalk). w.attributes.examined) c.in_default.ensures.step.0)
+    omega (
+      arith,
+      c.loop-next.invariant.counted,
+      headers_end (families_of g.row.P g.P.LinkPeer) c.loop-next.walk.force _ c.in_default.ensures.step.1,
+      ap (λ (w : LinkWalk). w.attributes.examined) c.in_default.ensures.step.0,
+    )
 
 pub returns-clause-rises : goal.returns-clause-rises
 returns-clause-rises g c =

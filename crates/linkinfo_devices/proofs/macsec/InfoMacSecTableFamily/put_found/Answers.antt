@@ -81,4 +81,4 @@ pub returns-in-12-clause-value : goal.returns-in-12-clause-value
 returns-in-12-clause-value g c =
     puts_found (g.P.Place.with c.args.place.now) (λ d. Other d) _ _ (λ n. table_row mac_sec_rows n)
     refl c.in-Typed-put_by_rows.is c.in-12.is c.requires c.put_by_rows-u8_or_zero-in-12.ensures.0
-    c.put_by_rows-put-in-12.ensures.held 
+    c.put_by_rows-put-in-12.ensures.held

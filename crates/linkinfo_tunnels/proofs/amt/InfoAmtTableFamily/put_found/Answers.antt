@@ -57,4 +57,4 @@ pub returns-in-8-clause-value : goal.returns-in-8-clause-value
 returns-in-8-clause-value g c =
     puts_found (g.P.Place.with c.args.place.now) (λ d. Other d) _ _ (λ n. table_row amt_rows n) refl
     c.in-Typed-put_by_rows.is c.in-8.is c.requires c.put_by_rows-u32_or_zero-in-8.ensures.le32.0
-    c.put_by_rows-put-in-8.ensures.held 
+    c.put_by_rows-put-in-8.ensures.held

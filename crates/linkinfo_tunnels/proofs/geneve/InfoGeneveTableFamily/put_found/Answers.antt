@@ -94,4 +94,3 @@ returns-in-18-clause-value g c =
     puts_found (g.P.Place.with c.args.place.now) (λ d. Other d) _ _ (λ n. table_row geneve_rows n)
     refl c.in-Typed-put_by_rows.is c.in-18.is c.requires
     c.put_by_rows-ipv6_or_unspecified-in-18.ensures.geneve_v6.0 c.put_by_rows-put-in-18.ensures.held
-    

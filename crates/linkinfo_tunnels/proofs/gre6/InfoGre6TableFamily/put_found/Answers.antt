@@ -105,4 +105,4 @@ pub returns-in-24-clause-value : goal.returns-in-24-clause-value
 returns-in-24-clause-value g c =
     puts_found (g.P.Place.with c.args.place.now) (λ d. Other d) _ _ (λ n. table_row gre6_rows n)
     refl c.in-Typed-put_by_rows.is c.in-24.is c.requires
-    c.put_by_rows-u16_or_zero-in-24.ensures.le16.0 c.put_by_rows-put-in-24.ensures.held 
+    c.put_by_rows-u16_or_zero-in-24.ensures.le16.0 c.put_by_rows-put-in-24.ensures.held

@@ -51,4 +51,4 @@ pub returns-in-6-clause-value : goal.returns-in-6-clause-value
 returns-in-6-clause-value g c =
     puts_found (g.P.Place.with c.args.place.now) (λ d. Other d) _ _ (λ n. table_row vti_rows n) refl
     c.in-Typed-put_by_rows.is c.in-6.is c.requires c.put_by_rows-u32_or_zero-in-6.ensures.le32.0
-    c.put_by_rows-put-in-6.ensures.held 
+    c.put_by_rows-put-in-6.ensures.held

@@ -189,4 +189,4 @@ pub returns-in-34-clause-value : goal.returns-in-34-clause-value
 returns-in-34-clause-value g c =
     puts_found (g.P.Place.with c.args.place.now) (λ d. Other d) _ _ (λ n. table_row vxlan_rows n)
     refl c.in-Typed-put_by_rows.is c.in-34.is c.requires
-    c.put_by_rows-bool_or_false-in-34.ensures.truth.0 c.put_by_rows-put-in-34.ensures.held 
+    c.put_by_rows-bool_or_false-in-34.ensures.truth.0 c.put_by_rows-put-in-34.ensures.held
