@@ -20,7 +20,8 @@ ghost use Rattle.linkinfo.specs.declared.role.InForce.{InForce};
 ghost use Rattle.linkinfo.specs.declared.role.Role.TheVariants as role;
 
 use crate::link_info::LinkInfoOf;
-use crate::walk::LinkInfoItem;
+use crate::list::VecLinkInfoOf;
+use crate::walk::{LinkInfoItem, LinkInfoWalk};
 use linkinfo_data::DataFamilies;
 use linkinfo_data::laws::families_lawful;
 use linkinfo_table::LinkPeer;
@@ -75,4 +76,14 @@ pub fn pfcp<P: LinkPeer>(bytes: &[u8])
     ensures elsewhere { HasNoPfcpData bytes.now → reading ⟦<P as DataFamilies>⟧.families bytes.now ≡ reading_before ⟦<P as DataFamilies>⟧.families bytes.now }
     ensures alike { HasNoPfcpData bytes.now → (other : List ℕ) → alike_strings ⟦<P as DataFamilies>⟧.families bytes.now other ≡ alike_strings_before ⟦<P as DataFamilies>⟧.families bytes.now other }
     ensures alike_to { HasNoPfcpData bytes.now → (other : List ℕ) → alike_strings ⟦<P as DataFamilies>⟧.families other bytes.now ≡ alike_strings_before ⟦<P as DataFamilies>⟧.families other bytes.now }
+{}
+
+/// `==` of lists answers true exactly where both hold the same values in the same order.
+pub fn equal_lists<P: LinkPeer>()
+    ensures { (x y : VecLinkInfoOf P) → IsTrue (⟦<VecLinkInfoOf<P> as PartialEq>⟧.eq x y) ↔ (x ≡ y) }
+{}
+
+/// `==` of walks answers true exactly where both stand at the same place of the same bytes, under the same kinds and with the same fault.
+pub fn equal_walks()
+    ensures { (x y : LinkInfoWalk) → IsTrue (⟦<LinkInfoWalk<'static> as PartialEq>⟧.eq x y) ↔ (x ≡ y) }
 {}

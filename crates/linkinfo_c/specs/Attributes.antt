@@ -14,83 +14,14 @@ use Rattle.linkinfo_numbers.specs.declared.tags.KindTag.{KindTag}
 use Rattle.linkinfo_numbers.specs.declared.tags.KindTag.TheVariants as kind
 use Rattle.linkinfo_numbers.specs.declared.tags.PortTag.{PortTag}
 use Rattle.linkinfo_data.specs.Data.{family_of}
+use Rattle.linkinfo_data.specs.Names.{data_name, port_data_name}
 use Rattle.linkinfo_data.specs.PortData.{port_family_of}
-use Rattle.linkinfo_data.specs.declared.data.DataFamily.{DataFamily}
-use Rattle.linkinfo_data.specs.declared.data.DataFamily.TheVariants as of
-use Rattle.linkinfo_data.specs.declared.devices.DeviceFamily.{DeviceFamily}
-use Rattle.linkinfo_data.specs.declared.devices.DeviceFamily.TheVariants as device
-use Rattle.linkinfo_data.specs.declared.lower.LowerFamily.{LowerFamily}
-use Rattle.linkinfo_data.specs.declared.lower.LowerFamily.TheVariants as lower
-use Rattle.linkinfo_data.specs.declared.peers.PeeredFamily.{PeeredFamily}
-use Rattle.linkinfo_data.specs.declared.peers.PeeredFamily.TheVariants as peered
-use Rattle.linkinfo_data.specs.declared.port_data.PortFamily.{PortFamily}
-use Rattle.linkinfo_data.specs.declared.port_data.PortFamily.TheVariants as port_data
-use Rattle.linkinfo_data.specs.declared.tunnels.TunnelFamily.{TunnelFamily}
-use Rattle.linkinfo_data.specs.declared.tunnels.TunnelFamily.TheVariants as tunnel
 use Rattle.linkinfo.specs.Placed.{place_behind}
 use Rattle.linkinfo_c.specs.declared.attributes.LinkinfoAttribute.{LinkinfoAttribute}
 use Rattle.linkinfo_c.specs.Codes.{kind_of_code, port_kind_of_code, shape_code}
 use Rattle.linkinfo_c.specs.Items.{attributes_in, code_in, each_behind}
 
 -- ---- the family of the attributes inside data; none where the data is bytes
-
-abbrev pub lower_name : LowerFamily → Family
-lower_name lower.Bridge = family.Bridge
-lower_name lower.Vlan = family.Vlan
-lower_name lower.Bond = family.Bond
-lower_name lower.Hsr = family.Hsr
-lower_name lower.Can = family.Can
-lower_name lower.Dsa = family.Dsa
-
-abbrev pub device_name : DeviceFamily → Family
-device_name device.IpVlan = family.IpVlan
-device_name device.IpVtap = family.IpVtap
-device_name device.MacVlan = family.MacVlan
-device_name device.MacVtap = family.MacVtap
-device_name device.Vrf = family.Vrf
-device_name device.Ipoib = family.Ipoib
-device_name device.Xfrm = family.Xfrm
-device_name device.MacSec = family.MacSec
-device_name device.RmNet = family.RmNet
-
-abbrev pub tunnel_name : TunnelFamily → Family
-tunnel_name tunnel.Vxlan = family.Vxlan
-tunnel_name tunnel.GreTap = family.Gre
-tunnel_name tunnel.GreTap6 = family.Gre6
-tunnel_name (tunnel.IpTunnel tag) = family.IpTunnel
-tunnel_name tunnel.GreTun = family.Gre
-tunnel_name tunnel.GreTun6 = family.Gre6
-tunnel_name tunnel.Vti = family.Vti
-tunnel_name tunnel.Gtp = family.Gtp
-tunnel_name tunnel.Geneve = family.Geneve
-tunnel_name tunnel.Amt = family.Amt
-tunnel_name tunnel.BareUdp = family.BareUdp
-tunnel_name tunnel.ErSpan = family.Gre
-tunnel_name tunnel.Ip6ErSpan = family.Gre6
-
-abbrev pub peered_name : PeeredFamily → Family
-peered_name peered.Tun = family.Tun
-peered_name peered.Veth = family.Veth
-peered_name peered.Wireguard = family.Wireguard
-peered_name peered.Netkit = family.Netkit
-peered_name peered.Vxcan = family.Vxcan
-peered_name peered.BatAdv = family.BatAdv
-peered_name peered.Wwan = family.Wwan
-peered_name peered.Pfcp = family.Pfcp
-
-abbrev pub data_name : DataFamily → Option Family
-data_name (of.Lower f) = Some (lower_name f)
-data_name (of.Device f) = Some (device_name f)
-data_name (of.Tunnel f) = Some (tunnel_name f)
-data_name (of.Peered f) = Some (peered_name f)
-data_name of.Raw = None
-
-abbrev pub port_data_name : PortFamily → Option Family
-port_data_name port_data.Bond = Some family.BondPort
-port_data_name port_data.Bridge = Some family.BridgePort
-port_data_name port_data.Vrf = Some family.Vrf
-port_data_name port_data.Team = Some family.TeamPort
-port_data_name port_data.Raw = None
 
 -- of a kind, or else of a port kind
 abbrev pub family_among : Option KindTag → Option PortTag → Option Family

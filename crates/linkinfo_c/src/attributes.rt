@@ -1,9 +1,10 @@
 //! The attributes inside data, written into an array of the caller's.
 
 ghost use Rattle.std.specs.Prelude.{◌≡◌, Some, length};
+ghost use Rattle.linkinfo_data.specs.Names.{data_name, device_name, lower_name, peered_name, port_data_name, tunnel_name};
 ghost use Rattle.linkinfo_shapes.specs.Data.{value_of};
 ghost use Rattle.linkinfo.specs.Placed.{place_behind};
-ghost use Rattle.linkinfo_c.specs.Attributes.{attribute_at, attributes_inside, data_name, device_name, family_inside, flags_shape, given_inside, lower_name, number_in, number_of, peered_name, port_data_name, shape_in, tunnel_name};
+ghost use Rattle.linkinfo_c.specs.Attributes.{attribute_at, attributes_inside, family_inside, flags_shape, given_inside, number_in, number_of, shape_in};
 ghost use Rattle.linkinfo_c.specs.Buffers.{with_front};
 ghost use Rattle.linkinfo_c.specs.Codes.{kind_of_code};
 ghost use Rattle.linkinfo_c.specs.Items.{attributes_in, fault_behind};

@@ -8,6 +8,7 @@ pub mod Families
 pub mod InfoData
 pub mod Lawful
 pub mod LowerData
+pub mod Names
 pub mod Payloads
 pub mod PeerData
 pub mod PeerFamilies

@@ -1,6 +1,9 @@
 //! Laws of data, each the contract of a function without code.
 
+ghost use Rattle.std.specs.Prelude.{◌≡◌, Some};
+ghost use Rattle.nla_frame.specs.declared.error.Family.{Family};
 ghost use Rattle.linkinfo_data.specs.InfoData.{data_payload};
+ghost use Rattle.linkinfo_data.specs.Names.{AreNamed, FaultsName, device_name, lower_name, peered_name, port_data_name, tunnel_name};
 ghost use Rattle.linkinfo_data.specs.Lawful.{AreLawful};
 ghost use Rattle.linkinfo_data.specs.Payloads.{IsLawful};
 ghost use Rattle.linkinfo_data.specs.PortData.{port_data_of, port_data_payload};
@@ -24,7 +27,7 @@ use linkinfo_peers::{
     InfoWireguard, InfoWwan,
 };
 use linkinfo_table::LinkPeer;
-use linkinfo_table::laws::lawful;
+use linkinfo_table::laws::{errors_named, lawful};
 use linkinfo_table::lower::{
     InfoBond, InfoBondPort, InfoBridge, InfoBridgePort, InfoCan, InfoDsa, InfoHsr, InfoVlan,
 };
@@ -107,4 +110,82 @@ fn ports_lawful()
     lawful::<InfoBridgePort>();
     lawful::<InfoVrfPort>();
     lawful::<InfoTeamPort>();
+}
+
+/// Each error of data of a family, and of port data, is that of a header that is not accepted, (Frame, 0, Header), or names the family, by
+/// the tables `data_name` and `port_data_name`. Data of no family, which is bytes, has no error.
+pub fn faults_named<P: LinkPeer>()
+    ensures { AreNamed ⟦<P as DataFamilies>⟧.families }
+{
+    lower_named::<P>();
+    devices_named::<P>();
+    tunnels_named::<P>();
+    peers_named::<P>();
+    ports_named();
+}
+
+/// Errors of data of bridge, vlan, bond, hsr, can and dsa links do.
+fn lower_named<P: LinkPeer>()
+    ensures { (f : LowerFamily) → FaultsName (lower_name f) (lower_data_of {P = P} f) }
+{
+    errors_named::<InfoBridge>();
+    errors_named::<InfoVlan>();
+    errors_named::<InfoBond>();
+    errors_named::<InfoHsr>();
+    errors_named::<InfoCan>();
+    errors_named::<InfoDsa>();
+}
+
+/// Errors of data of ipvlan, ipvtap, macvlan, macvtap, vrf, ipoib, xfrm, macsec and rmnet links do.
+fn devices_named<P: LinkPeer>()
+    ensures { (f : DeviceFamily) → FaultsName (device_name f) (devices_data_of {P = P} f) }
+{
+    errors_named::<InfoIpVlan>();
+    errors_named::<InfoIpVtap>();
+    errors_named::<InfoMacVlan>();
+    errors_named::<InfoMacVtap>();
+    errors_named::<InfoVrf>();
+    errors_named::<InfoIpoib>();
+    errors_named::<InfoXfrm>();
+    errors_named::<InfoMacSec>();
+    errors_named::<InfoRmNet>();
+}
+
+/// Errors of data of tunnels do.
+fn tunnels_named<P: LinkPeer>()
+    ensures { (f : TunnelFamily) → FaultsName (tunnel_name f) (tunnels_data_of {P = P} f) }
+{
+    errors_named::<InfoVxlan>();
+    errors_named::<InfoGre>();
+    errors_named::<InfoGre6>();
+    errors_named::<InfoIpTunnel>();
+    errors_named::<InfoVti>();
+    errors_named::<InfoGtp>();
+    errors_named::<InfoGeneve>();
+    errors_named::<InfoAmt>();
+    errors_named::<InfoBareUdp>();
+}
+
+/// Errors of data of links with a peer, and of tun, wireguard, batadv, wwan and pfcp links do.
+fn peers_named<P: LinkPeer>()
+    ensures { (f : PeeredFamily) → FaultsName (peered_name f) (peers_data_of ⟦<P as DataFamilies>⟧.families f) }
+{
+    errors_named::<InfoTun>();
+    errors_named::<InfoVethOf<P>>();
+    errors_named::<InfoWireguard>();
+    errors_named::<InfoNetkitOf<P>>();
+    errors_named::<InfoVxcanOf<P>>();
+    errors_named::<InfoBatAdv>();
+    errors_named::<InfoWwan>();
+    errors_named::<InfoPfcp>();
+}
+
+/// So do those of port data.
+fn ports_named()
+    ensures { (f : PortFamily) (name : Family) → port_data_name f ≡ Some name → FaultsName name (port_data_of f) }
+{
+    errors_named::<InfoBondPort>();
+    errors_named::<InfoBridgePort>();
+    errors_named::<InfoVrfPort>();
+    errors_named::<InfoTeamPort>();
 }

@@ -14,7 +14,8 @@ use Rattle.linkinfo_shapes.specs.declared.shape.Shape.TheVariants as shape
 use Rattle.linkinfo_table.specs.declared.lookup.Lookup.{Lookup}
 use Rattle.linkinfo_table.specs.declared.lookup.Lookup.TheVariants as lookup
 use Rattle.linkinfo_table.specs.Rows.{Row, labelled, row_meaning, meaning_in, row_alike, alike_in, row_headers, headers_inside, row_needs_memory, memory_in}
-use Rattle.linkinfo_table.specs.FamilyRows.{FamilyRow, Plain, Custom, Refuses, Absent, row_of, row_if, lookup_of, IsFlat, PutsLabelled, Puts, SuitsFound, SuitsRow, PlainRow, table_row, EachKeeps, RowOwes}
+use Rattle.linkinfo_table.specs.FamilyRows.{FamilyRow, Plain, Custom, Refuses, Absent, row_of, row_if, lookup_of, IsFlat, PutsLabelled, Puts, SuitsFound, SuitsRow, PlainRow, table_row, EachKeeps, RowOwes, find, plain_or_absent}
+use Rattle.linkinfo_table.specs.FaultMemory.{OwnIsOther}
 use Rattle.linkinfo_table.specs.FamilyRowLaws.{owed, table_flat, table_owes}
 use Rattle.linkinfo_table.specs.RowLaws.{rows_quarter}
 use Rattle.linkinfo_table.specs.declared.found.Found.{Found}
@@ -191,6 +192,27 @@ module _ {X : Type 0} (f : Family) (other : DefaultNla → X) (attribute : X →
                 sym list ∙ ap table (sym (eqb-true n 5 e))
                 ∙ sym (ap (λ (b : Bool). if (n == 5) && b then lookup.Refused cause.Depth else table n) shallow ∙ ap (λ (b : Bool). if b && false then lookup.Refused cause.Depth else table n) e)
             by false e = elsewhere_is c n e
+
+  -- a list, which the family reads itself, is of no shape of the table
+  flat_other : (r : Option (PlainRow X)) → OwnIsOther (plain_or_absent r)
+  flat_other (Some r) = tt
+  flat_other None = tt
+
+  pub nested_other : (c n : ℕ) → OwnIsOther (nested_rows f other attribute label plain c n)
+  nested_other c n = go (128 - c)
+    where
+      go : (levels : ℕ) → OwnIsOther (level_rows f other attribute 5 label (λ k. table_row plain k) levels n)
+      go zero = by (n == 5)
+        where
+          by : (b : Bool) → OwnIsOther (row_if b (Refuses cause.Depth) (table_row plain n))
+          by true = tt
+          by false = flat_other (find plain n)
+      go (suc levels) = by (n == 5)
+        where
+          by : (b : Bool) →
+              OwnIsOther (row_if b (Custom shape.SelfList (inner_codec f other attribute 5 label (λ k. table_row plain k) (λ k. level levels k)) label) (table_row plain n))
+          by true = λ plain_list. plain_list
+          by false = flat_other (find plain n)
 
   -- what was read of an attribute that holds no list, and what a place holds once its value was put there, by the rows of the table alone
   pub suits_plain : (c : ℕ) (read : Found) → SuitsFound (λ n. nested_rows f other attribute label plain c n) read → SuitsFound (λ n. table_row plain n) read

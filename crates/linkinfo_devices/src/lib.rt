@@ -4,6 +4,7 @@
 mod ipoib;
 mod ipvlan;
 mod ipvtap;
+pub mod laws;
 mod mac_rows;
 mod macsec;
 mod macvlan;

@@ -1,13 +1,15 @@
 //! Macvtap links. Their attributes have the types of those of macvlan links.
 
 ghost use Rattle.linkinfo_devices.specs.Macvtap.{mac_vtap_attribute, mac_vtap_holds_list, mac_vtap_keep, mac_vtap_keeps, mac_vtap_owes, mac_vtap_plain_rows, mac_vtap_rows, mac_vtap_says};
-ghost use Rattle.linkinfo_devices.specs.Nested.{LendsList, flat_elsewhere, list_alike, list_headers, list_means, list_needs_memory, nested_quarter};
+ghost use Rattle.linkinfo_devices.specs.Nested.{LendsList, flat_elsewhere, list_alike, list_headers, list_means, list_needs_memory, nested_other, nested_quarter};
 ghost use Rattle.linkinfo_devices.specs.declared.macvtap.InfoMacVtap as macvtap;
 ghost use Rattle.linkinfo_table.specs.FamilyRows.{Puts, SuitsFound, found_needs_memory, lookup_of, row_of, table_row};
+ghost use Rattle.linkinfo_table.specs.FaultMemory.{rows_certain};
 ghost use Rattle.linkinfo_table.specs.FlatLaws.{flat_alike_is, flat_no_memory, flat_read_well, flat_well_attribute, flat_well_reads};
 ghost use Rattle.linkinfo_table.specs.Rows.{WellFormed, alike_in, headers_inside, meaning_in, memory_in};
+ghost use Rattle.nla_frame.specs.Attribute.{masked};
 ghost use Rattle.nla_frame.specs.declared.error.Family.TheVariants as family;
-ghost use Rattle.std.specs.Prelude.{◌≡◌, true, IsOk, OnOk, refl};
+ghost use Rattle.std.specs.Prelude.{◌≡◌, true, IsOk, OnErr, OnOk, refl};
 
 use crate::mac_rows::mac_rows;
 use crate::nested_calls::{nested_check, nested_parse, nested_push, nested_read, nested_same};
@@ -61,6 +63,7 @@ fn put_plain<P: Place<InfoMacVtap>>(
 ) -> Result<(), AllocError>
     requires { SuitsFound (λ n. table_row mac_vtap_plain_rows n) found }
     ensures value { OnOk result (Puts (P.with place.old) (λ d. macvtap.Other d) (λ n. table_row mac_vtap_plain_rows n) found.entry (P.held place.new)) }
+    ensures unchanged { OnErr result (P.held place.new ≡ P.held place.old) }
     ensures certain { P.is_certain ≡ true → IsOk result }
 {
     mac_rows!(InfoMacVtap put_by_rows (place, alloc, found))
@@ -194,6 +197,8 @@ impl LinkFamily for InfoMacVtap {
     ghost headers_quarter = { λ c a. nested_quarter family.MacVtap (λ d. macvtap.Other d) mac_vtap_attribute (mac_vtap_rows c) (mac_vtap_owes c) mac_vtap_keep.other a };
 
     ghost no_memory = { λ c a. flat_no_memory family.MacVtap (λ d. macvtap.Other d) mac_vtap_attribute (mac_vtap_rows c) (mac_vtap_owes c) mac_vtap_keep.other a };
+
+    ghost fault_certain = { λ c a e. rows_certain family.MacVtap (λ d. macvtap.Other d) (mac_vtap_rows c) a e (nested_other family.MacVtap (λ d. macvtap.Other d) mac_vtap_attribute (λ xs. macvtap.MacAddrData xs) mac_vtap_plain_rows c (masked a.kind)) };
 
     ghost read_well = { λ c a x. flat_read_well family.MacVtap (λ d. macvtap.Other d) mac_vtap_attribute (mac_vtap_rows c) (mac_vtap_owes c) mac_vtap_keep.other a x };
 

@@ -1,6 +1,6 @@
 //! Reading, checking and comparing attributes of a family that holds lists of its own, and such lists, by calls that lead to each other.
 
-ghost use Rattle.std.specs.Prelude.{◌≡◌, ◌+◌, ◌*◌, ◌/◌, ◌<◌, ◌≤◌, ◌^◌, false, IsOk, length};
+ghost use Rattle.std.specs.Prelude.{◌≡◌, ◌+◌, ◌*◌, ◌/◌, ◌<◌, ◌≤◌, ◌^◌, false, IsOk, OnErr, length};
 ghost use Rattle.std.specs.Bool.{OnTrue};
 ghost use Rattle.nla_frame.specs.Answers.{CertainUnless, Gives, OnAnswer, verdict};
 ghost use Rattle.nla_frame.specs.Pieces.{pieces};
@@ -36,7 +36,7 @@ pub fn nested_read<F: NestedFamily>(
     }
 }
 
-/// Reads an attribute inside `lists` lists, and puts its value behind others.
+/// Reads an attribute inside `lists` lists, and puts its value behind others, which stay as they are on an error.
 #[cycle(nested_read)]
 pub fn nested_push<F: NestedFamily>(
     items: &mut Vec<F>,
@@ -47,6 +47,7 @@ pub fn nested_push<F: NestedFamily>(
 ) -> Result<(), DecodeError>
     requires { count.old + length nla.now.value / 4 < 2 ^ 64 }
     ensures answer { Appends items.old.items items.new.items result (meaning_in F.FAMILY F.other (λ n. row_of (F.rows lists n)) nla.now) }
+    ensures unchanged { OnErr result (items.new.items ≡ items.old.items) }
     ensures certain { push_memory (memory_in (λ n. row_of (F.rows lists n)) nla.now) (meaning_in F.FAMILY F.other (λ n. row_of (F.rows lists n)) nla.now) ≡ false → result ≡ verdict (meaning_in F.FAMILY F.other (λ n. row_of (F.rows lists n)) nla.now) }
     ensures counted { OnAnswer result (count.new ≡ count.old + headers_inside (λ n. row_of (F.rows lists n)) nla.now) }
     ensures rises { count.old ≤ count.new }

@@ -19,6 +19,11 @@ ghost use Rattle.linkinfo_numbers.specs.Netkit.{netkit_policy, netkit_policy_num
 ghost use Rattle.linkinfo_numbers.specs.Netkit.{netkit_scrub, netkit_scrub_number, netkit_scrub_text, netkit_scrubs};
 ghost use Rattle.linkinfo_numbers.specs.Gre.{gre_encap_type, gre_encap_type_number, gre_encap_type_table, er_span_dir};
 ghost use Rattle.linkinfo_numbers.specs.Gre.{er_span_dir_number, er_span_dir_table};
+ghost use Rattle.linkinfo_numbers.specs.Gre.{gre_encap_flags, gre_io_flags};
+ghost use Rattle.linkinfo_numbers.specs.Ipvlan.{ip_vlan_flags};
+ghost use Rattle.linkinfo_numbers.specs.Macvlan.{mac_vlan_flags};
+ghost use Rattle.linkinfo_numbers.specs.Rmnet.{rm_net_flags};
+ghost use Rattle.linkinfo_numbers.specs.Tunnel.{ip6_tunnel_flags, tunnel_encap_flags};
 ghost use Rattle.linkinfo_numbers.specs.Tunnel.{tunnel_encap_type, tunnel_encap_type_number, tunnel_encap_type_table};
 ghost use Rattle.linkinfo_numbers.specs.Ethernet.{ethernet_protocol, ethernet_protocol_number, ethernet_protocol_table};
 ghost use Rattle.linkinfo_numbers.specs.Ip.{ip_protocol, ip_protocol_number, ip_protocol_table};
@@ -33,16 +38,17 @@ ghost use Rattle.linkinfo_numbers.specs.Word.{ReadsWords};
 use crate::amt::AmtMode;
 use crate::ethernet::EthernetProtocol;
 use crate::geneve::GeneveDf;
-use crate::gre::{ErSpanDir, GreEncapType};
+use crate::gre::{ErSpanDir, GreEncapFlags, GreEncapType, GreIOFlags};
 use crate::gtp::GtpRole;
 use crate::ip::IpProtocol;
 use crate::ipoib::IpoibMode;
-use crate::ipvlan::IpVlanMode;
+use crate::ipvlan::{IpVlanFlags, IpVlanMode};
 use crate::kind::InfoKind;
 use crate::macsec::{MacSecCipherId, MacSecOffload, MacSecValidate};
-use crate::macvlan::{MacVlanMacAddressMode, MacVlanMode};
+use crate::macvlan::{MacVlanFlags, MacVlanMacAddressMode, MacVlanMode};
 use crate::netkit::{NetkitMode, NetkitPolicy, NetkitScrub};
 use crate::port_kind::InfoPortKind;
+use crate::rmnet::RmNetFlags;
 use crate::tunnel::{Ip6TunnelFlags, TunnelEncapFlags, TunnelEncapType};
 use crate::vxlan::VxlanDf;
 use nla_frame::Family;
@@ -136,4 +142,72 @@ pub fn equal_sets_hash_alike()
         → ⟦<TunnelEncapFlags as Hash>⟧.hash_input x ≡ ⟦<TunnelEncapFlags as Hash>⟧.hash_input y }
     ensures ip6_tunnel_flags { (x y : Ip6TunnelFlags) → IsTrue (⟦<Ip6TunnelFlags as PartialEq>⟧.eq x y)
         → ⟦<Ip6TunnelFlags as Hash>⟧.hash_input x ≡ ⟦<Ip6TunnelFlags as Hash>⟧.hash_input y }
+{}
+
+/// The flags of a GRE header: `GRE_CSUM` and its like (include/uapi/linux/if_tunnel.h).
+pub fn gre_io_flag_bits()
+    ensures checksum { GreIOFlags.Checksum ≡ gre_io_flags 0x8000 }
+    ensures routing { GreIOFlags.Routing ≡ gre_io_flags 0x4000 }
+    ensures key { GreIOFlags.Key ≡ gre_io_flags 0x2000 }
+    ensures seq { GreIOFlags.Seq ≡ gre_io_flags 0x1000 }
+    ensures strict0 { GreIOFlags.Strict0 ≡ gre_io_flags 0x0800 }
+    ensures rec { GreIOFlags.Rec ≡ gre_io_flags 0x0700 }
+    ensures ack { GreIOFlags.Ack ≡ gre_io_flags 0x0080 }
+    ensures flags { GreIOFlags.Flags ≡ gre_io_flags 0x0078 }
+    ensures version { GreIOFlags.Version ≡ gre_io_flags 0x0007 }
+{}
+
+/// The flags of what a GRE tunnel is wrapped in: `TUNNEL_ENCAP_FLAG_CSUM` and its like
+/// (include/uapi/linux/if_tunnel.h).
+pub fn gre_encap_flag_bits()
+    ensures checksum { GreEncapFlags.Checksum ≡ gre_encap_flags 1 }
+    ensures checksum6 { GreEncapFlags.Checksum6 ≡ gre_encap_flags 2 }
+    ensures remote_checksum { GreEncapFlags.RemoteChecksum ≡ gre_encap_flags 4 }
+{}
+
+/// The flags of what an IP tunnel is wrapped in: `TUNNEL_ENCAP_FLAG_CSUM` and its like
+/// (include/uapi/linux/if_tunnel.h).
+pub fn tunnel_encap_flag_bits()
+    ensures csum { TunnelEncapFlags.CSum ≡ tunnel_encap_flags 1 }
+    ensures csum6 { TunnelEncapFlags.CSum6 ≡ tunnel_encap_flags 2 }
+    ensures rem_csum { TunnelEncapFlags.RemCSum ≡ tunnel_encap_flags 4 }
+{}
+
+/// The flags of an IPv6 tunnel: `IP6_TNL_F_IGN_ENCAP_LIMIT` and its like
+/// (include/uapi/linux/ip6_tunnel.h).
+pub fn ip6_tunnel_flag_bits()
+    ensures ign_encap_limit { Ip6TunnelFlags.IgnEncapLimit ≡ ip6_tunnel_flags 0x1 }
+    ensures use_orig_tclass { Ip6TunnelFlags.UseOrigTclass ≡ ip6_tunnel_flags 0x2 }
+    ensures use_orig_flowlabel { Ip6TunnelFlags.UseOrigFlowlabel ≡ ip6_tunnel_flags 0x4 }
+    ensures mip6_dev { Ip6TunnelFlags.Mip6Dev ≡ ip6_tunnel_flags 0x8 }
+    ensures rcv_dscp_copy { Ip6TunnelFlags.RcvDscpCopy ≡ ip6_tunnel_flags 0x10 }
+    ensures use_orig_fw_mark { Ip6TunnelFlags.UseOrigFwMark ≡ ip6_tunnel_flags 0x20 }
+    ensures allow_local_remote { Ip6TunnelFlags.AllowLocalRemote ≡ ip6_tunnel_flags 0x40 }
+    ensures cap_xmit { Ip6TunnelFlags.CapXmit ≡ ip6_tunnel_flags 0x10000 }
+    ensures cap_rcv { Ip6TunnelFlags.CapRcv ≡ ip6_tunnel_flags 0x20000 }
+    ensures cap_per_packet { Ip6TunnelFlags.CapPerPacket ≡ ip6_tunnel_flags 0x40000 }
+{}
+
+/// The flags of an ipvlan link: `IPVLAN_F_PRIVATE` and its like (include/uapi/linux/if_link.h).
+pub fn ip_vlan_flag_bits()
+    ensures private { IpVlanFlags.Private ≡ ip_vlan_flags 1 }
+    ensures vepa { IpVlanFlags.Vepa ≡ ip_vlan_flags 2 }
+{}
+
+/// The flags of a macvlan link: `MACVLAN_FLAG_NOPROMISC` and its like
+/// (include/uapi/linux/if_link.h).
+pub fn mac_vlan_flag_bits()
+    ensures no_promisc { MacVlanFlags.NoPromisc ≡ mac_vlan_flags 1 }
+    ensures no_dst { MacVlanFlags.NoDst ≡ mac_vlan_flags 2 }
+{}
+
+/// The flags of an rmnet link: `RMNET_FLAGS_INGRESS_DEAGGREGATION` and its like
+/// (include/uapi/linux/if_link.h).
+pub fn rm_net_flag_bits()
+    ensures ingress_deaggregation { RmNetFlags.IngressDeaggregation ≡ rm_net_flags 1 }
+    ensures ingress_commands { RmNetFlags.IngressCommands ≡ rm_net_flags 2 }
+    ensures ingress_map_cksum_v4 { RmNetFlags.IngressMapCksumV4 ≡ rm_net_flags 4 }
+    ensures egress_map_cksum_v4 { RmNetFlags.EgressMapCksumV4 ≡ rm_net_flags 8 }
+    ensures ingress_map_cksum_v5 { RmNetFlags.IngressMapCksumV5 ≡ rm_net_flags 16 }
+    ensures egress_map_cksum_v5 { RmNetFlags.EgressMapCksumV5 ≡ rm_net_flags 32 }
 {}

@@ -3,6 +3,8 @@ pub mod Canonical
 pub mod Codecs
 pub mod FamilyRowLaws
 pub mod FamilyRows
+pub mod FaultMemory
+pub mod FaultNames
 pub mod FlatLaws
 pub mod Labels
 pub mod Levels

@@ -77,7 +77,7 @@ module _ {C F : Type 0} (f : Family) (other : DefaultNla → F) (canonical attri
   rows_say rows a unnested owes = row_says (rows (masked a.kind)) a unnested owes
 
 -- a shape is read by the table, or is one of the two that a family reads itself
-which : (shape : Shape) → IsPlain shape ⊎ ((shape ≡ SelfList) ⊎ (shape ≡ Peer))
+pub which : (shape : Shape) → IsPlain shape ⊎ ((shape ≡ SelfList) ⊎ (shape ≡ Peer))
 which SelfList = inr (inl refl)
 which Peer = inr (inr refl)
 which _ = inl tt

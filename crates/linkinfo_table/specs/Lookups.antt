@@ -1,5 +1,5 @@
 -- What a family's answer to the lookup of a type says of the meaning of an attribute of that type.
-use Rattle.std.specs.Prelude.{◌≡◌, List, map, Result, Ok, Err}
+use Rattle.std.specs.Prelude.{◌≡◌, ℕ, List, ◌∷◌, map, Result, Ok, Err}
 use Rattle.nla_frame.specs.Attribute.{Attribute, list_string, masked}
 use Rattle.nla_frame.specs.Kept.{kept}
 use Rattle.nla_frame.specs.Pieces.{pieces}
@@ -46,3 +46,13 @@ abbrev pub LookupSays : {C X : Type 0} → Family → (DefaultNla → X) → (X 
 LookupSays family keeping attribute meaning a (lookup.Is shape) m = ShapeSays family attribute meaning a shape m
 LookupSays family keeping attribute meaning a (lookup.Refused cause) m = m ≡ Err (own_fault family a cause)
 LookupSays family keeping attribute meaning a lookup.Unknown m = m ≡ Ok (keeping (kept a))
+
+-- An attribute of such a type holds no others: its type has a shape of the table, is refused, or has none.
+abbrev pub HoldsNone : Lookup → Type 0
+HoldsNone (lookup.Is shape) = IsPlain shape
+HoldsNone _ = Unit {0}
+
+-- the first attribute of a string holds no others, and has this fault
+abbrev pub BeginsFaulty : {X : Type 0} → (ℕ → Lookup) → (Attribute → Result X DecodeError) → List (Result Attribute ℕ) → DecodeError → Type 0
+BeginsFaulty l m ((Ok a) ∷ more) e = HoldsNone (l (masked a.kind)) × (m a ≡ Err e)
+BeginsFaulty l m _ e = ⊥

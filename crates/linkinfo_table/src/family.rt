@@ -1,6 +1,6 @@
 //! Families of attributes: what a family's types are read, checked, compared and written as.
 
-ghost use Rattle.std.specs.Prelude.{◌≡◌, ◌≢◌, ◌↔◌, ℕ, ◌+◌, ◌*◌, ◌/◌, ◌<◌, ◌≤◌, ◌^◌, ◌++◌, Bool, true, false, Err, Ok, IsOk, IsTrue, Result, SomeIff, drop, length};
+ghost use Rattle.std.specs.Prelude.{◌≡◌, ◌≢◌, ◌↔◌, ℕ, ◌+◌, ◌*◌, ◌/◌, ◌<◌, ◌≤◌, ◌^◌, ◌++◌, Bool, true, false, Err, Ok, IsOk, IsTrue, OnErr, Result, SomeIff, drop, length};
 ghost use Rattle.std.specs.Bool.{OnTrue};
 ghost use Rattle.nla_frame.specs.Answers.{CertainUnless, Gives, OnAnswer, verdict};
 ghost use Rattle.nla_frame.specs.Attribute.{Attribute, Fits, IsAttribute, buffer_len_of, canonical_string, masked};
@@ -11,7 +11,7 @@ ghost use Rattle.nla_frame.specs.declared.default_nla.DefaultNla.{DefaultNla};
 ghost use Rattle.nla_frame.specs.declared.error.DecodeError.{DecodeError};
 ghost use Rattle.nla_frame.specs.declared.error.Family.{Family};
 ghost use Rattle.linkinfo_table.specs.Lists.{Appends, push_memory};
-ghost use Rattle.linkinfo_table.specs.Lookups.{LookupSays};
+ghost use Rattle.linkinfo_table.specs.Lookups.{HoldsNone, LookupSays};
 ghost use Rattle.linkinfo_table.specs.declared.lookup.Lookup.{Lookup};
 
 use crate::lookup::Lookup;
@@ -80,6 +80,7 @@ pub trait LinkFamily: Nla + Sized + Drop {
     ) -> Result<(), DecodeError>
         requires { count.old + length nla.now.value / 4 < 2 ^ 64 }
         ensures answer { Appends items.old.items items.new.items result (meaning ctx nla.now) }
+        ensures unchanged { OnErr result (items.new.items ≡ items.old.items) }
         ensures certain { push_memory (needs_memory ctx nla.now) (meaning ctx nla.now) ≡ false → result ≡ verdict (meaning ctx nla.now) }
         ensures counted { OnAnswer result (count.new ≡ count.old + headers ctx nla.now) }
         ensures rises { count.old ≤ count.new }
@@ -140,6 +141,8 @@ pub trait LinkFamily: Nla + Sized + Drop {
     ghost headers_quarter: { (c : Self.Context) (a : Attribute) → 4 * headers c a ≤ length a.value };
 
     ghost no_memory: { (c : Self.Context) (a : Attribute) → meaning c a ≢ Err memory_fault };
+
+    ghost fault_certain: { (c : Self.Context) (a : Attribute) (e : DecodeError) → HoldsNone (lookup c (masked a.kind)) → meaning c a ≡ Err e → needs_memory c a ≡ false };
 
     ghost read_well: { (c : Self.Context) (a : Attribute) (x : Self) → IsAttribute a → meaning c a ≡ Ok x → well c x };
 

@@ -1,6 +1,6 @@
 //! Laws of families, each the contract of a function without code.
 
-ghost use Rattle.std.specs.Prelude.{◌≡◌, ◌≢◌, ◌↔◌, ◌==◌, ◌&&◌, Err, IsTrue, List, Ok, map};
+ghost use Rattle.std.specs.Prelude.{◌≡◌, ◌≢◌, ◌↔◌, ◌==◌, ◌&&◌, ℕ, false, Err, IsTrue, List, Ok, map};
 ghost use Rattle.std.specs.List.{AllByRecursion};
 ghost use Rattle.std.specs.Str.{bytes_eq};
 ghost use Rattle.nla_frame.specs.Attribute.{Attribute, Fits, canonical_string, list_string, masked};
@@ -11,11 +11,12 @@ ghost use Rattle.nla_frame.specs.declared.error.DecodeError.{DecodeError};
 ghost use Rattle.linkinfo_shapes.specs.declared.shape.Shape.TheVariants as shape;
 ghost use Rattle.linkinfo_table.specs.declared.lookup.Lookup.TheVariants as lookup;
 ghost use Rattle.linkinfo_table.specs.FamilyRows.{SameFound, SamePart};
+ghost use Rattle.linkinfo_table.specs.FaultNames.{EachNames};
 ghost use Rattle.linkinfo_table.specs.declared.found.Found.{Found};
 ghost use Rattle.linkinfo_table.specs.declared.part.Part.{Part};
 ghost use Rattle.linkinfo_table.specs.declared.rowless.Rowless.TheVariants as rowless;
-ghost use Rattle.linkinfo_table.specs.Lists.{AllWell, first_meaning, values};
-ghost use Rattle.linkinfo_table.specs.Lookups.{LookupSays};
+ghost use Rattle.linkinfo_table.specs.Lists.{AllWell, first_meaning, first_memory, memory_of, values};
+ghost use Rattle.linkinfo_table.specs.Lookups.{BeginsFaulty, HoldsNone, LookupSays};
 ghost use Rattle.linkinfo_table.specs.Members.{IsFamily};
 ghost use Rattle.linkinfo_table.specs.Readings.{FirstHasFault, FirstMeans, IsDecided, ListHasFault, ListMeans};
 
@@ -23,6 +24,7 @@ use crate::family::LinkFamily;
 use crate::found::Found;
 use crate::listed::ListedFamily;
 use crate::part::Part;
+use crate::peer::PeerFault;
 use crate::rowless::Rowless;
 
 /// Where the bytes are the string of a list of which each item fits, they mean that list exactly where each item is well formed; and what
@@ -64,6 +66,22 @@ pub fn looked_up<F: LinkFamily>(ctx: F::Context)
     ensures own_fault { (a : Attribute) (e : DecodeError) → F.lookup ctx (masked a.kind) ≢ lookup.Is shape.SelfList → F.meaning ctx a ≡ Err e → (e.family ≡ F.FAMILY) × (e.kind ≡ masked a.kind) }
 {}
 
+/// Each error of an attribute, of a list of attributes and of a first attribute is that of a header that is not accepted, (Frame, 0, Header),
+/// or names the family: also where the attribute holds a list, at whatever depth.
+pub fn errors_named<F: LinkFamily>()
+    ensures attribute { (c : F.Context) (a : Attribute) → EachNames F.FAMILY (F.meaning c a) }
+    ensures list { (c : F.Context) (bytes : List ℕ) → EachNames F.FAMILY (values (F.meaning c) (pieces bytes)) }
+    ensures first { (c : F.Context) (bytes : List ℕ) → EachNames F.FAMILY (first_meaning (F.meaning c) (pieces bytes)) }
+{}
+
+/// An attribute that holds no others is rejected without memory: its fault is certain, whatever memory there is. So is that of a list that
+/// begins with it, and of a first attribute.
+pub fn faults_certain<F: LinkFamily>()
+    ensures attribute { (c : F.Context) (a : Attribute) (e : DecodeError) → HoldsNone (F.lookup c (masked a.kind)) → F.meaning c a ≡ Err e → F.needs_memory c a ≡ false }
+    ensures list { (c : F.Context) (bytes : List ℕ) (e : DecodeError) → BeginsFaulty (F.lookup c) (F.meaning c) (pieces bytes) e → memory_of (F.meaning c) (F.needs_memory c) (pieces bytes) ≡ false }
+    ensures first { (c : F.Context) (bytes : List ℕ) (e : DecodeError) → BeginsFaulty (F.lookup c) (F.meaning c) (pieces bytes) e → first_memory (F.needs_memory c) (pieces bytes) ≡ false }
+{}
+
 /// An attribute of a family without rows means the value that keeps it, whatever its type and payload. Two are alike where both have one
 /// 16-bit type, flag bits included, and one payload.
 #[tactic(auto, unfolding(crate::specs::Rows::meaning_in, crate::specs::Rows::alike_in))]
@@ -77,4 +95,9 @@ pub fn kept_as_it_came<const NUMBER: u8>()
 pub fn equal_parts()
     ensures found { (a b : Found) → IsTrue (⟦<Found<'static> as PartialEq>⟧.eq a b) ↔ SameFound a b }
     ensures part { (a b : Part) → IsTrue (⟦<Part<'static> as PartialEq>⟧.eq a b) ↔ SamePart a b }
+{}
+
+/// `==` of the faults of peers answers true exactly where both are the same.
+pub fn equal_faults()
+    ensures { (a b : PeerFault) → IsTrue (⟦<PeerFault as PartialEq>⟧.eq a b) ↔ (a ≡ b) }
 {}

@@ -1,6 +1,6 @@
 //! Where a value that was read is put.
 
-ghost use Rattle.std.specs.Prelude.{◌≡◌, Bool, false, true, IsOk, List, [], ◌∷◌, ◌++◌, OnOk, Option, Some};
+ghost use Rattle.std.specs.Prelude.{◌≡◌, Bool, false, true, IsOk, List, [], ◌∷◌, ◌++◌, OnErr, OnOk, Option, Some};
 
 use std::alloc::AllocError;
 
@@ -17,9 +17,10 @@ pub trait Place<T>: Sized {
     /// Whether a value can be put there for certain, without memory.
     ghost is_certain: { Bool };
 
-    /// Puts a value there; an error where the place grows and memory is refused.
+    /// Puts a value there. Where the place grows and memory is refused, it is an error, and the place holds what it held.
     fn put(&mut self, value: T) -> Result<(), AllocError>
         ensures held { OnOk result (held self.new ≡ with self.old value) }
+        ensures unchanged { OnErr result (held self.new ≡ held self.old) }
         ensures certain { is_certain ≡ true → IsOk result };
 }
 

@@ -1,6 +1,6 @@
 //! Families that are given by rows.
 
-ghost use Rattle.std.specs.Prelude.{◌≡◌, ℕ, Bool, false, true, IsOk, OnOk};
+ghost use Rattle.std.specs.Prelude.{◌≡◌, ℕ, Bool, false, true, IsOk, OnErr, OnOk};
 ghost use Rattle.nla_frame.specs.Attribute.{Attribute};
 ghost use Rattle.nla_frame.specs.declared.error.Family.{Family};
 ghost use Rattle.nla_frame.specs.declared.default_nla.DefaultNla.{DefaultNla};
@@ -41,7 +41,7 @@ pub trait RowFamily: Sized + Drop {
         ensures { result ≡ lookup_of (rows ctx kind) };
 
     /// Puts the value of what was read of an attribute in a place. Asks that a datum belongs to the shape of its type's row; only a text or
-    /// bytes, which are copied, and the place may want memory.
+    /// bytes, which are copied, and the place may want memory. On an error the place holds what it held.
     fn put_found<P: Place<Self>>(
         place: &mut P,
         alloc: Global,
@@ -50,6 +50,7 @@ pub trait RowFamily: Sized + Drop {
     ) -> Result<(), AllocError>
         requires { SuitsFound (rows ctx) found }
         ensures value { OnOk result (Puts (P.with place.old) other (rows ctx) found.entry (P.held place.new)) }
+        ensures unchanged { OnErr result (P.held place.new ≡ P.held place.old) }
         ensures certain { P.is_certain ≡ true → found_needs_memory found.entry ≡ false → IsOk result };
 
     /// The type number, shape and datum of a value, or the attribute that it keeps.

@@ -1,6 +1,6 @@
 //! What each family that is given by rows does.
 
-ghost use Rattle.std.specs.Prelude.{◌≡◌, ◌==◌, ◌&&◌, ◌≤◌, ◌++◌, drop, false, length, IsOk, SomeIff};
+ghost use Rattle.std.specs.Prelude.{◌≡◌, ◌==◌, ◌&&◌, ◌≤◌, ◌++◌, drop, false, length, IsOk, OnErr, SomeIff};
 ghost use Rattle.std.specs.Str.{bytes_eq};
 ghost use Rattle.nla_frame.specs.Answers.{CertainUnless, Gives, verdict};
 ghost use Rattle.nla_frame.specs.Attribute.{Fits, masked};
@@ -43,7 +43,8 @@ pub fn table_lookup(family: Family, kind: u16) -> Lookup
     }
 }
 
-/// Reads an attribute by its row, and puts its value in a place. Asks for one whose row has a shape of the table, or none.
+/// Reads an attribute by its row, and puts its value in a place. On an error the place holds what it held. Asks for one whose row has a
+/// shape of the table, or none.
 #[inline(always)]
 pub fn row_put<F: RowFamily, P: Place<F>>(
     place: &mut P,
@@ -53,6 +54,7 @@ pub fn row_put<F: RowFamily, P: Place<F>>(
 ) -> Result<(), DecodeError>
     requires { IsFlat (F.rows ctx (masked nla.now.kind)) }
     ensures answer { PutsGives (P.with place.old) (P.held place.new) result (meaning_in F.FAMILY F.other (λ n. row_of (F.rows ctx n)) nla.now) }
+    ensures unchanged { OnErr result (P.held place.new ≡ P.held place.old) }
     ensures certain { put_memory P.is_certain (memory_in (λ n. row_of (F.rows ctx n)) nla.now) (meaning_in F.FAMILY F.other (λ n. row_of (F.rows ctx n)) nla.now) ≡ false → result ≡ verdict (meaning_in F.FAMILY F.other (λ n. row_of (F.rows ctx n)) nla.now) }
 {
     let kind = nla.kind();

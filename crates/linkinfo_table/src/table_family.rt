@@ -1,6 +1,6 @@
 //! Families of plain rows: each row has a shape of the table of all families, and no context changes it.
 
-ghost use Rattle.std.specs.Prelude.{◌≡◌, ℕ, List, false, true, IsOk, OnOk};
+ghost use Rattle.std.specs.Prelude.{◌≡◌, ℕ, List, false, true, IsOk, OnErr, OnOk};
 ghost use Rattle.nla_frame.specs.Attribute.{Attribute};
 ghost use Rattle.nla_frame.specs.declared.error.Family.{Family};
 ghost use Rattle.nla_frame.specs.declared.default_nla.DefaultNla.{DefaultNla};
@@ -35,7 +35,7 @@ pub trait TableFamily: Sized + Drop {
     ghost canonical: { Self → Attribute };
 
     /// Puts the value of what was read of an attribute in a place. Asks that a datum belongs to the shape of its type's row; only a text or
-    /// bytes, which are copied, and the place may want memory.
+    /// bytes, which are copied, and the place may want memory. On an error the place holds what it held.
     fn put_found<P: Place<Self>>(
         place: &mut P,
         alloc: Global,
@@ -43,6 +43,7 @@ pub trait TableFamily: Sized + Drop {
     ) -> Result<(), AllocError>
         requires { SuitsFound (λ n. table_row table n) found }
         ensures value { OnOk result (Puts (P.with place.old) other (λ n. table_row table n) found.entry (P.held place.new)) }
+        ensures unchanged { OnErr result (P.held place.new ≡ P.held place.old) }
         ensures certain { P.is_certain ≡ true → found_needs_memory found.entry ≡ false → IsOk result };
 
     /// The type number, shape and datum of a value, or the attribute that it keeps.

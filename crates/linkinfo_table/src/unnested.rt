@@ -1,11 +1,12 @@
 //! A family by rows of which no attribute holds others is a `LinkFamily`.
 
-ghost use Rattle.std.specs.Prelude.{◌≡◌, ◌≤◌, ◌++◌, ℕ, false, IsOk, SomeIff, drop, length};
+ghost use Rattle.std.specs.Prelude.{◌≡◌, ◌≤◌, ◌++◌, ℕ, false, IsOk, OnErr, SomeIff, drop, length};
 ghost use Rattle.std.proofs.Common.{◌∙◌};
 ghost use Rattle.nla_frame.specs.Answers.{CertainUnless, Gives, verdict};
 ghost use Rattle.nla_frame.specs.Attribute.{Fits, buffer_len_of, canonical_string, masked};
 ghost use Rattle.nla_frame.specs.Canonical.{attribute_for};
 ghost use Rattle.linkinfo_table.specs.FamilyRows.{IsUnnested, lookup_of, row_of};
+ghost use Rattle.linkinfo_table.specs.FaultMemory.{rows_certain, unnested_other};
 ghost use Rattle.linkinfo_table.specs.Lists.{Appends, push_memory};
 ghost use Rattle.linkinfo_table.specs.LookupLaws.{rows_say};
 ghost use Rattle.linkinfo_table.specs.Rows.{alike_in, meaning_in, memory_in, WellFormed};
@@ -29,7 +30,7 @@ pub trait UnnestedFamily: RowFamily + Nla {
         ensures answer { Gives (λ value. value) result (meaning_in Self.FAMILY Self.other (λ n. row_of (Self.rows ctx n)) nla.now) }
         ensures certain { CertainUnless (memory_in (λ n. row_of (Self.rows ctx n)) nla.now) (λ value. value) result (meaning_in Self.FAMILY Self.other (λ n. row_of (Self.rows ctx n)) nla.now) };
 
-    /// Reads an attribute by its row, and puts its value behind a list.
+    /// Reads an attribute by its row, and puts its value behind a list. On an error the list is what it was.
     fn push_by_row(
         items: &mut Vec<Self>,
         alloc: Global,
@@ -37,6 +38,7 @@ pub trait UnnestedFamily: RowFamily + Nla {
         ctx: <Self as RowFamily>::Context,
     ) -> Result<(), DecodeError>
         ensures answer { Appends items.old.items items.new.items result (meaning_in Self.FAMILY Self.other (λ n. row_of (Self.rows ctx n)) nla.now) }
+        ensures unchanged { OnErr result (items.new.items ≡ items.old.items) }
         ensures certain { push_memory (memory_in (λ n. row_of (Self.rows ctx n)) nla.now) (meaning_in Self.FAMILY Self.other (λ n. row_of (Self.rows ctx n)) nla.now) ≡ false → result ≡ verdict (meaning_in Self.FAMILY Self.other (λ n. row_of (Self.rows ctx n)) nla.now) }
     {
         items.push(Self::read_by_row(alloc, nla, ctx)?)?;
@@ -110,6 +112,8 @@ impl<F: UnnestedFamily> LinkFamily for F {
     ghost headers_quarter = { λ _ a. none_inside a };
 
     ghost no_memory = { λ c a. flat_no_memory F.RowFamily.FAMILY F.other F.canonical (F.rows c) (F.owes c) F.keeps_other a };
+
+    ghost fault_certain = { λ c a e. rows_certain F.RowFamily.FAMILY F.other (F.rows c) a e (unnested_other (F.rows c (masked a.kind)) (F.unnested c (masked a.kind))) };
 
     ghost read_well = { λ c a x. flat_read_well F.RowFamily.FAMILY F.other F.canonical (F.rows c) (F.owes c) F.keeps_other a x };
 

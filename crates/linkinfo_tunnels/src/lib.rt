@@ -8,6 +8,7 @@ mod gre;
 mod gre6;
 mod gtp;
 mod ip_tunnel;
+pub mod laws;
 mod vti;
 mod vxlan;
 

@@ -72,6 +72,7 @@ returns-in_ok-put_found-in-Ok g c =
     c.in_ok-put_found-in-Ok.ensures.value in
     record {
       answer = put_at f other _ _ _ _ same here;
+      unchanged = tt;
       certain = λ _. subst (λ (m : Result _ DecodeError). Ok tt ≡ verdict m) (sym same) (put_verdict f other _ _ _ here);
     }
 
@@ -89,7 +90,7 @@ returns-in-Err g c =
     let means = meaning_at f other rows a k _ at
     (refuse_row f other (rows k) a c.in-Is.shape c.value.result.now c.in-Err.cause c.FAMILY.result k c.fault.result flat is c.value.ensures.value fails
     c.fault.ensures c.FAMILY.ensures at) in
-    record { answer = λ _. means; certain = λ _. verdict_err f other _ _ means }
+    record { answer = λ _. means; unchanged = refl; certain = λ _. verdict_err f other _ _ means }
 
 pub returns-in-Refused : goal.returns-in-Refused
 returns-in-Refused g c =
@@ -102,7 +103,7 @@ returns-in-Refused g c =
     let means = meaning_at f other rows a k _ at
     (refused_row f other (rows k) a c.in-Refused.cause c.FAMILY-in-Refused.result k c.fault-in-Refused.result (sym c.shape.ensures ∙ c.in-Refused.is)
     c.fault-in-Refused.ensures c.FAMILY-in-Refused.ensures at) in
-    record { answer = λ _. means; certain = λ _. verdict_err f other _ _ means }
+    record { answer = λ _. means; unchanged = refl; certain = λ _. verdict_err f other _ _ means }
 
 pub returns-in_ok-put_found-in-Unknown : goal.returns-in_ok-put_found-in-Unknown
 returns-in_ok-put_found-in-Unknown g c =
@@ -117,5 +118,6 @@ returns-in_ok-put_found-in-Unknown g c =
     c.in_ok-put_found-in-Unknown.ensures.value in
     record {
       answer = put_at f other _ _ _ _ same here;
+      unchanged = tt;
       certain = λ _. subst (λ (m : Result _ DecodeError). Ok tt ≡ verdict m) (sym same) (put_verdict f other _ _ _ here);
     }
