@@ -14,8 +14,10 @@ from .crates import ROOT, toolchain, write
 from .marks import Marks
 
 SEEN = f"{ROOT}/wrong.seen"
-# Mutants drawn among those that need not be tried.
+# Mutants drawn among those that need not be tried, and the most of them of one crate that is drawn
+# from while another has some left.
 DRAWN = 48
+OF_A_CRATE = 24
 
 
 def git(*words):
@@ -73,15 +75,32 @@ def unchanged(edits):
     return same, f"all mutants were last seen refused at commit {commit}"
 
 
+def drawn_among(same, lots):
+    """The mutants that are drawn: of crates drawn one after the other, each as likely as it has
+    mutants, at most `OF_A_CRATE` of each. A crate that has a mutant to try pays a first check of
+    its own, so the draw is of few crates."""
+    by_crate, drawn = {}, []
+    for it in same:
+        by_crate.setdefault(it.crate, []).append(it)
+    while by_crate and len(drawn) < DRAWN:
+        names = sorted(by_crate)
+        name = lots.choices(names, [len(by_crate[it]) for it in names])[0]
+        own = by_crate.pop(name)
+        drawn += lots.sample(own, min(OF_A_CRATE, DRAWN - len(drawn), len(own)))
+    return drawn
+
+
 def chosen(edits):
     """The edits to try at a landing, those of them that were drawn, the number of those not to be
-    tried, and what to say of it."""
+    tried, and what to say of it. Right bodies go along with mutants of their crate alone."""
     same, said = unchanged([it for it in edits if not it.is_control])
-    drawn = draw().sample(same, min(DRAWN, len(same)))
+    drawn = drawn_among(same, draw())
     left = {it.label for it in same} - {it.label for it in drawn}
     if left and not is_committed():
         said += " (beside changes that are not committed, for which the draw is not made)"
-    return [it for it in edits if it.label not in left], drawn, len(left), said
+    tried = [it for it in edits if it.label not in left]
+    with_mutants = {it.crate for it in tried if not it.is_control}
+    return [it for it in tried if it.crate in with_mutants], drawn, len(left), said
 
 
 def is_committed():

@@ -2,7 +2,8 @@
 
 ghost use Rattle.std.specs.Prelude.{◌≡◌, ◌≢◌, ◌↔◌, ℕ, IsOk, IsTrue, List, Some, Ok, Err, true};
 ghost use Rattle.std.specs.Iterator.{Yields};
-ghost use Rattle.nla_frame.specs.Attribute.{Attribute};
+ghost use Rattle.std.specs.List.{AllByRecursion};
+ghost use Rattle.nla_frame.specs.Attribute.{Attribute, Fits, canonical_string, list_string};
 ghost use Rattle.nla_frame.specs.Error.{memory_fault};
 ghost use Rattle.nla_frame.specs.Kept.{kept};
 ghost use Rattle.nla_frame.specs.declared.error.DecodeError.{DecodeError};
@@ -86,4 +87,11 @@ pub fn equal_lists<P: LinkPeer>()
 /// `==` of walks answers true exactly where both stand at the same place of the same bytes, under the same kinds and with the same fault.
 pub fn equal_walks()
     ensures { (x y : LinkInfoWalk) → IsTrue (⟦<LinkInfoWalk<'static> as PartialEq>⟧.eq x y) ↔ (x ≡ y) }
+{}
+
+/// What stands inside a payload that fits, fits: each attribute of a list inside a value that fits has at most 65,531 bytes of payload, and
+/// so has a first attribute inside one. It holds at every depth, since these fit in turn.
+pub fn fits_inside()
+    ensures list { (kind : ℕ) (inside : List Attribute) → Fits (record { kind = kind; value = list_string inside }) → AllByRecursion Fits inside }
+    ensures first { (kind : ℕ) (inside : Attribute) → Fits (record { kind = kind; value = canonical_string inside }) → Fits inside }
 {}

@@ -95,8 +95,10 @@ pub use nla_frame::fitting;
 
 // What follows from the contracts, by layer: functions without code, each there for its contract. Those of the list are `laws`.
 pub use linkinfo_data::laws as data_laws;
+pub use linkinfo_devices::laws as device_laws;
 pub use linkinfo_numbers::laws as number_laws;
 pub use linkinfo_peers::laws as peer_laws;
 pub use linkinfo_shapes::laws as shape_laws;
 pub use linkinfo_table::{laws as family_laws, lower_laws};
+pub use linkinfo_tunnels::laws as tunnel_laws;
 pub use nla_frame::laws as frame_laws;

@@ -1,3 +1,4 @@
 pub mod Framed
 pub mod Listing
+pub mod Quarters
 pub mod Walked

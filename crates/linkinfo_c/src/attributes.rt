@@ -1,6 +1,6 @@
 //! The attributes inside data, written into an array of the caller's.
 
-ghost use Rattle.std.specs.Prelude.{◌≡◌, Some, length};
+ghost use Rattle.std.specs.Prelude.{◌≡◌, ◌*◌, ◌≤◌, Some, length};
 ghost use Rattle.linkinfo_data.specs.Names.{data_name, device_name, lower_name, peered_name, port_data_name, tunnel_name};
 ghost use Rattle.linkinfo_shapes.specs.Data.{value_of};
 ghost use Rattle.linkinfo.specs.Placed.{place_behind};
@@ -204,6 +204,7 @@ fn put_attributes(
 ) -> LinkinfoFound
     ensures attributes { attributes.new ≡ with_front (attributes_inside (Some family) kind bytes.now) attributes.old }
     ensures count { result.count ≡ length (attributes_inside (Some family) kind bytes.now) }
+    ensures quarter { 4 * result.count ≤ length bytes.now }
     ensures fault { result.fault ≡ fault_behind (given_inside (Some family) bytes.now) }
     ensures place { result.place ≡ place_behind bytes.now (attributes_in (given_inside (Some family) bytes.now)) }
 {
@@ -244,6 +245,7 @@ pub extern "C" fn linkinfo_attributes(
 ) -> LinkinfoFound
     ensures attributes { attributes.new ≡ with_front (attributes_inside (family_inside kind) (kind_of_code kind) bytes.now) attributes.old }
     ensures count { result.count ≡ length (attributes_inside (family_inside kind) (kind_of_code kind) bytes.now) }
+    ensures quarter { 4 * result.count ≤ length bytes.now }
     ensures fault { result.fault ≡ fault_behind (given_inside (family_inside kind) bytes.now) }
     ensures place { result.place ≡ place_behind bytes.now (attributes_in (given_inside (family_inside kind) bytes.now)) }
 {

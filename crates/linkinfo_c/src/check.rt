@@ -1,6 +1,6 @@
 //! Lists accepted or refused, compared, and counted.
 
-ghost use Rattle.std.specs.Prelude.{◌≡◌, IfErr, IsOk};
+ghost use Rattle.std.specs.Prelude.{◌≡◌, ◌*◌, ◌≤◌, IfErr, IsOk, length};
 ghost use Rattle.nla_frame.specs.Answers.{verdict};
 ghost use Rattle.linkinfo_data.specs.BytesPeer.{bytes_peer};
 ghost use Rattle.linkinfo.specs.Placed.{IsFaultyAt};
@@ -93,11 +93,12 @@ pub extern "C" fn linkinfo_same(a: &[u8], b: &[u8]) -> LinkinfoSame
     }
 }
 
-/// How many headers of the list are looked at, up to its fault.
+/// How many headers of the list are looked at, up to its fault: at most a quarter of its bytes.
 #[unsafe(no_mangle)]
 pub extern "C" fn linkinfo_count(bytes: &[u8]) -> LinkinfoCount
     ensures fault { result.fault ≡ fault_in (verdict (reading bytes_peer bytes.now)) }
     ensures count { result.count ≡ headers_of_string bytes_peer bytes.now }
+    ensures quarter { 4 * result.count ≤ length bytes.now }
 {
     let mut count = HeaderCount::new();
     let fault = fault_in(check_counted(bytes, &mut count));

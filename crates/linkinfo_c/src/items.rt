@@ -1,6 +1,6 @@
 //! The attributes of a list, written into an array of the caller's.
 
-ghost use Rattle.std.specs.Prelude.{◌≡◌, length, slice_set};
+ghost use Rattle.std.specs.Prelude.{◌≡◌, ◌*◌, ◌≤◌, length, slice_set};
 ghost use Rattle.linkinfo.specs.Placed.{place_behind};
 ghost use Rattle.linkinfo_c.specs.Buffers.{with_front};
 ghost use Rattle.linkinfo_c.specs.Codes.{kind_code, port_kind_code};
@@ -61,11 +61,12 @@ fn item_record(item: &LinkInfoItem<'_>) -> LinkinfoItem
 }
 
 /// The attributes of a list in order, as many as the array holds, up to the first that has no header, no kind in force that it needs, or a name that is
-/// not UTF-8. No other payload is looked at.
+/// not UTF-8. No other payload is looked at. There are at most a quarter as many as bytes.
 #[unsafe(no_mangle)]
 pub extern "C" fn linkinfo_items(bytes: &[u8], items: &mut [LinkinfoItem]) -> LinkinfoFound
     ensures items { items.new ≡ with_front (items_of bytes.now) items.old }
     ensures count { result.count ≡ length (items_of bytes.now) }
+    ensures quarter { 4 * result.count ≤ length bytes.now }
     ensures fault { result.fault ≡ fault_behind (given_by bytes.now) }
     ensures place { result.place ≡ place_behind bytes.now (attributes_in (given_by bytes.now)) }
 {

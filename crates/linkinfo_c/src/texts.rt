@@ -101,10 +101,11 @@ pub extern "C" fn linkinfo_port_kind_of_name(name: &[u8]) -> u16
     port_kind_code(port_tag_of_name(name))
 }
 
-/// Family, type in decimal and cause of a fault, as `linkinfo 2 order`; that of no fault is empty.
+/// Family, type in decimal and cause of a fault, as `linkinfo 2 order`, at most 28 bytes; that of no fault is empty.
 #[unsafe(no_mangle)]
 pub extern "C" fn linkinfo_fault_text(fault: LinkinfoFault, buffer: &mut [u8]) -> usize
     ensures length { result ≡ length (fault_text fault) }
+    ensures most { result ≤ 28 }
     ensures text { buffer.new ≡ with_text (fault_text fault) buffer.old }
 {
     match (family_of_code(fault.family), cause_of_code(fault.cause)) {

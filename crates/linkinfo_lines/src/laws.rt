@@ -11,6 +11,7 @@ ghost use Rattle.linkinfo.specs.Comparing.{same_answer};
 ghost use Rattle.linkinfo.specs.Strings.{alike_strings, reading};
 ghost use Rattle.linkinfo_lines.specs.Answers.{answer_of, bad_line, bytes_of, canon_answer, check_answer, comparison_answer, line_answer, list_fits, word_of};
 
+use crate::streams::RunError;
 use linkinfo::Bytes;
 
 /// An input is answered line by line, each line on its own.
@@ -57,3 +58,8 @@ pub fn no_memory()
 {
     linkinfo::laws::no_memory::<Bytes>();
 }
+
+/// `==` of the errors of a run answers true exactly where both are the same.
+pub fn equal_errors()
+    ensures { (a b : RunError) → IsTrue (⟦<RunError as PartialEq>⟧.eq a b) ↔ (a ≡ b) }
+{}

@@ -1,8 +1,10 @@
 """What is tried at a landing, in a small repository of its own."""
 import os
+import random
 import subprocess
 import tempfile
 import unittest
+from types import SimpleNamespace
 from unittest import mock
 
 from mutants import marks, seen
@@ -96,6 +98,26 @@ class Seen(unittest.TestCase):
     def test_draw(self):
         self.assertEqual(len(self.tried(drawn=2)), 2)
         self.assertEqual(self.tried(drawn=48), ["four", "once", "twice"])
+
+    def test_draw_of_few_crates(self):
+        same = [SimpleNamespace(crate=f"crate{n % 10}", label=n) for n in range(500)]
+        drawn = seen.drawn_among(same, random.Random("a commit"))
+        self.assertEqual(len({it.label for it in drawn}), 48)
+        self.assertEqual(len({it.crate for it in drawn}), 2)
+        few = [SimpleNamespace(crate=f"crate{n}", label=n) for n in range(60)]
+        self.assertEqual(len({it.label for it in seen.drawn_among(few, random.Random("it"))}), 48)
+        self.assertEqual(len(seen.drawn_among(few[:3], random.Random("it"))), 3)
+
+    def test_right_bodies_of_crates_that_are_tried(self):
+        self.put("crates/low/wrong/control/sum.edit", "file: src/lib.rt\nold: n\nnew: n + 0\n")
+        edit = Edit("low", "wrong/control/sum.edit", self.root)
+        self.assertTrue(edit.is_control)
+        self.assertEqual(seen.chosen([edit])[0], [])
+        self.change("crates/low/wrong/once.edit", "new: 0", "new: 1")
+        own = Edit("low", "wrong/once.edit", self.root)
+        other = Edit("high", "wrong/four.edit", self.root)
+        with mock.patch.object(seen, "DRAWN", 0):
+            self.assertEqual(seen.chosen([edit, own, other])[0], [edit, own])
 
     def test_comments_and_hints(self):
         self.change("crates/low/src/lib.rt", "/// Twice.", "/// Two times.\n#[inline(always)]")

@@ -5,13 +5,15 @@ use super::rows::{
     has_shapes, is_emitted, is_list, is_parsed, is_read, keeps_unlisted, kept, list_checked,
     list_fault, unlisted,
 };
+use linkinfo_devices::laws as device_laws;
 use linkinfo_lower::{
     InfoBond, InfoBondPort, InfoBridge, InfoBridgePort, InfoCan, InfoDsa, InfoHsr, InfoVlan,
     laws as lower_laws,
 };
 use linkinfo_peers::{InfoPfcp, InfoTeamPort, InfoTun, InfoWireguard, laws as peer_laws};
 use linkinfo_table::{LinkFamily, Rowless, laws};
-use nla_frame::{Cause, DefaultNla, Family};
+use linkinfo_tunnels::laws as tunnel_laws;
+use nla_frame::{Bytes, Cause, DefaultNla, Family};
 use std::alloc::Global;
 use std::process::Abort;
 
@@ -138,6 +140,8 @@ fn keeps_every_attribute<const NUMBER: u8>(
 #[test]
 fn ports_and_their_devices(rt: HostRuntime) {
     lower_laws::named();
+    device_laws::named();
+    tunnel_laws::named();
     let alloc = rt.alloc();
     let bond = InfoBond::Other(marked(&rt, alloc));
     keeps_every_attribute(&rt, alloc, Family::Bond, bond);
@@ -167,6 +171,7 @@ fn networks_and_rings(rt: HostRuntime) {
 #[test]
 fn tunnels(rt: HostRuntime) {
     peer_laws::named();
+    peer_laws::peers_named::<Bytes>();
     let alloc = rt.alloc();
     let tun = InfoTun::Other(marked(&rt, alloc));
     keeps_every_attribute(&rt, alloc, Family::Tun, tun);

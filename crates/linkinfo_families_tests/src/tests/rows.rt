@@ -57,6 +57,8 @@ pub(super) fn error(family: Family, kind: u16, cause: Cause) -> DecodeError {
 /// The family has these shapes by masked type, and no other row up to 39.
 pub(super) fn has_shapes<F: LinkFamily>(rt: &impl Abort, ctx: F::Context, rows: &[(u16, Shape)]) {
     laws::looked_up::<F>(ctx);
+    laws::errors_named::<F>();
+    laws::faults_certain::<F>();
     for kind in 0..40 {
         let mut wanted = Lookup::Unknown;
         for row in rows {

@@ -81,6 +81,7 @@ fn kept_compare(first: DefaultNla, second: DefaultNla) -> [bool; 2] {
 #[test]
 fn parts_compare_by_what_they_hold(rt: HostRuntime) {
     laws::equal_parts();
+    laws::equal_faults();
     let alloc = rt.alloc();
     let text = [b'a', b'b'];
     let same = [b'a', b'b'];

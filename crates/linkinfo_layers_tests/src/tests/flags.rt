@@ -12,6 +12,8 @@ use std::hash::{Hash, Hasher};
 
 #[test]
 fn named_bits_of_gre(rt: HostRuntime) {
+    laws::gre_io_flag_bits();
+    laws::gre_encap_flag_bits();
     assert_is(
         &rt,
         "GreIOFlags",
@@ -44,6 +46,8 @@ fn named_bits_of_gre(rt: HostRuntime) {
 
 #[test]
 fn named_bits_of_tunnels(rt: HostRuntime) {
+    laws::tunnel_encap_flag_bits();
+    laws::ip6_tunnel_flag_bits();
     assert_is(
         &rt,
         "TunnelEncapFlags",
@@ -77,6 +81,9 @@ fn named_bits_of_tunnels(rt: HostRuntime) {
 
 #[test]
 fn named_bits_of_devices(rt: HostRuntime) {
+    laws::ip_vlan_flag_bits();
+    laws::mac_vlan_flag_bits();
+    laws::rm_net_flag_bits();
     assert_is(
         &rt,
         "IpVlanFlags, MacVlanFlags",

@@ -111,6 +111,7 @@ fn has_tables<D: Drop + PartialEq, F: PayloadFamily<D>>(
 fn payloads_of_families(rt: HostRuntime) {
     let alloc = rt.alloc();
     data_laws::families_lawful::<Bytes>();
+    data_laws::faults_named::<Bytes>();
     let data = InfoData::Vrf(nlas(&rt, alloc, [InfoVrf::TableId(5)]));
     has_tables(&rt, alloc, family_of(KindTag::Vrf), data);
     let data = InfoPortData::VrfPort(nlas(&rt, alloc, [InfoVrf::TableId(5)]));

@@ -72,6 +72,9 @@ fn items_are_equal_wherever_they_are(rt: HostRuntime) {
     let bytes = bytes_of(&rt, alloc, DATA_TWICE);
     let copy = bytes_of(&rt, alloc, DATA_TWICE);
     laws::equal_items();
+    laws::equal_lists::<Bytes>();
+    laws::equal_walks();
+    laws::fits_inside();
     let mut walk = LinkInfoWalk::new(&bytes);
     let mut other = LinkInfoWalk::new(&copy);
     let first = walk.next();

@@ -49,6 +49,7 @@ fn answers_over_memory(rt: HostRuntime) {
     laws::hex_words();
     laws::fitting();
     laws::no_memory();
+    laws::equal_errors();
     let mut input = INPUT;
     let mut output = Vec::new(rt.alloc());
     let ended = run(rt.alloc(), &mut input, &mut output);

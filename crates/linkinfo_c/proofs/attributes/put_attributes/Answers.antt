@@ -1,4 +1,8 @@
-use Rattle.std.proofs.Common.{◌∙◌}
+use Rattle.std.proofs.Common.{◌∙◌, [], arith}
+use Rattle.nla_frame.specs.Pieces.{items_of, pieces}
+use Rattle.linkinfo_c.proofs.Quarters.{framed_quarter, length_each}
+use Rattle.linkinfo_c.specs.Attributes.{attribute_behind}
+use Rattle.linkinfo_c.specs.Items.{attributes_in}
 use Rattle.linkinfo_c.proofs.Framed.{ends, goes_on, stops}
 use Rattle.linkinfo_c.proofs.attributes.put_attributes.Goals as goal
 
@@ -38,3 +42,24 @@ returns-clause-fault c = (ends _ _ _ _ _ c.loop-next.count c.loop-next.place _ _
 
 pub returns-clause-place : goal.returns-clause-place
 returns-clause-place c = (ends _ _ _ _ _ c.loop-next.count c.loop-next.place _ _ c.loop-next.invariant c.in_default.ensures.steps).place_is
+
+pub returns-in-Err-clause-quarter : goal.returns-in-Err-clause-quarter
+returns-in-Err-clause-quarter c =
+    let moves = rw c.in-Err.is at c.in-Some.ensures.steps in
+    let counted = (stops _ _ _ _ _ c.loop-next.count c.loop-next.place _ _ _ c.loop-next.invariant moves).count_is in
+    omega (
+      arith,
+      counted,
+      framed_quarter c.args.bytes.now,
+      length_each (attribute_behind c.args.bytes.now c.args.family c.args.kind) [] (attributes_in (items_of (pieces c.args.bytes.now))),
+    )
+
+pub returns-clause-quarter : goal.returns-clause-quarter
+returns-clause-quarter c =
+    let counted = (ends _ _ _ _ _ c.loop-next.count c.loop-next.place _ _ c.loop-next.invariant c.in_default.ensures.steps).count_is in
+    omega (
+      arith,
+      counted,
+      framed_quarter c.args.bytes.now,
+      length_each (attribute_behind c.args.bytes.now c.args.family c.args.kind) [] (attributes_in (items_of (pieces c.args.bytes.now))),
+    )

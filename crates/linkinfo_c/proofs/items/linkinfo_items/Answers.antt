@@ -1,4 +1,5 @@
-use Rattle.std.proofs.Common.{◌∙◌}
+use Rattle.std.proofs.Common.{◌∙◌, arith}
+use Rattle.linkinfo_c.proofs.Quarters.{items_quarter}
 use Rattle.linkinfo_c.proofs.Walked.{ends, goes_on, stops}
 use Rattle.linkinfo_c.proofs.items.linkinfo_items.Goals as goal
 
@@ -38,3 +39,14 @@ returns-clause-fault c = (ends _ _ _ c.loop-next.count c.loop-next.place _ _ c.l
 
 pub returns-clause-place : goal.returns-clause-place
 returns-clause-place c = (ends _ _ _ c.loop-next.count c.loop-next.place _ _ c.loop-next.invariant c.in_default.ensures.steps).place_is
+
+pub returns-in-Err-clause-quarter : goal.returns-in-Err-clause-quarter
+returns-in-Err-clause-quarter c =
+    let moves = rw c.in-Err.is at c.in-Some.ensures.steps in
+    let counted = (stops _ _ _ c.loop-next.count c.loop-next.place _ _ _ c.loop-next.invariant moves).count_is in
+    omega (arith, counted, items_quarter c.args.bytes.now)
+
+pub returns-clause-quarter : goal.returns-clause-quarter
+returns-clause-quarter c =
+    let counted = (ends _ _ _ c.loop-next.count c.loop-next.place _ _ c.loop-next.invariant c.in_default.ensures.steps).count_is in
+    omega (arith, counted, items_quarter c.args.bytes.now)
