@@ -160,7 +160,7 @@ def conclude(tallies, unproved, named, numbers, is_all):
     for name in unproved:
         print(f"wrong: {name}: the crate as it is is not proved")
     missing = CONTROLS.difference(*[it.controls for it in tallies.values()])
-    # (of crates of which no mutant is tried neither is a right body)
+    # (a run that leaves mutants out tries the right bodies of some crates alone)
     if missing and not named and not left:
         print(f"wrong: no right body of these kinds was tried: {', '.join(sorted(missing))}")
         failed += 1

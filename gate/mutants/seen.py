@@ -14,8 +14,8 @@ from .crates import ROOT, toolchain, write
 from .marks import Marks
 
 SEEN = f"{ROOT}/wrong.seen"
-# Mutants drawn among those that need not be tried, and the most of them of one crate that is drawn
-# from while another has some left.
+# Mutants drawn among those that need not be tried, and how many of one crate before another crate
+# is drawn from.
 DRAWN = 48
 OF_A_CRATE = 24
 
@@ -76,31 +76,31 @@ def unchanged(edits):
 
 
 def drawn_among(same, lots):
-    """The mutants that are drawn: of crates drawn one after the other, each as likely as it has
-    mutants, at most `OF_A_CRATE` of each. A crate that has a mutant to try pays a first check of
-    its own, so the draw is of few crates."""
-    by_crate, drawn = {}, []
-    for it in same:
-        by_crate.setdefault(it.crate, []).append(it)
-    while by_crate and len(drawn) < DRAWN:
-        names = sorted(by_crate)
-        name = lots.choices(names, [len(by_crate[it]) for it in names])[0]
-        own = by_crate.pop(name)
+    """The mutants that are drawn: of one crate after the other, each drawn with a probability
+    proportional to the number of its mutants that are left, `OF_A_CRATE` of each. A crate that has
+    a mutant to try pays a first check of its own, so the draw is of few crates."""
+    left, drawn = list(same), []
+    while left and len(drawn) < DRAWN:
+        crate = lots.choice(left).crate
+        own = [it for it in left if it.crate == crate]
         drawn += lots.sample(own, min(OF_A_CRATE, DRAWN - len(drawn), len(own)))
+        left = [it for it in left if it not in drawn]
     return drawn
 
 
 def chosen(edits):
-    """The edits to try at a landing, those of them that were drawn, the number of those not to be
-    tried, and what to say of it. Right bodies go along with mutants of their crate alone."""
-    same, said = unchanged([it for it in edits if not it.is_control])
-    drawn = drawn_among(same, draw())
+    """The edits to try at a landing, those of them that were drawn, the number of mutants not to be
+    tried, and what to say of it. A right body is tried where it changed, and where mutants of its
+    crate are: what judges is the same as when all were told apart."""
+    same, said = unchanged(edits)
+    drawn = drawn_among([it for it in same if not it.is_control], draw())
     left = {it.label for it in same} - {it.label for it in drawn}
+    crates = {it.crate for it in edits if not it.is_control and it.label not in left}
+    left -= {it.label for it in same if it.is_control and it.crate in crates}
     if left and not is_committed():
         said += " (beside changes that are not committed, for which the draw is not made)"
-    tried = [it for it in edits if it.label not in left]
-    with_mutants = {it.crate for it in tried if not it.is_control}
-    return [it for it in tried if it.crate in with_mutants], drawn, len(left), said
+    mutants = sum(not it.is_control for it in same) - len(drawn)
+    return [it for it in edits if it.label not in left], drawn, mutants, said
 
 
 def is_committed():

@@ -100,24 +100,47 @@ class Seen(unittest.TestCase):
         self.assertEqual(self.tried(drawn=48), ["four", "once", "twice"])
 
     def test_draw_of_few_crates(self):
-        same = [SimpleNamespace(crate=f"crate{n % 10}", label=n) for n in range(500)]
-        drawn = seen.drawn_among(same, random.Random("a commit"))
-        self.assertEqual(len({it.label for it in drawn}), 48)
-        self.assertEqual(len({it.crate for it in drawn}), 2)
-        few = [SimpleNamespace(crate=f"crate{n}", label=n) for n in range(60)]
-        self.assertEqual(len({it.label for it in seen.drawn_among(few, random.Random("it"))}), 48)
-        self.assertEqual(len(seen.drawn_among(few[:3], random.Random("it"))), 3)
+        def drawn_of(sizes):
+            same = [SimpleNamespace(crate=crate, label=f"{crate} {n}")
+                    for crate, size in sizes.items() for n in range(size)]
+            drawn = seen.drawn_among(same, random.Random("a commit"))
+            self.assertEqual(len({it.label for it in drawn}), len(drawn))
+            return len(drawn), len({it.crate for it in drawn})
 
-    def test_right_bodies_of_crates_that_are_tried(self):
-        self.put("crates/low/wrong/control/sum.edit", "file: src/lib.rt\nold: n\nnew: n + 0\n")
+        self.assertEqual(drawn_of({f"crate{n}": 50 for n in range(10)}), (48, 2))
+        self.assertEqual(drawn_of({"low": 5, "high": 100})[0], 48)
+        self.assertEqual(drawn_of({"low": 100}), (48, 1))
+        self.assertEqual(drawn_of({f"crate{n}": 1 for n in range(60)}), (48, 48))
+        self.assertEqual(drawn_of({"low": 1, "high": 2}), (3, 2))
+        self.assertEqual(drawn_of({}), (0, 0))
+
+    def control(self):
+        """A right body of the crate `low`, which was there at the commit of wrong.seen."""
+        path = "crates/low/wrong/control/sum.edit"
+        self.put(path, "fn: low::once\nfile: src/lib.rt\nold: n\nnew: n + 0\n")
+        self.commit()
+        seen.write_seen()
         edit = Edit("low", "wrong/control/sum.edit", self.root)
         self.assertTrue(edit.is_control)
-        self.assertEqual(seen.chosen([edit])[0], [])
-        self.change("crates/low/wrong/once.edit", "new: 0", "new: 1")
-        own = Edit("low", "wrong/once.edit", self.root)
+        return edit
+
+    def test_right_bodies_of_crates_that_are_tried(self):
+        control = self.control()
         other = Edit("high", "wrong/four.edit", self.root)
         with mock.patch.object(seen, "DRAWN", 0):
-            self.assertEqual(seen.chosen([edit, own, other])[0], [edit, own])
+            own = Edit("low", "wrong/once.edit", self.root)
+            self.assertEqual(seen.chosen([control, own, other])[0::2], ([], 2))
+            self.change("crates/low/wrong/once.edit", "new: 0", "new: 1")
+            own = Edit("low", "wrong/once.edit", self.root)
+            self.assertEqual(seen.chosen([control, own, other])[0::2], ([control, own], 1))
+
+    def test_right_body_that_changed(self):
+        self.control()
+        self.change("crates/low/wrong/control/sum.edit", "n + 0", "0 + n")
+        changed = Edit("low", "wrong/control/sum.edit", self.root)
+        own = Edit("low", "wrong/once.edit", self.root)
+        with mock.patch.object(seen, "DRAWN", 0):
+            self.assertEqual(seen.chosen([changed, own])[0::2], ([changed], 1))
 
     def test_comments_and_hints(self):
         self.change("crates/low/src/lib.rt", "/// Twice.", "/// Two times.\n#[inline(always)]")
