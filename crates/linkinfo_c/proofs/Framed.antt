@@ -1,12 +1,11 @@
 -- An iterator over the attributes of a payload, and what an array holds of them.
-use Rattle.std.proofs.Common.{◌≡◌, ℕ, ◌+◌, min, List, [], ◌∷◌, ◌++◌, length, refl, sym, ap, ◌∙◌, arith, false, Result, Ok, Err, Option, Some, None}
+use Rattle.std.proofs.Common.{◌≡◌, ℕ, ◌+◌, min, List, [], ◌∷◌, ◌++◌, length, refl, sym, ap, ◌∙◌, arith, false, Ok, Err, Option, Some, None}
 use Rattle.std.specs.Prelude.{slice_set}
 use Rattle.nla_frame.specs.Attribute.{Attribute, aligned, masked}
 use Rattle.nla_frame.specs.Pieces.{items_of, pieces}
 use Rattle.nla_frame.specs.Walk.{Walk, Moves, items_left}
 use Rattle.nla_frame.specs.declared.error.DecodeError.{DecodeError}
 use Rattle.nla_frame.specs.declared.error.Family.{Family}
-use Rattle.linkinfo.specs.Placed.{place_behind}
 use Rattle.linkinfo_numbers.specs.declared.tags.KindTag.{KindTag}
 use Rattle.linkinfo_shapes.specs.declared.shape.Shape.{Shape}
 use Rattle.linkinfo_c.specs.declared.attributes.LinkinfoAttribute.{LinkinfoAttribute}

@@ -1,3 +1,5 @@
+pub mod Causing
+pub mod CausingData
 pub mod Framed
 pub mod Listing
 pub mod Quarters

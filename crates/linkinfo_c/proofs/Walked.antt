@@ -1,5 +1,5 @@
 -- A walk that gave items, and what an array holds of them.
-use Rattle.std.proofs.Common.{◌≡◌, ℕ, ◌+◌, min, List, [], ◌∷◌, ◌++◌, length, map, refl, sym, ap, subst, ◌∙◌, arith, Result, Ok, Err, Option, Some, None}
+use Rattle.std.proofs.Common.{◌≡◌, ℕ, ◌+◌, min, List, [], ◌∷◌, ◌++◌, length, map, refl, sym, ap, subst, ◌∙◌, arith, Ok, Err, Option, Some, None}
 use Rattle.std.specs.Prelude.{slice_set}
 use Rattle.std.specs.Iterator.{Yields}
 use Rattle.std.proofs.lemmas.List.{map-append}

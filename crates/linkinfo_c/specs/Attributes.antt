@@ -1,5 +1,5 @@
 -- The attributes inside data as C sees them.
-use Rattle.std.specs.Prelude.{ℕ, ◌==◌, if◌then◌else◌, List, [], ◌∷◌, length, is_some, unwrap_or, Option, Some, None, Result, Ok, Err}
+use Rattle.std.specs.Prelude.{ℕ, ◌==◌, if◌then◌else◌, List, [], length, is_some, unwrap_or, Option, Some, None, Result, Ok, Err}
 use Rattle.nla_frame.specs.Attribute.{Attribute, masked}
 use Rattle.nla_frame.specs.Pieces.{items_of, pieces}
 use Rattle.nla_frame.specs.declared.error.Cause.{Cause}

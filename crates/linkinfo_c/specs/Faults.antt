@@ -1,5 +1,5 @@
 -- Faults, verdicts and counts as C sees them.
-use Rattle.std.specs.Prelude.{ℕ, Bool, false, Result, Ok, Err}
+use Rattle.std.specs.Prelude.{Bool, false, Result, Ok, Err}
 use Rattle.nla_frame.specs.Error.{cause_number}
 use Rattle.nla_frame.specs.declared.error.DecodeError.{DecodeError}
 use Rattle.linkinfo_c.specs.declared.fault.LinkinfoFault.{LinkinfoFault}

@@ -3,8 +3,6 @@ use Rattle.std.specs.Prelude.{ℕ, List, [], ◌∷◌, ◌++◌, length, Option
 use Rattle.nla_frame.specs.Attribute.{Attribute}
 use Rattle.nla_frame.specs.Pieces.{pieces}
 use Rattle.nla_frame.specs.declared.error.DecodeError.{DecodeError}
-use Rattle.linkinfo_numbers.specs.declared.tags.KindTag.{KindTag}
-use Rattle.linkinfo_numbers.specs.declared.tags.PortTag.{PortTag}
 use Rattle.linkinfo.specs.Placed.{place_behind}
 use Rattle.linkinfo.specs.Roles.{none_in_force}
 use Rattle.linkinfo.specs.Strings.{last_kind, last_port}

@@ -1,6 +1,7 @@
 pub mod Attributes
 pub mod Buffers
 pub mod Canon
+pub mod Causes
 pub mod Codes
 pub mod Faults
 pub mod Items

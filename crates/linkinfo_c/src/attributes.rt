@@ -6,6 +6,7 @@ ghost use Rattle.linkinfo_shapes.specs.Data.{value_of};
 ghost use Rattle.linkinfo.specs.Placed.{place_behind};
 ghost use Rattle.linkinfo_c.specs.Attributes.{attribute_at, attributes_inside, family_inside, flags_shape, given_inside, number_in, number_of, shape_in};
 ghost use Rattle.linkinfo_c.specs.Buffers.{with_front};
+ghost use Rattle.linkinfo_c.specs.Causes.{IsReturnedCode};
 ghost use Rattle.linkinfo_c.specs.Codes.{kind_of_code};
 ghost use Rattle.linkinfo_c.specs.Items.{attributes_in, fault_behind};
 
@@ -206,6 +207,7 @@ fn put_attributes(
     ensures count { result.count ≡ length (attributes_inside (Some family) kind bytes.now) }
     ensures quarter { 4 * result.count ≤ length bytes.now }
     ensures fault { result.fault ≡ fault_behind (given_inside (Some family) bytes.now) }
+    ensures cause { IsReturnedCode result.fault.cause }
     ensures place { result.place ≡ place_behind bytes.now (attributes_in (given_inside (Some family) bytes.now)) }
 {
     let mut nlas = NlasIterator::new(bytes);
@@ -247,6 +249,7 @@ pub extern "C" fn linkinfo_attributes(
     ensures count { result.count ≡ length (attributes_inside (family_inside kind) (kind_of_code kind) bytes.now) }
     ensures quarter { 4 * result.count ≤ length bytes.now }
     ensures fault { result.fault ≡ fault_behind (given_inside (family_inside kind) bytes.now) }
+    ensures cause { IsReturnedCode result.fault.cause }
     ensures place { result.place ≡ place_behind bytes.now (attributes_in (given_inside (family_inside kind) bytes.now)) }
 {
     match family_inside(kind) {

@@ -4,6 +4,7 @@ ghost use Rattle.std.specs.Prelude.{◌≡◌, ◌≢◌, length};
 ghost use Rattle.linkinfo_data.specs.BytesPeer.{bytes_peer};
 ghost use Rattle.linkinfo.specs.Strings.{reading};
 ghost use Rattle.linkinfo_c.specs.Canon.{IsCanon};
+ghost use Rattle.linkinfo_c.specs.Causes.{IsReturnedCode};
 
 use crate::fault::{LinkinfoFault, NO_FAULT, fault_record};
 use linkinfo::{CanonIntoError, canon_into};
@@ -32,7 +33,8 @@ pub struct LinkinfoCanon {
 /// Writes the canonical string of the list at the front of the buffer, where there is one and room for it; else the buffer stays as it was.
 #[unsafe(no_mangle)]
 pub extern "C" fn linkinfo_canon(bytes: &[u8], buffer: &mut [u8]) -> LinkinfoCanon
-    ensures { IsCanon (reading bytes_peer bytes.now) buffer.old buffer.new result }
+    ensures answer { IsCanon (reading bytes_peer bytes.now) buffer.old buffer.new result }
+    ensures cause { IsReturnedCode result.fault.cause }
 {
     match canon_into(bytes, buffer) {
         Ok(length) => LinkinfoCanon {

@@ -5,6 +5,7 @@ ghost use Rattle.nla_frame.specs.Answers.{verdict};
 ghost use Rattle.linkinfo_data.specs.BytesPeer.{bytes_peer};
 ghost use Rattle.linkinfo.specs.Placed.{IsFaultyAt};
 ghost use Rattle.linkinfo.specs.Strings.{alike_strings, headers_of_string, reading};
+ghost use Rattle.linkinfo_c.specs.Causes.{IsReturnedCode};
 ghost use Rattle.linkinfo_c.specs.Faults.{fault_in, same_record};
 
 use crate::fault::{LinkinfoFault, NO_FAULT, fault_in, fault_record};
@@ -45,7 +46,8 @@ pub struct LinkinfoPlacedFault {
 /// Whether the list is in the grammar, or its fault.
 #[unsafe(no_mangle)]
 pub extern "C" fn linkinfo_check(bytes: &[u8]) -> LinkinfoFault
-    ensures { result ≡ fault_in (verdict (reading bytes_peer bytes.now)) }
+    ensures fault { result ≡ fault_in (verdict (reading bytes_peer bytes.now)) }
+    ensures cause { IsReturnedCode result.cause }
 {
     fault_in(check(bytes))
 }
@@ -54,6 +56,7 @@ pub extern "C" fn linkinfo_check(bytes: &[u8]) -> LinkinfoFault
 #[unsafe(no_mangle)]
 pub extern "C" fn linkinfo_check_placed(bytes: &[u8]) -> LinkinfoPlacedFault
     ensures fault { result.fault ≡ fault_in (verdict (reading bytes_peer bytes.now)) }
+    ensures cause { IsReturnedCode result.fault.cause }
     ensures place { IfErr (reading bytes_peer bytes.now) (λ fault. IsFaultyAt bytes_peer bytes.now fault result.place) }
     ensures accepted { IsOk (reading bytes_peer bytes.now) → result.place ≡ 0 }
 {
@@ -72,7 +75,8 @@ pub extern "C" fn linkinfo_check_placed(bytes: &[u8]) -> LinkinfoPlacedFault
 /// Whether two lists mean the same, or the fault of the first, or else that of the second.
 #[unsafe(no_mangle)]
 pub extern "C" fn linkinfo_same(a: &[u8], b: &[u8]) -> LinkinfoSame
-    ensures { result ≡ same_record (reading bytes_peer a.now) (reading bytes_peer b.now) (alike_strings bytes_peer a.now b.now) }
+    ensures answer { result ≡ same_record (reading bytes_peer a.now) (reading bytes_peer b.now) (alike_strings bytes_peer a.now b.now) }
+    ensures cause { IsReturnedCode result.fault.cause }
 {
     match same_placed(a, b) {
         Ok(same) => LinkinfoSame {
@@ -97,6 +101,7 @@ pub extern "C" fn linkinfo_same(a: &[u8], b: &[u8]) -> LinkinfoSame
 #[unsafe(no_mangle)]
 pub extern "C" fn linkinfo_count(bytes: &[u8]) -> LinkinfoCount
     ensures fault { result.fault ≡ fault_in (verdict (reading bytes_peer bytes.now)) }
+    ensures cause { IsReturnedCode result.fault.cause }
     ensures count { result.count ≡ headers_of_string bytes_peer bytes.now }
     ensures quarter { 4 * result.count ≤ length bytes.now }
 {

@@ -3,6 +3,7 @@
 ghost use Rattle.std.specs.Prelude.{◌≡◌, ◌*◌, ◌≤◌, length, slice_set};
 ghost use Rattle.linkinfo.specs.Placed.{place_behind};
 ghost use Rattle.linkinfo_c.specs.Buffers.{with_front};
+ghost use Rattle.linkinfo_c.specs.Causes.{IsReturnedCode};
 ghost use Rattle.linkinfo_c.specs.Codes.{kind_code, port_kind_code};
 ghost use Rattle.linkinfo_c.specs.Items.{attributes_in, code_in, fault_behind, given_by, items_of};
 
@@ -68,6 +69,7 @@ pub extern "C" fn linkinfo_items(bytes: &[u8], items: &mut [LinkinfoItem]) -> Li
     ensures count { result.count ≡ length (items_of bytes.now) }
     ensures quarter { 4 * result.count ≤ length bytes.now }
     ensures fault { result.fault ≡ fault_behind (given_by bytes.now) }
+    ensures cause { IsReturnedCode result.fault.cause }
     ensures place { result.place ≡ place_behind bytes.now (attributes_in (given_by bytes.now)) }
 {
     let mut walk = LinkInfoWalk::new(bytes);

@@ -1,7 +1,7 @@
-use Rattle.std.proofs.Common.{◌≡◌, ℕ, Bool, List, false, true, refl, sym, ap, ◌∙◌, Result, Ok, Err, Option, Some, None}
+use Rattle.std.proofs.Common.{◌≡◌, ℕ, Bool, List, false, true, refl, sym, ap, ◌∙◌, Ok, Err, Option, None}
 use Rattle.std.specs.Prelude.{IsTrue, ◌↔◌}
 use Rattle.nla_frame.specs.declared.error.Cause.{Cause}
-use Rattle.linkinfo_shapes.specs.Data.{ReadsAs, Value, reads, value_of}
+use Rattle.linkinfo_shapes.specs.Data.{ReadsAs, reads, value_of}
 use Rattle.linkinfo_shapes.specs.Shapes.{IsPlain}
 use Rattle.linkinfo_shapes.specs.declared.datum.Datum.{Datum}
 use Rattle.linkinfo_shapes.specs.declared.shape.Shape.{Shape}

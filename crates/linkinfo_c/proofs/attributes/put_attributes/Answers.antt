@@ -1,4 +1,8 @@
-use Rattle.std.proofs.Common.{◌∙◌, [], arith}
+use Rattle.std.specs.Prelude.{Some}
+use Rattle.std.proofs.Common.{◌∙◌, [], arith, subst, sym}
+use Rattle.linkinfo_c.specs.Causes.{IsReturnedCode}
+use Rattle.linkinfo_c.specs.declared.fault.LinkinfoFault.{LinkinfoFault}
+use Rattle.linkinfo_c.proofs.CausingData.{given_code}
 use Rattle.nla_frame.specs.Pieces.{items_of, pieces}
 use Rattle.linkinfo_c.proofs.Quarters.{framed_quarter, length_each}
 use Rattle.linkinfo_c.specs.Attributes.{attribute_behind}
@@ -63,3 +67,9 @@ returns-clause-quarter c =
       framed_quarter c.args.bytes.now,
       length_each (attribute_behind c.args.bytes.now c.args.family c.args.kind) [] (attributes_in (items_of (pieces c.args.bytes.now))),
     )
+
+pub returns-in-Err-clause-cause : goal.returns-in-Err-clause-cause
+returns-in-Err-clause-cause c =
+    let moves = rw c.in-Err.is at c.in-Some.ensures.steps in
+    let is = c.fault_record.ensures ∙ (stops _ _ _ _ _ c.loop-next.count c.loop-next.place _ _ _ c.loop-next.invariant moves).fault_is in
+    subst (λ (z : LinkinfoFault). IsReturnedCode z.cause) (sym is) (given_code (Some c.args.family) c.args.bytes.now)

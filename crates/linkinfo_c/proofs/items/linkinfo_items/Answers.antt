@@ -1,4 +1,9 @@
-use Rattle.std.proofs.Common.{◌∙◌, arith}
+use Rattle.std.proofs.Common.{◌∙◌, arith, subst, sym}
+use Rattle.nla_frame.specs.Pieces.{pieces}
+use Rattle.linkinfo.specs.Roles.{none_in_force}
+use Rattle.linkinfo_c.specs.Causes.{IsReturnedCode}
+use Rattle.linkinfo_c.specs.declared.fault.LinkinfoFault.{LinkinfoFault}
+use Rattle.linkinfo_c.proofs.CausingData.{walk_code}
 use Rattle.linkinfo_c.proofs.Quarters.{items_quarter}
 use Rattle.linkinfo_c.proofs.Walked.{ends, goes_on, stops}
 use Rattle.linkinfo_c.proofs.items.linkinfo_items.Goals as goal
@@ -50,3 +55,9 @@ pub returns-clause-quarter : goal.returns-clause-quarter
 returns-clause-quarter c =
     let counted = (ends _ _ _ c.loop-next.count c.loop-next.place _ _ c.loop-next.invariant c.in_default.ensures.steps).count_is in
     omega (arith, counted, items_quarter c.args.bytes.now)
+
+pub returns-in-Err-clause-cause : goal.returns-in-Err-clause-cause
+returns-in-Err-clause-cause c =
+    let moves = rw c.in-Err.is at c.in-Some.ensures.steps in
+    let is = c.fault_record.ensures ∙ (stops _ _ _ c.loop-next.count c.loop-next.place _ _ _ c.loop-next.invariant moves).fault_is in
+    subst (λ (z : LinkinfoFault). IsReturnedCode z.cause) (sym is) (walk_code none_in_force (pieces c.args.bytes.now))
