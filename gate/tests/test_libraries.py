@@ -1,0 +1,35 @@
+"""Which libraries are built side by side, and how long the longest chain is."""
+import importlib.machinery
+import importlib.util
+import os
+import unittest
+
+PATH = os.path.join(os.path.dirname(os.path.dirname(os.path.realpath(__file__))), "libraries")
+LOADER = importlib.machinery.SourceFileLoader("libraries", PATH)
+libraries = importlib.util.module_from_spec(importlib.util.spec_from_loader("libraries", LOADER))
+LOADER.exec_module(libraries)
+
+# `low` is below all, `left` and `right` are beside each other, and `top` is above both.
+CRATES = {"low": [], "left": ["low"], "right": ["low"], "top": ["left", "right"]}
+
+
+class Libraries(unittest.TestCase):
+    def test_ready(self):
+        ready = libraries.ready
+        self.assertEqual(ready(CRATES, ["low", "left", "right", "top"], []), ["low"])
+        self.assertEqual(ready(CRATES, ["left", "right", "top"], ["low"]), [])
+        self.assertEqual(ready(CRATES, ["left", "right", "top"], []), ["left", "right"])
+        self.assertEqual(ready(CRATES, ["right", "top"], ["left"]), ["right"])
+        self.assertEqual(ready(CRATES, ["top"], ["right"]), [])
+        self.assertEqual(ready(CRATES, ["top"], []), ["top"])
+
+    def test_longest(self):
+        seconds = {"low": 10, "left": 30, "right": 20, "top": 5}
+        self.assertEqual(libraries.longest(CRATES, [*CRATES], seconds), 45)
+        self.assertEqual(libraries.longest(CRATES, ["right", "top"], seconds), 25)
+        self.assertEqual(libraries.longest(CRATES, ["top"], {}), libraries.OF_OTHERS)
+        self.assertEqual(libraries.longest(CRATES, [], seconds), 0)
+
+
+if __name__ == "__main__":
+    unittest.main()
