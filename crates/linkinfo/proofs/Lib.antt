@@ -5,6 +5,7 @@ pub mod Pairs
 pub mod Pfcp
 pub mod Places
 pub mod Placing
+pub mod Stated
 pub mod Steps
 pub mod Walking
 pub mod Whole

@@ -1,6 +1,7 @@
 pub mod BeforePfcp
 pub mod Canon
 pub mod Comparing
+pub mod Conditions
 pub mod Items
 pub mod LinkEqual
 pub mod Placed

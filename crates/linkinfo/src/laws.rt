@@ -1,21 +1,32 @@
 //! Laws of the list, each the contract of a function without code.
 
-ghost use Rattle.std.specs.Prelude.{◌≡◌, ◌≢◌, ◌↔◌, ℕ, IsOk, IsTrue, List, Some, Ok, Err, true};
+ghost use Rattle.std.specs.Prelude.{◌≡◌, ◌≢◌, ◌↔◌, ℕ, ◌<◌, None, IsOk, IsTrue, List, Some, Ok, Err, true};
 ghost use Rattle.std.specs.Iterator.{Yields};
 ghost use Rattle.std.specs.List.{AllByRecursion};
-ghost use Rattle.nla_frame.specs.Attribute.{Attribute, Fits, canonical_string, list_string};
+ghost use Rattle.nla_frame.specs.Attribute.{Attribute, Fits, IsBytes, canonical_string, list_string, masked};
 ghost use Rattle.nla_frame.specs.Error.{memory_fault};
 ghost use Rattle.nla_frame.specs.Kept.{kept};
 ghost use Rattle.nla_frame.specs.declared.error.DecodeError.{DecodeError};
 ghost use Rattle.linkinfo_table.specs.Readings.{IsDecided};
 ghost use Rattle.linkinfo.specs.BeforePfcp.{HasNoPfcpData, alike_strings_before, is_pfcp_data, meaning_before, reading_before};
+ghost use Rattle.linkinfo.specs.Conditions.{Conditions, IsDataUnder, IsPortDataUnder, IsText, IsUnnamed};
 ghost use Rattle.linkinfo.specs.declared.link_info.LinkInfoOf.TheVariants as info;
 ghost use Rattle.linkinfo_data.specs.declared.info_data.InfoDataOf.TheVariants as data_of;
+ghost use Rattle.linkinfo_numbers.specs.Kind.{kind_table};
+ghost use Rattle.linkinfo_numbers.specs.PortKind.{port_kind_table};
+ghost use Rattle.linkinfo_numbers.specs.Table.{IsRead};
+ghost use Rattle.linkinfo_numbers.specs.declared.kind.InfoKind.{InfoKind};
+ghost use Rattle.linkinfo_numbers.specs.declared.port_kind.InfoPortKind.{InfoPortKind};
 ghost use Rattle.linkinfo_numbers.specs.declared.tags.KindTag.TheVariants as tag;
+ghost use Rattle.linkinfo_data.specs.declared.info_data.InfoDataOf.{InfoDataOf};
+ghost use Rattle.linkinfo_data.specs.declared.port_data.InfoPortData.{InfoPortData};
+ghost use Rattle.linkinfo.specs.Xstats.{xstats_bytes};
+ghost use Rattle.linkinfo.specs.declared.xstats.LinkXstats.{LinkXstats};
+ghost use Rattle.nla_frame.specs.declared.default_nla.DefaultNla.{DefaultNla};
 ghost use Rattle.linkinfo.specs.declared.role.Role.{Role};
-ghost use Rattle.linkinfo.specs.Items.{link_meaning, link_other};
+ghost use Rattle.linkinfo.specs.Items.{link_meaning, link_other, link_well};
 ghost use Rattle.linkinfo.specs.Roles.{none_in_force, role_at};
-ghost use Rattle.linkinfo.specs.Strings.{IsFaulty, Means, MeansEach, alike_strings, force_behind_all, last_kind, last_port, reading};
+ghost use Rattle.linkinfo.specs.Strings.{IsFaulty, Means, MeansEach, WellFormed, alike_strings, force_behind_all, last_kind, last_port, reading};
 ghost use Rattle.linkinfo.specs.Walks.{LinkWalk, Moves, TagsByPlace, given, held, link_walk};
 ghost use Rattle.linkinfo.specs.declared.role.InForce.{InForce};
 ghost use Rattle.linkinfo.specs.declared.role.Role.TheVariants as role;
@@ -24,7 +35,7 @@ use crate::link_info::LinkInfoOf;
 use crate::list::VecLinkInfoOf;
 use crate::walk::{LinkInfoItem, LinkInfoWalk};
 use linkinfo_data::DataFamilies;
-use linkinfo_data::laws::families_lawful;
+use linkinfo_data::laws::{families_lawful, well_formed as data_well_formed};
 use linkinfo_table::LinkPeer;
 
 /// A string reads as it means: the attributes that it frames mean the values, each under the kinds in force before it; or, by `Frames` or
@@ -84,14 +95,32 @@ pub fn equal_lists<P: LinkPeer>()
     ensures { (x y : VecLinkInfoOf P) → IsTrue (⟦<VecLinkInfoOf<P> as PartialEq>⟧.eq x y) ↔ (x ≡ y) }
 {}
 
-/// `==` of walks answers true exactly where both stand at the same place of the same bytes, under the same kinds and with the same fault.
+/// `==` of two walks is true exactly where both are at the same offset of the same bytes, under the
+/// same current kinds and with the same error.
 pub fn equal_walks()
     ensures { (x y : LinkInfoWalk) → IsTrue (⟦<LinkInfoWalk<'static> as PartialEq>⟧.eq x y) ↔ (x ≡ y) }
 {}
 
-/// What stands inside a payload that fits, fits: each attribute of a list inside a value that fits has at most 65,531 bytes of payload, and
-/// so has a first attribute inside one. It holds at every depth, since these fit in turn.
+/// Each attribute of a list inside an attribute that fits has at most 65,531 bytes of payload, and so
+/// has a first attribute inside one. It holds at every depth, since these fit in turn.
 pub fn fits_inside()
     ensures list { (kind : ℕ) (inside : List Attribute) → Fits (record { kind = kind; value = list_string inside }) → AllByRecursion Fits inside }
     ensures first { (kind : ℕ) (inside : Attribute) → Fits (record { kind = kind; value = canonical_string inside }) → Fits inside }
 {}
+
+/// Which lists are well formed, stated by the variant of each value, under the current kinds before it
+/// (`list`). A kind, and a port kind, is not `Other` of a known name (`kind`, `port_kind`). Data has the
+/// variant of the current kind, and port data that of the current port kind; both are well formed as
+/// `linkinfo_data::laws::well_formed` says (`data`, `port_data`). Statistics follow a kind
+/// (`statistics`). An attribute kept verbatim has none of the types 1 to 5 (`unknown`).
+pub fn well_formed<P: LinkPeer>()
+    ensures list { (xs : List (LinkInfoOf P)) → WellFormed ⟦<P as DataFamilies>⟧.families xs ↔ Conditions P.well xs }
+    ensures kind { (t : InForce) (k : InfoKind) → link_well ⟦<P as DataFamilies>⟧.families t (info.Kind k) ↔ IsRead kind_table IsText k }
+    ensures data { (t : InForce) (d : InfoDataOf P) → link_well ⟦<P as DataFamilies>⟧.families t (info.Data d) ↔ IsDataUnder P.well t.kind d }
+    ensures statistics { (t : InForce) (x : LinkXstats) → link_well ⟦<P as DataFamilies>⟧.families t (info.Xstats x) ↔ ((t.kind ≢ None) × IsBytes (xstats_bytes x)) }
+    ensures port_kind { (t : InForce) (k : InfoPortKind) → link_well ⟦<P as DataFamilies>⟧.families t (info.PortKind k) ↔ IsRead port_kind_table IsText k }
+    ensures port_data { (t : InForce) (d : InfoPortData) → link_well ⟦<P as DataFamilies>⟧.families t (info.PortData d) ↔ IsPortDataUnder t.port d }
+    ensures unknown { (t : InForce) (d : DefaultNla) → link_well ⟦<P as DataFamilies>⟧.families t (info.Other d) ↔ ((d.kind < 65536) × IsBytes d.value × IsUnnamed (masked d.kind)) }
+{
+    data_well_formed::<P>();
+}

@@ -1,4 +1,5 @@
 pub mod BytesPeer
+pub mod Conditions
 pub mod Data
 pub mod DataEqual
 pub mod DataVariants

@@ -1,6 +1,6 @@
 -- The family that each data is of, by its type: the name that the errors of its attributes bear.
 use Rattle.std.specs.Prelude.{◌≡◌, List, ℕ, Option, Some, None, Result, Ok, Err}
-use Rattle.nla_frame.specs.Attribute.{Attribute}
+use Rattle.std.proofs.Common.{subst}
 use Rattle.nla_frame.specs.Pieces.{pieces}
 use Rattle.nla_frame.specs.declared.error.DecodeError.{DecodeError}
 use Rattle.nla_frame.specs.declared.error.Family.{Family}
@@ -90,18 +90,34 @@ FaultsName name payload = (p : List ℕ) → EachNames name (payload.means p)
 
 -- what data of each family, and port data, owes to the tables above
 pub record AreNamed {P : Type 0} (families : Families P) : Type 0 where
-  pub link : (f : DataFamily) (name : Family) → data_name f ≡ Some name → FaultsName name (data_of families f)
-  pub port : (f : PortFamily) (name : Family) → port_data_name f ≡ Some name → FaultsName name (port_data_of f)
+  pub link : (f : DataFamily) (name : Family) → data_name f ≡ Some name →
+      FaultsName name (data_of families f)
+  pub port : (f : PortFamily) (name : Family) → port_data_name f ≡ Some name →
+      FaultsName name (port_data_of f)
 
-labelled_names : {A X : Type 0} (name : Family) (label : A → X) (r : Result A DecodeError) → EachNames name r →
+labelled_names : {A X : Type 0} (name : Family) (label : A → X) (r : Result A DecodeError) →
+    EachNames name r →
     EachNames name (r >>= λ a. let s : Result X DecodeError = Ok (label a) in s)
 labelled_names name label (Ok a) h e k = absurd cc
 labelled_names name label (Err d) h e k = h e cc
 
 pub list_faults_name : {A X : Type 0} (name : Family) (m : Members A) (label : List A → X) →
-    ((p : List ℕ) → EachNames name (values m.meaning (pieces p))) → FaultsName name (as_list m label)
+    ((p : List ℕ) → EachNames name (values m.meaning (pieces p))) →
+    FaultsName name (as_list m label)
 list_faults_name name m label h p = labelled_names name label (values m.meaning (pieces p)) (h p)
 
 pub first_faults_name : {A X : Type 0} (name : Family) (m : Members A) (label : A → X) →
-    ((p : List ℕ) → EachNames name (first_meaning m.meaning (pieces p))) → FaultsName name (as_first m label)
-first_faults_name name m label h p = labelled_names name label (first_meaning m.meaning (pieces p)) (h p)
+    ((p : List ℕ) → EachNames name (first_meaning m.meaning (pieces p))) →
+    FaultsName name (as_first m label)
+first_faults_name name m label h p =
+    labelled_names name label (first_meaning m.meaning (pieces p)) (h p)
+
+-- the family that is named is the one of the table
+pub under_name : {X : Type 0} (payload : Payload X) (a b : Family) → Some a ≡ Some b →
+    FaultsName a payload → FaultsName b payload
+under_name payload a b e h = let same : a ≡ b = cc in
+    subst (λ (z : Family). FaultsName z payload) same h
+
+-- where the table names none
+pub no_name : (name : Family) → (let none : Option Family = None in none) ≡ Some name → ⊥
+no_name name e = absurd cc

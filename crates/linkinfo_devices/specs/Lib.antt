@@ -1,12 +1,14 @@
+pub mod Conditions
 pub mod Ipoib
 pub mod Ipvlan
 pub mod Ipvtap
+pub mod MacConditions
 pub mod MacRows
+pub mod Macsec
 pub mod Macvlan
 pub mod MacvlanEqual
 pub mod Macvtap
 pub mod MacvtapEqual
-pub mod Macsec
 pub mod ModeAndFlags
 pub mod Nested
 pub mod Rmnet

@@ -1,10 +1,10 @@
 -- Tables: values that are found by a key, as by a number or a name. One value stands for each key that the table does not have.
-use Rattle.std.specs.Prelude.{◌≡◌, ◌≢◌, ℕ, ◌==◌, Bool, true, false, if◌then◌else◌, not, List, [], ◌∷◌, ◌↔◌, refl}
+use Rattle.std.specs.Prelude.{◌≡◌, ◌≢◌, ℕ, ◌<◌, ◌==◌, Bool, true, false, if◌then◌else◌, not, List, [], ◌∷◌, ◌↔◌, refl}
 use Rattle.std.specs.Bool.{Decides}
 use Rattle.std.specs.Cmp.{first_so, second_so}
 use Rattle.std.specs.List.{AllByRecursion, list_all}
 use Rattle.std.specs.Str.{bytes_eq}
-use Rattle.std.proofs.Common.{◌⊎◌, inl, inr, sym, ap, ◌∙◌}
+use Rattle.std.proofs.Common.{◌⊎◌, inl, inr, sym, ap, subst, ◌∙◌}
 
 -- what `part` gives of the first value that passes, or `other` where none does
 abbrev pub part_of_first : {T A : Type 0} → (T → Bool) → (T → A) → A → List T → A
@@ -145,3 +145,28 @@ apart_by N is_other others (x ∷ xs) h =
           let never : not true ≡ true = ap not (sym other) ∙ here in cc,
       apart_by N is_other others xs rest,
     )
+
+-- ---- values that an attribute can mean
+
+-- the value is not `Other` of a key that a named value has, and its key is one that the program can hold
+abbrev pub IsRead : {Key T : Type 0} → Table Key T → (Key → Type 0) → T → Type 0
+IsRead N Holds x = IsProper N x × Holds (N.key x)
+
+-- of a number below the bound of its width
+abbrev pub IsNumber : {T : Type 0} → Table ℕ T → ℕ → T → Type 0
+IsNumber N bound x = IsRead N (λ n. n < bound) x
+
+-- A label is that of the value of some key that the program can hold exactly where it is that of such a value: for a condition on labels
+-- that is this one on values.
+pub table_label : {Key T F : Type 0} {N : Table Key T} → IsTable N → (Holds : Key → Type 0) (label : T → F) (Condition : F → Type 0) →
+    ((y : T) → IsRead N Holds y → Condition (label y)) → ((y : T) → Condition (label y) → IsRead N Holds y) → (x : T) →
+    ((k : Key) × Holds k × (label (value_of N k) ≡ label x)) ↔ Condition (label x)
+table_label {N = N} h Holds label Condition to from x = (
+  λ w. subst Condition w.2 (to (value_of N w.0) (value_of_is_proper h w.0, subst Holds (sym (key-value_of h w.0)) w.1)),
+  λ c. let is : IsRead N Holds x = from x c in (N.key x, is.1, ap label ((value_of-key h x).1 is.0)),
+)
+
+pub number_label : {T F : Type 0} {N : Table ℕ T} → IsTable N → (bound : ℕ) (label : T → F) (Condition : F → Type 0) →
+    ((y : T) → IsNumber N bound y → Condition (label y)) → ((y : T) → Condition (label y) → IsNumber N bound y) → (x : T) →
+    ((n : ℕ) × (n < bound) × (label (value_of N n) ≡ label x)) ↔ Condition (label x)
+number_label h bound label Condition to from x = table_label h (λ n. n < bound) label Condition to from x

@@ -144,7 +144,8 @@ pub fn equal_sets_hash_alike()
         → ⟦<Ip6TunnelFlags as Hash>⟧.hash_input x ≡ ⟦<Ip6TunnelFlags as Hash>⟧.hash_input y }
 {}
 
-/// The flags of a GRE header: `GRE_CSUM` and its like (include/uapi/linux/if_tunnel.h).
+/// The flags of a GRE header: `GRE_CSUM` and its like (include/uapi/linux/if_tunnel.h, where each
+/// is `__cpu_to_be16` of this number).
 pub fn gre_io_flag_bits()
     ensures checksum { GreIOFlags.Checksum ≡ gre_io_flags 0x8000 }
     ensures routing { GreIOFlags.Routing ≡ gre_io_flags 0x4000 }
@@ -174,7 +175,8 @@ pub fn tunnel_encap_flag_bits()
 {}
 
 /// The flags of an IPv6 tunnel: `IP6_TNL_F_IGN_ENCAP_LIMIT` and its like
-/// (include/uapi/linux/ip6_tunnel.h).
+/// (include/uapi/linux/ip6_tunnel.h), and `IP6_TNL_F_CAP_XMIT`, `IP6_TNL_F_CAP_RCV` and
+/// `IP6_TNL_F_CAP_PER_PACKET`, which the kernel sets (include/net/ip6_tunnel.h).
 pub fn ip6_tunnel_flag_bits()
     ensures ign_encap_limit { Ip6TunnelFlags.IgnEncapLimit ≡ ip6_tunnel_flags 0x1 }
     ensures use_orig_tclass { Ip6TunnelFlags.UseOrigTclass ≡ ip6_tunnel_flags 0x2 }

@@ -1,5 +1,6 @@
 pub mod Batadv
 pub mod Bit
+pub mod Conditions
 pub mod Netkit
 pub mod PeerRows
 pub mod Veth

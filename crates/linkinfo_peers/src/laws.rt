@@ -1,6 +1,7 @@
 //! Laws of families, each the contract of a function without code.
 
-ghost use Rattle.std.specs.Prelude.{◌≡◌};
+ghost use Rattle.std.specs.Prelude.{◌≡◌, ◌↔◌};
+ghost use Rattle.linkinfo_peers.specs.Conditions.{batadv_conditions, netkit_conditions, veth_conditions, vxcan_conditions, wwan_conditions};
 ghost use Rattle.nla_frame.specs.declared.error.Family.TheVariants as family;
 
 use crate::batadv::InfoBatAdv;
@@ -26,4 +27,21 @@ pub fn peers_named<P: LinkPeer>()
     ensures netkit { ⟦<InfoNetkitOf<P> as LinkFamily>⟧.FAMILY ≡ family.Netkit }
     ensures veth { ⟦<InfoVethOf<P> as LinkFamily>⟧.FAMILY ≡ family.Veth }
     ensures vxcan { ⟦<InfoVxcanOf<P> as LinkFamily>⟧.FAMILY ≡ family.Vxcan }
+{}
+
+/// Which attributes of batadv and WWAN links are well formed, stated by the variant of the attribute.
+/// No attribute is `Other` of a type that has a row. Each number and each text is one that its type
+/// can hold.
+pub fn well_formed()
+    ensures bat_adv { (x : InfoBatAdv) → ⟦<InfoBatAdv as LinkFamily>⟧.well tt x ↔ batadv_conditions x }
+    ensures wwan { (x : InfoWwan) → ⟦<InfoWwan as LinkFamily>⟧.well tt x ↔ wwan_conditions x }
+{}
+
+/// Which attributes of netkit, veth and vxcan links are well formed, whatever the type of peer: a peer
+/// by its own type; no number is `Other` of a named number, and no attribute `Other` of a type that has
+/// a row.
+pub fn peers_well_formed<P: LinkPeer>()
+    ensures netkit { (x : InfoNetkitOf P) → ⟦<InfoNetkitOf<P> as LinkFamily>⟧.well tt x ↔ netkit_conditions P.well x }
+    ensures veth { (x : InfoVethOf P) → ⟦<InfoVethOf<P> as LinkFamily>⟧.well tt x ↔ veth_conditions P.well x }
+    ensures vxcan { (x : InfoVxcanOf P) → ⟦<InfoVxcanOf<P> as LinkFamily>⟧.well tt x ↔ vxcan_conditions P.well x }
 {}

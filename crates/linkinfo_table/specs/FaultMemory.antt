@@ -1,4 +1,5 @@
--- An attribute's own fault needs no memory, whatever row of the table its type has.
+-- The error of an attribute that holds neither a list nor a peer needs no memory, whatever row of the
+-- table its type has.
 use Rattle.std.specs.Prelude.{◌≡◌, ℕ, ◌||◌, Bool, false, List, [], ◌∷◌, is_ok, Result, Ok, Err, refl}
 use Rattle.std.specs.Str.{is_utf8}
 use Rattle.std.proofs.Common.{sym, ap, subst, ◌∙◌, inl, inr}

@@ -1,6 +1,8 @@
 pub mod BytesPeer
+pub mod ByRows
 pub mod Canonical
 pub mod Codecs
+pub mod Conditions
 pub mod FamilyRowLaws
 pub mod FamilyRows
 pub mod FaultMemory

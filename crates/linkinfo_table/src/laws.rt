@@ -10,10 +10,12 @@ ghost use Rattle.nla_frame.specs.declared.default_nla.DefaultNla.{DefaultNla};
 ghost use Rattle.nla_frame.specs.declared.error.DecodeError.{DecodeError};
 ghost use Rattle.linkinfo_shapes.specs.declared.shape.Shape.TheVariants as shape;
 ghost use Rattle.linkinfo_table.specs.declared.lookup.Lookup.TheVariants as lookup;
+ghost use Rattle.linkinfo_table.specs.Conditions.{rowless_conditions};
 ghost use Rattle.linkinfo_table.specs.FamilyRows.{SameFound, SamePart};
 ghost use Rattle.linkinfo_table.specs.FaultNames.{EachNames};
 ghost use Rattle.linkinfo_table.specs.declared.found.Found.{Found};
 ghost use Rattle.linkinfo_table.specs.declared.part.Part.{Part};
+ghost use Rattle.linkinfo_table.specs.declared.rowless.Rowless.{Rowless};
 ghost use Rattle.linkinfo_table.specs.declared.rowless.Rowless.TheVariants as rowless;
 ghost use Rattle.linkinfo_table.specs.Lists.{AllWell, first_meaning, first_memory, memory_of, values};
 ghost use Rattle.linkinfo_table.specs.Lookups.{BeginsFaulty, HoldsNone, LookupSays};
@@ -74,8 +76,9 @@ pub fn errors_named<F: LinkFamily>()
     ensures first { (c : F.Context) (bytes : List ℕ) → EachNames F.FAMILY (first_meaning (F.meaning c) (pieces bytes)) }
 {}
 
-/// An attribute that holds no others is rejected without memory: its fault is certain, whatever memory there is. So is that of a list that
-/// begins with it, and of a first attribute.
+/// An attribute that holds neither a list of its family nor a peer, and is rejected, needs no memory:
+/// its error is reported whatever memory there is. So is the error of a list that begins with such an
+/// attribute, and of a first attribute.
 pub fn faults_certain<F: LinkFamily>()
     ensures attribute { (c : F.Context) (a : Attribute) (e : DecodeError) → HoldsNone (F.lookup c (masked a.kind)) → F.meaning c a ≡ Err e → F.needs_memory c a ≡ false }
     ensures list { (c : F.Context) (bytes : List ℕ) (e : DecodeError) → BeginsFaulty (F.lookup c) (F.meaning c) (pieces bytes) e → memory_of (F.meaning c) (F.needs_memory c) (pieces bytes) ≡ false }
@@ -88,6 +91,12 @@ pub fn faults_certain<F: LinkFamily>()
 pub fn kept_as_it_came<const NUMBER: u8>()
     ensures read { (a : Attribute) → ⟦<Rowless<NUMBER> as LinkFamily>⟧.meaning tt a ≡ Ok (rowless.Other (kept a)) }
     ensures compared { (a b : Attribute) → ⟦<Rowless<NUMBER> as LinkFamily>⟧.alike tt a b ≡ ((b.kind == a.kind) && bytes_eq a.value b.value) }
+{}
+
+/// Which attributes of a family without rows are well formed: those of any 16-bit type whose payload is
+/// bytes.
+pub fn rowless_well_formed<const NUMBER: u8>()
+    ensures { (x : Rowless NUMBER) → ⟦<Rowless<NUMBER> as LinkFamily>⟧.well tt x ↔ rowless_conditions x }
 {}
 
 /// `==` of what was read of attributes, and of what values show, answers true exactly where both hold the same, whatever the places that they

@@ -1,5 +1,6 @@
 pub mod Amt
 pub mod BareUdp
+pub mod Conditions
 pub mod Geneve
 pub mod Gre
 pub mod Gre6

@@ -1,6 +1,8 @@
 //! Laws of families of tunnels, each the contract of a function without code.
 
-ghost use Rattle.std.specs.Prelude.{◌≡◌};
+ghost use Rattle.std.specs.Prelude.{◌≡◌, ◌↔◌};
+ghost use Rattle.linkinfo_tunnels.specs.Conditions.{amt_conditions, bare_udp_conditions, geneve_conditions, gre6_conditions, gre_conditions, gtp_conditions, ip_tunnel_conditions, vti_conditions, vxlan_conditions};
+ghost use Rattle.linkinfo_numbers.specs.declared.tags.KindTag.{KindTag};
 ghost use Rattle.nla_frame.specs.declared.error.Family.TheVariants as family;
 
 use crate::amt::InfoAmt;
@@ -25,4 +27,20 @@ pub fn named()
     ensures ip_tunnel { ⟦<InfoIpTunnel as LinkFamily>⟧.FAMILY ≡ family.IpTunnel }
     ensures vti { ⟦<InfoVti as LinkFamily>⟧.FAMILY ≡ family.Vti }
     ensures vxlan { ⟦<InfoVxlan as LinkFamily>⟧.FAMILY ≡ family.Vxlan }
+{}
+
+/// Which attributes of each family are well formed, stated by the variant of the attribute. No number
+/// is `Other` of a named number. No attribute is `Other` of a type that has a row, or that is rejected
+/// under the current kind. Type 8 of `InfoIpTunnel` has the variant of the current kind. Each number
+/// and each address is one that its type can hold.
+pub fn well_formed()
+    ensures amt { (x : InfoAmt) → ⟦<InfoAmt as LinkFamily>⟧.well tt x ↔ amt_conditions x }
+    ensures bare_udp { (x : InfoBareUdp) → ⟦<InfoBareUdp as LinkFamily>⟧.well tt x ↔ bare_udp_conditions x }
+    ensures geneve { (x : InfoGeneve) → ⟦<InfoGeneve as LinkFamily>⟧.well tt x ↔ geneve_conditions x }
+    ensures gre { (x : InfoGre) → ⟦<InfoGre as LinkFamily>⟧.well tt x ↔ gre_conditions x }
+    ensures gre6 { (x : InfoGre6) → ⟦<InfoGre6 as LinkFamily>⟧.well tt x ↔ gre6_conditions x }
+    ensures gtp { (x : InfoGtp) → ⟦<InfoGtp as LinkFamily>⟧.well tt x ↔ gtp_conditions x }
+    ensures ip_tunnel { (tag : KindTag) (x : InfoIpTunnel) → ⟦<InfoIpTunnel as LinkFamily>⟧.well tag x ↔ ip_tunnel_conditions tag x }
+    ensures vti { (x : InfoVti) → ⟦<InfoVti as LinkFamily>⟧.well tt x ↔ vti_conditions x }
+    ensures vxlan { (x : InfoVxlan) → ⟦<InfoVxlan as LinkFamily>⟧.well tt x ↔ vxlan_conditions x }
 {}

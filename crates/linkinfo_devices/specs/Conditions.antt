@@ -1,0 +1,460 @@
+-- Which attributes of device links are well formed, by the variant of each: what a number, an
+-- address or a kept attribute must be.
+use Rattle.std.specs.Prelude.{◌≡◌, ◌↔◌, ℕ, suc, ◌-◌, ◌<◌, ◌≤◌, ◌^◌, Bool, true, false, refl}
+use Rattle.std.proofs.Common.{sym, ap, subst, ◌∙◌}
+use Rattle.nla_frame.specs.declared.error.Family.TheVariants as family
+use Rattle.linkinfo_numbers.specs.Table.{IsNumber, number_label}
+use Rattle.linkinfo_numbers.specs.Ipoib.{ipoib_mode_table, ipoib_mode_table_holds}
+use Rattle.linkinfo_numbers.specs.Ipvlan.{ip_vlan_mode_table, ip_vlan_mode_table_holds}
+use Rattle.linkinfo_numbers.specs.Macsec.{mac_sec_cipher_id_table, mac_sec_cipher_id_table_holds}
+use Rattle.linkinfo_numbers.specs.Macsec.{mac_sec_offload_table, mac_sec_offload_table_holds}
+use Rattle.linkinfo_numbers.specs.Macsec.{mac_sec_validate_table, mac_sec_validate_table_holds}
+use Rattle.linkinfo_table.specs.Conditions.{IsUnknown, are_typed, unknown_label}
+use Rattle.linkinfo_table.specs.FamilyRows.{row_of, table_row}
+use Rattle.linkinfo_table.specs.Rows.{WellFormed}
+use Rattle.linkinfo_devices.specs.MacConditions.{IsView, MacView, deepest, mac_conditions}
+use Rattle.linkinfo_devices.specs.MacConditions.{mac_depth_stated, mac_stated, of_view, view_depth}
+use Rattle.linkinfo_devices.specs.MacConditions as view
+use Rattle.linkinfo_devices.specs.Ipoib.{ipoib_attribute, ipoib_rows}
+use Rattle.linkinfo_devices.specs.declared.ipoib.InfoIpoib.{InfoIpoib}
+use Rattle.linkinfo_devices.specs.declared.ipoib.InfoIpoib.TheVariants as ipoib
+use Rattle.linkinfo_devices.specs.Ipvlan.{ip_vlan_attribute, ip_vlan_rows}
+use Rattle.linkinfo_devices.specs.declared.ipvlan.InfoIpVlan.{InfoIpVlan}
+use Rattle.linkinfo_devices.specs.declared.ipvlan.InfoIpVlan.TheVariants as ip_vlan
+use Rattle.linkinfo_devices.specs.Ipvtap.{ip_vtap_attribute, ip_vtap_rows}
+use Rattle.linkinfo_devices.specs.declared.ipvtap.InfoIpVtap.{InfoIpVtap}
+use Rattle.linkinfo_devices.specs.declared.ipvtap.InfoIpVtap.TheVariants as ip_vtap
+use Rattle.linkinfo_devices.specs.Macsec.{mac_sec_attribute, mac_sec_rows}
+use Rattle.linkinfo_devices.specs.declared.macsec.InfoMacSec.{InfoMacSec}
+use Rattle.linkinfo_devices.specs.declared.macsec.InfoMacSec.TheVariants as mac_sec
+use Rattle.linkinfo_devices.specs.Rmnet.{rm_net_attribute, rm_net_rows}
+use Rattle.linkinfo_devices.specs.declared.rmnet.InfoRmNet.{InfoRmNet}
+use Rattle.linkinfo_devices.specs.declared.rmnet.InfoRmNet.TheVariants as rm_net
+use Rattle.linkinfo_devices.specs.Vrf.{vrf_attribute, vrf_rows}
+use Rattle.linkinfo_devices.specs.declared.vrf.InfoVrf.{InfoVrf}
+use Rattle.linkinfo_devices.specs.declared.vrf.InfoVrf.TheVariants as vrf
+use Rattle.linkinfo_devices.specs.Xfrm.{xfrm_attribute, xfrm_rows}
+use Rattle.linkinfo_devices.specs.declared.xfrm.InfoXfrm.{InfoXfrm}
+use Rattle.linkinfo_devices.specs.declared.xfrm.InfoXfrm.TheVariants as xfrm
+use Rattle.linkinfo_devices.specs.Macvlan.{mac_vlan_attribute, mac_vlan_keep, mac_vlan_labels}
+use Rattle.linkinfo_devices.specs.Macvlan.{mac_vlan_rows}
+use Rattle.linkinfo_devices.specs.declared.macvlan.InfoMacVlan.{InfoMacVlan}
+use Rattle.linkinfo_devices.specs.declared.macvlan.InfoMacVlan as macvlan
+use Rattle.linkinfo_devices.specs.declared.macvlan.InfoMacVlan.TheOpen as layer_of_mac_vlan
+use Rattle.linkinfo_devices.specs.declared.macvlan.InfoMacVlan.TheVariants as mac_vlan
+use Rattle.linkinfo_devices.specs.declared.macvlan.InfoMacVlan.TheFolds.{fold-InfoMacVlan}
+use Rattle.linkinfo_devices.specs.declared.macvlan.InfoMacVlan.TheFolds.{fold-roll-InfoMacVlan}
+use Rattle.linkinfo_devices.specs.declared.macvlan.InfoMacVlan.TheViews.{out-InfoMacVlan}
+use Rattle.linkinfo_devices.specs.declared.macvlan.InfoMacVlan.TheViews.{out-roll-InfoMacVlan}
+use Rattle.linkinfo_devices.specs.declared.macvlan.InfoMacVlan.TheViews.{roll-InfoMacVlan}
+use Rattle.linkinfo_devices.specs.declared.macvlan.InfoMacVlan.TheViews.{roll-out-InfoMacVlan}
+use Rattle.linkinfo_devices.specs.Macvtap.{mac_vtap_attribute, mac_vtap_keep, mac_vtap_labels}
+use Rattle.linkinfo_devices.specs.Macvtap.{mac_vtap_rows}
+use Rattle.linkinfo_devices.specs.declared.macvtap.InfoMacVtap.{InfoMacVtap}
+use Rattle.linkinfo_devices.specs.declared.macvtap.InfoMacVtap as macvtap
+use Rattle.linkinfo_devices.specs.declared.macvtap.InfoMacVtap.TheOpen as layer_of_mac_vtap
+use Rattle.linkinfo_devices.specs.declared.macvtap.InfoMacVtap.TheVariants as mac_vtap
+use Rattle.linkinfo_devices.specs.declared.macvtap.InfoMacVtap.TheFolds.{fold-InfoMacVtap}
+use Rattle.linkinfo_devices.specs.declared.macvtap.InfoMacVtap.TheFolds.{fold-roll-InfoMacVtap}
+use Rattle.linkinfo_devices.specs.declared.macvtap.InfoMacVtap.TheViews.{out-InfoMacVtap}
+use Rattle.linkinfo_devices.specs.declared.macvtap.InfoMacVtap.TheViews.{out-roll-InfoMacVtap}
+use Rattle.linkinfo_devices.specs.declared.macvtap.InfoMacVtap.TheViews.{roll-InfoMacVtap}
+use Rattle.linkinfo_devices.specs.declared.macvtap.InfoMacVtap.TheViews.{roll-out-InfoMacVtap}
+
+-- ---- Ipvlan links
+
+abbrev pub ip_vlan_conditions : InfoIpVlan → Type 0
+ip_vlan_conditions (ip_vlan.Mode mode) = IsNumber ip_vlan_mode_table (2 ^ 16) mode
+ip_vlan_conditions (ip_vlan.Flags flags) = flags.0 < 2 ^ 16
+ip_vlan_conditions (ip_vlan.Other d) = IsUnknown ip_vlan_rows d
+
+abbrev ip_vlan_is_other : InfoIpVlan → Bool
+ip_vlan_is_other (ip_vlan.Other d) = true
+ip_vlan_is_other _ = false
+
+pub ip_vlan_stated : (x : InfoIpVlan) →
+    WellFormed (λ d. ip_vlan.Other d) ip_vlan_attribute
+    (λ n. row_of (table_row ip_vlan_rows n)) x ↔ ip_vlan_conditions x
+unfolding WellFormed
+ip_vlan_stated = elim [
+  | ip_vlan.Mode x ↦ number_label ip_vlan_mode_table_holds (2 ^ 16)
+      (λ y. ip_vlan.Mode y) ip_vlan_conditions (λ _ is. is) (λ _ is. is) x
+  | ip_vlan.Other d ↦ unknown_label
+      (λ z. ip_vlan.Other z) ip_vlan_attribute ip_vlan_rows ip_vlan_is_other (λ _. refl) (λ _. refl)
+      (are_typed ip_vlan_is_other ip_vlan_rows refl) d
+  | _ ↦ (λ w. subst ip_vlan_conditions w.2 w.1, λ h. (_, h, refl))
+]
+
+-- ---- Ipvtap links
+
+abbrev pub ip_vtap_conditions : InfoIpVtap → Type 0
+ip_vtap_conditions (ip_vtap.Mode mode) = IsNumber ip_vlan_mode_table (2 ^ 16) mode
+ip_vtap_conditions (ip_vtap.Flags flags) = flags.0 < 2 ^ 16
+ip_vtap_conditions (ip_vtap.Other d) = IsUnknown ip_vtap_rows d
+
+abbrev ip_vtap_is_other : InfoIpVtap → Bool
+ip_vtap_is_other (ip_vtap.Other d) = true
+ip_vtap_is_other _ = false
+
+pub ip_vtap_stated : (x : InfoIpVtap) →
+    WellFormed (λ d. ip_vtap.Other d) ip_vtap_attribute
+    (λ n. row_of (table_row ip_vtap_rows n)) x ↔ ip_vtap_conditions x
+unfolding WellFormed
+ip_vtap_stated = elim [
+  | ip_vtap.Mode x ↦ number_label ip_vlan_mode_table_holds (2 ^ 16)
+      (λ y. ip_vtap.Mode y) ip_vtap_conditions (λ _ is. is) (λ _ is. is) x
+  | ip_vtap.Other d ↦ unknown_label
+      (λ z. ip_vtap.Other z) ip_vtap_attribute ip_vtap_rows ip_vtap_is_other (λ _. refl) (λ _. refl)
+      (are_typed ip_vtap_is_other ip_vtap_rows refl) d
+  | _ ↦ (λ w. subst ip_vtap_conditions w.2 w.1, λ h. (_, h, refl))
+]
+
+-- ---- IP over InfiniBand links
+
+abbrev pub ipoib_conditions : InfoIpoib → Type 0
+ipoib_conditions (ipoib.Pkey n) = n < 2 ^ 16
+ipoib_conditions (ipoib.Mode x) = IsNumber ipoib_mode_table (2 ^ 16) x
+ipoib_conditions (ipoib.UmCast n) = n < 2 ^ 16
+ipoib_conditions (ipoib.Other d) = IsUnknown ipoib_rows d
+
+abbrev ipoib_is_other : InfoIpoib → Bool
+ipoib_is_other (ipoib.Other d) = true
+ipoib_is_other _ = false
+
+pub ipoib_stated : (x : InfoIpoib) →
+    WellFormed (λ d. ipoib.Other d) ipoib_attribute (λ n. row_of (table_row ipoib_rows n)) x ↔
+    ipoib_conditions x
+unfolding WellFormed
+ipoib_stated = elim [
+  | ipoib.Mode x ↦ number_label ipoib_mode_table_holds (2 ^ 16)
+      (λ y. ipoib.Mode y) ipoib_conditions (λ _ is. is) (λ _ is. is) x
+  | ipoib.Other d ↦ unknown_label (λ z. ipoib.Other z) ipoib_attribute ipoib_rows ipoib_is_other
+      (λ _. refl) (λ _. refl)
+      (are_typed ipoib_is_other ipoib_rows refl) d
+  | _ ↦ (λ w. subst ipoib_conditions w.2 w.1, λ h. (_, h, refl))
+]
+
+-- ---- MACsec links
+
+abbrev pub mac_sec_conditions : InfoMacSec → Type 0
+mac_sec_conditions (mac_sec.Sci n) = n < 2 ^ 64
+mac_sec_conditions (mac_sec.Port n) = n < 2 ^ 16
+mac_sec_conditions (mac_sec.IcvLen n) = n < 256
+mac_sec_conditions (mac_sec.CipherSuite x) = IsNumber mac_sec_cipher_id_table (2 ^ 64) x
+mac_sec_conditions (mac_sec.Window n) = n < 2 ^ 32
+mac_sec_conditions (mac_sec.EncodingSa n) = n < 256
+mac_sec_conditions (mac_sec.Encrypt n) = n < 256
+mac_sec_conditions (mac_sec.Protect n) = n < 256
+mac_sec_conditions (mac_sec.IncSci n) = n < 256
+mac_sec_conditions (mac_sec.Es n) = n < 256
+mac_sec_conditions (mac_sec.Scb n) = n < 256
+mac_sec_conditions (mac_sec.ReplayProtect n) = n < 256
+mac_sec_conditions (mac_sec.Validation x) = IsNumber mac_sec_validate_table 256 x
+mac_sec_conditions (mac_sec.Offload x) = IsNumber mac_sec_offload_table 256 x
+mac_sec_conditions (mac_sec.Other d) = IsUnknown mac_sec_rows d
+
+abbrev mac_sec_is_other : InfoMacSec → Bool
+mac_sec_is_other (mac_sec.Other d) = true
+mac_sec_is_other _ = false
+
+pub mac_sec_stated : (x : InfoMacSec) →
+    WellFormed (λ d. mac_sec.Other d) mac_sec_attribute
+    (λ n. row_of (table_row mac_sec_rows n)) x ↔ mac_sec_conditions x
+unfolding WellFormed
+mac_sec_stated = elim [
+  | mac_sec.CipherSuite x ↦ number_label mac_sec_cipher_id_table_holds (2 ^ 64)
+      (λ y. mac_sec.CipherSuite y) mac_sec_conditions (λ _ is. is) (λ _ is. is) x
+  | mac_sec.Validation x ↦ number_label mac_sec_validate_table_holds 256
+      (λ y. mac_sec.Validation y) mac_sec_conditions (λ _ is. is) (λ _ is. is) x
+  | mac_sec.Offload x ↦ number_label mac_sec_offload_table_holds 256
+      (λ y. mac_sec.Offload y) mac_sec_conditions (λ _ is. is) (λ _ is. is) x
+  | mac_sec.Other d ↦ unknown_label
+      (λ z. mac_sec.Other z) mac_sec_attribute mac_sec_rows mac_sec_is_other (λ _. refl) (λ _. refl)
+      (are_typed mac_sec_is_other mac_sec_rows refl) d
+  | _ ↦ (λ w. subst mac_sec_conditions w.2 w.1, λ h. (_, h, refl))
+]
+
+-- ---- Qualcomm modem links
+
+abbrev pub rm_net_conditions : InfoRmNet → Type 0
+rm_net_conditions (rm_net.MuxId n) = n < 2 ^ 16
+rm_net_conditions (rm_net.Flags under) = (under.flags.0 < 2 ^ 32) × (under.mask.0 < 2 ^ 32)
+rm_net_conditions (rm_net.Other d) = IsUnknown rm_net_rows d
+
+abbrev rm_net_is_other : InfoRmNet → Bool
+rm_net_is_other (rm_net.Other d) = true
+rm_net_is_other _ = false
+
+pub rm_net_stated : (x : InfoRmNet) →
+    WellFormed (λ d. rm_net.Other d) rm_net_attribute (λ n. row_of (table_row rm_net_rows n)) x ↔
+    rm_net_conditions x
+unfolding WellFormed
+rm_net_stated = elim [
+  | rm_net.Flags under ↦
+      (λ w. subst rm_net_conditions w.2 w.1, λ h. ((under.flags.0, under.mask.0), h, refl))
+  | rm_net.Other d ↦ unknown_label
+      (λ z. rm_net.Other z) rm_net_attribute rm_net_rows rm_net_is_other (λ _. refl) (λ _. refl)
+      (are_typed rm_net_is_other rm_net_rows refl) d
+  | _ ↦ (λ w. subst rm_net_conditions w.2 w.1, λ h. (_, h, refl))
+]
+
+-- ---- VRF links
+
+abbrev pub vrf_conditions : InfoVrf → Type 0
+vrf_conditions (vrf.TableId n) = n < 2 ^ 32
+vrf_conditions (vrf.Other d) = IsUnknown vrf_rows d
+
+abbrev vrf_is_other : InfoVrf → Bool
+vrf_is_other (vrf.Other d) = true
+vrf_is_other _ = false
+
+pub vrf_stated : (x : InfoVrf) → WellFormed (λ d. vrf.Other d) vrf_attribute
+    (λ n. row_of (table_row vrf_rows n)) x ↔ vrf_conditions x
+unfolding WellFormed
+vrf_stated = elim [
+  | vrf.Other d ↦ unknown_label (λ z. vrf.Other z) vrf_attribute vrf_rows vrf_is_other (λ _. refl)
+      (λ _. refl)
+      (are_typed vrf_is_other vrf_rows refl) d
+  | _ ↦ (λ w. subst vrf_conditions w.2 w.1, λ h. (_, h, refl))
+]
+
+-- ---- XFRM links
+
+abbrev pub xfrm_conditions : InfoXfrm → Type 0
+xfrm_conditions (xfrm.Link n) = n < 2 ^ 32
+xfrm_conditions (xfrm.IfId n) = n < 2 ^ 32
+xfrm_conditions (xfrm.Other d) = IsUnknown xfrm_rows d
+
+abbrev xfrm_is_other : InfoXfrm → Bool
+xfrm_is_other (xfrm.Other d) = true
+xfrm_is_other _ = false
+
+pub xfrm_stated : (x : InfoXfrm) → WellFormed (λ d. xfrm.Other d) xfrm_attribute
+    (λ n. row_of (table_row xfrm_rows n)) x ↔ xfrm_conditions x
+unfolding WellFormed
+xfrm_stated = elim [
+  | xfrm.Other d ↦ unknown_label (λ z. xfrm.Other z) xfrm_attribute xfrm_rows xfrm_is_other
+      (λ _. refl) (λ _. refl)
+      (are_typed xfrm_is_other xfrm_rows refl) d
+  | _ ↦ (λ w. subst xfrm_conditions w.2 w.1, λ h. (_, h, refl))
+]
+
+-- ---- Macvlan links
+
+abbrev pub mac_vlan_variant : layer_of_mac_vlan.InfoMacVlan-F InfoMacVlan → MacView InfoMacVlan
+mac_vlan_variant (layer_of_mac_vlan.Mode m) = view.Mode m
+mac_vlan_variant (layer_of_mac_vlan.Flags flags) = view.Flags flags
+mac_vlan_variant (layer_of_mac_vlan.MacAddrMode m) = view.MacAddrMode m
+mac_vlan_variant (layer_of_mac_vlan.MacAddr a) = view.MacAddr a
+mac_vlan_variant (layer_of_mac_vlan.MacAddrData xs) = view.MacAddrData xs
+mac_vlan_variant (layer_of_mac_vlan.MacAddrCount n) = view.MacAddrCount n
+mac_vlan_variant (layer_of_mac_vlan.BcQueueLen n) = view.BcQueueLen n
+mac_vlan_variant (layer_of_mac_vlan.BcQueueLenUsed n) = view.BcQueueLenUsed n
+mac_vlan_variant (layer_of_mac_vlan.BcCutoff z) = view.BcCutoff z
+mac_vlan_variant (layer_of_mac_vlan.Other d) = view.Other d
+
+abbrev pub mac_vlan_view : InfoMacVlan → MacView InfoMacVlan
+mac_vlan_view x = mac_vlan_variant (out-InfoMacVlan x)
+
+mac_vlan_made : (y : layer_of_mac_vlan.InfoMacVlan-F InfoMacVlan) →
+    of_view mac_vlan_labels (mac_vlan_variant y) ≡ roll-InfoMacVlan y
+mac_vlan_made (layer_of_mac_vlan.Mode m) = sym (mac_vlan.rolls-Mode m)
+mac_vlan_made (layer_of_mac_vlan.Flags flags) = sym (mac_vlan.rolls-Flags flags)
+mac_vlan_made (layer_of_mac_vlan.MacAddrMode m) = sym (mac_vlan.rolls-MacAddrMode m)
+mac_vlan_made (layer_of_mac_vlan.MacAddr a) = sym (mac_vlan.rolls-MacAddr a)
+mac_vlan_made (layer_of_mac_vlan.MacAddrData xs) = sym (mac_vlan.rolls-MacAddrData xs)
+mac_vlan_made (layer_of_mac_vlan.MacAddrCount n) = sym (mac_vlan.rolls-MacAddrCount n)
+mac_vlan_made (layer_of_mac_vlan.BcQueueLen n) = sym (mac_vlan.rolls-BcQueueLen n)
+mac_vlan_made (layer_of_mac_vlan.BcQueueLenUsed n) = sym (mac_vlan.rolls-BcQueueLenUsed n)
+mac_vlan_made (layer_of_mac_vlan.BcCutoff z) = sym (mac_vlan.rolls-BcCutoff z)
+mac_vlan_made (layer_of_mac_vlan.Other d) = sym (mac_vlan.rolls-Other d)
+
+mac_vlan_unrolled : (y : layer_of_mac_vlan.InfoMacVlan-F InfoMacVlan) (x : InfoMacVlan) →
+    roll-InfoMacVlan y ≡ x → mac_vlan_view x ≡ mac_vlan_variant y
+mac_vlan_unrolled y x e = ap
+    (λ (z : layer_of_mac_vlan.InfoMacVlan-F InfoMacVlan). mac_vlan_variant z)
+    (ap (λ (z : InfoMacVlan). out-InfoMacVlan z) (sym e) ∙ out-roll-InfoMacVlan y)
+
+mac_vlan_viewed : (v : MacView InfoMacVlan) → mac_vlan_view (of_view mac_vlan_labels v) ≡ v
+mac_vlan_viewed (view.Mode m) = mac_vlan_unrolled _ _ (mac_vlan.rolls-Mode m)
+mac_vlan_viewed (view.Flags flags) = mac_vlan_unrolled _ _ (mac_vlan.rolls-Flags flags)
+mac_vlan_viewed (view.MacAddrMode m) = mac_vlan_unrolled _ _ (mac_vlan.rolls-MacAddrMode m)
+mac_vlan_viewed (view.MacAddr a) = mac_vlan_unrolled _ _ (mac_vlan.rolls-MacAddr a)
+mac_vlan_viewed (view.MacAddrData xs) = mac_vlan_unrolled _ _ (mac_vlan.rolls-MacAddrData xs)
+mac_vlan_viewed (view.MacAddrCount n) = mac_vlan_unrolled _ _ (mac_vlan.rolls-MacAddrCount n)
+mac_vlan_viewed (view.BcQueueLen n) = mac_vlan_unrolled _ _ (mac_vlan.rolls-BcQueueLen n)
+mac_vlan_viewed (view.BcQueueLenUsed n) = mac_vlan_unrolled _ _ (mac_vlan.rolls-BcQueueLenUsed n)
+mac_vlan_viewed (view.BcCutoff z) = mac_vlan_unrolled _ _ (mac_vlan.rolls-BcCutoff z)
+mac_vlan_viewed (view.Other d) = mac_vlan_unrolled _ _ (mac_vlan.rolls-Other d)
+
+mac_vlan_is_view : IsView mac_vlan_labels mac_vlan_view
+mac_vlan_is_view = record {
+  made = λ x. mac_vlan_made (out-InfoMacVlan x) ∙ roll-out-InfoMacVlan x;
+  viewed = mac_vlan_viewed;
+}
+
+-- of an attribute inside so many lists, at most 128
+abbrev pub mac_vlan_conditions : ℕ → InfoMacVlan → Type 0
+mac_vlan_conditions around x = mac_conditions mac_vlan_labels mac_vlan_view (128 - around) x
+
+pub mac_vlan_stated : (around : ℕ) (x : InfoMacVlan) →
+    WellFormed (λ d. macvlan.Other d) mac_vlan_attribute (λ n. row_of (mac_vlan_rows around n)) x ↔
+    mac_vlan_conditions around x
+mac_vlan_stated around x =
+    mac_stated family.MacVlan mac_vlan_attribute mac_vlan_labels mac_vlan_keep mac_vlan_view mac_vlan_is_view (128 - around) x
+
+-- how many lists stand inside one another in a value, from the innermost outwards
+abbrev pub mac_vlan_depth_layer : layer_of_mac_vlan.InfoMacVlan-F ℕ → ℕ
+mac_vlan_depth_layer (layer_of_mac_vlan.MacAddrData depths) = suc (deepest depths)
+mac_vlan_depth_layer _ = 0
+
+abbrev pub mac_vlan_depth : InfoMacVlan → ℕ
+mac_vlan_depth x = fold-InfoMacVlan ℕ mac_vlan_depth_layer x
+
+mac_vlan_rolled_depth : (y : layer_of_mac_vlan.InfoMacVlan-F InfoMacVlan) →
+    mac_vlan_depth (roll-InfoMacVlan y) ≡ view_depth mac_vlan_depth (mac_vlan_variant y)
+mac_vlan_rolled_depth (layer_of_mac_vlan.Mode m) = fold-roll-InfoMacVlan ℕ mac_vlan_depth_layer _
+mac_vlan_rolled_depth (layer_of_mac_vlan.Flags flags) =
+    fold-roll-InfoMacVlan ℕ mac_vlan_depth_layer _
+mac_vlan_rolled_depth (layer_of_mac_vlan.MacAddrMode m) =
+    fold-roll-InfoMacVlan ℕ mac_vlan_depth_layer _
+mac_vlan_rolled_depth (layer_of_mac_vlan.MacAddr a) = fold-roll-InfoMacVlan ℕ mac_vlan_depth_layer _
+mac_vlan_rolled_depth (layer_of_mac_vlan.MacAddrData xs) =
+    fold-roll-InfoMacVlan ℕ mac_vlan_depth_layer _
+mac_vlan_rolled_depth (layer_of_mac_vlan.MacAddrCount n) =
+    fold-roll-InfoMacVlan ℕ mac_vlan_depth_layer _
+mac_vlan_rolled_depth (layer_of_mac_vlan.BcQueueLen n) =
+    fold-roll-InfoMacVlan ℕ mac_vlan_depth_layer _
+mac_vlan_rolled_depth (layer_of_mac_vlan.BcQueueLenUsed n) =
+    fold-roll-InfoMacVlan ℕ mac_vlan_depth_layer _
+mac_vlan_rolled_depth (layer_of_mac_vlan.BcCutoff z) =
+    fold-roll-InfoMacVlan ℕ mac_vlan_depth_layer _
+mac_vlan_rolled_depth (layer_of_mac_vlan.Other d) = fold-roll-InfoMacVlan ℕ mac_vlan_depth_layer _
+
+mac_vlan_depth_is : (x : InfoMacVlan) →
+    mac_vlan_depth x ≡ view_depth mac_vlan_depth (mac_vlan_view x)
+mac_vlan_depth_is x = ap (λ (z : InfoMacVlan). mac_vlan_depth z) (sym (roll-out-InfoMacVlan x))
+    ∙ mac_vlan_rolled_depth (out-InfoMacVlan x)
+
+-- the conditions on a value itself and on those in its lists, however deep
+abbrev pub mac_vlan_values : InfoMacVlan → Type 0
+mac_vlan_values x = (n : ℕ) × mac_conditions mac_vlan_labels mac_vlan_view n x
+
+pub mac_vlan_depth_stated : (around : ℕ) (x : InfoMacVlan) → mac_vlan_conditions around x ↔
+    (mac_vlan_values x × (mac_vlan_depth x ≤ 128 - around))
+mac_vlan_depth_stated around x = let is =
+    mac_depth_stated mac_vlan_labels mac_vlan_view mac_vlan_depth mac_vlan_depth_is
+    (128 - around) x in (
+      λ h. let deep = is.0 h in ((deep.0, deep.1), deep.2),
+      λ h. is.1 (h.0.0, h.0.1, h.1),
+    )
+
+-- ---- Macvtap links
+
+abbrev pub mac_vtap_variant : layer_of_mac_vtap.InfoMacVtap-F InfoMacVtap → MacView InfoMacVtap
+mac_vtap_variant (layer_of_mac_vtap.Mode m) = view.Mode m
+mac_vtap_variant (layer_of_mac_vtap.Flags flags) = view.Flags flags
+mac_vtap_variant (layer_of_mac_vtap.MacAddrMode m) = view.MacAddrMode m
+mac_vtap_variant (layer_of_mac_vtap.MacAddr a) = view.MacAddr a
+mac_vtap_variant (layer_of_mac_vtap.MacAddrData xs) = view.MacAddrData xs
+mac_vtap_variant (layer_of_mac_vtap.MacAddrCount n) = view.MacAddrCount n
+mac_vtap_variant (layer_of_mac_vtap.BcQueueLen n) = view.BcQueueLen n
+mac_vtap_variant (layer_of_mac_vtap.BcQueueLenUsed n) = view.BcQueueLenUsed n
+mac_vtap_variant (layer_of_mac_vtap.BcCutoff z) = view.BcCutoff z
+mac_vtap_variant (layer_of_mac_vtap.Other d) = view.Other d
+
+abbrev pub mac_vtap_view : InfoMacVtap → MacView InfoMacVtap
+mac_vtap_view x = mac_vtap_variant (out-InfoMacVtap x)
+
+mac_vtap_made : (y : layer_of_mac_vtap.InfoMacVtap-F InfoMacVtap) →
+    of_view mac_vtap_labels (mac_vtap_variant y) ≡ roll-InfoMacVtap y
+mac_vtap_made (layer_of_mac_vtap.Mode m) = sym (mac_vtap.rolls-Mode m)
+mac_vtap_made (layer_of_mac_vtap.Flags flags) = sym (mac_vtap.rolls-Flags flags)
+mac_vtap_made (layer_of_mac_vtap.MacAddrMode m) = sym (mac_vtap.rolls-MacAddrMode m)
+mac_vtap_made (layer_of_mac_vtap.MacAddr a) = sym (mac_vtap.rolls-MacAddr a)
+mac_vtap_made (layer_of_mac_vtap.MacAddrData xs) = sym (mac_vtap.rolls-MacAddrData xs)
+mac_vtap_made (layer_of_mac_vtap.MacAddrCount n) = sym (mac_vtap.rolls-MacAddrCount n)
+mac_vtap_made (layer_of_mac_vtap.BcQueueLen n) = sym (mac_vtap.rolls-BcQueueLen n)
+mac_vtap_made (layer_of_mac_vtap.BcQueueLenUsed n) = sym (mac_vtap.rolls-BcQueueLenUsed n)
+mac_vtap_made (layer_of_mac_vtap.BcCutoff z) = sym (mac_vtap.rolls-BcCutoff z)
+mac_vtap_made (layer_of_mac_vtap.Other d) = sym (mac_vtap.rolls-Other d)
+
+mac_vtap_unrolled : (y : layer_of_mac_vtap.InfoMacVtap-F InfoMacVtap) (x : InfoMacVtap) →
+    roll-InfoMacVtap y ≡ x → mac_vtap_view x ≡ mac_vtap_variant y
+mac_vtap_unrolled y x e = ap
+    (λ (z : layer_of_mac_vtap.InfoMacVtap-F InfoMacVtap). mac_vtap_variant z)
+    (ap (λ (z : InfoMacVtap). out-InfoMacVtap z) (sym e) ∙ out-roll-InfoMacVtap y)
+
+mac_vtap_viewed : (v : MacView InfoMacVtap) → mac_vtap_view (of_view mac_vtap_labels v) ≡ v
+mac_vtap_viewed (view.Mode m) = mac_vtap_unrolled _ _ (mac_vtap.rolls-Mode m)
+mac_vtap_viewed (view.Flags flags) = mac_vtap_unrolled _ _ (mac_vtap.rolls-Flags flags)
+mac_vtap_viewed (view.MacAddrMode m) = mac_vtap_unrolled _ _ (mac_vtap.rolls-MacAddrMode m)
+mac_vtap_viewed (view.MacAddr a) = mac_vtap_unrolled _ _ (mac_vtap.rolls-MacAddr a)
+mac_vtap_viewed (view.MacAddrData xs) = mac_vtap_unrolled _ _ (mac_vtap.rolls-MacAddrData xs)
+mac_vtap_viewed (view.MacAddrCount n) = mac_vtap_unrolled _ _ (mac_vtap.rolls-MacAddrCount n)
+mac_vtap_viewed (view.BcQueueLen n) = mac_vtap_unrolled _ _ (mac_vtap.rolls-BcQueueLen n)
+mac_vtap_viewed (view.BcQueueLenUsed n) = mac_vtap_unrolled _ _ (mac_vtap.rolls-BcQueueLenUsed n)
+mac_vtap_viewed (view.BcCutoff z) = mac_vtap_unrolled _ _ (mac_vtap.rolls-BcCutoff z)
+mac_vtap_viewed (view.Other d) = mac_vtap_unrolled _ _ (mac_vtap.rolls-Other d)
+
+mac_vtap_is_view : IsView mac_vtap_labels mac_vtap_view
+mac_vtap_is_view = record {
+  made = λ x. mac_vtap_made (out-InfoMacVtap x) ∙ roll-out-InfoMacVtap x;
+  viewed = mac_vtap_viewed;
+}
+
+-- of an attribute inside so many lists, at most 128
+abbrev pub mac_vtap_conditions : ℕ → InfoMacVtap → Type 0
+mac_vtap_conditions around x = mac_conditions mac_vtap_labels mac_vtap_view (128 - around) x
+
+pub mac_vtap_stated : (around : ℕ) (x : InfoMacVtap) →
+    WellFormed (λ d. macvtap.Other d) mac_vtap_attribute (λ n. row_of (mac_vtap_rows around n)) x ↔
+    mac_vtap_conditions around x
+mac_vtap_stated around x =
+    mac_stated family.MacVtap mac_vtap_attribute mac_vtap_labels mac_vtap_keep mac_vtap_view mac_vtap_is_view (128 - around) x
+
+-- how many lists stand inside one another in a value, from the innermost outwards
+abbrev pub mac_vtap_depth_layer : layer_of_mac_vtap.InfoMacVtap-F ℕ → ℕ
+mac_vtap_depth_layer (layer_of_mac_vtap.MacAddrData depths) = suc (deepest depths)
+mac_vtap_depth_layer _ = 0
+
+abbrev pub mac_vtap_depth : InfoMacVtap → ℕ
+mac_vtap_depth x = fold-InfoMacVtap ℕ mac_vtap_depth_layer x
+
+mac_vtap_rolled_depth : (y : layer_of_mac_vtap.InfoMacVtap-F InfoMacVtap) →
+    mac_vtap_depth (roll-InfoMacVtap y) ≡ view_depth mac_vtap_depth (mac_vtap_variant y)
+mac_vtap_rolled_depth (layer_of_mac_vtap.Mode m) = fold-roll-InfoMacVtap ℕ mac_vtap_depth_layer _
+mac_vtap_rolled_depth (layer_of_mac_vtap.Flags flags) =
+    fold-roll-InfoMacVtap ℕ mac_vtap_depth_layer _
+mac_vtap_rolled_depth (layer_of_mac_vtap.MacAddrMode m) =
+    fold-roll-InfoMacVtap ℕ mac_vtap_depth_layer _
+mac_vtap_rolled_depth (layer_of_mac_vtap.MacAddr a) = fold-roll-InfoMacVtap ℕ mac_vtap_depth_layer _
+mac_vtap_rolled_depth (layer_of_mac_vtap.MacAddrData xs) =
+    fold-roll-InfoMacVtap ℕ mac_vtap_depth_layer _
+mac_vtap_rolled_depth (layer_of_mac_vtap.MacAddrCount n) =
+    fold-roll-InfoMacVtap ℕ mac_vtap_depth_layer _
+mac_vtap_rolled_depth (layer_of_mac_vtap.BcQueueLen n) =
+    fold-roll-InfoMacVtap ℕ mac_vtap_depth_layer _
+mac_vtap_rolled_depth (layer_of_mac_vtap.BcQueueLenUsed n) =
+    fold-roll-InfoMacVtap ℕ mac_vtap_depth_layer _
+mac_vtap_rolled_depth (layer_of_mac_vtap.BcCutoff z) =
+    fold-roll-InfoMacVtap ℕ mac_vtap_depth_layer _
+mac_vtap_rolled_depth (layer_of_mac_vtap.Other d) = fold-roll-InfoMacVtap ℕ mac_vtap_depth_layer _
+
+mac_vtap_depth_is : (x : InfoMacVtap) →
+    mac_vtap_depth x ≡ view_depth mac_vtap_depth (mac_vtap_view x)
+mac_vtap_depth_is x = ap (λ (z : InfoMacVtap). mac_vtap_depth z) (sym (roll-out-InfoMacVtap x))
+    ∙ mac_vtap_rolled_depth (out-InfoMacVtap x)
+
+-- the conditions on a value itself and on those in its lists, however deep
+abbrev pub mac_vtap_values : InfoMacVtap → Type 0
+mac_vtap_values x = (n : ℕ) × mac_conditions mac_vtap_labels mac_vtap_view n x
+
+pub mac_vtap_depth_stated : (around : ℕ) (x : InfoMacVtap) → mac_vtap_conditions around x ↔
+    (mac_vtap_values x × (mac_vtap_depth x ≤ 128 - around))
+mac_vtap_depth_stated around x = let is =
+    mac_depth_stated mac_vtap_labels mac_vtap_view mac_vtap_depth mac_vtap_depth_is
+    (128 - around) x in (
+      λ h. let deep = is.0 h in ((deep.0, deep.1), deep.2),
+      λ h. is.1 (h.0.0, h.0.1, h.1),
+    )

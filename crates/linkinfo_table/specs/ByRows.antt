@@ -1,0 +1,77 @@
+-- A family as its rows give it: what `LinkFamily` says of its attributes under one context is
+-- lawful, and each error names the family, by what the rows owe.
+use Rattle.std.specs.Prelude.{◌≡◌, ℕ, ◌*◌, ◌≤◌, List, length, Result, refl}
+use Rattle.nla_frame.specs.Attribute.{Attribute, masked}
+use Rattle.nla_frame.specs.Pieces.{pieces}
+use Rattle.nla_frame.specs.declared.default_nla.DefaultNla.{DefaultNla}
+use Rattle.nla_frame.specs.declared.error.DecodeError.{DecodeError}
+use Rattle.nla_frame.specs.declared.error.Family.{Family}
+use Rattle.linkinfo_table.specs.FamilyRows.{EachKeeps, FamilyRow, IsUnnested, PlainRow, RowOwes}
+use Rattle.linkinfo_table.specs.FamilyRows.{lookup_of, row_of, table_row}
+use Rattle.linkinfo_table.specs.FamilyRowLaws.{table_flat, table_owes}
+use Rattle.linkinfo_table.specs.FaultNames.{EachNames, names_first, names_list}
+use Rattle.linkinfo_table.specs.FlatLaws.{flat_alike_is, flat_no_memory, flat_read_well}
+use Rattle.linkinfo_table.specs.FlatLaws.{flat_well_attribute, flat_well_reads, none_inside}
+use Rattle.linkinfo_table.specs.LookupLaws.{flat_unnested, rows_say}
+use Rattle.linkinfo_table.specs.Lists.{first_meaning, values}
+use Rattle.linkinfo_table.specs.Members.{IsFamily, Members}
+use Rattle.linkinfo_table.specs.Rows.{WellFormed, alike_in, meaning_in, memory_in}
+
+module _ {X : Type 0} (f : Family) (other : DefaultNla → X) (attribute : X → Attribute)
+    (rows : ℕ → FamilyRow X) where
+  abbrev means : Attribute → Result X DecodeError
+  means a = meaning_in f other (λ n. row_of (rows n)) a
+
+  abbrev pub members_by_rows : (Attribute → ℕ) → Members X
+  members_by_rows headers = record {
+    meaning = means;
+    headers = headers;
+    alike = alike_in (λ n. row_of (rows n));
+    needs_memory = memory_in (λ n. row_of (rows n));
+    attribute = attribute;
+    well = WellFormed other attribute (λ n. row_of (rows n));
+  }
+
+  module _ (owes : (n : ℕ) → RowOwes attribute n (row_of (rows n))) where
+    pub rows_are_family :
+        ((d : DefaultNla) → attribute (other d) ≡ record { kind = d.kind; value = d.value }) →
+        (headers : Attribute → ℕ) → ((a : Attribute) → 4 * headers a ≤ length a.value) →
+        IsFamily (members_by_rows headers)
+    rows_are_family keeps headers quarter = record {
+      alike_is = flat_alike_is f other attribute rows owes keeps;
+      quarter = quarter;
+      no_memory = flat_no_memory f other attribute rows owes keeps;
+      read_well = flat_read_well f other attribute rows owes keeps;
+      well_reads = flat_well_reads f other attribute rows owes keeps attribute (λ _. refl);
+      well_attribute = flat_well_attribute f other attribute rows owes keeps attribute (λ _. refl);
+    }
+
+    module _ (unnested : (n : ℕ) → IsUnnested (rows n)) where
+      pub rows_name : (s : List ℕ) → EachNames f (values means (pieces s))
+      rows_name s =
+          names_list f other attribute (λ _ n. lookup_of (rows n)) (λ _ a. means a)
+          (λ _ a. rows_say f other attribute attribute (λ _. refl) (λ _ b. means b) rows a
+          (unnested (masked a.kind)) (owes (masked a.kind))) (tt {0}) s
+
+      pub rows_name_first : (s : List ℕ) → EachNames f (first_meaning means (pieces s))
+      rows_name_first s =
+          names_first f other attribute (λ _ n. lookup_of (rows n)) (λ _ a. means a)
+          (λ _ a. rows_say f other attribute attribute (λ _. refl) (λ _ b. means b) rows a
+          (unnested (masked a.kind)) (owes (masked a.kind))) (tt {0}) s
+
+-- ---- a family of one table of plain rows
+
+module _ {X : Type 0} (f : Family) (other : DefaultNla → X) (attribute : X → Attribute)
+    (table : List (PlainRow X)) (keeps : EachKeeps attribute table) where
+  pub table_is_family :
+      ((d : DefaultNla) → attribute (other d) ≡ record { kind = d.kind; value = d.value }) →
+      IsFamily (members_by_rows f other attribute (λ n. table_row table n) (λ _. 0))
+  table_is_family keeps_other =
+      rows_are_family f other attribute (λ n. table_row table n) (table_owes attribute table keeps)
+      keeps_other (λ _. 0) none_inside
+
+  pub table_names : (s : List ℕ) →
+      EachNames f (values (meaning_in f other (λ n. row_of (table_row table n))) (pieces s))
+  table_names s =
+      rows_name f other attribute (λ n. table_row table n) (table_owes attribute table keeps)
+      (λ n. flat_unnested (table_row table n) (table_flat attribute table keeps n)) s
