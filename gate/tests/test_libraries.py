@@ -23,6 +23,15 @@ class Libraries(unittest.TestCase):
         self.assertEqual(ready(CRATES, ["top"], ["right"]), [])
         self.assertEqual(ready(CRATES, ["top"], []), ["top"])
 
+    def test_shares(self):
+        seconds = {"low": 10, "left": 30, "right": 20}
+        shares = libraries.shares
+        self.assertEqual(shares(["low"], 4, seconds), {"low": 4})
+        self.assertEqual(shares(["left", "right"], 4, seconds), {"left": 2, "right": 2})
+        self.assertEqual(shares(["left", "right", "low"], 4, seconds),
+                         {"left": 2, "right": 1, "low": 1})
+        self.assertEqual(shares(["left"], 0, seconds), {"left": 1})
+
     def test_longest(self):
         seconds = {"low": 10, "left": 30, "right": 20, "top": 5}
         self.assertEqual(libraries.longest(CRATES, [*CRATES], seconds), 45)
