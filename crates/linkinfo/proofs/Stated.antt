@@ -1,5 +1,5 @@
--- A list is well formed exactly where each value is as its variant asks for, under the kinds in
--- force before it.
+-- A list is well formed exactly where each value meets the conditions of its variant, under the
+-- current kinds before it.
 use Rattle.std.specs.Prelude.{◌≡◌, ◌≢◌, ◌↔◌, ℕ, zero, suc, ◌<◌, List, [], ◌∷◌, Option, Some, None}
 use Rattle.std.specs.Prelude.{refl}
 use Rattle.std.proofs.Common.{sym, subst}
@@ -86,7 +86,7 @@ module _ {P : Type 0} (peer : Families P) (well : P → Type 0) (stated : AreSta
     λ h. (bytes, h.1, refl),
   )
 
-  -- no attribute that is kept is a kind, data, statistics, a port kind or port data
+  -- no opaque attribute is a kind, data, statistics, a port kind or port data
   misplaced : (r : Role) (d : DefaultNla) → r ≢ role.Unknown → ¬ IsWell r (info.Other d)
   misplaced role.Kind d other w = let no = w.2 in cc
   misplaced (role.Data tag) d other w = let no = w.2 in cc

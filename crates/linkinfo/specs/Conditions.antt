@@ -1,5 +1,5 @@
 -- Which lists are well formed, stated of the values themselves: each by its variant, under the
--- kinds in force before it.
+-- current kinds before it.
 use Rattle.std.specs.Prelude.{◌≡◌, ◌≢◌, ℕ, ◌<◌, true, List, Option, Some, None}
 use Rattle.std.specs.Str.{is_utf8}
 use Rattle.nla_frame.specs.Attribute.{IsBytes, masked}
@@ -25,12 +25,12 @@ use Rattle.linkinfo.specs.declared.role.InForce.{InForce}
 abbrev pub IsText : List ℕ → Type 0
 IsText text = (is_utf8 text ≡ true) × IsBytes text
 
--- a kind is in force, and the data is well formed under its family
+-- there is a current kind, and the data is well formed under its family
 abbrev pub IsDataUnder : {P : Type 0} → (P → Type 0) → Option KindTag → InfoDataOf P → Type 0
 IsDataUnder well kind d = (tag : KindTag) × (kind ≡ Some tag) × data_conditions well
     (family_of tag) d
 
--- a port kind is in force, and the port data is well formed under its family
+-- there is a current port kind, and the port data is well formed under its family
 abbrev pub IsPortDataUnder : Option PortTag → InfoPortData → Type 0
 IsPortDataUnder port d = (tag : PortTag) × (port ≡ Some tag) × port_data_conditions
     (port_family_of tag) d
@@ -39,9 +39,9 @@ IsPortDataUnder port d = (tag : PortTag) × (port ≡ Some tag) × port_data_con
 abbrev pub IsUnnamed : ℕ → Type 0
 IsUnnamed n = (n ≢ 1) × (n ≢ 2) × (n ≢ 3) × (n ≢ 4) × (n ≢ 5)
 
--- A kind, or a port kind, is not `Other` of a known name. Data belongs to the kind in force, port
--- data to the port kind in force, and statistics stand under a kind. An attribute that is kept has
--- none of the five types, 16 bits of type, and bytes for a payload.
+-- A kind, or a port kind, is not `Other` of a known name. Data belongs to the current kind, port
+-- data to the current port kind, and statistics follow a kind. An opaque attribute has none of the
+-- five types, 16 bits of type, and bytes for a payload.
 abbrev pub item_conditions : {P : Type 0} → (P → Type 0) → InForce → LinkInfoOf P → Type 0
 item_conditions well t (info.Kind k) = IsRead kind_table IsText k
 item_conditions well t (info.Data d) = IsDataUnder well t.kind d
@@ -51,6 +51,6 @@ item_conditions well t (info.PortData d) = IsPortDataUnder t.port d
 item_conditions well t (info.Other d) =
     (d.kind < 65536) × IsBytes d.value × IsUnnamed (masked d.kind)
 
--- each value of the list, under the kinds in force that those before it leave
+-- each value of the list, under the current kinds that those before it leave
 abbrev pub Conditions : {P : Type 0} → (P → Type 0) → List (LinkInfoOf P) → Type 0
 Conditions well xs = well_under (item_conditions well) force_behind none_in_force xs

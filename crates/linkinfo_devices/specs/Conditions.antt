@@ -303,7 +303,7 @@ pub mac_vlan_stated : (around : ℕ) (x : InfoMacVlan) →
 mac_vlan_stated around x =
     mac_stated family.MacVlan mac_vlan_attribute mac_vlan_labels mac_vlan_keep mac_vlan_view mac_vlan_is_view (128 - around) x
 
--- how many lists stand inside one another in a value, from the innermost outwards
+-- how many levels of nested lists a value has, from the innermost outwards
 abbrev pub mac_vlan_depth_layer : layer_of_mac_vlan.InfoMacVlan-F ℕ → ℕ
 mac_vlan_depth_layer (layer_of_mac_vlan.MacAddrData depths) = suc (deepest depths)
 mac_vlan_depth_layer _ = 0
@@ -413,7 +413,7 @@ pub mac_vtap_stated : (around : ℕ) (x : InfoMacVtap) →
 mac_vtap_stated around x =
     mac_stated family.MacVtap mac_vtap_attribute mac_vtap_labels mac_vtap_keep mac_vtap_view mac_vtap_is_view (128 - around) x
 
--- how many lists stand inside one another in a value, from the innermost outwards
+-- how many levels of nested lists a value has, from the innermost outwards
 abbrev pub mac_vtap_depth_layer : layer_of_mac_vtap.InfoMacVtap-F ℕ → ℕ
 mac_vtap_depth_layer (layer_of_mac_vtap.MacAddrData depths) = suc (deepest depths)
 mac_vtap_depth_layer _ = 0

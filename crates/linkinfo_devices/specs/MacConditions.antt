@@ -68,15 +68,15 @@ view_conditions l inside (BcQueueLenUsed n) = n < 2 ^ 32
 view_conditions l inside (BcCutoff z) = FitsSigned w32 z
 view_conditions l inside (Other d) = IsUnknownBeside 5 (mac_plain_rows l) d
 
--- where at most so many lists more may stand inside one another, and each value of a list must be
--- one such
+-- where lists may have at most `levels` further levels of nesting, and each value of a list meets
+-- the conditions at one level less
 abbrev pub mac_conditions : {X : Type 0} → MacLabels X → (X → MacView X) → ℕ → X → Type 0
 mac_conditions l view zero x = view_conditions l (λ _. ⊥) (view x)
 mac_conditions l view (suc levels) x =
     view_conditions l (λ xs. AllByRecursion (mac_conditions l view levels) xs) (view x)
 
--- how many lists stand inside one another: none in a value without one, and in a list one more than
--- in any of its values
+-- how many levels of nested lists there are: none in a value without a list, and in a list one more
+-- than in the deepest of its values
 abbrev pub deepest : List ℕ → ℕ
 deepest [] = 0
 deepest (n ∷ ns) = max n (deepest ns)
@@ -219,8 +219,8 @@ module _ {X : Type 0} (f : Family) (attribute : X → Attribute) (l : MacLabels 
   abbrev inside_of : ℕ → List X → Type 0
   inside_of levels xs = AllByRecursion (mac_conditions l view levels) xs
 
-  -- a list where one more may stand inside, given that its values are well formed where they are as
-  -- the conditions say
+  -- a list at one level more, given that its values are well formed exactly where they meet the
+  -- conditions
   lists : (levels : ℕ) → ((x : X) → WellIn levels x ↔ mac_conditions l view levels x) →
       (xs : List X) →
       WellAt (λ d. l.other d) (row_of (rows (suc levels) 5)) (l.mac_addr_data xs) ↔
@@ -314,8 +314,8 @@ module _ {X : Type 0} (l : MacLabels X) (view : X → MacView X) (depth : X → 
       (omega (arith, deep))) (view x) h
       (subst (λ (n : ℕ). n ≤ suc levels) (depth_is x) small)
 
-  -- The conditions hold at most so many lists deep exactly where they hold at some depth, and at
-  -- most so many lists stand inside one another.
+  -- The conditions hold at a number of levels exactly where they hold at some number, and the value
+  -- has at most that many levels of nested lists.
   pub mac_depth_stated : (levels : ℕ) (x : X) → HoldsAt levels x ↔
       ((n : ℕ) × HoldsAt n x × (depth x ≤ levels))
   mac_depth_stated levels x = (λ h. (levels, h, within levels x h), λ h. under h.0 levels x h.1 h.2)

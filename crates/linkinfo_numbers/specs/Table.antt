@@ -148,7 +148,7 @@ apart_by N is_other others (x ∷ xs) h =
 
 -- ---- values that an attribute can mean
 
--- the value is not `Other` of a key that a named value has, and its key is one that the program can hold
+-- the value is not `Other` of a key that a named value has, and the program can hold its key
 abbrev pub IsRead : {Key T : Type 0} → Table Key T → (Key → Type 0) → T → Type 0
 IsRead N Holds x = IsProper N x × Holds (N.key x)
 
@@ -156,8 +156,8 @@ IsRead N Holds x = IsProper N x × Holds (N.key x)
 abbrev pub IsNumber : {T : Type 0} → Table ℕ T → ℕ → T → Type 0
 IsNumber N bound x = IsRead N (λ n. n < bound) x
 
--- A label is that of the value of some key that the program can hold exactly where it is that of such a value: for a condition on labels
--- that is this one on values.
+-- A label is that of the value of some key that the program can hold exactly where it is the label of
+-- a value with `IsRead`, for a condition on labels that is `IsRead` on values.
 pub table_label : {Key T F : Type 0} {N : Table Key T} → IsTable N → (Holds : Key → Type 0) (label : T → F) (Condition : F → Type 0) →
     ((y : T) → IsRead N Holds y → Condition (label y)) → ((y : T) → Condition (label y) → IsRead N Holds y) → (x : T) →
     ((k : Key) × Holds k × (label (value_of N k) ≡ label x)) ↔ Condition (label x)
