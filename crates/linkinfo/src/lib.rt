@@ -62,13 +62,15 @@ pub use linkinfo_tunnels::{
     InfoAmt, InfoBareUdp, InfoGeneve, InfoGre, InfoGre6, InfoGtp, InfoIpTunnel, InfoVti, InfoVxlan,
 };
 
-// For who reads the data of a link or of a port alone: which family a kind has, and reading, checking and comparing a payload by it.
+// For who reads the data of a link or of a port alone: which family a kind has, reading, checking and comparing a payload by it, and what of it is
+// not met.
 pub use linkinfo_data::{
     DataFamily, DeviceFamily, LowerFamily, PayloadFamily, PeeredFamily, PortFamily, TunnelFamily,
-    family_of, port_family_of,
+    Unmet, family_of, list_unmet, port_family_of,
 };
 
-// For who goes over attributes by hand: one attribute in a slice, an iterator, numbers and addresses in payloads.
+// For who goes over attributes by hand: one attribute in a slice, an iterator, the last of each type, numbers and addresses in payloads.
+pub use linkinfo_table::{LastOfType, PlacedNla, own_bytes};
 pub use nla_frame::{
     NlaBuffer, NlasIterator, emit_i32, emit_u16, emit_u16_be, emit_u32, emit_u32_be, emit_u64,
     emit_u64_be, next_piece, parse_i32, parse_ip, parse_ipv4_addr, parse_ipv6_addr, parse_mac,

@@ -1,2 +1,3 @@
 mod Arms
+mod Unmets
 pub mod Lawful

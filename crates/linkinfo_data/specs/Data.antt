@@ -9,12 +9,13 @@ use Rattle.linkinfo_data.specs.declared.peers.PeeredFamily.TheVariants as peered
 use Rattle.linkinfo_data.specs.declared.tunnels.TunnelFamily.TheVariants as tunnel
 use Rattle.linkinfo_data.specs.declared.info_data.InfoDataOf.{InfoDataOf}
 use Rattle.linkinfo_data.specs.declared.info_data.InfoDataOf.TheVariants as info
-use Rattle.linkinfo_data.specs.DeviceData.{devices_data_of}
+use Rattle.linkinfo_data.specs.DeviceData.{devices_data_of, devices_listed}
 use Rattle.linkinfo_data.specs.Families.{Families}
-use Rattle.linkinfo_data.specs.LowerData.{lower_data_of}
+use Rattle.linkinfo_data.specs.Listed.{KeepsListing}
+use Rattle.linkinfo_data.specs.LowerData.{lower_data_of, lower_listed}
 use Rattle.linkinfo_data.specs.Payloads.{Payload, as_bytes}
-use Rattle.linkinfo_data.specs.PeerData.{peers_data_of}
-use Rattle.linkinfo_data.specs.TunnelData.{tunnels_data_of}
+use Rattle.linkinfo_data.specs.PeerData.{peers_data_of, peers_listed}
+use Rattle.linkinfo_data.specs.TunnelData.{tunnels_data_of, tunnels_listed}
 
 -- the family of a kind's data
 abbrev pub family_of : KindTag → DataFamily
@@ -66,3 +67,12 @@ data_of families (of.Device f) = devices_data_of f
 data_of families (of.Tunnel f) = tunnels_data_of f
 data_of families (of.Peered f) = peers_data_of families f
 data_of families of.Raw = as_bytes (λ bytes. info.Other bytes)
+
+-- a list is accepted, and equivalent to another, attribute by attribute
+pub data_listed : {P : Type 0} (families : Families P) (f : DataFamily) →
+    KeepsListing (data_of families f)
+data_listed families (of.Lower f) = lower_listed _ f
+data_listed families (of.Device f) = devices_listed _ f
+data_listed families (of.Tunnel f) = tunnels_listed _ f
+data_listed families (of.Peered f) = peers_listed families f
+data_listed families of.Raw = tt {0}

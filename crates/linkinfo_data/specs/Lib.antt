@@ -8,6 +8,8 @@ pub mod Equal
 pub mod Families
 pub mod InfoData
 pub mod Lawful
+pub mod Listed
+pub mod Listing
 pub mod LowerData
 pub mod Names
 pub mod Payloads
@@ -16,3 +18,4 @@ pub mod PeerFamilies
 pub mod Plain
 pub mod PortData
 pub mod TunnelData
+pub mod Unmet

@@ -7,6 +7,7 @@ use Rattle.linkinfo_data.specs.declared.port_data.InfoPortData.{InfoPortData}
 use Rattle.linkinfo_data.specs.declared.port_data.InfoPortData.TheVariants as info
 use Rattle.linkinfo_data.specs.declared.port_data.PortFamily.{PortFamily}
 use Rattle.linkinfo_data.specs.declared.port_data.PortFamily.TheVariants as of
+use Rattle.linkinfo_data.specs.Listed.{KeepsListing, as_list_is_listed}
 use Rattle.linkinfo_data.specs.Payloads.{Payload, as_list, as_bytes}
 use Rattle.linkinfo_data.specs.Plain.{plain}
 
@@ -37,3 +38,10 @@ port_data_payload (info.Other bytes) = bytes
 -- the canonical attribute of port data
 abbrev pub port_data_attribute : InfoPortData → Attribute
 port_data_attribute d = record { kind = 5; value = port_data_payload d }
+
+pub port_listed : (f : PortFamily) → KeepsListing (port_data_of f)
+port_listed of.Bond = as_list_is_listed plain.bond_port (λ xs. info.BondPort xs)
+port_listed of.Bridge = as_list_is_listed plain.bridge_port (λ xs. info.BridgePort xs)
+port_listed of.Vrf = as_list_is_listed plain.vrf_port (λ xs. info.VrfPort xs)
+port_listed of.Team = as_list_is_listed plain.team_port (λ xs. info.TeamPort xs)
+port_listed of.Raw = tt {0}

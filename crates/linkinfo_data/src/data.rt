@@ -1,7 +1,7 @@
 //! Which family the data of a kind has, and data read, checked and compared by it.
 
 ghost use Rattle.std.specs.Prelude.{◌≡◌};
-ghost use Rattle.linkinfo_data.specs.Data.{data_of, family_of};
+ghost use Rattle.linkinfo_data.specs.Data.{data_listed, data_of, family_of};
 
 use crate::devices::DeviceFamily;
 use crate::families::DataFamilies;
@@ -12,7 +12,7 @@ use crate::peers::PeeredFamily;
 use crate::tunnels::TunnelFamily;
 use linkinfo_numbers::KindTag;
 use linkinfo_table::LinkPeer;
-use nla_frame::{Bytes, DecodeError, ExactEq, HeaderCount, fitting, put_bytes};
+use nla_frame::{Bytes, DecodeError, ExactEq, Family, HeaderCount, fitting, put_bytes};
 use std::alloc::Global;
 
 /// The family of the attributes in a kind's data.
@@ -90,6 +90,18 @@ pub fn family_of(tag: KindTag) -> DataFamily
 
 impl<P: LinkPeer> PayloadFamily<InfoDataOf<P>> for DataFamily {
     ghost data_of = { data_of ⟦<P as DataFamilies>⟧.families };
+
+    ghost listed = { data_listed ⟦<P as DataFamilies>⟧.families };
+
+    fn listing(self) -> Option<Family> {
+        match self {
+            DataFamily::Lower(family) => PayloadFamily::<InfoDataOf<P>>::listing(family),
+            DataFamily::Device(family) => PayloadFamily::<InfoDataOf<P>>::listing(family),
+            DataFamily::Tunnel(family) => PayloadFamily::<InfoDataOf<P>>::listing(family),
+            DataFamily::Peered(family) => PayloadFamily::<InfoDataOf<P>>::listing(family),
+            DataFamily::Raw => None,
+        }
+    }
 
     fn read(
         self,

@@ -1,6 +1,6 @@
 //! Data of ipvlan, ipvtap, macvlan, macvtap, vrf, ipoib, xfrm, macsec and rmnet links.
 
-ghost use Rattle.linkinfo_data.specs.DeviceData.{devices_data_of};
+ghost use Rattle.linkinfo_data.specs.DeviceData.{devices_data_of, devices_listed};
 
 use crate::info_data::InfoDataOf;
 use crate::payload_family::PayloadFamily;
@@ -10,7 +10,7 @@ use linkinfo_devices::{
     InfoXfrm,
 };
 use linkinfo_table::{LinkPeer, list_canonical_len, list_check, list_put_canonical, list_same};
-use nla_frame::{DecodeError, ExactEq, HeaderCount};
+use nla_frame::{DecodeError, ExactEq, Family, HeaderCount};
 use std::alloc::Global;
 
 /// The families of ipvlan, ipvtap, macvlan, macvtap, vrf, ipoib, xfrm, macsec and rmnet links.
@@ -44,6 +44,22 @@ impl ExactEq for DeviceFamily {
 
 impl<P: LinkPeer> PayloadFamily<InfoDataOf<P>> for DeviceFamily {
     ghost data_of = { λ family. devices_data_of family };
+
+    ghost listed = { λ family. devices_listed _ family };
+
+    fn listing(self) -> Option<Family> {
+        match self {
+            DeviceFamily::IpVlan => Some(Family::IpVlan),
+            DeviceFamily::IpVtap => Some(Family::IpVtap),
+            DeviceFamily::MacVlan => Some(Family::MacVlan),
+            DeviceFamily::MacVtap => Some(Family::MacVtap),
+            DeviceFamily::Vrf => Some(Family::Vrf),
+            DeviceFamily::Ipoib => Some(Family::Ipoib),
+            DeviceFamily::Xfrm => Some(Family::Xfrm),
+            DeviceFamily::MacSec => Some(Family::MacSec),
+            DeviceFamily::RmNet => Some(Family::RmNet),
+        }
+    }
 
     fn read(
         self,

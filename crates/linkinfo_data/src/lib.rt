@@ -11,6 +11,7 @@ mod payload_family;
 mod peers;
 mod port_data;
 mod tunnels;
+mod unmet;
 mod written;
 
 pub use data::{DataFamily, family_of};
@@ -22,3 +23,4 @@ pub use payload_family::PayloadFamily;
 pub use peers::PeeredFamily;
 pub use port_data::{InfoPortData, PortFamily, port_family_of};
 pub use tunnels::TunnelFamily;
+pub use unmet::{Unmet, list_unmet};

@@ -1,13 +1,13 @@
 //! Data of bridge, vlan, bond, hsr, can and dsa links.
 
-ghost use Rattle.linkinfo_data.specs.LowerData.{lower_data_of};
+ghost use Rattle.linkinfo_data.specs.LowerData.{lower_data_of, lower_listed};
 
 use crate::info_data::InfoDataOf;
 use crate::payload_family::PayloadFamily;
 use crate::written::read_nlas;
 use linkinfo_table::lower::{InfoBond, InfoBridge, InfoCan, InfoDsa, InfoHsr, InfoVlan};
 use linkinfo_table::{LinkPeer, list_canonical_len, list_check, list_put_canonical, list_same};
-use nla_frame::{DecodeError, ExactEq, HeaderCount};
+use nla_frame::{DecodeError, ExactEq, Family, HeaderCount};
 use std::alloc::Global;
 
 /// The families of bridge, vlan, bond, hsr, can and dsa links.
@@ -35,6 +35,19 @@ impl ExactEq for LowerFamily {
 
 impl<P: LinkPeer> PayloadFamily<InfoDataOf<P>> for LowerFamily {
     ghost data_of = { λ family. lower_data_of family };
+
+    ghost listed = { λ family. lower_listed _ family };
+
+    fn listing(self) -> Option<Family> {
+        match self {
+            LowerFamily::Bridge => Some(Family::Bridge),
+            LowerFamily::Vlan => Some(Family::Vlan),
+            LowerFamily::Bond => Some(Family::Bond),
+            LowerFamily::Hsr => Some(Family::Hsr),
+            LowerFamily::Can => Some(Family::Can),
+            LowerFamily::Dsa => Some(Family::Dsa),
+        }
+    }
 
     fn read(
         self,

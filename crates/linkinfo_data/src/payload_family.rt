@@ -3,15 +3,21 @@
 ghost use Rattle.std.specs.Prelude.{◌≡◌, ◌+◌, ◌*◌, ◌/◌, ◌<◌, ◌≤◌, ◌^◌, ◌++◌, IsOk, SomeIff, drop, length};
 ghost use Rattle.std.specs.Bool.{OnTrue};
 ghost use Rattle.nla_frame.specs.Answers.{CertainUnless, Gives, OnAnswer, verdict};
+ghost use Rattle.linkinfo_data.specs.Listed.{KeepsListing};
+ghost use Rattle.linkinfo_data.specs.Listing.{family_in};
 ghost use Rattle.linkinfo_data.specs.Payloads.{Payload};
 
-use nla_frame::{DecodeError, HeaderCount};
+use nla_frame::{DecodeError, Family, HeaderCount};
 use std::alloc::Global;
 
 /// A choice of a family: what a payload means as data of the family chosen.
 pub trait PayloadFamily<D: Drop>: Copy {
     /// What payloads mean by each choice.
     ghost data_of: { Self → Payload D };
+
+    /// The family of the attributes, where payloads are lists of them, and else `None`.
+    fn listing(self) -> Option<Family>
+        ensures { result ≡ family_in (data_of self).listing };
 
     /// Reads a payload. An answer other than (Frame, 0, Memory) is what it means.
     fn read(self, alloc: Global, payload: &[u8], count: &mut HeaderCount) -> Result<D, DecodeError>
@@ -52,4 +58,7 @@ pub trait PayloadFamily<D: Drop>: Copy {
         requires room { length ((data_of self).canonical payload.now) ≤ length buffer.old }
         ensures taken { result ≡ length ((data_of self).canonical payload.now) }
         ensures written { buffer.new ≡ (data_of self).canonical payload.now ++ drop (length ((data_of self).canonical payload.now)) buffer.old };
+
+    /// A list is accepted, and equivalent to another, attribute by attribute.
+    ghost listed: { (family : Self) → KeepsListing (data_of family) };
 }

@@ -1,6 +1,6 @@
 //! Data of links with a peer, and of tun, wireguard, batadv, wwan and pfcp links.
 
-ghost use Rattle.linkinfo_data.specs.PeerData.{peers_data_of};
+ghost use Rattle.linkinfo_data.specs.PeerData.{peers_data_of, peers_listed};
 
 use crate::families::DataFamilies;
 use crate::info_data::InfoDataOf;
@@ -13,7 +13,7 @@ use linkinfo_table::{
     LinkPeer, first_canonical_len, first_check, first_put_canonical, first_read, first_same,
     list_canonical_len, list_check, list_put_canonical, list_same,
 };
-use nla_frame::{DecodeError, ExactEq, HeaderCount};
+use nla_frame::{DecodeError, ExactEq, Family, HeaderCount};
 use std::alloc::Global;
 
 /// The families of links with a peer, and of tun, wireguard, batadv, wwan and pfcp links.
@@ -45,6 +45,21 @@ impl ExactEq for PeeredFamily {
 
 impl<P: LinkPeer> PayloadFamily<InfoDataOf<P>> for PeeredFamily {
     ghost data_of = { λ family. peers_data_of ⟦<P as DataFamilies>⟧.families family };
+
+    ghost listed = { λ family. peers_listed ⟦<P as DataFamilies>⟧.families family };
+
+    fn listing(self) -> Option<Family> {
+        match self {
+            PeeredFamily::Tun => Some(Family::Tun),
+            PeeredFamily::Veth => None,
+            PeeredFamily::Wireguard => Some(Family::Wireguard),
+            PeeredFamily::Netkit => Some(Family::Netkit),
+            PeeredFamily::Vxcan => None,
+            PeeredFamily::BatAdv => Some(Family::BatAdv),
+            PeeredFamily::Wwan => Some(Family::Wwan),
+            PeeredFamily::Pfcp => Some(Family::Pfcp),
+        }
+    }
 
     fn read(
         self,

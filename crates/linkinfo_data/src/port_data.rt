@@ -3,7 +3,7 @@
 ghost use Rattle.std.specs.Prelude.{◌≡◌};
 ghost use Rattle.nla_frame.specs.Answers.{CertainUnless, Gives};
 ghost use Rattle.linkinfo_numbers.specs.PortKind.{tag_of_port_kind};
-ghost use Rattle.linkinfo_data.specs.PortData.{port_data_of, port_family_of};
+ghost use Rattle.linkinfo_data.specs.PortData.{port_data_of, port_family_of, port_listed};
 
 use crate::payload_family::PayloadFamily;
 use crate::written::{list_fit_len, put_list, read_nlas};
@@ -12,7 +12,7 @@ use linkinfo_numbers::{IFLA_INFO_SLAVE_DATA, InfoPortKind, PortTag};
 use linkinfo_peers::InfoTeamPort;
 use linkinfo_table::lower::{InfoBondPort, InfoBridgePort};
 use linkinfo_table::{list_canonical_len, list_check, list_put_canonical, list_same};
-use nla_frame::{Bytes, DecodeError, ExactEq, HeaderCount, Nla, Nlas, fitting, put_bytes};
+use nla_frame::{Bytes, DecodeError, ExactEq, Family, HeaderCount, Nla, Nlas, fitting, put_bytes};
 use std::alloc::Global;
 
 /// The family of the attributes in a port kind's data.
@@ -66,6 +66,18 @@ pub enum InfoPortData {
 
 impl PayloadFamily<InfoPortData> for PortFamily {
     ghost data_of = { port_data_of };
+
+    ghost listed = { port_listed };
+
+    fn listing(self) -> Option<Family> {
+        match self {
+            PortFamily::Bond => Some(Family::BondPort),
+            PortFamily::Bridge => Some(Family::BridgePort),
+            PortFamily::Vrf => Some(Family::Vrf),
+            PortFamily::Team => Some(Family::TeamPort),
+            PortFamily::Raw => None,
+        }
+    }
 
     fn read(
         self,

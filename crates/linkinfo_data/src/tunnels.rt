@@ -1,6 +1,6 @@
 //! Data of tunnels.
 
-ghost use Rattle.linkinfo_data.specs.TunnelData.{tunnels_data_of};
+ghost use Rattle.linkinfo_data.specs.TunnelData.{tunnels_data_of, tunnels_listed};
 
 use crate::info_data::InfoDataOf;
 use crate::payload_family::PayloadFamily;
@@ -10,7 +10,7 @@ use linkinfo_table::{LinkPeer, list_canonical_len, list_check, list_put_canonica
 use linkinfo_tunnels::{
     InfoAmt, InfoBareUdp, InfoGeneve, InfoGre, InfoGre6, InfoGtp, InfoIpTunnel, InfoVti, InfoVxlan,
 };
-use nla_frame::{DecodeError, ExactEq, HeaderCount};
+use nla_frame::{DecodeError, ExactEq, Family, HeaderCount};
 use std::alloc::Global;
 
 /// The families of tunnels.
@@ -54,6 +54,26 @@ impl ExactEq for TunnelFamily {
 
 impl<P: LinkPeer> PayloadFamily<InfoDataOf<P>> for TunnelFamily {
     ghost data_of = { λ family. tunnels_data_of family };
+
+    ghost listed = { λ family. tunnels_listed _ family };
+
+    fn listing(self) -> Option<Family> {
+        match self {
+            TunnelFamily::Vxlan => Some(Family::Vxlan),
+            TunnelFamily::GreTap => Some(Family::Gre),
+            TunnelFamily::GreTap6 => Some(Family::Gre6),
+            TunnelFamily::IpTunnel(_) => Some(Family::IpTunnel),
+            TunnelFamily::GreTun => Some(Family::Gre),
+            TunnelFamily::GreTun6 => Some(Family::Gre6),
+            TunnelFamily::Vti => Some(Family::Vti),
+            TunnelFamily::Gtp => Some(Family::Gtp),
+            TunnelFamily::Geneve => Some(Family::Geneve),
+            TunnelFamily::Amt => Some(Family::Amt),
+            TunnelFamily::BareUdp => Some(Family::BareUdp),
+            TunnelFamily::ErSpan => Some(Family::Gre),
+            TunnelFamily::Ip6ErSpan => Some(Family::Gre6),
+        }
+    }
 
     fn read(
         self,

@@ -13,6 +13,7 @@ mod gtp;
 mod ip_tunnel;
 mod ipoib;
 mod ipvlan;
+mod last;
 mod macsec;
 mod macvlan;
 mod nested;

@@ -1,3 +1,4 @@
 pub mod RowAnswers
 pub mod Writing
 mod Firsts
+pub mod Lasts

@@ -24,6 +24,7 @@ module _ {X : Type 0} (f : Family) (other : DefaultNla → X) (attribute : X →
 
   abbrev pub members_by_rows : (Attribute → ℕ) → Members X
   members_by_rows headers = record {
+    family = f;
     meaning = means;
     headers = headers;
     alike = alike_in (λ n. row_of (rows n));

@@ -1,19 +1,17 @@
 -- The family that an error of an attribute names: the attribute's own, or, where no header of a list
 -- inside it is accepted, that of the frame.
-use Rattle.std.specs.Prelude.{◌≡◌, ℕ, zero, suc, ◌+◌, ◌<◌, ◌≤◌, ◌⊎◌, List, [], ◌∷◌, length, map, Result, Ok, Err, refl}
+use Rattle.std.specs.Prelude.{◌≡◌, ℕ, zero, suc, ◌<◌, ◌≤◌, ◌⊎◌, List, [], ◌∷◌, length, Result, Ok, Err}
 use Rattle.std.proofs.Common.{sym, ap, subst, ◌∙◌, arith, inl, inr}
-use Rattle.nla_frame.specs.Attribute.{Attribute, list_string, masked}
+use Rattle.nla_frame.specs.Attribute.{Attribute, masked}
 use Rattle.nla_frame.specs.Error.{header_fault}
-use Rattle.nla_frame.specs.Kept.{kept}
-use Rattle.nla_frame.specs.Pieces.{pieces, seen}
+use Rattle.nla_frame.specs.Pieces.{pieces}
 use Rattle.nla_frame.specs.declared.default_nla.DefaultNla.{DefaultNla}
-use Rattle.nla_frame.specs.declared.error.Cause.{Cause}
 use Rattle.nla_frame.specs.declared.error.DecodeError.{DecodeError}
 use Rattle.nla_frame.specs.declared.error.Family.{Family}
 use Rattle.nla_frame.proofs.Stepping.{pieces_nil, by_pieces}
 use Rattle.linkinfo_shapes.specs.declared.shape.Shape.{Shape}
 use Rattle.linkinfo_shapes.specs.declared.shape.Shape.TheVariants.{SelfList, Peer}
-use Rattle.linkinfo_shapes.specs.Shapes.{Carrier, IsPlain, means}
+use Rattle.linkinfo_shapes.specs.Shapes.{IsPlain}
 use Rattle.linkinfo_table.specs.declared.lookup.Lookup.{Lookup}
 use Rattle.linkinfo_table.specs.declared.lookup.Lookup.TheVariants as lookup
 use Rattle.linkinfo_table.specs.Lists.{◌>>=◌, first_meaning, values}

@@ -9,6 +9,7 @@ pub mod FaultMemory
 pub mod FaultNames
 pub mod FlatLaws
 pub mod Labels
+pub mod Last
 pub mod Levels
 pub mod ListLaws
 pub mod Lists

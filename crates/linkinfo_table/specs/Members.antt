@@ -7,6 +7,7 @@ use Rattle.nla_frame.specs.Attribute.{Attribute, IsAttribute, IsBytes, Fits, can
 use Rattle.nla_frame.specs.Error.{memory_fault}
 use Rattle.nla_frame.specs.Pieces.{pieces, pieces_of, split}
 use Rattle.nla_frame.specs.declared.error.DecodeError.{DecodeError}
+use Rattle.nla_frame.specs.declared.error.Family.{Family}
 use Rattle.nla_frame.proofs.ByteLists.{IsBytes-canonical_string}
 use Rattle.nla_frame.proofs.Emitting.{one_fits}
 use Rattle.nla_frame.proofs.Framing.{split_is, splits_attributes}
@@ -18,6 +19,7 @@ use Rattle.linkinfo_table.specs.ListLaws.{header_is_no_memory, first_read_well, 
 use Rattle.linkinfo_table.specs.SelfList.{inside, read_inside, not_own, not_inner, list_codec, list_is_codec}
 
 pub record Members (X : Type 0) : Type 1 where
+  pub family : Family
   pub meaning : Attribute → Result X DecodeError
   pub headers : Attribute → ℕ
   pub alike : Attribute → Attribute → Bool
@@ -37,6 +39,7 @@ pub record IsFamily {X : Type 0} (f : Members X) : Type 0 where
 -- what `LinkFamily` says under one context
 abbrev pub members_of : {X Context : Type 0} → Ghosts X Context → (X → Attribute) → Context → Members X
 members_of own attribute c = record {
+  family = own.FAMILY;
   meaning = own.meaning c;
   headers = own.headers c;
   alike = own.alike c;

@@ -7,6 +7,7 @@ mod family;
 mod first;
 mod flat;
 mod found;
+mod last;
 pub mod laws;
 mod list;
 mod listed;
@@ -27,6 +28,7 @@ pub use canonical::{row_canonical_len, row_put_canonical};
 pub use family::LinkFamily;
 pub use first::{first_canonical_len, first_check, first_put_canonical, first_read, first_same};
 pub use found::Found;
+pub use last::{LastOfType, PlacedNla, own_bytes};
 pub use linkinfo_shapes::{
     Datum, Shape, datum_len, read_datum, shape_canonical_len, shape_check, shape_put_attribute,
     shape_put_canonical, shape_same, table_shape, write_datum,

@@ -25,6 +25,7 @@ mod placed;
 mod readme;
 mod refused_memory;
 mod streams;
+mod unmet;
 mod values;
 mod walks;
 mod worked;

@@ -1,0 +1,103 @@
+//! Whether a list of attributes has what another one asks for, and which attribute it lacks.
+
+ghost use Rattle.std.specs.Prelude.{◌≡◌, IfSome, IsOk, IsSome, Some};
+ghost use Rattle.linkinfo_table.specs.Last.{StandsIn, attributes_of};
+ghost use Rattle.linkinfo_data.specs.Listed.{IsAccepted};
+ghost use Rattle.linkinfo_data.specs.Listing.{alike_in, family_in};
+ghost use Rattle.linkinfo_data.specs.Unmet.{is_met, list_unmet};
+
+use crate::payload_family::PayloadFamily;
+use linkinfo_table::{LastOfType, PlacedNla, own_bytes};
+use nla_frame::{ExactEq, Family, HeaderCount, next_piece};
+
+/// An attribute that is asked for and not met.
+#[derive(Clone, Copy, Debug, PartialEq, Eq)]
+pub struct Unmet {
+    /// The family of the attribute.
+    pub family: Family,
+    /// The type of the attribute, without flags.
+    pub kind: u16,
+    /// The offset of the attribute in the bytes that ask for it.
+    pub want: usize,
+    /// The offset of the attribute of that type in the other bytes, or `None` where there is none.
+    pub have: Option<usize>,
+}
+
+/// The first attribute of `want` that `have` does not meet, of two accepted payloads that are lists
+/// of a family with this name. Offsets count from the beginning of each payload.
+///
+/// Of several attributes of a type the last one counts, as in the kernel. It is met where the last
+/// attribute of its type in `have` has an equal payload or is equivalent; flags of the type do not
+/// matter. It passes once over `have` and twice over `want`, and once more over both for each
+/// attribute of a type from 64 on, which no row has. Takes no memory.
+pub fn list_unmet<D: Drop, F: PayloadFamily<D>>(
+    family: F,
+    name: Family,
+    have: &[u8],
+    want: &[u8],
+) -> Option<Unmet>
+    requires listed { family_in (F.data_of family).listing ≡ Some name }
+    requires have { IsOk ((F.data_of family).means have.now) }
+    requires want { IsOk ((F.data_of family).means want.now) }
+    ensures { result ≡ list_unmet name (alike_in (F.data_of family).listing) (attributes_of have.now) (attributes_of want.now) }
+{
+    let found = LastOfType::new(have);
+    let wanted = LastOfType::new(want);
+    let mut count = HeaderCount::new();
+    let mut rest = want;
+    while let Some(Ok((nla, after))) = next_piece(rest, &mut count) {
+        let offset = want.len() - rest.len();
+        let placed = PlacedNla { offset, nla };
+        let kind = placed.nla.kind();
+        if wanted.offset(kind) == Some(offset) {
+            let last = found.find(kind);
+            if !is_met::<D, F>(family, have, &last, want, &placed) {
+                return Some(Unmet {
+                    family: name,
+                    kind,
+                    want: offset,
+                    have: found.offset(kind),
+                });
+            }
+        }
+        rest = after;
+    }
+    None
+}
+
+/// Whether an attribute of `have`, or none, meets one of `want`: the payloads are equal, or both are
+/// equivalent.
+fn is_met<D: Drop, F: PayloadFamily<D>>(
+    family: F,
+    have: &[u8],
+    found: &Option<PlacedNla<'_>>,
+    want: &[u8],
+    wanted: &PlacedNla<'_>,
+) -> bool
+    requires listed { IsSome (F.data_of family).listing }
+    requires found_stands { IfSome found.now (StandsIn have.now) }
+    requires wanted_stands { StandsIn want.now wanted.now }
+    requires found_accepted { IfSome found.now (λ placed. IsAccepted (F.data_of family) placed.nla) }
+    requires wanted_accepted { IsAccepted (F.data_of family) wanted.now.nla }
+    ensures { result ≡ is_met (alike_in (F.data_of family).listing) found.now wanted.now }
+{
+    let Some(found) = found else {
+        return false;
+    };
+    found.nla.value() == wanted.nla.value()
+        || family.same(
+            own_bytes(have, found),
+            own_bytes(want, wanted),
+            &mut HeaderCount::new(),
+        )
+}
+
+impl ExactEq for Unmet {
+    ghost use Rattle.std.specs.Prelude.{refl};
+    ghost use Rattle.std.proofs.lemmas.Bool.Decides.{Decides-eqb};
+    ghost use Rattle.nla_frame.specs.Derived.{fields_decide, two_fields};
+    ghost use Rattle.nla_frame.specs.contracts.exact_eq.FamilyExactEq.TheImpl.Laws.{exact-law as family_exact};
+    ghost use Rattle.linkinfo_data.specs.Equal.{option_decides};
+
+    ghost exact = { fields_decide (λ u. (u.family, (u.kind, (u.want, u.have)))) (λ z. record { family = z.0; kind = z.1.0; want = z.1.1.0; have = z.1.1.1 }) (λ u. refl) (two_fields family_exact (two_fields Decides-eqb (two_fields Decides-eqb (option_decides Decides-eqb)))) };
+}
