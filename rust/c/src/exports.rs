@@ -1,0 +1,167 @@
+//! The symbols of the C library: pointers and lengths made slices, and one call each.
+//!
+//! # Safety
+//!
+//! Of each call: a pointer with a length other than 0 is valid for that many values, for reads if
+//! it is `*const`, and for reads and writes if it is `*mut`. Nothing else writes to them during the
+//! call, and what is written to overlaps nothing else. A pointer with length 0 may be null. An
+//! array that is written to may be uninitialized: no call reads what it did not write.
+
+use crate::calls::attributes::{self, LinkinfoAttribute};
+use crate::calls::canon::{self, LinkinfoCanon};
+use crate::calls::check::{self, LinkinfoCount, LinkinfoPlacedFault, LinkinfoSame};
+use crate::calls::fault::LinkinfoFault;
+use crate::calls::items::{self, LinkinfoFound, LinkinfoItem};
+use crate::calls::texts;
+use core::alloc::{GlobalAlloc, Layout};
+use core::ptr::null_mut;
+
+/// # Safety
+///
+/// `pointer` is valid for reads of `length` values, or `length` is 0.
+unsafe fn slice<'a, T>(pointer: *const T, length: usize) -> &'a [T] {
+    if length == 0 {
+        return &[];
+    }
+    unsafe { core::slice::from_raw_parts(pointer, length) }
+}
+
+/// # Safety
+///
+/// `pointer` is valid for reads and writes of `length` values, or `length` is 0.
+unsafe fn slice_mut<'a, T>(pointer: *mut T, length: usize) -> &'a mut [T] {
+    if length == 0 {
+        return &mut [];
+    }
+    unsafe { core::slice::from_raw_parts_mut(pointer, length) }
+}
+
+#[unsafe(no_mangle)]
+unsafe extern "C" fn linkinfo_check(bytes: *const u8, length: usize) -> LinkinfoFault {
+    check::linkinfo_check(unsafe { slice(bytes, length) })
+}
+
+#[unsafe(no_mangle)]
+unsafe extern "C" fn linkinfo_check_placed(bytes: *const u8, length: usize) -> LinkinfoPlacedFault {
+    check::linkinfo_check_placed(unsafe { slice(bytes, length) })
+}
+
+#[unsafe(no_mangle)]
+unsafe extern "C" fn linkinfo_same(
+    a: *const u8,
+    a_length: usize,
+    b: *const u8,
+    b_length: usize,
+) -> LinkinfoSame {
+    check::linkinfo_same(unsafe { slice(a, a_length) }, unsafe { slice(b, b_length) })
+}
+
+#[unsafe(no_mangle)]
+unsafe extern "C" fn linkinfo_count(bytes: *const u8, length: usize) -> LinkinfoCount {
+    check::linkinfo_count(unsafe { slice(bytes, length) })
+}
+
+#[unsafe(no_mangle)]
+unsafe extern "C" fn linkinfo_canon(
+    bytes: *const u8,
+    length: usize,
+    buffer: *mut u8,
+    buffer_length: usize,
+) -> LinkinfoCanon {
+    canon::linkinfo_canon(unsafe { slice(bytes, length) }, unsafe {
+        slice_mut(buffer, buffer_length)
+    })
+}
+
+#[unsafe(no_mangle)]
+unsafe extern "C" fn linkinfo_items(
+    bytes: *const u8,
+    length: usize,
+    items: *mut LinkinfoItem,
+    items_length: usize,
+) -> LinkinfoFound {
+    items::linkinfo_items(unsafe { slice(bytes, length) }, unsafe {
+        slice_mut(items, items_length)
+    })
+}
+
+#[unsafe(no_mangle)]
+unsafe extern "C" fn linkinfo_attributes(
+    bytes: *const u8,
+    length: usize,
+    kind: u16,
+    attributes: *mut LinkinfoAttribute,
+    attributes_length: usize,
+) -> LinkinfoFound {
+    attributes::linkinfo_attributes(unsafe { slice(bytes, length) }, kind, unsafe {
+        slice_mut(attributes, attributes_length)
+    })
+}
+
+#[unsafe(no_mangle)]
+unsafe extern "C" fn linkinfo_family_name(family: u16, buffer: *mut u8, length: usize) -> usize {
+    texts::linkinfo_family_name(family, unsafe { slice_mut(buffer, length) })
+}
+
+#[unsafe(no_mangle)]
+unsafe extern "C" fn linkinfo_cause_name(cause: u32, buffer: *mut u8, length: usize) -> usize {
+    texts::linkinfo_cause_name(cause, unsafe { slice_mut(buffer, length) })
+}
+
+#[unsafe(no_mangle)]
+unsafe extern "C" fn linkinfo_kind_name(kind: u16, buffer: *mut u8, length: usize) -> usize {
+    texts::linkinfo_kind_name(kind, unsafe { slice_mut(buffer, length) })
+}
+
+#[unsafe(no_mangle)]
+unsafe extern "C" fn linkinfo_port_kind_name(kind: u16, buffer: *mut u8, length: usize) -> usize {
+    texts::linkinfo_port_kind_name(kind, unsafe { slice_mut(buffer, length) })
+}
+
+#[unsafe(no_mangle)]
+unsafe extern "C" fn linkinfo_fault_text(
+    fault: LinkinfoFault,
+    buffer: *mut u8,
+    length: usize,
+) -> usize {
+    texts::linkinfo_fault_text(fault, unsafe { slice_mut(buffer, length) })
+}
+
+#[unsafe(no_mangle)]
+unsafe extern "C" fn linkinfo_kind_of_name(name: *const u8, length: usize) -> u16 {
+    texts::linkinfo_kind_of_name(unsafe { slice(name, length) })
+}
+
+#[unsafe(no_mangle)]
+unsafe extern "C" fn linkinfo_port_kind_of_name(name: *const u8, length: usize) -> u16 {
+    texts::linkinfo_port_kind_of_name(unsafe { slice(name, length) })
+}
+
+/// No call allocates, and an allocation would fail.
+struct NoMemory;
+
+unsafe impl GlobalAlloc for NoMemory {
+    unsafe fn alloc(&self, _: Layout) -> *mut u8 {
+        null_mut()
+    }
+
+    unsafe fn dealloc(&self, _: *mut u8, _: Layout) {}
+}
+
+#[global_allocator]
+static NO_MEMORY: NoMemory = NoMemory;
+
+/// A panic ends the process at once: nothing unwinds into C.
+#[panic_handler]
+fn panic(_: &core::panic::PanicInfo<'_>) -> ! {
+    #[cfg(target_arch = "x86_64")]
+    unsafe {
+        core::arch::asm!("ud2", options(noreturn, nomem, nostack))
+    }
+    #[cfg(target_arch = "aarch64")]
+    unsafe {
+        core::arch::asm!("brk #1", options(noreturn, nomem, nostack))
+    }
+    #[cfg(not(any(target_arch = "x86_64", target_arch = "aarch64")))]
+    loop {}
+}

@@ -1,0 +1,159 @@
+//! The calls of the crate for C beside those of the library that the toolchain built of the same
+//! sources: every result, and every byte and item that a call writes.
+
+use crate::random::Random;
+use linkinfo_c::calls::attributes::{LinkinfoAttribute, linkinfo_attributes};
+use linkinfo_c::calls::canon::{LinkinfoCanon, linkinfo_canon};
+use linkinfo_c::calls::check::{
+    LinkinfoCount, LinkinfoPlacedFault, LinkinfoSame, linkinfo_check, linkinfo_check_placed,
+    linkinfo_count, linkinfo_same,
+};
+use linkinfo_c::calls::fault::LinkinfoFault;
+use linkinfo_c::calls::items::{LinkinfoFound, LinkinfoItem, linkinfo_items};
+use linkinfo_c::calls::texts::linkinfo_fault_text;
+
+mod c {
+    use super::{
+        LinkinfoAttribute, LinkinfoCanon, LinkinfoCount, LinkinfoFault, LinkinfoFound,
+        LinkinfoItem, LinkinfoPlacedFault, LinkinfoSame,
+    };
+
+    unsafe extern "C" {
+        pub fn linkinfo_check(bytes: *const u8, length: usize) -> LinkinfoFault;
+        pub fn linkinfo_check_placed(bytes: *const u8, length: usize) -> LinkinfoPlacedFault;
+        pub fn linkinfo_same(
+            a: *const u8,
+            a_length: usize,
+            b: *const u8,
+            b_length: usize,
+        ) -> LinkinfoSame;
+        pub fn linkinfo_canon(
+            bytes: *const u8,
+            length: usize,
+            buffer: *mut u8,
+            buffer_length: usize,
+        ) -> LinkinfoCanon;
+        pub fn linkinfo_count(bytes: *const u8, length: usize) -> LinkinfoCount;
+        pub fn linkinfo_items(
+            bytes: *const u8,
+            length: usize,
+            items: *mut LinkinfoItem,
+            items_length: usize,
+        ) -> LinkinfoFound;
+        pub fn linkinfo_attributes(
+            bytes: *const u8,
+            length: usize,
+            kind: u16,
+            attributes: *mut LinkinfoAttribute,
+            attributes_length: usize,
+        ) -> LinkinfoFound;
+        pub fn linkinfo_fault_text(fault: LinkinfoFault, buffer: *mut u8, length: usize) -> usize;
+    }
+}
+
+const ROOM: usize = 16384;
+const NO_ITEM: LinkinfoItem = LinkinfoItem {
+    place: usize::MAX,
+    len: 1,
+    raw_kind: 2,
+    kind: 3,
+    port_kind: 4,
+};
+const NO_ATTRIBUTE: LinkinfoAttribute = LinkinfoAttribute {
+    place: usize::MAX,
+    len: 1,
+    number: 2,
+    raw_kind: 3,
+    shape: 4,
+    is_number: true,
+};
+
+/// (Of every call: the pointers are those of slices, with their lengths.)
+pub fn compare(random: &mut Random, bytes: &[u8], second: &[u8]) {
+    let (start, length) = (bytes.as_ptr(), bytes.len());
+    let fault = linkinfo_check(bytes);
+    assert_eq!(fault, unsafe { c::linkinfo_check(start, length) });
+    assert_eq!(linkinfo_check_placed(bytes), unsafe {
+        c::linkinfo_check_placed(start, length)
+    });
+    assert_eq!(linkinfo_count(bytes), unsafe {
+        c::linkinfo_count(start, length)
+    });
+    assert_eq!(linkinfo_same(bytes, second), unsafe {
+        c::linkinfo_same(start, length, second.as_ptr(), second.len())
+    });
+    canonical(random, bytes);
+    texts(random, fault);
+    items(random, bytes);
+}
+
+fn canonical(random: &mut Random, bytes: &[u8]) {
+    let room = if random.once_in(4) {
+        random.below(300)
+    } else {
+        ROOM
+    };
+    let mut ours = vec![0xa5; room];
+    let mut theirs = ours.clone();
+    let result = linkinfo_canon(bytes, &mut ours);
+    assert_eq!(result, unsafe {
+        c::linkinfo_canon(bytes.as_ptr(), bytes.len(), theirs.as_mut_ptr(), room)
+    });
+    assert_eq!(ours, theirs);
+}
+
+fn texts(random: &mut Random, fault: LinkinfoFault) {
+    let mut ours = [0xa5; 40];
+    let mut theirs = ours;
+    let room = random.below(41);
+    let length = linkinfo_fault_text(fault, &mut ours[..room]);
+    assert_eq!(length, unsafe {
+        c::linkinfo_fault_text(fault, theirs.as_mut_ptr(), room)
+    });
+    assert_eq!(ours, theirs);
+}
+
+/// The attributes of the list, and those inside the payload of each, as data of every kind that is
+/// current there, and now and then of another.
+fn items(random: &mut Random, bytes: &[u8]) {
+    let room = if random.once_in(4) {
+        random.below(6)
+    } else {
+        bytes.len() / 4
+    };
+    let mut ours = vec![NO_ITEM; room];
+    let mut theirs = ours.clone();
+    let found = linkinfo_items(bytes, &mut ours);
+    assert_eq!(found, unsafe {
+        c::linkinfo_items(bytes.as_ptr(), bytes.len(), theirs.as_mut_ptr(), room)
+    });
+    assert_eq!(ours, theirs);
+    for item in &ours[..found.count.min(room)] {
+        let payload = &bytes[item.place + 4..item.place + 4 + item.len];
+        let other = random.below(300) as u16;
+        for kind in [item.kind, item.port_kind, other] {
+            attributes(random, payload, kind);
+        }
+    }
+}
+
+fn attributes(random: &mut Random, payload: &[u8], kind: u16) {
+    let room = if random.once_in(4) {
+        random.below(6)
+    } else {
+        payload.len() / 4
+    };
+    let mut ours = vec![NO_ATTRIBUTE; room];
+    let mut theirs = ours.clone();
+    let found = linkinfo_attributes(payload, kind, &mut ours);
+    assert_eq!(found, unsafe {
+        c::linkinfo_attributes(
+            payload.as_ptr(),
+            payload.len(),
+            kind,
+            theirs.as_mut_ptr(),
+            room,
+        )
+    });
+    assert_eq!(ours, theirs);
+}

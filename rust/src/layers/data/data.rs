@@ -1,0 +1,162 @@
+//! Which family the data of a kind has, and data read, checked and compared by it.
+
+use crate::layers::data::devices::DeviceFamily;
+use crate::layers::data::info_data::InfoDataOf;
+use crate::layers::data::lower::LowerFamily;
+use crate::layers::data::payload_family::PayloadFamily;
+use crate::layers::data::peers::PeeredFamily;
+use crate::layers::data::tunnels::TunnelFamily;
+use crate::layers::nla_frame::{
+    Bytes, DecodeError, ExactEq, Family, HeaderCount, fitting, put_bytes,
+};
+use crate::layers::numbers::KindTag;
+use crate::layers::table::LinkPeer;
+
+/// The family of the attributes in a kind's data.
+#[derive(Clone, Copy, Debug, PartialEq, Eq)]
+pub enum DataFamily {
+    /// One that is kept verbatim (`layers::table::lower`).
+    Lower(LowerFamily),
+    /// One of `layers::devices`.
+    Device(DeviceFamily),
+    /// One of `layers::tunnels`.
+    Tunnel(TunnelFamily),
+    /// One of `layers::peers`.
+    Peered(PeeredFamily),
+    /// None: the data is bytes.
+    Raw,
+}
+
+impl ExactEq for DataFamily {}
+
+/// The family of the data of a kind.
+pub fn family_of(tag: KindTag) -> DataFamily {
+    match tag {
+        KindTag::Bridge => DataFamily::Lower(LowerFamily::Bridge),
+        KindTag::Tun => DataFamily::Peered(PeeredFamily::Tun),
+        KindTag::Vlan => DataFamily::Lower(LowerFamily::Vlan),
+        KindTag::Veth => DataFamily::Peered(PeeredFamily::Veth),
+        KindTag::Vxlan => DataFamily::Tunnel(TunnelFamily::Vxlan),
+        KindTag::Bond => DataFamily::Lower(LowerFamily::Bond),
+        KindTag::IpVlan => DataFamily::Device(DeviceFamily::IpVlan),
+        KindTag::IpVtap => DataFamily::Device(DeviceFamily::IpVtap),
+        KindTag::MacVlan => DataFamily::Device(DeviceFamily::MacVlan),
+        KindTag::MacVtap => DataFamily::Device(DeviceFamily::MacVtap),
+        KindTag::GreTap => DataFamily::Tunnel(TunnelFamily::GreTap),
+        KindTag::GreTap6 => DataFamily::Tunnel(TunnelFamily::GreTap6),
+        KindTag::IpIp | KindTag::Ip6Tnl | KindTag::SitTun => {
+            DataFamily::Tunnel(TunnelFamily::IpTunnel(tag))
+        }
+        KindTag::GreTun => DataFamily::Tunnel(TunnelFamily::GreTun),
+        KindTag::GreTun6 => DataFamily::Tunnel(TunnelFamily::GreTun6),
+        KindTag::Vti | KindTag::Vti6 => DataFamily::Tunnel(TunnelFamily::Vti),
+        KindTag::Vrf => DataFamily::Device(DeviceFamily::Vrf),
+        KindTag::Gtp => DataFamily::Tunnel(TunnelFamily::Gtp),
+        KindTag::Ipoib => DataFamily::Device(DeviceFamily::Ipoib),
+        KindTag::Wireguard => DataFamily::Peered(PeeredFamily::Wireguard),
+        KindTag::Xfrm => DataFamily::Device(DeviceFamily::Xfrm),
+        KindTag::MacSec => DataFamily::Device(DeviceFamily::MacSec),
+        KindTag::Hsr => DataFamily::Lower(LowerFamily::Hsr),
+        KindTag::Geneve => DataFamily::Tunnel(TunnelFamily::Geneve),
+        KindTag::Netkit => DataFamily::Peered(PeeredFamily::Netkit),
+        KindTag::Vxcan => DataFamily::Peered(PeeredFamily::Vxcan),
+        KindTag::Amt => DataFamily::Tunnel(TunnelFamily::Amt),
+        KindTag::BatAdv => DataFamily::Peered(PeeredFamily::BatAdv),
+        KindTag::BareUdp => DataFamily::Tunnel(TunnelFamily::BareUdp),
+        KindTag::Wwan => DataFamily::Peered(PeeredFamily::Wwan),
+        KindTag::Can => DataFamily::Lower(LowerFamily::Can),
+        KindTag::Dsa => DataFamily::Lower(LowerFamily::Dsa),
+        KindTag::ErSpan => DataFamily::Tunnel(TunnelFamily::ErSpan),
+        KindTag::Ip6ErSpan => DataFamily::Tunnel(TunnelFamily::Ip6ErSpan),
+        KindTag::Pfcp => DataFamily::Peered(PeeredFamily::Pfcp),
+        KindTag::RmNet => DataFamily::Device(DeviceFamily::RmNet),
+        _ => DataFamily::Raw,
+    }
+}
+
+impl<P: LinkPeer> PayloadFamily<InfoDataOf<P>> for DataFamily {
+    fn listing(self) -> Option<Family> {
+        match self {
+            DataFamily::Lower(family) => PayloadFamily::<InfoDataOf<P>>::listing(family),
+            DataFamily::Device(family) => PayloadFamily::<InfoDataOf<P>>::listing(family),
+            DataFamily::Tunnel(family) => PayloadFamily::<InfoDataOf<P>>::listing(family),
+            DataFamily::Peered(family) => PayloadFamily::<InfoDataOf<P>>::listing(family),
+            DataFamily::Raw => None,
+        }
+    }
+
+    fn read(self, payload: &[u8], count: &mut HeaderCount) -> Result<InfoDataOf<P>, DecodeError> {
+        match self {
+            DataFamily::Lower(family) => family.read(payload, count),
+            DataFamily::Device(family) => family.read(payload, count),
+            DataFamily::Tunnel(family) => family.read(payload, count),
+            DataFamily::Peered(family) => family.read(payload, count),
+            DataFamily::Raw => Ok(InfoDataOf::Other(Bytes::copy_of(payload)?)),
+        }
+    }
+
+    #[inline(always)]
+    fn check(self, payload: &[u8], count: &mut HeaderCount) -> Result<(), DecodeError> {
+        match self {
+            DataFamily::Lower(family) => {
+                PayloadFamily::<InfoDataOf<P>>::check(family, payload, count)
+            }
+            DataFamily::Device(family) => {
+                PayloadFamily::<InfoDataOf<P>>::check(family, payload, count)
+            }
+            DataFamily::Tunnel(family) => {
+                PayloadFamily::<InfoDataOf<P>>::check(family, payload, count)
+            }
+            DataFamily::Peered(family) => {
+                PayloadFamily::<InfoDataOf<P>>::check(family, payload, count)
+            }
+            DataFamily::Raw => Ok(()),
+        }
+    }
+
+    fn same(self, a: &[u8], b: &[u8], count: &mut HeaderCount) -> bool {
+        match self {
+            DataFamily::Lower(family) => PayloadFamily::<InfoDataOf<P>>::same(family, a, b, count),
+            DataFamily::Device(family) => PayloadFamily::<InfoDataOf<P>>::same(family, a, b, count),
+            DataFamily::Tunnel(family) => PayloadFamily::<InfoDataOf<P>>::same(family, a, b, count),
+            DataFamily::Peered(family) => PayloadFamily::<InfoDataOf<P>>::same(family, a, b, count),
+            DataFamily::Raw => a == b,
+        }
+    }
+
+    fn canonical_len(self, payload: &[u8]) -> Option<usize> {
+        match self {
+            DataFamily::Lower(family) => {
+                PayloadFamily::<InfoDataOf<P>>::canonical_len(family, payload)
+            }
+            DataFamily::Device(family) => {
+                PayloadFamily::<InfoDataOf<P>>::canonical_len(family, payload)
+            }
+            DataFamily::Tunnel(family) => {
+                PayloadFamily::<InfoDataOf<P>>::canonical_len(family, payload)
+            }
+            DataFamily::Peered(family) => {
+                PayloadFamily::<InfoDataOf<P>>::canonical_len(family, payload)
+            }
+            DataFamily::Raw => fitting(payload.len()),
+        }
+    }
+
+    fn put_canonical(self, payload: &[u8], buffer: &mut [u8]) -> usize {
+        match self {
+            DataFamily::Lower(family) => {
+                PayloadFamily::<InfoDataOf<P>>::put_canonical(family, payload, buffer)
+            }
+            DataFamily::Device(family) => {
+                PayloadFamily::<InfoDataOf<P>>::put_canonical(family, payload, buffer)
+            }
+            DataFamily::Tunnel(family) => {
+                PayloadFamily::<InfoDataOf<P>>::put_canonical(family, payload, buffer)
+            }
+            DataFamily::Peered(family) => {
+                PayloadFamily::<InfoDataOf<P>>::put_canonical(family, payload, buffer)
+            }
+            DataFamily::Raw => put_bytes(payload, buffer),
+        }
+    }
+}

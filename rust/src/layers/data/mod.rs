@@ -1,0 +1,25 @@
+//! Data of links and of ports: what stands in `IFLA_INFO_DATA` and `IFLA_INFO_SLAVE_DATA`, by the
+//! family that the kind chooses.
+
+mod data;
+mod devices;
+mod families;
+mod info_data;
+mod lower;
+mod payload_family;
+mod peers;
+mod port_data;
+mod tunnels;
+mod unmet;
+mod written;
+
+pub use data::{DataFamily, family_of};
+pub use devices::DeviceFamily;
+pub use families::{DataFamilies, Plain, PlainFamilies};
+pub use info_data::{InfoData, InfoDataOf};
+pub use lower::LowerFamily;
+pub use payload_family::PayloadFamily;
+pub use peers::PeeredFamily;
+pub use port_data::{InfoPortData, PortFamily, port_family_of};
+pub use tunnels::TunnelFamily;
+pub use unmet::{Unmet, list_unmet};

@@ -1,0 +1,26 @@
+//! Attributes of macvlan, macvtap, ipvlan, ipvtap, ipoib, macsec, rmnet, xfrm and vrf links.
+
+mod ipoib;
+mod ipvlan;
+mod ipvtap;
+mod mac_rows;
+mod macsec;
+mod macvlan;
+mod macvtap;
+mod nested_calls;
+mod nested_canonical;
+mod nested_emission;
+mod nested_family;
+mod rmnet;
+mod vrf;
+mod xfrm;
+
+pub use ipoib::InfoIpoib;
+pub use ipvlan::InfoIpVlan;
+pub use ipvtap::InfoIpVtap;
+pub use macsec::InfoMacSec;
+pub use macvlan::InfoMacVlan;
+pub use macvtap::InfoMacVtap;
+pub use rmnet::InfoRmNet;
+pub use vrf::{InfoVrf, InfoVrfPort};
+pub use xfrm::InfoXfrm;

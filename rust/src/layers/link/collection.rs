@@ -1,0 +1,37 @@
+//! The list as a collection of its attributes: made of them, and gone over.
+
+use crate::layers::link::link_info::LinkInfoOf;
+use crate::layers::link::list::VecLinkInfoOf;
+use crate::layers::nla_frame::Nlas;
+use alloc::vec;
+use alloc::vec::Vec;
+use core::slice;
+
+/// The list of the attributes, which are taken over as they are.
+impl<P> From<Vec<LinkInfoOf<P>>> for VecLinkInfoOf<P> {
+    fn from(items: Vec<LinkInfoOf<P>>) -> VecLinkInfoOf<P> {
+        VecLinkInfoOf(Nlas::new(items))
+    }
+}
+
+/// Goes over the attributes in order, and gives each away.
+impl<P> IntoIterator for VecLinkInfoOf<P> {
+    type Item = LinkInfoOf<P>;
+
+    type IntoIter = vec::IntoIter<LinkInfoOf<P>>;
+
+    fn into_iter(self) -> vec::IntoIter<LinkInfoOf<P>> {
+        self.0.into_iter()
+    }
+}
+
+/// Goes over the attributes in order, borrowed, as `iter` does.
+impl<'a, P> IntoIterator for &'a VecLinkInfoOf<P> {
+    type Item = &'a LinkInfoOf<P>;
+
+    type IntoIter = slice::Iter<'a, LinkInfoOf<P>>;
+
+    fn into_iter(self) -> slice::Iter<'a, LinkInfoOf<P>> {
+        self.iter()
+    }
+}

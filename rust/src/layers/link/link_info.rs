@@ -1,0 +1,82 @@
+//! Attributes of the list inside `IFLA_LINKINFO`, include/uapi/linux/if_link.h.
+
+use crate::layers::data::{InfoDataOf, InfoPortData};
+use crate::layers::link::xstats::LinkXstats;
+use crate::layers::nla_frame::{Bytes, DefaultNla, Emitable, ExactEq, Nla, fitting};
+use crate::layers::numbers::{IFLA_INFO_XSTATS, InfoKind, InfoPortKind};
+use crate::layers::table::LinkPeer;
+
+/// An attribute of the list, with peers of type `P`.
+#[derive(Debug, PartialEq, Eq, Clone)]
+pub enum LinkInfoOf<P> {
+    /// Statistics of the link (`IFLA_INFO_XSTATS`).
+    Xstats(LinkXstats),
+    /// The kind of the link (`IFLA_INFO_KIND`).
+    Kind(InfoKind),
+    /// Data of the link (`IFLA_INFO_DATA`).
+    Data(InfoDataOf<P>),
+    /// The kind of the link that the port belongs to (`IFLA_INFO_SLAVE_KIND`).
+    PortKind(InfoPortKind),
+    /// Data of the port (`IFLA_INFO_SLAVE_DATA`).
+    PortData(InfoPortData),
+    /// An attribute of another type, kept as it came.
+    Other(DefaultNla),
+}
+
+/// An attribute of the list, with peers kept as bytes.
+pub type LinkInfo = LinkInfoOf<Bytes>;
+
+impl<P: LinkPeer> Nla for LinkInfoOf<P> {
+    fn value_len(&self) -> usize {
+        match self {
+            LinkInfoOf::Xstats(xstats) => xstats.buffer_len(),
+            LinkInfoOf::Kind(kind) => kind.value_len(),
+            LinkInfoOf::Data(data) => data.value_len(),
+            LinkInfoOf::PortKind(kind) => kind.value_len(),
+            LinkInfoOf::PortData(data) => data.value_len(),
+            LinkInfoOf::Other(nla) => nla.value_len(),
+        }
+    }
+
+    fn kind(&self) -> u16 {
+        match self {
+            LinkInfoOf::Xstats(_) => IFLA_INFO_XSTATS,
+            LinkInfoOf::Kind(kind) => kind.kind(),
+            LinkInfoOf::Data(data) => data.kind(),
+            LinkInfoOf::PortKind(kind) => kind.kind(),
+            LinkInfoOf::PortData(data) => data.kind(),
+            LinkInfoOf::Other(nla) => nla.kind(),
+        }
+    }
+
+    fn emit_payload(&self, buffer: &mut [u8]) -> usize {
+        match self {
+            LinkInfoOf::Xstats(xstats) => {
+                xstats.emit(buffer);
+                xstats.buffer_len()
+            }
+            LinkInfoOf::Kind(kind) => kind.emit_payload(buffer),
+            LinkInfoOf::Data(data) => data.emit_payload(buffer),
+            LinkInfoOf::PortKind(kind) => kind.emit_payload(buffer),
+            LinkInfoOf::PortData(data) => data.emit_payload(buffer),
+            LinkInfoOf::Other(nla) => nla.emit_payload(buffer),
+        }
+    }
+
+    fn emit_value(&self, buffer: &mut [u8]) {
+        self.emit_payload(buffer);
+    }
+
+    fn fit_len(&self) -> Option<usize> {
+        match self {
+            LinkInfoOf::Xstats(xstats) => fitting(xstats.buffer_len()),
+            LinkInfoOf::Kind(kind) => kind.fit_len(),
+            LinkInfoOf::Data(data) => data.fit_len(),
+            LinkInfoOf::PortKind(kind) => kind.fit_len(),
+            LinkInfoOf::PortData(data) => data.fit_len(),
+            LinkInfoOf::Other(nla) => nla.fit_len(),
+        }
+    }
+}
+
+impl<P: ExactEq> ExactEq for LinkInfoOf<P> {}

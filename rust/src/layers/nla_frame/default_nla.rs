@@ -1,0 +1,59 @@
+//! Attributes that are kept as they came.
+
+use crate::layers::nla_frame::buffer::NlaBuffer;
+use crate::layers::nla_frame::bytes::Bytes;
+use crate::layers::nla_frame::emission::fitting;
+use crate::layers::nla_frame::error::DecodeError;
+use crate::layers::nla_frame::exact_eq::ExactEq;
+use crate::layers::nla_frame::traits::{Nla, Parseable};
+use alloc::vec::Vec;
+
+/// An attribute of a type that no family names, with its whole 16-bit type, flag bits included, and
+/// its payload.
+#[derive(Debug, PartialEq, Eq, Clone)]
+pub struct DefaultNla {
+    /// `nla_type` whole, with its two flag bits.
+    pub kind: u16,
+    /// The payload, without padding.
+    pub value: Bytes,
+}
+
+impl DefaultNla {
+    /// An attribute of this type and payload. It fits where the payload has at most 65531 bytes.
+    pub fn new(kind: u16, value: Vec<u8>) -> DefaultNla {
+        DefaultNla {
+            kind,
+            value: Bytes::new(value),
+        }
+    }
+}
+
+impl Nla for DefaultNla {
+    fn value_len(&self) -> usize {
+        self.value.len()
+    }
+
+    fn kind(&self) -> u16 {
+        self.kind
+    }
+
+    fn emit_value(&self, buffer: &mut [u8]) {
+        buffer.copy_from_slice(self.value.as_slice());
+    }
+
+    fn fit_len(&self) -> Option<usize> {
+        fitting(self.value.len())
+    }
+}
+
+/// Copies type and payload. Only want of memory refuses it.
+impl<'a> Parseable<NlaBuffer<'a>> for DefaultNla {
+    fn parse(buffer: &NlaBuffer<'a>) -> Result<DefaultNla, DecodeError> {
+        Ok(DefaultNla {
+            kind: buffer.raw_kind(),
+            value: Bytes::copy_of(buffer.value())?,
+        })
+    }
+}
+
+impl ExactEq for DefaultNla {}

@@ -1,0 +1,88 @@
+//! Lists that a value owns.
+
+use crate::layers::nla_frame::exact_eq::ExactEq;
+use alloc::vec;
+use alloc::vec::Vec;
+use core::slice;
+
+/// Attributes one after another, as the list of them. A type may hold a list of itself.
+#[derive(Debug, Clone)]
+pub struct Nlas<T> {
+    items: Vec<T>,
+}
+
+impl<T> Nlas<T> {
+    /// The items of a `Vec`, which is taken over as it is.
+    pub fn new(items: Vec<T>) -> Nlas<T> {
+        Nlas { items }
+    }
+
+    /// The `Vec` that holds the items.
+    pub fn into_vec(self) -> Vec<T> {
+        self.items
+    }
+
+    /// The items.
+    pub fn as_slice(&self) -> &[T] {
+        self.items.as_slice()
+    }
+
+    /// Goes over the items in order, borrowed.
+    ///
+    /// ```text
+    /// for nla in list.iter() {
+    ///     total += nla.buffer_len();
+    /// }
+    /// ```
+    pub fn iter(&self) -> slice::Iter<'_, T> {
+        self.as_slice().iter()
+    }
+
+    /// How many items there are.
+    pub fn len(&self) -> usize {
+        self.items.len()
+    }
+
+    /// Whether there are none.
+    pub fn is_empty(&self) -> bool {
+        self.items.is_empty()
+    }
+}
+
+impl<T> From<Vec<T>> for Nlas<T> {
+    fn from(items: Vec<T>) -> Nlas<T> {
+        Nlas::new(items)
+    }
+}
+
+/// Goes over the items in order, and gives each away.
+impl<T> IntoIterator for Nlas<T> {
+    type Item = T;
+
+    type IntoIter = vec::IntoIter<T>;
+
+    fn into_iter(self) -> vec::IntoIter<T> {
+        self.into_vec().into_iter()
+    }
+}
+
+/// Goes over the items in order, borrowed, as `iter` does.
+impl<'a, T> IntoIterator for &'a Nlas<T> {
+    type Item = &'a T;
+
+    type IntoIter = slice::Iter<'a, T>;
+
+    fn into_iter(self) -> slice::Iter<'a, T> {
+        self.iter()
+    }
+}
+
+impl<T: PartialEq> PartialEq for Nlas<T> {
+    fn eq(&self, other: &Nlas<T>) -> bool {
+        self.items.as_slice() == other.items.as_slice()
+    }
+}
+
+impl<T: Eq> Eq for Nlas<T> {}
+
+impl<T: ExactEq> ExactEq for Nlas<T> {}

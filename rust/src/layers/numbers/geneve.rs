@@ -1,0 +1,69 @@
+//! Geneve tunnels.
+
+use crate::layers::nla_frame::{DecodeError, ExactEq, Family};
+use crate::layers::numbers::word::word_fault;
+use core::fmt;
+use core::str::FromStr;
+
+/// What a Geneve tunnel does with the do-not-fragment bit: `IFLA_GENEVE_DF`, one byte
+/// (include/uapi/linux/if_link.h).
+#[derive(Clone, Copy, Debug, PartialEq, Eq)]
+pub enum GeneveDf {
+    /// `GENEVE_DF_UNSET`.
+    Unset,
+    /// `GENEVE_DF_SET`.
+    Set,
+    /// `GENEVE_DF_INHERIT`.
+    Inherit,
+    /// Any other number.
+    Other(u8),
+}
+
+impl From<u8> for GeneveDf {
+    fn from(number: u8) -> GeneveDf {
+        match number {
+            0 => GeneveDf::Unset,
+            1 => GeneveDf::Set,
+            2 => GeneveDf::Inherit,
+            _ => GeneveDf::Other(number),
+        }
+    }
+}
+
+impl From<GeneveDf> for u8 {
+    fn from(df: GeneveDf) -> u8 {
+        match df {
+            GeneveDf::Unset => 0,
+            GeneveDf::Set => 1,
+            GeneveDf::Inherit => 2,
+            GeneveDf::Other(number) => number,
+        }
+    }
+}
+
+impl fmt::Display for GeneveDf {
+    fn fmt(&self, f: &mut fmt::Formatter<'_>) -> fmt::Result {
+        match self {
+            GeneveDf::Unset => f.write_str("unset"),
+            GeneveDf::Set => f.write_str("set"),
+            GeneveDf::Inherit => f.write_str("inherit"),
+            GeneveDf::Other(number) => fmt::Display::fmt(number, f),
+        }
+    }
+}
+
+/// Every text but the words of `Display` is refused as (Geneve, 0, Word).
+impl FromStr for GeneveDf {
+    type Err = DecodeError;
+
+    fn from_str(word: &str) -> Result<GeneveDf, DecodeError> {
+        match word {
+            "unset" => Ok(GeneveDf::Unset),
+            "set" => Ok(GeneveDf::Set),
+            "inherit" => Ok(GeneveDf::Inherit),
+            _ => Err(word_fault(Family::Geneve)),
+        }
+    }
+}
+
+impl ExactEq for GeneveDf {}

@@ -1,0 +1,231 @@
+//! GRE tunnels.
+
+use crate::layers::nla_frame::ExactEq;
+use crate::layers::numbers::flags::KeepsEveryBit;
+use bitflags::{Flag, Flags};
+use core::fmt;
+
+/// What a GRE tunnel is wrapped in: `IFLA_GRE_ENCAP_TYPE`, a native 16-bit number
+/// (include/uapi/linux/if_tunnel.h).
+#[derive(Clone, Copy, Debug, PartialEq, Eq)]
+pub enum GreEncapType {
+    /// `TUNNEL_ENCAP_NONE`.
+    None,
+    /// `TUNNEL_ENCAP_FOU`.
+    Fou,
+    /// `TUNNEL_ENCAP_GUE`.
+    Gue,
+    /// Any other number.
+    Other(u16),
+}
+
+impl From<u16> for GreEncapType {
+    fn from(number: u16) -> GreEncapType {
+        match number {
+            0 => GreEncapType::None,
+            1 => GreEncapType::Fou,
+            2 => GreEncapType::Gue,
+            _ => GreEncapType::Other(number),
+        }
+    }
+}
+
+impl From<&GreEncapType> for u16 {
+    fn from(encapsulation: &GreEncapType) -> u16 {
+        match encapsulation {
+            GreEncapType::None => 0,
+            GreEncapType::Fou => 1,
+            GreEncapType::Gue => 2,
+            GreEncapType::Other(number) => *number,
+        }
+    }
+}
+
+impl fmt::Display for GreEncapType {
+    fn fmt(&self, f: &mut fmt::Formatter<'_>) -> fmt::Result {
+        match self {
+            GreEncapType::None => f.write_str("none"),
+            GreEncapType::Fou => f.write_str("fou"),
+            GreEncapType::Gue => f.write_str("gue"),
+            GreEncapType::Other(number) => write!(f, "other({number})"),
+        }
+    }
+}
+
+impl Default for GreEncapType {
+    fn default() -> GreEncapType {
+        GreEncapType::None
+    }
+}
+
+impl ExactEq for GreEncapType {}
+
+/// Which traffic an ERSPAN tunnel mirrors: `IFLA_GRE_ERSPAN_DIR`, one byte
+/// (include/uapi/linux/if_tunnel.h).
+#[derive(Clone, Copy, Debug, PartialEq, Eq)]
+pub enum ErSpanDir {
+    /// What comes in.
+    Ingress,
+    /// What goes out.
+    Egress,
+    /// Any other number.
+    Other(u8),
+}
+
+impl From<u8> for ErSpanDir {
+    fn from(number: u8) -> ErSpanDir {
+        match number {
+            0 => ErSpanDir::Ingress,
+            1 => ErSpanDir::Egress,
+            _ => ErSpanDir::Other(number),
+        }
+    }
+}
+
+impl From<&ErSpanDir> for u8 {
+    fn from(direction: &ErSpanDir) -> u8 {
+        match direction {
+            ErSpanDir::Ingress => 0,
+            ErSpanDir::Egress => 1,
+            ErSpanDir::Other(number) => *number,
+        }
+    }
+}
+
+impl fmt::Display for ErSpanDir {
+    fn fmt(&self, f: &mut fmt::Formatter<'_>) -> fmt::Result {
+        match self {
+            ErSpanDir::Ingress => f.write_str("ingress"),
+            ErSpanDir::Egress => f.write_str("egress"),
+            ErSpanDir::Other(number) => write!(f, "other({number})"),
+        }
+    }
+}
+
+impl Default for ErSpanDir {
+    fn default() -> ErSpanDir {
+        ErSpanDir::Ingress
+    }
+}
+
+impl ExactEq for ErSpanDir {}
+
+/// What a GRE header holds: `IFLA_GRE_IFLAGS` and `IFLA_GRE_OFLAGS`, a big-endian 16-bit number
+/// (include/uapi/linux/if_tunnel.h). Every number of that width is a set.
+#[derive(Clone, Copy, Debug, PartialEq, Eq)]
+pub struct GreIOFlags(u16);
+
+impl GreIOFlags {
+    /// `GRE_CSUM`.
+    pub const Checksum: GreIOFlags = GreIOFlags(0x8000);
+
+    /// `GRE_ROUTING`.
+    pub const Routing: GreIOFlags = GreIOFlags(0x4000);
+
+    /// `GRE_KEY`.
+    pub const Key: GreIOFlags = GreIOFlags(0x2000);
+
+    /// `GRE_SEQ`.
+    pub const Seq: GreIOFlags = GreIOFlags(0x1000);
+
+    /// `GRE_STRICT`.
+    pub const Strict0: GreIOFlags = GreIOFlags(0x0800);
+
+    /// `GRE_REC`, three bits.
+    pub const Rec: GreIOFlags = GreIOFlags(0x0700);
+
+    /// `GRE_ACK`.
+    pub const Ack: GreIOFlags = GreIOFlags(0x0080);
+
+    /// `GRE_FLAGS`, four bits.
+    pub const Flags: GreIOFlags = GreIOFlags(0x0078);
+
+    /// `GRE_VERSION`, three bits.
+    pub const Version: GreIOFlags = GreIOFlags(0x0007);
+
+    const TABLE: &'static [Flag<GreIOFlags>] = &[
+        Flag::new("Checksum", GreIOFlags::Checksum),
+        Flag::new("Routing", GreIOFlags::Routing),
+        Flag::new("Key", GreIOFlags::Key),
+        Flag::new("Seq", GreIOFlags::Seq),
+        Flag::new("Strict0", GreIOFlags::Strict0),
+        Flag::new("Rec", GreIOFlags::Rec),
+        Flag::new("Ack", GreIOFlags::Ack),
+        Flag::new("Flags", GreIOFlags::Flags),
+        Flag::new("Version", GreIOFlags::Version),
+        Flag::new("", GreIOFlags(u16::MAX)),
+    ];
+}
+
+impl Flags for GreIOFlags {
+    type Bits = u16;
+
+    const FLAGS: &'static [Flag<GreIOFlags>] = GreIOFlags::TABLE;
+
+    fn bits(&self) -> u16 {
+        self.0
+    }
+
+    fn from_bits_retain(bits: u16) -> GreIOFlags {
+        GreIOFlags(bits)
+    }
+}
+
+impl KeepsEveryBit for GreIOFlags {}
+
+/// No flag.
+impl Default for GreIOFlags {
+    fn default() -> GreIOFlags {
+        GreIOFlags(0)
+    }
+}
+
+impl ExactEq for GreIOFlags {}
+
+/// How a GRE tunnel is wrapped: `IFLA_GRE_ENCAP_FLAGS`, a native 16-bit number
+/// (include/uapi/linux/if_tunnel.h). Every number of that width is a set.
+#[derive(Clone, Copy, Debug, PartialEq, Eq)]
+pub struct GreEncapFlags(u16);
+
+impl GreEncapFlags {
+    /// `TUNNEL_ENCAP_FLAG_CSUM`.
+    pub const Checksum: GreEncapFlags = GreEncapFlags(1);
+
+    /// `TUNNEL_ENCAP_FLAG_CSUM6`.
+    pub const Checksum6: GreEncapFlags = GreEncapFlags(2);
+
+    /// `TUNNEL_ENCAP_FLAG_REMCSUM`.
+    pub const RemoteChecksum: GreEncapFlags = GreEncapFlags(4);
+
+    const TABLE: &'static [Flag<GreEncapFlags>] = &[
+        Flag::new("Checksum", GreEncapFlags::Checksum),
+        Flag::new("Checksum6", GreEncapFlags::Checksum6),
+        Flag::new("RemoteChecksum", GreEncapFlags::RemoteChecksum),
+        Flag::new("", GreEncapFlags(u16::MAX)),
+    ];
+}
+
+impl Flags for GreEncapFlags {
+    type Bits = u16;
+
+    const FLAGS: &'static [Flag<GreEncapFlags>] = GreEncapFlags::TABLE;
+
+    fn bits(&self) -> u16 {
+        self.0
+    }
+
+    fn from_bits_retain(bits: u16) -> GreEncapFlags {
+        GreEncapFlags(bits)
+    }
+}
+
+impl KeepsEveryBit for GreEncapFlags {}
+
+/// No flag.
+impl Default for GreEncapFlags {
+    fn default() -> GreEncapFlags {
+        GreEncapFlags(0)
+    }
+}
+
+impl ExactEq for GreEncapFlags {}

@@ -1,0 +1,172 @@
+//! macvlan and macvtap links.
+
+use crate::layers::nla_frame::{DecodeError, ExactEq, Family};
+use crate::layers::numbers::flags::KeepsEveryBit;
+use crate::layers::numbers::word::word_fault;
+use bitflags::{Flag, Flags};
+use core::fmt;
+use core::str::FromStr;
+
+/// The mode of a macvlan or macvtap link: `IFLA_MACVLAN_MODE`, a native 32-bit number
+/// (include/uapi/linux/if_link.h).
+#[derive(Clone, Copy, Debug, PartialEq, Eq)]
+pub enum MacVlanMode {
+    /// `MACVLAN_MODE_PRIVATE`.
+    Private,
+    /// `MACVLAN_MODE_VEPA`.
+    Vepa,
+    /// `MACVLAN_MODE_BRIDGE`.
+    Bridge,
+    /// `MACVLAN_MODE_PASSTHRU`.
+    Passthrough,
+    /// `MACVLAN_MODE_SOURCE`.
+    Source,
+    /// Any other number.
+    Other(u32),
+}
+
+impl From<u32> for MacVlanMode {
+    fn from(number: u32) -> MacVlanMode {
+        match number {
+            1 => MacVlanMode::Private,
+            2 => MacVlanMode::Vepa,
+            4 => MacVlanMode::Bridge,
+            8 => MacVlanMode::Passthrough,
+            16 => MacVlanMode::Source,
+            _ => MacVlanMode::Other(number),
+        }
+    }
+}
+
+impl From<MacVlanMode> for u32 {
+    fn from(mode: MacVlanMode) -> u32 {
+        match mode {
+            MacVlanMode::Private => 1,
+            MacVlanMode::Vepa => 2,
+            MacVlanMode::Bridge => 4,
+            MacVlanMode::Passthrough => 8,
+            MacVlanMode::Source => 16,
+            MacVlanMode::Other(number) => number,
+        }
+    }
+}
+
+impl fmt::Display for MacVlanMode {
+    fn fmt(&self, f: &mut fmt::Formatter<'_>) -> fmt::Result {
+        match self {
+            MacVlanMode::Private => f.write_str("private"),
+            MacVlanMode::Vepa => f.write_str("vepa"),
+            MacVlanMode::Bridge => f.write_str("bridge"),
+            MacVlanMode::Passthrough => f.write_str("passthru"),
+            MacVlanMode::Source => f.write_str("source"),
+            MacVlanMode::Other(number) => fmt::Display::fmt(number, f),
+        }
+    }
+}
+
+/// Every text but the words of `Display` is refused as (MacVlan, 0, Word).
+impl FromStr for MacVlanMode {
+    type Err = DecodeError;
+
+    fn from_str(word: &str) -> Result<MacVlanMode, DecodeError> {
+        match word {
+            "private" => Ok(MacVlanMode::Private),
+            "vepa" => Ok(MacVlanMode::Vepa),
+            "bridge" => Ok(MacVlanMode::Bridge),
+            "passthru" => Ok(MacVlanMode::Passthrough),
+            "source" => Ok(MacVlanMode::Source),
+            _ => Err(word_fault(Family::MacVlan)),
+        }
+    }
+}
+
+impl ExactEq for MacVlanMode {}
+
+/// What to do with the source addresses of a macvlan or macvtap link: `IFLA_MACVLAN_MACADDR_MODE`,
+/// a native 32-bit number (include/uapi/linux/if_link.h).
+#[derive(Clone, Copy, Debug, PartialEq, Eq)]
+pub enum MacVlanMacAddressMode {
+    /// `MACVLAN_MACADDR_ADD`.
+    Add,
+    /// `MACVLAN_MACADDR_DEL`.
+    Del,
+    /// `MACVLAN_MACADDR_FLUSH`.
+    Flush,
+    /// `MACVLAN_MACADDR_SET`.
+    Set,
+    /// Any other number.
+    Other(u32),
+}
+
+impl From<u32> for MacVlanMacAddressMode {
+    fn from(number: u32) -> MacVlanMacAddressMode {
+        match number {
+            0 => MacVlanMacAddressMode::Add,
+            1 => MacVlanMacAddressMode::Del,
+            2 => MacVlanMacAddressMode::Flush,
+            3 => MacVlanMacAddressMode::Set,
+            _ => MacVlanMacAddressMode::Other(number),
+        }
+    }
+}
+
+impl From<MacVlanMacAddressMode> for u32 {
+    fn from(mode: MacVlanMacAddressMode) -> u32 {
+        match mode {
+            MacVlanMacAddressMode::Add => 0,
+            MacVlanMacAddressMode::Del => 1,
+            MacVlanMacAddressMode::Flush => 2,
+            MacVlanMacAddressMode::Set => 3,
+            MacVlanMacAddressMode::Other(number) => number,
+        }
+    }
+}
+
+impl ExactEq for MacVlanMacAddressMode {}
+
+/// What a macvlan or macvtap link leaves out: `IFLA_MACVLAN_FLAGS`, a native 16-bit number
+/// (include/uapi/linux/if_link.h). Every number of that width is a set.
+#[derive(Clone, Copy, Debug, PartialEq, Eq)]
+pub struct MacVlanFlags(u16);
+
+impl MacVlanFlags {
+    /// `MACVLAN_FLAG_NOPROMISC`.
+    pub const NoPromisc: MacVlanFlags = MacVlanFlags(1);
+
+    /// `MACVLAN_FLAG_NODST`.
+    pub const NoDst: MacVlanFlags = MacVlanFlags(2);
+
+    const TABLE: &'static [Flag<MacVlanFlags>] = &[
+        Flag::new("NoPromisc", MacVlanFlags::NoPromisc),
+        Flag::new("NoDst", MacVlanFlags::NoDst),
+        Flag::new("", MacVlanFlags(u16::MAX)),
+    ];
+}
+
+impl Flags for MacVlanFlags {
+    type Bits = u16;
+
+    const FLAGS: &'static [Flag<MacVlanFlags>] = MacVlanFlags::TABLE;
+
+    fn bits(&self) -> u16 {
+        self.0
+    }
+
+    fn from_bits_retain(bits: u16) -> MacVlanFlags {
+        MacVlanFlags(bits)
+    }
+}
+
+impl KeepsEveryBit for MacVlanFlags {}
+
+impl ExactEq for MacVlanFlags {}
+
+/// The mode of a macvtap link, which is that of a macvlan link.
+pub type MacVtapMode = MacVlanMode;
+
+/// The flags of a macvtap link, which are those of a macvlan link.
+pub type MacVtapFlags = MacVlanFlags;
+
+/// What to do with the source addresses of a macvtap link, which is what a macvlan link does with
+/// them.
+pub type MacVtapMacAddressMode = MacVlanMacAddressMode;

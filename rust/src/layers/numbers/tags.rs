@@ -1,0 +1,351 @@
+//! The names of link kinds and port kinds, and their tags.
+
+use crate::layers::nla_frame::ExactEq;
+
+/// The kind of a link without its text: the kinds that this crate knows by name, and `Other`.
+#[derive(Clone, Copy, Debug, PartialEq, Eq)]
+pub enum KindTag {
+    /// `dummy`
+    Dummy,
+    /// `ifb`
+    Ifb,
+    /// `bridge`
+    Bridge,
+    /// `tun`
+    Tun,
+    /// `nlmon`
+    Nlmon,
+    /// `vlan`
+    Vlan,
+    /// `veth`
+    Veth,
+    /// `vxlan`
+    Vxlan,
+    /// `bond`
+    Bond,
+    /// `ipvlan`
+    IpVlan,
+    /// `ipvtap`
+    IpVtap,
+    /// `macvlan`
+    MacVlan,
+    /// `macvtap`
+    MacVtap,
+    /// `gretap`
+    GreTap,
+    /// `ip6gretap`
+    GreTap6,
+    /// `ipip`
+    IpIp,
+    /// `ip6tnl`
+    Ip6Tnl,
+    /// `sit`
+    SitTun,
+    /// `gre`
+    GreTun,
+    /// `ip6gre`
+    GreTun6,
+    /// `vti`
+    Vti,
+    /// `vti6`
+    Vti6,
+    /// `vrf`
+    Vrf,
+    /// `gtp`
+    Gtp,
+    /// `ipoib`
+    Ipoib,
+    /// `wireguard`
+    Wireguard,
+    /// `xfrm`
+    Xfrm,
+    /// `macsec`
+    MacSec,
+    /// `hsr`
+    Hsr,
+    /// `geneve`
+    Geneve,
+    /// `netkit`
+    Netkit,
+    /// `vcan`
+    Vcan,
+    /// `vxcan`
+    Vxcan,
+    /// `amt`
+    Amt,
+    /// `batadv`
+    BatAdv,
+    /// `bareudp`
+    BareUdp,
+    /// `netdevsim`
+    Netdevsim,
+    /// `virt_wifi`
+    VirtWifi,
+    /// `wwan`
+    Wwan,
+    /// `can`
+    Can,
+    /// `dsa`
+    Dsa,
+    /// `team`
+    Team,
+    /// `erspan`
+    ErSpan,
+    /// `ip6erspan`
+    Ip6ErSpan,
+    /// `pfcp`
+    Pfcp,
+    /// `rmnet`
+    RmNet,
+    /// Every other name.
+    Other,
+}
+
+impl ExactEq for KindTag {}
+
+/// The kind of a port without its text: the port kinds that this crate knows by name, and `Other`.
+#[derive(Clone, Copy, Debug, PartialEq, Eq)]
+pub enum PortTag {
+    /// `bond`
+    Bond,
+    /// `bridge`
+    Bridge,
+    /// `vrf`
+    Vrf,
+    /// `team`
+    Team,
+    /// Every other name.
+    Other,
+}
+
+impl ExactEq for PortTag {}
+
+/// The number of the first four bytes of a name, the lowest one first, as `u32::from_le_bytes` has
+/// it. A shorter name ends in zeros.
+macro_rules! number_of_four {
+    ($name:literal) => {
+        $name[0] as u32 | ($name[1] as u32) << 8 | ($name[2] as u32) << 16 | ($name[3] as u32) << 24
+    };
+}
+
+/// The number of the first eight bytes of a name, the lowest one first, as `u64::from_le_bytes` has
+/// it. A shorter name ends in zeros.
+macro_rules! number_of_eight {
+    ($name:literal) => {
+        number_of_four!($name) as u64
+            | ($name[4] as u64) << 32
+            | ($name[5] as u64) << 40
+            | ($name[6] as u64) << 48
+            | ($name[7] as u64) << 56
+    };
+}
+
+/// The tag of the kind of this name, given without a closing NUL; `Other` for every name that is
+/// not known.
+///
+/// A name is compared as a number, a word at a time.
+pub fn tag_of_name(name: &[u8]) -> KindTag {
+    match *name {
+        [a, b, c] => tag_of_three(u32::from_le_bytes([a, b, c, 0])),
+        [a, b, c, d] => tag_of_four(u32::from_le_bytes([a, b, c, d])),
+        [a, b, c, d, e] => tag_of_five(u64::from_le_bytes([a, b, c, d, e, 0, 0, 0])),
+        [a, b, c, d, e, f] => tag_of_six(u64::from_le_bytes([a, b, c, d, e, f, 0, 0])),
+        [a, b, c, d, e, f, g] => tag_of_seven(u64::from_le_bytes([a, b, c, d, e, f, g, 0])),
+        [a, b, c, d, e, f, g, h, last] => {
+            tag_of_nine(u64::from_le_bytes([a, b, c, d, e, f, g, h]), last)
+        }
+        _ => KindTag::Other,
+    }
+}
+
+const IFB: u32 = number_of_four!(b"ifb\0");
+
+const TUN: u32 = number_of_four!(b"tun\0");
+
+const SIT: u32 = number_of_four!(b"sit\0");
+
+const GRE: u32 = number_of_four!(b"gre\0");
+
+const VTI: u32 = number_of_four!(b"vti\0");
+
+const VRF: u32 = number_of_four!(b"vrf\0");
+
+const GTP: u32 = number_of_four!(b"gtp\0");
+
+const HSR: u32 = number_of_four!(b"hsr\0");
+
+const AMT: u32 = number_of_four!(b"amt\0");
+
+const CAN: u32 = number_of_four!(b"can\0");
+
+const DSA: u32 = number_of_four!(b"dsa\0");
+
+/// The tag of the name of three bytes that has this number.
+fn tag_of_three(number: u32) -> KindTag {
+    match number {
+        IFB => KindTag::Ifb,
+        TUN => KindTag::Tun,
+        SIT => KindTag::SitTun,
+        GRE => KindTag::GreTun,
+        VTI => KindTag::Vti,
+        VRF => KindTag::Vrf,
+        GTP => KindTag::Gtp,
+        HSR => KindTag::Hsr,
+        AMT => KindTag::Amt,
+        CAN => KindTag::Can,
+        DSA => KindTag::Dsa,
+        _ => KindTag::Other,
+    }
+}
+
+const VLAN: u32 = number_of_four!(b"vlan");
+
+const VETH: u32 = number_of_four!(b"veth");
+
+const BOND: u32 = number_of_four!(b"bond");
+
+const IPIP: u32 = number_of_four!(b"ipip");
+
+const VTI6: u32 = number_of_four!(b"vti6");
+
+const XFRM: u32 = number_of_four!(b"xfrm");
+
+const VCAN: u32 = number_of_four!(b"vcan");
+
+const WWAN: u32 = number_of_four!(b"wwan");
+
+const TEAM: u32 = number_of_four!(b"team");
+
+const PFCP: u32 = number_of_four!(b"pfcp");
+
+/// The tag of the name of four bytes that has this number.
+fn tag_of_four(number: u32) -> KindTag {
+    match number {
+        VLAN => KindTag::Vlan,
+        VETH => KindTag::Veth,
+        BOND => KindTag::Bond,
+        IPIP => KindTag::IpIp,
+        VTI6 => KindTag::Vti6,
+        XFRM => KindTag::Xfrm,
+        VCAN => KindTag::Vcan,
+        WWAN => KindTag::Wwan,
+        TEAM => KindTag::Team,
+        PFCP => KindTag::Pfcp,
+        _ => KindTag::Other,
+    }
+}
+
+const DUMMY: u64 = number_of_eight!(b"dummy\0\0\0");
+
+const NLMON: u64 = number_of_eight!(b"nlmon\0\0\0");
+
+const VXLAN: u64 = number_of_eight!(b"vxlan\0\0\0");
+
+const IPOIB: u64 = number_of_eight!(b"ipoib\0\0\0");
+
+const VXCAN: u64 = number_of_eight!(b"vxcan\0\0\0");
+
+const RMNET: u64 = number_of_eight!(b"rmnet\0\0\0");
+
+/// The tag of the name of five bytes that has this number.
+fn tag_of_five(number: u64) -> KindTag {
+    match number {
+        DUMMY => KindTag::Dummy,
+        NLMON => KindTag::Nlmon,
+        VXLAN => KindTag::Vxlan,
+        IPOIB => KindTag::Ipoib,
+        VXCAN => KindTag::Vxcan,
+        RMNET => KindTag::RmNet,
+        _ => KindTag::Other,
+    }
+}
+
+const BRIDGE: u64 = number_of_eight!(b"bridge\0\0");
+
+const IPVLAN: u64 = number_of_eight!(b"ipvlan\0\0");
+
+const IPVTAP: u64 = number_of_eight!(b"ipvtap\0\0");
+
+const GRETAP: u64 = number_of_eight!(b"gretap\0\0");
+
+const IP6TNL: u64 = number_of_eight!(b"ip6tnl\0\0");
+
+const IP6GRE: u64 = number_of_eight!(b"ip6gre\0\0");
+
+const MACSEC: u64 = number_of_eight!(b"macsec\0\0");
+
+const GENEVE: u64 = number_of_eight!(b"geneve\0\0");
+
+const NETKIT: u64 = number_of_eight!(b"netkit\0\0");
+
+const BATADV: u64 = number_of_eight!(b"batadv\0\0");
+
+const ERSPAN: u64 = number_of_eight!(b"erspan\0\0");
+
+/// The tag of the name of six bytes that has this number.
+fn tag_of_six(number: u64) -> KindTag {
+    match number {
+        BRIDGE => KindTag::Bridge,
+        IPVLAN => KindTag::IpVlan,
+        IPVTAP => KindTag::IpVtap,
+        GRETAP => KindTag::GreTap,
+        IP6TNL => KindTag::Ip6Tnl,
+        IP6GRE => KindTag::GreTun6,
+        MACSEC => KindTag::MacSec,
+        GENEVE => KindTag::Geneve,
+        NETKIT => KindTag::Netkit,
+        BATADV => KindTag::BatAdv,
+        ERSPAN => KindTag::ErSpan,
+        _ => KindTag::Other,
+    }
+}
+
+const MACVLAN: u64 = number_of_eight!(b"macvlan\0");
+
+const MACVTAP: u64 = number_of_eight!(b"macvtap\0");
+
+const BAREUDP: u64 = number_of_eight!(b"bareudp\0");
+
+/// The tag of the name of seven bytes that has this number.
+fn tag_of_seven(number: u64) -> KindTag {
+    match number {
+        MACVLAN => KindTag::MacVlan,
+        MACVTAP => KindTag::MacVtap,
+        BAREUDP => KindTag::BareUdp,
+        _ => KindTag::Other,
+    }
+}
+
+const IP6GRETAP: u64 = number_of_eight!(b"ip6gretap");
+
+const WIREGUARD: u64 = number_of_eight!(b"wireguard");
+
+const NETDEVSIM: u64 = number_of_eight!(b"netdevsim");
+
+const VIRT_WIFI: u64 = number_of_eight!(b"virt_wifi");
+
+const IP6ERSPAN: u64 = number_of_eight!(b"ip6erspan");
+
+/// The tag of a name of nine bytes, given by the number of the first eight and the last.
+fn tag_of_nine(front: u64, last: u8) -> KindTag {
+    match (front, last) {
+        (IP6GRETAP, b'p') => KindTag::GreTap6,
+        (WIREGUARD, b'd') => KindTag::Wireguard,
+        (NETDEVSIM, b'm') => KindTag::Netdevsim,
+        (VIRT_WIFI, b'i') => KindTag::VirtWifi,
+        (IP6ERSPAN, b'n') => KindTag::Ip6ErSpan,
+        _ => KindTag::Other,
+    }
+}
+
+/// The tag of the port kind of this name, given without a closing NUL; `Other` for every name that
+/// is not known.
+pub fn port_tag_of_name(name: &[u8]) -> PortTag {
+    match tag_of_name(name) {
+        KindTag::Bond => PortTag::Bond,
+        KindTag::Bridge => PortTag::Bridge,
+        KindTag::Vrf => PortTag::Vrf,
+        KindTag::Team => PortTag::Team,
+        _ => PortTag::Other,
+    }
+}

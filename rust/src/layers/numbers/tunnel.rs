@@ -1,0 +1,171 @@
+//! IP tunnels.
+
+use crate::layers::nla_frame::ExactEq;
+use crate::layers::numbers::flags::KeepsEveryBit;
+use bitflags::{Flag, Flags};
+use core::fmt;
+
+/// What an IP tunnel is wrapped in: `IFLA_IPTUN_ENCAP_TYPE`, a native 16-bit number
+/// (include/uapi/linux/if_tunnel.h).
+#[derive(Clone, Copy, Debug, PartialEq, Eq)]
+pub enum TunnelEncapType {
+    /// `TUNNEL_ENCAP_NONE`.
+    None,
+    /// `TUNNEL_ENCAP_FOU`.
+    Fou,
+    /// `TUNNEL_ENCAP_GUE`.
+    Gue,
+    /// `TUNNEL_ENCAP_MPLS`.
+    Mpls,
+    /// Any other number.
+    Other(u16),
+}
+
+impl From<u16> for TunnelEncapType {
+    fn from(number: u16) -> TunnelEncapType {
+        match number {
+            0 => TunnelEncapType::None,
+            1 => TunnelEncapType::Fou,
+            2 => TunnelEncapType::Gue,
+            3 => TunnelEncapType::Mpls,
+            _ => TunnelEncapType::Other(number),
+        }
+    }
+}
+
+impl From<TunnelEncapType> for u16 {
+    fn from(encapsulation: TunnelEncapType) -> u16 {
+        match encapsulation {
+            TunnelEncapType::None => 0,
+            TunnelEncapType::Fou => 1,
+            TunnelEncapType::Gue => 2,
+            TunnelEncapType::Mpls => 3,
+            TunnelEncapType::Other(number) => number,
+        }
+    }
+}
+
+impl fmt::Display for TunnelEncapType {
+    fn fmt(&self, f: &mut fmt::Formatter<'_>) -> fmt::Result {
+        match self {
+            TunnelEncapType::None => f.write_str("none"),
+            TunnelEncapType::Fou => f.write_str("fou"),
+            TunnelEncapType::Gue => f.write_str("gue"),
+            TunnelEncapType::Mpls => f.write_str("mpls"),
+            TunnelEncapType::Other(number) => fmt::Display::fmt(number, f),
+        }
+    }
+}
+
+impl ExactEq for TunnelEncapType {}
+
+/// How an IP tunnel is wrapped: `IFLA_IPTUN_ENCAP_FLAGS`, a native 16-bit number
+/// (include/uapi/linux/if_tunnel.h). Every number of that width is a set.
+#[derive(Clone, Copy, Debug, PartialEq, Eq, Hash)]
+pub struct TunnelEncapFlags(u16);
+
+impl TunnelEncapFlags {
+    /// `TUNNEL_ENCAP_FLAG_CSUM`.
+    pub const CSum: TunnelEncapFlags = TunnelEncapFlags(1);
+
+    /// `TUNNEL_ENCAP_FLAG_CSUM6`.
+    pub const CSum6: TunnelEncapFlags = TunnelEncapFlags(2);
+
+    /// `TUNNEL_ENCAP_FLAG_REMCSUM`.
+    pub const RemCSum: TunnelEncapFlags = TunnelEncapFlags(4);
+
+    const TABLE: &'static [Flag<TunnelEncapFlags>] = &[
+        Flag::new("CSum", TunnelEncapFlags::CSum),
+        Flag::new("CSum6", TunnelEncapFlags::CSum6),
+        Flag::new("RemCSum", TunnelEncapFlags::RemCSum),
+        Flag::new("", TunnelEncapFlags(u16::MAX)),
+    ];
+}
+
+impl Flags for TunnelEncapFlags {
+    type Bits = u16;
+
+    const FLAGS: &'static [Flag<TunnelEncapFlags>] = TunnelEncapFlags::TABLE;
+
+    fn bits(&self) -> u16 {
+        self.0
+    }
+
+    fn from_bits_retain(bits: u16) -> TunnelEncapFlags {
+        TunnelEncapFlags(bits)
+    }
+}
+
+impl KeepsEveryBit for TunnelEncapFlags {}
+
+impl ExactEq for TunnelEncapFlags {}
+
+/// What an IPv6 tunnel does: `IFLA_IPTUN_FLAGS` under the kind ip6tnl, a native 32-bit number
+/// (include/uapi/linux/ip6_tunnel.h; the last three in include/net/ip6_tunnel.h). Every number of
+/// that width is a set.
+#[derive(Clone, Copy, Debug, PartialEq, Eq, Hash)]
+pub struct Ip6TunnelFlags(u32);
+
+impl Ip6TunnelFlags {
+    /// `IP6_TNL_F_IGN_ENCAP_LIMIT`.
+    pub const IgnEncapLimit: Ip6TunnelFlags = Ip6TunnelFlags(0x1);
+
+    /// `IP6_TNL_F_USE_ORIG_TCLASS`.
+    pub const UseOrigTclass: Ip6TunnelFlags = Ip6TunnelFlags(0x2);
+
+    /// `IP6_TNL_F_USE_ORIG_FLOWLABEL`.
+    pub const UseOrigFlowlabel: Ip6TunnelFlags = Ip6TunnelFlags(0x4);
+
+    /// `IP6_TNL_F_MIP6_DEV`.
+    pub const Mip6Dev: Ip6TunnelFlags = Ip6TunnelFlags(0x8);
+
+    /// `IP6_TNL_F_RCV_DSCP_COPY`.
+    pub const RcvDscpCopy: Ip6TunnelFlags = Ip6TunnelFlags(0x10);
+
+    /// `IP6_TNL_F_USE_ORIG_FWMARK`.
+    pub const UseOrigFwMark: Ip6TunnelFlags = Ip6TunnelFlags(0x20);
+
+    /// `IP6_TNL_F_ALLOW_LOCAL_REMOTE`.
+    pub const AllowLocalRemote: Ip6TunnelFlags = Ip6TunnelFlags(0x40);
+
+    /// `IP6_TNL_F_CAP_XMIT`.
+    pub const CapXmit: Ip6TunnelFlags = Ip6TunnelFlags(0x10000);
+
+    /// `IP6_TNL_F_CAP_RCV`.
+    pub const CapRcv: Ip6TunnelFlags = Ip6TunnelFlags(0x20000);
+
+    /// `IP6_TNL_F_CAP_PER_PACKET`.
+    pub const CapPerPacket: Ip6TunnelFlags = Ip6TunnelFlags(0x40000);
+
+    const TABLE: &'static [Flag<Ip6TunnelFlags>] = &[
+        Flag::new("IgnEncapLimit", Ip6TunnelFlags::IgnEncapLimit),
+        Flag::new("UseOrigTclass", Ip6TunnelFlags::UseOrigTclass),
+        Flag::new("UseOrigFlowlabel", Ip6TunnelFlags::UseOrigFlowlabel),
+        Flag::new("Mip6Dev", Ip6TunnelFlags::Mip6Dev),
+        Flag::new("RcvDscpCopy", Ip6TunnelFlags::RcvDscpCopy),
+        Flag::new("UseOrigFwMark", Ip6TunnelFlags::UseOrigFwMark),
+        Flag::new("AllowLocalRemote", Ip6TunnelFlags::AllowLocalRemote),
+        Flag::new("CapXmit", Ip6TunnelFlags::CapXmit),
+        Flag::new("CapRcv", Ip6TunnelFlags::CapRcv),
+        Flag::new("CapPerPacket", Ip6TunnelFlags::CapPerPacket),
+        Flag::new("", Ip6TunnelFlags(u32::MAX)),
+    ];
+}
+
+impl Flags for Ip6TunnelFlags {
+    type Bits = u32;
+
+    const FLAGS: &'static [Flag<Ip6TunnelFlags>] = Ip6TunnelFlags::TABLE;
+
+    fn bits(&self) -> u32 {
+        self.0
+    }
+
+    fn from_bits_retain(bits: u32) -> Ip6TunnelFlags {
+        Ip6TunnelFlags(bits)
+    }
+}
+
+impl KeepsEveryBit for Ip6TunnelFlags {}
+
+impl ExactEq for Ip6TunnelFlags {}

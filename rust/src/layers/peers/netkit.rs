@@ -1,0 +1,169 @@
+//! Netkit links, which come in pairs: `IFLA_NETKIT_UNSPEC` and on, include/uapi/linux/if_link.h.
+
+use crate::compat::AllocError;
+use crate::layers::nla_frame::{
+    Bytes, DecodeError, DefaultNla, ExactEq, Family, Nla, NlaBuffer, Parseable,
+};
+use crate::layers::numbers::{NetkitMode, NetkitPolicy, NetkitScrub};
+use crate::layers::peers::peer_calls::{
+    peer_check, peer_emit_payload, peer_emit_value, peer_fit_len, peer_kind, peer_read, peer_same,
+    peer_value_len,
+};
+use crate::layers::peers::peer_canonical::{peer_canonical_len, peer_put_canonical};
+use crate::layers::peers::peer_family::PeerFamily;
+use crate::layers::table::{
+    Found, LinkPeer, Lookup, Part, Place, RowFamily, UnnestedFamily, part_by_rows, put_by_rows,
+    table_lookup,
+};
+
+/// An attribute of a netkit link, with a peer of type `P`.
+#[derive(Debug, PartialEq, Eq, Clone)]
+pub enum InfoNetkitOf<P> {
+    /// The other end of the pair (`IFLA_NETKIT_PEER_INFO`).
+    Peer(P),
+    /// Whether this end is the primary one, which programs are attached to (`IFLA_NETKIT_PRIMARY`),
+    /// one byte.
+    Primary(bool),
+    /// What this end does with packets that no program judges (`IFLA_NETKIT_POLICY`), native byte
+    /// order.
+    Policy(NetkitPolicy),
+    /// What the other end does with packets that no program judges (`IFLA_NETKIT_PEER_POLICY`),
+    /// native byte order.
+    PeerPolicy(NetkitPolicy),
+    /// The layer of the link (`IFLA_NETKIT_MODE`), native byte order.
+    Mode(NetkitMode),
+    /// Whether mark and priority of a packet are cleared at this end (`IFLA_NETKIT_SCRUB`), native
+    /// byte order.
+    Scrub(NetkitScrub),
+    /// Whether mark and priority of a packet are cleared at the other end
+    /// (`IFLA_NETKIT_PEER_SCRUB`), native byte order.
+    PeerScrub(NetkitScrub),
+    /// The bytes kept free before each packet (`IFLA_NETKIT_HEADROOM`), native byte order.
+    Headroom(u16),
+    /// The bytes kept free behind each packet (`IFLA_NETKIT_TAILROOM`), native byte order.
+    Tailroom(u16),
+    /// An attribute of another type, kept as it came.
+    Other(DefaultNla),
+}
+
+/// An attribute of a netkit link, whose peer is the bytes of its payload.
+pub type InfoNetkit = InfoNetkitOf<Bytes>;
+
+macro_rules! rows {
+    ($body:ident $given:tt) => {
+        $body! { InfoNetkitOf $given;
+            (IFLA_NETKIT_PEER_INFO = 1, custom, Peer),
+            (IFLA_NETKIT_PRIMARY = 2, truth, Primary),
+            (IFLA_NETKIT_POLICY = 3, le32, Policy as NetkitPolicy),
+            (IFLA_NETKIT_PEER_POLICY = 4, le32, PeerPolicy as NetkitPolicy),
+            (IFLA_NETKIT_MODE = 5, le32, Mode as NetkitMode),
+            (IFLA_NETKIT_SCRUB = 6, scrub, Scrub by scrub_of, is_by_default),
+            (IFLA_NETKIT_PEER_SCRUB = 7, scrub, PeerScrub by scrub_of, is_by_default),
+            (IFLA_NETKIT_HEADROOM = 8, le16, Headroom),
+            (IFLA_NETKIT_TAILROOM = 9, le16, Tailroom),
+        }
+    };
+}
+
+impl<P: LinkPeer> RowFamily for InfoNetkitOf<P> {
+    type Context = ();
+
+    const FAMILY: Family = Family::Netkit;
+
+    #[inline(always)]
+    fn shape(_ctx: (), kind: u16) -> Lookup {
+        table_lookup(Family::Netkit, kind)
+    }
+
+    #[inline(always)]
+    fn put_found<L: Place<InfoNetkitOf<P>>>(
+        place: &mut L,
+        _ctx: (),
+        found: Found<'_>,
+    ) -> Result<(), AllocError> {
+        rows!(put_by_rows(place, found))
+    }
+
+    #[inline(always)]
+    fn to_part(&self) -> Part<'_> {
+        rows!(part_by_rows self)
+    }
+}
+
+/// What is scrubbed: by default, or nothing.
+fn scrub_of(by_default: bool) -> NetkitScrub {
+    NetkitScrub::from(u32::from(by_default))
+}
+
+fn is_by_default(scrub: NetkitScrub) -> bool {
+    u32::from(scrub) != 0
+}
+
+impl<P: LinkPeer> PeerFamily for InfoNetkitOf<P> {
+    type Peer = P;
+
+    fn from_peer(peer: P) -> InfoNetkitOf<P> {
+        InfoNetkitOf::Peer(peer)
+    }
+
+    fn peer(&self) -> Option<&P> {
+        match self {
+            InfoNetkitOf::Peer(peer) => Some(peer),
+            _ => None,
+        }
+    }
+}
+
+impl<P: LinkPeer> Nla for InfoNetkitOf<P> {
+    fn value_len(&self) -> usize {
+        peer_value_len(self)
+    }
+
+    fn kind(&self) -> u16 {
+        peer_kind(self)
+    }
+
+    fn emit_value(&self, buffer: &mut [u8]) {
+        peer_emit_value(self, buffer);
+    }
+
+    fn emit_payload(&self, buffer: &mut [u8]) -> usize {
+        peer_emit_payload(self, buffer)
+    }
+
+    fn fit_len(&self) -> Option<usize> {
+        peer_fit_len(self)
+    }
+}
+
+/// Reads the attribute. A peer that is refused is (Netkit, 1, Peer), and a payload of another
+/// length than its row's (Netkit, type, Length).
+impl<'a, P: LinkPeer> Parseable<NlaBuffer<'a>> for InfoNetkitOf<P> {
+    fn parse(buffer: &NlaBuffer<'a>) -> Result<InfoNetkitOf<P>, DecodeError> {
+        peer_read(buffer, ())
+    }
+}
+
+impl<P: LinkPeer> UnnestedFamily for InfoNetkitOf<P> {
+    fn read_by_row(nla: &NlaBuffer<'_>, ctx: ()) -> Result<InfoNetkitOf<P>, DecodeError> {
+        peer_read(nla, ctx)
+    }
+
+    fn check_by_row(nla: &NlaBuffer<'_>, ctx: ()) -> Result<(), DecodeError> {
+        peer_check::<InfoNetkitOf<P>>(nla, ctx)
+    }
+
+    fn same_by_row(a: &NlaBuffer<'_>, b: &NlaBuffer<'_>, ctx: ()) -> bool {
+        peer_same::<InfoNetkitOf<P>>(a, b, ctx)
+    }
+
+    fn canonical_len_by_row(nla: &NlaBuffer<'_>, ctx: ()) -> Option<usize> {
+        peer_canonical_len::<InfoNetkitOf<P>>(nla, ctx)
+    }
+
+    fn put_canonical_by_row(nla: &NlaBuffer<'_>, ctx: (), buffer: &mut [u8]) -> usize {
+        peer_put_canonical::<InfoNetkitOf<P>>(nla, ctx, buffer)
+    }
+}
+
+impl<P: LinkPeer> ExactEq for InfoNetkitOf<P> {}

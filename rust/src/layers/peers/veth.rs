@@ -1,0 +1,125 @@
+//! Veth links, which come in pairs: `VETH_INFO_UNSPEC` and on, include/uapi/linux/veth.h.
+
+use crate::compat::AllocError;
+use crate::layers::nla_frame::{
+    Bytes, DecodeError, DefaultNla, ExactEq, Family, Nla, NlaBuffer, Parseable,
+};
+use crate::layers::peers::peer_calls::{
+    peer_check, peer_emit_payload, peer_emit_value, peer_fit_len, peer_kind, peer_read, peer_same,
+    peer_value_len,
+};
+use crate::layers::peers::peer_canonical::{peer_canonical_len, peer_put_canonical};
+use crate::layers::peers::peer_family::PeerFamily;
+use crate::layers::table::{
+    Found, LinkPeer, Lookup, Part, Place, RowFamily, UnnestedFamily, table_lookup,
+};
+
+/// An attribute of a veth link, with a peer of type `P`.
+#[derive(Debug, PartialEq, Eq, Clone)]
+pub enum InfoVethOf<P> {
+    /// The other end of the pair (`VETH_INFO_PEER`).
+    Peer(P),
+    /// An attribute of another type, kept as it came.
+    Other(DefaultNla),
+}
+
+/// An attribute of a veth link, whose peer is the bytes of its payload.
+pub type InfoVeth = InfoVethOf<Bytes>;
+
+impl<P: LinkPeer> RowFamily for InfoVethOf<P> {
+    type Context = ();
+
+    const FAMILY: Family = Family::Veth;
+
+    #[inline(always)]
+    fn shape(_ctx: (), kind: u16) -> Lookup {
+        table_lookup(Family::Veth, kind)
+    }
+
+    #[inline(always)]
+    fn put_found<L: Place<InfoVethOf<P>>>(
+        place: &mut L,
+        _ctx: (),
+        found: Found<'_>,
+    ) -> Result<(), AllocError> {
+        match found {
+            Found::Typed(_, _) => unreachable!(),
+            Found::Kept(nla) => place.put(InfoVethOf::Other(nla)),
+        }
+    }
+
+    fn to_part(&self) -> Part<'_> {
+        match self {
+            InfoVethOf::Peer(_) => Part::Custom,
+            InfoVethOf::Other(nla) => Part::Kept(nla),
+        }
+    }
+}
+
+impl<P: LinkPeer> PeerFamily for InfoVethOf<P> {
+    type Peer = P;
+
+    fn from_peer(peer: P) -> InfoVethOf<P> {
+        InfoVethOf::Peer(peer)
+    }
+
+    fn peer(&self) -> Option<&P> {
+        match self {
+            InfoVethOf::Peer(peer) => Some(peer),
+            InfoVethOf::Other(_) => None,
+        }
+    }
+}
+
+impl<P: LinkPeer> Nla for InfoVethOf<P> {
+    fn value_len(&self) -> usize {
+        peer_value_len(self)
+    }
+
+    fn kind(&self) -> u16 {
+        peer_kind(self)
+    }
+
+    fn emit_value(&self, buffer: &mut [u8]) {
+        peer_emit_value(self, buffer);
+    }
+
+    fn emit_payload(&self, buffer: &mut [u8]) -> usize {
+        peer_emit_payload(self, buffer)
+    }
+
+    fn fit_len(&self) -> Option<usize> {
+        peer_fit_len(self)
+    }
+}
+
+/// Reads the attribute. A peer that is refused is (Veth, 1, Peer).
+impl<'a, P: LinkPeer> Parseable<NlaBuffer<'a>> for InfoVethOf<P> {
+    fn parse(buffer: &NlaBuffer<'a>) -> Result<InfoVethOf<P>, DecodeError> {
+        peer_read(buffer, ())
+    }
+}
+
+impl<P: LinkPeer> UnnestedFamily for InfoVethOf<P> {
+    fn read_by_row(nla: &NlaBuffer<'_>, ctx: ()) -> Result<InfoVethOf<P>, DecodeError> {
+        peer_read(nla, ctx)
+    }
+
+    fn check_by_row(nla: &NlaBuffer<'_>, ctx: ()) -> Result<(), DecodeError> {
+        peer_check::<InfoVethOf<P>>(nla, ctx)
+    }
+
+    fn same_by_row(a: &NlaBuffer<'_>, b: &NlaBuffer<'_>, ctx: ()) -> bool {
+        peer_same::<InfoVethOf<P>>(a, b, ctx)
+    }
+
+    fn canonical_len_by_row(nla: &NlaBuffer<'_>, ctx: ()) -> Option<usize> {
+        peer_canonical_len::<InfoVethOf<P>>(nla, ctx)
+    }
+
+    fn put_canonical_by_row(nla: &NlaBuffer<'_>, ctx: (), buffer: &mut [u8]) -> usize {
+        peer_put_canonical::<InfoVethOf<P>>(nla, ctx, buffer)
+    }
+}
+
+impl<P: LinkPeer> ExactEq for InfoVethOf<P> {}

@@ -1,0 +1,125 @@
+//! Vxcan links, which come in pairs: `VXCAN_INFO_UNSPEC` and on, include/uapi/linux/can/vxcan.h.
+
+use crate::compat::AllocError;
+use crate::layers::nla_frame::{
+    Bytes, DecodeError, DefaultNla, ExactEq, Family, Nla, NlaBuffer, Parseable,
+};
+use crate::layers::peers::peer_calls::{
+    peer_check, peer_emit_payload, peer_emit_value, peer_fit_len, peer_kind, peer_read, peer_same,
+    peer_value_len,
+};
+use crate::layers::peers::peer_canonical::{peer_canonical_len, peer_put_canonical};
+use crate::layers::peers::peer_family::PeerFamily;
+use crate::layers::table::{
+    Found, LinkPeer, Lookup, Part, Place, RowFamily, UnnestedFamily, table_lookup,
+};
+
+/// An attribute of a vxcan link, with a peer of type `P`.
+#[derive(Debug, PartialEq, Eq, Clone)]
+pub enum InfoVxcanOf<P> {
+    /// The other end of the pair (`VXCAN_INFO_PEER`).
+    Peer(P),
+    /// An attribute of another type, kept as it came.
+    Other(DefaultNla),
+}
+
+/// An attribute of a vxcan link, whose peer is the bytes of its payload.
+pub type InfoVxcan = InfoVxcanOf<Bytes>;
+
+impl<P: LinkPeer> RowFamily for InfoVxcanOf<P> {
+    type Context = ();
+
+    const FAMILY: Family = Family::Vxcan;
+
+    #[inline(always)]
+    fn shape(_ctx: (), kind: u16) -> Lookup {
+        table_lookup(Family::Vxcan, kind)
+    }
+
+    #[inline(always)]
+    fn put_found<L: Place<InfoVxcanOf<P>>>(
+        place: &mut L,
+        _ctx: (),
+        found: Found<'_>,
+    ) -> Result<(), AllocError> {
+        match found {
+            Found::Typed(_, _) => unreachable!(),
+            Found::Kept(nla) => place.put(InfoVxcanOf::Other(nla)),
+        }
+    }
+
+    fn to_part(&self) -> Part<'_> {
+        match self {
+            InfoVxcanOf::Peer(_) => Part::Custom,
+            InfoVxcanOf::Other(nla) => Part::Kept(nla),
+        }
+    }
+}
+
+impl<P: LinkPeer> PeerFamily for InfoVxcanOf<P> {
+    type Peer = P;
+
+    fn from_peer(peer: P) -> InfoVxcanOf<P> {
+        InfoVxcanOf::Peer(peer)
+    }
+
+    fn peer(&self) -> Option<&P> {
+        match self {
+            InfoVxcanOf::Peer(peer) => Some(peer),
+            InfoVxcanOf::Other(_) => None,
+        }
+    }
+}
+
+impl<P: LinkPeer> Nla for InfoVxcanOf<P> {
+    fn value_len(&self) -> usize {
+        peer_value_len(self)
+    }
+
+    fn kind(&self) -> u16 {
+        peer_kind(self)
+    }
+
+    fn emit_value(&self, buffer: &mut [u8]) {
+        peer_emit_value(self, buffer);
+    }
+
+    fn emit_payload(&self, buffer: &mut [u8]) -> usize {
+        peer_emit_payload(self, buffer)
+    }
+
+    fn fit_len(&self) -> Option<usize> {
+        peer_fit_len(self)
+    }
+}
+
+/// Reads the attribute. A peer that is refused is (Vxcan, 1, Peer).
+impl<'a, P: LinkPeer> Parseable<NlaBuffer<'a>> for InfoVxcanOf<P> {
+    fn parse(buffer: &NlaBuffer<'a>) -> Result<InfoVxcanOf<P>, DecodeError> {
+        peer_read(buffer, ())
+    }
+}
+
+impl<P: LinkPeer> UnnestedFamily for InfoVxcanOf<P> {
+    fn read_by_row(nla: &NlaBuffer<'_>, ctx: ()) -> Result<InfoVxcanOf<P>, DecodeError> {
+        peer_read(nla, ctx)
+    }
+
+    fn check_by_row(nla: &NlaBuffer<'_>, ctx: ()) -> Result<(), DecodeError> {
+        peer_check::<InfoVxcanOf<P>>(nla, ctx)
+    }
+
+    fn same_by_row(a: &NlaBuffer<'_>, b: &NlaBuffer<'_>, ctx: ()) -> bool {
+        peer_same::<InfoVxcanOf<P>>(a, b, ctx)
+    }
+
+    fn canonical_len_by_row(nla: &NlaBuffer<'_>, ctx: ()) -> Option<usize> {
+        peer_canonical_len::<InfoVxcanOf<P>>(nla, ctx)
+    }
+
+    fn put_canonical_by_row(nla: &NlaBuffer<'_>, ctx: (), buffer: &mut [u8]) -> usize {
+        peer_put_canonical::<InfoVxcanOf<P>>(nla, ctx, buffer)
+    }
+}
+
+impl<P: LinkPeer> ExactEq for InfoVxcanOf<P> {}

@@ -1,0 +1,171 @@
+//! What payloads hold.
+
+use core::net::{IpAddr, Ipv4Addr, Ipv6Addr};
+
+/// What a payload holds, with texts and bytes borrowed from it. Each shape has data of certain
+/// variants: those suit the shape.
+#[derive(Clone, Copy, Debug, PartialEq, Eq)]
+pub enum Datum<'a> {
+    /// A number of `Shape::U8`, of the `Le` and `Be` shapes, or the byte of `Shape::EmptyOrByte`.
+    Number(u64),
+    /// The number of `Shape::I32`.
+    Signed(i32),
+    /// What `Shape::Truth` and `Shape::TruthOne` say, and `Shape::Scrub`, where true is the default
+    /// scrubbing.
+    Truth(bool),
+    /// `Shape::Mark`, and `Shape::EmptyOrByte` without a byte.
+    Empty,
+    /// The text of `Shape::Name`, without its closing zero byte.
+    Text(&'a str),
+    /// The address of `Shape::V4`, `Shape::GeneveV4` and `Shape::Ip`.
+    V4(Ipv4Addr),
+    /// The address of `Shape::V6`, `Shape::GeneveV6` and `Shape::Ip`.
+    V6(Ipv6Addr),
+    /// The hardware address of `Shape::Mac`.
+    Mac([u8; 6]),
+    /// The two numbers of `Shape::BePair`, or flags and mask of `Shape::FlagPair`.
+    Pair(u32, u32),
+    /// The payload of `Shape::Raw`.
+    Bytes(&'a [u8]),
+}
+
+impl<'a> Datum<'a> {
+    /// The number of a datum that suits `Shape::U8`, and else 0.
+    #[inline(always)]
+    pub fn u8_or_zero(self) -> u8 {
+        match self {
+            Datum::Number(n) => u8::try_from(n).unwrap_or(0),
+            _ => 0,
+        }
+    }
+
+    /// The number of a datum that suits `Shape::Le16` or `Shape::Be16`, and else 0.
+    #[inline(always)]
+    pub fn u16_or_zero(self) -> u16 {
+        match self {
+            Datum::Number(n) => u16::try_from(n).unwrap_or(0),
+            _ => 0,
+        }
+    }
+
+    /// The number of a datum that suits `Shape::Le32` or `Shape::Be32`, and else 0.
+    #[inline(always)]
+    pub fn u32_or_zero(self) -> u32 {
+        match self {
+            Datum::Number(n) => u32::try_from(n).unwrap_or(0),
+            _ => 0,
+        }
+    }
+
+    /// The number of a datum that suits `Shape::Le64` or `Shape::Be64`, and else 0.
+    #[inline(always)]
+    pub fn u64_or_zero(self) -> u64 {
+        match self {
+            Datum::Number(n) => n,
+            _ => 0,
+        }
+    }
+
+    /// The number of a datum that suits `Shape::I32`, and else 0.
+    #[inline(always)]
+    pub fn i32_or_zero(self) -> i32 {
+        match self {
+            Datum::Signed(n) => n,
+            _ => 0,
+        }
+    }
+
+    /// What a datum says that suits `Shape::Truth`, `Shape::TruthOne` or `Shape::Scrub`, and else
+    /// false.
+    #[inline(always)]
+    pub fn bool_or_false(self) -> bool {
+        match self {
+            Datum::Truth(b) => b,
+            _ => false,
+        }
+    }
+
+    /// The text of a datum that suits `Shape::Name`, and else the empty text.
+    #[inline(always)]
+    pub fn text_or_empty(self) -> &'a str {
+        match self {
+            Datum::Text(text) => text,
+            _ => "",
+        }
+    }
+
+    /// The address of a datum that suits `Shape::V4` or `Shape::GeneveV4`, and else 0.0.0.0.
+    #[inline(always)]
+    pub fn ipv4_or_unspecified(self) -> Ipv4Addr {
+        match self {
+            Datum::V4(address) => address,
+            _ => Ipv4Addr::UNSPECIFIED,
+        }
+    }
+
+    /// The address of a datum that suits `Shape::V6` or `Shape::GeneveV6`, and else `::`.
+    #[inline(always)]
+    pub fn ipv6_or_unspecified(self) -> Ipv6Addr {
+        match self {
+            Datum::V6(address) => address,
+            _ => Ipv6Addr::UNSPECIFIED,
+        }
+    }
+
+    /// The address of a datum that suits `Shape::Ip`, and else `::`.
+    #[inline(always)]
+    pub fn ip_or_unspecified(self) -> IpAddr {
+        match self {
+            Datum::V4(address) => IpAddr::V4(address),
+            Datum::V6(address) => IpAddr::V6(address),
+            _ => IpAddr::V6(Ipv6Addr::UNSPECIFIED),
+        }
+    }
+
+    /// The hardware address of a datum that suits `Shape::Mac`, and else six zeros.
+    #[inline(always)]
+    pub fn mac_or_zeros(self) -> [u8; 6] {
+        match self {
+            Datum::Mac(octets) => octets,
+            _ => [0; 6],
+        }
+    }
+
+    /// The two numbers of a datum that suits `Shape::BePair`, and else two zeros.
+    #[inline(always)]
+    pub fn u16_pair_or_zeros(self) -> (u16, u16) {
+        match self {
+            Datum::Pair(a, b) if a < 65536 && b < 65536 => {
+                (crate::compat::narrow_u16(a), crate::compat::narrow_u16(b))
+            }
+            _ => (0, 0),
+        }
+    }
+
+    /// Flags and mask of a datum that suits `Shape::FlagPair`, and else two zeros.
+    #[inline(always)]
+    pub fn u32_pair_or_zeros(self) -> (u32, u32) {
+        match self {
+            Datum::Pair(a, b) => (a, b),
+            _ => (0, 0),
+        }
+    }
+
+    /// The byte of a datum that suits `Shape::EmptyOrByte`, where there is one, and else `None`.
+    #[inline(always)]
+    pub fn byte_or_none(self) -> Option<u8> {
+        match self {
+            Datum::Number(n) if n < 256 => Some(crate::compat::narrow_u8(n)),
+            _ => None,
+        }
+    }
+
+    /// The bytes of a datum that suits `Shape::Raw`, and else no bytes.
+    #[inline(always)]
+    pub fn bytes_or_empty(self) -> &'a [u8] {
+        match self {
+            Datum::Bytes(bytes) => bytes,
+            _ => &[],
+        }
+    }
+}

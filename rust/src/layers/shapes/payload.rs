@@ -1,0 +1,257 @@
+//! Payloads and data, by shape.
+
+use crate::layers::nla_frame::{Cause, fitting, without_nul};
+use crate::layers::shapes::datum::Datum;
+use crate::layers::shapes::readers::*;
+use crate::layers::shapes::shape::Shape;
+use crate::layers::shapes::writers::*;
+
+/// Whether the payload is accepted under the shape, or why not. Takes no memory; of a payload that
+/// is no name its length alone is looked at. Asks for a shape other than `Shape::SelfList` and
+/// `Shape::Peer`, whose payloads the family reads itself.
+///
+/// # Panics
+///
+/// May panic where a condition of the caller that is named here does not hold. Where it does
+/// not panic then, the result has no meaning.
+#[inline(always)]
+pub fn shape_check(shape: Shape, payload: &[u8]) -> Result<(), Cause> {
+    match accepted_len(shape) {
+        Some(len) => check_len(payload, len),
+        None => check_variable(shape, payload),
+    }
+}
+
+/// The length of every payload that is accepted under the shape, where they have one length.
+#[inline(always)]
+fn accepted_len(shape: Shape) -> Option<usize> {
+    match shape {
+        Shape::U8 | Shape::Truth | Shape::TruthOne => Some(1),
+        Shape::Le16 | Shape::Be16 => Some(2),
+        Shape::Le32 | Shape::Be32 | Shape::I32 => Some(4),
+        Shape::V4 | Shape::BePair | Shape::Scrub => Some(4),
+        Shape::Mac => Some(6),
+        Shape::Le64 | Shape::Be64 | Shape::FlagPair => Some(8),
+        Shape::V6 => Some(16),
+        _ => None,
+    }
+}
+
+/// Refuses a payload of another length.
+#[inline(always)]
+fn check_len(payload: &[u8], len: usize) -> Result<(), Cause> {
+    if payload.len() == len {
+        Ok(())
+    } else {
+        Err(Cause::Length)
+    }
+}
+
+/// The same of the shapes that accept payloads of more than one length.
+#[inline(always)]
+fn check_variable(shape: Shape, payload: &[u8]) -> Result<(), Cause> {
+    match shape {
+        Shape::Mark | Shape::Raw => Ok(()),
+        Shape::Name => check_name(payload),
+        Shape::GeneveV4 => check_version(payload, 4, 16),
+        Shape::GeneveV6 => check_version(payload, 16, 4),
+        Shape::Ip => check_ip(payload),
+        Shape::EmptyOrByte => check_empty_or_byte(payload),
+        _ => unreachable!(),
+    }
+}
+
+/// Refuses a payload of another length than `size`, with the cause AddressKind where it has the
+/// length `other`.
+#[inline(always)]
+fn check_version(payload: &[u8], size: usize, other: usize) -> Result<(), Cause> {
+    if payload.len() == other {
+        Err(Cause::AddressKind)
+    } else {
+        check_len(payload, size)
+    }
+}
+
+/// Whether the payload is an address of either version.
+#[inline(always)]
+fn check_ip(payload: &[u8]) -> Result<(), Cause> {
+    match payload.len() {
+        4 | 16 => Ok(()),
+        _ => Err(Cause::Length),
+    }
+}
+
+/// Whether the payload is at most one byte.
+#[inline(always)]
+fn check_empty_or_byte(payload: &[u8]) -> Result<(), Cause> {
+    match payload.len() {
+        0 | 1 => Ok(()),
+        _ => Err(Cause::Length),
+    }
+}
+
+/// Whether a name is UTF-8.
+fn check_name(payload: &[u8]) -> Result<(), Cause> {
+    match read_name(payload) {
+        Ok(_) => Ok(()),
+        Err(cause) => Err(cause),
+    }
+}
+
+/// What the payload holds under the shape, or why it is refused. Takes no memory: a text or bytes
+/// are the payload's own. Asks for a shape other than `Shape::SelfList` and `Shape::Peer`.
+///
+/// # Panics
+///
+/// May panic where a condition of the caller that is named here does not hold. Where it does
+/// not panic then, the result has no meaning.
+#[inline(always)]
+pub fn read_datum(shape: Shape, payload: &[u8]) -> Result<Datum<'_>, Cause> {
+    match shape {
+        Shape::U8 => read_u8(payload),
+        Shape::Le16 => read_le16(payload),
+        Shape::Le32 => read_le32(payload),
+        Shape::Le64 => read_le64(payload),
+        Shape::Be16 => read_be16(payload),
+        Shape::Be32 => read_be32(payload),
+        Shape::Be64 => read_be64(payload),
+        Shape::I32 => read_i32(payload),
+        Shape::Truth => read_truth(payload),
+        Shape::TruthOne => read_truth_one(payload),
+        Shape::Mark => read_mark(payload),
+        Shape::Name => read_name(payload),
+        Shape::V4 => read_v4(payload),
+        Shape::V6 => read_v6(payload),
+        Shape::GeneveV4 => read_geneve_v4(payload),
+        Shape::GeneveV6 => read_geneve_v6(payload),
+        Shape::Ip => read_ip(payload),
+        Shape::Mac => read_mac(payload),
+        Shape::BePair => read_be_pair(payload),
+        Shape::FlagPair => read_flag_pair(payload),
+        Shape::EmptyOrByte => read_empty_or_byte(payload),
+        Shape::Scrub => read_scrub(payload),
+        Shape::Raw => read_raw(payload),
+        Shape::SelfList | Shape::Peer => unreachable!(),
+    }
+}
+
+/// Whether two payloads mean the same under the shape. Takes no memory. Asks for a shape other than
+/// `Shape::SelfList` and `Shape::Peer`, and for two payloads that are accepted.
+///
+/// # Panics
+///
+/// May panic where a condition of the caller that is named here does not hold. Where it does
+/// not panic then, the result has no meaning.
+#[inline(always)]
+pub fn shape_same(shape: Shape, a: &[u8], b: &[u8]) -> bool {
+    is_alike(shape, a, b)
+}
+
+#[inline(always)]
+fn is_alike(shape: Shape, a: &[u8], b: &[u8]) -> bool {
+    match shape {
+        Shape::Truth => (first_byte(a) == 0) == (first_byte(b) == 0),
+        Shape::TruthOne => (first_byte(a) == 1) == (first_byte(b) == 1),
+        Shape::Mark => true,
+        Shape::Name => without_nul(a) == without_nul(b),
+        Shape::Scrub => is_zero(a) == is_zero(b),
+        _ => a == b,
+    }
+}
+
+/// The first byte, or 0 where there is none.
+#[inline(always)]
+fn first_byte(payload: &[u8]) -> u8 {
+    payload.first().copied().unwrap_or(0)
+}
+
+/// Whether the payload is the four bytes of the number 0.
+#[inline(always)]
+fn is_zero(payload: &[u8]) -> bool {
+    payload == [0, 0, 0, 0].as_slice()
+}
+
+/// The length of the payload that is written for the datum, or `None` above 65531, the most that
+/// the length field of an attribute can count with its header. Asks for a datum that suits the
+/// shape.
+///
+/// # Panics
+///
+/// May panic where a condition of the caller that is named here does not hold. Where it does
+/// not panic then, the result has no meaning.
+#[inline(always)]
+pub fn datum_len(shape: Shape, datum: &Datum<'_>) -> Option<usize> {
+    fitting(written_len(shape, datum))
+}
+
+#[inline(always)]
+fn written_len(shape: Shape, datum: &Datum<'_>) -> usize {
+    match fixed_len(shape) {
+        Some(len) => len,
+        None => variable_len(datum),
+    }
+}
+
+/// The length of every payload that is written under the shape, where they have one length.
+#[inline(always)]
+fn fixed_len(shape: Shape) -> Option<usize> {
+    match shape {
+        Shape::Mark => Some(0),
+        Shape::U8 | Shape::Truth | Shape::TruthOne => Some(1),
+        Shape::Le16 | Shape::Be16 => Some(2),
+        Shape::Le32 | Shape::Be32 | Shape::I32 | Shape::BePair | Shape::Scrub => Some(4),
+        Shape::Le64 | Shape::Be64 | Shape::FlagPair => Some(8),
+        _ => None,
+    }
+}
+
+/// The length of the payload that is written for a datum of a shape without a fixed length.
+#[inline(always)]
+fn variable_len(datum: &Datum<'_>) -> usize {
+    match datum {
+        Datum::Number(_) => 1,
+        Datum::Text(text) => text.len() + 1,
+        Datum::V4(address) => address.octets().len(),
+        Datum::V6(address) => address.octets().len(),
+        Datum::Mac(octets) => octets.as_slice().len(),
+        Datum::Bytes(bytes) => bytes.len(),
+        _ => 0,
+    }
+}
+
+/// Writes the payload of the datum. Asks for a datum that suits the shape, and for a buffer of
+/// exactly that payload's length, which `datum_len` tells.
+///
+/// # Panics
+///
+/// May panic where a condition of the caller that is named here does not hold. Where it does
+/// not panic then, the result has no meaning.
+#[inline(always)]
+pub fn write_datum(shape: Shape, datum: &Datum<'_>, buffer: &mut [u8]) {
+    match shape {
+        Shape::U8 => write_u8(datum, buffer),
+        Shape::Le16 => write_le16(datum, buffer),
+        Shape::Le32 => write_le32(datum, buffer),
+        Shape::Le64 => write_le64(datum, buffer),
+        Shape::Be16 => write_be16(datum, buffer),
+        Shape::Be32 => write_be32(datum, buffer),
+        Shape::Be64 => write_be64(datum, buffer),
+        Shape::I32 => write_i32(datum, buffer),
+        Shape::Truth => write_truth(datum, buffer),
+        Shape::TruthOne => write_truth_one(datum, buffer),
+        Shape::Mark => write_mark(datum, buffer),
+        Shape::Name => write_name(datum, buffer),
+        Shape::V4 => write_v4(datum, buffer),
+        Shape::V6 => write_v6(datum, buffer),
+        Shape::GeneveV4 => write_geneve_v4(datum, buffer),
+        Shape::GeneveV6 => write_geneve_v6(datum, buffer),
+        Shape::Ip => write_ip(datum, buffer),
+        Shape::Mac => write_mac(datum, buffer),
+        Shape::BePair => write_be_pair(datum, buffer),
+        Shape::FlagPair => write_flag_pair(datum, buffer),
+        Shape::EmptyOrByte => write_empty_or_byte(datum, buffer),
+        Shape::Scrub => write_scrub(datum, buffer),
+        Shape::Raw => write_raw(datum, buffer),
+        Shape::SelfList | Shape::Peer => unreachable!(),
+    }
+}

@@ -1,0 +1,22 @@
+//! Attributes of tunnels: vxlan, geneve, gre over IPv4 and IPv6, ipip, sit, ip6tnl, vti, gtp, amt
+//! and bareudp links.
+
+mod amt;
+mod bare_udp;
+mod geneve;
+mod gre;
+mod gre6;
+mod gtp;
+mod ip_tunnel;
+mod vti;
+mod vxlan;
+
+pub use amt::InfoAmt;
+pub use bare_udp::InfoBareUdp;
+pub use geneve::InfoGeneve;
+pub use gre::InfoGre;
+pub use gre6::InfoGre6;
+pub use gtp::InfoGtp;
+pub use ip_tunnel::InfoIpTunnel;
+pub use vti::InfoVti;
+pub use vxlan::InfoVxlan;

@@ -1,0 +1,89 @@
+//! The contents of `IFLA_LINKINFO`, the rtnetlink attribute that describes the type of a link
+//! (vxlan, bond, macvlan ..): parsed, checked, compared and serialized.
+//!
+//! - [`VecLinkInfo::parse`] reads a list, or returns the first error; [`VecLinkInfo::to_vec`]
+//!   writes its one canonical encoding.
+//! - [`check`] and [`same`] validate and compare encodings without allocating memory.
+//! - [`canon`] and [`canon_into`] write the canonical encoding of what an encoding means.
+//! - [`LinkInfoWalk`] iterates over the borrowed attributes.
+//!
+//! The calls at the root accept every input. Those in [`layers`] are for who writes a family of
+//! attributes or a peer: many of them require something of their caller, and panic where it does
+//! not hold.
+//!
+//! ```
+//! use linkinfo::{InfoData, InfoKind, InfoVxlan, LinkInfo, VecLinkInfo, check};
+//!
+//! let list = VecLinkInfo::from([
+//!     LinkInfo::Kind(InfoKind::Vxlan),
+//!     LinkInfo::Data(InfoData::Vxlan([InfoVxlan::Id(42), InfoVxlan::Port(4789)].into())),
+//! ]);
+//! let bytes = list.to_vec()?;
+//! assert_eq!(check(&bytes), Ok(()));
+//! assert_eq!(VecLinkInfo::try_from(bytes.as_slice())?, list);
+//! # Ok::<(), Box<dyn std::error::Error>>(())
+//! ```
+//!
+//! Most of the crate is translated from sources that are proved against their contracts; the
+//! repository's `docs/RUST.md` says what that is worth here.
+//!
+//! A `clone` of a value that owns memory aborts the process where memory runs out, as those of
+//! `alloc` do. Every other call reports it.
+#![no_std]
+#![forbid(unsafe_code)]
+
+#[cfg(not(all(target_endian = "little", target_pointer_width = "64")))]
+compile_error!("linkinfo is for little-endian targets with 64-bit pointers");
+
+/// The example of the README, as a test.
+#[cfg(doctest)]
+#[doc = include_str!("../README.md")]
+pub struct Readme;
+
+extern crate alloc;
+#[cfg(feature = "std")]
+extern crate std;
+
+#[doc(hidden)]
+pub mod compat;
+mod conversions;
+pub mod layers;
+#[cfg(feature = "netlink-packet-core")]
+mod netlink_packet_core;
+mod operators;
+
+pub use compat::{AllocError, AllocFailed};
+pub use layers::data::{InfoData, InfoDataOf, InfoPortData};
+pub use layers::devices::{
+    InfoIpVlan, InfoIpVtap, InfoIpoib, InfoMacSec, InfoMacVlan, InfoMacVtap, InfoRmNet, InfoVrf,
+    InfoVrfPort, InfoXfrm,
+};
+pub use layers::link::{
+    CanonError, CanonIntoError, FaultIn, LinkInfo, LinkInfoItem, LinkInfoOf, LinkInfoWalk,
+    LinkXstats, PlacedFault, VecLinkInfo, VecLinkInfoOf, canon, canon_into, canon_into_of,
+    canon_of, check, check_of, check_placed, check_placed_of, same, same_of, same_placed,
+    same_placed_of,
+};
+pub use layers::lower::{
+    InfoBond, InfoBondPort, InfoBridge, InfoBridgePort, InfoCan, InfoDsa, InfoHsr, InfoVlan,
+};
+pub use layers::nla_frame::{
+    Bytes, Cause, DecodeError, DefaultNla, Family, Nlas, Text, ToVecError,
+};
+pub use layers::numbers::{
+    AmtMode, ErSpanDir, EthernetProtocol, GeneveDf, GreEncapFlags, GreEncapType, GreIOFlags,
+    GtpRole, IFLA_INFO_DATA, IFLA_INFO_KIND, IFLA_INFO_SLAVE_DATA, IFLA_INFO_SLAVE_KIND,
+    IFLA_INFO_XSTATS, InfoKind, InfoPortKind, InfoRmNetFlags, Ip6TunnelFlags, IpProtocol,
+    IpVlanFlags, IpVlanMode, IpVtapFlags, IpVtapMode, IpoibMode, KindTag, MacSecCipherId,
+    MacSecOffload, MacSecValidate, MacVlanFlags, MacVlanMacAddressMode, MacVlanMode, MacVtapFlags,
+    MacVtapMacAddressMode, MacVtapMode, NetkitMode, NetkitPolicy, NetkitScrub, PortTag, RmNetFlags,
+    TunnelEncapFlags, TunnelEncapType, VxlanDf, port_tag_of_name, tag_of_name,
+};
+pub use layers::peers::{
+    InfoBatAdv, InfoNetkit, InfoNetkitOf, InfoPfcp, InfoTeamPort, InfoTun, InfoVeth, InfoVethOf,
+    InfoVxcan, InfoVxcanOf, InfoWireguard, InfoWwan,
+};
+pub use layers::table::{LinkPeer, PeerFault};
+pub use layers::tunnels::{
+    InfoAmt, InfoBareUdp, InfoGeneve, InfoGre, InfoGre6, InfoGtp, InfoIpTunnel, InfoVti, InfoVxlan,
+};

@@ -1,0 +1,21 @@
+//! Tests of the families of attributes, each by its public calls.
+
+#![allow(
+    unused_imports,
+    clippy::manual_next_back,
+    clippy::manual_range_contains,
+    clippy::type_complexity,
+    reason = "the text is that of the sources' tests"
+)]
+
+#[macro_use]
+#[allow(dead_code, unused_imports, unused_macros)]
+#[path = "../support/mod.rs"]
+mod support;
+
+mod vlan;
+
+pub use vlan::InfoVlanRow;
+
+#[cfg(test)]
+mod tests;

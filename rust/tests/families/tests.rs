@@ -1,0 +1,32 @@
+//! Tests over worked attributes: each row of each family, as the kernel writes it, both peers
+//! through each call of the families with one, lists inside lists, families without rows, and the
+//! calls that families are made of.
+
+mod amt;
+mod bare_udp;
+mod batadv;
+mod bit;
+mod calls;
+mod geneve;
+mod gre;
+mod gre6;
+mod gtp;
+mod ip_tunnel;
+mod ipoib;
+mod ipvlan;
+mod last;
+mod macsec;
+mod macvlan;
+mod nested;
+mod netkit;
+mod parts;
+mod peers;
+mod rmnet;
+mod rowless;
+mod rows;
+mod table;
+mod vlan;
+mod vti;
+mod vxlan;
+mod wwan;
+mod xfrm;

@@ -1,0 +1,59 @@
+//! Rows of B.A.T.M.A.N. links.
+
+use super::rows::{
+    UNLISTED, are_same, assert_is, has_shapes, is_list, is_parsed, is_read, is_refused, is_row,
+    keeps_unlisted, unlisted,
+};
+use crate::support::*;
+use linkinfo::layers::nla_frame::{Cause, Text, is_equal};
+use linkinfo::layers::peers::InfoBatAdv;
+use linkinfo::layers::table::Shape;
+
+/// The name of the fourth version of the algorithm.
+const BATMAN_IV: [u8; 16] = [
+    14, 0, 1, 0, b'B', b'A', b'T', b'M', b'A', b'N', b'_', b'I', b'V', 0, 0, 0,
+];
+
+/// The same with a second zero byte.
+const TWO_ZEROS: [u8; 16] = [
+    15, 0, 1, 0, b'B', b'A', b'T', b'M', b'A', b'N', b'_', b'I', b'V', 0, 0, 0,
+];
+
+/// The same without a closing zero byte.
+const NO_ZERO: [u8; 16] = [
+    13, 0, 1, 0, b'B', b'A', b'T', b'M', b'A', b'N', b'_', b'I', b'V', 0, 0, 0,
+];
+
+/// The attribute is read as the name, and is its canonical one or is rewritten as that.
+fn has_name(bytes: &[u8], name: &str, canonical: &[u8]) {
+    let value = InfoBatAdv::AlgoName(Text::copy_of(name).expect("memory"));
+    is_parsed(bytes, &value);
+    is_read((), bytes, &value);
+    is_row((), canonical, &value);
+    let same = are_same::<InfoBatAdv>((), canonical, bytes);
+    assert_is(
+        ("same, a clone", bytes),
+        (same, is_equal(&value.try_clone().expect("memory"), &value)),
+        (true, true),
+    );
+}
+
+#[test]
+fn rows_of_batadv() {
+    has_shapes::<InfoBatAdv>((), &[(1, Shape::Name)]);
+    has_name(&BATMAN_IV, "BATMAN_IV", &BATMAN_IV);
+    // One closing zero byte is taken off, and no more; without one the name is the same.
+    has_name(&TWO_ZEROS, "BATMAN_IV\0", &TWO_ZEROS);
+    has_name(&NO_ZERO, "BATMAN_IV", &BATMAN_IV);
+    has_name(&[4, 0, 1, 0], "", &[5, 0, 1, 0, 0, 0, 0, 0]);
+    assert!(!are_same::<InfoBatAdv>((), &BATMAN_IV, &TWO_ZEROS));
+    is_refused::<InfoBatAdv>((), &[6, 0, 1, 0, 0xc3, 0x28], Cause::Utf8);
+}
+
+#[test]
+fn lists_and_other_types_of_batadv() {
+    let name = InfoBatAdv::AlgoName(Text::copy_of("BATMAN_IV").expect("memory"));
+    is_list((), &BATMAN_IV, [name]);
+    let kept = InfoBatAdv::Other(unlisted());
+    keeps_unlisted((), &UNLISTED, kept);
+}

@@ -1,0 +1,166 @@
+//! The calls that a family by rows is made of, each at xfrm: reading, checking, comparing and
+//! writing by the row of a type, and the places of values.
+
+use super::rows::{assert_is, attribute, error, kept};
+use linkinfo::layers::devices::InfoXfrm;
+use linkinfo::layers::nla_frame::{Cause, ExactEq, Family, NlaBuffer, is_equal};
+use linkinfo::layers::table::{
+    Datum, FlatFamily, Found, Lookup, Part, Place, RowFamily, Shape, UnnestedFamily, row_check,
+    row_emit_payload, row_emit_value, row_fit_len, row_kind, row_put, row_read, row_same,
+    row_value_len, table_lookup,
+};
+
+/// The interface 0x01020304.
+const LINK: [u8; 8] = [8, 0, 1, 0, 4, 3, 2, 1];
+
+/// The same with a flag bit in its type.
+const MARKED: [u8; 8] = [8, 0, 1, 0x80, 4, 3, 2, 1];
+
+/// Another interface.
+const OTHER_LINK: [u8; 8] = [8, 0, 1, 0, 5, 3, 2, 1];
+
+/// An interface of one byte.
+const SHORT: [u8; 5] = [5, 0, 1, 0, 4];
+
+/// What was read, alone and behind a list, is the value.
+fn are_equal<F: ExactEq>(alone: &F, list: &[F], value: &F) -> [bool; 2] {
+    let last = match list {
+        [only] => is_equal(only, value),
+        _ => false,
+    };
+    [is_equal(alone, value), last]
+}
+
+/// The attribute is read as the value by its row, alone and behind a list.
+fn is_read_by_row<F: FlatFamily + ExactEq>(
+    nla: &NlaBuffer<'_>,
+    ctx: <F as RowFamily>::Context,
+    value: &F,
+) {
+    let read = row_read::<F>(nla, ctx).expect("a value");
+    let mut list = Vec::new();
+    row_put::<F, Vec<F>>(&mut list, nla, ctx).expect("a value");
+    assert_is(
+        "row_read, row_put",
+        are_equal(&read, &list, value),
+        [true; 2],
+    );
+    let read = F::read_by_row(nla, ctx).expect("a value");
+    let mut list = Vec::new();
+    F::push_by_row(&mut list, nla, ctx).expect("a value");
+    assert_is(
+        "read_by_row, push_by_row",
+        are_equal(&read, &list, value),
+        [true; 2],
+    );
+}
+
+#[test]
+fn reads_by_rows() {
+    let value = InfoXfrm::Link(0x0102_0304);
+    is_read_by_row(&attribute(&LINK), (), &value);
+    is_read_by_row(&attribute(&MARKED), (), &value);
+    let other = InfoXfrm::Other(kept(0x8003, &[7]));
+    let nla = [5, 0, 3, 0x80, 7];
+    is_read_by_row(&attribute(&nla), (), &other);
+    let short = attribute(&SHORT);
+    let fault = Some(error(Family::Xfrm, 1, Cause::Length));
+    assert_is(
+        "a short number",
+        [
+            row_read::<InfoXfrm>(&short, ()).err(),
+            row_check::<InfoXfrm>(&short, ()).err(),
+            InfoXfrm::check_by_row(&short, ()).err(),
+        ],
+        [fault; 3],
+    );
+}
+
+/// The attribute of the bytes, which its row accepts.
+fn accepted<'a, F: FlatFamily>(ctx: <F as RowFamily>::Context, bytes: &'a [u8]) -> NlaBuffer<'a> {
+    let nla = attribute(bytes);
+    assert!(F::check_by_row(&nla, ctx).is_ok());
+    assert!(row_check::<F>(&nla, ctx).is_ok());
+    nla
+}
+
+/// Whether two accepted attributes mean the same by their row.
+fn same_by_row<F: FlatFamily>(ctx: <F as RowFamily>::Context, a: &[u8], b: &[u8]) -> [bool; 2] {
+    let a = accepted::<F>(ctx, a);
+    let b = accepted::<F>(ctx, b);
+    [row_same::<F>(&a, &b, ctx), F::same_by_row(&a, &b, ctx)]
+}
+
+#[test]
+fn compares_by_rows() {
+    for (other, same) in [(&LINK, true), (&MARKED, true), (&OTHER_LINK, false)] {
+        assert_is(
+            ("same_by_row", other),
+            same_by_row::<InfoXfrm>((), &LINK, other),
+            [same; 2],
+        );
+    }
+}
+
+/// The value is written with this type and this payload by its row.
+fn is_written_by_row<F: FlatFamily>(value: &F, kind: u16, payload: [u8; 4]) {
+    assert!(row_fit_len(value) == Some(4));
+    assert_is(
+        "kind, value_len",
+        (row_kind(value), row_value_len(value)),
+        (kind, 4),
+    );
+    let mut exact = [255; 4];
+    row_emit_value(value, &mut exact);
+    let mut longer = [255; 6];
+    let taken = row_emit_payload(value, &mut longer);
+    assert_is(
+        "emit_value, emit_payload",
+        (exact, taken, &longer[..4], &longer[4..]),
+        (payload, 4, payload.as_slice(), [255; 2].as_slice()),
+    );
+}
+
+#[test]
+fn writes_by_rows() {
+    is_written_by_row(&InfoXfrm::Link(0x0102_0304), 1, [4, 3, 2, 1]);
+    let kept = kept(0x8003, &[7, 8, 9, 10]);
+    is_written_by_row(&InfoXfrm::Other(kept), 0x8003, [7, 8, 9, 10]);
+}
+
+#[test]
+fn tables_say_shapes() {
+    for (family, kind, answer) in [
+        (Family::Xfrm, 1, Lookup::Is(Shape::Le32)),
+        (Family::Xfrm, 3, Lookup::Unknown),
+        (Family::Geneve, 2, Lookup::Is(Shape::GeneveV4)),
+        (Family::BatAdv, 1, Lookup::Is(Shape::Name)),
+        (Family::Tun, 1, Lookup::Unknown),
+    ] {
+        assert_is((family, kind), table_lookup(family, kind), answer);
+    }
+}
+
+#[test]
+fn values_are_put_in_places() {
+    let mut list = try_vec![1u8].expect("memory");
+    list.put(2).expect("memory");
+    let mut alone = Some(1u8);
+    alone.put(2).expect("no memory");
+    assert_is(
+        "a list, an option",
+        (list.as_slice(), alone),
+        ([1, 2].as_slice(), Some(2)),
+    );
+
+    let mut place = None;
+    let found = Found::Typed(2, Datum::Number(7));
+    <InfoXfrm as RowFamily>::put_found(&mut place, (), found).expect("no memory");
+    let value = place.expect("a value");
+    assert!(is_equal(&value, &InfoXfrm::IfId(7)));
+    assert_is(
+        "to_part",
+        <InfoXfrm as RowFamily>::to_part(&value),
+        Part::Typed(2, Shape::Le32, Datum::Number(7)),
+    );
+}

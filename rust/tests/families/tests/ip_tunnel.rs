@@ -1,0 +1,182 @@
+//! Rows of IP tunnels, and their flags by the kind of the link.
+
+use super::rows::{
+    UNLISTED, attribute, error, has_one_length, is_kept, is_mark, is_refused, is_row, unlisted,
+};
+use bitflags::Flags;
+use linkinfo::layers::nla_frame::{Cause, DecodeError, Family, ParseableParametrized};
+use linkinfo::layers::numbers::{
+    InfoKind, Ip6TunnelFlags, IpProtocol, KindTag, TunnelEncapFlags, TunnelEncapType,
+};
+use linkinfo::layers::tunnels::InfoIpTunnel;
+use std::net::{IpAddr, Ipv4Addr, Ipv6Addr};
+
+fn parsed(bytes: &[u8], kind: &InfoKind) -> Result<InfoIpTunnel, DecodeError> {
+    InfoIpTunnel::parse_with_param(&attribute(bytes), kind)
+}
+
+/// The attribute is read as the value inside a link of this kind.
+fn is_parsed(kind: &InfoKind, bytes: &[u8], value: &InfoIpTunnel) {
+    let read = parsed(bytes, kind).expect("a value");
+    assert_eq!((bytes, read == *value), (bytes, true));
+}
+
+/// The attribute is the canonical one of the value, whatever the kind, and takes payloads of its
+/// length alone.
+fn has_row(bytes: &[u8], value: &InfoIpTunnel) {
+    is_parsed(&InfoKind::Ip6Tnl, bytes, value);
+    is_row(KindTag::IpIp, bytes, value);
+    has_one_length::<InfoIpTunnel>(KindTag::Other, bytes);
+}
+
+/// Canonical attributes, and what they mean.
+const ROWS: [(&[u8], InfoIpTunnel); 14] = [
+    (&[8, 0, 1, 0, 4, 3, 2, 1], InfoIpTunnel::Link(0x0102_0304)),
+    (&[5, 0, 4, 0, 64, 0, 0, 0], InfoIpTunnel::Ttl(0x40)),
+    (&[5, 0, 5, 0, 64, 0, 0, 0], InfoIpTunnel::Tos(0x40)),
+    (&[5, 0, 6, 0, 64, 0, 0, 0], InfoIpTunnel::EncapLimit(0x40)),
+    (
+        &[8, 0, 7, 0, 1, 2, 3, 4],
+        InfoIpTunnel::FlowInfo(0x0102_0304),
+    ),
+    (
+        &[5, 0, 9, 0, 41, 0, 0, 0],
+        InfoIpTunnel::Protocol(IpProtocol::Ipv6),
+    ),
+    (&[5, 0, 10, 0, 1, 0, 0, 0], InfoIpTunnel::PMtuDisc(true)),
+    (
+        &[6, 0, 13, 0, 2, 1, 0, 0],
+        InfoIpTunnel::Ipv6RdPrefixLen(0x0102),
+    ),
+    (
+        &[6, 0, 14, 0, 2, 1, 0, 0],
+        InfoIpTunnel::Ipv6RdRelayPrefixLen(0x0102),
+    ),
+    (
+        &[6, 0, 15, 0, 3, 0, 0, 0],
+        InfoIpTunnel::EncapType(TunnelEncapType::Mpls),
+    ),
+    (
+        &[6, 0, 16, 0, 2, 0, 0, 0],
+        InfoIpTunnel::EncapFlags(TunnelEncapFlags::CSum6),
+    ),
+    (&[6, 0, 17, 0, 1, 2, 0, 0], InfoIpTunnel::EncapSPort(0x0102)),
+    (&[6, 0, 18, 0, 1, 2, 0, 0], InfoIpTunnel::EncapDPort(0x0102)),
+    (
+        &[8, 0, 20, 0, 4, 3, 2, 1],
+        InfoIpTunnel::FwMark(0x0102_0304),
+    ),
+];
+
+/// Canonical attributes of 10.0.0.1 and fe80::2.
+const ADDRESSES: &[&[u8]] = &[
+    &[8, 0, 2, 0, 10, 0, 0, 1],
+    &[
+        20, 0, 2, 0, 0xfe, 0x80, 0, 0, 0, 0, 0, 0, 0, 0, 0, 0, 0, 0, 0, 2,
+    ],
+    &[8, 0, 3, 0, 10, 0, 0, 1],
+    &[
+        20, 0, 3, 0, 0xfe, 0x80, 0, 0, 0, 0, 0, 0, 0, 0, 0, 0, 0, 0, 0, 2,
+    ],
+    &[
+        20, 0, 11, 0, 0xfe, 0x80, 0, 0, 0, 0, 0, 0, 0, 0, 0, 0, 0, 0, 0, 2,
+    ],
+    &[8, 0, 12, 0, 10, 0, 0, 1],
+];
+
+/// Each attribute is the row's of the value at its place.
+fn has_rows_of<const N: usize>(attributes: &[&[u8]], values: [InfoIpTunnel; N]) {
+    assert!(attributes.len() == N);
+    for (bytes, value) in attributes.iter().zip(&values) {
+        has_row(bytes, value);
+    }
+}
+
+#[test]
+fn rows_of_ip_tunnel() {
+    for (bytes, value) in &ROWS {
+        has_row(bytes, value);
+    }
+    let v4 = Ipv4Addr::new(10, 0, 0, 1);
+    let v6 = Ipv6Addr::new(0xfe80, 0, 0, 0, 0, 0, 0, 2);
+    let addresses = [
+        InfoIpTunnel::Local(IpAddr::V4(v4)),
+        InfoIpTunnel::Local(IpAddr::V6(v6)),
+        InfoIpTunnel::Remote(IpAddr::V4(v4)),
+        InfoIpTunnel::Remote(IpAddr::V6(v6)),
+        InfoIpTunnel::Ipv6RdPrefix(v6),
+        InfoIpTunnel::Ipv6RdRelayPrefix(v4),
+    ];
+    has_rows_of(ADDRESSES, addresses);
+}
+
+/// The value is a presence flag.
+fn has_mark(value: InfoIpTunnel) {
+    is_mark(KindTag::SitTun, &[4, 0, 19, 0], &value);
+}
+
+/// `UNLISTED` is parsed and kept as the value.
+fn keeps_unlisted(value: InfoIpTunnel) {
+    is_parsed(&InfoKind::SitTun, &UNLISTED, &value);
+    is_kept(KindTag::Ip6Tnl, &value);
+}
+
+#[test]
+fn marks_and_other_types_of_ip_tunnel() {
+    has_mark(InfoIpTunnel::CollectMetadata);
+    keeps_unlisted(InfoIpTunnel::Other(unlisted()));
+}
+
+/// Flags of two bytes.
+const TWO: [u8; 8] = [6, 0, 8, 0, 0, 16, 0, 0];
+
+/// Flags of four bytes.
+const FOUR: [u8; 8] = [8, 0, 8, 0, 1, 0, 1, 0];
+
+/// Inside a link of this kind the flags are the value, and take payloads of its length alone.
+fn has_flags(kind: InfoKind, bytes: &[u8], value: InfoIpTunnel) {
+    is_parsed(&kind, bytes, &value);
+    is_row(kind.tag(), bytes, &value);
+    has_one_length::<InfoIpTunnel>(kind.tag(), bytes);
+}
+
+#[test]
+fn flags_by_kind() {
+    let v4 = InfoIpTunnel::Ipv4Flags(16);
+    has_flags(InfoKind::IpIp, &TWO, v4);
+    let sit = InfoIpTunnel::Ipv6SitFlags(16);
+    has_flags(InfoKind::SitTun, &TWO, sit);
+    let v6 = InfoIpTunnel::Ipv6Flags(Ip6TunnelFlags::from_bits_retain(0x0001_0001));
+    has_flags(InfoKind::Ip6Tnl, &FOUR, v6);
+}
+
+/// Inside a link of this kind the flags are refused.
+fn refuses_flags(kind: InfoKind, bytes: &[u8], cause: Cause) {
+    let fault = error(Family::IpTunnel, 8, cause);
+    assert_eq!(parsed(bytes, &kind).err(), Some(fault));
+    is_refused::<InfoIpTunnel>(kind.tag(), bytes, cause);
+}
+
+#[test]
+fn flags_refused_by_kind() {
+    refuses_flags(InfoKind::IpIp, &FOUR, Cause::Length);
+    refuses_flags(InfoKind::SitTun, &FOUR, Cause::Length);
+    refuses_flags(InfoKind::Ip6Tnl, &TWO, Cause::Length);
+    refuses_flags(InfoKind::Vrf, &TWO, Cause::Kind);
+    refuses_flags(InfoKind::Vti6, &FOUR, Cause::Kind);
+}
+
+/// The attribute is read as the value inside a link of this kind.
+fn parses(kind: InfoKind, bytes: &[u8], value: InfoIpTunnel) {
+    is_parsed(&kind, bytes, &value);
+}
+
+#[test]
+fn worked_ip_tunnel() {
+    let protocol = InfoIpTunnel::Protocol(IpProtocol::Ipv6);
+    let bytes = [5, 0, 9, 0, 0x29, 0, 0, 0];
+    parses(InfoKind::IpIp, &bytes, protocol);
+    let discovery = InfoIpTunnel::PMtuDisc(true);
+    let bytes = [5, 0, 10, 0, 2, 0, 0, 0];
+    parses(InfoKind::SitTun, &bytes, discovery);
+}

@@ -1,0 +1,65 @@
+//! The last attribute of each type in a byte string, and the bytes of one attribute.
+
+use super::rows::assert_is;
+use linkinfo::layers::nla_frame::{NlaBuffer, is_equal};
+use linkinfo::layers::table::{LastOfType, PlacedNla, own_bytes};
+
+/// Types 1, 2, 1 with the flag "nested", 64 with four bytes, and 64 with three: the last is without
+/// its padding.
+const TWICE: [u8; 35] = [
+    8, 0, 1, 0, 1, 0, 0, 0, // type 1 at 0
+    5, 0, 2, 0, 9, 0xaa, 0xbb, 0xcc, // type 2 at 8, its padding not zero
+    4, 0, 1, 0x80, // type 1 with a flag at 16
+    8, 0, 64, 0, 1, 2, 3, 4, // type 64 at 20
+    7, 0, 64, 0, 5, 6, 7, // type 64 at 28
+];
+
+/// Type 1 at 0, type 63 at 4, and a length field of three at 8.
+const DAMAGED: [u8; 12] = [4, 0, 1, 0, 4, 0, 63, 0, 3, 0, 1, 0];
+
+/// A type, and where its last attribute is.
+type Place = (u16, Option<usize>);
+
+/// Each type is found at its offset, or nowhere.
+fn finds(source: &[u8], places: &[Place]) {
+    let index = LastOfType::new(source);
+    for (kind, offset) in places {
+        assert_is(("offset of type", kind), index.offset(*kind), *offset);
+        let found = index.find(*kind).map(|placed| placed.offset);
+        assert_is(("offset of the attribute of type", kind), found, *offset);
+    }
+}
+
+/// The last attribute of a type is at this offset, and has these bytes of its own.
+fn is_alone(source: &[u8], kind: u16, offset: usize, own: &[u8]) {
+    let placed = LastOfType::new(source)
+        .find(kind)
+        .expect("an attribute of the type");
+    assert_is(("bytes of type", kind), own_bytes(source, &placed), own);
+    let nla = NlaBuffer::new_checked(own).expect("a header");
+    assert!(is_equal(&placed, &PlacedNla { offset, nla }));
+}
+
+#[test]
+fn finds_the_last_of_each_type() {
+    let places = [
+        (0, None),
+        (1, Some(16)),
+        (2, Some(8)),
+        (63, None),
+        (64, Some(28)),
+        (65, None),
+        (0x3fff, None),
+    ];
+    finds(&TWICE, &places);
+    is_alone(&TWICE, 1, 16, &[4, 0, 1, 0x80]);
+    is_alone(&TWICE, 2, 8, &[5, 0, 2, 0, 9]);
+    is_alone(&TWICE, 64, 28, &[7, 0, 64, 0, 5, 6, 7]);
+}
+
+#[test]
+fn stops_at_a_damaged_header() {
+    finds(&DAMAGED, &[(1, Some(0)), (63, Some(4)), (64, None)]);
+    is_alone(&DAMAGED, 63, 4, &[4, 0, 63, 0]);
+    finds(&[], &[(0, None), (64, None)]);
+}

@@ -1,0 +1,383 @@
+//! Address lists inside address lists.
+
+use super::rows::{
+    assert_is, attribute, compare_lists, error, is_emitted, is_not_parsed, is_parsed, is_refused,
+    list_checked,
+};
+use crate::support::*;
+use linkinfo::layers::devices::{InfoMacVlan, InfoMacVtap};
+use linkinfo::layers::nla_frame::{
+    Cause, ExactEq, Family, HeaderCount, Nla, NlaBuffer, Nlas, Parseable, emit_nlas, is_equal,
+    nlas_buffer_len, nlas_fit_len,
+};
+use linkinfo::layers::table::{LinkFamily, Lookup, Shape, list_read};
+
+/// The most lists in a chain whose first list fits.
+const LONGEST_CHAIN: u16 = 16383;
+
+/// A family of which a value may hold a list of values.
+trait HoldsLists: Sized {
+    fn from_list(items: Nlas<Self>) -> Self;
+}
+
+impl HoldsLists for InfoMacVlan {
+    fn from_list(items: Nlas<InfoMacVlan>) -> InfoMacVlan {
+        InfoMacVlan::MacAddrData(items)
+    }
+}
+
+impl HoldsLists for InfoMacVtap {
+    fn from_list(items: Nlas<InfoMacVtap>) -> InfoMacVtap {
+        InfoMacVtap::MacAddrData(items)
+    }
+}
+
+/// The string of a chain of address lists, each of which holds the next alone, and the last one
+/// nothing.
+fn chain(lists: u16) -> Vec<u8> {
+    assert!(lists <= LONGEST_CHAIN);
+    let mut bytes = Vec::new();
+    for outer in 0..lists {
+        let [low, high] = (4 * (lists - outer)).to_le_bytes();
+        let header = [low, high, 5, 0];
+        bytes.try_extend_from_slice(&header).expect("memory");
+    }
+    bytes
+}
+
+/// A list that holds one value alone.
+fn list_of<F: HoldsLists>(value: F) -> F {
+    let mut items = Vec::new();
+    items.try_push(value).expect("memory");
+    F::from_list(Nlas::new(items))
+}
+
+/// The value of such a chain.
+fn chain_value<F: HoldsLists>(lists: u16) -> F {
+    let mut value = F::from_list(Nlas::new(Vec::new()));
+    for _ in 1..lists {
+        value = list_of(value);
+    }
+    value
+}
+
+/// The list is written as these bytes, and the byte behind them stays.
+fn is_written<F: Nla>(items: &[F], bytes: &[u8]) {
+    let len = bytes.len();
+    assert!(len < 1000);
+    assert!(nlas_fit_len(items) == Some(len));
+    assert!(nlas_buffer_len(items) == len);
+    let mut buffer = [255; 1000];
+    emit_nlas(items, &mut buffer);
+    assert_is("emit_nlas", &buffer[..len], bytes);
+    assert!(buffer[len] == 255);
+}
+
+/// The string of at most 128 lists is read as the value of its chain by each call, with a header
+/// for each list, and written as it came.
+fn is_chain<'a, F>(bytes: &'a [u8], lists: u16)
+where
+    F: HoldsLists + LinkFamily<Context = u8> + Parseable<NlaBuffer<'a>> + ExactEq,
+{
+    assert!(bytes.len() < 1000);
+    let value: F = chain_value(lists);
+    is_parsed(bytes, &value);
+    let mut count = HeaderCount::new();
+    let read: Vec<F> = list_read(bytes, 0, &mut count).expect("a list");
+    assert!(read.len() == 1);
+    let headers = usize::from(lists);
+    assert_is(
+        ("list read", bytes),
+        (
+            is_equal(&read[0], &value),
+            count.get(),
+            list_checked::<F>(0, bytes),
+        ),
+        (true, headers, (Ok(()), headers)),
+    );
+    is_written(read.as_slice(), bytes);
+}
+
+#[test]
+fn chains_of_at_most_128_lists() {
+    for lists in [1, 2, 127, 128] {
+        let bytes = chain(lists);
+        is_chain::<InfoMacVlan>(bytes.as_slice(), lists);
+        is_chain::<InfoMacVtap>(bytes.as_slice(), lists);
+    }
+}
+
+/// The string has this length and this header.
+fn begins_with(bytes: Vec<u8>, len: usize, header: [u8; 4]) {
+    assert_is(
+        "length, header",
+        (bytes.len(), bytes.as_slice().get(..4)),
+        (len, Some(header.as_slice())),
+    );
+}
+
+#[test]
+fn chain_of_129_lists() {
+    begins_with(chain(128), 512, [0, 2, 5, 0]);
+    begins_with(chain(129), 516, [4, 2, 5, 0]);
+    let bytes = chain(129);
+    let deep = error(Family::MacVlan, 5, Cause::Depth);
+    is_not_parsed::<InfoMacVlan>(bytes.as_slice(), deep);
+    assert_is(
+        "129 lists",
+        list_checked::<InfoMacVlan>(0, bytes.as_slice()),
+        (Err(deep), 129),
+    );
+    let deep = error(Family::MacVtap, 5, Cause::Depth);
+    is_not_parsed::<InfoMacVtap>(bytes.as_slice(), deep);
+}
+
+/// Inside 127 lists a list may stand, inside 128 it is refused before its payload is looked at.
+fn has_most_lists<F>()
+where
+    F: HoldsLists + LinkFamily<Context = u8>,
+{
+    for lists in [0, 127] {
+        assert!(<F as LinkFamily>::shape(lists, 5) == Lookup::Is(Shape::SelfList));
+    }
+    // A list that holds a stray byte, with flag bits in its type.
+    let bytes = [5, 0, 5, 0xc0, 1, 0, 0, 0];
+    let nla = attribute(&bytes);
+    let mut count = HeaderCount::new();
+    assert_is(
+        "inside 127 lists",
+        F::check_value(&nla, 127, &mut count),
+        Err(error(Family::Frame, 0, Cause::Header)),
+    );
+    for lists in [128, 255] {
+        assert!(<F as LinkFamily>::shape(lists, 5) == Lookup::Refused(Cause::Depth));
+        is_refused::<F>(lists, &bytes, Cause::Depth);
+    }
+    // Inside 127 lists it may be empty, and may not hold another.
+    let deep = error(<F as LinkFamily>::FAMILY, 5, Cause::Depth);
+    assert_is(
+        "inside 127 lists",
+        [
+            list_checked::<F>(127, &[4, 0, 5, 0]),
+            list_checked::<F>(127, &[8, 0, 5, 0, 4, 0, 5, 0]),
+        ],
+        [(Ok(()), 1), (Err(deep), 2)],
+    );
+}
+
+#[test]
+fn lists_inside_the_most() {
+    has_most_lists::<InfoMacVlan>();
+    has_most_lists::<InfoMacVtap>();
+}
+
+/// A list of one address, with its padding and without.
+fn has_worked_list(value: InfoMacVlan) {
+    let padded = [16, 0, 5, 0, 10, 0, 4, 0, 2, 0, 0, 0, 0, 1, 0, 0];
+    let bare = [14, 0, 5, 0, 10, 0, 4, 0, 2, 0, 0, 0, 0, 1];
+    is_parsed(&padded, &value);
+    is_parsed(&bare, &value);
+    is_emitted(&value, &padded);
+    assert!(value.fit_len() == Some(12));
+    assert!(value.value_len() == 12);
+    let mut payload = [255; 12];
+    value.emit_value(&mut payload);
+    assert_is("emit_value", payload.as_slice(), &padded[4..]);
+}
+
+#[test]
+fn worked_lists() {
+    let address = InfoMacVlan::MacAddr([2, 0, 0, 0, 0, 1]);
+    has_worked_list(list_of(address));
+}
+
+#[test]
+fn worked_strings_of_lists() {
+    let padded = [16, 0, 5, 0, 10, 0, 4, 0, 2, 0, 0, 0, 0, 1, 0, 0];
+    let bare = [14, 0, 5, 0, 10, 0, 4, 0, 2, 0, 0, 0, 0, 1];
+    compare_lists::<InfoMacVlan>(0, &[(&padded, &bare, Some(4))]);
+
+    let short = [12, 0, 5, 0, 5, 0, 4, 0, 1, 0, 0, 0];
+    let fault = error(Family::MacVtap, 4, Cause::Length);
+    is_not_parsed::<InfoMacVtap>(&short, fault);
+    let broken = [8, 0, 5, 0, 5, 0, 4, 0];
+    let fault = error(Family::Frame, 0, Cause::Header);
+    is_not_parsed::<InfoMacVtap>(&broken, fault);
+}
+
+/// Two lists inside each other, the inner one of a count.
+const COUNT: &[u8] = &[16, 0, 5, 0, 12, 0, 5, 0, 8, 0, 6, 0, 7, 0, 0, 0];
+
+/// The same and one more attribute.
+const MORE: &[u8] = &[20, 0, 5, 0, 16, 0, 5, 0, 8, 0, 6, 0, 7, 0, 0, 0, 4, 0, 5, 0];
+
+/// A list of an attribute of a type without a row.
+const KEPT: &[u8] = &[12, 0, 5, 0, 5, 0, 10, 0, 1, 0, 0, 0];
+
+/// An attribute of another type.
+const NUMBER: &[u8] = &[8, 0, 6, 0, 7, 0, 0, 0];
+
+/// Lists, and the headers that are looked at to find them the same, if they are.
+const PAIRS: &[(&[u8], &[u8], Option<usize>)] = &[
+    // Flag bits of types with a row do not count, at each level.
+    (
+        COUNT,
+        &[16, 0, 5, 0x80, 12, 0, 5, 0x40, 8, 0, 6, 0xc0, 7, 0, 0, 0],
+        Some(6),
+    ),
+    // Padding does not.
+    (KEPT, &[12, 0, 5, 0, 5, 0, 10, 0, 1, 9, 9, 9], Some(4)),
+    // The innermost value does, and how many attributes there are.
+    (
+        COUNT,
+        &[16, 0, 5, 0, 12, 0, 5, 0, 8, 0, 6, 0, 8, 0, 0, 0],
+        None,
+    ),
+    (COUNT, MORE, None),
+    (MORE, COUNT, None),
+    // So do flag bits of a type without a row.
+    (KEPT, &[12, 0, 5, 0, 5, 0, 10, 0x80, 1, 0, 0, 0], None),
+    // A list is not the same as an attribute of another type.
+    (COUNT, NUMBER, None),
+    (NUMBER, COUNT, None),
+];
+
+/// A chain is the same as itself, and not as one of a list less.
+fn compares_chains<F>(lists: u16)
+where
+    F: HoldsLists + LinkFamily<Context = u8>,
+{
+    assert!(0 < lists && lists <= 128);
+    let a = chain(lists);
+    let b = chain(lists - 1);
+    let headers = 2 * usize::from(lists);
+    compare_lists::<F>(0, &[(&a, &a, Some(headers)), (&a, &b, None)]);
+}
+
+fn are_compared<F>()
+where
+    F: HoldsLists + LinkFamily<Context = u8>,
+{
+    compare_lists::<F>(0, PAIRS);
+    for lists in [1, 2, 127, 128] {
+        compares_chains::<F>(lists);
+    }
+}
+
+#[test]
+fn lists_inside_lists_are_compared() {
+    are_compared::<InfoMacVlan>();
+    are_compared::<InfoMacVtap>();
+}
+
+/// Whether the lists of one value each are equal.
+fn lists_equal<F>(a: &F, b: &F) -> bool
+where
+    F: HoldsLists + ExactEq + Clone,
+{
+    let first = list_of(a.try_clone().expect("memory"));
+    let second = list_of(b.try_clone().expect("memory"));
+    is_equal(&first, &second)
+}
+
+/// A list of one value is equal neither to the value nor to the list of none.
+fn differs_from_list<F>(one: &F)
+where
+    F: HoldsLists + Nla + ExactEq + Clone,
+{
+    let list = list_of(one.try_clone().expect("memory"));
+    let empty = F::from_list(Nlas::new(Vec::new()));
+    assert_is(
+        "a list",
+        [
+            list.kind() == 5,
+            one.kind() == 5,
+            is_equal(&list, &empty),
+            is_equal(&list, one),
+        ],
+        [true, false, false, false],
+    );
+}
+
+/// Values of lists are equal exactly where what they hold is, and so are their clones.
+fn are_equal_by_items<F>(values: [F; 2])
+where
+    F: HoldsLists + Nla + ExactEq + Clone,
+{
+    let [one, other] = &values;
+    differs_from_list(one);
+    assert_is(
+        "equal, other items",
+        [lists_equal(one, one), lists_equal(one, other)],
+        [true, false],
+    );
+}
+
+/// A chain is equal to its clone, and not to a deeper one.
+fn are_equal_by_depth<F>()
+where
+    F: HoldsLists + Nla + ExactEq + Clone,
+{
+    let deep: F = chain_value(128);
+    let deeper: F = chain_value(129);
+    assert_is(
+        "equal, deeper",
+        [
+            is_equal(&deep, &deep.try_clone().expect("memory")),
+            is_equal(&deep, &deeper),
+        ],
+        [true, false],
+    );
+}
+
+#[test]
+fn lists_inside_lists_are_equal() {
+    let values = [InfoMacVlan::MacAddrCount(1), InfoMacVlan::BcQueueLen(1)];
+    are_equal_by_items(values);
+    let values = [
+        InfoMacVtap::MacAddr([2, 0, 0, 0, 0, 1]),
+        InfoMacVtap::MacAddr([2, 0, 0, 0, 0, 2]),
+    ];
+    are_equal_by_items(values);
+    are_equal_by_depth::<InfoMacVlan>();
+    are_equal_by_depth::<InfoMacVtap>();
+}
+
+/// A value may be deeper than what is well formed: it is measured and written all the same, and is
+/// not read back.
+fn is_written_at_any_depth<F>(lists: u16)
+where
+    F: HoldsLists + LinkFamily<Context = u8> + Nla,
+{
+    let mut items: Vec<F> = Vec::new();
+    items.try_push(chain_value(lists)).expect("memory");
+    let bytes = chain(lists);
+    assert!(nlas_fit_len(items.as_slice()) == Some(bytes.len()));
+    assert!(nlas_buffer_len(items.as_slice()) == bytes.len());
+    let mut buffer = try_vec![255u8; bytes.len()].expect("memory");
+    emit_nlas(items.as_slice(), buffer.as_mut_slice());
+    assert!(buffer.as_slice() == bytes.as_slice());
+    let deep = error(<F as LinkFamily>::FAMILY, 5, Cause::Depth);
+    assert_is(
+        ("list_check", lists),
+        list_checked::<F>(0, bytes.as_slice()),
+        (Err(deep), 129),
+    );
+}
+
+/// The value of a chain has this length, if it fits.
+fn has_fit_len(lists: u16, wanted: Option<usize>) {
+    let value: InfoMacVlan = chain_value(lists);
+    assert_is(("fit_len", lists), value.fit_len(), wanted);
+}
+
+#[test]
+fn values_deeper_than_the_most() {
+    for lists in [129, 1000, 16000, LONGEST_CHAIN] {
+        is_written_at_any_depth::<InfoMacVlan>(lists);
+        is_written_at_any_depth::<InfoMacVtap>(lists);
+    }
+    has_fit_len(LONGEST_CHAIN, Some(65528));
+    has_fit_len(LONGEST_CHAIN + 1, None);
+    has_fit_len(LONGEST_CHAIN + 2, None);
+}

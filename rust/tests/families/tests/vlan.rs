@@ -1,0 +1,46 @@
+//! A family of one's own: lists of it read, checked, compared and written.
+
+use super::rows::{compare_lists, has_shapes, is_kept, is_list, is_refused, is_row, unlisted};
+use crate::InfoVlanRow;
+use linkinfo::layers::nla_frame::Cause;
+use linkinfo::layers::table::Shape;
+
+/// Canonical attributes, and what they mean.
+const ROWS: [(&[u8], InfoVlanRow); 3] = [
+    (&[6, 0, 1, 0, 7, 1, 0, 0], InfoVlanRow::Id(0x0107)),
+    (
+        &[12, 0, 2, 0, 1, 0, 0, 0, 255, 255, 255, 255],
+        InfoVlanRow::Flags((1, u32::MAX)),
+    ),
+    (&[6, 0, 5, 0, 0x81, 0, 0, 0], InfoVlanRow::Protocol(0x8100)),
+];
+
+/// The vlan 7 with 802.1Q.
+const LIST: [u8; 16] = [6, 0, 1, 0, 7, 0, 0, 0, 6, 0, 5, 0, 0x81, 0, 0, 0];
+
+/// `LIST`, and what is the same or not: flag bits of known types and padding do not count.
+const PAIRS: &[(&[u8], &[u8], Option<usize>)] = &[
+    (
+        &LIST,
+        &[6, 0, 1, 0x80, 7, 0, 9, 9, 6, 0, 5, 0, 0x81, 0],
+        Some(4),
+    ),
+    (&LIST, &[6, 0, 1, 0, 7, 0, 0, 0], None),
+];
+
+#[test]
+fn family_of_ones_own() {
+    let shapes = [(1, Shape::Le16), (2, Shape::FlagPair), (5, Shape::Be16)];
+    has_shapes::<InfoVlanRow>((), &shapes);
+    for (bytes, value) in &ROWS {
+        is_row((), bytes, value);
+    }
+    is_kept((), &InfoVlanRow::Other(unlisted()));
+    is_list(
+        (),
+        &LIST,
+        [InfoVlanRow::Id(7), InfoVlanRow::Protocol(0x8100)],
+    );
+    compare_lists::<InfoVlanRow>((), PAIRS);
+    is_refused::<InfoVlanRow>((), &[5, 0, 1, 0, 7], Cause::Length);
+}

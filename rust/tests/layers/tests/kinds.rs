@@ -1,0 +1,284 @@
+//! Kinds of links and ports: names, tags, attributes.
+
+use super::assertions::{assert_displayed, assert_is, attribute, fault, repeated, text_of};
+use crate::support::*;
+use linkinfo::layers::nla_frame::{Cause, ExactEq, Family, Nla, Parseable, is_equal};
+use linkinfo::layers::numbers::{
+    InfoKind, InfoPortKind, KindTag, PortTag, port_tag_of_name, tag_of_name,
+};
+
+/// The kinds by their names.
+const KINDS: &[(&str, KindTag)] = &[
+    ("dummy", KindTag::Dummy),
+    ("ifb", KindTag::Ifb),
+    ("bridge", KindTag::Bridge),
+    ("tun", KindTag::Tun),
+    ("nlmon", KindTag::Nlmon),
+    ("vlan", KindTag::Vlan),
+    ("veth", KindTag::Veth),
+    ("vxlan", KindTag::Vxlan),
+    ("bond", KindTag::Bond),
+    ("ipvlan", KindTag::IpVlan),
+    ("ipvtap", KindTag::IpVtap),
+    ("macvlan", KindTag::MacVlan),
+    ("macvtap", KindTag::MacVtap),
+    ("gretap", KindTag::GreTap),
+    ("ip6gretap", KindTag::GreTap6),
+    ("ipip", KindTag::IpIp),
+    ("ip6tnl", KindTag::Ip6Tnl),
+    ("sit", KindTag::SitTun),
+    ("gre", KindTag::GreTun),
+    ("ip6gre", KindTag::GreTun6),
+    ("vti", KindTag::Vti),
+    ("vti6", KindTag::Vti6),
+    ("vrf", KindTag::Vrf),
+    ("gtp", KindTag::Gtp),
+    ("ipoib", KindTag::Ipoib),
+    ("wireguard", KindTag::Wireguard),
+    ("xfrm", KindTag::Xfrm),
+    ("macsec", KindTag::MacSec),
+    ("hsr", KindTag::Hsr),
+    ("geneve", KindTag::Geneve),
+    ("netkit", KindTag::Netkit),
+    ("vcan", KindTag::Vcan),
+    ("vxcan", KindTag::Vxcan),
+    ("amt", KindTag::Amt),
+    ("batadv", KindTag::BatAdv),
+    ("bareudp", KindTag::BareUdp),
+    ("netdevsim", KindTag::Netdevsim),
+    ("virt_wifi", KindTag::VirtWifi),
+    ("wwan", KindTag::Wwan),
+    ("can", KindTag::Can),
+    ("dsa", KindTag::Dsa),
+    ("team", KindTag::Team),
+    ("erspan", KindTag::ErSpan),
+    ("ip6erspan", KindTag::Ip6ErSpan),
+    ("pfcp", KindTag::Pfcp),
+    ("rmnet", KindTag::RmNet),
+];
+
+/// Names of no kind, each beside one of a kind.
+const OTHERS: &[&str] = &[
+    "",
+    "a",
+    "si",
+    "siu",
+    "sit\0",
+    "Sit",
+    "vlax",
+    "bonds",
+    "netkiu",
+    "batad",
+    "macvlao",
+    "wireguare",
+    "virt-wifi",
+    "ip6gretap2",
+];
+
+/// Names of port kinds, and others.
+const PORT_KINDS: &[(&str, PortTag)] = &[
+    ("bond", PortTag::Bond),
+    ("bridge", PortTag::Bridge),
+    ("vrf", PortTag::Vrf),
+    ("team", PortTag::Team),
+    ("", PortTag::Other),
+    ("x", PortTag::Other),
+    ("vrg", PortTag::Other),
+    ("vrf\0", PortTag::Other),
+    ("tean", PortTag::Other),
+    ("bridgf", PortTag::Other),
+    ("vxlan", PortTag::Other),
+];
+
+fn kind_of(name: &str) -> InfoKind {
+    InfoKind::from_text(name).expect("memory")
+}
+
+fn port_kind_of(name: &str) -> InfoPortKind {
+    InfoPortKind::from_text(name).expect("memory")
+}
+
+/// The kind has this name and tag, and `tag_of_name` gives the tag too.
+fn is_named(kind: &InfoKind, name: &str, tag: KindTag) {
+    assert_displayed(kind, name);
+    let tags = [kind.tag(), tag_of_name(name.as_bytes())];
+    assert_is(("tags of", name), tags, [tag; 2]);
+    assert_is(("fit_len of", name), kind.fit_len(), Some(name.len() + 1));
+}
+
+/// The value and its clone are equal to the other value.
+fn is_same<T: ExactEq + Clone>(value: &T, same: &T) {
+    assert!(is_equal(value, same));
+    assert!(value.try_clone().expect("memory") == *same);
+}
+
+#[test]
+fn known_kinds() {
+    for (name, tag) in KINDS {
+        is_named(&kind_of(name), name, *tag);
+    }
+    is_same(&kind_of("sit"), &InfoKind::SitTun);
+    assert!(InfoKind::SitTun == InfoKind::SitTun.try_clone().expect("memory"));
+    assert!(InfoKind::SitTun != InfoKind::IpIp);
+}
+
+#[test]
+fn other_kinds() {
+    for name in OTHERS {
+        let kind = kind_of(name);
+        is_named(&kind, name, KindTag::Other);
+        is_same(&kind, &InfoKind::Other(text_of(name)));
+    }
+    // The tag goes by the variant.
+    let other = InfoKind::Other(text_of("xfrm"));
+    assert_is("Other of xfrm", other.tag(), KindTag::Other);
+    assert!(other != InfoKind::Xfrm);
+}
+
+/// The port kind of the name has this tag, and `port_tag_of_name` gives the tag too.
+fn is_port_named(name: &str, tag: PortTag) {
+    let kind = port_kind_of(name);
+    assert_displayed(&kind, name);
+    let tags = [kind.tag(), port_tag_of_name(name.as_bytes())];
+    assert_is(("tags of", name), tags, [tag; 2]);
+    assert_is(("fit_len of", name), kind.fit_len(), Some(name.len() + 1));
+    is_same(&kind, &kind);
+}
+
+#[test]
+fn port_kinds() {
+    for (name, tag) in PORT_KINDS {
+        is_port_named(name, *tag);
+    }
+    is_same(&port_kind_of("team"), &InfoPortKind::Team);
+    let other = InfoPortKind::Other(text_of("vrf"));
+    assert_is("Other of vrf", other.tag(), PortTag::Other);
+}
+
+#[test]
+fn kinds_of_tags() {
+    for (name, tag) in KINDS {
+        let kind = InfoKind::from_tag(*tag);
+        assert_is(tag, kind.as_ref().map(|kind| kind.name()), Some(*name));
+    }
+    assert!(InfoKind::from_tag(KindTag::Other).is_none());
+    for (name, tag) in PORT_KINDS {
+        let kind = InfoPortKind::from_tag(*tag);
+        let wanted = (*tag != PortTag::Other).then_some(*name);
+        assert_is(tag, kind.as_ref().map(|kind| kind.name()), wanted);
+    }
+}
+
+/// Attributes, and the names of the kinds that they are read as.
+const KINDS_READ: &[(&[u8], &str)] = &[
+    (&[9, 0, 1, 0, b'x', b'f', b'r', b'm', 0], "xfrm"),
+    (&[8, 0, 1, 0x80, b'p', b'f', b'c', b'p'], "pfcp"),
+    (&[4, 0, 1, 0], ""),
+    (&[5, 0, 1, 0, 0], ""),
+    (&[7, 0, 1, 0, b'a', 0, 0], "a\0"),
+    (&[9, 0, 1, 0, b'v', b'r', b'f', 0, 0], "vrf\0"),
+];
+
+/// Attributes that are no kinds, and their faults.
+const KINDS_REFUSED: &[(&[u8], u16, Cause)] = &[
+    (&[4, 0, 2, 0], 2, Cause::WrongType),
+    (&[6, 0, 4, 0x80, b'x', 0], 4, Cause::WrongType),
+    (&[6, 0, 1, 0, 0xc3, 0x28], 1, Cause::Utf8),
+];
+
+#[test]
+fn kinds_in_attributes() {
+    for (bytes, text) in KINDS_READ {
+        let kind = InfoKind::parse(&attribute(bytes)).expect("a kind");
+        assert!(is_equal(&kind, &kind_of(text)), "{text}");
+    }
+    for (bytes, kind, cause) in KINDS_REFUSED {
+        let read = InfoKind::parse(&attribute(bytes));
+        let refused = fault(Family::LinkInfo, *kind, *cause);
+        assert_is(bytes, read.err(), Some(refused));
+    }
+}
+
+/// Attributes, and the names of the port kinds that they are read as.
+const PORT_KINDS_READ: &[(&[u8], &str)] = &[
+    (&[8, 0, 4, 0, b'v', b'r', b'f', 0], "vrf"),
+    (&[5, 0, 4, 0, b'x'], "x"),
+];
+
+/// Attributes that are no port kinds, and their faults.
+const PORT_KINDS_REFUSED: &[(&[u8], u16, Cause)] = &[
+    (&[4, 0, 1, 0], 1, Cause::WrongType),
+    (&[6, 0, 4, 0, 0xc3, 0x28], 4, Cause::Utf8),
+];
+
+#[test]
+fn port_kinds_in_attributes() {
+    for (bytes, kind, cause) in PORT_KINDS_REFUSED {
+        let read = InfoPortKind::parse(&attribute(bytes));
+        let refused = fault(Family::LinkInfo, *kind, *cause);
+        assert_is(bytes, read.err(), Some(refused));
+    }
+    for (bytes, text) in PORT_KINDS_READ {
+        let kind = InfoPortKind::parse(&attribute(bytes)).expect("a port kind");
+        assert!(is_equal(&kind, &port_kind_of(text)), "{text}");
+    }
+}
+
+#[test]
+fn kinds_as_attributes() {
+    let kind = InfoKind::Pfcp;
+    assert!(kind.fit_len() == Some(5));
+    assert_is(
+        "kind, value_len, buffer_len",
+        (kind.kind(), kind.value_len(), kind.buffer_len()),
+        (1, 5, 12),
+    );
+    let mut value = [255; 5];
+    kind.emit_value(&mut value);
+    assert_is("emit_value", value, [b'p', b'f', b'c', b'p', 0]);
+    let mut buffer = [255; 15];
+    kind.emit(&mut buffer);
+    assert_is(
+        "emit",
+        buffer,
+        [
+            9, 0, 1, 0, b'p', b'f', b'c', b'p', 0, 0, 0, 0, 255, 255, 255,
+        ],
+    );
+}
+
+#[test]
+fn port_kinds_as_attributes() {
+    let kind = InfoPortKind::Other(text_of("x"));
+    assert!(kind.fit_len() == Some(2));
+    assert_is(
+        "kind, value_len, buffer_len",
+        (kind.kind(), kind.value_len(), kind.buffer_len()),
+        (4, 2, 8),
+    );
+    let mut value = [255; 2];
+    kind.emit_value(&mut value);
+    assert_is("emit_value", value, [b'x', 0]);
+    let mut buffer = [255; 9];
+    kind.emit(&mut buffer);
+    assert_is("emit", buffer, [6, 0, 4, 0, b'x', 0, 0, 0, 255]);
+}
+
+/// A name of this many letters.
+fn letters(count: usize) -> String {
+    String::from_utf8(repeated(b'a', count)).expect("letters")
+}
+
+#[test]
+fn longest_names() {
+    let longest = letters(65530);
+    let kind = kind_of(longest.as_str());
+    assert_is("kind", kind.fit_len(), Some(65531));
+    let kind = port_kind_of(longest.as_str());
+    assert_is("port kind", kind.fit_len(), Some(65531));
+    let longer = letters(65531);
+    let kind = kind_of(longer.as_str());
+    assert_is("longer kind", kind.fit_len(), None);
+    let kind = port_kind_of(longer.as_str());
+    assert_is("longer port kind", kind.fit_len(), None);
+}

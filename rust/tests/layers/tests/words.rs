@@ -1,0 +1,146 @@
+//! Texts of values, and values of words.
+
+use super::assertions::{assert_displayed, assert_is, fault};
+use linkinfo::layers::nla_frame::{Cause, DecodeError, Family};
+use linkinfo::layers::numbers::{
+    AmtMode, ErSpanDir, GeneveDf, GreEncapType, GtpRole, IpVlanMode, MacVlanMode, NetkitMode,
+    NetkitPolicy, NetkitScrub, TunnelEncapType, VxlanDf,
+};
+use std::fmt::{Debug, Display};
+use std::str::FromStr;
+
+/// Each value displays as its text.
+fn check_texts<T: Display + Debug>(rows: &[(T, &str)]) {
+    for (value, text) in rows {
+        assert_displayed(value, text);
+    }
+}
+
+/// Texts that name no value.
+const NO_WORDS: &[&str] = &["", "0", "other", "L2", "Gateway", "gateway ", "set\0"];
+
+/// Each named value's text reads back as it, and the other texts are refused.
+fn check_words<T>(family: Family, rows: &[(T, &str)])
+where
+    T: Display + FromStr<Err = DecodeError> + Copy + PartialEq + Debug,
+{
+    check_texts(rows);
+    for (value, text) in rows {
+        assert_is(text, T::from_str(text), Ok(*value));
+    }
+    for text in NO_WORDS {
+        let refused = Err(fault(family, 0, Cause::Word));
+        assert_is(text, T::from_str(text), refused);
+    }
+}
+
+// The values that a word names, and their words.
+
+const AMT_WORDS: &[(AmtMode, &str)] = &[(AmtMode::Gateway, "gateway"), (AmtMode::Relay, "relay")];
+
+const GENEVE_WORDS: &[(GeneveDf, &str)] = &[
+    (GeneveDf::Unset, "unset"),
+    (GeneveDf::Set, "set"),
+    (GeneveDf::Inherit, "inherit"),
+];
+
+const IP_VLAN_WORDS: &[(IpVlanMode, &str)] = &[
+    (IpVlanMode::L2, "l2"),
+    (IpVlanMode::L3, "l3"),
+    (IpVlanMode::L3S, "l3s"),
+];
+
+const MAC_VLAN_WORDS: &[(MacVlanMode, &str)] = &[
+    (MacVlanMode::Private, "private"),
+    (MacVlanMode::Vepa, "vepa"),
+    (MacVlanMode::Bridge, "bridge"),
+    (MacVlanMode::Passthrough, "passthru"),
+    (MacVlanMode::Source, "source"),
+];
+
+const NETKIT_MODE_WORDS: &[(NetkitMode, &str)] = &[(NetkitMode::L2, "l2"), (NetkitMode::L3, "l3")];
+
+const NETKIT_POLICY_WORDS: &[(NetkitPolicy, &str)] = &[
+    (NetkitPolicy::Pass, "forward"),
+    (NetkitPolicy::Drop, "blackhole"),
+    (NetkitPolicy::Redirect, "redirect"),
+];
+
+const NETKIT_SCRUB_WORDS: &[(NetkitScrub, &str)] = &[
+    (NetkitScrub::None, "none"),
+    (NetkitScrub::Default, "default"),
+];
+
+#[test]
+fn words() {
+    check_words(Family::Amt, AMT_WORDS);
+    check_words(Family::Geneve, GENEVE_WORDS);
+    check_words(Family::IpVlan, IP_VLAN_WORDS);
+    check_words(Family::MacVlan, MAC_VLAN_WORDS);
+    check_words(Family::Netkit, NETKIT_MODE_WORDS);
+    check_words(Family::Netkit, NETKIT_POLICY_WORDS);
+    check_words(Family::Netkit, NETKIT_SCRUB_WORDS);
+    let refused = Err(fault(Family::Netkit, 0, Cause::Word));
+    assert_is("l3s", NetkitMode::from_str("l3s"), refused);
+}
+
+// Values and their texts, where no word is read or the text is none.
+
+const AMT_TEXTS: &[(AmtMode, &str)] = &[
+    (AmtMode::Other(2), "2"),
+    (AmtMode::Other(u32::MAX), "4294967295"),
+];
+
+const VXLAN_TEXTS: &[(VxlanDf, &str)] = &[
+    (VxlanDf::Unset, "unset"),
+    (VxlanDf::Set, "set"),
+    (VxlanDf::Inherit, "inherit"),
+    (VxlanDf::Other(3), "3"),
+];
+
+const GTP_TEXTS: &[(GtpRole, &str)] = &[
+    (GtpRole::Ggsn, "ggsn"),
+    (GtpRole::Sgsn, "sgsn"),
+    (GtpRole::Other(9), "unknown(9)"),
+];
+
+const NETKIT_POLICY_TEXTS: &[(NetkitPolicy, &str)] = &[
+    (NetkitPolicy::Forward, "forward"),
+    (NetkitPolicy::Other(1), "1"),
+];
+
+const GRE_ENCAP_TEXTS: &[(GreEncapType, &str)] = &[
+    (GreEncapType::None, "none"),
+    (GreEncapType::Fou, "fou"),
+    (GreEncapType::Gue, "gue"),
+    (GreEncapType::Other(9), "other(9)"),
+];
+
+const TUNNEL_ENCAP_TEXTS: &[(TunnelEncapType, &str)] = &[
+    (TunnelEncapType::None, "none"),
+    (TunnelEncapType::Fou, "fou"),
+    (TunnelEncapType::Gue, "gue"),
+    (TunnelEncapType::Mpls, "mpls"),
+    (TunnelEncapType::Other(9), "9"),
+];
+
+const ER_SPAN_TEXTS: &[(ErSpanDir, &str)] = &[
+    (ErSpanDir::Ingress, "ingress"),
+    (ErSpanDir::Egress, "egress"),
+    (ErSpanDir::Other(2), "other(2)"),
+];
+
+#[test]
+fn texts() {
+    check_texts(AMT_TEXTS);
+    check_texts(VXLAN_TEXTS);
+    check_texts(GTP_TEXTS);
+    check_texts(NETKIT_POLICY_TEXTS);
+    check_texts(GRE_ENCAP_TEXTS);
+    check_texts(TUNNEL_ENCAP_TEXTS);
+    check_texts(ER_SPAN_TEXTS);
+    check_texts(&[(GeneveDf::Other(255), "255")]);
+    check_texts(&[(IpVlanMode::Other(3), "3")]);
+    check_texts(&[(MacVlanMode::Other(3), "3")]);
+    check_texts(&[(NetkitMode::Other(2), "2")]);
+}

@@ -1,0 +1,37 @@
+//! A peer of one's own, by `linkinfo` alone.
+
+use linkinfo::layers::link::{ExactEq, LinkPeer, PeerFault};
+
+/// A peer that is not looked at: every payload means it, and it is written as none.
+#[derive(Clone, Copy, Debug, PartialEq, Eq)]
+pub struct AnyPeer;
+
+impl LinkPeer for AnyPeer {
+    fn read(_payload: &[u8]) -> Result<AnyPeer, PeerFault> {
+        Ok(AnyPeer)
+    }
+
+    fn check(_payload: &[u8]) -> bool {
+        true
+    }
+
+    fn same(_a: &[u8], _b: &[u8]) -> bool {
+        true
+    }
+
+    fn fit_len(&self) -> Option<usize> {
+        Some(0)
+    }
+
+    fn emit(&self, _buffer: &mut [u8]) {}
+
+    fn canonical_len(_payload: &[u8]) -> Option<usize> {
+        Some(0)
+    }
+
+    fn put_canonical(_payload: &[u8], _buffer: &mut [u8]) -> usize {
+        0
+    }
+}
+
+impl ExactEq for AnyPeer {}

@@ -1,0 +1,25 @@
+//! Tests of `linkinfo` and `linkinfo_lines`, by their public calls alone, and a custom peer as a
+//! user of `linkinfo` writes it.
+
+#![allow(
+    unused_imports,
+    clippy::manual_next_back,
+    clippy::manual_range_contains,
+    clippy::type_complexity,
+    reason = "the text is that of the sources' tests"
+)]
+
+#[macro_use]
+#[allow(dead_code, unused_imports, unused_macros)]
+#[path = "../support/mod.rs"]
+mod support;
+#[allow(dead_code, unused_imports, unused_macros)]
+#[path = "../../examples/linkinfo/linkinfo_lines/mod.rs"]
+mod linkinfo_lines;
+
+mod any_peer;
+
+pub use any_peer::AnyPeer;
+
+#[cfg(test)]
+mod tests;

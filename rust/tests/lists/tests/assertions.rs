@@ -1,0 +1,284 @@
+//! What the tests ask of one string or one value.
+
+use crate::support::*;
+use linkinfo::layers::link::{
+    Bytes, CanonError, CanonIntoError, Cause, DecodeError, DefaultNla, Family, HeaderCount,
+    InfoData, InfoKind, LinkInfo, LinkInfoWalk, Nla, Nlas, Text, VecLinkInfo, VecLinkInfoOf, canon,
+    canon_into, check, check_counted, emit_nlas, nlas_buffer_len, nlas_fit_len, same,
+};
+use std::fmt::Debug;
+
+/// Both values are equal: else prints the case, and both of them.
+pub fn assert_equal<C: Debug, T: Debug + PartialEq>(case: &C, found: &T, wanted: &T) {
+    assert_eq!(found, wanted, "{case:?}");
+}
+
+/// The condition holds: else prints the case.
+pub fn assert_holds<C: Debug>(case: &C, holds: bool) {
+    assert!(holds, "{case:?}");
+}
+
+/// The fault of a header that is not accepted.
+pub const HEADER_FAULT: DecodeError = DecodeError {
+    family: Family::Frame,
+    kind: 0,
+    cause: Cause::Header,
+};
+
+/// A fault of an attribute of the list itself.
+pub fn link_fault(kind: u16, cause: Cause) -> DecodeError {
+    DecodeError {
+        family: Family::LinkInfo,
+        kind,
+        cause,
+    }
+}
+
+/// The bytes of a text in hexadecimal digits, between which spaces may stand.
+pub fn bytes_of(text: &str) -> Vec<u8> {
+    let mut bytes = Vec::new();
+    let mut high = None;
+    for character in text.as_bytes() {
+        let digit = match *character {
+            b' ' => continue,
+            b'0'..=b'9' => *character - b'0',
+            b'a'..=b'f' => *character - b'a' + 10,
+            _ => panic!("a digit in {text}"),
+        };
+        match high {
+            None => high = Some(digit << 4),
+            Some(first) => {
+                bytes.try_push(first | digit).expect("memory");
+                high = None;
+            }
+        }
+    }
+    assert!(high.is_none(), "an even number of digits in {text}");
+    bytes
+}
+
+/// Attributes of a family.
+pub fn nlas<T, const N: usize>(items: [T; N]) -> Nlas<T> {
+    Nlas::new(Vec::try_from_array(items).expect("memory"))
+}
+
+/// A copy of the bytes.
+pub fn copied(bytes: &[u8]) -> Bytes {
+    Bytes::copy_of(bytes).expect("memory")
+}
+
+/// A copy of the text.
+pub fn text_of(text: &str) -> Text {
+    Text::copy_of(text).expect("memory")
+}
+
+/// An attribute of a type and a payload, which is kept.
+pub fn default_nla(kind: u16, payload: &[u8]) -> DefaultNla {
+    DefaultNla::new(kind, payload.try_to_vec().expect("memory"))
+}
+
+/// The byte this many times.
+pub fn repeated(byte: u8, count: usize) -> Vec<u8> {
+    try_vec![byte; count].expect("memory")
+}
+
+/// The list that the string is read as.
+pub fn parsed(bytes: &[u8]) -> VecLinkInfo {
+    VecLinkInfo::parse(bytes).expect("a list")
+}
+
+/// A link of a kind with its data.
+pub fn link(kind: InfoKind, data: InfoData) -> [LinkInfo; 2] {
+    [LinkInfo::Kind(kind), LinkInfo::Data(data)]
+}
+
+/// A list of these attributes.
+pub fn list_of<const N: usize>(items: [LinkInfo; N]) -> VecLinkInfo {
+    VecLinkInfoOf(nlas(items))
+}
+
+/// The buffer begins with the string, and the three bytes behind it are 255, as they were.
+fn assert_written(buffer: &[u8], string: &[u8]) {
+    let len = string.len();
+    assert_equal(&string, &buffer.get(..len), &Some(string));
+    assert_equal(&string, &buffer.get(len..), &Some([255; 3].as_slice()));
+}
+
+/// The list is emitted as the string into a longer buffer, whose last three bytes stay.
+pub fn assert_emitted<T: Nla>(items: &[T], string: &[u8]) {
+    let fit = nlas_fit_len(items).expect("a list that fits");
+    let len = nlas_buffer_len(items);
+    assert_equal(&string, &fit, &string.len());
+    assert_equal(&string, &len, &string.len());
+    assert!(len <= 100_000);
+    let mut buffer = try_vec![255u8; len + 3].expect("memory");
+    emit_nlas(items, &mut buffer);
+    assert_written(&buffer, string);
+}
+
+/// The list of these attributes is emitted as the string.
+pub fn assert_built<const N: usize>(items: [LinkInfo; N], string: &[u8]) {
+    assert_emitted(items.as_slice(), string);
+}
+
+/// Whether the strings are read as equal lists.
+pub fn reads_equal(a: &[u8], b: &[u8]) -> bool {
+    let first = parsed(a);
+    let second = parsed(b);
+    first == second
+}
+
+/// The string is read as the list of these attributes.
+pub fn assert_read_as<const N: usize>(bytes: &[u8], items: [LinkInfo; N]) {
+    assert_read(bytes, &list_of(items));
+}
+
+/// The canonical string of the bytes is refused to a buffer of this many bytes, which stays as it
+/// was.
+pub fn assert_not_written(bytes: &[u8], room: usize, refused: CanonIntoError) {
+    let mut buffer = repeated(255, room);
+    let case = (bytes, room);
+    assert_equal(&case, &canon_into(bytes, &mut buffer), &Err(refused));
+    assert_equal(&case, &buffer, &repeated(255, room));
+}
+
+/// The bytes are written as the canonical string into every buffer that has room for it, which
+/// keeps what stands behind, and into none that is shorter.
+pub fn assert_canon_into(bytes: &[u8], canonical: &[u8]) {
+    let len = canonical.len();
+    for room in 0..len {
+        assert_not_written(bytes, room, CanonIntoError::Short(len));
+    }
+    let mut exact = repeated(255, len);
+    assert_equal(&bytes, &canon_into(bytes, &mut exact), &Ok(len));
+    assert_equal(&bytes, &exact.as_slice(), &canonical);
+    assert!(len <= 100_000);
+    let mut longer = repeated(255, len + 3);
+    assert_equal(&bytes, &canon_into(bytes, &mut longer), &Ok(len));
+    assert_written(&longer, canonical);
+}
+
+/// The bytes are accepted, are the same as the canonical string in either order, and are made that
+/// string in one call.
+fn assert_accepted(bytes: &[u8], canonical: &[u8]) {
+    let string = canon(bytes).expect("a canonical string");
+    assert_equal(&bytes, &check(bytes), &Ok(()));
+    assert_equal(&bytes, &same(bytes, canonical), &Ok(true));
+    assert_equal(&bytes, &same(canonical, bytes), &Ok(true));
+    assert_equal(&bytes, &string.as_slice(), &canonical);
+}
+
+/// The list that the string is read as, where headers are counted.
+fn parsed_counted(bytes: &[u8]) -> VecLinkInfo {
+    let mut count = HeaderCount::new();
+    VecLinkInfo::parse_counted(bytes, &mut count).expect("a list")
+}
+
+/// A walk gives each attribute of the list in order, at its place, and ends where the bytes do.
+fn assert_walked(bytes: &[u8], list: &VecLinkInfo) {
+    let mut walk = LinkInfoWalk::new(bytes);
+    for item in list.iter() {
+        let Some(Ok(found)) = walk.next() else {
+            panic!("an attribute");
+        };
+        assert_equal(&bytes, &(found.raw_kind & 0x3fff), &(item.kind() & 0x3fff));
+        let behind = bytes.get(found.place..).unwrap_or_default();
+        let payload = behind.get(4..4 + found.value.len());
+        assert_equal(&bytes, &payload, &Some(found.value));
+    }
+    assert_holds(&bytes, walk.next().is_none());
+    assert_equal(&bytes, &walk.place(), &bytes.len());
+}
+
+/// The bytes are read as the list, whether headers are counted or not.
+fn assert_read(bytes: &[u8], wanted: &VecLinkInfo) {
+    assert_holds(&bytes, parsed(bytes) == *wanted);
+    assert_holds(&bytes, parsed_counted(bytes) == *wanted);
+    assert_walked(bytes, wanted);
+}
+
+/// The string is read as the list, and the list is emitted as its canonical string, which reads as
+/// the same list.
+fn assert_list(text: &str, list: &VecLinkInfo, canonical: &str) {
+    let string = bytes_of(canonical);
+    let bytes = bytes_of(text);
+    assert_emitted(list.as_slice(), &string);
+    assert_read(&bytes, list);
+    assert_read(&string, list);
+    assert_accepted(&bytes, &string);
+    assert_accepted(&string, &string);
+    assert_canon_into(&bytes, &string);
+    assert_canon_into(&string, &string);
+}
+
+/// The string is read as the list of these attributes, which is emitted as its canonical string.
+pub fn assert_reads<const N: usize>(text: &str, items: [LinkInfo; N], canonical: &str) {
+    assert_list(text, &list_of(items), canonical);
+}
+
+/// The string is read as the value, written as `Debug` writes it, which is emitted as the canonical
+/// string.
+pub fn assert_value(text: &str, canonical: &str, value: &str) {
+    let read = parsed(&bytes_of(text));
+    let written = try_format!("{:?}", read.as_slice()).expect("memory");
+    assert_equal(&text, &written.as_str(), &value);
+    assert_list(text, &read, canonical);
+}
+
+/// The string is refused with this fault by every call.
+pub fn assert_refused(bytes: &[u8], fault: DecodeError) {
+    let read = VecLinkInfo::parse(bytes).err();
+    let rewritten = canon(bytes).err();
+    assert_equal(&bytes, &check(bytes), &Err(fault));
+    assert_equal(&bytes, &read, &Some(fault));
+    assert_equal(&bytes, &same(bytes, &[]), &Err(fault));
+    assert_equal(&bytes, &same(&[], bytes), &Err(fault));
+    assert_equal(&bytes, &rewritten, &Some(CanonError::Refused(fault)));
+    assert_not_written(bytes, 0, CanonIntoError::Refused(fault));
+    assert_not_written(bytes, 100, CanonIntoError::Refused(fault));
+}
+
+/// Checking and reading the string each look at this many headers, and answer this fault or none.
+pub fn assert_headers(bytes: &[u8], fault: Option<DecodeError>, headers: usize) {
+    let mut checking = HeaderCount::new();
+    let checked = check_counted(bytes, &mut checking);
+    let mut reading = HeaderCount::new();
+    let read = VecLinkInfo::parse_counted(bytes, &mut reading);
+    assert_equal(&bytes, &checked.err(), &fault);
+    assert_equal(&bytes, &read.err(), &fault);
+    assert_equal(&bytes, &checking.get(), &headers);
+    assert_equal(&bytes, &reading.get(), &headers);
+}
+
+/// The payload of the attribute is emitted by itself as what stands behind the header of the
+/// string.
+fn assert_payload<T: Nla>(value: &T, string: &[u8]) {
+    let len = value.fit_len().expect("a value that fits");
+    assert!(len <= 65_531);
+    let mut buffer = try_vec![255u8; len].expect("memory");
+    let payload_len = value.value_len();
+    value.emit_value(&mut buffer);
+    assert_equal(&string, &payload_len, &len);
+    assert_equal(&string, &string.get(4..4 + len), &Some(buffer.as_slice()));
+    let mut longer = try_vec![255u8; len + 3].expect("memory");
+    let taken = value.emit_payload(&mut longer);
+    assert_equal(&string, &taken, &len);
+    assert_written(&longer, &buffer);
+}
+
+/// The attribute is emitted as the string, with its type, and its payload by itself.
+pub fn assert_attribute<T: Nla>(value: &T, string: &[u8]) {
+    assert_payload(value, string);
+    assert!(value.fit_len().is_some());
+    let len = value.buffer_len();
+    assert_equal(&string, &len, &string.len());
+    assert_equal(
+        &string,
+        &string.get(2..4),
+        &Some(value.kind().to_le_bytes().as_slice()),
+    );
+    assert!(len <= 100_000);
+    let mut buffer = try_vec![255u8; len + 3].expect("memory");
+    value.emit(&mut buffer);
+    assert_written(&buffer, string);
+}

@@ -1,0 +1,59 @@
+//! How many headers are looked at.
+
+use super::assertions::{assert_equal, assert_headers, bytes_of};
+use super::worked::{
+    DATA_TWICE, FIRST_FAULT, PFCP, PFCP_NO_NUL, SECOND_PORT_DATA, VETH_TAIL, XFRM,
+};
+use linkinfo::layers::link::{Cause, DecodeError, Family, HeaderCount, same_counted};
+
+/// The fault of port data that no port kind stands before.
+const ORDER: DecodeError = DecodeError {
+    family: Family::LinkInfo,
+    kind: 5,
+    cause: Cause::Order,
+};
+
+/// The fault of a table number of one byte.
+const LENGTH: DecodeError = DecodeError {
+    family: Family::Vrf,
+    kind: 1,
+    cause: Cause::Length,
+};
+
+/// Strings with their faults, how many headers are looked at, and a quarter of their bytes.
+const ONE: &[(&str, Option<DecodeError>, usize, usize)] = &[
+    ("", None, 0, 0),
+    (XFRM, None, 4, 8),
+    (DATA_TWICE, None, 4, 7),
+    (VETH_TAIL, None, 3, 7),
+    (SECOND_PORT_DATA, Some(ORDER), 3, 4),
+    (FIRST_FAULT, Some(LENGTH), 3, 5),
+];
+
+#[test]
+fn counts_of_one_string() {
+    for (text, fault, headers, quarter) in ONE {
+        let bytes = bytes_of(text);
+        assert_equal(text, &(bytes.len() / 4), quarter);
+        assert_headers(&bytes, *fault, *headers);
+    }
+}
+
+/// Two strings, whether they are the same or the fault, and how many headers are looked at.
+const TWO: &[(&str, &str, Result<bool, DecodeError>, usize)] = &[
+    (PFCP_NO_NUL, PFCP, Ok(true), 4),
+    (XFRM, SECOND_PORT_DATA, Err(ORDER), 7),
+    (SECOND_PORT_DATA, XFRM, Err(ORDER), 3),
+];
+
+#[test]
+fn counts_of_two_strings() {
+    for (a, b, wanted, headers) in TWO {
+        let first = bytes_of(a);
+        let second = bytes_of(b);
+        let mut count = HeaderCount::new();
+        let answer = same_counted(&first, &second, &mut count);
+        assert_equal(&(a, b), &answer, wanted);
+        assert_equal(&(a, b), &count.get(), headers);
+    }
+}

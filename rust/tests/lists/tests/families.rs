@@ -1,0 +1,102 @@
+//! Which family the data of a kind has, and payloads read, checked and compared by it.
+
+use super::assertions::{assert_equal, assert_holds, nlas};
+use linkinfo::layers::link::{
+    Cause, DataFamily, DecodeError, DeviceFamily, Family, HeaderCount, InfoData, InfoPortData,
+    InfoVrf, KindTag, LowerFamily, PayloadFamily, PeeredFamily, PortFamily, PortTag, TunnelFamily,
+    family_of, port_family_of,
+};
+
+/// Kinds, with the families of their data.
+const FAMILIES: &[(KindTag, DataFamily)] = &[
+    (KindTag::Bond, DataFamily::Lower(LowerFamily::Bond)),
+    (KindTag::Vrf, DataFamily::Device(DeviceFamily::Vrf)),
+    (KindTag::Vti6, DataFamily::Tunnel(TunnelFamily::Vti)),
+    (
+        KindTag::SitTun,
+        DataFamily::Tunnel(TunnelFamily::IpTunnel(KindTag::SitTun)),
+    ),
+    (KindTag::Pfcp, DataFamily::Peered(PeeredFamily::Pfcp)),
+    (KindTag::Dummy, DataFamily::Raw),
+    (KindTag::Other, DataFamily::Raw),
+];
+
+/// Port kinds, with the families of their data.
+const PORT_FAMILIES: &[(PortTag, PortFamily)] = &[
+    (PortTag::Bond, PortFamily::Bond),
+    (PortTag::Bridge, PortFamily::Bridge),
+    (PortTag::Vrf, PortFamily::Vrf),
+    (PortTag::Team, PortFamily::Team),
+    (PortTag::Other, PortFamily::Raw),
+];
+
+#[test]
+fn kinds_have_families() {
+    for (tag, family) in FAMILIES {
+        assert_equal(tag, &family_of(*tag), family);
+    }
+    for (tag, family) in PORT_FAMILIES {
+        assert_equal(tag, &port_family_of(*tag), family);
+    }
+}
+
+/// The table 5 of a vrf.
+const TABLE: [u8; 8] = [8, 0, 1, 0, 5, 0, 0, 0];
+
+/// The same with a flag bit in its type.
+const MARKED: [u8; 8] = [8, 0, 1, 0x80, 5, 0, 0, 0];
+
+/// Another table.
+const OTHER_TABLE: [u8; 8] = [8, 0, 1, 0, 6, 0, 0, 0];
+
+/// A table of one byte.
+const SHORT: [u8; 5] = [5, 0, 1, 0, 5];
+
+/// The payload is accepted by the family.
+fn accepts<D, F: PayloadFamily<D>>(family: F, payload: &[u8]) {
+    assert!(payload.len() < 1000);
+    let mut count = HeaderCount::new();
+    let checked = PayloadFamily::<D>::check(family, payload, &mut count);
+    assert!(checked.is_ok());
+}
+
+/// Whether two accepted payloads mean the same by the family, with the headers that were looked at
+/// for the answer.
+fn are_same<D, F: PayloadFamily<D>>(family: F, a: &[u8], b: &[u8]) -> (bool, usize) {
+    accepts::<D, F>(family, a);
+    accepts::<D, F>(family, b);
+    let mut count = HeaderCount::new();
+    let same = PayloadFamily::<D>::same(family, a, b, &mut count);
+    (same, count.get())
+}
+
+/// `TABLE` is read as the data by the family of vrf, the same as `MARKED` and no other, and a table
+/// of one byte is refused.
+fn has_tables<D: PartialEq, F: PayloadFamily<D>>(family: F, data: D) {
+    let mut count = HeaderCount::new();
+    let read = PayloadFamily::<D>::read(family, &TABLE, &mut count).expect("data");
+    assert_holds(&TABLE, read == data);
+    assert_equal(&TABLE, &count.get(), &1);
+    let (same, headers) = are_same::<D, F>(family, &TABLE, &MARKED);
+    assert_holds(&MARKED, same);
+    assert_equal(&MARKED, &headers, &2);
+    let (same, _) = are_same::<D, F>(family, &TABLE, &OTHER_TABLE);
+    assert_holds(&OTHER_TABLE, !same);
+    let fault = DecodeError {
+        family: Family::Vrf,
+        kind: 1,
+        cause: Cause::Length,
+    };
+    let mut count = HeaderCount::new();
+    let checked = PayloadFamily::<D>::check(family, &SHORT, &mut count);
+    assert_equal(&SHORT, &checked, &Err(fault));
+    assert_equal(&SHORT, &count.get(), &1);
+}
+
+#[test]
+fn payloads_of_families() {
+    let data = InfoData::Vrf(nlas([InfoVrf::TableId(5)]));
+    has_tables(family_of(KindTag::Vrf), data);
+    let data = InfoPortData::VrfPort(nlas([InfoVrf::TableId(5)]));
+    has_tables(port_family_of(PortTag::Vrf), data);
+}

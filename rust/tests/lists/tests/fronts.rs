@@ -1,0 +1,159 @@
+//! Every front of every worked string: `check` and `parse` agree, and an accepted front is the same
+//! as itself.
+
+use super::assertions::{HEADER_FAULT, assert_equal, assert_holds, bytes_of};
+use super::worked::{
+    BAREUDP, BATADV, BOND_PORT, DATA_TWICE, EMPTY_NAME, FIRST_FAULT, GTP, IP6TNL_SHORT_FLAGS,
+    IPIP_FLAGS, IPOIB, IPVLAN, IPVLAN_NO_FLAGS, IPVTAP, LATER_KIND, MACVLAN_LIST,
+    MACVLAN_SHORT_LIST, NETKIT_SCRUB, NETKIT_SCRUB_DEFAULT, OTHER_PORT, PFCP, PFCP_ATTRIBUTE,
+    PFCP_EMPTY, PFCP_MARKED, PFCP_NO_NUL, PFCP_NOT_FRAMED, PFCP_SHORT, SECOND_PORT_DATA, SIT_FLAGS,
+    VETH, VETH_EMPTY, VETH_TAIL, VTI6, XFRM, XSTATS,
+};
+use linkinfo::layers::link::{
+    BitPeer, Cause, DecodeError, Family, HeaderCount, VecLinkInfo, VecLinkInfoOf, check, check_of,
+    same, same_of,
+};
+
+/// Lists and single attributes.
+const STRINGS: &[&str] = &[
+    XFRM,
+    GTP,
+    BAREUDP,
+    PFCP_NO_NUL,
+    PFCP,
+    "08000200 00000000",
+    "04000300",
+    SECOND_PORT_DATA,
+    DATA_TWICE,
+    LATER_KIND,
+    VETH_TAIL,
+    VETH_EMPTY,
+    NETKIT_SCRUB,
+    "04001c00",
+    "05001c00 00000000",
+    "05000700 02000000",
+    "05000700 01000000",
+    "08000a00 00020001",
+    "05000a00 02000000",
+    "10000500 0a000400 02000000 00010000",
+    "0e000500 0a000400 02000000 0001",
+    "08000900 ffffffff",
+    "04000980",
+    "04000900",
+    "09000180 7866726d 00000000",
+    "09000100 7866726d 00000000",
+    "080001",
+    "03000100",
+    "09000100 7866726d",
+    "04000900 00",
+    "06000100 c328",
+    FIRST_FAULT,
+    "05000300 07000000",
+    "08000300 07000000",
+    "06000800 05000000",
+    "14000200 00000000 00000000 00000000 00000000",
+    "06000200 01020000",
+    "0c000200 01000000 ff000000",
+    "0d000200 01020304 05060708 09",
+    "0e000100 4241544d 414e5f49 56000000",
+    "0f000100 4241544d 414e5f49 56000000",
+    EMPTY_NAME,
+    "05000100 00000000",
+    XSTATS,
+    "08000100 76726600 04000200",
+    "06000800 00100000",
+    "04000200",
+    IPVTAP,
+    IPVLAN,
+    IPVLAN_NO_FLAGS,
+    IPOIB,
+    BATADV,
+    IPIP_FLAGS,
+    SIT_FLAGS,
+    IP6TNL_SHORT_FLAGS,
+    VETH,
+    NETKIT_SCRUB_DEFAULT,
+    OTHER_PORT,
+    "06000400 78000000 05000500 07000000",
+    BOND_PORT,
+    VTI6,
+    MACVLAN_LIST,
+    MACVLAN_SHORT_LIST,
+    PFCP_NOT_FRAMED,
+    PFCP_MARKED,
+    PFCP_SHORT,
+    PFCP_ATTRIBUTE,
+    PFCP_EMPTY,
+];
+
+/// `check` and `parse` agree on each front, and so does `same` of the front with itself.
+pub fn assert_fronts(bytes: &[u8]) {
+    for end in 0..=bytes.len() {
+        let front = &bytes[..end];
+        let fault = VecLinkInfo::parse(front).err();
+        let wanted = match fault {
+            None => Ok(true),
+            Some(fault) => Err(fault),
+        };
+        assert_equal(&front, &check(front).err(), &fault);
+        assert_equal(&front, &same(front, front), &wanted);
+    }
+}
+
+#[test]
+fn every_front() {
+    for text in STRINGS {
+        let bytes = bytes_of(text);
+        assert_fronts(&bytes);
+    }
+}
+
+/// Links with peers, each of a kind and data: the string, the length of the kind without its
+/// padding, and the fault where peers are bits.
+const PEERS: &[(&str, usize, Option<DecodeError>)] = &[
+    ("09000100 76657468 00000000 09000200 05000100 07", 9, None),
+    ("0a000100 76786361 6e000000 09000200 05000100 07", 10, None),
+    (
+        "0b000100 6e65746b 69740000 1c000200 05000100 07000000 05000200 00000000 05000100 00000000",
+        11,
+        None,
+    ),
+    (
+        VETH_TAIL,
+        9,
+        Some(DecodeError {
+            family: Family::Veth,
+            kind: 1,
+            cause: Cause::Peer,
+        }),
+    ),
+];
+
+/// The front is refused with this fault, or accepted, by each call whose peers are bits.
+fn assert_front_of_bits(front: &[u8], fault: Option<DecodeError>) {
+    let mut count = HeaderCount::new();
+    let read = VecLinkInfoOf::<BitPeer>::parse_counted(front, &mut count).err();
+    let compared = same_of::<BitPeer>(front, front);
+    assert_equal(&front, &check_of::<BitPeer>(front).err(), &fault);
+    assert_equal(&front, &read, &fault);
+    assert_equal(&front, &compared.err(), &fault);
+    assert_holds(&front, compared != Ok(false));
+}
+
+#[test]
+fn every_front_of_bits() {
+    for (text, kind_len, fault) in PEERS {
+        let bytes = bytes_of(text);
+        for end in 0..=bytes.len() {
+            // A whole attribute may lack the padding behind it.
+            let wanted = if end == bytes.len() {
+                *fault
+            } else if end == 0 || (*kind_len..=12).contains(&end) {
+                None
+            } else {
+                Some(HEADER_FAULT)
+            };
+            assert_front_of_bits(&bytes[..end], wanted);
+        }
+    }
+}

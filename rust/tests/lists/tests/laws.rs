@@ -1,0 +1,100 @@
+//! What holds of headers, tags and data.
+
+use super::assertions::{
+    HEADER_FAULT, assert_equal, assert_headers, assert_holds, assert_value, bytes_of,
+};
+use super::worked::{
+    DATA_TWICE, FIRST_FAULT, LATER_KIND, PFCP_NO_NUL, PFCP_NOT_FRAMED, SECOND_PORT_DATA, XFRM,
+};
+use linkinfo::layers::link::{
+    BitPeer, Cause, DecodeError, Family, KindTag, LinkInfoWalk, PortTag, check, check_of,
+};
+
+/// The fault of a table number of one byte.
+const LENGTH_FAULT: DecodeError = DecodeError {
+    family: Family::Vrf,
+    kind: 1,
+    cause: Cause::Length,
+};
+
+/// Strings, their faults, and how many headers are looked at.
+const FRAMED: &[(&str, Option<DecodeError>, usize)] = &[
+    (XFRM, None, 4),
+    (FIRST_FAULT, Some(LENGTH_FAULT), 3),
+    ("080001", Some(HEADER_FAULT), 0),
+];
+
+#[test]
+fn strings_are_framed() {
+    for (text, fault, headers) in FRAMED {
+        let bytes = bytes_of(text);
+        assert_headers(&bytes, *fault, *headers);
+    }
+}
+
+/// The tags of the items of a walk, which goes on to its end or to a fault behind them.
+fn assert_tags(bytes: &[u8], tags: &[(Option<KindTag>, Option<PortTag>)]) {
+    let mut walk = LinkInfoWalk::new(bytes);
+    for wanted in tags {
+        let Some(Ok(item)) = walk.next() else {
+            panic!("an item under {wanted:?}");
+        };
+        assert_equal(&bytes, &(item.kind_tag, item.port_tag), wanted);
+    }
+    let further = matches!(walk.next(), Some(Ok(_)));
+    assert_holds(&bytes, !further);
+}
+
+#[test]
+fn tags_are_those_of_the_last_names() {
+    let later = bytes_of(LATER_KIND);
+    let tags = [
+        (None, None),
+        (Some(KindTag::Vrf), None),
+        (Some(KindTag::Xfrm), None),
+    ];
+    assert_tags(&later, &tags);
+    let ports = bytes_of(SECOND_PORT_DATA);
+    assert_tags(&ports, &[(None, None), (None, Some(PortTag::Vrf))]);
+}
+
+#[test]
+fn items_are_equal_wherever_they_are() {
+    let bytes = bytes_of(DATA_TWICE);
+    let copy = bytes_of(DATA_TWICE);
+    let mut walk = LinkInfoWalk::new(&bytes);
+    let mut other = LinkInfoWalk::new(&copy);
+    let first = walk.next();
+    assert_holds(&"the first of each", first == other.next());
+    assert_holds(&"the first and the second", first != other.next());
+}
+
+#[test]
+fn no_string_means_want_of_memory() {
+    for (text, fault, _) in FRAMED {
+        let bytes = bytes_of(text);
+        assert_equal(text, &check_of::<BitPeer>(&bytes).err(), fault);
+    }
+}
+
+/// Strings with pfcp and without, and their faults.
+const BY_PFCP: &[(&str, Option<DecodeError>)] = &[
+    (PFCP_NO_NUL, None),
+    (XFRM, None),
+    (PFCP_NOT_FRAMED, Some(HEADER_FAULT)),
+];
+
+#[test]
+fn data_under_pfcp_changed_alone() {
+    for (text, fault) in BY_PFCP {
+        let bytes = bytes_of(text);
+        assert_equal(text, &check(&bytes).err(), fault);
+    }
+}
+
+#[test]
+fn unknown_attributes_are_kept() {
+    let text = "05000980 07000000";
+    let value = "[Other(DefaultNla { kind: 32777, value: Bytes { bytes: [7] } })]";
+    assert_value(text, text, value);
+}

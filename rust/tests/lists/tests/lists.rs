@@ -1,0 +1,110 @@
+//! Lists that are read and emitted.
+
+use super::assertions::{
+    assert_built, assert_equal, assert_holds, assert_reads, bytes_of, link, list_of, nlas, parsed,
+};
+use super::worked::{EMPTY_NAME, LATER_KIND, OTHER_PORT, PORT_DATA, VETH, XFRM, XSTATS};
+use crate::support::*;
+use linkinfo::layers::link::{
+    InfoData, InfoKind, InfoXfrm, LinkInfo, Nla, Nlas, VecLinkInfo, nlas_fit_len,
+};
+
+#[test]
+fn the_empty_list_fits() {
+    let none: [LinkInfo; 0] = [];
+    assert_equal(&"the empty list", &nlas_fit_len(&none), &Some(0));
+}
+
+#[test]
+fn emits_what_is_not_well_formed() {
+    let text = "08000100 76726600 04000200";
+    // A vrf link with data of an xfrm link.
+    let string = bytes_of(text);
+    let other = link(InfoKind::Vrf, InfoData::Xfrm(Nlas::new(Vec::new())));
+    assert_built(other, &string);
+    let own = link(InfoKind::Vrf, InfoData::Vrf(Nlas::new(Vec::new())));
+    assert_reads(text, own, text);
+}
+
+/// A clone of what the string is read as is equal to it.
+fn assert_clones(text: &str) {
+    let list = parsed(&bytes_of(text));
+    assert_holds(&text, list.try_clone().expect("memory") == list);
+}
+
+/// A string of each sort of attribute.
+const CLONED: &[&str] = &[
+    XFRM, VETH, XSTATS, OTHER_PORT, PORT_DATA, EMPTY_NAME, "04000980",
+];
+
+#[test]
+fn clones_are_equal() {
+    for text in CLONED {
+        assert_clones(text);
+    }
+}
+
+/// The list is written for debugging as this text.
+fn assert_displays(list: VecLinkInfo, wanted: &str) {
+    let text = try_format!("{list:?}").expect("memory");
+    assert_equal(&"as text", &text.as_str(), &wanted);
+}
+
+#[test]
+fn lists_display_for_debugging() {
+    let list = list_of([LinkInfo::Kind(InfoKind::Pfcp)]);
+    let wanted = "VecLinkInfoOf(Nlas { items: [Kind(Pfcp)] })";
+    assert_displays(list, wanted);
+}
+
+/// The list is written in one call as these bytes.
+fn assert_written(list: VecLinkInfo, text: &str) {
+    let written = list.try_to_vec().expect("a string");
+    let wanted = bytes_of(text);
+    assert_equal(&text, &written, &wanted);
+}
+
+#[test]
+fn writes_a_list_in_one_call() {
+    let data = InfoData::Xfrm(nlas([InfoXfrm::Link(2), InfoXfrm::IfId(10)]));
+    let xfrm = list_of(link(InfoKind::Xfrm, data));
+    assert_written(xfrm, XFRM);
+    assert_written(VecLinkInfo::from(Vec::new()), "");
+}
+
+/// The types of the attributes of the list, in order.
+fn assert_types(list: &VecLinkInfo, wanted: &[u16]) {
+    let mut types = Vec::new();
+    for item in list {
+        types.try_push(item.kind()).expect("memory");
+    }
+    let ends = list.iter().rev().next() == list.as_slice().last();
+    assert_equal(&wanted, &types.as_slice(), &wanted);
+    assert_equal(&wanted, &list.len(), &wanted.len());
+    assert_equal(&wanted, &list.is_empty(), &wanted.is_empty());
+    assert_holds(&wanted, ends);
+}
+
+/// The list of the attributes that a list gives.
+fn collected(list: VecLinkInfo) -> VecLinkInfo {
+    let mut items = Vec::new();
+    for item in list {
+        items.try_push(item).expect("memory");
+    }
+    VecLinkInfo::from(items)
+}
+
+/// The attributes that the list of the string gives by reference and by value, and their number.
+fn assert_gone_over(text: &str, types: &[u16]) {
+    let list = parsed(&bytes_of(text));
+    assert_types(&list, types);
+    let items = collected(list.try_clone().expect("memory"));
+    assert_holds(&text, items == list);
+    assert_equal(&text, &list.into_vec().len(), &types.len());
+}
+
+#[test]
+fn goes_over_a_list() {
+    assert_gone_over(LATER_KIND, &[1, 1, 2]);
+    assert_gone_over("", &[]);
+}

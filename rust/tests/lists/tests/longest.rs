@@ -1,0 +1,99 @@
+//! Values as long as one attribute holds, and longer ones.
+
+use super::assertions::{
+    HEADER_FAULT, assert_attribute, assert_built, assert_equal, assert_not_written, assert_read_as,
+    assert_refused, parsed, repeated,
+};
+use super::fronts::assert_fronts;
+use crate::support::*;
+use linkinfo::layers::link::{
+    CanonError, CanonIntoError, DefaultNla, InfoKind, LinkInfo, Nla, Text, ToVecError, canon,
+    check, nlas_fit_len, same,
+};
+
+/// A header of four bytes, and this many letters `a`.
+fn letters_behind(header: [u8; 4], count: usize) -> Vec<u8> {
+    let mut bytes = Vec::try_from_array(header).expect("memory");
+    let letters = repeated(b'a', count);
+    bytes.try_extend_from_slice(&letters).expect("memory");
+    bytes
+}
+
+/// The kind whose name is this many letters `a`.
+fn kind_of_letters(count: usize) -> InfoKind {
+    let mut name = String::new();
+    for _ in 0..count {
+        name.try_push('a').expect("memory");
+    }
+    InfoKind::Other(Text::new(name))
+}
+
+/// The list of the kind whose name is this many letters `a`.
+fn list_of_letters(count: usize) -> [LinkInfo; 1] {
+    [LinkInfo::Kind(kind_of_letters(count))]
+}
+
+#[test]
+fn longest_name() {
+    let mut string = letters_behind([255, 255, 1, 0], 65530);
+    let unclosed = letters_behind([254, 255, 1, 0], 65530);
+    string.try_push(0).expect("memory");
+    assert_equal(&"the longest", &string.len(), &65535);
+    assert_equal(&"without NUL", &same(&string, &unclosed), &Ok(true));
+    assert_read_as(&string, list_of_letters(65530));
+    assert_read_as(&unclosed, list_of_letters(65530));
+    string.try_push(0).expect("memory");
+    assert_equal(&"padded", &string.len(), &65536);
+    assert_kind(kind_of_letters(65530), &string);
+    assert_built(list_of_letters(65530), &string);
+}
+
+/// The kind has 65531 bytes, and is emitted as the string.
+fn assert_kind(kind: InfoKind, string: &[u8]) {
+    assert_equal(&"the kind", &kind.fit_len(), &Some(65531));
+    assert_attribute(&kind, string);
+}
+
+/// How long a kind whose name is this many letters is written, where it fits.
+fn len_of_letters(count: usize) -> Option<usize> {
+    kind_of_letters(count).fit_len()
+}
+
+/// The list of the string does not fit.
+fn assert_unfit(string: &[u8]) {
+    let read = parsed(string);
+    let case = "a list that does not fit";
+    assert_equal(&case, &nlas_fit_len(read.as_slice()), &None);
+    assert_equal(&case, &read.try_to_vec().err(), &Some(ToVecError::Unfit));
+    assert_equal(&case, &canon(string).err(), &Some(CanonError::Unfit));
+    assert_not_written(string, 0, CanonIntoError::Unfit);
+    assert_not_written(string, 70_000, CanonIntoError::Unfit);
+}
+
+#[test]
+fn name_that_does_not_fit() {
+    let case = "65531 letters";
+    assert_equal(&case, &len_of_letters(65531), &None);
+    let string = letters_behind([255, 255, 1, 0], 65531);
+    assert_equal(&case, &check(&string), &Ok(()));
+    assert_equal(&case, &same(&string, &string), &Ok(true));
+    assert_unfit(&string);
+    assert_read_as(&string, list_of_letters(65531));
+    assert_fronts(&string);
+}
+
+/// The list of an attribute of type 9 with this many letters `a`.
+fn unknown_of_letters(count: usize) -> [LinkInfo; 1] {
+    let kept = DefaultNla::new(9, repeated(b'a', count));
+    [LinkInfo::Other(kept)]
+}
+
+#[test]
+fn longest_unknown_attribute() {
+    let mut string = letters_behind([255, 255, 9, 0], 65530);
+    assert_refused(&string, HEADER_FAULT);
+    string.try_push(b'a').expect("memory");
+    assert_read_as(&string, unknown_of_letters(65531));
+    string.try_push(0).expect("memory");
+    assert_built(unknown_of_letters(65531), &string);
+}

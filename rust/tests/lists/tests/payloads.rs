@@ -1,0 +1,136 @@
+//! Data, port data and statistics read by themselves.
+
+use super::assertions::{
+    HEADER_FAULT, assert_equal, assert_holds, copied, default_nla, nlas, text_of,
+};
+use crate::support::*;
+use linkinfo::layers::link::{
+    BitPeer, Bytes, Cause, DecodeError, Emitable, Family, InfoData, InfoDataOf, InfoKind,
+    InfoPortData, InfoPortKind, InfoVeth, InfoVethOf, InfoVrf, InfoXfrm, LinkXstats, NlaBuffer,
+    Nlas, ParseableParametrized, is_equal,
+};
+
+/// An attribute of type 1 of four bytes, and one of type 2.
+const TWO: [u8; 16] = [8, 0, 1, 0, 2, 0, 0, 0, 8, 0, 2, 0, 10, 0, 0, 0];
+
+/// The fault of a payload of another length.
+fn length_fault(family: Family) -> DecodeError {
+    DecodeError {
+        family,
+        kind: 1,
+        cause: Cause::Length,
+    }
+}
+
+/// A payload read as data of a kind.
+fn read_data(payload: &[u8], kind: &InfoKind) -> Result<InfoData, DecodeError> {
+    InfoData::parse_with_param(payload, kind)
+}
+
+/// A payload read as data of a port kind.
+fn read_port_data(payload: &[u8], kind: &InfoPortKind) -> Result<InfoPortData, DecodeError> {
+    InfoPortData::parse_with_param(payload, kind)
+}
+
+/// A payload is read as this data of a link of the kind.
+fn assert_data(payload: &[u8], kind: InfoKind, data: InfoData) {
+    let read = read_data(payload, &kind).expect("data");
+    assert_holds(&payload, read == data);
+}
+
+#[test]
+fn data_of_families() {
+    let xfrm = InfoData::Xfrm(nlas([InfoXfrm::Link(2), InfoXfrm::IfId(10)]));
+    assert_data(&TWO, InfoKind::Xfrm, xfrm);
+    // The second attribute is kept.
+    let kept = InfoVrf::Other(default_nla(2, &[10, 0, 0, 0]));
+    let vrf = InfoData::Vrf(nlas([InfoVrf::TableId(2), kept]));
+    assert_data(&TWO, InfoKind::Vrf, vrf);
+    let peer = InfoVeth::Peer(copied(&[2, 0, 0, 0]));
+    assert_data(&TWO, InfoKind::Veth, InfoData::Veth(peer));
+    let none = InfoData::Xfrm(Nlas::new(Vec::new()));
+    assert_data(&[], InfoKind::Xfrm, none);
+}
+
+#[test]
+fn data_of_bits() {
+    let bit = [5, 0, 1, 0, 7];
+    let read = InfoDataOf::<BitPeer>::parse_with_param(&bit, &InfoKind::Veth);
+    let wanted = InfoDataOf::Veth(InfoVethOf::Peer(BitPeer(true)));
+    assert_holds(&bit, read.expect("data") == wanted);
+}
+
+/// A payload of five bytes read under a kind without a family is kept as bytes.
+fn assert_bytes(kind: InfoKind) {
+    let bytes = copied(&TWO[..5]);
+    assert_data(&TWO[..5], kind, InfoData::Other(bytes));
+}
+
+#[test]
+fn data_without_a_family() {
+    assert_bytes(InfoKind::Dummy);
+
+    // A kind of an unknown name has no family, whatever the text.
+    assert_bytes(InfoKind::Other(text_of("xfrm")));
+}
+
+/// A payload is refused with this fault as data of a kind.
+fn assert_fault(payload: &[u8], kind: &InfoKind, fault: DecodeError) {
+    let found = read_data(payload, kind).err();
+    assert_equal(&payload, &found, &Some(fault));
+}
+
+#[test]
+fn faults_of_data() {
+    let short = [5, 0, 1, 0, 7];
+    let (xfrm, vrf) = (length_fault(Family::Xfrm), length_fault(Family::Vrf));
+    assert_fault(&short, &InfoKind::Xfrm, xfrm);
+    assert_fault(&short, &InfoKind::Vrf, vrf);
+    assert_fault(&[], &InfoKind::Veth, HEADER_FAULT);
+    assert_fault(&[7], &InfoKind::Xfrm, HEADER_FAULT);
+}
+
+/// A payload is read as this data of a port of the kind.
+fn assert_port_data(payload: &[u8], kind: InfoPortKind, data: InfoPortData) {
+    let read = read_port_data(payload, &kind).expect("data");
+    assert_holds(&payload, is_equal(&read, &data));
+    assert_holds(&payload, read == data);
+}
+
+/// A payload of one byte read under a port kind of an unknown name is kept as bytes.
+fn assert_port_bytes(name: &str) {
+    let bytes = copied(&[7]);
+    let kind = InfoPortKind::Other(text_of(name));
+    assert_port_data(&[7], kind, InfoPortData::Other(bytes));
+}
+
+#[test]
+fn port_data_by_kind() {
+    let data = InfoPortData::VrfPort(nlas([InfoVrf::TableId(5)]));
+    let table = [8, 0, 1, 0, 5, 0, 0, 0];
+    assert_port_data(&table, InfoPortKind::Vrf, data);
+    assert_port_bytes("x");
+    assert_port_bytes("vrf");
+    let short = read_port_data(&[5, 0, 1, 0, 7], &InfoPortKind::Vrf).err();
+    assert_equal(&"a short table", &short, &Some(length_fault(Family::Vrf)));
+}
+
+/// The statistics are read under this kind as these bytes.
+fn assert_statistics(kind: InfoKind, xstats: &LinkXstats) {
+    let nla = NlaBuffer::new_checked(&[6, 0, 3, 0, 1, 2]).expect("an attribute");
+    let read = LinkXstats::parse_with_param(&nla, &kind).expect("statistics");
+    assert_holds(&"statistics", read == *xstats);
+}
+
+#[test]
+fn statistics_are_bytes() {
+    let xstats = LinkXstats::Other(copied(&[1, 2]));
+    assert_statistics(InfoKind::Can, &xstats);
+    assert_statistics(InfoKind::Xfrm, &xstats);
+    let copy = xstats.try_clone().expect("memory");
+    assert_holds(&"a clone", is_equal(&copy, &xstats));
+    assert!(xstats.buffer_len() == 2);
+    let mut buffer = [255; 5];
+    xstats.emit(&mut buffer);
+    assert_equal(&"emitted", &buffer, &[1, 2, 255, 255, 255]);
+}

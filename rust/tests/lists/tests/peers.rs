@@ -1,0 +1,187 @@
+//! Lists with peers of another type.
+
+use super::assertions::{assert_emitted, assert_equal, assert_holds, bytes_of, nlas, repeated};
+use super::worked::VETH_TAIL;
+use crate::support::*;
+use linkinfo::layers::link::{
+    BitPeer, CanonError, CanonIntoError, Cause, DecodeError, Family, HeaderCount, InfoDataOf,
+    InfoKind, InfoNetkitOf, InfoVethOf, InfoVxcanOf, LinkInfoOf, VecLinkInfoOf, canon_into_of,
+    canon_of, check_counted_of, check_of, same, same_counted_of, same_of,
+};
+
+/// A veth link whose peer is one byte.
+const PEER_OF_SEVEN: &str = "09000100 76657468 00000000 09000200 05000100 07";
+
+/// The same with another byte.
+const PEER_OF_NINE: &str = "09000100 76657468 00000000 09000200 05000100 09";
+
+/// The fault of a peer that is refused.
+const PEER_REFUSED: DecodeError = DecodeError {
+    family: Family::Veth,
+    kind: 1,
+    cause: Cause::Peer,
+};
+
+/// The bytes are read as the list, which looks at this many headers.
+fn assert_read(bytes: &[u8], wanted: &VecLinkInfoOf<BitPeer>, headers: usize) {
+    let read = VecLinkInfoOf::<BitPeer>::parse(bytes).expect("a list");
+    assert_holds(&bytes, read == *wanted);
+    let mut count = HeaderCount::new();
+    let counted = VecLinkInfoOf::<BitPeer>::parse_counted(bytes, &mut count);
+    assert_holds(&bytes, counted.expect("a list") == *wanted);
+    assert_equal(&bytes, &count.get(), &headers);
+}
+
+/// The list is equal to its clone, and is written as the canonical string into a buffer and in one
+/// call.
+fn assert_written(list: &VecLinkInfoOf<BitPeer>, canonical: &[u8]) {
+    assert_holds(&canonical, list.try_clone().expect("memory") == *list);
+    assert_emitted(list.as_slice(), canonical);
+    let written = list.try_to_vec().expect("a string");
+    assert_equal(&canonical, &written.as_slice(), &canonical);
+}
+
+/// The bytes are made the canonical string in one call.
+fn assert_canonical(bytes: &[u8], canonical: &[u8]) {
+    let string = canon_of::<BitPeer>(bytes).expect("a canonical string");
+    assert_equal(&bytes, &string.as_slice(), &canonical);
+    let len = canonical.len();
+    let mut buffer = repeated(255, len);
+    let written = canon_into_of::<BitPeer>(bytes, &mut buffer);
+    assert_equal(&bytes, &written, &Ok(len));
+    assert_equal(&bytes, &buffer.as_slice(), &canonical);
+    let written = canon_into_of::<BitPeer>(bytes, &mut []);
+    assert_equal(&bytes, &written, &Err(CanonIntoError::Short(len)));
+}
+
+/// The list is that of the string and of the canonical one, by this many headers, and is written as
+/// the canonical one.
+fn assert_list(list: VecLinkInfoOf<BitPeer>, (bytes, canonical): (&[u8], &[u8]), headers: usize) {
+    assert_read(bytes, &list, headers);
+    assert_read(canonical, &list, headers);
+    assert_written(&list, canonical);
+}
+
+/// The string is read as a link of the kind with the data, by this many headers, and the link is
+/// written as the canonical string. The other string has a peer that is the same as a bit, and not
+/// as a byte.
+fn assert_bits(
+    (text, other, canonical): (&str, &str, &str),
+    items: [LinkInfoOf<BitPeer>; 2],
+    headers: usize,
+) {
+    let list = VecLinkInfoOf(nlas(items));
+    let canonical = bytes_of(canonical);
+    let bytes = bytes_of(text);
+    assert_list(list, (&bytes, &canonical), headers);
+    let other = bytes_of(other);
+    assert_equal(&text, &same_of::<BitPeer>(&bytes, &other), &Ok(true));
+    assert_equal(&text, &same(&bytes, &other), &Ok(false));
+    assert_canonical(&bytes, &canonical);
+    assert_canonical(&other, &canonical);
+}
+
+/// A link whose peer is a bit.
+fn link(kind: InfoKind, data: InfoDataOf<BitPeer>) -> [LinkInfoOf<BitPeer>; 2] {
+    [LinkInfoOf::Kind(kind), LinkInfoOf::Data(data)]
+}
+
+#[test]
+fn bits_of_links() {
+    let data = InfoDataOf::Veth(InfoVethOf::Peer(BitPeer(true)));
+    let strings = (
+        PEER_OF_SEVEN,
+        PEER_OF_NINE,
+        "09000100 76657468 00000000 0c000200 05000100 01000000",
+    );
+    assert_bits(strings, link(InfoKind::Veth, data), 3);
+    let data = InfoDataOf::Vxcan(InfoVxcanOf::Peer(BitPeer(true)));
+    let strings = (
+        "0a000100 76786361 6e000000 09000200 05000100 07",
+        "0a000100 76786361 6e000000 09000200 05000100 09",
+        "0a000100 76786361 6e000000 0c000200 05000100 01000000",
+    );
+    assert_bits(strings, link(InfoKind::Vxcan, data), 3);
+    // Peers of both bits.
+    let items = [
+        InfoNetkitOf::Peer(BitPeer(true)),
+        InfoNetkitOf::Primary(false),
+        InfoNetkitOf::Peer(BitPeer(false)),
+    ];
+    let data = InfoDataOf::Netkit(nlas(items));
+    let strings = (
+        "0b000100 6e65746b 69740000 1c000200 05000100 07000000 05000200 00000000 05000100 00000000",
+        "0b000100 6e65746b 69740000 1c000200 05000100 09000000 05000200 00000000 05000100 00000000",
+        "0b000100 6e65746b 69740000 1c000200 05000100 01000000 05000200 00000000 05000100 00000000",
+    );
+    assert_bits(strings, link(InfoKind::Netkit, data), 5);
+}
+
+#[test]
+fn checks_and_compares_bits() {
+    let seven = bytes_of(PEER_OF_SEVEN);
+    let nine = bytes_of(PEER_OF_NINE);
+    let case = "peers of seven and nine";
+    assert_equal(&case, &check_of::<BitPeer>(&seven), &Ok(()));
+    assert_equal(&case, &same_of::<BitPeer>(&seven, &nine), &Ok(true));
+    assert_equal(&case, &same(&seven, &nine), &Ok(false));
+    let mut checking = HeaderCount::new();
+    let checked = check_counted_of::<BitPeer>(&seven, &mut checking);
+    assert_equal(&case, &checked, &Ok(()));
+    assert_equal(&case, &checking.get(), &3);
+
+    // Each string is looked at to be checked, and again to be compared.
+    let mut comparing = HeaderCount::new();
+    let answer = same_counted_of::<BitPeer>(&seven, &nine, &mut comparing);
+    assert_equal(&case, &answer, &Ok(true));
+    assert_equal(&case, &comparing.get(), &12);
+}
+
+/// The fault of a string, where peers are bits.
+fn fault_of(bytes: &[u8]) -> Option<DecodeError> {
+    VecLinkInfoOf::<BitPeer>::parse(bytes).err()
+}
+
+#[test]
+fn refuses_other_peers() {
+    let bytes = bytes_of(VETH_TAIL);
+    let rewritten = canon_of::<BitPeer>(&bytes).err();
+    let written = canon_into_of::<BitPeer>(&bytes, &mut []);
+    let case = VETH_TAIL;
+    assert_equal(&case, &check_of::<BitPeer>(&bytes), &Err(PEER_REFUSED));
+    assert_equal(&case, &fault_of(&bytes), &Some(PEER_REFUSED));
+    assert_equal(&case, &rewritten, &Some(CanonError::Refused(PEER_REFUSED)));
+    assert_equal(&case, &written, &Err(CanonIntoError::Refused(PEER_REFUSED)));
+    assert_equal(&case, &same_of::<BitPeer>(&bytes, &[]), &Err(PEER_REFUSED));
+    assert_equal(&case, &same_of::<BitPeer>(&[], &bytes), &Err(PEER_REFUSED));
+}
+
+/// Links with a peer of two bytes, and the families that their faults name.
+const PEERS_OF_TWO_BYTES: &[(&str, Family)] = &[
+    (
+        "09000100 76657468 00000000 0a000200 06000100 aabb",
+        Family::Veth,
+    ),
+    (
+        "0a000100 76786361 6e000000 0a000200 06000100 aabb",
+        Family::Vxcan,
+    ),
+    (
+        "0b000100 6e65746b 69740000 0a000200 06000100 aabb",
+        Family::Netkit,
+    ),
+];
+
+#[test]
+fn peers_that_are_no_bits() {
+    for (text, family) in PEERS_OF_TWO_BYTES {
+        let bytes = bytes_of(text);
+        let fault = DecodeError {
+            family: *family,
+            ..PEER_REFUSED
+        };
+        assert_equal(text, &check_of::<BitPeer>(&bytes), &Err(fault));
+        assert_equal(text, &fault_of(&bytes), &Some(fault));
+        assert_equal(text, &same(&bytes, &bytes), &Ok(true));
+    }
+}

@@ -1,0 +1,153 @@
+//! Single attributes that are read.
+
+use super::answers::MEMORY;
+use crate::tests::assertions::assert_holds;
+use linkinfo::layers::link::{
+    BitPeer, DecodeError, DefaultNla, HeaderCount, InfoAmt, InfoBareUdp, InfoBatAdv, InfoBond,
+    InfoBondPort, InfoBridge, InfoBridgePort, InfoCan, InfoDsa, InfoGeneve, InfoGre, InfoGre6,
+    InfoGtp, InfoHsr, InfoIpTunnel, InfoIpVlan, InfoIpVtap, InfoIpoib, InfoKind, InfoMacSec,
+    InfoMacVlan, InfoMacVtap, InfoNetkit, InfoPfcp, InfoPortKind, InfoRmNet, InfoTeamPort, InfoTun,
+    InfoVeth, InfoVethOf, InfoVlan, InfoVrf, InfoVti, InfoVxcan, InfoVxlan, InfoWireguard,
+    InfoWwan, InfoXfrm, KindTag, LinkFamily, Nla, NlaBuffer, Parseable, ParseableParametrized,
+};
+
+/// An attribute of a type that no family has.
+const UNKNOWN: [u8; 5] = [5, 0, 255, 0, 1];
+
+/// What it is emitted as.
+const KEPT: [u8; 8] = [5, 0, 255, 0, 1, 0, 0, 0];
+
+/// What `parse` answers where it is not refused memory: called once more after an answer of Memory.
+fn parse_at_last<'a, T: Parseable<NlaBuffer<'a>>>(nla: &NlaBuffer<'a>) -> Result<T, DecodeError> {
+    match T::parse(nla) {
+        Err(MEMORY) => T::parse(nla),
+        answer => answer,
+    }
+}
+
+/// Whether the answer is a value that is emitted as this string.
+fn is_written<T: Nla>(answer: Result<T, DecodeError>, string: &[u8; 8]) -> bool {
+    let mut buffer = [255; 8];
+    match answer {
+        Ok(value) if value.fit_len().is_some() && value.buffer_len() == 8 => {
+            value.emit(&mut buffer);
+            buffer == *string
+        }
+        _ => false,
+    }
+}
+
+/// Whether a family's `read` under the context keeps the attribute, whose type it does not have.
+fn reads_unknown<F: LinkFamily>(nla: &NlaBuffer<'_>, ctx: F::Context) -> bool {
+    if nla.value().len() > 1 {
+        return false;
+    }
+    let mut count = HeaderCount::new();
+    let answer = match F::read(nla, ctx, &mut count) {
+        Err(MEMORY) => {
+            let mut count = HeaderCount::new();
+            F::read(nla, ctx, &mut count)
+        }
+        answer => answer,
+    };
+    is_written(answer, &KEPT)
+}
+
+/// Whether `parse` keeps the attribute verbatim, at the second try where memory ran out.
+fn parses_unknown<'a, T: Parseable<NlaBuffer<'a>> + Nla>(nla: &NlaBuffer<'a>) -> bool {
+    is_written(parse_at_last::<T>(nla), &KEPT)
+}
+
+/// The family keeps the attribute by both calls, where the context is none.
+fn assert_kept<'a, F: LinkFamily<Context = ()> + Parseable<NlaBuffer<'a>>>(
+    nla: &NlaBuffer<'a>,
+    family: &str,
+) {
+    assert_holds(&family, parses_unknown::<F>(nla));
+    assert_holds(&family, reads_unknown::<F>(nla, ()));
+}
+
+/// Each of the families keeps the attribute of a type that it does not have.
+macro_rules! assert_all_kept {
+    ($($family:ty),*) => {
+        let nla = NlaBuffer::new_checked(&UNKNOWN).expect("an attribute");
+        $(assert_kept::<$family>(&nla, stringify!($family));)*
+    };
+}
+
+#[test]
+fn without_a_family() {
+    let nla = NlaBuffer::new_checked(&UNKNOWN).expect("an attribute");
+    let kept = parses_unknown::<DefaultNla>(&nla);
+    assert_holds(&UNKNOWN, kept);
+}
+
+#[test]
+fn of_tunnels_over_udp() {
+    assert_all_kept!(InfoVxlan, InfoGeneve, InfoBareUdp, InfoGtp, InfoAmt);
+}
+
+#[test]
+fn of_tunnels() {
+    assert_all_kept!(InfoGre, InfoGre6, InfoVti, InfoIpoib, InfoWwan);
+}
+
+#[test]
+fn of_devices() {
+    assert_all_kept!(
+        InfoXfrm, InfoVrf, InfoIpVlan, InfoIpVtap, InfoMacSec, InfoRmNet
+    );
+}
+
+#[test]
+fn of_peers() {
+    assert_all_kept!(
+        InfoVeth,
+        InfoVxcan,
+        InfoNetkit,
+        InfoVethOf<BitPeer>,
+        InfoBatAdv,
+        InfoTun
+    );
+}
+
+#[test]
+fn of_bonds_and_bridges() {
+    assert_all_kept!(
+        InfoBond,
+        InfoBondPort,
+        InfoBridge,
+        InfoBridgePort,
+        InfoTeamPort,
+        InfoVlan
+    );
+}
+
+#[test]
+fn without_rows() {
+    assert_all_kept!(InfoCan, InfoHsr, InfoDsa, InfoWireguard, InfoPfcp);
+}
+
+/// Families that are read under a context.
+#[test]
+fn by_context() {
+    let nla = NlaBuffer::new_checked(&UNKNOWN).expect("an attribute");
+    let tunnel = match InfoIpTunnel::parse_with_param(&nla, &InfoKind::IpIp) {
+        Err(MEMORY) => InfoIpTunnel::parse_with_param(&nla, &InfoKind::IpIp),
+        answer => answer,
+    };
+    assert_holds(&"ipip", is_written(tunnel, &KEPT));
+    let read = reads_unknown::<InfoIpTunnel>(&nla, KindTag::IpIp);
+    assert_holds(&"ipip, read", read);
+    assert_holds(&"macvlan", parses_unknown::<InfoMacVlan>(&nla));
+    assert_holds(&"macvlan, read", reads_unknown::<InfoMacVlan>(&nla, 0));
+    assert_holds(&"macvtap", parses_unknown::<InfoMacVtap>(&nla));
+    assert_holds(&"macvtap, read", reads_unknown::<InfoMacVtap>(&nla, 0));
+}
+
+#[test]
+fn port_kinds() {
+    let nla = NlaBuffer::new_checked(&[5, 0, 4, 0, b'x']).expect("an attribute");
+    let read = parse_at_last::<InfoPortKind>(&nla);
+    assert_holds(&"x", is_written(read, &[6, 0, 4, 0, b'x', 0, 0, 0]));
+}

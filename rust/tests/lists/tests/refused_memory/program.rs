@@ -1,0 +1,30 @@
+//! A run of the program over memory.
+
+use crate::linkinfo_lines::{RunError, run};
+use crate::tests::assertions::assert_equal;
+use crate::tests::lines::{ANSWER, INPUT};
+use crate::tests::streams::ArrayWriter;
+
+/// How a run over the input ends, and whether the writer has the whole answer then, or nothing.
+fn ends() -> (Result<(), RunError>, bool) {
+    let mut input = INPUT;
+    let mut writer = ArrayWriter::new(128, true);
+    let ended = run(&mut input, &mut writer);
+    let wanted = if ended.is_ok() {
+        ANSWER
+    } else {
+        b"".as_slice()
+    };
+    let is_written = writer.as_slice() == wanted;
+    (ended, is_written)
+}
+
+/// A run reports Memory and has written nothing, or answers each line.
+#[test]
+fn run_over_memory() {
+    let answer = match ends() {
+        (Err(RunError::Memory), true) => ends(),
+        answer => answer,
+    };
+    assert_equal(&INPUT, &answer, &(Ok(()), true));
+}

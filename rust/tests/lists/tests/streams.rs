@@ -1,0 +1,218 @@
+//! Runs over readers and writers that cut what they give and take, and that fail.
+
+use super::assertions::{assert_equal, assert_holds};
+use super::lines::{ANSWER, INPUT};
+use crate::linkinfo_lines::{MOST_READS, RunError, run};
+use crate::support::*;
+use linkinfo::compat::AllocError;
+use std::io;
+use std::io::{ErrorKind, Read, Write};
+
+/// Gives its bytes in pieces, and fails at one of its reads.
+struct PieceReader<'a> {
+    left: &'a [u8],
+    piece: usize,
+    reads: u32,
+    fails_at: u32,
+}
+
+impl PieceReader<'static> {
+    fn new(piece: usize, fails_at: u32) -> PieceReader<'static> {
+        PieceReader {
+            left: INPUT,
+            piece,
+            reads: 0,
+            fails_at,
+        }
+    }
+}
+
+impl Read for PieceReader<'_> {
+    fn read(&mut self, buf: &mut [u8]) -> io::Result<usize> {
+        self.reads = self.reads.saturating_add(1);
+        if self.reads == self.fails_at {
+            return Err(io::Error::from(ErrorKind::Interrupted));
+        }
+        let n = self.left.len().min(self.piece).min(buf.len());
+        buf[..n].copy_from_slice(&self.left[..n]);
+        self.left = &self.left[n..];
+        Ok(n)
+    }
+}
+
+/// Gives one byte at each read, without end.
+struct EndlessReader {
+    reads: u32,
+}
+
+impl Read for EndlessReader {
+    fn read(&mut self, buf: &mut [u8]) -> io::Result<usize> {
+        self.reads = self.reads.saturating_add(1);
+        if buf.is_empty() {
+            return Ok(0);
+        }
+        buf[0] = b'-';
+        Ok(1)
+    }
+}
+
+/// Keeps what it takes in an array, at most seven bytes a write and up to a limit; from then on it
+/// fails or takes nothing.
+pub struct ArrayWriter {
+    held: [u8; 128],
+    len: usize,
+    limit: usize,
+    fails: bool,
+}
+
+impl ArrayWriter {
+    /// A writer that takes this many bytes, and then fails or takes none.
+    pub fn new(limit: usize, fails: bool) -> ArrayWriter {
+        ArrayWriter {
+            held: [0; 128],
+            len: 0,
+            limit,
+            fails,
+        }
+    }
+
+    /// What it has taken.
+    pub fn as_slice(&self) -> &[u8] {
+        &self.held[..self.len]
+    }
+}
+
+impl Write for ArrayWriter {
+    fn write(&mut self, buf: &[u8]) -> io::Result<usize> {
+        let room = self.limit.min(128).saturating_sub(self.len);
+        let n = buf.len().min(room).min(7);
+        if n == 0 && self.fails {
+            return Err(io::Error::from(ErrorKind::Interrupted));
+        }
+        self.held[self.len..self.len + n].copy_from_slice(&buf[..n]);
+        self.len += n;
+        Ok(n)
+    }
+
+    fn flush(&mut self) -> io::Result<()> {
+        Ok(())
+    }
+}
+
+/// A run over the reader ends so, and the writer has taken these bytes. The number of the case is
+/// printed where that does not hold.
+fn assert_ended<R: Read>(
+    case: usize,
+    (reader, mut writer): (&mut R, ArrayWriter),
+    (ended, written): (Result<(), RunError>, &[u8]),
+) {
+    assert_equal(&case, &run(reader, &mut writer), &ended);
+    assert_equal(&case, &writer.as_slice(), &written);
+}
+
+#[test]
+fn ends_at_a_failed_read() {
+    let reads = INPUT.len() as u32 + 1;
+    for k in 1..reads + 2 {
+        let mut reader = PieceReader::new(1, k);
+        let writer = ArrayWriter::new(128, true);
+        let wanted = if k <= reads {
+            (Err(RunError::Read), b"".as_slice())
+        } else {
+            (Ok(()), ANSWER)
+        };
+        assert_ended(k as usize, (&mut reader, writer), wanted);
+    }
+}
+
+/// A writer that fails after this many bytes, or takes no more, ends the run.
+fn assert_cut(limit: usize, fails: bool) {
+    let mut reader = PieceReader::new(9, 0);
+    let writer = ArrayWriter::new(limit, fails);
+    let wanted = (Err(RunError::Write), ANSWER.get(..limit).unwrap_or(ANSWER));
+    assert_ended(limit, (&mut reader, writer), wanted);
+}
+
+#[test]
+fn ends_at_a_failed_write() {
+    for limit in 0..ANSWER.len() {
+        assert_cut(limit, true);
+        assert_cut(limit, false);
+    }
+}
+
+#[test]
+fn ends_after_the_most_reads() {
+    let mut reader = EndlessReader { reads: 0 };
+    let writer = ArrayWriter::new(128, true);
+    let wanted = (Err(RunError::Read), b"".as_slice());
+    assert_ended(0, (&mut reader, writer), wanted);
+    assert_equal(&"reads", &reader.reads, &16_777_216);
+    assert_equal(&"the most", &MOST_READS, &16_777_216);
+}
+
+/// Takes all address space there is, in smaller and smaller blocks that are never touched.
+fn take_all_memory() -> Result<Vec<Vec<u8>>, AllocError> {
+    let mut held = Vec::try_with_room(200_000)?;
+    let mut size = 1usize << 40;
+    for _ in 0..200_000 {
+        match Vec::<u8>::try_with_room(size) {
+            Ok(block) => held.try_push(block)?,
+            Err(_) => {
+                if size == 1 {
+                    break;
+                }
+                size /= 2;
+            }
+        }
+    }
+    Ok(held)
+}
+
+/// Gives its bytes in pieces, and takes all memory at one of its reads.
+struct MemoryTaker<'a> {
+    reader: PieceReader<'a>,
+    takes_at: u32,
+    held: Vec<Vec<u8>>,
+}
+
+impl Read for MemoryTaker<'_> {
+    fn read(&mut self, buf: &mut [u8]) -> io::Result<usize> {
+        let n = self.reader.read(buf)?;
+        if self.reader.reads == self.takes_at {
+            self.held = take_all_memory()?;
+        }
+        Ok(n)
+    }
+}
+
+/// Once no memory is left after this read, a run that needs more ends with `Memory` and has written
+/// nothing.
+fn assert_starved(takes_at: u32) {
+    let mut reader = MemoryTaker {
+        reader: PieceReader::new(9, 0),
+        takes_at,
+        held: Vec::new(),
+    };
+    let writer = ArrayWriter::new(128, true);
+    let wanted = (Err(RunError::Memory), b"".as_slice());
+    assert_ended(takes_at as usize, (&mut reader, writer), wanted);
+}
+
+#[test]
+fn ends_where_no_memory_is_left() {
+    assert_starved(1);
+    assert_starved(5);
+    assert_starved(10);
+    assert_starved(15);
+}
+
+/// Wherever reads cut the input, the same output is written.
+#[test]
+fn answers_input_in_pieces() {
+    for piece in 1..INPUT.len() + 2 {
+        let mut reader = PieceReader::new(piece, 0);
+        let writer = ArrayWriter::new(128, true);
+        assert_ended(piece, (&mut reader, writer), (Ok(()), ANSWER));
+    }
+}

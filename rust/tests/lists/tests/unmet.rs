@@ -1,0 +1,172 @@
+//! Whether the data of a link, or of a port, has the attributes that other data asks for.
+
+use super::assertions::{assert_equal, bytes_of};
+use linkinfo::layers::link::{
+    Family, HeaderCount, InfoData, InfoPortData, KindTag, PayloadFamily, PortTag, Unmet, family_of,
+    is_equal, list_unmet, port_family_of,
+};
+
+/// Data that is there, data that asks for attributes, and where both differ: the type that is not
+/// met, the offset of who asks, and the offset of the other one.
+type Case = (
+    &'static str,
+    &'static str,
+    Option<(u16, usize, Option<usize>)>,
+);
+
+/// The data of a vxlan link: VNI 42 at 0, TTL 64 at 8, and destination port 4789 at 16.
+const VXLAN: &str = "08000100 2a000000 05000500 40000000 06000f00 12b50000";
+
+/// Of `vxlan`, whose attributes have rows.
+const ROWS: &[Case] = &[
+    ("", "", None),
+    (VXLAN, "", None),
+    (VXLAN, VXLAN, None),
+    (VXLAN, "08000100 2a000000", None),
+    // The order does not matter, nor padding that is absent or not zero, nor a flag of the type.
+    (VXLAN, "06000f00 12b5ffff 05000580 40", None),
+    // Another VNI.
+    (VXLAN, "08000100 2b000000", Some((1, 0, Some(0)))),
+    // The VNI is met, the port is not.
+    (
+        VXLAN,
+        "08000100 2a000000 06000f00 12b60000",
+        Some((15, 8, Some(16))),
+    ),
+    // Two differ: the first in byte order.
+    (
+        VXLAN,
+        "05000500 41000000 08000100 2b000000",
+        Some((5, 0, Some(8))),
+    ),
+    // What is asked for is not there.
+    ("08000100 2a000000", VXLAN, Some((5, 8, None))),
+    ("", "08000100 2a000000", Some((1, 0, None))),
+    // The last of a type counts, in both.
+    (VXLAN, "08000100 29000000 08000100 2a000000", None),
+    (
+        "08000100 29000000 08000100 2a000000",
+        "08000100 2a000000",
+        None,
+    ),
+    (
+        "08000100 2a000000 08000100 29000000",
+        "05000500 40000000 08000100 2a000000",
+        Some((5, 0, None)),
+    ),
+    (
+        "08000100 2a000000 08000100 29000000",
+        "08000100 2a000000",
+        Some((1, 0, Some(8))),
+    ),
+    // A type without a row: of equal payload, whatever its flags.
+    ("05003f80 01000000", "05003f00 01000000", None),
+    (
+        "05003f80 01000000",
+        "05003f80 02000000",
+        Some((63, 0, Some(0))),
+    ),
+];
+
+/// Of `bond`, whose attributes have no rows, and of types that an index of 64 does not have.
+const NO_ROWS: &[Case] = &[
+    ("05000180 01000000", "05000100 01000000", None),
+    (
+        "05000180 01000000",
+        "05000180 02000000",
+        Some((1, 0, Some(0))),
+    ),
+    (
+        "05004000 01000000 0500ff3f 02000000",
+        "0500ffff 02000000 05004000 01000000",
+        None,
+    ),
+    (
+        "05004000 01000000 0500ff3f 02000000",
+        "0500ff3f 02000000 05004000 03000000",
+        Some((64, 8, Some(0))),
+    ),
+    (
+        "05004000 01000000 05004000 02000000",
+        "05004000 01000000 05004000 02000000 05004100 00000000",
+        Some((65, 16, None)),
+    ),
+];
+
+/// What is not met, of a family.
+fn unmet(family: Family, at: &Option<(u16, usize, Option<usize>)>) -> Option<Unmet> {
+    let (kind, want, have) = (*at)?;
+    Some(Unmet {
+        family,
+        kind,
+        want,
+        have,
+    })
+}
+
+/// What `have` lacks of `want`, two payloads that are accepted as lists of a family.
+fn unmet_of<D, F: PayloadFamily<D>>(family: F, have: &[u8], want: &[u8]) -> Option<Unmet> {
+    let name = family.listing().expect("a list");
+    family
+        .check(have, &mut HeaderCount::new())
+        .expect("accepted");
+    family
+        .check(want, &mut HeaderCount::new())
+        .expect("accepted");
+    list_unmet::<D, F>(family, name, have, want)
+}
+
+#[test]
+fn data_is_met() {
+    for (cases, tag, name) in [
+        (ROWS, KindTag::Vxlan, Family::Vxlan),
+        (NO_ROWS, KindTag::Bond, Family::Bond),
+    ] {
+        for (have, want, at) in cases {
+            let (had, wanted) = (bytes_of(have), bytes_of(want));
+            let found = unmet_of::<InfoData, _>(family_of(tag), &had, &wanted);
+            assert_equal(&(name, want), &found, &unmet(name, at));
+            if let (Some(found), Some(wanted)) = (found, unmet(name, at)) {
+                assert!(is_equal(&found, &wanted));
+            }
+        }
+    }
+}
+
+#[test]
+fn port_data_is_met() {
+    for (have, want, at) in NO_ROWS {
+        let (had, wanted) = (bytes_of(have), bytes_of(want));
+        let family = port_family_of(PortTag::Bridge);
+        let found = unmet_of::<InfoPortData, _>(family, &had, &wanted);
+        assert_equal(want, &found, &unmet(Family::BridgePort, at));
+    }
+}
+
+#[test]
+fn families_of_lists() {
+    for (tag, name) in [
+        (KindTag::Vxlan, Some(Family::Vxlan)),
+        (KindTag::Ip6ErSpan, Some(Family::Gre6)),
+        (KindTag::SitTun, Some(Family::IpTunnel)),
+        (KindTag::MacVtap, Some(Family::MacVtap)),
+        (KindTag::Bond, Some(Family::Bond)),
+        (KindTag::Netkit, Some(Family::Netkit)),
+        (KindTag::Veth, None),
+        (KindTag::Vxcan, None),
+        (KindTag::Other, None),
+    ] {
+        let found = PayloadFamily::<InfoData>::listing(family_of(tag));
+        assert_equal(&tag, &found, &name);
+    }
+    for (tag, name) in [
+        (PortTag::Bond, Some(Family::BondPort)),
+        (PortTag::Bridge, Some(Family::BridgePort)),
+        (PortTag::Vrf, Some(Family::Vrf)),
+        (PortTag::Team, Some(Family::TeamPort)),
+        (PortTag::Other, None),
+    ] {
+        let found = PayloadFamily::<InfoPortData>::listing(port_family_of(tag));
+        assert_equal(&tag, &found, &name);
+    }
+}

@@ -1,0 +1,167 @@
+//! The borrowed walk.
+
+use super::assertions::{
+    HEADER_FAULT, assert_built, assert_equal, assert_holds, bytes_of, link, link_fault, nlas,
+};
+use super::worked::{DATA_TWICE, FIRST_FAULT, SECOND_PORT_DATA};
+use crate::support::*;
+use linkinfo::layers::link::{
+    Cause, DecodeError, InfoData, InfoKind, InfoVxlan, KindTag, LinkInfoItem, LinkInfoWalk,
+    PortTag, same,
+};
+
+/// The walk gives these items, each at its place.
+fn assert_items(walk: &mut LinkInfoWalk<'_>, items: &[LinkInfoItem<'_>]) {
+    for wanted in items {
+        assert_equal(wanted, &walk.place(), &wanted.place);
+        let Some(Ok(item)) = walk.next() else {
+            panic!("an item {wanted:?}");
+        };
+        assert_equal(&"an item", &item, wanted);
+    }
+}
+
+/// The fault that a walk without further items gives next, if it has not ended.
+fn next_fault(walk: &mut LinkInfoWalk<'_>) -> Option<DecodeError> {
+    match walk.next() {
+        None => None,
+        Some(Err(fault)) => Some(fault),
+        Some(Ok(item)) => panic!("a further item {item:?}"),
+    }
+}
+
+/// The items that a walk gives, the fault that it ends with, the place where it ends, and how many
+/// headers it looks at.
+fn assert_walk(
+    bytes: &[u8],
+    items: &[LinkInfoItem<'_>],
+    fault: Option<DecodeError>,
+    end: usize,
+    examined: usize,
+) {
+    let mut walk = LinkInfoWalk::new(bytes);
+    assert_equal(&bytes, &walk.examined(), &0);
+    assert_items(&mut walk, items);
+    assert_equal(&bytes, &walk.place(), &end);
+    assert_equal(&bytes, &next_fault(&mut walk), &fault);
+    assert_equal(&bytes, &next_fault(&mut walk), &None);
+    assert_equal(&bytes, &walk.place(), &end);
+    assert_equal(&bytes, &walk.examined(), &examined);
+}
+
+/// An item with no kind in force.
+fn item<'a>(place: usize, raw_kind: u16, value: &'a [u8]) -> LinkInfoItem<'a> {
+    LinkInfoItem {
+        place,
+        raw_kind,
+        value,
+        kind_tag: None,
+        port_tag: None,
+    }
+}
+
+/// The item under a kind.
+fn under(kind: KindTag, item: LinkInfoItem<'_>) -> LinkInfoItem<'_> {
+    LinkInfoItem {
+        kind_tag: Some(kind),
+        ..item
+    }
+}
+
+/// The item under a port kind.
+fn under_port(port: PortTag, item: LinkInfoItem<'_>) -> LinkInfoItem<'_> {
+    LinkInfoItem {
+        port_tag: Some(port),
+        ..item
+    }
+}
+
+#[test]
+fn walks_over_kinds_and_data() {
+    assert_walk(&[], &[], None, 0, 0);
+    let items = [
+        item(0, 1, b"xfrm\0"),
+        under(KindTag::Xfrm, item(12, 2, &[])),
+        under(KindTag::Xfrm, item(16, 2, &[8, 0, 2, 0, 5, 0, 0, 0])),
+    ];
+    assert_walk(&bytes_of(DATA_TWICE), &items, None, 28, 3);
+
+    // A payload is not looked at, so the fault is that of the stray byte.
+    let items = [
+        item(0, 1, b"vrf\0"),
+        under(KindTag::Vrf, item(8, 2, &[5, 0, 1, 0, 7])),
+    ];
+    let bytes = bytes_of(FIRST_FAULT);
+    assert_walk(&bytes, &items, Some(HEADER_FAULT), 20, 2);
+}
+
+/// A vxlan link with its identifier and its port.
+const VXLAN: [u8; 32] = [
+    10, 0, 1, 0, b'v', b'x', b'l', b'a', b'n', 0, 0, 0, 20, 0, 2, 0, 8, 0, 1, 0, 42, 0, 0, 0, 6, 0,
+    15, 0, 0x12, 0xb5, 0, 0,
+];
+
+#[test]
+fn walks_over_what_was_built() {
+    let data = nlas([InfoVxlan::Id(42), InfoVxlan::Port(4789)]);
+    let items = link(InfoKind::Vxlan, InfoData::Vxlan(data));
+    assert_built(items, &VXLAN);
+    assert_equal(&VXLAN, &same(&VXLAN, &VXLAN[..12]), &Ok(false));
+    let items = [
+        item(0, 1, b"vxlan\0"),
+        under(KindTag::Vxlan, item(12, 2, &VXLAN[16..])),
+    ];
+    assert_walk(&VXLAN, &items, None, 32, 2);
+}
+
+#[test]
+fn walks_over_ports() {
+    let items = [
+        item(0, 4, b"vrf\0"),
+        under_port(PortTag::Vrf, item(8, 5, &[])),
+    ];
+    let bytes = bytes_of(SECOND_PORT_DATA);
+    let order = link_fault(5, Cause::Order);
+    assert_walk(&bytes, &items, Some(order), 12, 3);
+}
+
+#[test]
+fn walks_with_both_kinds_in_force() {
+    let bytes = [
+        8, 0, 1, 0, b'v', b'r', b'f', 0, 8, 0, 4, 0, b'v', b'r', b'f', 0, 4, 0, 5, 0, 4, 0, 2, 0,
+    ];
+    let port_data = under_port(PortTag::Vrf, item(16, 5, &[]));
+    let items = [
+        item(0, 1, b"vrf\0"),
+        under(KindTag::Vrf, item(8, 4, b"vrf\0")),
+        under(KindTag::Vrf, port_data),
+        under(KindTag::Vrf, item(20, 2, &[])),
+    ];
+    assert_walk(&bytes, &items, None, 24, 4);
+}
+
+#[test]
+fn walks_end_at_faults() {
+    // Types keep their flag bits, in items and not in faults.
+    let marked = item(0, 0x8009, &[7]);
+    let bytes = [5, 0, 9, 0x80, 7, 0, 0, 0, 6, 0, 1, 0x80, 0xc3, 0x28];
+    let utf8 = link_fault(1, Cause::Utf8);
+    assert_walk(&bytes, &[marked], Some(utf8), 8, 2);
+    let order = link_fault(3, Cause::Order);
+    assert_walk(&[4, 0, 3, 0, 4, 0, 9, 0], &[], Some(order), 0, 1);
+    assert_walk(&[8, 0, 1], &[], Some(HEADER_FAULT), 0, 0);
+}
+
+#[test]
+fn compares_and_clones_walks() {
+    let bytes = bytes_of(DATA_TWICE);
+    let mut walk = LinkInfoWalk::new(&bytes);
+    walk.next();
+    let mut copy = walk.try_clone().expect("memory");
+    assert_holds(&"equal to its clone", copy == walk);
+    assert_holds(&"unlike a new one", copy != LinkInfoWalk::new(&bytes));
+    walk.next();
+    assert_holds(&"unlike the one behind", copy != walk);
+    copy.next();
+    assert_holds(&"equal again", copy == walk);
+}

@@ -1,0 +1,60 @@
+import re
+import unittest
+
+from tests.test_tokens import REPOSITORY
+from translator import items, layout, panics, proofs
+from translator.rules import Translation
+from translator.source import Source
+
+
+def functions_that_require(source):
+    """The free functions of a source with a `requires`."""
+    free = {index for index in items.free_words(source) if source.at(index) == "fn"}
+    for index in source.words():
+        if source.at(index) == "requires" and proofs.clause_end(source, index):
+            function = panics.function_of(source, index)
+            if function in free:
+                yield source.at(function + 1)
+
+
+class Root(unittest.TestCase):
+    def test_calls_at_the_root_require_nothing(self):
+        text = (REPOSITORY / "rust/src/lib.rs").read_text(encoding="utf-8")
+        groups = re.findall(r"pub use [a-z_:]+\{([^}]*)\}", text)
+        names = {name for group in groups for name in re.findall(r"\w+", group)}
+        self.assertLessEqual({"check", "same", "canon", "canon_into", "VecLinkInfo"}, names)
+        required = set()
+        for crate in layout.LIBRARY:
+            for file in (REPOSITORY / "crates" / crate / "src").rglob("*.rt"):
+                source = Source(file.read_text(encoding="utf-8"), str(file))
+                required |= set(functions_that_require(source))
+        self.assertIn("emit_nlas", required)
+        self.assertEqual(names & required, set())
+
+
+class Package(unittest.TestCase):
+    @classmethod
+    def setUpClass(cls):
+        cls.files = layout.package_files(REPOSITORY)
+
+    def test_every_test_is_translated(self):
+        files = REPOSITORY.glob("crates/*/src/**/*.rt")
+        wanted = sum(file.read_text(encoding="utf-8").count("#[test]") for file in files)
+        texts = [text for name, text in self.files.items() if name.startswith("tests/")]
+        self.assertEqual(sum(text.count("#[test]") for text in texts), wanted)
+
+    def test_every_file_has_a_place(self):
+        for crate in layout.LIBRARY:
+            folder = f"src/layers/{layout.module_of(crate)}/"
+            self.assertIn(folder + "mod.rs", self.files)
+
+    def test_counts_of_what_is_put_in(self):
+        libraries = [layout.read_crate(REPOSITORY, name) for name in layout.LIBRARY]
+        sources = [source for crate in libraries for source in crate.sources.values()]
+        Translation(libraries)
+        kinds = {kind.split(":")[0] for source in sources for kind in source.put}
+        self.assertLessEqual(
+            kinds,
+            {"path", "import", "derive", "fallible call", "cast", "formatter", "octets"}
+            | {"unsigned", "zeros", "flags", "panics", "docs"},
+        )

@@ -1,0 +1,38 @@
+"""Rust's forms of four things that its library has another way."""
+
+
+def name_formatters(source):
+    """`fmt` is generic over its writer in Rattle; Rust's `Formatter` has a lifetime instead."""
+    for index in source.words():
+        if not source.reads(index, "fn", "fmt", "<"):
+            continue
+        writer = source.at(index + 3)
+        end = source.end_of(index + 3, (">",)) + 1
+        source.delete(index + 2, end, "writer of fmt")
+        for at in range(end, source.end_of(end, ("{",))):
+            if source.reads(at, "Formatter", "<", writer, ">"):
+                source.replace(at + 2, "'_", "formatter")
+    source.refresh()
+
+
+def name_octets(source):
+    """`Ipv4Addr::from_octets` is newer than the oldest compiler; `from` is the same."""
+    for index in source.words():
+        if source.at(index) == "from_octets" and source.is_path(index - 2):
+            source.replace(index, "from", "octets")
+
+
+def name_unsigned(source):
+    """`i32::cast_unsigned` is newer than the oldest compiler."""
+    for index in source.words():
+        if source.at(index) == "cast_unsigned" and source.at(index - 1) == ".":
+            source.replace(index, "to_unsigned", "unsigned")
+
+
+def name_zeros(source):
+    """`fill(0)` is a call of `memset` in Rust, also for the few bytes of a padding."""
+    for index in source.words():
+        if source.reads(index, "fill", "(", "0", ")") and source.at(index - 1) == ".":
+            source.replace(index, "fill_zeros", "zeros")
+            source.delete(index + 2, index + 3, "number of fill")
+    source.refresh()

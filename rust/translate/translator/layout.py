@@ -1,0 +1,142 @@
+"""Which crate becomes which folder of the Rust package, and what is put around its text."""
+
+import pathlib
+
+from . import macros
+from .paths import Place
+from .rules import Crate, Translation
+from .source import Unknown
+
+LIBRARY = (
+    "nla_frame",
+    "linkinfo_numbers",
+    "linkinfo_shapes",
+    "linkinfo_table",
+    "linkinfo_lower",
+    "linkinfo_devices",
+    "linkinfo_tunnels",
+    "linkinfo_peers",
+    "linkinfo_data",
+    "linkinfo",
+)
+LINES = "linkinfo_lines"
+TOOL = "linkinfo_tool"
+TESTS = {
+    "linkinfo_layers_tests": "layers",
+    "linkinfo_families_tests": "families",
+    "linkinfo_tests": "lists",
+}
+PARTLY_USED = "dead_code, unused_imports, unused_macros"
+# Some imports were used in contracts alone, and clippy's forms of these would be other text.
+TEST_ROOT = """#![allow(
+    unused_imports,
+    clippy::manual_next_back,
+    clippy::manual_range_contains,
+    clippy::type_complexity,
+    reason = "the text is that of the sources' tests"
+)]"""
+
+
+def module_of(crate):
+    """The module of a library crate: `table` of `linkinfo_table`; that of the list is `link`."""
+    return "link" if crate == "linkinfo" else crate.removeprefix("linkinfo_")
+
+
+def library_paths(root):
+    """What is written for the name of each library crate, below a root."""
+    return {crate: f"{root}::layers::{module_of(crate)}" for crate in LIBRARY}
+
+
+def place_of(crate):
+    """How the paths of a crate are written."""
+    if crate in LIBRARY:
+        paths = library_paths("crate")
+        return Place(paths[crate], paths, "crate::compat")
+    paths = library_paths("linkinfo") | {LINES: f"crate::{LINES}"}
+    if crate == LINES:
+        return Place(paths[LINES], paths, "linkinfo::compat", hosted=True)
+    support = "crate::support" if crate in TESTS else None
+    return Place("crate", paths, "linkinfo::compat", hosted=True, support=support)
+
+
+def read_crate(repository, name):
+    """The crate with the texts of its files."""
+    folder = repository / "crates" / name / "src"
+    files = sorted(folder.rglob("*.rt"))
+    texts = {str(f.relative_to(folder)): f.read_text(encoding="utf-8") for f in files}
+    return Crate(name, texts, place_of(name))
+
+
+def rust_name(file, root):
+    """The name of a file in the crate: `lib.rt` is `mod.rs` below a folder, else the given root."""
+    path = pathlib.PurePath(file)
+    return root if file in ("lib.rt", "main.rt") else str(path.with_suffix(".rs"))
+
+
+def written(crate, root):
+    """The texts of a crate, by their names in Rust."""
+    return {rust_name(file, root): source.text() for file, source in crate.sources.items()}
+
+
+def layers_text(libraries):
+    """The module that has one module for each library crate."""
+    head = (pathlib.Path(__file__).parent / "layers.rs").read_text(encoding="utf-8")
+    return head + "".join(f"pub mod {module_of(crate.name)};\n" for crate in libraries)
+
+
+def library_files(libraries):
+    """The generated part of `src`."""
+    files = {"src/layers.rs": layers_text(libraries)}
+    for crate in libraries:
+        folder = f"src/layers/{module_of(crate.name)}"
+        texts = written(crate, "mod.rs")
+        if names := macros.exported(crate.sources.values()):
+            texts["mod.rs"] += f"\n#[doc(inline)]\npub use crate::{{{', '.join(names)}}};\n"
+        files |= {f"{folder}/{name}": text for name, text in texts.items()}
+    return files
+
+
+def with_modules(text, modules):
+    """The root of a package with these `mod` items put in before its first item."""
+    lines = text.split("\n")
+    at = next(k for k, line in enumerate(lines) if line and not line.startswith(("//!", "#!")))
+    return "\n".join(lines[:at] + modules + [""] + lines[at:])
+
+
+def mounted(name, path):
+    """A module of another folder, of which not every item is used."""
+    return [f"#[allow({PARTLY_USED})]", f'#[path = "{path}"]', f"mod {name};"]
+
+
+def program_files(lines, tool):
+    """The program, as an example of the package."""
+    folder = f"examples/linkinfo/{LINES}"
+    files = {f"{folder}/{name}": text for name, text in written(lines, "mod.rs").items()}
+    module = [f"#[allow({PARTLY_USED})]", f"mod {LINES};"]
+    main = with_modules(written(tool, "main.rs")["main.rs"], module)
+    return files | {"examples/linkinfo/main.rs": main}
+
+
+def test_files(crate, target):
+    """The tests of a crate, as one target of cargo."""
+    texts = written(crate, "main.rs")
+    modules = [TEST_ROOT, "", "#[macro_use]", *mounted("support", "../support/mod.rs")]
+    if any(f"crate::{LINES}" in text for text in texts.values()):
+        modules += mounted(LINES, f"../../examples/linkinfo/{LINES}/mod.rs")
+    texts["main.rs"] = with_modules(texts["main.rs"], modules)
+    return {f"tests/{target}/{name}": text for name, text in texts.items()}
+
+
+def package_files(repository):
+    """Every generated file of the package, by its path below `rust`."""
+    libraries = [read_crate(repository, name) for name in LIBRARY]
+    library = Translation(libraries)
+    others = [read_crate(repository, name) for name in (LINES, TOOL, *TESTS)]
+    rest = Translation(others, library)
+    if dead := [old for old, _ in rest.sentences if old not in library.used | rest.used]:
+        raise Unknown(f"sentences.txt: no doc comment has {dead[0]!r}")
+    by_name = {crate.name: crate for crate in others}
+    files = library_files(libraries) | program_files(by_name[LINES], by_name[TOOL])
+    for name, target in TESTS.items():
+        files |= test_files(by_name[name], target)
+    return files
