@@ -53,7 +53,7 @@ mod netlink_packet_core;
 mod operators;
 
 pub use compat::{AllocError, AllocFailed};
-pub use layers::data::{InfoData, InfoDataOf, InfoPortData};
+pub use layers::data::{InfoData, InfoDataOf, InfoPortData, Unmet};
 pub use layers::devices::{
     InfoIpVlan, InfoIpVtap, InfoIpoib, InfoMacSec, InfoMacVlan, InfoMacVtap, InfoRmNet, InfoVrf,
     InfoVrfPort, InfoXfrm,
@@ -61,8 +61,8 @@ pub use layers::devices::{
 pub use layers::link::{
     CanonError, CanonIntoError, FaultIn, LinkInfo, LinkInfoItem, LinkInfoOf, LinkInfoWalk,
     LinkXstats, PlacedFault, VecLinkInfo, VecLinkInfoOf, canon, canon_into, canon_into_of,
-    canon_of, check, check_of, check_placed, check_placed_of, same, same_of, same_placed,
-    same_placed_of,
+    canon_of, check, check_of, check_placed, check_placed_of, first_unmet, first_unmet_of, same,
+    same_of, same_placed, same_placed_of,
 };
 pub use layers::lower::{
     InfoBond, InfoBondPort, InfoBridge, InfoBridgePort, InfoCan, InfoDsa, InfoHsr, InfoVlan,

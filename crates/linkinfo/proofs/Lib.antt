@@ -7,6 +7,7 @@ pub mod Places
 pub mod Placing
 pub mod Stated
 pub mod Steps
+pub mod Unmets
 pub mod Walking
 pub mod Whole
 pub mod Writing

@@ -19,12 +19,12 @@ use Rattle.linkinfo.proofs.Steps.{after_is, meant, meaning_is, headers_is, own_f
 
 module _ {P : Type 0} (peer : Families P) where
   -- an accepted string with an attribute in front
-  record Front (t : InForce) (a : Attribute) (s rest : List ℕ) : Type 0 where
-    first : IsOk (link_meaning peer t a)
-    more : IsOk (values_from peer (force_after t a) (pieces rest))
-    headers : headers_from peer t (pieces s) ≡ 1 + (link_headers peer t a + headers_from peer (force_after t a) (pieces rest))
+  pub record Front (t : InForce) (a : Attribute) (s rest : List ℕ) : Type 0 where
+    pub first : IsOk (link_meaning peer t a)
+    pub more : IsOk (values_from peer (force_after t a) (pieces rest))
+    pub headers : headers_from peer t (pieces s) ≡ 1 + (link_headers peer t a + headers_from peer (force_after t a) (pieces rest))
 
-  front : (t : InForce) (a : Attribute) (s rest : List ℕ) → pieces s ≡ Ok a ∷ pieces rest → IsOk (values_from peer t (pieces s)) → Front t a s rest
+  pub front : (t : InForce) (a : Attribute) (s rest : List ℕ) → pieces s ≡ Ok a ∷ pieces rest → IsOk (values_from peer t (pieces s)) → Front t a s rest
   front t a s rest e ok =
       go (link_meaning peer t a) (values_from peer (force_after t a) (pieces rest)) refl refl (subst (λ (ps : List (Result Attribute ℕ)). IsOk (values_from peer t ps)) e ok)
     where

@@ -38,16 +38,16 @@ module _ {P : Type 0} (peer : Families P) where
 
 -- ---- the kinds in force, by place
 
-abbrev named_kind : ℕ → Attribute → Option KindTag
+abbrev pub named_kind : ℕ → Attribute → Option KindTag
 named_kind n a = cond (eqb n 1) (Some (tag_of_name (stripped a.value))) None
 
-abbrev named_port : ℕ → Attribute → Option PortTag
+abbrev pub named_port : ℕ → Attribute → Option PortTag
 named_port n a = cond (eqb n 4) (Some (port_tag_of_name (stripped a.value))) None
 
 -- the kinds in force behind an attribute, by its type
-record Behind (n : ℕ) (t : InForce) (a : Attribute) (u : InForce) : Type 0 where
-  kind : u.kind ≡ first_or (named_kind n a) t.kind
-  port : u.port ≡ cond (eqb n 4 || eqb n 5) (named_port n a) t.port
+pub record Behind (n : ℕ) (t : InForce) (a : Attribute) (u : InForce) : Type 0 where
+  pub kind : u.kind ≡ first_or (named_kind n a) t.kind
+  pub port : u.port ≡ cond (eqb n 4 || eqb n 5) (named_port n a) t.port
 
 stays : (n : ℕ) (t : InForce) (a : Attribute) (u : InForce) → u ≡ t → eqb n 1 ≡ false → eqb n 4 ≡ false → eqb n 5 ≡ false → Behind n t a u
 stays n t a u e one four five = record {
@@ -80,7 +80,7 @@ port_used : (o : Option PortTag) (t : InForce) (a : Attribute) (u : InForce) →
 port_used (Some tag) t a u e = leaves_same (record { kind = t.kind; port = None }) u e
 port_used None t a u e = absurd cc
 
-behind_at : (n : ℕ) (t : InForce) (a : Attribute) (u : InForce) → behind_role (role_of t n) t a ≡ Ok u → Behind n t a u
+pub behind_at : (n : ℕ) (t : InForce) (a : Attribute) (u : InForce) → behind_role (role_of t n) t a ≡ Ok u → Behind n t a u
 unfolding role_of
 behind_at zero t a u e = stays zero t a u (leaves_same t u e) refl refl refl
 behind_at (suc zero) t a u e =
@@ -187,7 +187,7 @@ module _ {P : Type 0} (peer : Families P) where
   role_enters role.Misplaced t a x e = absurd cc
   role_enters role.Unknown t a x e = refl
 
-  meaning_enters : (t : InForce) (a : Attribute) (x : LinkInfoOf P) → link_meaning peer t a ≡ Ok x → behind t a ≡ Ok (force_after t a)
+  pub meaning_enters : (t : InForce) (a : Attribute) (x : LinkInfoOf P) → link_meaning peer t a ≡ Ok x → behind t a ≡ Ok (force_after t a)
   unfolding meaning_in force_after
   meaning_enters t a x e = role_enters (role_at t a) t a x e
 

@@ -7,5 +7,7 @@ pub mod LinkEqual
 pub mod Placed
 pub mod Roles
 pub mod Strings
+pub mod Unmet
+pub mod UnmetSteps
 pub mod Walks
 pub mod Xstats

@@ -13,6 +13,7 @@ mod link_info;
 mod list;
 mod placed;
 mod role;
+mod unmet;
 mod walk;
 mod xstats;
 
@@ -35,6 +36,7 @@ pub use nla_frame::{
     nlas_fit_len, nlas_to_vec,
 };
 pub use placed::{FaultIn, PlacedFault, check_placed, check_placed_of};
+pub use unmet::{first_unmet, first_unmet_of};
 pub use walk::{LinkInfoItem, LinkInfoWalk};
 pub use xstats::LinkXstats;
 

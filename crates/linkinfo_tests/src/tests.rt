@@ -14,6 +14,7 @@ mod fronts;
 mod kinds;
 mod laws;
 mod lines;
+mod links_unmet;
 mod lists;
 mod longest;
 mod nesting;

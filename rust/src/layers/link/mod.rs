@@ -13,6 +13,7 @@ mod link_info;
 mod list;
 mod placed;
 mod role;
+mod unmet;
 mod walk;
 mod xstats;
 
@@ -35,6 +36,7 @@ pub use list::{
     same_counted, same_counted_of, same_of, same_placed, same_placed_of,
 };
 pub use placed::{FaultIn, PlacedFault, check_placed, check_placed_of};
+pub use unmet::{first_unmet, first_unmet_of};
 pub use walk::{LinkInfoItem, LinkInfoWalk};
 pub use xstats::LinkXstats;
 

@@ -1,0 +1,431 @@
+-- What finding the first unmet attribute of a list rests on.
+use Rattle.std.specs.Prelude.{◌≡◌, ◌≢◌, ℕ, zero, suc, ◌+◌, ◌<◌, ◌≤◌, ◌^◌, nat_lt, Bool, true, false, List, [], ◌∷◌, ◌==◌, drop, length, refl}
+use Rattle.std.specs.Prelude.{Option, None, Some, Result, Ok, Err, IsOk, IfSome, if◌then◌else◌, is_some}
+use Rattle.std.specs.List.{AllByRecursion, find}
+use Rattle.std.specs.Option.{option_eq, option_map}
+use Rattle.std.specs.Str.{bytes_eq}
+use Rattle.std.proofs.Common.{arith, sym, ap, subst, ◌∙◌, inl, inr, cond, eqb, ◌||◌}
+use Rattle.std.proofs.lemmas.Bool.{cases_Bool, eqb-true}
+use Rattle.std.proofs.lemmas.Bool.Decides.{nat_tests}
+use Rattle.nla_frame.specs.Attribute.{Attribute, aligned, masked}
+use Rattle.nla_frame.specs.Payload.{stripped}
+use Rattle.nla_frame.specs.Pieces.{attribute_at, pieces}
+use Rattle.nla_frame.specs.declared.error.DecodeError.{DecodeError}
+use Rattle.nla_frame.specs.declared.error.Family.{Family}
+use Rattle.nla_frame.proofs.Stepping.{by_pieces, pieces_nil}
+use Rattle.linkinfo_numbers.specs.Kind.{tag_of_name}
+use Rattle.linkinfo_numbers.specs.PortKind.{port_tag_of_name}
+use Rattle.linkinfo_numbers.specs.declared.tags.KindTag.{KindTag}
+use Rattle.linkinfo_numbers.specs.declared.tags.PortTag.{PortTag}
+use Rattle.linkinfo_table.specs.Last.{StandsIn, attributes_of, has_type, last_of_type, offset_of, placed_from}
+use Rattle.linkinfo_table.specs.declared.last.PlacedNla.{PlacedNla}
+use Rattle.linkinfo_table.proofs.Lasts.{all_stand, last_passes, last_stands, stands_within}
+use Rattle.linkinfo_data.specs.Families.{Families}
+use Rattle.linkinfo_data.specs.Listing.{Listing, alike_in, family_in}
+use Rattle.linkinfo_data.specs.Unmet.{counts, last_like, list_unmet, misses, unmet_at}
+use Rattle.linkinfo_data.specs.declared.unmet.Unmet.{Unmet}
+use Rattle.linkinfo.specs.Items.{link_meaning}
+use Rattle.linkinfo.specs.Strings.{first_or, force_after, reading, values_from}
+use Rattle.linkinfo.specs.Unmet.{Named, counted_unmet, first_of, kinds_named, link_at, link_unmet, names_after}
+use Rattle.linkinfo.specs.Unmet.{inner_unmet, names_before, no_names, payload_unmet, same_kind}
+use Rattle.linkinfo.specs.UnmetSteps.{HasAttribute, IsAcceptedLink, kind_place, name_there, port_place}
+use Rattle.linkinfo.specs.declared.link_info.LinkInfoOf.{LinkInfoOf}
+use Rattle.linkinfo.specs.declared.link_info.LinkInfoOf.TheVariants as info
+use Rattle.linkinfo.specs.declared.role.InForce.{InForce}
+use Rattle.linkinfo.specs.declared.role.Role.TheVariants as role
+use Rattle.linkinfo.specs.declared.role.Role.{Role}
+use Rattle.linkinfo.specs.Roles.{role_at, role_of, role_under}
+use Rattle.nla_frame.specs.declared.error.Family.TheVariants as family
+use Rattle.std.proofs.lemmas.Slice.Eq.{bytes_eq-Decides}
+use Rattle.linkinfo_table.specs.Rows.{labelled}
+use Rattle.linkinfo_table.specs.SelfList.{inside as in_payload}
+use Rattle.linkinfo_data.specs.Data.{data_of, family_of}
+use Rattle.linkinfo_data.specs.Equal.{option_decides}
+use Rattle.linkinfo_data.specs.PortData.{port_data_of, port_family_of}
+use Rattle.linkinfo.proofs.Items.{unknown_from_six}
+use Rattle.linkinfo.proofs.Steps.{meaning_is, meant}
+use Rattle.linkinfo.proofs.Pairs.{front}
+use Rattle.linkinfo.proofs.Places.{behind_at, meaning_enters}
+
+-- ---- the kinds of the names are those that are current
+
+kind_named : (one : Bool) (s : List ℕ) (before : Option (List ℕ)) →
+    first_or (cond one (Some (tag_of_name s)) None) (option_map tag_of_name before)
+    ≡ option_map tag_of_name (if one then Some s else before)
+kind_named true s before = refl
+kind_named false s before = refl
+
+port_named : (four five : Bool) (s : List ℕ) (before : Option (List ℕ)) →
+    cond (four || five) (cond four (Some (port_tag_of_name s)) None) (option_map port_tag_of_name before)
+    ≡ option_map port_tag_of_name (if four then Some s else if five then None else before)
+port_named true true s before = refl
+port_named true false s before = refl
+port_named false true s before = refl
+port_named false false s before = refl
+
+in_force_is : (u : InForce) (kind : Option KindTag) (port : Option PortTag) → u.kind ≡ kind → u.port ≡ port →
+    u ≡ record { kind = kind; port = port }
+in_force_is u kind port e f =
+    ap (λ (k : Option KindTag). let v : InForce = record { kind = k; port = u.port } in v) e
+    ∙ ap (λ (p : Option PortTag). let v : InForce = record { kind = kind; port = p } in v) f
+
+-- ---- each attribute is behind those before it
+
+-- each of these is behind an offset
+abbrev Behind : ℕ → List PlacedNla → Type 0
+Behind n list = AllByRecursion (λ p. n ≤ p.offset) list
+
+raised : (m n : ℕ) (list : List PlacedNla) → m ≤ n → Behind n list → Behind m list
+raised m n [] le h = tt
+raised m n (p ∷ more) le h = (omega (arith, le, h.0), raised m n more le h.1)
+
+pub before_counts : (n : ℕ) (names : Named) (p : PlacedNla) (more : List PlacedNla) → nat_lt p.offset n ≡ true →
+    names_before n names (p ∷ more) ≡ names_before n (names_after names p.nla) more
+before_counts n names p more e = rw e refl
+
+pub before_passes : (n : ℕ) (names : Named) (p : PlacedNla) (more : List PlacedNla) → nat_lt p.offset n ≡ false →
+    names_before n names (p ∷ more) ≡ names_before n names more
+before_passes n names p more e = rw e refl
+
+none_before : (n : ℕ) (names : Named) (list : List PlacedNla) → Behind (n + 4) list →
+    names_before n names list ≡ names
+none_before n names [] far = refl
+none_before n names (p ∷ more) far =
+    let later : nat_lt p.offset n ≡ false = grind (arith, nat_tests, far.0) in
+    rw later (none_before n names more far.1)
+
+module _ {P : Type 0} (families : Families P) where
+  named_after : (names : Named) (a : Attribute) → IsOk (link_meaning families (kinds_named names) a) →
+      force_after (kinds_named names) a ≡ kinds_named (names_after names a)
+  named_after names a ok = go (link_meaning families (kinds_named names) a) refl ok
+    where
+      go : (m : Result (LinkInfoOf P) DecodeError) → link_meaning families (kinds_named names) a ≡ m → IsOk m →
+          force_after (kinds_named names) a ≡ kinds_named (names_after names a)
+      go (Ok x) e i =
+          let u = force_after (kinds_named names) a in
+          let is = behind_at (masked a.kind) (kinds_named names) a u (meaning_enters families (kinds_named names) a x e) in
+          in_force_is u _ _
+          (is.kind ∙ kind_named (eqb (masked a.kind) 1) (stripped a.value) names.kind)
+          (is.port ∙ port_named (eqb (masked a.kind) 4) (eqb (masked a.kind) 5) (stripped a.value) names.port)
+      go (Err d) e i = absurd cc
+
+  -- ---- each attribute of an accepted list means something under its names
+
+  abbrev MeansUnder : Named → PlacedNla → Type 0
+  MeansUnder names p = IsOk (link_meaning families (kinds_named names) p.nla)
+
+  -- under the names before it, from some names on
+  abbrev MeansIn : Named → List PlacedNla → PlacedNla → Type 0
+  MeansIn names list p = MeansUnder (names_before p.offset names list) p
+
+  -- what is behind an attribute has the names after it
+  skipped : (names : Named) (p : PlacedNla) (more list : List PlacedNla) → Behind (p.offset + 4) list →
+      AllByRecursion (MeansIn (names_after names p.nla) more) list → AllByRecursion (MeansIn names (p ∷ more)) list
+  skipped names p more [] far h = tt
+  skipped names p more (q ∷ rest) far h =
+      let later : nat_lt p.offset q.offset ≡ true = grind (arith, nat_tests, far.0) in
+      (subst (λ (names : Named). MeansUnder names q) (sym (before_counts q.offset names p more later)) h.0, skipped names p more rest far.1 h.1)
+
+  here : (names : Named) (p : PlacedNla) (more : List PlacedNla) → Behind (p.offset + 4) more →
+      MeansUnder names p → MeansIn names (p ∷ more) p
+  here names p more far h =
+      let not_before : nat_lt p.offset p.offset ≡ false = grind (arith, nat_tests) in
+      subst (λ (names : Named). MeansUnder names p)
+      (sym (before_passes p.offset names p more not_before ∙ none_before p.offset names more far)) h
+
+  pub record Each (names : Named) (n : ℕ) (s : List ℕ) : Type 0 where
+    pub means : AllByRecursion (MeansIn names (placed_from n (pieces s))) (placed_from n (pieces s))
+    pub behind : Behind n (placed_from n (pieces s))
+
+  each : (s : List ℕ) (names : Named) (n : ℕ) → IsOk (values_from families (kinds_named names) (pieces s)) → Each names n s
+  each s =
+      by_pieces (λ s. (names : Named) (n : ℕ) → IsOk (values_from families (kinds_named names) (pieces s)) → Each names n s)
+      (λ names n ok. record { means = rw pieces_nil tt; behind = rw pieces_nil tt })
+      (λ t some e names n ok. record { means = rw e tt; behind = rw e tt })
+      (λ t a rest e room more names n ok.
+      let f = front families (kinds_named names) a t rest e ok in
+      let next = names_after names a in
+      let after = n + aligned (4 + length a.value) in
+      let go : IsOk (values_from families (kinds_named next) (pieces rest)) =
+      subst (λ (t : InForce). IsOk (values_from families t (pieces rest))) (named_after names a f.first) f.more in
+      let tail = more next after go in
+      let p : PlacedNla = record { offset = n; nla = a } in
+      let far : Behind (n + 4) (placed_from after (pieces rest)) = raised (n + 4) after (placed_from after (pieces rest)) (omega arith) tail.behind in
+      record {
+        means = rw e (here names p (placed_from after (pieces rest)) far f.first, skipped names p (placed_from after (pieces rest)) (placed_from after (pieces rest)) far tail.means);
+        behind = rw e (omega arith, raised n after (placed_from after (pieces rest)) (omega arith) tail.behind);
+      })
+      s
+
+  -- .. and is in memory as a whole
+  accepted : (s : List ℕ) (list : List PlacedNla) → length s < 2 ^ 64 → AllByRecursion (StandsIn s) list →
+      AllByRecursion (MeansIn no_names (attributes_of s)) list →
+      AllByRecursion (λ p. IsAcceptedLink families (link_at s p)) list
+  accepted s [] small h k = tt
+  accepted s (p ∷ more) small h k =
+      (record { means = k.0; room = omega (arith, stands_within s p h.0, small) }, accepted s more small h.1 k.1)
+
+  pub links_accepted : (s : List ℕ) → length s < 2 ^ 64 → IsOk (reading families s) →
+      AllByRecursion (λ p. IsAcceptedLink families (link_at s p)) (attributes_of s)
+  unfolding reading attributes_of
+  links_accepted s small ok =
+      accepted s (attributes_of s) small (all_stand s) (each s no_names 0 ok).means
+
+-- ---- the names by the offsets of their attributes
+
+abbrev pub named_at : List ℕ → Option ℕ → Option ℕ → Named
+named_at s kind port = record {
+  kind = option_map (name_there s) kind;
+  port = option_map (name_there s) port;
+}
+
+module _ (s : List ℕ) (at : ℕ) (a : Attribute) (there : attribute_at (drop at s) ≡ Ok a) (small : at ≤ length s) where
+  has_attribute : HasAttribute s at
+  has_attribute = record { within = small; attribute = rw there refl }
+
+  name_is : name_there s at ≡ stripped a.value
+  name_is = rw there refl
+
+  pub kind_kept : (is_before : Bool) (kind : ℕ) (old : Option ℕ) → IfSome old (HasAttribute s) →
+      IfSome (kind_place is_before kind at old) (HasAttribute s)
+  kind_kept true kind old h =
+      elim (cases_Bool (kind == 1)) [
+        | inl is ↦ rw is has_attribute
+        | inr other ↦ rw other h
+      ]
+  kind_kept false kind old h = h
+
+  pub port_kept : (is_before : Bool) (kind : ℕ) (old : Option ℕ) → IfSome old (HasAttribute s) →
+      IfSome (port_place is_before kind at old) (HasAttribute s)
+  port_kept true kind old h =
+      elim (cases_Bool (kind == 4)) [
+        | inl is ↦ rw is has_attribute
+        | inr other ↦
+            elim (cases_Bool (kind == 5)) [
+              | inl used ↦ rw (other, used) tt
+              | inr none ↦ rw (other, none) h
+            ]
+      ]
+  port_kept false kind old h = h
+
+  kind_is : (kind : ℕ) (old : Option ℕ) → option_map (name_there s) (kind_place true kind at old)
+      ≡ (if kind == 1 then Some (stripped a.value) else option_map (name_there s) old)
+  kind_is kind old =
+      elim (cases_Bool (kind == 1)) [
+        | inl is ↦ rw is (ap Some name_is)
+        | inr other ↦ rw other refl
+      ]
+
+  port_is : (kind : ℕ) (old : Option ℕ) → option_map (name_there s) (port_place true kind at old)
+      ≡ (if kind == 4 then Some (stripped a.value) else if kind == 5 then None else option_map (name_there s) old)
+  port_is kind old =
+      elim (cases_Bool (kind == 4)) [
+        | inl is ↦ rw is (ap Some name_is)
+        | inr other ↦
+            elim (cases_Bool (kind == 5)) [
+              | inl used ↦ rw (other, used) refl
+              | inr none ↦ rw (other, none) refl
+            ]
+      ]
+
+  named_is : (m n : Named) → m.kind ≡ n.kind → m.port ≡ n.port → m ≡ n
+  named_is m n e f =
+      ap (λ (k : Option (List ℕ)). let v : Named = record { kind = k; port = m.port } in v) e
+      ∙ ap (λ (p : Option (List ℕ)). let v : Named = record { kind = n.kind; port = p } in v) f
+
+  pub named_step : (is_before : Bool) (kind port : Option ℕ) →
+      named_at s (kind_place is_before (masked a.kind) at kind) (port_place is_before (masked a.kind) at port)
+      ≡ (if is_before then names_after (named_at s kind port) a else named_at s kind port)
+  named_step true kind port = named_is _ _ (kind_is (masked a.kind) kind) (port_is (masked a.kind) port)
+  named_step false kind port = refl
+
+-- ---- the first one
+
+module _ (unmet : PlacedNla → Option Unmet) (p : PlacedNla) (more : List PlacedNla) where
+  pub first_here : (found : Unmet) → unmet p ≡ Some found → first_of unmet (p ∷ more) ≡ Some found
+  first_here found e = rw e refl
+
+  pub first_later : unmet p ≡ None → first_of unmet (p ∷ more) ≡ first_of unmet more
+  first_later e = rw e refl
+
+-- ---- inside a payload
+
+find_holds : {A : Type 0} (P : A → Type 0) (test : A → Bool) (list : List A) → AllByRecursion P list →
+    IfSome (find test list) P
+find_holds P test [] all = tt
+find_holds P test (x ∷ more) all =
+    elim (cases_Bool (test x)) [
+      | inl passes ↦ rw passes all.0
+      | inr other ↦ rw other (find_holds P test more all.1)
+    ]
+
+-- what is not met is at offsets of the payloads
+pub record Inside (have want : List ℕ) (u : Unmet) : Type 0 where
+  pub wanted : u.want ≤ length want
+  pub found : IfSome u.have (λ n. n ≤ length have)
+
+offset_inside : (s : List ℕ) (o : Option PlacedNla) → IfSome o (StandsIn s) → IfSome (offset_of o) (λ n. n ≤ length s)
+offset_inside s None h = tt
+offset_inside s (Some p) h = omega (arith, stands_within s p h)
+
+pub inside : (name : Family) (alike : Attribute → Attribute → Bool) (have want : List ℕ) (u : Unmet) →
+    list_unmet name alike (attributes_of have) (attributes_of want) ≡ Some u → Inside have want u
+inside name alike have want u e =
+    go (find (misses alike (attributes_of have) (attributes_of want)) (attributes_of want))
+    (find_holds (StandsIn want) (misses alike (attributes_of have) (attributes_of want)) (attributes_of want) (all_stand want)) e
+  where
+    some_is : (v w : Unmet) → Some v ≡ Some w → w ≡ v
+    some_is v w h = cc
+
+    go : (o : Option PlacedNla) → IfSome o (StandsIn want) →
+        option_map (unmet_at name (attributes_of have)) o ≡ Some u → Inside have want u
+    go None h k = absurd cc
+    go (Some p) h k =
+        let is = some_is (unmet_at name (attributes_of have) p) u k in
+        subst (λ (v : Unmet). Inside have want v) (sym is)
+        (record {
+          wanted = omega (arith, stands_within want p h);
+          found = offset_inside have (last_like (attributes_of have) p) (last_stands (masked p.nla.kind) have);
+        })
+
+pub payload_list : (o : Option Listing) (name : Family) (alike : List ℕ → List ℕ → Bool) (have want : PlacedNla) (u : Unmet) →
+    family_in o ≡ Some name →
+    list_unmet name (alike_in o) (attributes_of have.nla.value) (attributes_of want.nla.value) ≡ Some u →
+    payload_unmet o alike have want ≡ Some (inner_unmet want have u)
+payload_list None name alike have want u e k = absurd cc
+payload_list (Some l) name alike have want u e k =
+    let same : l.family ≡ name = cc in
+    rw (same, k) refl
+
+-- ---- as two indexes find them
+
+pub last_type : (kind : ℕ) (list : List PlacedNla) →
+    IfSome (last_of_type kind list) (λ p. masked p.nla.kind ≡ kind)
+last_type kind list = go (last_of_type kind list) (last_passes (has_type kind) None list tt)
+  where
+    go : (o : Option PlacedNla) → IfSome o (λ p. has_type kind p ≡ true) → IfSome o (λ p. masked p.nla.kind ≡ kind)
+    go None h = tt
+    go (Some p) h = eqb-true _ _ h
+
+module _ (s t : List ℕ) (w : PlacedNla) (kind : ℕ) (indexed : t ≡ s) (typed : kind ≡ masked w.nla.kind) where
+  pub last_found : (found : Option PlacedNla) → found ≡ last_of_type kind (attributes_of t) →
+      found ≡ last_like (attributes_of s) w
+  last_found found e =
+      e ∙ ap (λ (k : ℕ). last_of_type k (attributes_of t)) typed
+      ∙ ap (λ (u : List ℕ). last_like (attributes_of u) w) indexed
+
+  pub counts_found : (offset : Option ℕ) (n : ℕ) (r : Bool) → offset ≡ offset_of (last_of_type kind (attributes_of t)) →
+      n ≡ w.offset → r ≡ option_eq ◌==◌ offset (Some n) → counts (attributes_of s) w ≡ r
+  counts_found offset n r e at is =
+      let found = last_found (last_of_type kind (attributes_of t)) refl in
+      let same : offset ≡ offset_of (last_like (attributes_of s) w) =
+      e ∙ ap (λ (o : Option PlacedNla). offset_of o) found in
+      sym
+      (is ∙ ap (λ (o : Option ℕ). option_eq ◌==◌ o (Some n)) same
+      ∙ ap (λ (k : ℕ). option_eq ◌==◌ (offset_of (last_like (attributes_of s) w)) (Some k)) at)
+
+module _ {P : Type 0} (families : Families P) (have want : List ℕ) (w : PlacedNla) where
+  pub counted_is : (found : Option PlacedNla) (r : Option Unmet) → counts (attributes_of want) w ≡ true →
+      found ≡ last_like (attributes_of have) w → r ≡ link_unmet families (option_map (link_at have) found) (link_at want w) →
+      counted_unmet families have want w ≡ r
+  counted_is found r counted e is =
+      rw counted
+      (ap (λ (o : Option PlacedNla). link_unmet families (option_map (link_at have) o) (link_at want w)) (sym e) ∙ sym is)
+
+  pub not_counted : counts (attributes_of want) w ≡ false → counted_unmet families have want w ≡ None
+  not_counted e = rw e refl
+
+pub none_of : (o : Option Unmet) → is_some o ≡ false → o ≡ None
+none_of None e = refl
+none_of (Some u) e = absurd cc
+
+-- ---- attributes of one type and kind have one role
+
+same_names : (m n : Option (List ℕ)) → option_eq bytes_eq m n ≡ true → m ≡ n
+same_names m n e = (option_decides bytes_eq-Decides m n).0 e
+
+role_is : (m n : Named) (k : ℕ) (r : Role) → r ≡ role_of (kinds_named n) k → r ≢ role.Misplaced →
+    same_kind r m n ≡ true → role_of (kinds_named m) k ≡ r
+unfolding role_of
+role_is m n zero r e known same = sym e
+role_is m n (suc zero) r e known same = sym e
+role_is m n (suc (suc zero)) r e known same = go n.kind refl
+  where
+    go : (o : Option (List ℕ)) → n.kind ≡ o → role_of (kinds_named m) 2 ≡ r
+    go None is = absurd (known (e ∙ ap (λ (p : Option (List ℕ)). role_under (option_map tag_of_name p) (λ tag. role.Data tag)) is))
+    go (Some name) is =
+        let of_kind = e ∙ ap (λ (p : Option (List ℕ)). role_under (option_map tag_of_name p) (λ tag. role.Data tag)) is in
+        let names = same_names m.kind n.kind (rw of_kind at same) in
+        ap (λ (p : Option (List ℕ)). role_under (option_map tag_of_name p) (λ tag. role.Data tag)) names ∙ sym e
+role_is m n (suc (suc (suc zero))) r e known same = go n.kind refl
+  where
+    go : (o : Option (List ℕ)) → n.kind ≡ o → role_of (kinds_named m) 3 ≡ r
+    go None is = absurd (known (e ∙ ap (λ (p : Option (List ℕ)). role_under (option_map tag_of_name p) (λ _. role.Xstats)) is))
+    go (Some name) is =
+        let of_kind = e ∙ ap (λ (p : Option (List ℕ)). role_under (option_map tag_of_name p) (λ _. role.Xstats)) is in
+        let names = same_names m.kind n.kind (rw of_kind at same) in
+        ap (λ (p : Option (List ℕ)). role_under (option_map tag_of_name p) (λ _. role.Xstats)) names ∙ sym e
+role_is m n (suc (suc (suc (suc zero)))) r e known same = sym e
+role_is m n (suc (suc (suc (suc (suc zero))))) r e known same = go n.port refl
+  where
+    go : (o : Option (List ℕ)) → n.port ≡ o → role_of (kinds_named m) 5 ≡ r
+    go None is = absurd (known (e ∙ ap (λ (p : Option (List ℕ)). role_under (option_map port_tag_of_name p) (λ tag. role.PortData tag)) is))
+    go (Some name) is =
+        let of_kind = e ∙ ap (λ (p : Option (List ℕ)). role_under (option_map port_tag_of_name p) (λ tag. role.PortData tag)) is in
+        let names = same_names m.port n.port (rw of_kind at same) in
+        ap (λ (p : Option (List ℕ)). role_under (option_map port_tag_of_name p) (λ tag. role.PortData tag)) names ∙ sym e
+role_is m n (suc (suc (suc (suc (suc (suc k)))))) r e known same =
+    unknown_from_six (kinds_named m) k ∙ sym (e ∙ unknown_from_six (kinds_named n) k)
+
+module _ {P : Type 0} (families : Families P) where
+  abbrev ok_meant : Role → Attribute → Type 0
+  ok_meant r a = IsOk (meant families r a)
+
+  is_placed : (r : Role) (a : Attribute) → ok_meant r a → r ≢ role.Misplaced
+  is_placed r a ok e = no (subst (λ (q : Role). ok_meant q a) e ok)
+    where
+      no : ok_meant role.Misplaced a → ⊥
+      no h = absurd cc
+
+  -- what two attributes mean by the role of the second
+  pub record Roles (have want : List ℕ) (h w : PlacedNla) (r : Role) : Type 0 where
+    pub found : IsOk (meant families r h.nla)
+    pub wanted : IsOk (meant families r w.nla)
+
+  pub roles : (have want : List ℕ) (h w : PlacedNla) (k : ℕ) (t : InForce) (m n : Named) (r : Role) →
+      r ≡ role_of t k → k ≡ masked w.nla.kind → t ≡ kinds_named n → n ≡ (link_at want w).named → m ≡ (link_at have h).named →
+      true ≡ same_kind r m n → masked h.nla.kind ≡ masked w.nla.kind →
+      IsAcceptedLink families (link_at have h) → IsAcceptedLink families (link_at want w) → Roles have want h w r
+  roles have want h w k t m n r is number kinds named had same typed hok wok =
+      let role : r ≡ role_of (kinds_named n) (masked w.nla.kind) =
+      is ∙ ap (λ (q : ℕ). role_of t q) number ∙ ap (λ (u : InForce). role_of u (masked w.nla.kind)) kinds in
+      let at_want : r ≡ role_at (kinds_named (link_at want w).named) w.nla =
+      role ∙ ap (λ (q : Named). role_of (kinds_named q) (masked w.nla.kind)) named in
+      let wanted = subst (λ (x : Result (LinkInfoOf P) DecodeError). IsOk x)
+      (meaning_is families (kinds_named (link_at want w).named) w.nla r at_want) wok.means in
+      let other = role_is m n (masked w.nla.kind) r role (is_placed r w.nla wanted) (sym same) in
+      let at_have : r ≡ role_at (kinds_named (link_at have h).named) h.nla =
+      sym other ∙ ap (λ (q : Named). role_of (kinds_named q) (masked w.nla.kind)) had
+      ∙ ap (λ (q : ℕ). role_of (kinds_named (link_at have h).named) q) (sym typed) in
+      record {
+        found = subst (λ (x : Result (LinkInfoOf P) DecodeError). IsOk x)
+            (meaning_is families (kinds_named (link_at have h).named) h.nla r at_have) hok.means;
+        wanted = wanted;
+      }
+
+  payload_ok : {X : Type 0} (n : ℕ) (label : X → LinkInfoOf P) (r : Result X DecodeError) →
+      IsOk (labelled family.LinkInfo n label (in_payload r)) → IsOk r
+  payload_ok n label (Ok x) ok = refl
+  payload_ok n label (Err e) ok = absurd cc
+
+  pub data_ok : (tag : KindTag) (r : Role) (a : Attribute) → r ≡ role.Data tag → IsOk (meant families r a) →
+      IsOk ((data_of families (family_of tag)).means a.value)
+  data_ok tag r a is ok =
+      payload_ok (masked a.kind) (λ d. info.Data d) ((data_of families (family_of tag)).means a.value)
+      (subst (λ (q : Role). ok_meant q a) is ok)
+
+  pub port_ok : (tag : PortTag) (r : Role) (a : Attribute) → r ≡ role.PortData tag → IsOk (meant families r a) →
+      IsOk ((port_data_of (port_family_of tag)).means a.value)
+  port_ok tag r a is ok =
+      payload_ok (masked a.kind) (λ d. info.PortData d) ((port_data_of (port_family_of tag)).means a.value)
+      (subst (λ (q : Role). ok_meant q a) is ok)

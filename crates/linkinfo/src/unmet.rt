@@ -1,0 +1,279 @@
+//! Whether a link has what is asked for, and what it lacks.
+
+ghost use Rattle.std.specs.Prelude.{◌≡◌, ◌≢◌, ◌+◌, ◌<◌, ◌^◌, IfErr, IfSome, IsOk, length};
+ghost use Rattle.nla_frame.specs.Error.{memory_fault};
+ghost use Rattle.linkinfo.specs.Comparing.{fault_in};
+ghost use Rattle.nla_frame.specs.Attribute.{masked};
+ghost use Rattle.linkinfo.specs.UnmetSteps.{HasAttribute, IsAcceptedLink, kind_place, name_there, port_place};
+ghost use Rattle.nla_frame.specs.declared.error.Family.TheVariants as family;
+ghost use Rattle.std.specs.Option.{option_copied, option_map};
+ghost use Rattle.linkinfo_table.specs.Last.{attributes_of};
+ghost use Rattle.linkinfo_table.specs.Rows.{row_alike, row_meaning};
+ghost use Rattle.linkinfo_data.specs.BytesPeer.{bytes_peer};
+ghost use Rattle.linkinfo.specs.Items.{link_other, link_row};
+ghost use Rattle.linkinfo.specs.Strings.{reading};
+ghost use Rattle.linkinfo.specs.Unmet.{data_unmet, item_unmet, kinds_named, link_at, link_unmet, names_before, names_in, no_names, same_kind, strings_unmet, unmet_answer};
+
+use crate::item::same_item;
+use crate::list::check_of;
+use crate::placed::FaultIn;
+use crate::role::{InForce, Role, role_of};
+use linkinfo_data::{
+    DataFamilies, DataFamily, InfoDataOf, InfoPortData, PayloadFamily, PortFamily, Unmet,
+    family_of, list_unmet, port_family_of,
+};
+use linkinfo_numbers::{
+    IFLA_INFO_KIND, IFLA_INFO_SLAVE_DATA, IFLA_INFO_SLAVE_KIND, port_tag_of_name, tag_of_name,
+};
+use linkinfo_table::{LastOfType, LinkPeer, PlacedNla};
+use nla_frame::{Bytes, Family, HeaderCount, NlaBuffer, next_piece, without_nul};
+
+/// The names of the current kinds.
+#[derive(Clone, Copy)]
+struct Names<'a> {
+    kind: Option<&'a [u8]>,
+    port: Option<&'a [u8]>,
+}
+
+impl<'a> Names<'a> {
+    /// The kinds that they name.
+    fn kinds(self) -> InForce
+        ensures { result ≡ kinds_named (names_in self.entry) }
+    {
+        InForce {
+            kind: match self.kind {
+                Some(name) => Some(tag_of_name(name)),
+                None => None,
+            },
+            port: match self.port {
+                Some(name) => Some(port_tag_of_name(name)),
+                None => None,
+            },
+        }
+    }
+}
+
+/// Where the current kind is named after an attribute of this type at an offset, which counts where it
+/// is before another one.
+fn kind_after(is_before: bool, kind: u16, offset: usize, old: Option<usize>) -> Option<usize>
+    ensures { result ≡ kind_place is_before kind offset old }
+{
+    if is_before && kind == IFLA_INFO_KIND {
+        Some(offset)
+    } else {
+        old
+    }
+}
+
+/// Where the current port kind is named, in the same way: port data uses it up.
+fn port_after(is_before: bool, kind: u16, offset: usize, old: Option<usize>) -> Option<usize>
+    ensures { result ≡ port_place is_before kind offset old }
+{
+    if !is_before {
+        return old;
+    }
+    match kind {
+        IFLA_INFO_SLAVE_KIND => Some(offset),
+        IFLA_INFO_SLAVE_DATA => None,
+        _ => old,
+    }
+}
+
+/// The name in the attribute at an offset. Requires that one is there.
+fn name_at<'a>(bytes: &'a [u8], offset: Option<usize>) -> Option<&'a [u8]>
+    requires { IfSome offset (HasAttribute bytes.now) }
+    ensures { option_copied result ≡ option_map (name_there bytes.now) offset }
+{
+    let offset = offset?;
+    let nla = NlaBuffer::new_checked(&bytes[offset..]).unwrap();
+    Some(without_nul(nla.value()))
+}
+
+/// The names that are current at an offset.
+fn names_before<'a>(bytes: &'a [u8], offset: usize) -> Names<'a>
+    ensures { names_in result ≡ names_before offset no_names (attributes_of bytes.now) }
+{
+    let mut kind = None;
+    let mut port = None;
+    let mut count = HeaderCount::new();
+    let mut rest = bytes;
+    while let Some(Ok((nla, after))) = next_piece(rest, &mut count) {
+        let place = bytes.len() - rest.len();
+        let is_before = place < offset;
+        kind = kind_after(is_before, nla.kind(), place, kind);
+        port = port_after(is_before, nla.kind(), place, port);
+        rest = after;
+    }
+    Names {
+        kind: name_at(bytes, kind),
+        port: name_at(bytes, port),
+    }
+}
+
+/// Whether what an attribute of this role belongs to has the same name in both lists.
+fn is_same_kind(role: Role, have: Names<'_>, want: Names<'_>) -> bool
+    ensures { result ≡ same_kind role (names_in have.entry) (names_in want.entry) }
+{
+    match role {
+        Role::Data(_) | Role::Xstats => have.kind == want.kind,
+        Role::PortData(_) => have.port == want.port,
+        Role::Kind | Role::PortKind | Role::Misplaced | Role::Unknown => true,
+    }
+}
+
+/// An attribute of the list that is not met as a whole.
+fn whole(want: &PlacedNla<'_>, have: Option<usize>) -> Unmet
+    ensures { result ≡ record { family = family.LinkInfo; kind = masked want.now.nla.kind; want = want.now.offset; have = have } }
+{
+    Unmet {
+        family: Family::LinkInfo,
+        kind: want.nla.kind(),
+        want: want.offset,
+        have,
+    }
+}
+
+/// What of data `want` does not find in data `have` of its kind: an attribute, where data is a list.
+fn data_unmet<D: Drop, F: PayloadFamily<D>>(
+    family: F,
+    have: &PlacedNla<'_>,
+    want: &PlacedNla<'_>,
+) -> Option<Unmet>
+    requires have { IsOk ((F.data_of family).means have.now.nla.value) }
+    requires want { IsOk ((F.data_of family).means want.now.nla.value) }
+    requires have_room { have.now.offset + (4 + length have.now.nla.value) < 2 ^ 64 }
+    requires want_room { want.now.offset + (4 + length want.now.nla.value) < 2 ^ 64 }
+    ensures { result ≡ data_unmet (F.data_of family) have.now want.now }
+{
+    let (had, wanted) = (have.nla.value(), want.nla.value());
+    match family.listing() {
+        Some(name) => {
+            let inner = list_unmet::<D, F>(family, name, had, wanted)?;
+            Some(Unmet {
+                family: inner.family,
+                kind: inner.kind,
+                want: want.offset + 4 + inner.want,
+                have: match inner.have {
+                    Some(offset) => Some(have.offset + 4 + offset),
+                    None => None,
+                },
+            })
+        }
+        None if had == wanted || family.same(had, wanted, &mut HeaderCount::new()) => None,
+        None => Some(whole(want, Some(have.offset))),
+    }
+}
+
+/// What of an attribute of `want` the last one of its type in `have` does not meet.
+fn placed_unmet<P: LinkPeer>(
+    have: &[u8],
+    found: &Option<PlacedNla<'_>>,
+    want: &[u8],
+    placed: &PlacedNla<'_>,
+) -> Option<Unmet>
+    requires have { IfSome found.now (λ p. IsAcceptedLink ⟦<P as DataFamilies>⟧.families (link_at have.now p)) }
+    requires want { IsAcceptedLink ⟦<P as DataFamilies>⟧.families (link_at want.now placed.now) }
+    requires same_type { IfSome found.now (λ p. masked p.nla.kind ≡ masked placed.now.nla.kind) }
+    ensures { result ≡ link_unmet ⟦<P as DataFamilies>⟧.families (option_map (link_at have.now) found.now) (link_at want.now placed.now) }
+{
+    let Some(found) = found else {
+        return Some(whole(placed, None));
+    };
+    let had = names_before(have, found.offset);
+    let wanted = names_before(want, placed.offset);
+    let role = role_of(wanted.kinds(), placed.nla.kind());
+    if !is_same_kind(role, had, wanted) {
+        return Some(whole(placed, Some(found.offset)));
+    }
+    match role {
+        Role::Data(tag) => data_unmet::<InfoDataOf<P>, DataFamily>(family_of(tag), found, placed),
+        Role::PortData(tag) => {
+            data_unmet::<InfoPortData, PortFamily>(port_family_of(tag), found, placed)
+        }
+        _ => item_unmet::<P>(role, found, placed),
+    }
+}
+
+/// What of an attribute that is no data another one of its type and role does not meet: nothing, or
+/// the whole.
+fn item_unmet<P: LinkPeer>(role: Role, have: &PlacedNla<'_>, want: &PlacedNla<'_>) -> Option<Unmet>
+    requires have { IsOk (row_meaning family.LinkInfo link_other (link_row ⟦<P as DataFamilies>⟧.families role) have.now.nla) }
+    requires want { IsOk (row_meaning family.LinkInfo link_other (link_row ⟦<P as DataFamilies>⟧.families role) want.now.nla) }
+    ensures { result ≡ item_unmet (row_alike (link_row ⟦<P as DataFamilies>⟧.families role)) have.now want.now }
+{
+    if have.nla.value() == want.nla.value()
+        || same_item::<P>(&have.nla, &want.nla, role, &mut HeaderCount::new())
+    {
+        None
+    } else {
+        Some(whole(want, Some(have.offset)))
+    }
+}
+
+/// The first attribute of an accepted list that another one does not meet.
+fn first_unmet_in<P: LinkPeer>(have: &[u8], want: &[u8]) -> Option<Unmet>
+    requires have { IsOk (reading ⟦<P as DataFamilies>⟧.families have.now) }
+    requires want { IsOk (reading ⟦<P as DataFamilies>⟧.families want.now) }
+    ensures { result ≡ strings_unmet ⟦<P as DataFamilies>⟧.families have.now want.now }
+{
+    let found = LastOfType::new(have);
+    let wanted = LastOfType::new(want);
+    let mut count = HeaderCount::new();
+    let mut rest = want;
+    while let Some(Ok((nla, after))) = next_piece(rest, &mut count) {
+        let offset = want.len() - rest.len();
+        let placed = PlacedNla { offset, nla };
+        let kind = placed.nla.kind();
+        if wanted.offset(kind) == Some(offset) {
+            let last = found.find(kind);
+            let unmet = placed_unmet::<P>(have, &last, want, &placed);
+            if unmet.is_some() {
+                return unmet;
+            }
+        }
+        rest = after;
+    }
+    None
+}
+
+/// The first attribute of the list `want` that the list `have` does not meet, with peers of type `P`,
+/// or `None` where `have` has all that `want` asks for, whatever it has beyond that, in any order.
+///
+/// Of several attributes of a type the last one counts, as in the kernel. It is met where the last
+/// attribute of its type in `have`, of the same kind or port kind, has an equal payload or is
+/// equivalent. Data that is a list is compared attribute by attribute (`list_unmet`); names, other
+/// data and statistics as a whole. Flags of a type do not matter.
+///
+/// Of what is not met, `family` is that of the attribute inside data, or `Family::LinkInfo` of one
+/// of the list; offsets count from the beginning of each list. The error is that of `have`, else
+/// that of `want`. It takes a pass over both lists for each attribute of `want` outside data. Takes
+/// no memory.
+pub fn first_unmet_of<P: LinkPeer>(have: &[u8], want: &[u8]) -> Result<Option<Unmet>, FaultIn>
+    ensures answer { result ≡ unmet_answer (reading ⟦<P as DataFamilies>⟧.families have.now) (reading ⟦<P as DataFamilies>⟧.families want.now) (strings_unmet ⟦<P as DataFamilies>⟧.families have.now want.now) }
+    ensures no_memory { IfErr result (λ at. fault_in at ≢ memory_fault) }
+{
+    match check_of::<P>(have) {
+        Ok(()) => {}
+        Err(fault) => return Err(FaultIn::First(fault)),
+    }
+    match check_of::<P>(want) {
+        Ok(()) => {}
+        Err(fault) => return Err(FaultIn::Second(fault)),
+    }
+    Ok(first_unmet_in::<P>(have, want))
+}
+
+/// `first_unmet_of`, with peers kept as bytes.
+///
+/// ```text
+/// match first_unmet(&received, &wanted)? {
+///     None => .., // the link has all that is wanted
+///     Some(unmet) => .., // an attribute at offset `unmet.want` of what is wanted
+/// }
+/// ```
+pub fn first_unmet(have: &[u8], want: &[u8]) -> Result<Option<Unmet>, FaultIn>
+    ensures answer { result ≡ unmet_answer (reading bytes_peer have.now) (reading bytes_peer want.now) (strings_unmet bytes_peer have.now want.now) }
+    ensures no_memory { IfErr result (λ at. fault_in at ≢ memory_fault) }
+{
+    first_unmet_of::<Bytes>(have, want)
+}

@@ -1,0 +1,192 @@
+//! Whether a link has what is asked for, and what it lacks.
+
+use super::assertions::{HEADER_FAULT, assert_equal, bytes_of, link_fault};
+use linkinfo::{BitPeer, Bytes, Cause, Family, FaultIn, Unmet, first_unmet, first_unmet_of};
+
+/// An attribute that is not met: its family and type, its offset, and that of the other one.
+type At = (Family, u16, usize, Option<usize>);
+
+fn unmet(at: &Option<At>) -> Option<Unmet> {
+    let (family, kind, want, have) = (*at)?;
+    Some(Unmet {
+        family,
+        kind,
+        want,
+        have,
+    })
+}
+
+/// What a link has, what is asked for, and what is not met.
+type Case = (&'static str, &'static str, Option<At>);
+
+/// A vxlan link as a kernel answers it: its VNI of 42, a TTL of 64, and the destination port 4789.
+const VXLAN: &str =
+    "0a000100 76786c61 6e000000 1c000200 08000100 2a000000 05000500 40000000 06000f00 12b50000";
+
+/// A list that is a kind and data with one attribute: of vxlan, the VNI 42.
+const VNI: &str = "0a000100 76786c61 6e000000 0c000200 08000100 2a000000";
+
+const CASES: &[Case] = &[
+    // Nothing is asked for, and what is there.
+    ("", "", None),
+    (VXLAN, "", None),
+    (VXLAN, VXLAN, None),
+    (VXLAN, VNI, None),
+    // The order does not matter: the port, then the VNI.
+    (
+        VXLAN,
+        "0a000100 76786c61 6e000000 14000200 06000f00 12b50000 08000100 2a000000",
+        None,
+    ),
+    // Another VNI, at offset 16 of both.
+    (
+        VXLAN,
+        "0a000100 76786c61 6e000000 0c000200 08000100 2b000000",
+        Some((Family::Vxlan, 1, 16, Some(16))),
+    ),
+    // The VNI is met, the port is not.
+    (
+        VXLAN,
+        "0a000100 76786c61 6e000000 14000200 08000100 2a000000 06000f00 12b60000",
+        Some((Family::Vxlan, 15, 24, Some(32))),
+    ),
+    // No port is there, and no data.
+    (VNI, VXLAN, Some((Family::Vxlan, 5, 24, None))),
+    (
+        "0a000100 76786c61 6e000000",
+        VXLAN,
+        Some((Family::LinkInfo, 2, 12, None)),
+    ),
+    ("", VNI, Some((Family::LinkInfo, 1, 0, None))),
+    // The last of a type counts in both: VNIs 41 and 42, asked for and there.
+    (
+        VXLAN,
+        "0a000100 76786c61 6e000000 14000200 08000100 29000000 08000100 2a000000",
+        None,
+    ),
+    (
+        "0a000100 76786c61 6e000000 14000200 08000100 2a000000 08000100 29000000",
+        VNI,
+        Some((Family::Vxlan, 1, 16, Some(24))),
+    ),
+    // Another kind, whose name is not closed by NUL: what is inside is not looked at.
+    (
+        "0a000100 67656e65 76650000 0c000200 08000100 2a000000",
+        VNI,
+        Some((Family::LinkInfo, 1, 0, Some(0))),
+    ),
+    // The same kind without a closing NUL, and data that stands elsewhere.
+    (
+        VXLAN,
+        "09000100 76786c61 6e000000 0c000200 08000100 2a000000",
+        None,
+    ),
+    // Bond: no attribute has a row. The flag "nested" of a type does not matter, the payload does.
+    (
+        "09000100 626f6e64 00000000 0c000200 05000180 01000000",
+        "09000100 626f6e64 00000000 0c000200 05000100 01000000",
+        None,
+    ),
+    (
+        "09000100 626f6e64 00000000 0c000200 05000180 01000000",
+        "09000100 626f6e64 00000000 0c000200 05000180 02000000",
+        Some((Family::Bond, 1, 16, Some(16))),
+    ),
+    // Types from 64 on are found too: 64 and 16383.
+    (
+        "09000100 626f6e64 00000000 14000200 05004000 01000000 0500ff3f 02000000",
+        "09000100 626f6e64 00000000 14000200 0500ff3f 02000000 05004000 03000000",
+        Some((Family::Bond, 64, 24, Some(16))),
+    ),
+    // Veth: the first attribute of the data, as a whole.
+    (
+        "09000100 76657468 00000000 0c000200 06000100 aabb0000",
+        "09000100 76657468 00000000 0c000200 06000100 aabc0000",
+        Some((Family::LinkInfo, 2, 12, Some(12))),
+    ),
+    // Data of an unknown kind, as bytes, and statistics.
+    (
+        "07000100 666f6f00 06000200 01020000 06000300 05060000",
+        "07000100 666f6f00 06000300 05060000 06000200 01020000",
+        None,
+    ),
+    (
+        "07000100 666f6f00 06000200 01020000 06000300 05060000",
+        "07000100 666f6f00 06000300 05070000 06000200 01030000",
+        Some((Family::LinkInfo, 3, 8, Some(16))),
+    ),
+    // An unknown attribute of the list: its flags do not matter.
+    ("05000980 01000000", "05000900 01000000", None),
+    (
+        "05000980 01000000",
+        "05000900 02000000",
+        Some((Family::LinkInfo, 9, 0, Some(0))),
+    ),
+    // A port of a bridge: the kind of the port, and its data.
+    (
+        "0b000400 62726964 67650000 0c000500 05000100 03000000",
+        "0b000400 62726964 67650000 0c000500 05000100 03000000",
+        None,
+    ),
+    (
+        "0b000400 62726964 67650000 0c000500 05000100 03000000",
+        "0b000400 62726964 67650000 0c000500 05000100 04000000",
+        Some((Family::BridgePort, 1, 16, Some(16))),
+    ),
+    // Data of two unknown kinds, before a last kind that both have: the kinds differ.
+    (
+        "07000100 666f6f00 06000200 01020000 08000100 76726600",
+        "07000100 62617200 06000200 01020000 08000100 76726600",
+        Some((Family::LinkInfo, 2, 8, Some(8))),
+    ),
+];
+
+#[test]
+fn tells_what_is_not_met(rt: HostRuntime) {
+    let alloc = rt.alloc();
+    for case in CASES {
+        let (have, want, at) = case;
+        let (had, wanted) = (bytes_of(&rt, alloc, have), bytes_of(&rt, alloc, want));
+        let found = first_unmet(&had, &wanted);
+        assert_equal(&rt, &(have, want), &found, &Ok(unmet(at)));
+    }
+}
+
+#[test]
+fn tells_whose_error_it_is(rt: HostRuntime) {
+    let alloc = rt.alloc();
+    let fine = bytes_of(&rt, alloc, VXLAN);
+    let damaged = bytes_of(&rt, alloc, "080001");
+    let misplaced = bytes_of(&rt, alloc, "04000200");
+    let order = link_fault(2, Cause::Order);
+    let cases = [
+        (&damaged, &fine, FaultIn::First(HEADER_FAULT)),
+        (&damaged, &misplaced, FaultIn::First(HEADER_FAULT)),
+        (&fine, &misplaced, FaultIn::Second(order)),
+    ];
+    for (have, want, error) in cases {
+        let found = first_unmet(have, want);
+        assert_equal(&rt, &error, &found, &Err(error));
+    }
+}
+
+#[test]
+fn compares_peers_by_their_type(rt: HostRuntime) {
+    // Veth: the peer is one byte. As bits 1 and 5 are both set, as bytes they differ.
+    let alloc = rt.alloc();
+    let have = bytes_of(
+        &rt,
+        alloc,
+        "09000100 76657468 00000000 09000200 05000100 01000000",
+    );
+    let want = bytes_of(
+        &rt,
+        alloc,
+        "09000100 76657468 00000000 09000200 05000100 05000000",
+    );
+    let as_bits = first_unmet_of::<BitPeer>(&have, &want);
+    assert_equal(&rt, &"bits", &as_bits, &Ok(None));
+    let as_bytes = first_unmet_of::<Bytes>(&have, &want);
+    let differs = Some((Family::LinkInfo, 2, 12, Some(12)));
+    assert_equal(&rt, &"bytes", &as_bytes, &Ok(unmet(&differs)));
+}

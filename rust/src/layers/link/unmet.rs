@@ -1,0 +1,231 @@
+//! Whether a link has what is asked for, and what it lacks.
+
+use crate::layers::data::{
+    DataFamily, InfoDataOf, InfoPortData, PayloadFamily, PortFamily, Unmet, family_of, list_unmet,
+    port_family_of,
+};
+use crate::layers::link::item::same_item;
+use crate::layers::link::list::check_of;
+use crate::layers::link::placed::FaultIn;
+use crate::layers::link::role::{InForce, Role, role_of};
+use crate::layers::nla_frame::{Bytes, Family, HeaderCount, NlaBuffer, next_piece, without_nul};
+use crate::layers::numbers::{
+    IFLA_INFO_KIND, IFLA_INFO_SLAVE_DATA, IFLA_INFO_SLAVE_KIND, port_tag_of_name, tag_of_name,
+};
+use crate::layers::table::{LastOfType, LinkPeer, PlacedNla};
+
+/// The names of the current kinds.
+#[derive(Clone, Copy)]
+struct Names<'a> {
+    kind: Option<&'a [u8]>,
+    port: Option<&'a [u8]>,
+}
+
+impl<'a> Names<'a> {
+    /// The kinds that they name.
+    fn kinds(self) -> InForce {
+        InForce {
+            kind: match self.kind {
+                Some(name) => Some(tag_of_name(name)),
+                None => None,
+            },
+            port: match self.port {
+                Some(name) => Some(port_tag_of_name(name)),
+                None => None,
+            },
+        }
+    }
+}
+
+/// Where the current kind is named after an attribute of this type at an offset, which counts where
+/// it is before another one.
+fn kind_after(is_before: bool, kind: u16, offset: usize, old: Option<usize>) -> Option<usize> {
+    if is_before && kind == IFLA_INFO_KIND {
+        Some(offset)
+    } else {
+        old
+    }
+}
+
+/// Where the current port kind is named, in the same way: port data uses it up.
+fn port_after(is_before: bool, kind: u16, offset: usize, old: Option<usize>) -> Option<usize> {
+    if !is_before {
+        return old;
+    }
+    match kind {
+        IFLA_INFO_SLAVE_KIND => Some(offset),
+        IFLA_INFO_SLAVE_DATA => None,
+        _ => old,
+    }
+}
+
+/// The name in the attribute at an offset. Requires that one is there.
+fn name_at<'a>(bytes: &'a [u8], offset: Option<usize>) -> Option<&'a [u8]> {
+    let offset = offset?;
+    let nla = NlaBuffer::new_checked(&bytes[offset..]).unwrap();
+    Some(without_nul(nla.value()))
+}
+
+/// The names that are current at an offset.
+fn names_before<'a>(bytes: &'a [u8], offset: usize) -> Names<'a> {
+    let mut kind = None;
+    let mut port = None;
+    let mut count = HeaderCount::new();
+    let mut rest = bytes;
+    while let Some(Ok((nla, after))) = next_piece(rest, &mut count) {
+        let place = bytes.len() - rest.len();
+        let is_before = place < offset;
+        kind = kind_after(is_before, nla.kind(), place, kind);
+        port = port_after(is_before, nla.kind(), place, port);
+        rest = after;
+    }
+    Names {
+        kind: name_at(bytes, kind),
+        port: name_at(bytes, port),
+    }
+}
+
+/// Whether what an attribute of this role belongs to has the same name in both lists.
+fn is_same_kind(role: Role, have: Names<'_>, want: Names<'_>) -> bool {
+    match role {
+        Role::Data(_) | Role::Xstats => have.kind == want.kind,
+        Role::PortData(_) => have.port == want.port,
+        Role::Kind | Role::PortKind | Role::Misplaced | Role::Unknown => true,
+    }
+}
+
+/// An attribute of the list that is not met as a whole.
+fn whole(want: &PlacedNla<'_>, have: Option<usize>) -> Unmet {
+    Unmet {
+        family: Family::LinkInfo,
+        kind: want.nla.kind(),
+        want: want.offset,
+        have,
+    }
+}
+
+/// What of data `want` does not find in data `have` of its kind: an attribute, where data is a
+/// list.
+fn data_unmet<D, F: PayloadFamily<D>>(
+    family: F,
+    have: &PlacedNla<'_>,
+    want: &PlacedNla<'_>,
+) -> Option<Unmet> {
+    let (had, wanted) = (have.nla.value(), want.nla.value());
+    match family.listing() {
+        Some(name) => {
+            let inner = list_unmet::<D, F>(family, name, had, wanted)?;
+            Some(Unmet {
+                family: inner.family,
+                kind: inner.kind,
+                want: want.offset + 4 + inner.want,
+                have: match inner.have {
+                    Some(offset) => Some(have.offset + 4 + offset),
+                    None => None,
+                },
+            })
+        }
+        None if had == wanted || family.same(had, wanted, &mut HeaderCount::new()) => None,
+        None => Some(whole(want, Some(have.offset))),
+    }
+}
+
+/// What of an attribute of `want` the last one of its type in `have` does not meet.
+fn placed_unmet<P: LinkPeer>(
+    have: &[u8],
+    found: &Option<PlacedNla<'_>>,
+    want: &[u8],
+    placed: &PlacedNla<'_>,
+) -> Option<Unmet> {
+    let Some(found) = found else {
+        return Some(whole(placed, None));
+    };
+    let had = names_before(have, found.offset);
+    let wanted = names_before(want, placed.offset);
+    let role = role_of(wanted.kinds(), placed.nla.kind());
+    if !is_same_kind(role, had, wanted) {
+        return Some(whole(placed, Some(found.offset)));
+    }
+    match role {
+        Role::Data(tag) => data_unmet::<InfoDataOf<P>, DataFamily>(family_of(tag), found, placed),
+        Role::PortData(tag) => {
+            data_unmet::<InfoPortData, PortFamily>(port_family_of(tag), found, placed)
+        }
+        _ => item_unmet::<P>(role, found, placed),
+    }
+}
+
+/// What of an attribute that is no data another one of its type and role does not meet: nothing, or
+/// the whole.
+fn item_unmet<P: LinkPeer>(
+    role: Role,
+    have: &PlacedNla<'_>,
+    want: &PlacedNla<'_>,
+) -> Option<Unmet> {
+    if have.nla.value() == want.nla.value()
+        || same_item::<P>(&have.nla, &want.nla, role, &mut HeaderCount::new())
+    {
+        None
+    } else {
+        Some(whole(want, Some(have.offset)))
+    }
+}
+
+/// The first attribute of an accepted list that another one does not meet.
+fn first_unmet_in<P: LinkPeer>(have: &[u8], want: &[u8]) -> Option<Unmet> {
+    let found = LastOfType::new(have);
+    let wanted = LastOfType::new(want);
+    let mut count = HeaderCount::new();
+    let mut rest = want;
+    while let Some(Ok((nla, after))) = next_piece(rest, &mut count) {
+        let offset = want.len() - rest.len();
+        let placed = PlacedNla { offset, nla };
+        let kind = placed.nla.kind();
+        if wanted.offset(kind) == Some(offset) {
+            let last = found.find(kind);
+            let unmet = placed_unmet::<P>(have, &last, want, &placed);
+            if unmet.is_some() {
+                return unmet;
+            }
+        }
+        rest = after;
+    }
+    None
+}
+
+/// The first attribute of the list `want` that the list `have` does not meet, with peers of type
+/// `P`, or `None` where `have` has all that `want` asks for, whatever it has beyond that, in any
+/// order.
+///
+/// Of several attributes of a type the last one counts, as in the kernel. It is met where the last
+/// attribute of its type in `have`, of the same kind or port kind, has an equal payload or is
+/// equivalent. Data that is a list is compared attribute by attribute (`list_unmet`); names, other
+/// data and statistics as a whole. Flags of a type do not matter.
+///
+/// Of what is not met, `family` is that of the attribute inside data, or `Family::LinkInfo` of one
+/// of the list; offsets count from the beginning of each list. The error is that of `have`, else
+/// that of `want`. It takes a pass over both lists for each attribute of `want` outside data. Takes
+/// no memory.
+pub fn first_unmet_of<P: LinkPeer>(have: &[u8], want: &[u8]) -> Result<Option<Unmet>, FaultIn> {
+    match check_of::<P>(have) {
+        Ok(()) => {}
+        Err(fault) => return Err(FaultIn::First(fault)),
+    }
+    match check_of::<P>(want) {
+        Ok(()) => {}
+        Err(fault) => return Err(FaultIn::Second(fault)),
+    }
+    Ok(first_unmet_in::<P>(have, want))
+}
+
+/// `first_unmet_of`, with peers kept as bytes.
+///
+/// ```text
+/// match first_unmet(&received, &wanted)? {
+///     None => .., // the link has all that is wanted
+///     Some(unmet) => .., // an attribute at offset `unmet.want` of what is wanted
+/// }
+/// ```
+pub fn first_unmet(have: &[u8], want: &[u8]) -> Result<Option<Unmet>, FaultIn> {
+    first_unmet_of::<Bytes>(have, want)
+}
