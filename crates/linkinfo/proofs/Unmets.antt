@@ -297,7 +297,7 @@ payload_list (Some l) name alike have want u e k =
     let same : l.family ≡ name = cc in
     rw (same, k) refl
 
--- ---- as two indexes find them
+-- ---- an attribute that counts, and the last one of its type
 
 pub last_type : (kind : ℕ) (list : List PlacedNla) →
     IfSome (last_of_type kind list) (λ p. masked p.nla.kind ≡ kind)
@@ -306,23 +306,6 @@ last_type kind list = go (last_of_type kind list) (last_passes (has_type kind) N
     go : (o : Option PlacedNla) → IfSome o (λ p. has_type kind p ≡ true) → IfSome o (λ p. masked p.nla.kind ≡ kind)
     go None h = tt
     go (Some p) h = eqb-true _ _ h
-
-module _ (s t : List ℕ) (w : PlacedNla) (kind : ℕ) (indexed : t ≡ s) (typed : kind ≡ masked w.nla.kind) where
-  pub last_found : (found : Option PlacedNla) → found ≡ last_of_type kind (attributes_of t) →
-      found ≡ last_like (attributes_of s) w
-  last_found found e =
-      e ∙ ap (λ (k : ℕ). last_of_type k (attributes_of t)) typed
-      ∙ ap (λ (u : List ℕ). last_like (attributes_of u) w) indexed
-
-  pub counts_found : (offset : Option ℕ) (n : ℕ) (r : Bool) → offset ≡ offset_of (last_of_type kind (attributes_of t)) →
-      n ≡ w.offset → r ≡ option_eq ◌==◌ offset (Some n) → counts (attributes_of s) w ≡ r
-  counts_found offset n r e at is =
-      let found = last_found (last_of_type kind (attributes_of t)) refl in
-      let same : offset ≡ offset_of (last_like (attributes_of s) w) =
-      e ∙ ap (λ (o : Option PlacedNla). offset_of o) found in
-      sym
-      (is ∙ ap (λ (o : Option ℕ). option_eq ◌==◌ o (Some n)) same
-      ∙ ap (λ (k : ℕ). option_eq ◌==◌ (offset_of (last_like (attributes_of s) w)) (Some k)) at)
 
 module _ {P : Type 0} (families : Families P) (have want : List ℕ) (w : PlacedNla) where
   pub counted_is : (found : Option PlacedNla) (r : Option Unmet) → counts (attributes_of want) w ≡ true →

@@ -64,14 +64,15 @@ pub use linkinfo_tunnels::{
     InfoAmt, InfoBareUdp, InfoGeneve, InfoGre, InfoGre6, InfoGtp, InfoIpTunnel, InfoVti, InfoVxlan,
 };
 
-// For who reads the data of a link or of a port alone: which family a kind has, reading, checking and comparing a payload by it, and what of it is
-// not met.
+// For who parses the data of a link or of a port alone: which family a kind has; parsing, checking
+// and comparing a payload by it; and what of it is not met.
 pub use linkinfo_data::{
     DataFamily, DeviceFamily, LowerFamily, PayloadFamily, PeeredFamily, PortFamily, TunnelFamily,
     Unmet, family_of, list_unmet, port_family_of,
 };
 
-// For who goes over attributes by hand: one attribute in a slice, an iterator, the last of each type, numbers and addresses in payloads.
+// For who iterates over attributes: one attribute in a slice, an iterator, the last attribute of
+// each type, numbers and addresses in payloads.
 pub use linkinfo_table::{LastOfType, PlacedNla, own_bytes};
 pub use nla_frame::{
     NlaBuffer, NlasIterator, emit_i32, emit_u16, emit_u16_be, emit_u32, emit_u32_be, emit_u64,

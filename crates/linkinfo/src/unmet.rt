@@ -1,4 +1,4 @@
-//! Whether a link has what is asked for, and what it lacks.
+//! Whether a link has all attributes of a request, and which one it lacks.
 
 ghost use Rattle.std.specs.Prelude.{◌≡◌, ◌≢◌, ◌+◌, ◌<◌, ◌^◌, IfErr, IfSome, IsOk, length};
 ghost use Rattle.nla_frame.specs.Error.{memory_fault};
@@ -53,8 +53,8 @@ impl<'a> Names<'a> {
     }
 }
 
-/// Where the current kind is named after an attribute of this type at an offset, which counts where it
-/// is before another one.
+/// The offset of the attribute that names the current kind, after one of this type at an offset. That
+/// one counts where it is before the attribute in question.
 fn kind_after(is_before: bool, kind: u16, offset: usize, old: Option<usize>) -> Option<usize>
     ensures { result ≡ kind_place is_before kind offset old }
 {
@@ -65,7 +65,8 @@ fn kind_after(is_before: bool, kind: u16, offset: usize, old: Option<usize>) -> 
     }
 }
 
-/// Where the current port kind is named, in the same way: port data uses it up.
+/// The offset of the attribute that names the current port kind, after one of this type at an offset.
+/// Port data uses the port kind up.
 fn port_after(is_before: bool, kind: u16, offset: usize, old: Option<usize>) -> Option<usize>
     ensures { result ≡ port_place is_before kind offset old }
 {
@@ -237,7 +238,7 @@ fn first_unmet_in<P: LinkPeer>(have: &[u8], want: &[u8]) -> Option<Unmet>
 }
 
 /// The first attribute of the list `want` that the list `have` does not meet, with peers of type `P`,
-/// or `None` where `have` has all that `want` asks for, whatever it has beyond that, in any order.
+/// or `None` where `have` meets every attribute of `want`, in any order. `have` may have more.
 ///
 /// Of several attributes of a type the last one counts, as in the kernel. It is met where the last
 /// attribute of its type in `have`, of the same kind or port kind, has an equal payload or is

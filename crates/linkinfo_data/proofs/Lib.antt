@@ -1,3 +1,3 @@
 mod Arms
-mod Unmets
+pub mod Unmets
 pub mod Lawful

@@ -1,4 +1,4 @@
-//! Whether a list of attributes has what another one asks for, and which attribute it lacks.
+//! Whether a list of attributes meets those of another one, and which one it does not meet.
 
 ghost use Rattle.std.specs.Prelude.{◌≡◌, IfSome, IsOk, IsSome, Some};
 ghost use Rattle.linkinfo_table.specs.Last.{StandsIn, attributes_of};
@@ -10,14 +10,14 @@ use crate::payload_family::PayloadFamily;
 use linkinfo_table::{LastOfType, PlacedNla, own_bytes};
 use nla_frame::{ExactEq, Family, HeaderCount, next_piece};
 
-/// An attribute that is asked for and not met.
+/// An attribute of a request that is not met.
 #[derive(Clone, Copy, Debug, PartialEq, Eq)]
 pub struct Unmet {
     /// The family of the attribute.
     pub family: Family,
     /// The type of the attribute, without flags.
     pub kind: u16,
-    /// The offset of the attribute in the bytes that ask for it.
+    /// The offset of the attribute in the request.
     pub want: usize,
     /// The offset of the attribute of that type in the other bytes, or `None` where there is none.
     pub have: Option<usize>,

@@ -1,4 +1,4 @@
-//! Whether the data of a link, or of a port, has the attributes that other data asks for.
+//! Whether the data of a link, or of a port, meets the attributes of other data.
 
 use super::assertions::{assert_equal, bytes_of};
 use linkinfo::{
@@ -7,8 +7,8 @@ use linkinfo::{
 };
 use std::process::Abort;
 
-/// Data that is there, data that asks for attributes, and where both differ: the type that is not
-/// met, the offset of who asks, and the offset of the other one.
+/// Data that is there, a request, and what of it is not met: the type, the offset in the request, and
+/// the offset in the data.
 type Case = (
     &'static str,
     &'static str,
@@ -40,7 +40,7 @@ const ROWS: &[Case] = &[
         "05000500 41000000 08000100 2b000000",
         Some((5, 0, Some(8))),
     ),
-    // What is asked for is not there.
+    // The data lacks what is requested.
     ("08000100 2a000000", VXLAN, Some((5, 8, None))),
     ("", "08000100 2a000000", Some((1, 0, None))),
     // The last of a type counts, in both.

@@ -1,17 +1,17 @@
-//! Whether a list of attributes has what another one asks for, and which attribute it lacks.
+//! Whether a list of attributes meets those of another one, and which one it does not meet.
 
 use crate::layers::data::payload_family::PayloadFamily;
 use crate::layers::nla_frame::{ExactEq, Family, HeaderCount, next_piece};
 use crate::layers::table::{LastOfType, PlacedNla, own_bytes};
 
-/// An attribute that is asked for and not met.
+/// An attribute of a request that is not met.
 #[derive(Clone, Copy, Debug, PartialEq, Eq)]
 pub struct Unmet {
     /// The family of the attribute.
     pub family: Family,
     /// The type of the attribute, without flags.
     pub kind: u16,
-    /// The offset of the attribute in the bytes that ask for it.
+    /// The offset of the attribute in the request.
     pub want: usize,
     /// The offset of the attribute of that type in the other bytes, or `None` where there is none.
     pub have: Option<usize>,

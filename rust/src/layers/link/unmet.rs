@@ -1,4 +1,4 @@
-//! Whether a link has what is asked for, and what it lacks.
+//! Whether a link has all attributes of a request, and which one it lacks.
 
 use crate::layers::data::{
     DataFamily, InfoDataOf, InfoPortData, PayloadFamily, PortFamily, Unmet, family_of, list_unmet,
@@ -37,8 +37,8 @@ impl<'a> Names<'a> {
     }
 }
 
-/// Where the current kind is named after an attribute of this type at an offset, which counts where
-/// it is before another one.
+/// The offset of the attribute that names the current kind, after one of this type at an offset.
+/// That one counts where it is before the attribute in question.
 fn kind_after(is_before: bool, kind: u16, offset: usize, old: Option<usize>) -> Option<usize> {
     if is_before && kind == IFLA_INFO_KIND {
         Some(offset)
@@ -47,7 +47,8 @@ fn kind_after(is_before: bool, kind: u16, offset: usize, old: Option<usize>) -> 
     }
 }
 
-/// Where the current port kind is named, in the same way: port data uses it up.
+/// The offset of the attribute that names the current port kind, after one of this type at an
+/// offset. Port data uses the port kind up.
 fn port_after(is_before: bool, kind: u16, offset: usize, old: Option<usize>) -> Option<usize> {
     if !is_before {
         return old;
@@ -194,8 +195,7 @@ fn first_unmet_in<P: LinkPeer>(have: &[u8], want: &[u8]) -> Option<Unmet> {
 }
 
 /// The first attribute of the list `want` that the list `have` does not meet, with peers of type
-/// `P`, or `None` where `have` has all that `want` asks for, whatever it has beyond that, in any
-/// order.
+/// `P`, or `None` where `have` meets every attribute of `want`, in any order. `have` may have more.
 ///
 /// Of several attributes of a type the last one counts, as in the kernel. It is met where the last
 /// attribute of its type in `have`, of the same kind or port kind, has an equal payload or is

@@ -1,4 +1,4 @@
-//! Whether a link has what is asked for, and what it lacks.
+//! Whether a link has all attributes of a request, and which one it lacks.
 
 use super::assertions::{HEADER_FAULT, assert_equal, bytes_of, link_fault};
 use linkinfo::layers::link::{
@@ -18,10 +18,10 @@ fn unmet(at: &Option<At>) -> Option<Unmet> {
     })
 }
 
-/// What a link has, what is asked for, and what is not met.
+/// What a link has, a request, and what of it is not met.
 type Case = (&'static str, &'static str, Option<At>);
 
-/// A vxlan link as a kernel answers it: its VNI of 42, a TTL of 64, and the destination port 4789.
+/// A vxlan link as a kernel returns it: its VNI of 42, a TTL of 64, and the destination port 4789.
 const VXLAN: &str =
     "0a000100 76786c61 6e000000 1c000200 08000100 2a000000 05000500 40000000 06000f00 12b50000";
 
@@ -29,7 +29,7 @@ const VXLAN: &str =
 const VNI: &str = "0a000100 76786c61 6e000000 0c000200 08000100 2a000000";
 
 const CASES: &[Case] = &[
-    // Nothing is asked for, and what is there.
+    // An empty request, and one that is met.
     ("", "", None),
     (VXLAN, "", None),
     (VXLAN, VXLAN, None),
@@ -60,7 +60,7 @@ const CASES: &[Case] = &[
         Some((Family::LinkInfo, 2, 12, None)),
     ),
     ("", VNI, Some((Family::LinkInfo, 1, 0, None))),
-    // The last of a type counts in both: VNIs 41 and 42, asked for and there.
+    // The last of a type counts in both: VNIs 41 and 42, requested and there.
     (
         VXLAN,
         "0a000100 76786c61 6e000000 14000200 08000100 29000000 08000100 2a000000",
@@ -77,7 +77,7 @@ const CASES: &[Case] = &[
         VNI,
         Some((Family::LinkInfo, 1, 0, Some(0))),
     ),
-    // The same kind without a closing NUL, and data that stands elsewhere.
+    // The same kind without a closing NUL, and data at another offset.
     (
         VXLAN,
         "09000100 76786c61 6e000000 0c000200 08000100 2a000000",

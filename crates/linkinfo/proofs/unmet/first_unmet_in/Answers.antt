@@ -7,7 +7,8 @@ use Rattle.linkinfo_table.proofs.Lasts.{last_holds, left_at_attribute, left_at_s
 use Rattle.linkinfo_data.specs.PeerFamilies.{families_of}
 use Rattle.linkinfo.specs.Unmet.{counted_unmet, link_at}
 use Rattle.linkinfo.specs.UnmetSteps.{IsAcceptedLink}
-use Rattle.linkinfo.proofs.Unmets.{counted_is, counts_found, first_later, last_found}
+use Rattle.linkinfo_data.proofs.Unmets.{counts_found, last_found}
+use Rattle.linkinfo.proofs.Unmets.{counted_is, first_later}
 use Rattle.linkinfo.proofs.Unmets.{last_type, links_accepted, none_of, not_counted}
 use Rattle.linkinfo.proofs.unmet.first_unmet_in.Goals as goal
 
