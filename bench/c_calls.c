@@ -1,4 +1,5 @@
-// The calls of linkinfo.h beside the same calls of the library, on the lists of a file: nanoseconds, the least of many rounds by turns.
+// The calls of linkinfo.h and the same calls of the library, on the lists of a file: nanoseconds,
+// the minimum of many interleaved measurements.
 //
 //   c_calls LISTS ROUNDS
 #include "linkinfo.h"
@@ -14,7 +15,7 @@ size_t bench_canon(const uint8_t *bytes, size_t len, uint8_t *buffer, size_t roo
 
 enum { CHECK, CHECK_C, SAME, SAME_C, CANON, CANON_C, OPERATIONS, TIMES = 500, MOST = 65536 };
 
-static uint8_t bytes[MOST], alike[MOST], buffer[2 * MOST];
+static uint8_t bytes[MOST], equivalent[MOST], buffer[2 * MOST];
 static size_t length;
 static volatile size_t sink;
 
@@ -23,8 +24,8 @@ static void run(int operation) {
         switch (operation) {
         case CHECK: sink += bench_check(bytes, length); break;
         case CHECK_C: sink += linkinfo_check(bytes, length).cause == 0; break;
-        case SAME: sink += bench_same(bytes, length, alike, length); break;
-        case SAME_C: sink += linkinfo_same(bytes, length, alike, length).same; break;
+        case SAME: sink += bench_same(bytes, length, equivalent, length); break;
+        case SAME_C: sink += linkinfo_same(bytes, length, equivalent, length).same; break;
         case CANON: sink += bench_canon(bytes, length, buffer, sizeof buffer); break;
         case CANON_C: sink += linkinfo_canon(bytes, length, buffer, sizeof buffer).length; break;
         }
@@ -39,7 +40,8 @@ static double now(void) {
 
 static size_t from_hex(const char *hex) {
     size_t n = 0;
-    for (unsigned byte; n < MOST && sscanf(hex + 2 * n, "%2x", &byte) == 1; n++) bytes[n] = (uint8_t)byte;
+    for (unsigned byte; n < MOST && sscanf(hex + 2 * n, "%2x", &byte) == 1; n++)
+        bytes[n] = (uint8_t)byte;
     return n;
 }
 
@@ -48,15 +50,19 @@ int main(int count, char **arguments) {
     char data;
     FILE *file = count == 3 ? fopen(arguments[1], "r") : NULL;
     if (!file) return 1;
-    printf("%-20s %8s %8s %8s %8s %8s %8s\n", "list", "check", "in C", "same", "in C", "canon", "in C");
+    printf("%-20s %8s %8s %8s %8s %8s %8s\n", "list", "check", "in C", "same", "in C", "canon",
+           "in C");
     while (fgets(line, sizeof line, file)) {
         if (sscanf(line, "%63s %c %131071s", name, &data, hex) != 3) continue;
         length = from_hex(hex);
-        memcpy(alike, bytes, length);
-        alike[3] ^= 0x40;
-        if (bench_check(bytes, length) != (linkinfo_check(bytes, length).cause == 0) || bench_same(bytes, length, alike, length) != linkinfo_same(bytes, length, alike, length).same ||
-            bench_canon(bytes, length, buffer, sizeof buffer) != linkinfo_canon(bytes, length, buffer, sizeof buffer).length) {
-            fprintf(stderr, "%s: another answer from C\n", name);
+        memcpy(equivalent, bytes, length);
+        equivalent[3] ^= 0x40;
+        if (bench_check(bytes, length) != (linkinfo_check(bytes, length).cause == 0) ||
+            bench_same(bytes, length, equivalent, length) !=
+                linkinfo_same(bytes, length, equivalent, length).same ||
+            bench_canon(bytes, length, buffer, sizeof buffer) !=
+                linkinfo_canon(bytes, length, buffer, sizeof buffer).length) {
+            fprintf(stderr, "%s: another result from C\n", name);
             return 1;
         }
         double least[OPERATIONS];

@@ -1,13 +1,15 @@
-// The library's calls on the lists of a file: nanoseconds of each, and under callgrind a dump of the instructions of each.
+// The library's calls on the lists of a file: nanoseconds of each, and under callgrind a dump of
+// the instructions of each.
 //
-//   driver LISTS time ROUNDS   a table of nanoseconds: the least of many rounds
+//   driver LISTS time ROUNDS   a table of nanoseconds: the minimum of many measurements
 //   driver LISTS grow ROUNDS   nanoseconds a byte of lists up to 64 KiB, and of lists nested to 128
 //   driver LISTS count         for callgrind: a dump for each list and operation, of 200 runs
 //
-// Each list is answered once before it is measured: a wrong answer ends the program with status 1.
+// Each result is tested before it is measured: a wrong one ends the program with status 1.
 //
-// A list is a line: its name, how its data is framed (`-`: as bytes; `a`: as attributes; `n`: so are those of type 5 inside), and its bytes as hex.
-// One whose name begins with `err-` is refused, every other one accepted.
+// A list is a line: its name, how its data is framed (`-`: as bytes; `a`: as attributes; `n`: so
+// are those of type 5 inside), and its bytes as hex. One whose name begins with `err-` is
+// rejected, every other one accepted.
 #include <stdbool.h>
 #include <stdint.h>
 #include <stdio.h>
@@ -23,28 +25,33 @@
 
 bool bench_check(const uint8_t *bytes, size_t len);
 bool bench_same(const uint8_t *a, size_t a_len, const uint8_t *b, size_t b_len);
+bool bench_unmet(const uint8_t *have, size_t have_len, const uint8_t *want, size_t want_len);
+bool bench_differ(const uint8_t *a, size_t a_len, const uint8_t *b, size_t b_len);
 bool bench_parse(const uint8_t *bytes, size_t len);
 size_t bench_emit(const uint8_t *bytes, size_t len, uint8_t *buffer, size_t room, uint32_t times);
 
 typedef struct {
     char name[32], data;
-    uint8_t *bytes, *equal, *alike, *out;
+    uint8_t *bytes, *equal, *equivalent, *flagged, *out;
     size_t len;
     bool accepted;
 } List;
 
-enum { CHECK, EQUAL, SAME, PARSE, EMIT, SCAN, OPERATIONS };
-static const char *NAMES[] = {"check", "equal", "same", "parse", "emit", "scan"};
+enum { CHECK, EQUAL, SAME, UNMET, MET, DIFFER, PARSE, EMIT, SCAN, OPERATIONS };
+static const char *NAMES[] = {"check",  "equal", "same", "unmet", "met",
+                              "differ", "parse", "emit", "scan"};
 
 static volatile size_t sink;
 
-// The framing of headers alone: of the list, of its data where that is attributes, and of the lists inside that.
+// The framing of headers alone: of the list, of its data where that is attributes, and of the lists
+// inside that.
 static __attribute__((noinline)) bool scan(const uint8_t *p, size_t n, int depth, char data) {
     while (n) {
         if (n < 4) return false;
         uint32_t len = p[0] | p[1] << 8, kind = (p[2] | p[3] << 8) & 0x3fff;
         if (len < 4 || len > n) return false;
-        bool inner = depth == 0 ? data != '-' && (kind == 2 || kind == 5) : data == 'n' && kind == 5;
+        bool inner =
+            depth == 0 ? data != '-' && (kind == 2 || kind == 5) : data == 'n' && kind == 5;
         if (inner && !scan(p + 4, len - 4, depth + 1, data)) return false;
         size_t step = (len + 3) & ~(size_t)3;
         if (step >= n) return true;
@@ -54,19 +61,25 @@ static __attribute__((noinline)) bool scan(const uint8_t *p, size_t n, int depth
     return true;
 }
 
-static void expect(const List *l, const char *what, size_t answer, size_t wanted) {
-    if (answer == wanted) return;
-    fprintf(stderr, "%s: %s answers %zu, not %zu\n", l->name, what, answer, wanted);
+static void expect(const List *l, const char *what, size_t result, size_t wanted) {
+    if (result == wanted) return;
+    fprintf(stderr, "%s: %s returns %zu, not %zu\n", l->name, what, result, wanted);
     exit(1);
 }
 
-// Each call answers what it must: a list is accepted or refused by all, the same as its equal, the same as its alike where the first type is known,
-// and emitted as a string that means the same and is emitted as itself.
+// Tests the result of each call. A list is accepted or rejected by all calls. It is equivalent to
+// its copy, and to its bytes with a flag bit where the first type is known. Its encoding is
+// equivalent to it, and is its own encoding.
 static void judge(const List *l) {
     size_t first = (l->bytes[2] | l->bytes[3] << 8) & 0x3fff, room = l->len + 4096;
     expect(l, "check", bench_check(l->bytes, l->len), l->accepted);
     expect(l, "equal", bench_same(l->bytes, l->len, l->equal, l->len), l->accepted);
-    expect(l, "same", bench_same(l->bytes, l->len, l->alike, l->len), l->accepted && first >= 1 && first <= 5);
+    expect(l, "same", bench_same(l->bytes, l->len, l->equivalent, l->len),
+           l->accepted && first >= 1 && first <= 5);
+    expect(l, "unmet", bench_unmet(l->bytes, l->len, l->equal, l->len), l->accepted);
+    expect(l, "met", bench_unmet(l->flagged, l->len, l->bytes, l->len), l->accepted);
+    expect(l, "differ", bench_differ(l->bytes, l->len, l->equivalent, l->len),
+           l->accepted && first >= 1 && first <= 5);
     expect(l, "parse", bench_parse(l->bytes, l->len), l->accepted);
     size_t len = bench_emit(l->bytes, l->len, l->out, room, 1);
     expect(l, "emit", len != 0, l->accepted);
@@ -82,11 +95,30 @@ static void judge(const List *l) {
 static void run(const List *l, int operation, uint32_t times) {
     switch (operation) {
     case CHECK: for (uint32_t i = 0; i < times; i++) sink += bench_check(l->bytes, l->len); break;
-    case EQUAL: for (uint32_t i = 0; i < times; i++) sink += bench_same(l->bytes, l->len, l->equal, l->len); break;
-    case SAME: for (uint32_t i = 0; i < times; i++) sink += bench_same(l->bytes, l->len, l->alike, l->len); break;
+    case EQUAL:
+        for (uint32_t i = 0; i < times; i++) sink += bench_same(l->bytes, l->len, l->equal, l->len);
+        break;
+    case SAME:
+        for (uint32_t i = 0; i < times; i++)
+            sink += bench_same(l->bytes, l->len, l->equivalent, l->len);
+        break;
+    case UNMET:
+        for (uint32_t i = 0; i < times; i++)
+            sink += bench_unmet(l->bytes, l->len, l->equal, l->len);
+        break;
+    case MET:
+        for (uint32_t i = 0; i < times; i++)
+            sink += bench_unmet(l->flagged, l->len, l->bytes, l->len);
+        break;
+    case DIFFER:
+        for (uint32_t i = 0; i < times; i++)
+            sink += bench_differ(l->bytes, l->len, l->equivalent, l->len);
+        break;
     case PARSE: for (uint32_t i = 0; i < times; i++) sink += bench_parse(l->bytes, l->len); break;
     case EMIT: sink += bench_emit(l->bytes, l->len, l->out, l->len + 4096, times); break;
-    case SCAN: for (uint32_t i = 0; i < times; i++) sink += scan(l->bytes, l->len, 0, l->data); break;
+    case SCAN:
+        for (uint32_t i = 0; i < times; i++) sink += scan(l->bytes, l->len, 0, l->data);
+        break;
     }
 }
 
@@ -102,7 +134,7 @@ static double once(const List *l, int operation, uint32_t times) {
     return (now() - start) / times;
 }
 
-// The least of many rounds, each of 0.4 ms or so.
+// The minimum of many measurements, each of some 0.4 ms.
 static double least(const List *l, int operation, int rounds) {
     once(l, operation, 200);
     uint32_t times = 400e3 / once(l, operation, 200) + 1;
@@ -117,7 +149,21 @@ static double least(const List *l, int operation, int rounds) {
 static List lists[64];
 static int n_lists;
 
-// The alike bytes have a flag bit of the first attribute's type set, which a known type loses.
+// Data that is framed as attributes gets a flag bit in the type of its first one, so that neither
+// the list nor its data has the same bytes.
+static void flag_data(List *l) {
+    size_t at = 0;
+    while (l->data != '-' && at + 8 <= l->len) {
+        size_t len = l->flagged[at] | l->flagged[at + 1] << 8;
+        size_t kind = (l->flagged[at + 2] | l->flagged[at + 3] << 8) & 0x3fff;
+        if ((kind == 2 || kind == 5) && len >= 8) l->flagged[at + 7] ^= 0x80;
+        if (len < 4) return;
+        at += (len + 3) & ~(size_t)3;
+    }
+}
+
+// The equivalent bytes have a flag bit of the first attribute's type set, which a known type
+// ignores.
 static List *add(const char *name, char data, const uint8_t *bytes, size_t len) {
     List *l = &lists[n_lists++];
     snprintf(l->name, sizeof l->name, "%s", name);
@@ -125,12 +171,15 @@ static List *add(const char *name, char data, const uint8_t *bytes, size_t len) 
     l->len = len;
     l->bytes = malloc(len + 1);
     l->equal = malloc(len + 1);
-    l->alike = malloc(len + 1);
+    l->equivalent = malloc(len + 1);
+    l->flagged = malloc(len + 1);
     l->out = malloc(len + 4096);
     memcpy(l->bytes, bytes, len);
     memcpy(l->equal, bytes, len);
-    memcpy(l->alike, bytes, len);
-    if (len > 3) l->alike[3] |= 0x80;
+    memcpy(l->equivalent, bytes, len);
+    if (len > 3) l->equivalent[3] |= 0x80;
+    memcpy(l->flagged, l->equivalent, len);
+    flag_data(l);
     l->accepted = strncmp(name, "err-", 4) != 0;
     judge(l);
     return l;
@@ -199,13 +248,19 @@ static void grow(int rounds) {
     for (size_t want = 256; want <= 65536; want *= 4) {
         size_t n = 16, end = want < 65536 ? want : 65500;
         memcpy(bytes, "\x0a\0\1\0vxlan\0\0\0", 12);
-        for (; n + 16 < end; n += 8) { put(bytes + n, 8, 1 + n / 8 % 2); memset(bytes + n + 4, 7, 4); }
+        for (; n + 16 < end; n += 8) {
+            put(bytes + n, 8, 1 + n / 8 % 2);
+            memset(bytes + n + 4, 7, 4);
+        }
         put(bytes + 12, n - 12, 2);
         per_byte("vxlan", 'a', bytes, n, rounds);
     }
     for (size_t want = 256; want <= 65536; want *= 4) {
         size_t n = 0;
-        for (; n + 16 < want && n < 65500; n += 16) { put(bytes + n, 16, 100 + n / 16 % 50); memset(bytes + n + 4, 7, 12); }
+        for (; n + 16 < want && n < 65500; n += 16) {
+            put(bytes + n, 16, 100 + n / 16 % 50);
+            memset(bytes + n + 4, 7, 12);
+        }
         per_byte("unknown", '-', bytes, n, rounds);
     }
     for (size_t depth = 1; depth <= 128; depth *= 2) {
@@ -221,7 +276,7 @@ static void grow(int rounds) {
     }
 }
 
-// Of an emission the dump "-NAME" has the parse and 100 writings, and the other the parse and 300.
+// Of emit, the dump "-NAME" has one parse and 100 encodings, and the other one parse and 300.
 static void count(void) {
     for (int i = 0; i < n_lists; i++)
         for (int op = 0; op < OPERATIONS; op++) {
@@ -231,7 +286,11 @@ static void count(void) {
             snprintf(name, sizeof name, "%.31s %s", l->name, NAMES[op]);
             snprintf(less, sizeof less, "-%s", name);
             run(l, op, 50);
-            if (op == EMIT) { CALLGRIND_ZERO_STATS; run(l, op, 100); CALLGRIND_DUMP_STATS_AT(less); }
+            if (op == EMIT) {
+                CALLGRIND_ZERO_STATS;
+                run(l, op, 100);
+                CALLGRIND_DUMP_STATS_AT(less);
+            }
             CALLGRIND_ZERO_STATS;
             run(l, op, op == EMIT ? 300 : 200);
             CALLGRIND_DUMP_STATS_AT(name);

@@ -8,13 +8,13 @@ use std::slice::{from_raw_parts, from_raw_parts_mut};
 ///
 /// # Safety
 ///
-/// The driver's pointers are valid for the lengths behind them, here and below.
+/// Each pointer is valid for the length that follows it; so it is in the calls below.
 #[unsafe(no_mangle)]
 pub unsafe extern "C" fn bench_check(bytes: *const u8, len: usize) -> bool {
     linkinfo::check(unsafe { from_raw_parts(bytes, len) }).is_ok()
 }
 
-/// Whether both lists are accepted and mean the same.
+/// Whether both lists are accepted and equivalent.
 #[unsafe(no_mangle)]
 pub unsafe extern "C" fn bench_same(
     a: *const u8,
@@ -24,6 +24,31 @@ pub unsafe extern "C" fn bench_same(
 ) -> bool {
     let (a, b) = unsafe { (from_raw_parts(a, a_len), from_raw_parts(b, b_len)) };
     matches!(linkinfo::same(a, b), Ok(true))
+}
+
+/// Whether both lists are accepted and the first meets the second.
+#[unsafe(no_mangle)]
+pub unsafe extern "C" fn bench_unmet(
+    have: *const u8,
+    have_len: usize,
+    want: *const u8,
+    want_len: usize,
+) -> bool {
+    let have = unsafe { from_raw_parts(have, have_len) };
+    let want = unsafe { from_raw_parts(want, want_len) };
+    matches!(linkinfo::first_unmet(have, want), Ok(None))
+}
+
+/// Whether both lists are accepted and differ nowhere.
+#[unsafe(no_mangle)]
+pub unsafe extern "C" fn bench_differ(
+    a: *const u8,
+    a_len: usize,
+    b: *const u8,
+    b_len: usize,
+) -> bool {
+    let (a, b) = unsafe { (from_raw_parts(a, a_len), from_raw_parts(b, b_len)) };
+    matches!(linkinfo::first_difference(a, b), Ok(None))
 }
 
 /// Parses the list, and drops it.

@@ -4,25 +4,30 @@
  * IFLA_LINKINFO (include/uapi/linux/if_link.h), by proved code. It does not build
  * lists. docs/C.md of its repository says what is proved and what is tested.
  *
- *   // Does the link mean what is wanted?
- *   struct linkinfo_same result = linkinfo_same(have, have_length, want, want_length);
- *   if (result.faulty != 0) {
+ *   // Does the link meet the request?
+ *   struct linkinfo_unmet result = linkinfo_first_unmet(have, have_length, want, want_length);
+ *   if (result.rejected != 0) {
  *     char text[32];
- *     linkinfo_fault_text(result.fault, text, sizeof text);
- *     fprintf(stderr, "list %u: %s\n", result.faulty, text);
- *   } else if (!result.same) {
- *     ...
+ *     linkinfo_error_text(result.error, text, sizeof text);
+ *     fprintf(stderr, "list %u: %s\n", result.rejected, text);
+ *   } else if (!result.met) {
+ *     // the first attribute that is not met: result.type at byte result.want of the request
  *   }
+ *
+ * linkinfo_first_unmet is for a link and a request: does the link that the kernel returned
+ * have each attribute of the request? linkinfo_same is for two requests, or for two canonical
+ * encodings: are they equivalent? It is false for a request and the link that the kernel made
+ * by it, since the kernel returns all defaults too.
  *
  * A list is a pointer to its bytes and their number, without the header of
  * IFLA_LINKINFO itself. A null pointer with length 0 is the empty list, array, buffer
- * or name. It is the caller's error to pass a null pointer with another length, or a
- * length that is larger than what the pointer points to. Arrays and buffers that are
+ * or name. A null pointer with another length is the caller's error, and so is a length
+ * that exceeds the memory that the pointer points to. Arrays and buffers that are
  * written to may be uninitialized, and must not overlap what the call reads.
  *
  * Every call returns, whatever the bytes are. No call keeps a pointer, allocates, has a
- * global, takes a lock or calls back, so each may be called in any thread. A call takes
- * up to 24 KiB of stack: in a signal handler that is more than SIGSTKSZ.
+ * global, takes a lock or calls back, so each is thread-safe. A call takes
+ * up to 40 KiB of stack: in a signal handler that is more than SIGSTKSZ.
  *
  * Values of the enums never change, and new ones are added at the end. Structs do not
  * grow; a new result is a new call. Native numbers are little-endian; big-endian
@@ -43,11 +48,11 @@ extern "C" {
 #define LINKINFO_RESTRICT restrict
 #endif
 
-/* What is wrong with a list. No call here returns the causes that say so. */
+/* What is wrong with a list. No call returns the causes that are marked "not returned". */
 enum linkinfo_cause {
   LINKINFO_CAUSE_NONE = 0,
   LINKINFO_CAUSE_HEADER = 1,       /* no attribute header is accepted here */
-  LINKINFO_CAUSE_LENGTH = 2,       /* a payload of a length that its type does not have */
+  LINKINFO_CAUSE_LENGTH = 2,       /* a payload of a length that its type does not accept */
   LINKINFO_CAUSE_UTF8 = 3,         /* a name is not UTF-8 */
   LINKINFO_CAUSE_ORDER = 4,        /* data or statistics without a kind before, or port data
                                       without a port kind */
@@ -60,7 +65,7 @@ enum linkinfo_cause {
   LINKINFO_CAUSE_PEER = 11         /* a peer's payload that is rejected; not returned */
 };
 
-/* The family of attributes whose rules the bytes break. */
+/* The family of attributes that has the error. */
 enum linkinfo_family {
   LINKINFO_FAMILY_NONE = 0,
   LINKINFO_FAMILY_FRAME = 1,
@@ -155,7 +160,7 @@ enum linkinfo_kind {
 };
 
 /* The kind of the link that a port belongs to: the string of IFLA_INFO_SLAVE_KIND.
- * No number is that of a kind above. */
+ * Its numbers differ from those of enum linkinfo_kind. */
 enum linkinfo_port_kind {
   LINKINFO_PORT_KIND_NONE = 0,
   LINKINFO_PORT_KIND_OTHER = 256, /* every other name */
@@ -166,35 +171,103 @@ enum linkinfo_port_kind {
 };
 
 /* An error. With cause 0 there is none, and family and type are 0 too. */
-struct linkinfo_fault {
+struct linkinfo_error {
   uint16_t family; /* enum linkinfo_family */
   uint16_t type;   /* of the attribute with the error, without its two flag bits */
   uint32_t cause;  /* enum linkinfo_cause */
 };
 
 /* Validates a list: returns its first error in byte order, or none. */
-struct linkinfo_fault linkinfo_check(const uint8_t *bytes, size_t length);
+struct linkinfo_error linkinfo_check(const uint8_t *bytes, size_t length);
 
-struct linkinfo_placed_fault {
-  struct linkinfo_fault fault;
+/* An error and its offset. */
+struct linkinfo_error_at {
+  struct linkinfo_error error;
   /* The offset of the attribute of the list that has the error, itself or in its
    * contents, or the offset at which no header is accepted; 0 without an error. */
   size_t place;
 };
 
-/* Validates a list, and returns the offset of its error too. */
-struct linkinfo_placed_fault linkinfo_check_placed(const uint8_t *bytes, size_t length);
+/* Validates a list: returns its first error in byte order, or none, with its offset. */
+struct linkinfo_error_at linkinfo_check_at(const uint8_t *bytes, size_t length);
 
+/* An error and two offsets: of the attribute of the list, and of the innermost attribute. */
+struct linkinfo_inner_error {
+  struct linkinfo_error error;
+  size_t place; /* the offset that linkinfo_check_at returns */
+  /* The offset in the list of the innermost attribute that has the error: in data, or in a
+   * nested list in data; place where the attribute of the list has it itself. */
+  size_t inner;
+};
+
+/* Validates a list: returns its first error in byte order, or none, with both offsets. */
+struct linkinfo_inner_error linkinfo_check_inner(const uint8_t *bytes, size_t length);
+
+/* Whether two lists are equivalent. */
 struct linkinfo_same {
-  struct linkinfo_fault fault; /* of the first list, else of the second */
-  uint32_t faulty;             /* which list has it: 1 or 2; 0 where neither has one */
+  struct linkinfo_error error; /* of the first list, else of the second */
+  uint32_t rejected;           /* which list has it: 1 or 2; 0 where neither has one */
   bool same;                   /* whether they are equivalent; false with an error */
 };
 
-/* Compares two lists for equal meaning, for instance one that the kernel returned and
- * one that is wanted. */
+/* Compares two lists for equal meaning: two requests, or two canonical encodings. For a link
+ * and a request, call linkinfo_first_unmet. */
 struct linkinfo_same linkinfo_same(const uint8_t *a, size_t a_length, const uint8_t *b,
                                    size_t b_length);
+
+/* Whether two lists are equivalent, and the first pair of attributes in which they differ.
+ * Where there is no such pair, its family, type and offsets are 0. */
+struct linkinfo_difference {
+  struct linkinfo_error error; /* of the first list, else of the second */
+  uint32_t rejected;           /* which list has it: 1 or 2; 0 where neither has one */
+  uint16_t family;             /* enum linkinfo_family: LINKINFO_FAMILY_LINKINFO of attributes
+                                  of the list, or that of attributes in data */
+  uint16_t type;               /* of the first list's attribute, else of the second's, without
+                                  its two flag bits */
+  size_t first;                /* where is_in_first, the offset of the header of the first
+                                  list's attribute; else 0 */
+  size_t second;               /* where is_in_second, that of the second list's; else 0 */
+  bool same;                   /* whether they are equivalent; false with an error */
+  bool is_in_first;            /* false where the first list, or the data, has ended there */
+  bool is_in_second;           /* false where the second has */
+};
+
+/* Where do two lists differ first? Attributes are compared in byte order, those of data and of
+ * nested lists one by one. As linkinfo_same, it is for two requests, or for two canonical
+ * encodings. */
+struct linkinfo_difference linkinfo_first_difference(const uint8_t *a, size_t a_length,
+                                                     const uint8_t *b, size_t b_length);
+
+/* Whether a link meets a request, and the first attribute of the request that it does not
+ * meet. Where there is no such attribute, its family, type and offsets are 0. */
+struct linkinfo_unmet {
+  struct linkinfo_error error; /* of the first list, else of the second */
+  uint32_t rejected;           /* which list has it: 1 or 2; 0 where neither has one */
+  uint16_t family;             /* enum linkinfo_family: LINKINFO_FAMILY_LINKINFO of an
+                                  attribute of the list, or that of an attribute in data */
+  uint16_t type;               /* without its two flag bits */
+  size_t want;                 /* the offset of its header in the second list */
+  size_t have;                 /* where is_present, the offset of the header of the last
+                                  attribute of that type in the first list; else 0 */
+  bool met;                    /* whether each attribute is met; false with an error */
+  bool is_present;             /* whether the first list has an attribute of that type */
+};
+
+/* Does a link have each attribute of a request? The first list is the link, as the kernel
+ * returned it; the second is the request. The order of attributes of different types does
+ * not matter, nor do the flag bits of an attribute's own type, nor further attributes of
+ * the link.
+ *
+ * Of several attributes of a type the last one counts, as in the kernel. An attribute of
+ * the request is met where that of the link has an equal payload or is equivalent. Data,
+ * port data and statistics also require that the kind or the port kind has the same name. Data of
+ * a family is compared attribute by attribute. Nested lists, and other data, are compared
+ * as a whole, with their order and the flag bits inside. Empty data is met by data alone.
+ *
+ * Takes linear time: three passes over the lists for types below 64, which are all of the
+ * kernel's, and three more for each further 64 up to the largest type of the request. */
+struct linkinfo_unmet linkinfo_first_unmet(const uint8_t *have, size_t have_length,
+                                           const uint8_t *want, size_t want_length);
 
 /* The outcome of linkinfo_canon. */
 enum linkinfo_canon_status {
@@ -205,8 +278,9 @@ enum linkinfo_canon_status {
   LINKINFO_CANON_SHORT = 3    /* the buffer is too short for it */
 };
 
+/* The outcome of linkinfo_canon, and the length of the canonical encoding. */
 struct linkinfo_canon {
-  struct linkinfo_fault fault; /* of the list, with status REFUSED */
+  struct linkinfo_error error; /* of the list, with status REFUSED */
   uint32_t status;             /* enum linkinfo_canon_status */
   size_t length;               /* of the canonical encoding, with status WRITTEN or SHORT;
                                   else 0 */
@@ -220,8 +294,9 @@ struct linkinfo_canon linkinfo_canon(const uint8_t *LINKINFO_RESTRICT bytes, siz
                                      uint8_t *LINKINFO_RESTRICT buffer,
                                      size_t buffer_length);
 
+/* The number of headers that were examined. */
 struct linkinfo_count {
-  struct linkinfo_fault fault;
+  struct linkinfo_error error;
   size_t count; /* headers examined, at all depths, up to the error: at most a quarter
                    of the bytes */
 };
@@ -238,13 +313,13 @@ struct linkinfo_item {
   uint16_t port_kind; /* the current port kind, enum linkinfo_port_kind */
 };
 
-/* How many attributes there are, and the error that ends them. */
-struct linkinfo_found {
-  struct linkinfo_fault fault;
+/* The number of attributes, and the error that ends them. */
+struct linkinfo_list_result {
+  struct linkinfo_error error;
   size_t place; /* the offset of that error; without one the number of bytes, or 0 where
                    data is opaque bytes */
-  size_t count; /* of attributes in all, whatever the array has room for: at most a
-                   quarter of the bytes */
+  size_t count; /* of all attributes, whatever room the array has: at most a quarter of the
+                   bytes */
 };
 
 /* Writes the attributes of a list in order, as many as the array has room for, and leaves
@@ -252,9 +327,9 @@ struct linkinfo_found {
  * header, no current kind that it requires, or a name that is not UTF-8. No other payload
  * is examined, so data may have an error that linkinfo_check returns. An array of
  * length / 4 items has room for those of every list. */
-struct linkinfo_found linkinfo_items(const uint8_t *LINKINFO_RESTRICT bytes, size_t length,
-                                     struct linkinfo_item *LINKINFO_RESTRICT items,
-                                     size_t items_length);
+struct linkinfo_list_result linkinfo_items(const uint8_t *LINKINFO_RESTRICT bytes, size_t length,
+                                           struct linkinfo_item *LINKINFO_RESTRICT items,
+                                           size_t items_length);
 
 /* The shape of the payload of an attribute in data. */
 enum linkinfo_shape {
@@ -269,7 +344,7 @@ enum linkinfo_shape {
   LINKINFO_SHAPE_I32 = 8, /* a signed little-endian number of four bytes */
   LINKINFO_SHAPE_TRUTH = 9, /* one byte, true where it is not 0 */
   LINKINFO_SHAPE_TRUTH_ONE = 10, /* one byte, true where it is 1 */
-  LINKINFO_SHAPE_MARK = 11, /* a flag, by being there; its bytes are ignored */
+  LINKINFO_SHAPE_MARK = 11, /* a presence flag; its bytes are ignored */
   LINKINFO_SHAPE_NAME = 12, /* a text, without one trailing NUL */
   LINKINFO_SHAPE_V4 = 13, /* an IPv4 address */
   LINKINFO_SHAPE_V6 = 14, /* an IPv6 address */
@@ -304,15 +379,67 @@ struct linkinfo_attribute {
  * item's kind or port_kind. They end at the first attribute without an accepted header.
  * Payloads are not validated here: that is for linkinfo_check of the list.
  *
+ * linkinfo_values writes the same attributes with the values of all shapes.
+ *
  * Where data of the kind is opaque bytes, there are none, and place is 0. Attributes of
  * bond, bridge, vlan, tun, hsr, can, dsa, wireguard and pfcp data, and of ports of bonds,
  * bridges and teams, have no known shape: a VLAN identifier is two bytes that the caller
  * reads. The payload of shape SELF_LIST is such data again. What follows the first
- * attribute of veth and vxcan data is written here too, though a parser ignores it. */
-struct linkinfo_found linkinfo_attributes(const uint8_t *LINKINFO_RESTRICT bytes,
-                                          size_t length, uint16_t kind,
-                                          struct linkinfo_attribute *LINKINFO_RESTRICT attributes,
-                                          size_t attributes_length);
+ * attribute of veth and vxcan data is written here too, though parsing ignores it. */
+struct linkinfo_list_result
+linkinfo_attributes(const uint8_t *LINKINFO_RESTRICT bytes, size_t length, uint16_t kind,
+                    struct linkinfo_attribute *LINKINFO_RESTRICT attributes,
+                    size_t attributes_length);
+
+/* Which members of struct linkinfo_value have the value of a payload. */
+enum linkinfo_value_type {
+  LINKINFO_VALUE_NONE = 0,    /* none: the type has no known shape, or the shape does not
+                                 accept the payload */
+  LINKINFO_VALUE_NUMBER = 1,  /* number: U8, LE16 .. BE64, and one byte of EMPTY_OR_BYTE */
+  LINKINFO_VALUE_SIGNED = 2,  /* signed_number: I32 */
+  LINKINFO_VALUE_TRUTH = 3,   /* truth: TRUTH, true where the byte is not 0; TRUTH_ONE, true
+                                 where it is 1; SCRUB, true for the default scrubbing */
+  LINKINFO_VALUE_PRESENT = 4, /* truth, which is true: MARK, and EMPTY_OR_BYTE without a byte */
+  LINKINFO_VALUE_TEXT = 5,    /* length: NAME, the first bytes of the payload, without one
+                                 trailing NUL; it is UTF-8 and may have other NULs */
+  LINKINFO_VALUE_IPV4 = 6,    /* octets, 4: V4, GENEVE_V4, IP */
+  LINKINFO_VALUE_IPV6 = 7,    /* octets, 16: V6, GENEVE_V6, IP */
+  LINKINFO_VALUE_MAC = 8,     /* octets, 6: MAC */
+  LINKINFO_VALUE_PAIR = 9,    /* first and second: BE_PAIR, and FLAG_PAIR, flags and mask */
+  LINKINFO_VALUE_LIST = 10,   /* length: SELF_LIST, the payload, whose attributes are those of
+                                 another call; they may have an error */
+  LINKINFO_VALUE_BYTES = 11   /* length: PEER, the payload */
+};
+
+/* What a payload means. Members that do not have the value are 0 or false. */
+struct linkinfo_value {
+  uint64_t number;
+  int64_t signed_number;
+  size_t length;       /* of the text, of the address, or of the payload that is a list or bytes */
+  uint8_t octets[16];  /* of the address, in network byte order, followed by zeros */
+  uint32_t first;      /* of a pair; the flags */
+  uint32_t second;     /* of a pair; the mask of the flags */
+  uint32_t value_type; /* enum linkinfo_value_type */
+  bool truth;
+};
+
+/* An attribute in data or port data, with its value. */
+struct linkinfo_valued_attribute {
+  size_t place;                /* the offset of its header in the data; its payload is four
+                                  bytes after that */
+  size_t length;               /* of its payload */
+  struct linkinfo_value value; /* what its payload means */
+  uint16_t raw_type;           /* with its flag bits */
+  uint16_t shape;              /* enum linkinfo_shape */
+};
+
+/* Writes the attributes that linkinfo_attributes writes, each with what its payload means:
+ * numbers, truth values, flags, texts, addresses and pairs. A payload that linkinfo_check
+ * rejects for its own length or text has no value. */
+struct linkinfo_list_result
+linkinfo_values(const uint8_t *LINKINFO_RESTRICT bytes, size_t length, uint16_t kind,
+                struct linkinfo_valued_attribute *LINKINFO_RESTRICT values,
+                size_t values_length);
 
 /* Texts. Each call writes a text and a NUL, truncated where the buffer has no room for both,
  * and returns the length of the whole text without the NUL, as snprintf does. The text of 0,
@@ -329,7 +456,7 @@ size_t linkinfo_kind_name(uint16_t kind, char *buffer, size_t buffer_length);
 size_t linkinfo_port_kind_name(uint16_t port_kind, char *buffer, size_t buffer_length);
 /* Family, type and cause of an error, as "linkinfo 2 order", at most 28 bytes; empty without
  * an error. */
-size_t linkinfo_fault_text(struct linkinfo_fault fault, char *buffer, size_t buffer_length);
+size_t linkinfo_error_text(struct linkinfo_error error, char *buffer, size_t buffer_length);
 
 /* The kind of a name, which is passed without a trailing NUL; LINKINFO_KIND_OTHER where it is
  * not known. */

@@ -1,6 +1,6 @@
-/* Refuses one request for memory: it is loaded in front of the C library by LD_PRELOAD. Its two
- * variables say which request, counted from 1, and the file descriptor at which it notes each: a
- * dot for one that is served, an x for the refused one. It includes no header, so that the
+/* Fails one allocation: the library is loaded before the C library, by LD_PRELOAD. Its two
+ * variables say which allocation, counted from 1, and the file descriptor to which it writes a dot
+ * for each allocation that succeeds and an x for the failed one. It includes no header, so that the
  * clang of the toolchain builds it. */
 extern void *__libc_malloc(unsigned long), *__libc_realloc(void *, unsigned long);
 extern char *getenv(const char *);

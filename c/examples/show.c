@@ -1,11 +1,15 @@
-/* show HEX [WANTED]: what stands inside IFLA_LINKINFO, and whether it means what is wanted. Status 0 where it does, or nothing is wanted. */
+/* show HEX [WANTED]: the attributes in the contents of IFLA_LINKINFO, and the first one of a
+ * request that they do not meet. Status 0 where they meet it, or nothing is wanted.
+ *
+ * (linkinfo_same is for two requests, or two canonical encodings: it is false for a request and the
+ * link that the kernel made for it, to which it adds attributes.) */
 #include "linkinfo.h"
 #include <inttypes.h>
 #include <stdio.h>
 #include <stdlib.h>
 #include <string.h>
 
-/* The bytes that a text of hexadecimal digits stands for, and their number; NULL where it is no such text. */
+/* The bytes of a text of hexadecimal digits, and their number; NULL where it is no such text. */
 static uint8_t *from_hex(const char *text, size_t *length) {
   size_t digits = strspn(text, "0123456789abcdefABCDEF");
   uint8_t *bytes = text[digits] == 0 && digits % 2 == 0 ? malloc(digits / 2 + 1) : NULL;
@@ -17,13 +21,13 @@ static uint8_t *from_hex(const char *text, size_t *length) {
   return bytes;
 }
 
-/* Says why a list is refused, where it is. */
-static bool is_refused(const char *whose, const uint8_t *bytes, size_t length) {
+/* Prints the error of a list, where it has one. */
+static bool is_rejected(const char *whose, const uint8_t *bytes, size_t length) {
   char text[32];
-  struct linkinfo_placed_fault refused = linkinfo_check_placed(bytes, length);
-  if (refused.fault.cause == LINKINFO_CAUSE_NONE) return false;
-  linkinfo_fault_text(refused.fault, text, sizeof text);
-  printf("%s%s at byte %zu\n", whose, text, refused.place);
+  struct linkinfo_error_at at = linkinfo_check_at(bytes, length);
+  if (at.error.cause == LINKINFO_CAUSE_NONE) return false;
+  linkinfo_error_text(at.error, text, sizeof text);
+  printf("%s%s at byte %zu\n", whose, text, at.place);
   return true;
 }
 
@@ -35,49 +39,101 @@ static void kind_of(const struct linkinfo_item *item, char *text, size_t length)
   if (type == 5) linkinfo_port_kind_name(item->port_kind, text, length);
 }
 
-/* The attributes inside data or port data. */
-static void show_inside(const uint8_t *list, const struct linkinfo_item *item) {
+/* A value, as the shape of its attribute means it. */
+static void show_value(const uint8_t *payload, const struct linkinfo_valued_attribute *attribute) {
+  const struct linkinfo_value *value = &attribute->value;
+  switch (value->value_type) {
+  case LINKINFO_VALUE_NUMBER:
+    printf(" = %" PRIu64 "\n", value->number);
+    break;
+  case LINKINFO_VALUE_SIGNED:
+    printf(" = %" PRId64 "\n", value->signed_number);
+    break;
+  case LINKINFO_VALUE_TRUTH:
+  case LINKINFO_VALUE_PRESENT:
+    printf(" = %s\n", value->truth ? "true" : "false");
+    break;
+  case LINKINFO_VALUE_TEXT:
+    printf(" = \"%.*s\"\n", (int)value->length, (const char *)payload);
+    break;
+  case LINKINFO_VALUE_IPV4:
+  case LINKINFO_VALUE_IPV6:
+  case LINKINFO_VALUE_MAC:
+    printf(" =");
+    for (size_t i = 0; i < value->length; i++) printf(" %02x", value->octets[i]);
+    printf("\n");
+    break;
+  case LINKINFO_VALUE_PAIR:
+    printf(" = %" PRIu32 ", %" PRIu32 "\n", value->first, value->second);
+    break;
+  default:
+    printf(", %zu bytes\n", attribute->length);
+  }
+}
+
+/* The attributes in data or port data. */
+static void show_data(const uint8_t *list, const struct linkinfo_item *item) {
   unsigned type = item->raw_type & 0x3fffu;
-  struct linkinfo_attribute *attributes = malloc((item->length / 4 + 1) * sizeof *attributes);
+  struct linkinfo_valued_attribute *attributes =
+      malloc((item->length / 4 + 1) * sizeof *attributes);
   if (!attributes || (type != 2 && type != 5)) {
     free(attributes);
     return;
   }
   size_t begin = item->place + 4;
-  struct linkinfo_found found =
-      linkinfo_attributes(list + begin, item->length, type == 2 ? item->kind : item->port_kind, attributes, item->length / 4);
+  uint16_t kind = type == 2 ? item->kind : item->port_kind;
+  struct linkinfo_list_result found =
+      linkinfo_values(list + begin, item->length, kind, attributes, item->length / 4);
   for (size_t i = 0; i < found.count; i++) {
-    printf("  %zu: type %u", begin + attributes[i].place, attributes[i].raw_type & 0x3fffu);
-    if (attributes[i].is_number) {
-      printf(" = %" PRIu64 "\n", attributes[i].number);
-    } else {
-      printf(", %zu bytes\n", attributes[i].length);
-    }
+    size_t place = begin + attributes[i].place;
+    printf("  %zu: type %u", place, attributes[i].raw_type & 0x3fffu);
+    show_value(list + place + 4, &attributes[i]);
   }
   free(attributes);
+}
+
+/* Whether the link has all that is wanted; prints the first attribute that it has not. */
+static bool is_as_wanted(const uint8_t *have, size_t have_length, const uint8_t *want,
+                         size_t want_length) {
+  char family[16];
+  struct linkinfo_unmet unmet = linkinfo_first_unmet(have, have_length, want, want_length);
+  if (unmet.met) {
+    puts("as wanted");
+    return true;
+  }
+  linkinfo_family_name(unmet.family, family, sizeof family);
+  printf("not as wanted: %s %u at byte %zu of what is wanted, ", family, unmet.type, unmet.want);
+  if (unmet.is_present) {
+    printf("and another one at byte %zu\n", unmet.have);
+  } else {
+    printf("and none\n");
+  }
+  return false;
 }
 
 int main(int count, char **arguments) {
   char text[32];
   size_t length = 0, wanted_length = 0;
-  uint8_t *bytes = count > 1 ? from_hex(arguments[1], &length) : NULL, *wanted = count > 2 ? from_hex(arguments[2], &wanted_length) : NULL;
+  uint8_t *bytes = count > 1 ? from_hex(arguments[1], &length) : NULL;
+  uint8_t *wanted = count > 2 ? from_hex(arguments[2], &wanted_length) : NULL;
   if (count > 3 || !bytes || (count == 3 && !wanted)) {
     fprintf(stderr, "usage: show HEX [WANTED]\n");
     return 2;
   }
-  if (is_refused("", bytes, length) || (wanted && is_refused("wanted: ", wanted, wanted_length))) return 1;
+  if (is_rejected("", bytes, length)) return 1;
+  if (wanted && is_rejected("wanted: ", wanted, wanted_length)) return 1;
   struct linkinfo_item *items = malloc((length / 4 + 1) * sizeof *items);
   if (!items) return 2;
-  struct linkinfo_found found = linkinfo_items(bytes, length, items, length / 4);
+  struct linkinfo_list_result found = linkinfo_items(bytes, length, items, length / 4);
   for (size_t i = 0; i < found.count; i++) {
     kind_of(&items[i], text, sizeof text);
-    printf("%zu: type %u, %zu bytes%s%s\n", items[i].place, items[i].raw_type & 0x3fffu, items[i].length, text[0] ? " of " : "", text);
-    show_inside(bytes, &items[i]);
+    printf("%zu: type %u, %zu bytes%s%s\n", items[i].place, items[i].raw_type & 0x3fffu,
+           items[i].length, text[0] ? " of " : "", text);
+    show_data(bytes, &items[i]);
   }
-  bool same = count == 2 || linkinfo_same(bytes, length, wanted, wanted_length).same;
-  if (count == 3) puts(same ? "as wanted" : "not as wanted");
+  bool met = !wanted || is_as_wanted(bytes, length, wanted, wanted_length);
   free(items);
   free(bytes);
   free(wanted);
-  return same ? 0 : 1;
+  return met ? 0 : 1;
 }

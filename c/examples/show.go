@@ -1,4 +1,8 @@
-// show HEX [WANTED]: what stands inside IFLA_LINKINFO, and whether it means what is wanted. Status 0 where it does, or nothing is wanted.
+// show HEX [WANTED]: the attributes in the contents of IFLA_LINKINFO, and the first one of a
+// request that they do not meet. Status 0 where they meet it, or nothing is wanted.
+//
+// (linkinfo_same is for two requests, or two canonical encodings: it is false for a request and
+// the link that the kernel made for it, to which it adds attributes.)
 package main
 
 // #cgo pkg-config: linkinfo
@@ -37,9 +41,13 @@ func kind(item C.struct_linkinfo_item) string {
 	name := ""
 	switch item.raw_type & 0x3fff {
 	case 2, 3:
-		name = text(func(buffer *C.char, length C.size_t) C.size_t { return C.linkinfo_kind_name(item.kind, buffer, length) })
+		name = text(func(buffer *C.char, length C.size_t) C.size_t {
+			return C.linkinfo_kind_name(item.kind, buffer, length)
+		})
 	case 5:
-		name = text(func(buffer *C.char, length C.size_t) C.size_t { return C.linkinfo_port_kind_name(item.port_kind, buffer, length) })
+		name = text(func(buffer *C.char, length C.size_t) C.size_t {
+			return C.linkinfo_port_kind_name(item.port_kind, buffer, length)
+		})
 	}
 	if name == "" {
 		return ""
@@ -47,10 +55,9 @@ func kind(item C.struct_linkinfo_item) string {
 	return " of " + name
 }
 
-// inside is what stands inside data or port data.
-func inside(list []byte, item C.struct_linkinfo_item) []C.struct_linkinfo_attribute {
-	payload := list[item.place+4 : item.place+4+item.length]
-	attributes := make([]C.struct_linkinfo_attribute, len(payload)/4+1)
+// attributes are those in data or port data.
+func attributes(payload []byte, item C.struct_linkinfo_item) []C.struct_linkinfo_valued_attribute {
+	values := make([]C.struct_linkinfo_valued_attribute, len(payload)/4+1)
 	kind := C.uint16_t(0)
 	switch item.raw_type & 0x3fff {
 	case 2:
@@ -58,33 +65,82 @@ func inside(list []byte, item C.struct_linkinfo_item) []C.struct_linkinfo_attrib
 	case 5:
 		kind = item.port_kind
 	}
-	found := C.linkinfo_attributes(pointer(payload), C.size_t(len(payload)), kind, &attributes[0], C.size_t(len(attributes)))
-	return attributes[:found.count]
+	found := C.linkinfo_values(pointer(payload), C.size_t(len(payload)), kind, &values[0],
+		C.size_t(len(values)))
+	return values[:found.count]
 }
 
-// isRefused says why a list is refused, where it is.
-func isRefused(whose string, list []byte) bool {
-	refused := C.linkinfo_check_placed(pointer(list), C.size_t(len(list)))
-	if refused.fault.cause == C.LINKINFO_CAUSE_NONE {
+// valueText is a value as the shape of its attribute means it.
+func valueText(attribute C.struct_linkinfo_valued_attribute, payload []byte) string {
+	value := attribute.value
+	switch value.value_type {
+	case C.LINKINFO_VALUE_NUMBER:
+		return fmt.Sprintf(" = %d", value.number)
+	case C.LINKINFO_VALUE_SIGNED:
+		return fmt.Sprintf(" = %d", value.signed_number)
+	case C.LINKINFO_VALUE_TRUTH, C.LINKINFO_VALUE_PRESENT:
+		return fmt.Sprintf(" = %t", value.truth)
+	case C.LINKINFO_VALUE_TEXT:
+		return fmt.Sprintf(" = \"%s\"", payload[:value.length])
+	case C.LINKINFO_VALUE_IPV4, C.LINKINFO_VALUE_IPV6, C.LINKINFO_VALUE_MAC:
+		text := " ="
+		for _, octet := range value.octets[:value.length] {
+			text += fmt.Sprintf(" %02x", octet)
+		}
+		return text
+	case C.LINKINFO_VALUE_PAIR:
+		return fmt.Sprintf(" = %d, %d", value.first, value.second)
+	}
+	return fmt.Sprintf(", %d bytes", attribute.length)
+}
+
+// isRejected prints the error of a list, where it has one.
+func isRejected(whose string, list []byte) bool {
+	result := C.linkinfo_check_at(pointer(list), C.size_t(len(list)))
+	if result.error.cause == C.LINKINFO_CAUSE_NONE {
 		return false
 	}
-	fault := text(func(buffer *C.char, length C.size_t) C.size_t { return C.linkinfo_fault_text(refused.fault, buffer, length) })
-	fmt.Printf("%s%s at byte %d\n", whose, fault, refused.place)
+	message := text(func(buffer *C.char, length C.size_t) C.size_t {
+		return C.linkinfo_error_text(result.error, buffer, length)
+	})
+	fmt.Printf("%s%s at byte %d\n", whose, message, result.place)
 	return true
 }
 
-func show(given []byte) {
-	for _, item := range items(given) {
-		fmt.Printf("%d: type %d, %d bytes%s\n", item.place, item.raw_type&0x3fff, item.length, kind(item))
-		for _, attribute := range inside(given, item) {
-			place := item.place + 4 + attribute.place
-			if attribute.is_number {
-				fmt.Printf("  %d: type %d = %d\n", place, attribute.raw_type&0x3fff, attribute.number)
-			} else {
-				fmt.Printf("  %d: type %d, %d bytes\n", place, attribute.raw_type&0x3fff, attribute.length)
-			}
+func show(list []byte) {
+	for _, item := range items(list) {
+		fmt.Printf("%d: type %d, %d bytes%s\n", item.place, item.raw_type&0x3fff, item.length,
+			kind(item))
+		begin := item.place + 4
+		payload := list[begin : begin+item.length]
+		for _, attribute := range attributes(payload, item) {
+			value := valueText(attribute, payload[attribute.place+4:][:attribute.length])
+			place := begin + attribute.place
+			fmt.Printf("  %d: type %d%s\n", place, attribute.raw_type&0x3fff, value)
 		}
 	}
+}
+
+// isAsWanted says whether the link has all that is wanted, and prints the first attribute that it
+// has not.
+func isAsWanted(have, want []byte) bool {
+	unmet := C.linkinfo_first_unmet(pointer(have), C.size_t(len(have)), pointer(want),
+		C.size_t(len(want)))
+	if unmet.met {
+		fmt.Println("as wanted")
+		return true
+	}
+	family := text(func(buffer *C.char, length C.size_t) C.size_t {
+		return C.linkinfo_family_name(unmet.family, buffer, length)
+	})
+	found := "and none"
+	if unmet.is_present {
+		found = fmt.Sprintf("and another one at byte %d", unmet.have)
+	}
+	// (`type` is a word of Go, so cgo names the member _type)
+	fmt.Printf("not as wanted: %s %d at byte %d of what is wanted, %s\n", family, unmet._type,
+		unmet.want, found)
+	return false
 }
 
 func main() {
@@ -98,16 +154,11 @@ func main() {
 		fmt.Fprintln(os.Stderr, "usage: show HEX [WANTED]")
 		os.Exit(2)
 	}
-	if isRefused("", lists[0]) || len(lists) == 2 && isRefused("wanted: ", lists[1]) {
+	if isRejected("", lists[0]) || len(lists) == 2 && isRejected("wanted: ", lists[1]) {
 		os.Exit(1)
 	}
 	show(lists[0])
-	if len(lists) == 2 {
-		same := bool(C.linkinfo_same(pointer(lists[0]), C.size_t(len(lists[0])), pointer(lists[1]), C.size_t(len(lists[1]))).same)
-		if !same {
-			fmt.Println("not as wanted")
-			os.Exit(1)
-		}
-		fmt.Println("as wanted")
+	if len(lists) == 2 && !isAsWanted(lists[0], lists[1]) {
+		os.Exit(1)
 	}
 }

@@ -1,4 +1,8 @@
-"""show.py HEX [WANTED]: what stands inside IFLA_LINKINFO, and whether it means what is wanted. Status 0 where it does, or nothing is wanted.
+"""show.py HEX [WANTED]: the attributes in the contents of IFLA_LINKINFO, and the first one of a
+request that they do not meet. Status 0 where they meet it, or nothing is wanted.
+
+(linkinfo_same is for two requests, or two canonical encodings: it is false for a request and the
+link that the kernel made for it, to which it adds attributes.)
 
 LINKINFO_LIBRARY names the library where it is not installed.
 """
@@ -6,38 +10,73 @@ import ctypes
 import os
 import re
 import sys
-from ctypes import POINTER, Structure, c_bool, c_char_p, c_size_t, c_uint16, c_uint32, c_uint64
+from ctypes import POINTER, Structure
+from ctypes import c_bool, c_char_p, c_int64, c_size_t, c_uint8, c_uint16, c_uint32, c_uint64
 
 library = ctypes.CDLL(os.environ.get("LINKINFO_LIBRARY", "liblinkinfo.so.0"))
 
 
-class Fault(Structure):
+class Error(Structure):
     _fields_ = [("family", c_uint16), ("type", c_uint16), ("cause", c_uint32)]
 
     def __str__(self):
         text = ctypes.create_string_buffer(32)
-        library.linkinfo_fault_text(self, text, len(text))
+        library.linkinfo_error_text(self, text, len(text))
         return text.value.decode()
 
 
-class PlacedFault(Structure):
-    _fields_ = [("fault", Fault), ("place", c_size_t)]
+class ErrorAt(Structure):
+    _fields_ = [("error", Error), ("place", c_size_t)]
 
 
-class Same(Structure):
-    _fields_ = [("fault", Fault), ("faulty", c_uint32), ("same", c_bool)]
+class Unmet(Structure):
+    _fields_ = [
+        ("error", Error),
+        ("rejected", c_uint32),
+        ("family", c_uint16),
+        ("type", c_uint16),
+        ("want", c_size_t),
+        ("have", c_size_t),
+        ("met", c_bool),
+        ("is_present", c_bool),
+    ]
 
 
 class Item(Structure):
-    _fields_ = [("place", c_size_t), ("length", c_size_t), ("raw_type", c_uint16), ("kind", c_uint16), ("port_kind", c_uint16)]
+    _fields_ = [
+        ("place", c_size_t),
+        ("length", c_size_t),
+        ("raw_type", c_uint16),
+        ("kind", c_uint16),
+        ("port_kind", c_uint16),
+    ]
+
+
+class Value(Structure):
+    _fields_ = [
+        ("number", c_uint64),
+        ("signed_number", c_int64),
+        ("length", c_size_t),
+        ("octets", c_uint8 * 16),
+        ("first", c_uint32),
+        ("second", c_uint32),
+        ("value_type", c_uint32),
+        ("truth", c_bool),
+    ]
 
 
 class Attribute(Structure):
-    _fields_ = [("place", c_size_t), ("length", c_size_t), ("number", c_uint64), ("raw_type", c_uint16), ("shape", c_uint16), ("is_number", c_bool)]
+    _fields_ = [
+        ("place", c_size_t),
+        ("length", c_size_t),
+        ("value", Value),
+        ("raw_type", c_uint16),
+        ("shape", c_uint16),
+    ]
 
 
-class Found(Structure):
-    _fields_ = [("fault", Fault), ("place", c_size_t), ("count", c_size_t)]
+class ListResult(Structure):
+    _fields_ = [("error", Error), ("place", c_size_t), ("count", c_size_t)]
 
 
 def declare(name, result, *arguments):
@@ -45,13 +84,14 @@ def declare(name, result, *arguments):
     call.restype, call.argtypes = result, arguments
 
 
-declare("linkinfo_check_placed", PlacedFault, c_char_p, c_size_t)
-declare("linkinfo_same", Same, c_char_p, c_size_t, c_char_p, c_size_t)
-declare("linkinfo_items", Found, c_char_p, c_size_t, POINTER(Item), c_size_t)
-declare("linkinfo_attributes", Found, c_char_p, c_size_t, c_uint16, POINTER(Attribute), c_size_t)
+declare("linkinfo_check_at", ErrorAt, c_char_p, c_size_t)
+declare("linkinfo_first_unmet", Unmet, c_char_p, c_size_t, c_char_p, c_size_t)
+declare("linkinfo_items", ListResult, c_char_p, c_size_t, POINTER(Item), c_size_t)
+declare("linkinfo_values", ListResult, c_char_p, c_size_t, c_uint16, POINTER(Attribute), c_size_t)
+declare("linkinfo_family_name", c_size_t, c_uint16, c_char_p, c_size_t)
 declare("linkinfo_kind_name", c_size_t, c_uint16, c_char_p, c_size_t)
 declare("linkinfo_port_kind_name", c_size_t, c_uint16, c_char_p, c_size_t)
-declare("linkinfo_fault_text", c_size_t, Fault, c_char_p, c_size_t)
+declare("linkinfo_error_text", c_size_t, Error, c_char_p, c_size_t)
 
 
 def items_of(given):
@@ -61,12 +101,34 @@ def items_of(given):
 
 
 def attributes_in(given, item):
-    """The attributes inside data or port data."""
+    """The attributes in data or port data, with their payloads."""
     kinds = {2: item.kind, 5: item.port_kind}
+    kind = kinds.get(item.raw_type & 0x3FFF, 0)
     payload = given[item.place + 4 : item.place + 4 + item.length]
     attributes = (Attribute * (len(payload) // 4))()
-    found = library.linkinfo_attributes(payload, len(payload), kinds.get(item.raw_type & 0x3FFF, 0), attributes, len(attributes))
-    return attributes[: found.count]
+    found = library.linkinfo_values(payload, len(payload), kind, attributes, len(attributes))
+    for attribute in attributes[: found.count]:
+        begin = attribute.place + 4
+        yield attribute, payload[begin : begin + attribute.length]
+
+
+def value_of(attribute, payload):
+    """A value, as the shape of its attribute means it: enum linkinfo_value_type."""
+    value = attribute.value
+    match value.value_type:
+        case 1:
+            return f" = {value.number}"
+        case 2:
+            return f" = {value.signed_number}"
+        case 3 | 4:
+            return f" = {str(value.truth).lower()}"
+        case 5:
+            return f' = "{payload[: value.length].decode()}"'
+        case 6 | 7 | 8:
+            return f" = {bytes(value.octets[: value.length]).hex(' ')}"
+        case 9:
+            return f" = {value.first}, {value.second}"
+    return f", {attribute.length} bytes"
 
 
 def kind_of(item):
@@ -80,31 +142,45 @@ def kind_of(item):
     return f" of {text.value.decode()}" if text.value else ""
 
 
-def is_refused(whose, given):
-    """Says why a list is refused, where it is."""
-    refused = library.linkinfo_check_placed(given, len(given))
-    if refused.fault.cause:
-        print(f"{whose}{refused.fault} at byte {refused.place}")
-    return bool(refused.fault.cause)
+def is_rejected(whose, given):
+    """Prints the error of a list, where it has one."""
+    at = library.linkinfo_check_at(given, len(given))
+    if at.error.cause:
+        print(f"{whose}{at.error} at byte {at.place}")
+    return bool(at.error.cause)
+
+
+def is_as_wanted(have, want):
+    """Whether the link has all that is wanted; prints the first attribute that it has not."""
+    unmet = library.linkinfo_first_unmet(have, len(have), want, len(want))
+    if unmet.met:
+        print("as wanted")
+        return True
+    family = ctypes.create_string_buffer(16)
+    library.linkinfo_family_name(unmet.family, family, len(family))
+    found = f"and another one at byte {unmet.have}" if unmet.is_present else "and none"
+    attribute = f"{family.value.decode()} {unmet.type} at byte {unmet.want}"
+    print(f"not as wanted: {attribute} of what is wanted, {found}")
+    return False
 
 
 def main(given, wanted=None):
-    if is_refused("", given) or (wanted is not None and is_refused("wanted: ", wanted)):
+    if is_rejected("", given) or (wanted is not None and is_rejected("wanted: ", wanted)):
         return 1
     for item in items_of(given):
-        print(f"{item.place}: type {item.raw_type & 0x3FFF}, {item.length} bytes{kind_of(item)}")
-        for attribute in attributes_in(given, item):
-            what = f" = {attribute.number}" if attribute.is_number else f", {attribute.length} bytes"
-            print(f"  {item.place + 4 + attribute.place}: type {attribute.raw_type & 0x3FFF}{what}")
-    if wanted is None:
-        return 0
-    same = library.linkinfo_same(given, len(given), wanted, len(wanted)).same
-    print("as wanted" if same else "not as wanted")
-    return 0 if same else 1
+        kind = item.raw_type & 0x3FFF
+        print(f"{item.place}: type {kind}, {item.length} bytes{kind_of(item)}")
+        for attribute, payload in attributes_in(given, item):
+            place = item.place + 4 + attribute.place
+            value = value_of(attribute, payload)
+            print(f"  {place}: type {attribute.raw_type & 0x3FFF}{value}")
+    return 0 if wanted is None or is_as_wanted(given, wanted) else 1
 
 
 if __name__ == "__main__":
-    if len(sys.argv) not in (2, 3) or not all(re.fullmatch("([0-9a-fA-F]{2})*", text) for text in sys.argv[1:]):
+    texts = sys.argv[1:]
+    is_hex = all(re.fullmatch("([0-9a-fA-F]{2})*", text) for text in texts)
+    if len(texts) not in (1, 2) or not is_hex:
         print("usage: show HEX [WANTED]", file=sys.stderr)
         sys.exit(2)
-    sys.exit(main(*map(bytes.fromhex, sys.argv[1:])))
+    sys.exit(main(*map(bytes.fromhex, texts)))

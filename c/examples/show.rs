@@ -1,27 +1,36 @@
-//! show HEX [WANTED]: what stands inside IFLA_LINKINFO, and whether it means what is wanted. Status 0 where it does, or nothing is wanted.
+//! show HEX [WANTED]: the attributes in the contents of IFLA_LINKINFO, and the first one of a
+//! request that they do not meet. Status 0 where they meet it, or nothing is wanted.
+//!
+//! (linkinfo_same is for two requests, or two canonical encodings: it is false for a request and
+//! the link that the kernel made for it, to which it adds attributes.)
 
 mod linkinfo {
     use std::ffi::c_char;
 
     #[repr(C)]
     #[derive(Clone, Copy)]
-    pub struct Fault {
+    pub struct Error {
         pub family: u16,
         pub kind: u16,
         pub cause: u32,
     }
 
     #[repr(C)]
-    pub struct PlacedFault {
-        pub fault: Fault,
+    pub struct ErrorAt {
+        pub error: Error,
         pub place: usize,
     }
 
     #[repr(C)]
-    pub struct Same {
-        pub fault: Fault,
-        pub faulty: u32,
-        pub same: bool,
+    pub struct Unmet {
+        pub error: Error,
+        pub rejected: u32,
+        pub family: u16,
+        pub kind: u16,
+        pub want: usize,
+        pub have: usize,
+        pub met: bool,
+        pub is_present: bool,
     }
 
     #[repr(C)]
@@ -36,61 +45,98 @@ mod linkinfo {
 
     #[repr(C)]
     #[derive(Clone, Copy, Default)]
-    pub struct Attribute {
-        pub place: usize,
-        pub length: usize,
+    pub struct Value {
         pub number: u64,
-        pub raw_type: u16,
-        pub shape: u16,
-        pub is_number: bool,
+        pub signed_number: i64,
+        pub length: usize,
+        pub octets: [u8; 16],
+        pub first: u32,
+        pub second: u32,
+        pub value_type: u32,
+        pub truth: bool,
     }
 
     #[repr(C)]
-    struct Found {
-        fault: Fault,
+    #[derive(Clone, Copy, Default)]
+    pub struct Attribute {
+        pub place: usize,
+        pub length: usize,
+        pub value: Value,
+        pub raw_type: u16,
+        pub shape: u16,
+    }
+
+    #[repr(C)]
+    struct ListResult {
+        error: Error,
         place: usize,
         count: usize,
     }
 
     unsafe extern "C" {
-        fn linkinfo_check_placed(bytes: *const u8, length: usize) -> PlacedFault;
-        fn linkinfo_same(a: *const u8, a_length: usize, b: *const u8, b_length: usize) -> Same;
-        fn linkinfo_items(bytes: *const u8, length: usize, items: *mut Item, items_length: usize) -> Found;
-        fn linkinfo_attributes(bytes: *const u8, length: usize, kind: u16, attributes: *mut Attribute, attributes_length: usize) -> Found;
+        fn linkinfo_check_at(bytes: *const u8, length: usize) -> ErrorAt;
+        fn linkinfo_first_unmet(
+            have: *const u8,
+            have_length: usize,
+            want: *const u8,
+            want_length: usize,
+        ) -> Unmet;
+        fn linkinfo_items(
+            bytes: *const u8,
+            length: usize,
+            items: *mut Item,
+            items_length: usize,
+        ) -> ListResult;
+        fn linkinfo_values(
+            bytes: *const u8,
+            length: usize,
+            kind: u16,
+            values: *mut Attribute,
+            values_length: usize,
+        ) -> ListResult;
+        fn linkinfo_family_name(family: u16, buffer: *mut c_char, buffer_length: usize) -> usize;
         fn linkinfo_kind_name(kind: u16, buffer: *mut c_char, buffer_length: usize) -> usize;
         fn linkinfo_port_kind_name(kind: u16, buffer: *mut c_char, buffer_length: usize) -> usize;
-        fn linkinfo_fault_text(fault: Fault, buffer: *mut c_char, buffer_length: usize) -> usize;
+        fn linkinfo_error_text(error: Error, buffer: *mut c_char, buffer_length: usize) -> usize;
     }
 
-    /// The first fault of a list and its place, or none.
-    pub fn check(bytes: &[u8]) -> Result<(), PlacedFault> {
-        let answer = unsafe { linkinfo_check_placed(bytes.as_ptr(), bytes.len()) };
-        if answer.fault.cause == 0 { Ok(()) } else { Err(answer) }
+    /// The error of a list and its offset, or none.
+    pub fn check(bytes: &[u8]) -> Result<(), ErrorAt> {
+        let result = unsafe { linkinfo_check_at(bytes.as_ptr(), bytes.len()) };
+        if result.error.cause == 0 { Ok(()) } else { Err(result) }
     }
 
-    /// Whether two lists mean the same; false where one has a fault.
-    pub fn same(a: &[u8], b: &[u8]) -> bool {
-        unsafe { linkinfo_same(a.as_ptr(), a.len(), b.as_ptr(), b.len()).same }
+    /// Whether a list has all attributes of another one, or the first that it has not.
+    pub fn first_unmet(have: &[u8], want: &[u8]) -> Unmet {
+        unsafe { linkinfo_first_unmet(have.as_ptr(), have.len(), want.as_ptr(), want.len()) }
     }
 
     /// The attributes of a list.
     pub fn items(bytes: &[u8]) -> Vec<Item> {
         let mut items = vec![Item::default(); bytes.len() / 4];
-        let found = unsafe { linkinfo_items(bytes.as_ptr(), bytes.len(), items.as_mut_ptr(), items.len()) };
+        let found =
+            unsafe { linkinfo_items(bytes.as_ptr(), bytes.len(), items.as_mut_ptr(), items.len()) };
         items.truncate(found.count);
         items
     }
 
-    /// The attributes inside data or port data of a list.
+    /// The payload of an item: data or port data of a list.
+    pub fn payload<'a>(list: &'a [u8], item: &Item) -> &'a [u8] {
+        &list[item.place + 4..][..item.length]
+    }
+
+    /// The attributes in data or port data of a list.
     pub fn attributes(list: &[u8], item: &Item) -> Vec<Attribute> {
-        let payload = &list[item.place + 4..item.place + 4 + item.length];
+        let payload = payload(list, item);
         let kind = match item.raw_type & 0x3fff {
             2 => item.kind,
             5 => item.port_kind,
             _ => 0,
         };
         let mut attributes = vec![Attribute::default(); payload.len() / 4];
-        let found = unsafe { linkinfo_attributes(payload.as_ptr(), payload.len(), kind, attributes.as_mut_ptr(), attributes.len()) };
+        let (pointer, length) = (attributes.as_mut_ptr(), attributes.len());
+        let found =
+            unsafe { linkinfo_values(payload.as_ptr(), payload.len(), kind, pointer, length) };
         attributes.truncate(found.count);
         attributes
     }
@@ -104,14 +150,22 @@ mod linkinfo {
     /// The kind of the link, or of the port, whose data or statistics the item is.
     pub fn kind_of(item: &Item) -> String {
         match item.raw_type & 0x3fff {
-            2 | 3 => text(|buffer, length| unsafe { linkinfo_kind_name(item.kind, buffer, length) }),
-            5 => text(|buffer, length| unsafe { linkinfo_port_kind_name(item.port_kind, buffer, length) }),
+            2 | 3 => {
+                text(|buffer, length| unsafe { linkinfo_kind_name(item.kind, buffer, length) })
+            }
+            5 => text(|buffer, length| unsafe {
+                linkinfo_port_kind_name(item.port_kind, buffer, length)
+            }),
             _ => String::new(),
         }
     }
 
-    pub fn fault_text(fault: Fault) -> String {
-        text(|buffer, length| unsafe { linkinfo_fault_text(fault, buffer, length) })
+    pub fn family_name(family: u16) -> String {
+        text(|buffer, length| unsafe { linkinfo_family_name(family, buffer, length) })
+    }
+
+    pub fn error_text(error: Error) -> String {
+        text(|buffer, length| unsafe { linkinfo_error_text(error, buffer, length) })
     }
 }
 
@@ -121,13 +175,62 @@ fn from_hex(text: String) -> Option<Vec<u8>> {
     Some(digits.chunks(2).map(|pair| (pair[0] * 16 + pair[1]) as u8).collect())
 }
 
-/// Says why a list is refused, where it is.
-fn is_refused(whose: &str, list: &[u8]) -> bool {
-    let Err(refused) = linkinfo::check(list) else {
+/// Prints the error of a list, where it has one.
+fn is_rejected(whose: &str, list: &[u8]) -> bool {
+    let Err(at) = linkinfo::check(list) else {
         return false;
     };
-    println!("{whose}{} at byte {}", linkinfo::fault_text(refused.fault), refused.place);
+    println!("{whose}{} at byte {}", linkinfo::error_text(at.error), at.place);
     true
+}
+
+/// A value, as the shape of its attribute means it: `enum linkinfo_value_type`.
+fn value_text(attribute: &linkinfo::Attribute, payload: &[u8]) -> String {
+    let value = &attribute.value;
+    match value.value_type {
+        1 => format!(" = {}", value.number),
+        2 => format!(" = {}", value.signed_number),
+        3 | 4 => format!(" = {}", value.truth),
+        5 => format!(" = \"{}\"", String::from_utf8_lossy(&payload[..value.length])),
+        6..=8 => {
+            let octets = value.octets[..value.length].iter();
+            octets.fold(" =".to_string(), |text, octet| format!("{text} {octet:02x}"))
+        }
+        9 => format!(" = {}, {}", value.first, value.second),
+        _ => format!(", {} bytes", attribute.length),
+    }
+}
+
+fn show(list: &[u8]) {
+    for item in linkinfo::items(list) {
+        let kind = linkinfo::kind_of(&item);
+        let of = if kind.is_empty() { "" } else { " of " };
+        let item_type = item.raw_type & 0x3fff;
+        println!("{}: type {item_type}, {} bytes{of}{kind}", item.place, item.length);
+        let data = linkinfo::payload(list, &item);
+        for attribute in linkinfo::attributes(list, &item) {
+            let value = value_text(&attribute, &data[attribute.place + 4..][..attribute.length]);
+            let place = item.place + 4 + attribute.place;
+            println!("  {place}: type {}{value}", attribute.raw_type & 0x3fff);
+        }
+    }
+}
+
+/// Whether the link has all that is wanted; prints the first attribute that it has not.
+fn is_as_wanted(have: &[u8], want: &[u8]) -> bool {
+    let unmet = linkinfo::first_unmet(have, want);
+    if unmet.met {
+        println!("as wanted");
+        return true;
+    }
+    let family = linkinfo::family_name(unmet.family);
+    print!("not as wanted: {family} {} at byte {} of what is wanted, ", unmet.kind, unmet.want);
+    if unmet.is_present {
+        println!("and another one at byte {}", unmet.have);
+    } else {
+        println!("and none");
+    }
+    false
 }
 
 fn main() -> std::process::ExitCode {
@@ -141,26 +244,10 @@ fn main() -> std::process::ExitCode {
             return 2.into();
         }
     };
-    if is_refused("", given) || wanted.is_some_and(|wanted| is_refused("wanted: ", wanted)) {
+    let is_rejected = is_rejected("", given) || wanted.is_some_and(|w| is_rejected("wanted: ", w));
+    if is_rejected {
         return 1.into();
     }
-    for item in linkinfo::items(given) {
-        let kind = linkinfo::kind_of(&item);
-        let of = if kind.is_empty() { "" } else { " of " };
-        println!("{}: type {}, {} bytes{of}{kind}", item.place, item.raw_type & 0x3fff, item.length);
-        for attribute in linkinfo::attributes(given, &item) {
-            print!("  {}: type {}", item.place + 4 + attribute.place, attribute.raw_type & 0x3fff);
-            if attribute.is_number {
-                println!(" = {}", attribute.number);
-            } else {
-                println!(", {} bytes", attribute.length);
-            }
-        }
-    }
-    let Some(wanted) = wanted else {
-        return 0.into();
-    };
-    let same = linkinfo::same(given, wanted);
-    println!("{}", if same { "as wanted" } else { "not as wanted" });
-    u8::from(!same).into()
+    show(given);
+    u8::from(!wanted.is_none_or(|wanted| is_as_wanted(given, wanted))).into()
 }

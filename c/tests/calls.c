@@ -1,8 +1,10 @@
-/* Every call over the strings of a file and over what else a caller may hand in: null, no bytes, arrays and buffers of every length. What is read and what
- * is written stands at the end of a page behind which no memory is, and in front of it stand guard bytes. */
+/* Every call over the strings of a file and over other arguments: null pointers, no bytes, arrays
+ * and buffers of every length. The bytes that a call reads or writes end where a mapping does, and
+ * guard bytes precede them. */
 #define _DEFAULT_SOURCE
 #include "linkinfo.h"
 #include "strings.h"
+#include "values.h"
 #include <sys/mman.h>
 #include <unistd.h>
 
@@ -16,23 +18,78 @@
 
 enum { ROOM = 1 << 16, GUARD = 0xa5, GUARDS = 64 };
 
-/* What the library passes, as the compilers of every language have to lay it out. */
-_Static_assert(sizeof(struct linkinfo_fault) == 8 && offsetof(struct linkinfo_fault, type) == 2 && offsetof(struct linkinfo_fault, cause) == 4, "fault");
-_Static_assert(sizeof(struct linkinfo_placed_fault) == 16 && offsetof(struct linkinfo_placed_fault, place) == 8, "placed fault");
-_Static_assert(sizeof(struct linkinfo_same) == 16 && offsetof(struct linkinfo_same, faulty) == 8 && offsetof(struct linkinfo_same, same) == 12, "same");
-_Static_assert(sizeof(struct linkinfo_canon) == 24 && offsetof(struct linkinfo_canon, status) == 8 && offsetof(struct linkinfo_canon, length) == 16, "canon");
-_Static_assert(sizeof(struct linkinfo_count) == 16 && offsetof(struct linkinfo_count, count) == 8, "count");
-_Static_assert(sizeof(struct linkinfo_found) == 24 && offsetof(struct linkinfo_found, place) == 8 && offsetof(struct linkinfo_found, count) == 16, "found");
-_Static_assert(sizeof(struct linkinfo_item) == 24 && offsetof(struct linkinfo_item, length) == 8 && offsetof(struct linkinfo_item, raw_type) == 16 &&
-                   offsetof(struct linkinfo_item, kind) == 18 && offsetof(struct linkinfo_item, port_kind) == 20, "item");
-_Static_assert(sizeof(struct linkinfo_attribute) == 32 && offsetof(struct linkinfo_attribute, length) == 8 && offsetof(struct linkinfo_attribute, number) == 16 &&
-                   offsetof(struct linkinfo_attribute, raw_type) == 24 && offsetof(struct linkinfo_attribute, shape) == 26 &&
-                   offsetof(struct linkinfo_attribute, is_number) == 28, "attribute");
+/* The layout of the structs, which the compilers of every language must use. */
+_Static_assert(sizeof(struct linkinfo_error) == 8 && offsetof(struct linkinfo_error, type) == 2 &&
+                   offsetof(struct linkinfo_error, cause) == 4,
+               "error");
+_Static_assert(sizeof(struct linkinfo_error_at) == 16 &&
+                   offsetof(struct linkinfo_error_at, place) == 8,
+               "error at");
+_Static_assert(sizeof(struct linkinfo_same) == 16 &&
+                   offsetof(struct linkinfo_same, rejected) == 8 &&
+                   offsetof(struct linkinfo_same, same) == 12,
+               "same");
+_Static_assert(sizeof(struct linkinfo_canon) == 24 &&
+                   offsetof(struct linkinfo_canon, status) == 8 &&
+                   offsetof(struct linkinfo_canon, length) == 16,
+               "canon");
+_Static_assert(sizeof(struct linkinfo_count) == 16 && offsetof(struct linkinfo_count, count) == 8,
+               "count");
+_Static_assert(sizeof(struct linkinfo_list_result) == 24 &&
+                   offsetof(struct linkinfo_list_result, place) == 8 &&
+                   offsetof(struct linkinfo_list_result, count) == 16,
+               "list_result");
+_Static_assert(sizeof(struct linkinfo_item) == 24 && offsetof(struct linkinfo_item, length) == 8 &&
+                   offsetof(struct linkinfo_item, raw_type) == 16 &&
+                   offsetof(struct linkinfo_item, kind) == 18 &&
+                   offsetof(struct linkinfo_item, port_kind) == 20,
+               "item");
+_Static_assert(sizeof(struct linkinfo_attribute) == 32 &&
+                   offsetof(struct linkinfo_attribute, length) == 8 &&
+                   offsetof(struct linkinfo_attribute, number) == 16 &&
+                   offsetof(struct linkinfo_attribute, raw_type) == 24 &&
+                   offsetof(struct linkinfo_attribute, shape) == 26 &&
+                   offsetof(struct linkinfo_attribute, is_number) == 28,
+               "attribute");
+_Static_assert(sizeof(struct linkinfo_unmet) == 40, "unmet");
+_Static_assert(offsetof(struct linkinfo_unmet, rejected) == 8, "unmet.rejected");
+_Static_assert(offsetof(struct linkinfo_unmet, family) == 12, "unmet.family");
+_Static_assert(offsetof(struct linkinfo_unmet, type) == 14, "unmet.type");
+_Static_assert(offsetof(struct linkinfo_unmet, want) == 16, "unmet.want");
+_Static_assert(offsetof(struct linkinfo_unmet, have) == 24, "unmet.have");
+_Static_assert(offsetof(struct linkinfo_unmet, met) == 32, "unmet.met");
+_Static_assert(offsetof(struct linkinfo_unmet, is_present) == 33, "unmet.is_present");
+_Static_assert(sizeof(struct linkinfo_inner_error) == 24, "inner error");
+_Static_assert(offsetof(struct linkinfo_inner_error, place) == 8, "inner_error.place");
+_Static_assert(offsetof(struct linkinfo_inner_error, inner) == 16, "inner_error.inner");
+_Static_assert(sizeof(struct linkinfo_difference) == 40, "difference");
+_Static_assert(offsetof(struct linkinfo_difference, rejected) == 8, "difference.rejected");
+_Static_assert(offsetof(struct linkinfo_difference, family) == 12, "difference.family");
+_Static_assert(offsetof(struct linkinfo_difference, type) == 14, "difference.type");
+_Static_assert(offsetof(struct linkinfo_difference, first) == 16, "difference.first");
+_Static_assert(offsetof(struct linkinfo_difference, second) == 24, "difference.second");
+_Static_assert(offsetof(struct linkinfo_difference, same) == 32, "difference.same");
+_Static_assert(offsetof(struct linkinfo_difference, is_in_first) == 33, "is_in_first");
+_Static_assert(offsetof(struct linkinfo_difference, is_in_second) == 34, "is_in_second");
+_Static_assert(sizeof(struct linkinfo_value) == 56, "value");
+_Static_assert(offsetof(struct linkinfo_value, signed_number) == 8, "value.signed_number");
+_Static_assert(offsetof(struct linkinfo_value, length) == 16, "value.length");
+_Static_assert(offsetof(struct linkinfo_value, octets) == 24, "value.octets");
+_Static_assert(offsetof(struct linkinfo_value, first) == 40, "value.first");
+_Static_assert(offsetof(struct linkinfo_value, second) == 44, "value.second");
+_Static_assert(offsetof(struct linkinfo_value, value_type) == 48, "value.value_type");
+_Static_assert(offsetof(struct linkinfo_value, truth) == 52, "value.truth");
+_Static_assert(sizeof(struct linkinfo_valued_attribute) == 80, "valued attribute");
+_Static_assert(offsetof(struct linkinfo_valued_attribute, length) == 8, "valued.length");
+_Static_assert(offsetof(struct linkinfo_valued_attribute, value) == 16, "valued.value");
+_Static_assert(offsetof(struct linkinfo_valued_attribute, raw_type) == 72, "valued.raw_type");
+_Static_assert(offsetof(struct linkinfo_valued_attribute, shape) == 74, "valued.shape");
 
-/* The end of ROOM bytes of memory behind which no memory is. */
+/* The end of ROOM bytes, followed by a page that cannot be accessed. */
 static uint8_t *guarded(void) {
   size_t page = (size_t)sysconf(_SC_PAGESIZE);
-  uint8_t *memory = mmap(NULL, ROOM + page, PROT_READ | PROT_WRITE, MAP_PRIVATE | MAP_ANONYMOUS, -1, 0);
+  uint8_t *memory =
+      mmap(NULL, ROOM + page, PROT_READ | PROT_WRITE, MAP_PRIVATE | MAP_ANONYMOUS, -1, 0);
   CHECK(memory != MAP_FAILED && mprotect(memory + ROOM, page, PROT_NONE) == 0);
   return memory + ROOM;
 }
@@ -44,7 +101,8 @@ static const uint8_t *at_end(const uint8_t *bytes, size_t length) {
   return memcpy(input_end - length, bytes, length);
 }
 
-/* The last `size` bytes in front of the end, all of them guards, and GUARDS more in front of them. */
+/* The last `size` bytes before the end, filled with guard bytes, as are the GUARDS bytes before
+ * them. */
 static void *room_of(size_t size) {
   memset(output_end - size - GUARDS, GUARD, size + GUARDS);
   return output_end - size;
@@ -54,30 +112,60 @@ static void guards_stand(size_t size) {
   for (size_t i = 1; i <= GUARDS; i++) CHECK(output_end[-(ptrdiff_t)size - (ptrdiff_t)i] == GUARD);
 }
 
-static int is_none(struct linkinfo_fault fault) { return fault.family == 0 && fault.type == 0 && fault.cause == 0; }
+static int is_none(struct linkinfo_error error) {
+  return error.family == 0 && error.type == 0 && error.cause == 0;
+}
 
-/* A cause that the header says is answered. */
-static int is_answered(uint32_t cause) { return cause <= LINKINFO_CAUSE_ADDRESS_KIND || cause == LINKINFO_CAUSE_DEPTH; }
+/* Whether the header says that the cause is returned. */
+static int is_returned(uint32_t cause) {
+  return cause <= LINKINFO_CAUSE_ADDRESS_KIND || cause == LINKINFO_CAUSE_DEPTH;
+}
 
-static int equal(struct linkinfo_fault a, struct linkinfo_fault b) { return a.family == b.family && a.type == b.type && a.cause == b.cause; }
+static int equal(struct linkinfo_error a, struct linkinfo_error b) {
+  return a.family == b.family && a.type == b.type && a.cause == b.cause;
+}
+
+/* Whether no pair of attributes is named. */
+static int no_pair(const struct linkinfo_difference *difference) {
+  return difference->family == 0 && difference->type == 0 && difference->first == 0 &&
+         difference->second == 0 && !difference->is_in_first && !difference->is_in_second;
+}
+
+/* Whether no attribute of a request is named. */
+static int no_attribute(const struct linkinfo_unmet *unmet) {
+  return unmet->family == 0 && unmet->type == 0 && unmet->want == 0 && unmet->have == 0 &&
+         !unmet->is_present;
+}
 
 static void no_bytes(void) {
   CHECK(is_none(linkinfo_check(NULL, 0)));
-  struct linkinfo_placed_fault placed = linkinfo_check_placed(NULL, 0);
-  CHECK(is_none(placed.fault) && placed.place == 0);
+  struct linkinfo_error_at placed = linkinfo_check_at(NULL, 0);
+  CHECK(is_none(placed.error) && placed.place == 0);
   struct linkinfo_same same = linkinfo_same(NULL, 0, NULL, 0);
-  CHECK(is_none(same.fault) && same.faulty == 0 && same.same);
+  CHECK(is_none(same.error) && same.rejected == 0 && same.same);
+  struct linkinfo_inner_error inner = linkinfo_check_inner(NULL, 0);
+  CHECK(is_none(inner.error) && inner.place == 0 && inner.inner == 0);
+  struct linkinfo_difference difference = linkinfo_first_difference(NULL, 0, NULL, 0);
+  CHECK(is_none(difference.error) && difference.rejected == 0 && difference.same);
+  CHECK(no_pair(&difference));
+  struct linkinfo_unmet unmet = linkinfo_first_unmet(NULL, 0, NULL, 0);
+  CHECK(unmet.met && no_attribute(&unmet) && unmet.rejected == 0 && is_none(unmet.error));
   struct linkinfo_count count = linkinfo_count(NULL, 0);
-  CHECK(is_none(count.fault) && count.count == 0);
-  struct linkinfo_found found = linkinfo_items(NULL, 0, NULL, 0);
-  CHECK(is_none(found.fault) && found.count == 0 && found.place == 0);
+  CHECK(is_none(count.error) && count.count == 0);
+  struct linkinfo_list_result found = linkinfo_items(NULL, 0, NULL, 0);
+  CHECK(is_none(found.error) && found.count == 0 && found.place == 0);
   struct linkinfo_canon canon = linkinfo_canon(NULL, 0, NULL, 0);
-  CHECK(is_none(canon.fault) && canon.status == LINKINFO_CANON_WRITTEN && canon.length == 0);
-  CHECK(linkinfo_kind_of_name(NULL, 0) == LINKINFO_KIND_OTHER && linkinfo_port_kind_of_name(NULL, 0) == LINKINFO_PORT_KIND_OTHER);
-  CHECK(linkinfo_kind_name(LINKINFO_KIND_VXLAN, NULL, 0) == 5 && linkinfo_port_kind_name(LINKINFO_PORT_KIND_VRF, NULL, 0) == 3);
-  CHECK(linkinfo_cause_name(LINKINFO_CAUSE_ORDER, NULL, 0) == 5 && linkinfo_family_name(LINKINFO_FAMILY_FRAME, NULL, 0) == 5);
-  struct linkinfo_fault none = {0, 0, 0}, fault = {LINKINFO_FAMILY_LINKINFO, 2, LINKINFO_CAUSE_ORDER};
-  CHECK(linkinfo_fault_text(none, NULL, 0) == 0 && linkinfo_fault_text(fault, NULL, 0) == strlen("linkinfo 2 order"));
+  CHECK(is_none(canon.error) && canon.status == LINKINFO_CANON_WRITTEN && canon.length == 0);
+  CHECK(linkinfo_kind_of_name(NULL, 0) == LINKINFO_KIND_OTHER &&
+        linkinfo_port_kind_of_name(NULL, 0) == LINKINFO_PORT_KIND_OTHER);
+  CHECK(linkinfo_kind_name(LINKINFO_KIND_VXLAN, NULL, 0) == 5 &&
+        linkinfo_port_kind_name(LINKINFO_PORT_KIND_VRF, NULL, 0) == 3);
+  CHECK(linkinfo_cause_name(LINKINFO_CAUSE_ORDER, NULL, 0) == 5 &&
+        linkinfo_family_name(LINKINFO_FAMILY_FRAME, NULL, 0) == 5);
+  struct linkinfo_error none = {0, 0, 0},
+                        error = {LINKINFO_FAMILY_LINKINFO, 2, LINKINFO_CAUSE_ORDER};
+  CHECK(linkinfo_error_text(none, NULL, 0) == 0 &&
+        linkinfo_error_text(error, NULL, 0) == strlen("linkinfo 2 order"));
 }
 
 static size_t aligned(size_t n) { return (n + 3) / 4 * 4; }
@@ -103,7 +191,8 @@ static size_t items_by_rules(const uint8_t *bytes, size_t length, struct linkinf
 }
 
 static int equal_items(const struct linkinfo_item *a, const struct linkinfo_item *b) {
-  return a->place == b->place && a->length == b->length && a->raw_type == b->raw_type && a->kind == b->kind && a->port_kind == b->port_kind;
+  return a->place == b->place && a->length == b->length && a->raw_type == b->raw_type &&
+         a->kind == b->kind && a->port_kind == b->port_kind;
 }
 
 static int is_guard(const void *memory, size_t size) {
@@ -115,35 +204,34 @@ static int is_guard(const void *memory, size_t size) {
 
 static void items_of(const uint8_t *bytes, size_t length) {
   static struct linkinfo_item all[MOST_BYTES / 4 + 1];
-  struct linkinfo_found found = linkinfo_items(bytes, length, all, length / 4);
-  CHECK(found.count <= length / 4 && found.place <= length && is_answered(found.fault.cause) && linkinfo_items(bytes, length, NULL, 0).count == found.count);
-  struct linkinfo_fault fault = linkinfo_check(bytes, length);
-  if (is_none(fault)) {
+  struct linkinfo_list_result found = linkinfo_items(bytes, length, all, length / 4);
+  CHECK(found.count <= length / 4 && found.place <= length && is_returned(found.error.cause) &&
+        linkinfo_items(bytes, length, NULL, 0).count == found.count);
+  struct linkinfo_error error = linkinfo_check(bytes, length);
+  if (is_none(error)) {
     static struct linkinfo_item wanted[MOST_BYTES / 4 + 1];
-    CHECK(is_none(found.fault) && found.place == length && found.count == items_by_rules(bytes, length, wanted));
+    CHECK(is_none(found.error) && found.place == length &&
+          found.count == items_by_rules(bytes, length, wanted));
     for (size_t i = 0; i < found.count; i++) CHECK(equal_items(&all[i], &wanted[i]));
   } else {
-    /* that of data stands at an item, and in front of a fault that ends the items */
-    size_t place = linkinfo_check_placed(bytes, length).place, i = 0;
+    /* an error in data is at an item, before an error that ends the items */
+    size_t place = linkinfo_check_at(bytes, length).place, i = 0;
     while (i < found.count && all[i].place != place) i++;
-    CHECK(i < found.count || (equal(fault, found.fault) && place == found.place));
+    CHECK(i < found.count || (equal(error, found.error) && place == found.place));
   }
   for (size_t room = 0; room <= found.count + 2; room++) {
     struct linkinfo_item *items = room_of(room * sizeof *items);
-    struct linkinfo_found again = linkinfo_items(bytes, length, items, room);
-    CHECK(equal(again.fault, found.fault) && again.place == found.place && again.count == found.count);
-    for (size_t i = 0; i < room; i++) CHECK(i < found.count ? equal_items(&items[i], &all[i]) : is_guard(&items[i], sizeof items[i]));
+    struct linkinfo_list_result again = linkinfo_items(bytes, length, items, room);
+    CHECK(equal(again.error, found.error) && again.place == found.place &&
+          again.count == found.count);
+    for (size_t i = 0; i < room; i++)
+      CHECK(i < found.count ? equal_items(&items[i], &all[i])
+                            : is_guard(&items[i], sizeof items[i]));
     guards_stand(room * sizeof *items);
   }
 }
 
-static uint64_t number(const uint8_t *bytes, size_t length, int is_big) {
-  uint64_t number = 0;
-  for (size_t i = 0; i < length; i++) number |= (uint64_t)bytes[i] << 8 * (is_big ? length - 1 - i : i);
-  return number;
-}
-
-/* What the shape of an attribute says of its number. */
+/* The number of an attribute agrees with its shape. */
 static void number_by_rules(const uint8_t *payload, const struct linkinfo_attribute *attribute) {
   static const struct {
     size_t length;
@@ -151,123 +239,225 @@ static void number_by_rules(const uint8_t *payload, const struct linkinfo_attrib
   } numbers[] = {{0, 0}, {1, 0}, {2, 0}, {4, 0}, {8, 0}, {2, 1}, {4, 1}, {8, 1}};
   if (attribute->shape >= 1 && attribute->shape <= 7) {
     CHECK(attribute->is_number == (attribute->length == numbers[attribute->shape].length));
-    if (attribute->is_number) CHECK(attribute->number == number(payload, attribute->length, numbers[attribute->shape].is_big));
+    if (attribute->is_number)
+      CHECK(attribute->number ==
+            number(payload, attribute->length, numbers[attribute->shape].is_big));
   } else {
-    CHECK(attribute->is_number == (attribute->shape == LINKINFO_SHAPE_EMPTY_OR_BYTE && attribute->length == 1));
+    CHECK(attribute->is_number ==
+          (attribute->shape == LINKINFO_SHAPE_EMPTY_OR_BYTE && attribute->length == 1));
     if (attribute->is_number) CHECK(attribute->number == payload[0]);
   }
   if (!attribute->is_number) CHECK(attribute->number == 0);
 }
 
-static int equal_attributes(const struct linkinfo_attribute *a, const struct linkinfo_attribute *b) {
-  return a->place == b->place && a->length == b->length && a->number == b->number && a->raw_type == b->raw_type && a->shape == b->shape &&
-         a->is_number == b->is_number;
+static int equal_attributes(const struct linkinfo_attribute *a,
+                            const struct linkinfo_attribute *b) {
+  return a->place == b->place && a->length == b->length && a->number == b->number &&
+         a->raw_type == b->raw_type && a->shape == b->shape && a->is_number == b->is_number;
 }
 
 /* The attributes inside data of a kind, in arrays of every length. */
 static size_t attributes_of(const uint8_t *bytes, size_t length, uint16_t kind) {
   static struct linkinfo_attribute all[MOST_BYTES / 4 + 1];
-  struct linkinfo_found found = linkinfo_attributes(bytes, length, kind, all, length / 4);
-  CHECK(found.count <= length / 4 && found.place <= length && linkinfo_attributes(bytes, length, kind, NULL, 0).count == found.count);
+  struct linkinfo_list_result found = linkinfo_attributes(bytes, length, kind, all, length / 4);
+  CHECK(found.count <= length / 4 && found.place <= length &&
+        linkinfo_attributes(bytes, length, kind, NULL, 0).count == found.count);
   size_t place = 0;
   for (size_t i = 0; i < found.count; i++) {
-    CHECK(all[i].place == place && all[i].length == bytes[place] + 256u * bytes[place + 1] - 4 && all[i].raw_type == bytes[place + 2] + 256u * bytes[place + 3]);
+    CHECK(all[i].place == place && all[i].length == bytes[place] + 256u * bytes[place + 1] - 4 &&
+          all[i].raw_type == bytes[place + 2] + 256u * bytes[place + 3]);
     number_by_rules(bytes + place + 4, &all[i]);
     place = aligned(place + 4 + all[i].length);
   }
-  CHECK(is_none(found.fault) ? found.count == 0 || place >= length : place == found.place && found.fault.cause == LINKINFO_CAUSE_HEADER);
+  CHECK(is_none(found.error) ? found.count == 0 || place >= length
+                             : place == found.place && found.error.cause == LINKINFO_CAUSE_HEADER);
   for (size_t room = 0; room <= found.count + 2; room++) {
     struct linkinfo_attribute *attributes = room_of(room * sizeof *attributes);
-    struct linkinfo_found again = linkinfo_attributes(bytes, length, kind, attributes, room);
-    CHECK(equal(again.fault, found.fault) && again.place == found.place && again.count == found.count);
-    for (size_t i = 0; i < room; i++) CHECK(i < found.count ? equal_attributes(&attributes[i], &all[i]) : is_guard(&attributes[i], sizeof attributes[i]));
+    struct linkinfo_list_result again = linkinfo_attributes(bytes, length, kind, attributes, room);
+    CHECK(equal(again.error, found.error) && again.place == found.place &&
+          again.count == found.count);
+    for (size_t i = 0; i < room; i++)
+      CHECK(i < found.count ? equal_attributes(&attributes[i], &all[i])
+                            : is_guard(&attributes[i], sizeof attributes[i]));
     guards_stand(room * sizeof *attributes);
   }
   return found.count;
 }
 
-/* Data under its kind, and under every other. */
+/* The same attributes, each with the value that the rules of its shape give, in arrays of every
+ * length. */
+static void values_of(const uint8_t *bytes, size_t length, uint16_t kind) {
+  static struct linkinfo_attribute all[MOST_BYTES / 4 + 1];
+  struct linkinfo_list_result found = linkinfo_attributes(bytes, length, kind, all, length / 4);
+  for (size_t room = 0; room <= found.count + 2; room++) {
+    struct linkinfo_valued_attribute *values = room_of(room * sizeof *values);
+    struct linkinfo_list_result again = linkinfo_values(bytes, length, kind, values, room);
+    CHECK(equal(again.error, found.error) && again.place == found.place);
+    CHECK(again.count == found.count);
+    for (size_t i = 0; i < room && i < found.count; i++) {
+      struct linkinfo_value wanted =
+          value_by_rules(all[i].shape, bytes + all[i].place + 4, all[i].length);
+      CHECK(values[i].place == all[i].place && values[i].length == all[i].length);
+      CHECK(values[i].raw_type == all[i].raw_type && values[i].shape == all[i].shape);
+      CHECK(equal_values(&values[i].value, &wanted));
+    }
+    for (size_t i = found.count; i < room; i++) CHECK(is_guard(&values[i], sizeof values[i]));
+    guards_stand(room * sizeof *values);
+  }
+}
+
+/* The attributes of data, of its kind and of every other kind. */
 static void inside(const uint8_t *bytes, size_t length) {
   static struct linkinfo_item items[MOST_BYTES / 4 + 1];
-  struct linkinfo_found found = linkinfo_items(bytes, length, items, length / 4);
+  struct linkinfo_list_result found = linkinfo_items(bytes, length, items, length / 4);
   for (size_t i = 0; i < found.count; i++) {
     const uint8_t *payload = at_end(bytes + items[i].place + 4, items[i].length);
-    if ((items[i].raw_type & 0x3fff) == 2) CHECK(attributes_of(payload, items[i].length, items[i].kind) > 0);
-    if ((items[i].raw_type & 0x3fff) == 5) CHECK(attributes_of(payload, items[i].length, items[i].port_kind) > 0);
-    for (uint16_t kind = 0; kind < 50; kind++) attributes_of(payload, items[i].length, kind);
-    for (uint16_t kind = 255; kind < 262; kind++) attributes_of(payload, items[i].length, kind);
+    if ((items[i].raw_type & 0x3fff) == 2)
+      CHECK(attributes_of(payload, items[i].length, items[i].kind) > 0);
+    if ((items[i].raw_type & 0x3fff) == 5)
+      CHECK(attributes_of(payload, items[i].length, items[i].port_kind) > 0);
+    for (uint16_t kind = 0; kind < 262; kind = kind == 50 ? 255 : kind + 1) {
+      attributes_of(payload, items[i].length, kind);
+      values_of(payload, items[i].length, kind);
+    }
   }
 }
 
 /* Worked attributes. */
 static void worked(void) {
   struct linkinfo_attribute attributes[2];
-  const uint8_t vxlan[] = {8, 0, 1, 0, 42, 0, 0, 0, 6, 0, 15, 0, 0x12, 0xb5, 0, 0}, flags[] = {6, 0, 8, 0, 1, 2, 0, 0};
-  struct linkinfo_found found = linkinfo_attributes(vxlan, sizeof vxlan, LINKINFO_KIND_VXLAN, attributes, 2);
-  CHECK(is_none(found.fault) && found.count == 2 && found.place == sizeof vxlan);
-  CHECK(attributes[0].number == 42 && attributes[0].shape == LINKINFO_SHAPE_LE32 && attributes[0].is_number && attributes[0].place == 0);
-  CHECK(attributes[1].number == 4789 && attributes[1].shape == LINKINFO_SHAPE_BE16 && attributes[1].raw_type == 15 && attributes[1].place == 8);
+  const uint8_t vxlan[] = {8, 0, 1, 0, 42, 0, 0, 0, 6, 0, 15, 0, 0x12, 0xb5, 0, 0},
+                flags[] = {6, 0, 8, 0, 1, 2, 0, 0};
+  struct linkinfo_list_result found =
+      linkinfo_attributes(vxlan, sizeof vxlan, LINKINFO_KIND_VXLAN, attributes, 2);
+  CHECK(is_none(found.error) && found.count == 2 && found.place == sizeof vxlan);
+  CHECK(attributes[0].number == 42 && attributes[0].shape == LINKINFO_SHAPE_LE32 &&
+        attributes[0].is_number && attributes[0].place == 0);
+  CHECK(attributes[1].number == 4789 && attributes[1].shape == LINKINFO_SHAPE_BE16 &&
+        attributes[1].raw_type == 15 && attributes[1].place == 8);
   found = linkinfo_attributes(flags, sizeof flags, LINKINFO_KIND_SIT, attributes, 2);
-  CHECK(found.count == 1 && attributes[0].shape == LINKINFO_SHAPE_BE16 && attributes[0].number == 0x102);
+  CHECK(found.count == 1 && attributes[0].shape == LINKINFO_SHAPE_BE16 &&
+        attributes[0].number == 0x102);
   found = linkinfo_attributes(flags, sizeof flags, LINKINFO_KIND_IP6TNL, attributes, 2);
   CHECK(found.count == 1 && attributes[0].shape == LINKINFO_SHAPE_LE32 && !attributes[0].is_number);
   found = linkinfo_attributes(flags, sizeof flags, LINKINFO_KIND_DUMMY, attributes, 2);
-  CHECK(found.count == 0 && found.place == 0 && is_none(found.fault));
+  CHECK(found.count == 0 && found.place == 0 && is_none(found.error));
   found = linkinfo_attributes(flags, 3, LINKINFO_PORT_KIND_VRF, attributes, 2);
-  CHECK(found.count == 0 && found.place == 0 && found.fault.cause == LINKINFO_CAUSE_HEADER);
+  CHECK(found.count == 0 && found.place == 0 && found.error.cause == LINKINFO_CAUSE_HEADER);
   found = linkinfo_attributes(NULL, 0, LINKINFO_KIND_VXLAN, NULL, 0);
-  CHECK(found.count == 0 && found.place == 0 && is_none(found.fault));
+  CHECK(found.count == 0 && found.place == 0 && is_none(found.error));
 }
 
-/* The place of a fault is where the longest front ends that is accepted. */
+/* The offset of an error is the end of the longest prefix that is accepted. */
 static void placed(const uint8_t *bytes, size_t length) {
-  struct linkinfo_fault fault = linkinfo_check(bytes, length);
-  struct linkinfo_placed_fault at = linkinfo_check_placed(bytes, length);
-  CHECK(equal(at.fault, fault));
-  if (is_none(fault)) {
-    CHECK(at.place == 0);
+  struct linkinfo_error error = linkinfo_check(bytes, length);
+  struct linkinfo_error_at at = linkinfo_check_at(bytes, length);
+  struct linkinfo_inner_error inner = linkinfo_check_inner(bytes, length);
+  CHECK(equal(at.error, error) && equal(inner.error, error) && inner.place == at.place);
+  if (is_none(error)) {
+    CHECK(at.place == 0 && inner.inner == 0);
     return;
   }
+  /* the innermost attribute has the type of the error, unless it has no header */
+  CHECK(inner.inner >= at.place && inner.inner <= length);
+  if (error.cause != LINKINFO_CAUSE_HEADER)
+    CHECK(((bytes[inner.inner + 2] + 256u * bytes[inner.inner + 3]) & 0x3fff) == error.type);
   size_t longest = length;
   while (!is_none(linkinfo_check(bytes, longest))) longest--;
   CHECK(at.place == longest);
 }
 
-/* The canonical string in buffers of every length, or of few about its own: written where there is room for it, and else the buffer stays. Its own is itself, and both are the same. */
+/* The canonical encoding in buffers of every length, or of some lengths about that of the encoding:
+ * written where there is room for it, and else the buffer is unchanged. It is its own canonical
+ * encoding, and equivalent to the list. */
 static int few_rooms;
 
 static void canonical(const uint8_t *bytes, size_t length) {
   static uint8_t whole[ROOM];
-  struct linkinfo_fault fault = linkinfo_check(bytes, length);
+  struct linkinfo_error error = linkinfo_check(bytes, length);
   struct linkinfo_canon wanted = linkinfo_canon(bytes, length, whole, sizeof whole);
-  CHECK(equal(wanted.fault, fault) && wanted.status == (is_none(fault) ? LINKINFO_CANON_WRITTEN : LINKINFO_CANON_REFUSED));
-  CHECK(is_none(fault) ? wanted.length % 4 == 0 && (wanted.length > 0) == (length > 0) : wanted.length == 0);
-  for (size_t room = few_rooms && wanted.length > 0 ? wanted.length - 1 : 0; room <= wanted.length + 3; room++) {
+  CHECK(equal(wanted.error, error) &&
+        wanted.status == (is_none(error) ? LINKINFO_CANON_WRITTEN : LINKINFO_CANON_REFUSED));
+  CHECK(is_none(error) ? wanted.length % 4 == 0 && (wanted.length > 0) == (length > 0)
+                       : wanted.length == 0);
+  for (size_t room = few_rooms && wanted.length > 0 ? wanted.length - 1 : 0;
+       room <= wanted.length + 3; room++) {
     uint8_t *buffer = room_of(room);
     struct linkinfo_canon canon = linkinfo_canon(bytes, length, buffer, room);
-    size_t shown = is_none(fault) && room >= wanted.length ? wanted.length : 0;
-    uint32_t status = !is_none(fault) ? LINKINFO_CANON_REFUSED : room < wanted.length ? LINKINFO_CANON_SHORT : LINKINFO_CANON_WRITTEN;
-    CHECK(equal(canon.fault, fault) && canon.length == wanted.length && canon.status == status);
+    size_t shown = is_none(error) && room >= wanted.length ? wanted.length : 0;
+    uint32_t status = !is_none(error)        ? LINKINFO_CANON_REFUSED
+                      : room < wanted.length ? LINKINFO_CANON_SHORT
+                                             : LINKINFO_CANON_WRITTEN;
+    CHECK(equal(canon.error, error) && canon.length == wanted.length && canon.status == status);
     CHECK(memcmp(buffer, whole, shown) == 0 && is_guard(buffer + shown, room - shown));
     guards_stand(room);
   }
-  if (is_none(fault)) {
+  if (is_none(error)) {
     static uint8_t again[ROOM];
-    CHECK(is_none(linkinfo_check(whole, wanted.length)) && linkinfo_same(bytes, length, whole, wanted.length).same);
-    CHECK(linkinfo_canon(whole, wanted.length, again, sizeof again).length == wanted.length && memcmp(again, whole, wanted.length) == 0);
+    CHECK(is_none(linkinfo_check(whole, wanted.length)) &&
+          linkinfo_same(bytes, length, whole, wanted.length).same);
+    CHECK(linkinfo_canon(whole, wanted.length, again, sizeof again).length == wanted.length &&
+          memcmp(again, whole, wanted.length) == 0);
   }
+}
+
+/* A list before a change and after it. */
+static void differs(const uint8_t *a, const uint8_t *b, size_t length) {
+  struct linkinfo_difference found = linkinfo_first_difference(a, length, b, length);
+  struct linkinfo_same same = linkinfo_same(a, length, b, length);
+  CHECK(equal(found.error, same.error) && found.rejected == same.rejected &&
+        found.same == same.same);
+  if (same.same || same.rejected != 0) {
+    CHECK(no_pair(&found));
+    return;
+  }
+  CHECK(found.family != 0 && (found.is_in_first || found.is_in_second));
+  CHECK(found.is_in_first ? found.first + 4 <= length : found.first == 0);
+  CHECK(found.is_in_second ? found.second + 4 <= length : found.second == 0);
+  const uint8_t *header = found.is_in_first ? a + found.first : b + found.second;
+  CHECK(((header[2] + 256u * header[3]) & 0x3fff) == found.type);
+  if (found.family != LINKINFO_FAMILY_LINKINFO) return;
+  /* both are equal up to there */
+  CHECK(linkinfo_same(a, found.is_in_first ? found.first : length, b,
+                      found.is_in_second ? found.second : length)
+            .same);
+}
+
+/* By the empty list, the first attribute whose type does not occur later is not met. */
+static void lacks_all(const uint8_t *bytes, size_t length, struct linkinfo_error error) {
+  struct linkinfo_unmet unmet = linkinfo_first_unmet(NULL, 0, bytes, length);
+  CHECK(equal(unmet.error, error) && unmet.rejected == (is_none(error) ? 0u : 2u));
+  CHECK(unmet.met == (length == 0) && !unmet.is_present && unmet.have == 0);
+  if (!is_none(error) || length == 0) {
+    CHECK(no_attribute(&unmet));
+    return;
+  }
+  static struct linkinfo_item items[MOST_BYTES / 4 + 1];
+  size_t count = linkinfo_items(bytes, length, items, length / 4).count, first = 0;
+  for (size_t later = 1; later < count; later++)
+    if ((items[later].raw_type & 0x3fff) == (items[first].raw_type & 0x3fff)) later = ++first;
+  CHECK(unmet.family == LINKINFO_FAMILY_LINKINFO && unmet.want == items[first].place);
+  CHECK(unmet.type == (items[first].raw_type & 0x3fff));
 }
 
 static void of_string(const uint8_t *bytes, size_t length) {
   bytes = at_end(bytes, length);
-  struct linkinfo_fault fault = linkinfo_check(bytes, length);
-  CHECK(is_answered(fault.cause));
+  struct linkinfo_error error = linkinfo_check(bytes, length);
+  CHECK(is_returned(error.cause));
   struct linkinfo_count count = linkinfo_count(bytes, length);
-  CHECK(equal(count.fault, fault) && count.count <= length / 4);
+  CHECK(equal(count.error, error) && count.count <= length / 4);
   struct linkinfo_same same = linkinfo_same(bytes, length, bytes, length);
-  CHECK(equal(same.fault, fault) && same.same == is_none(fault) && same.faulty == (is_none(fault) ? 0u : 1u));
+  CHECK(equal(same.error, error) && same.same == is_none(error) &&
+        same.rejected == (is_none(error) ? 0u : 1u));
   same = linkinfo_same(NULL, 0, bytes, length);
-  CHECK(equal(same.fault, fault) && same.same == (length == 0) && same.faulty == (is_none(fault) ? 0u : 2u));
+  CHECK(equal(same.error, error) && same.same == (length == 0) &&
+        same.rejected == (is_none(error) ? 0u : 2u));
+  struct linkinfo_unmet unmet = linkinfo_first_unmet(bytes, length, bytes, length);
+  CHECK(equal(unmet.error, error) && unmet.met == is_none(error) && no_attribute(&unmet));
+  CHECK(unmet.rejected == (is_none(error) ? 0u : 1u));
+  unmet = linkinfo_first_unmet(bytes, length, NULL, 0);
+  CHECK(equal(unmet.error, error) && unmet.met == is_none(error) && no_attribute(&unmet));
+  lacks_all(bytes, length, error);
   placed(bytes, length);
   items_of(bytes, length);
   canonical(bytes, length);
@@ -286,6 +476,7 @@ static void of_strings(void) {
       for (int bit = 1; bit < 256; bit *= 2) {
         string.bytes[place] ^= (uint8_t)bit;
         of_string(string.bytes, string.length);
+        differs(strings[i].bytes, string.bytes, string.length);
         string.bytes[place] ^= (uint8_t)bit;
       }
     }
@@ -293,7 +484,8 @@ static void of_strings(void) {
 }
 
 /* A text in buffers of every length. */
-static void text_is(const char *wanted, size_t (*write)(const void *, char *, size_t), const void *of) {
+static void text_is(const char *wanted, size_t (*write)(const void *, char *, size_t),
+                    const void *of) {
   size_t length = strlen(wanted);
   for (size_t room = 0; room <= length + 3; room++) {
     char *buffer = room_of(room);
@@ -306,15 +498,28 @@ static void text_is(const char *wanted, size_t (*write)(const void *, char *, si
   }
 }
 
-static size_t write_family(const void *of, char *buffer, size_t room) { return linkinfo_family_name(*(const uint16_t *)of, buffer, room); }
-static size_t write_cause(const void *of, char *buffer, size_t room) { return linkinfo_cause_name(*(const uint32_t *)of, buffer, room); }
-static size_t write_kind(const void *of, char *buffer, size_t room) { return linkinfo_kind_name(*(const uint16_t *)of, buffer, room); }
-static size_t write_port_kind(const void *of, char *buffer, size_t room) { return linkinfo_port_kind_name(*(const uint16_t *)of, buffer, room); }
-static size_t write_fault(const void *of, char *buffer, size_t room) { return linkinfo_fault_text(*(const struct linkinfo_fault *)of, buffer, room); }
+static size_t write_family(const void *of, char *buffer, size_t room) {
+  return linkinfo_family_name(*(const uint16_t *)of, buffer, room);
+}
+static size_t write_cause(const void *of, char *buffer, size_t room) {
+  return linkinfo_cause_name(*(const uint32_t *)of, buffer, room);
+}
+static size_t write_kind(const void *of, char *buffer, size_t room) {
+  return linkinfo_kind_name(*(const uint16_t *)of, buffer, room);
+}
+static size_t write_port_kind(const void *of, char *buffer, size_t room) {
+  return linkinfo_port_kind_name(*(const uint16_t *)of, buffer, room);
+}
+static size_t write_error(const void *of, char *buffer, size_t room) {
+  return linkinfo_error_text(*(const struct linkinfo_error *)of, buffer, room);
+}
 
 static void texts(void) {
-  static const char *causes[] = {"", "header", "length", "utf8", "order", "addresskind", "word", "wrongtype", "kind", "depth", "memory", "peer", ""};
-  for (uint32_t cause = 0; cause < sizeof causes / sizeof *causes; cause++) text_is(causes[cause], write_cause, &cause);
+  static const char *causes[] = {"",     "header",    "length", "utf8",  "order",  "addresskind",
+                                 "word", "wrongtype", "kind",   "depth", "memory", "peer",
+                                 ""};
+  for (uint32_t cause = 0; cause < sizeof causes / sizeof *causes; cause++)
+    text_is(causes[cause], write_cause, &cause);
   char name[32];
   for (uint32_t code = 0; code < 65536; code++) {
     uint16_t number = (uint16_t)code;
@@ -323,54 +528,70 @@ static void texts(void) {
     text_is(name, write_family, &number);
     length = linkinfo_kind_name(number, name, sizeof name);
     CHECK((length > 0) == (code >= 2 && code <= 47));
-    if (length > 0) CHECK(linkinfo_kind_of_name((const char *)at_end((const uint8_t *)name, length), length) == number);
+    if (length > 0)
+      CHECK(linkinfo_kind_of_name((const char *)at_end((const uint8_t *)name, length), length) ==
+            number);
     text_is(name, write_kind, &number);
     length = linkinfo_port_kind_name(number, name, sizeof name);
     CHECK((length > 0) == (code >= 257 && code <= 260));
-    if (length > 0) CHECK(linkinfo_port_kind_of_name((const char *)at_end((const uint8_t *)name, length), length) == number);
+    if (length > 0)
+      CHECK(linkinfo_port_kind_of_name((const char *)at_end((const uint8_t *)name, length),
+                                       length) == number);
     text_is(name, write_port_kind, &number);
   }
-  CHECK(linkinfo_kind_of_name("vxlan", 5) == LINKINFO_KIND_VXLAN && linkinfo_kind_of_name("vxlan", 6) == LINKINFO_KIND_OTHER);
-  CHECK(linkinfo_kind_of_name("ip6erspan", 9) == LINKINFO_KIND_IP6ERSPAN && linkinfo_kind_of_name("rmnet", 5) == LINKINFO_KIND_RMNET);
-  CHECK(linkinfo_port_kind_of_name("bridge", 6) == LINKINFO_PORT_KIND_BRIDGE && linkinfo_port_kind_of_name("vxlan", 5) == LINKINFO_PORT_KIND_OTHER);
-  struct linkinfo_fault fault = {LINKINFO_FAMILY_BRIDGEPORT, 65535, LINKINFO_CAUSE_ADDRESS_KIND};
-  text_is("bridgeport 65535 addresskind", write_fault, &fault);
-  struct linkinfo_fault short_fault = {LINKINFO_FAMILY_FRAME, 0, LINKINFO_CAUSE_HEADER};
-  text_is("frame 0 header", write_fault, &short_fault);
-  struct linkinfo_fault none = {LINKINFO_FAMILY_XFRM, 2, LINKINFO_CAUSE_NONE}, no_family = {38, 2, LINKINFO_CAUSE_LENGTH}, no_cause = {1, 0, 12};
-  text_is("", write_fault, &none);
-  text_is("", write_fault, &no_family);
-  text_is("", write_fault, &no_cause);
+  CHECK(linkinfo_kind_of_name("vxlan", 5) == LINKINFO_KIND_VXLAN &&
+        linkinfo_kind_of_name("vxlan", 6) == LINKINFO_KIND_OTHER);
+  CHECK(linkinfo_kind_of_name("ip6erspan", 9) == LINKINFO_KIND_IP6ERSPAN &&
+        linkinfo_kind_of_name("rmnet", 5) == LINKINFO_KIND_RMNET);
+  CHECK(linkinfo_port_kind_of_name("bridge", 6) == LINKINFO_PORT_KIND_BRIDGE &&
+        linkinfo_port_kind_of_name("vxlan", 5) == LINKINFO_PORT_KIND_OTHER);
+  struct linkinfo_error error = {LINKINFO_FAMILY_BRIDGEPORT, 65535, LINKINFO_CAUSE_ADDRESS_KIND};
+  text_is("bridgeport 65535 addresskind", write_error, &error);
+  struct linkinfo_error short_error = {LINKINFO_FAMILY_FRAME, 0, LINKINFO_CAUSE_HEADER};
+  text_is("frame 0 header", write_error, &short_error);
+  struct linkinfo_error none = {LINKINFO_FAMILY_XFRM, 2, LINKINFO_CAUSE_NONE},
+                        no_family = {38, 2, LINKINFO_CAUSE_LENGTH}, no_cause = {1, 0, 12};
+  text_is("", write_error, &none);
+  text_is("", write_error, &no_family);
+  text_is("", write_error, &no_cause);
 }
 
-/* Worked canonical strings: a closing NUL and padding are written, and a list that does not fit has none. */
+/* Worked canonical encodings: a trailing NUL and padding are written, and a list that does not fit
+ * has none. */
 static void worked_canon(void) {
-  static const uint8_t pfcp[] = {8, 0, 1, 0, 'p', 'f', 'c', 'p'}, closed[] = {9, 0, 1, 0, 'p', 'f', 'c', 'p', 0, 0, 0, 0};
+  static const uint8_t pfcp[] = {8, 0, 1, 0, 'p', 'f', 'c', 'p'},
+                       closed[] = {9, 0, 1, 0, 'p', 'f', 'c', 'p', 0, 0, 0, 0};
   uint8_t buffer[16];
   memset(buffer, GUARD, sizeof buffer);
   struct linkinfo_canon canon = linkinfo_canon(pfcp, sizeof pfcp, buffer, sizeof closed - 1);
-  CHECK(canon.status == LINKINFO_CANON_SHORT && canon.length == sizeof closed && is_guard(buffer, sizeof buffer));
+  CHECK(canon.status == LINKINFO_CANON_SHORT && canon.length == sizeof closed &&
+        is_guard(buffer, sizeof buffer));
   canon = linkinfo_canon(pfcp, sizeof pfcp, buffer, sizeof buffer);
-  CHECK(canon.status == LINKINFO_CANON_WRITTEN && canon.length == sizeof closed && memcmp(buffer, closed, sizeof closed) == 0);
+  CHECK(canon.status == LINKINFO_CANON_WRITTEN && canon.length == sizeof closed &&
+        memcmp(buffer, closed, sizeof closed) == 0);
   CHECK(is_guard(buffer + sizeof closed, sizeof buffer - sizeof closed));
   canon = linkinfo_canon(closed, 3, buffer, sizeof buffer);
-  CHECK(canon.status == LINKINFO_CANON_REFUSED && canon.length == 0 && canon.fault.cause == LINKINFO_CAUSE_HEADER);
+  CHECK(canon.status == LINKINFO_CANON_REFUSED && canon.length == 0 &&
+        canon.error.cause == LINKINFO_CAUSE_HEADER);
   static uint8_t letters[65535], large[1 << 17];
   memset(letters, 'a', sizeof letters);
   memcpy(letters, "\xff\xff\1\0", 4);
   canon = linkinfo_canon(letters, sizeof letters, large, sizeof large);
-  CHECK(canon.status == LINKINFO_CANON_UNFIT && canon.length == 0 && is_none(canon.fault));
-  /* one letter less leaves room for its NUL, the most that a length field says */
+  CHECK(canon.status == LINKINFO_CANON_UNFIT && canon.length == 0 && is_none(canon.error));
+  /* with one letter less the NUL fits: the largest length */
   letters[0] = 0xfe;
   memset(large, GUARD, sizeof large);
   canon = linkinfo_canon(letters, sizeof letters - 1, large, 65535);
-  CHECK(canon.status == LINKINFO_CANON_SHORT && canon.length == 65536 && is_guard(large, sizeof large));
+  CHECK(canon.status == LINKINFO_CANON_SHORT && canon.length == 65536 &&
+        is_guard(large, sizeof large));
   canon = linkinfo_canon(letters, sizeof letters - 1, large, 65536);
-  CHECK(canon.status == LINKINFO_CANON_WRITTEN && canon.length == 65536 && memcmp(large, "\xff\xff\1\0", 4) == 0);
-  CHECK(memcmp(large + 4, letters + 4, sizeof letters - 5) == 0 && large[65534] == 0 && large[65535] == 0 && is_guard(large + 65536, sizeof large - 65536));
+  CHECK(canon.status == LINKINFO_CANON_WRITTEN && canon.length == 65536 &&
+        memcmp(large, "\xff\xff\1\0", 4) == 0);
+  CHECK(memcmp(large + 4, letters + 4, sizeof letters - 5) == 0 && large[65534] == 0 &&
+        large[65535] == 0 && is_guard(large + 65536, sizeof large - 65536));
 }
 
-/* Lists inside lists: 128 are read, and one more is refused where its data stands. */
+/* Nested lists: 128 are accepted, and one more is rejected at the offset of the data. */
 static void nested(void) {
   static uint8_t bytes[1024];
   for (size_t depth = 1; depth <= 129; depth++) {
@@ -381,12 +602,14 @@ static void nested(void) {
       uint8_t header[4] = {(uint8_t)length, (uint8_t)(length >> 8), i == 0 ? 2 : 5, 0};
       memcpy(bytes + at, header, 4);
     }
-    struct linkinfo_placed_fault fault = linkinfo_check_placed(at_end(bytes, at), at);
+    struct linkinfo_error_at error = linkinfo_check_at(at_end(bytes, at), at);
     if (depth <= 128) {
-      CHECK(is_none(fault.fault));
+      CHECK(is_none(error.error));
       canonical(input_end - at, at);
     } else {
-      CHECK(fault.fault.family == LINKINFO_FAMILY_MACVLAN && fault.fault.type == 5 && fault.fault.cause == LINKINFO_CAUSE_DEPTH && fault.place == 12);
+      CHECK(error.error.family == LINKINFO_FAMILY_MACVLAN && error.error.type == 5 &&
+            error.error.cause == LINKINFO_CAUSE_DEPTH && error.place == 12);
+      CHECK(linkinfo_check_inner(at_end(bytes, at), at).inner == 12 + 4 * depth);
     }
   }
 }
@@ -403,6 +626,6 @@ int main(int count, char **arguments) {
   nested();
   worked();
   worked_canon();
-  printf("calls: %zu strings, each front and each with a bit turned\n", string_count);
+  printf("calls: %zu strings, each prefix and each with a bit flipped\n", string_count);
   return 0;
 }

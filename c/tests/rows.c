@@ -1,5 +1,6 @@
-/* The shapes that linkinfo_attributes answers for each kind and type, against lines of rows.py on standard input: 'link NAME TYPE SHAPE' or 'port NAME TYPE
- * SHAPE'. A type without a line has no shape. */
+/* The shapes that linkinfo_attributes returns for each kind and type, compared with lines of
+ * rows.py on standard input: 'link NAME TYPE SHAPE' or 'port NAME TYPE SHAPE'. A type without a
+ * line has no shape. */
 #include "linkinfo.h"
 #include <stdio.h>
 #include <string.h>
@@ -33,23 +34,29 @@ static size_t kind_count;
 
 static size_t kind_at(const char *way, const char *name) {
   size_t at = 0;
-  while (at < kind_count && (strcmp(kinds[at].way, way) != 0 || strcmp(kinds[at].name, name) != 0)) at++;
+  while (at < kind_count && (strcmp(kinds[at].way, way) != 0 || strcmp(kinds[at].name, name) != 0))
+    at++;
   if (at == kind_count && kind_count < MOST_KINDS) {
     strcpy(kinds[at].way, way);
     strcpy(kinds[at].name, name);
-    kinds[at].kind = strcmp(way, "port") == 0 ? linkinfo_port_kind_of_name(name, strlen(name)) : linkinfo_kind_of_name(name, strlen(name));
+    kinds[at].kind = strcmp(way, "port") == 0 ? linkinfo_port_kind_of_name(name, strlen(name))
+                                              : linkinfo_kind_of_name(name, strlen(name));
     kind_count++;
   }
   return at;
 }
 
 /* One attribute of a type without a payload, inside data of the kind. */
-static int is_answered(size_t at, unsigned type) {
+static int has_shape(size_t at, unsigned type) {
   uint8_t bytes[4] = {4, 0, (uint8_t)type, 0};
   struct linkinfo_attribute attribute = {0, 0, 0, 0, 0, 0};
-  struct linkinfo_found found = linkinfo_attributes(bytes, sizeof bytes, kinds[at].kind, &attribute, 1);
-  if (found.count == (kinds[at].rows > 0 ? 1 : found.count) && attribute.shape == kinds[at].shapes[type]) return 1;
-  fprintf(stderr, "%s %s, type %u: shape %u, and not %s\n", kinds[at].way, kinds[at].name, type, attribute.shape, names[kinds[at].shapes[type]]);
+  struct linkinfo_list_result found =
+      linkinfo_attributes(bytes, sizeof bytes, kinds[at].kind, &attribute, 1);
+  if (found.count == (kinds[at].rows > 0 ? 1 : found.count) &&
+      attribute.shape == kinds[at].shapes[type])
+    return 1;
+  fprintf(stderr, "%s %s, type %u: shape %u, and not %s\n", kinds[at].way, kinds[at].name, type,
+          attribute.shape, names[kinds[at].shapes[type]]);
   return 0;
 }
 
@@ -69,7 +76,7 @@ int main(void) {
   }
   int status = kind_count == 50 ? 0 : 1;
   for (unsigned number = 0; number < SHAPES; number++) {
-    /* no family has a row of bytes as they came */
+    /* no family has a row of the shape Raw */
     if ((seen[number] == 0) != (number == LINKINFO_SHAPE_RAW)) {
       fprintf(stderr, "shape %s: %u rows\n", names[number], seen[number]);
       status = 1;
@@ -77,7 +84,7 @@ int main(void) {
   }
   for (size_t at = 0; at < kind_count; at++)
     for (type = 0; type < TYPES; type++)
-      if (!is_answered(at, type)) status = 1;
+      if (!has_shape(at, type)) status = 1;
   printf("rows: %zu of %zu kinds and port kinds have their shapes\n", rows, kind_count);
   return status;
 }

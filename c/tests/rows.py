@@ -1,7 +1,7 @@
 #!/usr/bin/env python3
-"""rows.py FORMAT.md: of each kind and port kind, the shapes of its attributes as the tables of that
-page have them, for rows.c: lines 'link NAME TYPE SHAPE' and 'port NAME TYPE SHAPE', and a line
-'link NAME 0 None' for each kind, so that one without rows is there too."""
+"""rows.py FORMAT.md: writes the shapes of the attributes of each kind and port kind, as the tables
+of that page have them, for rows.c. It writes lines 'link NAME TYPE SHAPE' and 'port NAME TYPE
+SHAPE', and a line 'link NAME 0 None' for each kind, so that one without rows is there too."""
 import re
 import sys
 

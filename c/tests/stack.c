@@ -1,5 +1,6 @@
-/* The most stack that a call takes: with 128 lists inside one another, the most that are read, each call runs on a stack filled with one byte, and what it
- * changed is counted. Writes a line for each call, and ends with status 1 where one takes more than MOST bytes. */
+/* The stack that each call takes with 128 nested lists, the maximum. The call runs on a stack that
+ * is filled with one byte, and the bytes that it changed are counted. Writes a line for each call,
+ * and ends with status 1 where one takes more than MOST bytes. */
 #define _GNU_SOURCE
 #include "linkinfo.h"
 #include <pthread.h>
@@ -7,9 +8,10 @@
 #include <string.h>
 #include <sys/mman.h>
 
-enum { LISTS = 128, STACK = 1 << 20, FILL = 0x5a, MOST = 24 * 1024 };
+enum { LISTS = 128, STACK = 1 << 20, FILL = 0x5a, MOST = 40 * 1024 };
 
-/* The data of a macvlan with lists of addresses inside one another (IFLA_MACVLAN_MACADDR_DATA, type 5), the innermost empty. */
+/* The data of a macvlan link with nested lists of addresses (IFLA_MACVLAN_MACADDR_DATA, type 5),
+ * the innermost empty. */
 static uint8_t list[12 + 4 + 4 * LISTS];
 
 static void header(uint8_t *at, size_t length, unsigned type) {
@@ -27,46 +29,92 @@ static void make_list(void) {
 }
 
 static void *nothing(void *wrong) { return wrong; }
-static void *check(void *wrong) { return linkinfo_check(list, sizeof list).cause == 0 ? NULL : wrong; }
-static void *count(void *wrong) { return linkinfo_count(list, sizeof list).count == 2 + LISTS ? NULL : wrong; }
+static void *check(void *wrong) {
+  return linkinfo_check(list, sizeof list).cause == 0 ? NULL : wrong;
+}
+static void *count(void *wrong) {
+  return linkinfo_count(list, sizeof list).count == 2 + LISTS ? NULL : wrong;
+}
 static void *same(void *wrong) {
   uint8_t padded[sizeof list + 4];
   memcpy(padded, list, sizeof list);
   header(padded + sizeof list, 4, 0);
-  struct linkinfo_same itself = linkinfo_same(list, sizeof list, list, sizeof list), other = linkinfo_same(list, sizeof list, padded, sizeof padded);
-  return itself.same && other.fault.cause == 0 && !other.same ? NULL : wrong;
+  struct linkinfo_same itself = linkinfo_same(list, sizeof list, list, sizeof list),
+                       other = linkinfo_same(list, sizeof list, padded, sizeof padded);
+  return itself.same && other.error.cause == 0 && !other.same ? NULL : wrong;
+}
+static void *first_unmet(void *wrong) {
+  uint8_t other[sizeof list];
+  memcpy(other, list, sizeof list);
+  header(other + sizeof list - 4, 4, 0);
+  struct linkinfo_unmet itself = linkinfo_first_unmet(list, sizeof list, list, sizeof list);
+  struct linkinfo_unmet deep = linkinfo_first_unmet(list, sizeof list, other, sizeof other);
+  return itself.met && deep.rejected == 0 && !deep.met && deep.want == 16 ? NULL : wrong;
+}
+static void *difference(void *wrong) {
+  uint8_t other[sizeof list];
+  memcpy(other, list, sizeof list);
+  header(other + sizeof list - 4, 4, 0);
+  struct linkinfo_difference itself =
+      linkinfo_first_difference(list, sizeof list, list, sizeof list);
+  struct linkinfo_difference deep =
+      linkinfo_first_difference(list, sizeof list, other, sizeof other);
+  return itself.same && deep.rejected == 0 && deep.first == sizeof list - 4 ? NULL : wrong;
+}
+static void *inner(void *wrong) {
+  uint8_t other[sizeof list];
+  memcpy(other, list, sizeof list);
+  header(other + sizeof list - 4, 4, 4);
+  struct linkinfo_inner_error found = linkinfo_check_inner(other, sizeof other);
+  return found.error.type == 4 && found.inner == sizeof list - 4 ? NULL : wrong;
 }
 static void *canon(void *wrong) {
   uint8_t buffer[sizeof list];
-  return linkinfo_canon(list, sizeof list, buffer, sizeof buffer).length == sizeof list && memcmp(buffer, list, sizeof list) == 0 ? NULL : wrong;
+  return linkinfo_canon(list, sizeof list, buffer, sizeof buffer).length == sizeof list &&
+                 memcmp(buffer, list, sizeof list) == 0
+             ? NULL
+             : wrong;
 }
-static void *placed(void *wrong) { return linkinfo_check_placed(list, sizeof list).fault.cause == 0 ? NULL : wrong; }
+static void *placed(void *wrong) {
+  return linkinfo_check_at(list, sizeof list).error.cause == 0 ? NULL : wrong;
+}
 static void *items(void *wrong) {
   struct linkinfo_item found[2];
   return linkinfo_items(list, sizeof list, found, 2).count == 2 ? NULL : wrong;
 }
 static void *attributes(void *wrong) {
   struct linkinfo_attribute found[2];
-  return linkinfo_attributes(list + 16, sizeof list - 16, LINKINFO_KIND_MACVLAN, found, 2).count == 1 ? NULL : wrong;
+  return linkinfo_attributes(list + 16, sizeof list - 16, LINKINFO_KIND_MACVLAN, found, 2).count ==
+                 1
+             ? NULL
+             : wrong;
+}
+static void *values(void *wrong) {
+  struct linkinfo_valued_attribute found[2];
+  struct linkinfo_list_result all =
+      linkinfo_values(list + 16, sizeof list - 16, LINKINFO_KIND_MACVLAN, found, 2);
+  return all.count == 1 && found[0].value.value_type == LINKINFO_VALUE_LIST ? NULL : wrong;
 }
 static void *texts(void *wrong) {
   char text[32];
-  struct linkinfo_fault fault = {LINKINFO_FAMILY_BRIDGEPORT, 65535, LINKINFO_CAUSE_ADDRESS_KIND};
-  return linkinfo_fault_text(fault, text, sizeof text) == 28 && linkinfo_family_name(fault.family, text, sizeof text) == 10 &&
-                 linkinfo_cause_name(fault.cause, text, sizeof text) == 11
+  struct linkinfo_error error = {LINKINFO_FAMILY_BRIDGEPORT, 65535, LINKINFO_CAUSE_ADDRESS_KIND};
+  return linkinfo_error_text(error, text, sizeof text) == 28 &&
+                 linkinfo_family_name(error.family, text, sizeof text) == 10 &&
+                 linkinfo_cause_name(error.cause, text, sizeof text) == 11
              ? NULL
              : wrong;
 }
 static void *names(void *wrong) {
   char text[32];
-  return linkinfo_kind_name(LINKINFO_KIND_IP6ERSPAN, text, sizeof text) == 9 && linkinfo_kind_of_name("ip6erspan", 9) == LINKINFO_KIND_IP6ERSPAN &&
+  return linkinfo_kind_name(LINKINFO_KIND_IP6ERSPAN, text, sizeof text) == 9 &&
+                 linkinfo_kind_of_name("ip6erspan", 9) == LINKINFO_KIND_IP6ERSPAN &&
                  linkinfo_port_kind_name(LINKINFO_PORT_KIND_BRIDGE, text, sizeof text) == 6 &&
                  linkinfo_port_kind_of_name("bridge", 6) == LINKINFO_PORT_KIND_BRIDGE
              ? NULL
              : wrong;
 }
 
-/* The bytes of a stack of its own that a call changed, or 0 where it answered wrong. */
+/* The bytes that a call changed of its thread's stack, or 0 where its result was wrong. */
 static size_t stack_of(void *(*call)(void *)) {
   static uint8_t wrong;
   uint8_t *stack = mmap(NULL, STACK, PROT_READ | PROT_WRITE, MAP_PRIVATE | MAP_ANONYMOUS, -1, 0);
@@ -74,21 +122,34 @@ static size_t stack_of(void *(*call)(void *)) {
   memset(stack, FILL, STACK);
   pthread_attr_t attributes;
   pthread_t thread;
-  void *answer = &wrong;
-  if (pthread_attr_init(&attributes) == 0 && pthread_attr_setstack(&attributes, stack, STACK) == 0 && pthread_create(&thread, &attributes, call, &wrong) == 0)
-    pthread_join(thread, &answer);
+  void *result = &wrong;
+  if (pthread_attr_init(&attributes) == 0 &&
+      pthread_attr_setstack(&attributes, stack, STACK) == 0 &&
+      pthread_create(&thread, &attributes, call, &wrong) == 0)
+    pthread_join(thread, &result);
   size_t left = 0;
   while (left < STACK && stack[left] == FILL) left++;
   munmap(stack, STACK);
-  return answer == NULL || call == nothing ? STACK - left : 0;
+  return result == NULL || call == nothing ? STACK - left : 0;
 }
 
 int main(void) {
   const struct {
     const char *name;
     void *(*call)(void *);
-  } calls[] = {{"check", check}, {"same", same}, {"count", count}, {"canon", canon}, {"check_placed", placed}, {"items", items}, {"attributes", attributes},
-               {"fault_text, _family_name, _cause_name", texts}, {"kind_name, _kind_of_name, _port_kind_name, _port_kind_of_name", names}};
+  } calls[] = {{"check", check},
+               {"same", same},
+               {"first_unmet", first_unmet},
+               {"first_difference", difference},
+               {"check_inner", inner},
+               {"count", count},
+               {"canon", canon},
+               {"check_at", placed},
+               {"items", items},
+               {"attributes", attributes},
+               {"values", values},
+               {"error_text, _family_name, _cause_name", texts},
+               {"kind_name, _kind_of_name, _port_kind_name, _port_kind_of_name", names}};
   int status = 0;
   make_list();
   size_t thread = stack_of(nothing);

@@ -1,4 +1,5 @@
-/* The strings of kernel.txt: lines of a name, a tab and bytes in hex; lines that begin with # are none. */
+/* The strings of kernel.txt: lines of a name, a tab and bytes in hex; lines that begin with # are
+ * none. */
 #ifndef STRINGS_H
 #define STRINGS_H
 #include <stdint.h>
@@ -9,6 +10,7 @@
 enum { MOST_STRINGS = 64, MOST_BYTES = 4096 };
 
 struct string {
+  char name[32];
   uint8_t bytes[MOST_BYTES];
   size_t length;
 };
@@ -16,9 +18,12 @@ struct string {
 static struct string strings[MOST_STRINGS];
 static size_t string_count;
 
-static int nibble(char c) { return c >= '0' && c <= '9' ? c - '0' : c >= 'a' && c <= 'f' ? c - 'a' + 10 : -1; }
+static int nibble(char c) {
+  return c >= '0' && c <= '9' ? c - '0' : c >= 'a' && c <= 'f' ? c - 'a' + 10 : -1;
+}
 
-/* The bytes of hex digits up to a character that is none; false where their number is odd or too large. */
+/* The bytes of hex digits up to a character that is none; false where their number is odd or too
+ * large. */
 static int from_hex(const char *text, struct string *string) {
   string->length = 0;
   while (nibble(text[0]) >= 0) {
@@ -43,6 +48,7 @@ static inline void read_strings(const char *path) {
       fprintf(stderr, "%s: a line is no string\n", path);
       exit(1);
     }
+    snprintf(strings[string_count].name, sizeof strings->name, "%.*s", (int)(tab - line), line);
     string_count++;
   }
   fclose(file);

@@ -5,21 +5,33 @@
 
 enum { THREADS = 4, ROUNDS = 200 };
 
-/* Whether the calls of numbers and names have the answers that they have alone. */
+/* Whether the calls of numbers and names have the results that they have in one thread. */
 static int names_stand(const struct linkinfo_item *item) {
   char text[32];
   size_t length = linkinfo_port_kind_name(item->port_kind, text, sizeof text);
   if (length > 0 && linkinfo_port_kind_of_name(text, length) != item->port_kind) return 0;
-  return linkinfo_family_name(LINKINFO_FAMILY_VXLAN, text, sizeof text) == 5 && strcmp(text, "vxlan") == 0 &&
-         linkinfo_cause_name(LINKINFO_CAUSE_ORDER, text, sizeof text) == 5 && strcmp(text, "order") == 0;
+  return linkinfo_family_name(LINKINFO_FAMILY_VXLAN, text, sizeof text) == 5 &&
+         strcmp(text, "vxlan") == 0 &&
+         linkinfo_cause_name(LINKINFO_CAUSE_ORDER, text, sizeof text) == 5 &&
+         strcmp(text, "order") == 0;
 }
 
-/* Whether what stands inside data and port data ends where it ends alone: all strings are accepted. */
+/* Whether data and port data end where they end in one thread: all strings are accepted. */
 static int insides_stand(const uint8_t *bytes, const struct linkinfo_item *item) {
   struct linkinfo_attribute attributes[4];
   uint16_t type = item->raw_type & 0x3fff;
-  struct linkinfo_found found = linkinfo_attributes(bytes + item->place + 4, item->length, type == 2 ? item->kind : item->port_kind, attributes, 4);
-  return (type != 2 && type != 5) || (found.fault.cause == 0 && (found.count == 0 || (found.place == item->length && attributes[0].place == 0)));
+  struct linkinfo_list_result found =
+      linkinfo_attributes(bytes + item->place + 4, item->length,
+                          type == 2 ? item->kind : item->port_kind, attributes, 4);
+  struct linkinfo_valued_attribute values[4];
+  struct linkinfo_list_result again =
+      linkinfo_values(bytes + item->place + 4, item->length,
+                      type == 2 ? item->kind : item->port_kind, values, 4);
+  if (again.count != found.count || (found.count > 0 && values[0].shape != attributes[0].shape))
+    return 0;
+  return (type != 2 && type != 5) ||
+         (found.error.cause == 0 &&
+          (found.count == 0 || (found.place == item->length && attributes[0].place == 0)));
 }
 
 static void *calls(void *unused) {
@@ -31,15 +43,24 @@ static void *calls(void *unused) {
     for (size_t i = 0; i < string_count; i++) {
       const uint8_t *bytes = strings[i].bytes;
       size_t length = strings[i].length;
-      struct linkinfo_found found = linkinfo_items(bytes, length, items, 16);
-      struct linkinfo_placed_fault placed = linkinfo_check_placed(bytes, length - 1);
-      if (linkinfo_check(bytes, length).cause != 0 || !linkinfo_same(bytes, length, bytes, length).same || linkinfo_count(bytes, length).count < found.count ||
-          found.count == 0 || linkinfo_canon(bytes, length, canonical, sizeof canonical).status != LINKINFO_CANON_WRITTEN || linkinfo_kind_name(items[0].kind, text, sizeof text) != strlen(text) ||
-          (found.count > 1 && linkinfo_kind_of_name((const char *)bytes + 4, bytes[0] - 5u) != items[1].kind) ||
-          (placed.fault.cause != 0) != (linkinfo_fault_text(placed.fault, text, sizeof text) > 0))
-        return "a call has another answer in a thread";
+      struct linkinfo_list_result found = linkinfo_items(bytes, length, items, 16);
+      struct linkinfo_error_at placed = linkinfo_check_at(bytes, length - 1);
+      if (!linkinfo_first_unmet(bytes, length, bytes, length).met ||
+          !linkinfo_first_difference(bytes, length, bytes, length).same ||
+          linkinfo_check_inner(bytes, length - 1).place != placed.place ||
+          linkinfo_check(bytes, length).cause != 0 ||
+          !linkinfo_same(bytes, length, bytes, length).same ||
+          linkinfo_count(bytes, length).count < found.count || found.count == 0 ||
+          linkinfo_canon(bytes, length, canonical, sizeof canonical).status !=
+              LINKINFO_CANON_WRITTEN ||
+          linkinfo_kind_name(items[0].kind, text, sizeof text) != strlen(text) ||
+          (found.count > 1 &&
+           linkinfo_kind_of_name((const char *)bytes + 4, bytes[0] - 5u) != items[1].kind) ||
+          (placed.error.cause != 0) != (linkinfo_error_text(placed.error, text, sizeof text) > 0))
+        return "a call has another result in a thread";
       for (size_t at = 0; at < found.count; at++)
-        if (!names_stand(&items[at]) || !insides_stand(bytes, &items[at])) return "a call of names or of what stands inside has another answer in a thread";
+        if (!names_stand(&items[at]) || !insides_stand(bytes, &items[at]))
+          return "a call of names or attributes has another result in a thread";
     }
   }
   return NULL;

@@ -1,4 +1,5 @@
-/* Writes lines for the program linkinfo_tool and for lines.c: each string of a file, each front of it, each with one bit of one byte turned, and each pair. */
+/* Writes lines for the program linkinfo_tool and for lines.c: each string of a file, each prefix
+ * of it, each with one bit of one byte flipped, and each pair. */
 #include "strings.h"
 
 static void hex(const struct string *string) {

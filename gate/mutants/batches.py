@@ -1,4 +1,4 @@
-"""Many mutants in one check, and those that no such check tells alone."""
+"""Many mutants in one check, and single mutants where such a check does not decide."""
 import os
 import re
 import shutil
@@ -8,28 +8,28 @@ from .crates import BadEdit
 from .rooms import check, room_for
 from .tally import Tally
 
-# Right bodies that are proved at the end of a lane.
+# Functions that are proved unchanged at the end of a lane.
 SAMPLE = 5
 
 
 def reached(path, folder):
-    """The files of a crate that a file names, those that these name, and so on, and itself."""
-    found, left = set(), [path]
+    """A file of a crate and the files that it reaches by the modules it names."""
+    reached_files, left = set(), [path]
     while left:
         it = left.pop()
-        if it not in found:
-            found.add(it)
+        if it not in reached_files:
+            reached_files.add(it)
             text = folder.read(it) if folder.has(it) else ""
             left += [f"src/{name}.rt" for name in re.findall(r"\bcrate::(\w+)", text)]
-    return found
+    return reached_files
 
 
 def are_apart(a, b, folder):
     """Whether two edits have no effect on one another's function. A contract hides a body from
-    other functions, and hides no constant: those of two go together only where each is in the file
-    of the function that must refuse it, and neither file reaches the other. What is outside all
-    bodies is tried alone."""
-    if {a.function, a.turned} & {b.function, b.turned}:
+    other functions, and hides no constant. So two edits of constants go together only where each is
+    in the file of the function that must reject it, and neither file reaches the other. An edit
+    outside all bodies is tried alone."""
+    if {a.function, a.mutated} & {b.function, b.mutated}:
         return False
     if a.is_outside or b.is_outside:
         return False
@@ -44,8 +44,8 @@ def are_apart(a, b, folder):
 
 
 def batch_of(edits, folder):
-    """Edits of different functions that one check can try together, the texts that they make, and
-    the edits that are left."""
+    """Edits of different functions that one check can try together, the edited texts, and the edits
+    that are left."""
     batch, texts, left = [], {}, []
     for edit in edits:
         is_free = all(are_apart(it, edit, folder) for it in batch)
@@ -53,7 +53,7 @@ def batch_of(edits, folder):
             read = lambda path: texts.get(path) or folder.read(path)
             changed = edit.applied(read) if is_free else None
         except BadEdit:
-            # (its old text is once in the function as it is, and not once among the other edits)
+            # (its old text is once in the function, and not once after the other edits)
             changed = None
         if changed is None:
             left.append(edit)
@@ -64,7 +64,7 @@ def batch_of(edits, folder):
 
 
 class Lane:
-    """A copy of a crate in which mutants of it are checked, one check after the other."""
+    """A copy of a crate in which its mutants are checked, one check after the other."""
 
     def __init__(self, crates, crate, top, stamps):
         self.folder, self.top = room_for(crates, crate, top, stamps), top
@@ -72,8 +72,8 @@ class Lane:
         self.by_function, self.tally = bool(stamps), Tally(crate)
 
     def check(self, texts, edits):
-        """Checks with these texts: whole, or only the functions that must refuse these edits. An
-        impl has no name that a check can be limited to."""
+        """Checks with these texts: the crate, or only the functions that must reject these edits. A
+        check cannot be limited to an impl."""
         names = [it.function for it in edits]
         is_limited = self.by_function and not any(names_impl(it) for it in edits)
         said = check(self.folder, texts, names if is_limited else ())
@@ -82,48 +82,49 @@ class Lane:
         return said
 
     def try_together(self, edits):
-        """Tries the edits many in one check, and returns those that no check told."""
+        """Tries many edits in one check, and returns those that no check decided."""
         alone = []
         while edits:
             batch, texts, edits = batch_of(edits, self.folder)
             said = self.check(texts, batch)
             if not said.is_judged:
-                # (one of them does not compile: each half by itself)
+                # (one of them does not compile: each half is tried)
                 half = len(batch) // 2
-                parts = [batch[:half], batch[half:]] if half else []
-                alone += [it for part in parts for it in self.try_together(part)] if half else batch
+                for part in [batch[:half], batch[half:]] if half else []:
+                    alone += self.try_together(part)
+                alone += [] if half else batch
                 continue
             for edit in batch:
-                what = said.refuses(edit)
+                what = said.rejects(edit)
                 if what:
-                    self.tally.refused(edit, what)
+                    self.tally.rejected(edit, what)
                 else:
                     alone.append(edit)
         return alone
 
     def try_alone(self, edit):
-        """Tries one edit in a check of its own, after which it is refused or not."""
+        """Tries one edit in a separate check, which decides whether it is rejected."""
         said, tally = self.check(edit.applied(self.folder.read), [edit]), self.tally
         if not said.is_judged:
             told = " ".join(said.lines[:3])[:300]
             tally.failed(edit, f"it does not compile, or the check did not end: {told}")
             return
-        what, line = said.refuses(edit), said.line_of(edit.function)
+        what, line = said.rejects(edit), said.line_of(edit.function)
         if what:
-            tally.refused(edit, what)
+            tally.rejected(edit, what)
         elif not line:
             tally.failed(edit, f"the check has no line of {edit.function}")
         elif edit.is_control:
             tally.accepted(edit, said.kinds_of(edit))
         elif edit.moves_steps:
-            tally.failed(edit, "NOT JUDGED: explicit answers may name steps that it moves, and a "
-                               f"right body would be refused so too: {line}")
+            tally.failed(edit, "NOT JUDGED: explicit proofs may name steps that it moves, and a "
+                               f"correct body would be rejected so too: {line}")
         else:
             proved = "; the crate is still proved" if said.is_proved else ""
-            tally.failed(edit, f"NOT REFUSED by its own function: {line}{proved}")
+            tally.failed(edit, f"NOT REFUSED by its function: {line}{proved}")
 
     def try_all(self, edits, draw):
-        """Tries all edits, and then proves a drawn sample of their functions as they are over the
+        """Tries all edits, and then proves a drawn sample of their functions unchanged over the
         same kept work."""
         for kind in sorted({it.kind() for it in edits}):
             for edit in self.try_together([it for it in edits if it.kind() == kind]):
@@ -132,7 +133,7 @@ class Lane:
         sample = draw.sample(sample, min(SAMPLE, len(sample)))
         if not self.check({}, sample).is_proved:
             told = ", ".join(it.function for it in sample) or "the crate"
-            told = f"not proved as it is after the mutants: {told}"
+            told = f"not proved unchanged after the mutants: {told}"
             self.tally.say(self.tally.crate, told, False)
             self.tally.seen = []
         shutil.rmtree(self.top)

@@ -11,7 +11,7 @@ PARTS = ("src", "specs", "proofs")
 
 
 class BadEdit(Exception):
-    """Why an edit can't be tried."""
+    """The reason why an edit cannot be tried."""
 
 
 class Folder:
@@ -31,12 +31,12 @@ class Folder:
             raise BadEdit(f"there is no file {path}") from None
 
     def names(self, path):
-        """What is in a folder of it, sorted, or nothing where there is no such folder."""
+        """The names in a folder of the crate, sorted, or none where there is no such folder."""
         folder = f"{self.top}/{path}"
         return sorted(os.listdir(folder)) if os.path.isdir(folder) else []
 
     def files(self, path):
-        """The paths of all files below a folder of it, sorted."""
+        """The paths of all files below a folder of the crate, sorted."""
         walked = os.walk(f"{self.top}/{path}")
         return sorted(os.path.relpath(f"{at}/{it}", self.top) for at, _, ns in walked for it in ns)
 
@@ -53,30 +53,30 @@ def write(path, text):
 def crates_of(root=ROOT):
     """The crates of crates.txt with the repository's libraries that each one uses, in the order of
     the file."""
-    found = {}
+    listed = {}
     with open(f"{root}/crates.txt", encoding="utf-8") as lines:
         for line in lines:
             named = re.match(r"(\w+)[^:#]*:([^#]*)", line)
             if named:
-                found[named[1]] = named[2].split()
-    return {name: [it for it in deps if it in found] for name, deps in found.items()}
+                listed[named[1]] = named[2].split()
+    return {name: [it for it in deps if it in listed] for name, deps in listed.items()}
 
 
 def below(crates, name):
-    """The libraries of a crate, and theirs."""
-    found = []
+    """The libraries that a crate uses, and those that they use."""
+    libraries = []
     for dep in crates[name]:
-        found += [it for it in [*below(crates, dep), dep] if it not in found]
-    return found
+        libraries += [it for it in [*below(crates, dep), dep] if it not in libraries]
+    return libraries
 
 
 @functools.cache
 def toolchain():
-    """The toolchain, by its own words."""
+    """The toolchain, as it prints its version."""
     ran = subprocess.run(["rt", "version"], stdout=subprocess.PIPE, text=True, check=True)
     return ran.stdout.strip()
 
 
 def jobs():
-    """How many checks run side by side."""
+    """How many checks run in parallel."""
     return int(os.environ.get("WRONG_JOBS", "0")) or len(os.sched_getaffinity(0))

@@ -2,16 +2,16 @@
 
 A file crates/NAME/wrong/NAME.edit has these lines:
 
-    fn: PATH         the function whose contract must refuse the mutant, as the check prints it
+    fn: PATH         the function whose contract must reject the mutant, as the check prints it
     file: src/X.rt   the file that is changed
-    old: TEXT        part of a line, once in the body of that function
+    old: TEXT        text within a line, once in the body of that function
     new: TEXT        what the mutant has there
 
 Further pairs of old and new may follow. An edit may also change a constant or a type alias; PATH
 is then a function that rests on it. Where the old text is once in the file and in no body at all,
 as the derived `==` of a type, PATH is the law or the impl that must not be proved. Files in
-wrong/control/ have the same form and are right bodies, which must not count as refused; a line
-`in: PATH` there names the function that is changed, where it is not the one of the line `fn:`.
+wrong/control/ have the same form and are correct bodies, which must not count as rejected; a line
+`in: PATH` there names the function that is changed, where it is not that of the line `fn:`.
 """
 import re
 
@@ -22,14 +22,14 @@ CONTROL = "wrong/control"
 
 
 class Edit:
-    """One file of edits: what it changes, and the function that must refuse it."""
+    """One file of edits: what it changes, and the function that must reject it."""
 
     def __init__(self, crate, path, root=ROOT):
         self.crate, self.path = crate, path
         self.is_control, self.label = path.startswith(CONTROL), f"{crate}/{path}"
-        self.function = self.turned = self.stray = ""
+        self.function = self.mutated = self.stray = ""
         self.pairs, self.is_constant, self.is_outside = [], False, False
-        self.moves_steps = self.has_loop = self.is_in_ring = False
+        self.moves_steps = self.has_loop = self.is_recursive = False
         self.text = folder_of(crate, root).read(path)
         self.parse(self.text.split("\n"))
 
@@ -39,9 +39,9 @@ class Edit:
             word, _, rest = line.partition(":")
             rest = rest[1:] if rest.startswith(" ") else rest
             if word == "fn" and not self.function:
-                self.function = self.turned = rest.strip()
+                self.function = self.mutated = rest.strip()
             elif word == "in" and self.is_control:
-                self.turned = rest.strip()
+                self.mutated = rest.strip()
             elif word == "file":
                 path = rest.strip()
             elif word == "old" and not old:
@@ -62,7 +62,7 @@ class Edit:
         if not self.pairs:
             raise BadEdit("it has no pair of lines 'old:' and 'new:'")
         if self.stray:
-            raise BadEdit(f"an edit has no such line, or not at that place: {self.stray}")
+            raise BadEdit(f"an edit has no such line, or not there: {self.stray}")
         texts = {}
         for path, old, new in self.pairs:
             if not re.fullmatch(r"src/[\w/]+\.rt", path) or not old:
@@ -73,7 +73,7 @@ class Edit:
         return texts
 
     def look(self, folder):
-        """Notes whether the edit can be applied, whether it moves steps that explicit answers may
+        """Notes whether the edit can be applied, whether it moves steps that explicit proofs may
         name, and what kind of function it changes."""
         for path, text in self.applied(folder.read).items():
             bodies = [(it, sources.body_of(self.crate, path, it, self.function))
@@ -82,12 +82,12 @@ class Edit:
             self.moves_steps |= steps.are_moved(old, new)
             self.has_loop |= bool(re.search(r"\b(for|while|loop)\b", new))
         self.moves_steps &= steps.names_steps(self.function, folder)
-        self.is_in_ring = bool(steps.ring_of(self.function, folder)[0])
+        self.is_recursive = bool(steps.shared_proof(self.function, folder)[0])
 
     def span(self, path, text, old):
         """Where the body, the constant or the text of the file starts and ends in which the old
         text is once."""
-        body = sources.body_of(self.crate, path, text, self.turned)
+        body = sources.body_of(self.crate, path, text, self.mutated)
         times = text[slice(*body)].count(old)
         if times == 1:
             return body
@@ -101,8 +101,8 @@ class Edit:
             if not any(start <= at < end for start, end in bodies):
                 self.is_outside = True
                 return at, at + len(old)
-        raise BadEdit(f"its old text is {times} times in the body of {self.turned} in {path}, and "
-                      f"not once, and is no part of a constant or outside all bodies: {old}")
+        raise BadEdit(f"its old text is {times} times in the body of {self.mutated} in {path}, "
+                      f"and is not once in the file, in a constant or outside all bodies: {old}")
 
     def kind(self):
         """Edits of one kind can be tried together."""

@@ -1,11 +1,11 @@
-"""What a check's output says of a mutant.
+"""Decides by the output of a check whether a mutant is rejected.
 
-A mutant counts as refused only where the check says of the very function that its line `fn:` names
-that a goal is not proved which the function promises: what it ensures, at each return, and of its
-loops the invariant before the first round and after each, and that the measure falls. What a call
-requires (`CALLEE-requires`, also `unreachable!` and the measure of a recursion), an index in range
-(`bounds-`), a number that does not wrap (`overflow_`) or a divisor that is not 0 (`nonzero_`) does
-not count. Of an impl it counts that one of its laws has no proof.
+A mutant counts as rejected only where the check reports, of the very function that its line `fn:`
+names, an unproved goal that the function promises. That is what it ensures, at a return; or of one
+of its loops the invariant, before the first iteration or after one, or the measure. Of an impl, one
+of its laws must have no proof. These goals do not count: what a call requires (`CALLEE-requires`,
+also `unreachable!` and the measure of a recursion), an index in range (`bounds-`), a number that
+does not wrap (`overflow_`), a divisor that is not 0 (`nonzero_`).
 """
 import itertools
 import re
@@ -25,8 +25,8 @@ IMPL_LAW = re.compile(r"impl \S+: not proved; antt refuses `([\w-]+)` in `[\w.]+
 
 
 def is_promised(function, goal):
-    """Whether a goal is one of what the function promises. The goals of mutually recursive
-    functions begin with the name of their own."""
+    """Whether a goal is one that the function promises. The goals of mutually recursive functions
+    begin with the name of the function."""
     return bool(PROMISED.match(goal.removeprefix(function.split("::")[-1] + "-")))
 
 
@@ -41,7 +41,7 @@ class Report:
 
     def __init__(self, text, status, seconds=0.0):
         self.lines, self.seconds = text.split("\n"), seconds
-        # (a crate that does not compile, or a check that was stopped, has no such last line)
+        # (a check of a crate that does not compile, or one that was stopped, has no such last line)
         self.is_proved = status == 0 and bool(PROVED.search(text))
         self.is_judged = self.is_proved or status == 1 and bool(NOT_PROVED.search(text))
 
@@ -53,11 +53,12 @@ class Report:
     def is_proved_line(self, function):
         return bool(re.match(r"\w+ \S+: proved\b", self.line_of(function)))
 
-    def refuses(self, edit):
-        """What shows that a goal which the edit's function promises is not proved, or nothing."""
+    def rejects(self, edit):
+        """The line which shows that a goal that the edit's function promises is not proved, or
+        nothing."""
         line = self.line_of(edit.function)
         if line.startswith("impl "):
-            return self.law_refused(edit.function, line)
+            return self.law_rejected(edit.function, line)
         if not re.search(r": (not proved|no proof)", line):
             return ""
         goals = SEARCHED.search(line)
@@ -67,14 +68,14 @@ class Report:
         noted = self.promises_noted(edit.function, line)
         explicit = [it for it in errors if not AFTER_LOST.search(it)
                     and is_promised(edit.function, goal_of_error(it))]
-        # Where explicit answers fail and name steps that are gone or others now, a right body has
-        # open goals too. A goal that is false has no proof in any words.
+        # Where explicit proofs fail, and name steps that are gone or are others now, a correct body
+        # has open goals too. A goal that is false has no proof at all.
         if errors and edit.moves_steps or any(map(LOST.search, errors)):
             explicit, searched = [], []
             noted = [it for it in noted if "at which this goal is false" in it]
         return next(iter(explicit + searched + noted), "")
 
-    def law_refused(self, path, line):
+    def law_rejected(self, path, line):
         """The error that says that a law of the impl, in its own file, has no proof, or nothing."""
         *inside, name = path.split("::")[1:]
         law = IMPL_LAW.match(line)
@@ -88,15 +89,16 @@ class Report:
         return "" if lost or not told else told[0]
 
     def kinds_of(self, edit):
-        """Of which kinds a right body is: that its function is still proved, or what is changed in
-        or about one that is not."""
+        """The kinds of a correct body: its function is still proved, or what is changed in or about
+        one that is not."""
         if self.is_proved_line(edit.function):
             return {"outside"} if edit.is_outside else {"still proved"}
         errors = self.errors_of(edit.function)
         are_lost = any(map(LOST.search, errors))
         is_moved = bool(errors) and edit.moves_steps and not are_lost
         told = {"names lost": are_lost, "steps moved": is_moved}
-        about = {"ring": edit.is_in_ring, "loop": edit.has_loop, "constant": edit.is_constant}
+        about = {"recursion": edit.is_recursive, "loop": edit.has_loop,
+                 "constant": edit.is_constant}
         return {it for it, is_told in {**told, **about}.items() if is_told}
 
     def errors_of(self, function):
@@ -115,13 +117,13 @@ class Report:
         return [it.strip() for it in itertools.takewhile(lambda it: it.startswith("  "), below)]
 
     def promises_noted(self, function, line):
-        """The notes before a function's line on goals which it promises. The open goal is named in
+        """The notes before a function's line on goals that it promises. The open goal is named in
         parentheses."""
         noted = [(it, NOTE_OF_GOAL.match(it)) for it in self.before(line) if NOTE.match(it)]
         return [note for note, goal in noted if goal and is_promised(function, goal[1])]
 
     def before(self, line):
-        """The lines before a function's or an impl's line that are of it, the nearest first."""
+        """The lines about a function or an impl that are before its line, the nearest first."""
         above = reversed(self.lines[: self.lines.index(line)])
         item = re.compile(r"(fn|impl|struct|enum|trait) ")
         return list(itertools.takewhile(lambda it: not item.match(it), above))

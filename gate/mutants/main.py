@@ -18,18 +18,18 @@ from .tally import Tally
 
 USAGE = """./wrong: tries the mutants whose verdict can have changed, and a draw of the others.
 ./wrong --all: tries every mutant, and writes wrong.seen.
-./wrong CRATE..: tries those of the named crates that were not seen refused as they are.
-./wrong --behind-gate [--all]: the same without proving anything first, right after `rt ci`.
-./wrong --stamps: right after `rt ci`, marks the libraries that it built as built."""
-# The kinds of right bodies of which a run of all mutants needs one each.
-CONTROLS = {"still proved", "names lost", "steps moved", "ring", "loop", "constant", "outside"}
+./wrong CRATE..: tries those of the named crates that were not seen rejected unchanged.
+./wrong --after-gate [--all]: the same without proving anything first, right after `rt ci`.
+./wrong --stamps: right after `rt ci`, marks the libraries that it built as up to date."""
+# The kinds of correct bodies of which a run of all mutants needs one each.
+CONTROLS = {"still proved", "names lost", "steps moved", "recursion", "loop", "constant", "outside"}
 FOLDERS = {*PARTS, "wrong", "must-fail", "out", "data"}
 
 
 def edits_of(crate, tally, folders=("wrong", CONTROL)):
-    """The edits of a crate that can be applied. What else is in their folders counts as failed. Of
+    """The edits of a crate that can be applied. Anything else in their folders counts as failed. Of
     must-fail/, which the toolchain's gate tries, those are read that name a function."""
-    found, folder = [], folder_of(crate)
+    edits, folder = [], folder_of(crate)
     for name in folder.names("."):
         if name not in FOLDERS and os.path.isdir(f"{folder.top}/{name}"):
             tally.say(f"{crate}/{name}", "no folder of that name is read", False)
@@ -41,29 +41,29 @@ def edits_of(crate, tally, folders=("wrong", CONTROL)):
                     continue
                 try:
                     edit.look(folder)
-                    found.append(edit)
+                    edits.append(edit)
                 except BadEdit as why:
                     tally.failed(edit, str(why))
             elif f"{at}/{name}" != CONTROL:
                 tally.say(f"{crate}/{at}/{name}", "it is no file NAME.edit", False)
-    if has_contracts(folder) and all(it.is_control for it in found):
+    if has_contracts(folder) and all(it.is_control for it in edits):
         tally.say(f"{crate}/wrong", "there is no mutant of this crate", False)
-    return found
+    return edits
 
 
 def has_contracts(folder):
-    """Whether a function of the crate promises something. Those of tests do so for tests alone."""
+    """Whether a function of the crate, other than its tests, ensures something."""
     files = [it for it in folder.files("src") if not re.match(r"src/tests[./]", it)]
     return any(re.search(r"^ *ensures ", folder.read(it), re.M) for it in files)
 
 
 def try_crate(crates, edits, tally, top, stamps, lanes):
-    """Tries these edits of a crate, in so many lanes side by side."""
+    """Tries these edits of a crate, in this many lanes in parallel."""
     lanes = min(lanes, len(edits))
     with ThreadPoolExecutor(lanes or 1) as pool:
-        parts = [edits[at::lanes] for at in range(lanes)]
+        shares = [edits[at::lanes] for at in range(lanes)]
         tried = pool.map(lambda at: Lane(crates, tally.crate, f"{top}/{tally.crate}-{at}", stamps)
-                         .try_all(parts[at], seen.draw()), range(lanes))
+                         .try_all(shares[at], seen.draw()), range(lanes))
         for it in tried:
             tally.add(it)
     print("\n".join([*tally.lines, tally.summary()]), flush=True)
@@ -71,13 +71,13 @@ def try_crate(crates, edits, tally, top, stamps, lanes):
 
 
 def try_crates(crates, edits, tallies, stamps):
-    """Tries the edits of all crates, first of those that take the longest."""
+    """Tries the edits of all crates, those of the slowest first."""
     by_crate = {name: [it for it in edits if it.crate == name] for name in tallies}
     names = sorted(tallies, key=lambda it: -len(by_crate[it]) * (1 + len(below(crates, it))))
     busy = sum(bool(it) for it in by_crate.values()) or 1
     with tempfile.TemporaryDirectory(prefix="wrong-") as top:
         with ThreadPoolExecutor(jobs()) as pool:
-            # (of few crates the edits of each go in several lanes)
+            # (where few crates have edits, those of each are in several lanes)
             lanes = max(1, jobs() // busy)
             list(pool.map(lambda it: try_crate(crates, by_crate[it], tallies[it], top, stamps,
                                                lanes), names))
@@ -88,9 +88,9 @@ def kept_path(crate):
 
 
 def new_of(edits, tallies):
-    """The edits that earlier runs over named crates have not seen refused as they are, and the
-    number of the others. Right bodies go along with mutants alone."""
-    marks, found, left_out = Marks(ROOT), [], 0
+    """The edits that earlier runs over named crates have not seen rejected unchanged, and the
+    number of the others. Correct bodies are tried together with mutants alone."""
+    marks, new, left_out = Marks(ROOT), [], 0
     for crate, tally in tallies.items():
         folder = folder_of(crate)
         kept = {*folder.read("out/wrong").split("\n")} if folder.has("out/wrong") else set()
@@ -98,18 +98,18 @@ def new_of(edits, tallies):
         known = [it for it in own if not it.is_control and kept_line(it, marks) in kept]
         tally.seen += known
         left = [it for it in own if it not in known]
-        found += left if any(not it.is_control for it in left) else []
+        new += left if any(not it.is_control for it in left) else []
         left_out += len(known)
-    return found, left_out
+    return new, left_out
 
 
 def kept_line(edit, marks):
-    """What is kept of an edit that was seen refused."""
+    """The line that is kept of an edit that was seen rejected."""
     return f"{edit.label} {marks.mark(edit)} {toolchain()}"
 
 
 def keep(tallies):
-    """Keeps which edits were seen refused."""
+    """Keeps which edits were seen rejected."""
     marks = Marks(ROOT)
     for crate, tally in tallies.items():
         write(kept_path(crate), "\n".join(kept_line(it, marks) for it in tally.seen))
@@ -119,7 +119,7 @@ def main(words):
     crates, named = crates_of(), [it for it in words if not it.startswith("--")]
     flags = {*words} - {*named}
     unknown = [it for it in named if it not in crates]
-    if unknown or flags - {"--all", "--behind-gate", "--stamps"} or named and flags:
+    if unknown or flags - {"--all", "--after-gate", "--stamps"} or named and flags:
         why = f"wrong: crates.txt names no crate {unknown[0]}" if unknown else USAGE
         print(why, file=sys.stderr)
         return 2
@@ -132,9 +132,9 @@ def main(words):
     if named:
         stamps, unproved = None, prove(named)
     else:
-        stamps = stamps_of(crates) if "--behind-gate" in flags else None
-        if "--behind-gate" in flags and not stamps:
-            print("wrong: the libraries are not all as one run of `rt ci` built them, so the "
+        stamps = stamps_of(crates) if "--after-gate" in flags else None
+        if "--after-gate" in flags and not stamps:
+            print("wrong: the libraries are not all of one run of `rt ci`, so the "
                   "crates are proved first", flush=True)
         unproved = [] if stamps else prove([])
     if unproved is None:
@@ -158,16 +158,16 @@ def conclude(tallies, unproved, named, numbers, is_all):
     passed = sum(it.passes for it in tallies.values())
     failed = sum(it.failures for it in tallies.values()) + len(unproved)
     for name in unproved:
-        print(f"wrong: {name}: the crate as it is is not proved")
+        print(f"wrong: {name}: the unchanged crate is not proved")
     missing = CONTROLS.difference(*[it.controls for it in tallies.values()])
-    # (a run that leaves mutants out tries the right bodies of some crates alone)
+    # (a run that leaves mutants out tries the correct bodies of some crates alone)
     if missing and not named and not left:
-        print(f"wrong: no right body of these kinds was tried: {', '.join(sorted(missing))}")
+        print(f"wrong: no correct body of these kinds was tried: {', '.join(sorted(missing))}")
         failed += 1
-    refused = {edit.label for it in tallies.values() for edit in it.seen}
-    void = [it.label for it in drawn if it.label not in refused]
+    rejected = {edit.label for it in tallies.values() for edit in it.seen}
+    void = [it.label for it in drawn if it.label not in rejected]
     if void:
-        print(f"wrong: FAILED: wrong.seen is void: drawn and not refused: {', '.join(void)}")
+        print(f"wrong: FAILED: wrong.seen is void: drawn and not rejected: {', '.join(void)}")
     if is_all and not failed:
         is_written = seen.write_seen()
         failed += not is_written

@@ -1,10 +1,10 @@
-"""What the verdict on a mutant rests on, as a sum.
+"""A checksum of all that the verdict on a mutant depends on.
 
 That is: the edit, the body that it changes, `src/` of the crate without the bodies of other
 functions and without comments, `specs/`, the lemmas of `proofs/` and the proofs beside the
 function's own; of each library below what a crate above sees of it: `src/` without bodies,
-`specs/` and lemmas; and the code that judges. The toolchain is compared beside it (`seen`). Where
-the sum of an edit is the same in two states of the repository, its verdict is.
+`specs/` and lemmas; and the code that judges. The toolchain is compared too (`seen`). Where
+an edit has equal sums in two states of the repository, it has equal verdicts.
 """
 import functools
 import hashlib
@@ -27,17 +27,17 @@ class Marks:
             setattr(self, it, functools.cache(getattr(self, it)))
 
     def mark(self, edit):
-        """The sum of an edit of this state."""
+        """The sum of an edit in this state."""
         folder = folder_of(edit.crate, self.root)
         inside = "/".join(["proofs", *edit.function.split("::")[1:-1]])
         proofs = {*self.files(edit.crate, inside), *lemmas(folder)}
         parts = [self.judge(), edit.label, edit.text]
-        parts += self.parts_of(edit.crate, {edit.function, edit.turned}, proofs)
+        parts += self.parts_of(edit.crate, {edit.function, edit.mutated}, proofs)
         parts += [self.library(it) for it in below(self.crates, edit.crate)]
         return total(parts)
 
     def library(self, name):
-        """The sum of what crates above see of a library."""
+        """The sum of the text that crates above see of a library."""
         proofs = lemmas(folder_of(name, self.root))
         return total([name, *self.parts_of(name, set(), proofs)])
 
@@ -48,7 +48,7 @@ class Marks:
         return folder_of(crate, self.root).files(path)
 
     def parts_of(self, name, shown, proofs):
-        """The texts of a crate that count, each after its path."""
+        """The texts of a crate that verdicts depend on, each after its path."""
         parts = [" ".join(self.crates[name])]
         for path in self.files(name, "src"):
             text = self.read(name, path)
@@ -62,29 +62,29 @@ class Marks:
         return COMMENT.sub("", self.read(crate, path))
 
     def judge(self):
-        """The sum of the code that judges: all but its tests."""
+        """The sum of the code that judges, without its tests."""
         top = Folder(self.root)
         names = [it for it in top.names("gate/mutants") if it.endswith(".py")]
         paths = ["wrong", *(f"gate/mutants/{it}" for it in names)]
-        return total([part for it in paths for part in (it, top.read(it))])
+        return total([text for it in paths for text in (it, top.read(it))])
 
     def of_label(self, crate, path):
-        """The sum of the edit of that name in this state, or nothing where it has none such."""
+        """The sum of the edit of that name in this state, or nothing where there is none."""
         try:
             is_there = crate in self.crates and folder_of(crate, self.root).has(path)
             return self.mark(Edit(crate, path, self.root)) if is_there else ""
         except (BadEdit, OSError):
-            # (a state of before this code)
+            # (a state from before this code)
             return ""
 
 
 def lemmas(folder):
-    """The files of lemmas of a crate: those right in proofs/."""
+    """The files of lemmas of a crate: those directly in proofs/."""
     return {f"proofs/{it}" for it in folder.names("proofs") if folder.has(f"proofs/{it}")}
 
 
 def total(parts):
-    """A sum of texts, in which it counts where one ends."""
+    """A sum of texts, which depends on where each one ends."""
     made = hashlib.sha256()
     for it in parts:
         made.update(f"{len(it)} {it}".encode())

@@ -12,8 +12,8 @@ from .judging import Report
 
 
 def check(folder, texts, only=()):
-    """Checks the crate in that folder with these texts in place of its own: whole, or only these
-    functions and those that they call."""
+    """Checks the crate in that folder with these texts instead of its files: all of it, or only
+    these functions and those that they call."""
     own = {path: folder.read(path) for path in texts}
     for path, text in texts.items():
         write(f"{folder.top}/{path}", text)
@@ -37,8 +37,8 @@ def run(folder, words):
 
 
 def room_for(crates, name, top, stamps):
-    """A copy of the crate, with what its check kept, and of the libraries below it as they were
-    built. With stamps the crate has no kept work, and each library its stamp."""
+    """A copy of the crate, with the work that its check kept, and of the libraries below it with
+    what was built. With stamps the crate has no kept work, and each library has its stamp."""
     room = f"{top}/{name}"
     os.makedirs(f"{room}/.git")
     wanted = [*below(crates, name), name]
@@ -47,18 +47,18 @@ def room_for(crates, name, top, stamps):
     write(f"{room}/crates.txt", "".join(listed))
     for it in wanted:
         kept = ["out/rlib"] if it != name else [] if stamps else ["out"]
-        for part in (*PARTS, *kept):
-            if os.path.isdir(f"{ROOT}/crates/{it}/{part}"):
-                shutil.copytree(f"{ROOT}/crates/{it}/{part}", f"{room}/crates/{it}/{part}")
+        for name_in in (*PARTS, *kept):
+            if os.path.isdir(f"{ROOT}/crates/{it}/{name_in}"):
+                shutil.copytree(f"{ROOT}/crates/{it}/{name_in}", f"{room}/crates/{it}/{name_in}")
         if stamps and it != name:
             write(f"{room}/crates/{it}/out/rlib/stamp", stamps[it])
     return folder_of(name, room)
 
 
 def stamps_of(crates):
-    """Right after `rt ci`: the stamp of each library, by which `rt check` knows it as built from
-    the files beside it, or None where one is not as built. `rt ci` itself leaves none: the
-    libraries of its run fit one another and no others, and a room has those of one run alone."""
+    """Right after `rt ci`: the stamp of each library, by which `rt check` takes it as built from
+    its files, or None where the files of one have changed. `rt ci` leaves no stamps: the libraries
+    of its run fit one another and no others, and a copy has those of one run alone."""
     command = os.path.dirname(os.path.realpath(shutil.which("rt") or ""))
     try:
         sys.dont_write_bytecode = True
@@ -70,16 +70,16 @@ def stamps_of(crates):
         made = {it: rtlib.Crate(f"{ROOT}/crates/{it}", ROOT, {}).stamp() for it in names}
     except (AttributeError, OSError, SystemExit, TypeError):
         return None
-    # (libraries with a stamp of their own are not of `rt ci`'s run)
+    # (libraries that have a stamp are not of `rt ci`'s run)
     stamped = {os.path.isfile(f"{ROOT}/crates/{it}/out/rlib/stamp") for it in made}
     is_one_run = len(stamped) == 1
     return made if is_one_run and all(is_built(it, stamp) for it, stamp in made.items()) else None
 
 
 def is_built(name, stamp):
-    """Whether the library is built, no file of it is younger, and its stamp, if any, is this."""
+    """Whether the library is built, no file of it is newer, and its stamp, if any, is this."""
     folder = folder_of(name)
-    files = [f"{folder.top}/{it}" for part in PARTS for it in folder.files(part)]
+    files = [f"{folder.top}/{it}" for name_in in PARTS for it in folder.files(name_in)]
     own = folder.read("out/rlib/stamp") if folder.has("out/rlib/stamp") else stamp
     built = f"{folder.top}/out/rlib/{name}.rlib"
     if own != stamp or not os.path.isdir(built):
@@ -89,7 +89,7 @@ def is_built(name, stamp):
 
 def leave_stamps(crates):
     """Right after `rt ci`: gives each library that it built its stamp, so that `rt lib` takes the
-    library as it is. The status is 1 where not all are as built."""
+    library unchanged. The status is 1 where the files of one have changed since."""
     stamps = stamps_of(crates)
     for name, stamp in (stamps or {}).items():
         write(f"{ROOT}/crates/{name}/out/rlib/stamp", stamp)

@@ -1,7 +1,7 @@
-"""wrong.seen: the commit and the toolchain at which every mutant was last seen refused.
+"""wrong.seen: the commit and the toolchain at which every mutant was last seen rejected.
 
-`./wrong --all` alone writes it. At a landing a mutant whose verdict rests on the same as at that
-commit is not tried again, but for a draw.
+`./wrong --all` alone writes it. At a landing, a mutant is not tried again where nothing that its
+verdict depends on has changed since that commit, but for a draw.
 """
 import io
 import random
@@ -14,14 +14,14 @@ from .crates import ROOT, toolchain, write
 from .marks import Marks
 
 SEEN = f"{ROOT}/wrong.seen"
-# Mutants drawn among those that need not be tried, and how many of one crate before another crate
-# is drawn from.
+# How many mutants are drawn among those that need not be tried, and how many of one crate before
+# another crate is drawn.
 DRAWN = 48
 OF_A_CRATE = 24
 
 
 def git(*words):
-    """What git prints, or None where it fails or is not there."""
+    """The output of git, or None where it fails or is missing."""
     try:
         ran = subprocess.run(["git", "-c", "safe.directory=*", *words], cwd=ROOT,
                              stdout=subprocess.PIPE, stderr=subprocess.DEVNULL, check=False)
@@ -36,13 +36,13 @@ def commit_name():
 
 
 def draw():
-    """What is drawn with, by the present commit's name: nobody can know it before the commit is
-    made, and everybody can draw the same again."""
+    """The generator of the draw, seeded by the present commit's name: nobody knows it before the
+    commit is made, and everybody can repeat the draw."""
     return random.Random(commit_name())
 
 
 def seen_commit():
-    """The commit of wrong.seen, and why it is of no use, if so."""
+    """The commit of wrong.seen, and the reason why it cannot be used, if there is one."""
     try:
         with open(SEEN, encoding="utf-8") as it:
             lines = it.read().splitlines()
@@ -59,26 +59,26 @@ def seen_commit():
 
 
 def unchanged(edits):
-    """Those of the edits whose verdict rests on the same as at the commit of wrong.seen, and what
-    to say of it."""
+    """The edits for which nothing that the verdict depends on has changed since the commit of
+    wrong.seen, and a line about it."""
     commit, why = seen_commit()
     if why:
         return [], f"every mutant is tried: {why}"
     with tempfile.TemporaryDirectory(prefix="wrong-seen-") as old:
         archive = git("archive", commit, "crates", "crates.txt", "gate", "wrong")
         if archive is None:
-            return [], f"every mutant is tried: commit {commit} has not the code that judges"
+            return [], f"every mutant is tried: commit {commit} lacks the code that judges"
         with tarfile.open(fileobj=io.BytesIO(archive)) as it:
             it.extractall(old, filter="data")
         before, now = Marks(old), Marks(ROOT)
         same = [it for it in edits if before.of_label(it.crate, it.path) == now.mark(it)]
-    return same, f"all mutants were last seen refused at commit {commit}"
+    return same, f"all mutants were last seen rejected at commit {commit}"
 
 
 def drawn_among(same, lots):
     """The mutants that are drawn: of one crate after the other, each drawn with a probability
-    proportional to the number of its mutants that are left, `OF_A_CRATE` of each. A crate that has
-    a mutant to try pays a first check of its own, so the draw is of few crates."""
+    proportional to the number of its mutants that are left, `OF_A_CRATE` of each. Each crate
+    that has a mutant to try costs a first check, so the draw is of few crates."""
     left, drawn = list(same), []
     while left and len(drawn) < DRAWN:
         crate = lots.choice(left).crate
@@ -90,8 +90,8 @@ def drawn_among(same, lots):
 
 def chosen(edits):
     """The edits to try at a landing, those of them that were drawn, the number of mutants not to be
-    tried, and what to say of it. A right body is tried where it changed, and where mutants of its
-    crate are: what judges is the same as when all were told apart."""
+    tried, and a line about it. A correct body is tried where it changed, and where mutants of its
+    crate are tried."""
     same, said = unchanged(edits)
     drawn = drawn_among([it for it in same if not it.is_control], draw())
     left = {it.label for it in same} - {it.label for it in drawn}
@@ -104,14 +104,14 @@ def chosen(edits):
 
 
 def is_committed():
-    """Whether the files that verdicts rest on are those of the present commit."""
+    """Whether the files that verdicts depend on are those of the present commit."""
     told = git("status", "--porcelain", "--", "crates", "crates.txt", "gate", "wrong")
     return told is not None and not told.strip() and bool(commit_name())
 
 
 def write_seen():
     """Names the present commit in wrong.seen, and returns whether it could: only where the files
-    that verdicts rest on are its files."""
+    that verdicts depend on are those of the commit."""
     if not is_committed():
         return False
     write(SEEN, f"{commit_name()} {toolchain()}\n")

@@ -1,7 +1,7 @@
 """Where the bodies of functions and the constants of a source file are.
 
-The toolchain's gate holds every file to one layout: a block ends at the first line of its own
-indentation that begins with a closing brace.
+The toolchain's gate requires one layout: a block ends at the first line of its indentation that
+begins with a closing brace.
 """
 import functools
 import re
@@ -25,12 +25,12 @@ def words_of(kind):
 
 
 def closing(text, at):
-    """Where the angle bracket at `at` closes."""
+    """The index at which the angle bracket at `at` closes."""
     depth = 0
-    for place in range(at, len(text)):
-        depth += (text[place] == "<") - (text[place] == ">" and text[place - 1] != "-")
+    for index in range(at, len(text)):
+        depth += (text[index] == "<") - (text[index] == ">" and text[index - 1] != "-")
         if depth == 0:
-            return place
+            return index
     return len(text)
 
 
@@ -54,7 +54,7 @@ def bodies_of(crate, path, text):
     A body begins after the clauses."""
     inside = path[len("src/") : -len(".rt")].split("/")
     inside = [it for it in inside if it not in ("lib", "main", "mod")]
-    lines, at, found, block = text.split("\n"), 0, [], ("", "")
+    lines, at, bodies, block = text.split("\n"), 0, [], ("", "")
     for number, line in enumerate(lines):
         indent = line[: len(line) - len(line.lstrip())]
         if BLOCK.match(line) and not line.endswith(("}", ";")):
@@ -65,15 +65,15 @@ def bodies_of(crate, path, text):
         span = body_span(lines, number, at, indent) if named else None
         if span:
             names = [crate, *inside, *[it for it in [block[0]] if it], named[2]]
-            found.append(("::".join(names), *span, bool(named[1])))
+            bodies.append(("::".join(names), *span, bool(named[1])))
         at += len(line) + 1
-    return found
+    return bodies
 
 
 def body_of(crate, path, text, function):
     """Where the body of that function starts and ends, or twice the start of the file."""
-    found = (it[1:3] for it in bodies_of(crate, path, text) if it[0] == function)
-    return next(found, (0, 0))
+    spans = (it[1:3] for it in bodies_of(crate, path, text) if it[0] == function)
+    return next(spans, (0, 0))
 
 
 def body_span(lines, number, at, indent):
@@ -93,7 +93,7 @@ def body_span(lines, number, at, indent):
 
 
 def is_clause(line, indent):
-    """Whether a line of a function's head opens a clause that goes on below it, or is among its
+    """Whether a line of a function's head begins a clause of several lines, or is one of its
     generic bounds."""
     return bool(re.match(indent + r"\s+(requires|ensures|ghost|measure|where)\b", line))
 
@@ -105,12 +105,12 @@ def constants_of(text):
 
 @functools.cache
 def visible(crate, path, text, shown=frozenset()):
-    """What a check of another function reads of a source file: all but comments, hints on inlining
-    and the bodies of functions, which contracts hide. Bodies of const functions, which a constant
-    may be made of, and of the functions in `shown` stay."""
-    found, at = [], 0
+    """The text of a source file that a check of another function reads: all but comments, inlining
+    attributes and the bodies of functions, which contracts hide. Bodies of const functions, which a
+    constant may call, and of the functions in `shown` stay."""
+    shown_text, at = [], 0
     for name, start, end, is_const in bodies_of(crate, path, text):
         if name not in shown and not is_const and at <= start:
-            found.append(text[at:start])
+            shown_text.append(text[at:start])
             at = end
-    return UNSEEN.sub("", "".join([*found, text[at:]]))
+    return UNSEEN.sub("", "".join([*shown_text, text[at:]]))

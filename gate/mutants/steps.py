@@ -1,7 +1,7 @@
 """Steps of a body that explicit proofs name.
 
-Answers by an author name a step by the function that is called and its number, so where an edit
-moves a call they fail for a right body too, and such a failure says nothing of the contract.
+An explicit proof names a step by the function that is called and its number. So where an edit moves
+a call, it fails for a correct body too, and such a failure says nothing about the contract.
 """
 import re
 
@@ -11,12 +11,12 @@ PROOFS = ("Answers.antt", "Invariants.antt")
 
 
 def are_moved(old, new):
-    """Whether the steps of a body are no more there in their number and order (steps of other names
-    may be in between), or the body has the same words in another order."""
+    """Whether the steps of a body are not all there in number and order (steps of other names may
+    be in between), or the body has the same words in another order."""
     words, other = [re.findall(r"\w+", body) for body in (old, new)]
     before, after = [[next(filter(None, it)) for it in STEP.findall(body)] for body in (old, new)]
-    is_turned_round = words != other and sorted(words) == sorted(other)
-    return is_turned_round or [it for it in after if it in before] != before
+    is_reordered = words != other and sorted(words) == sorted(other)
+    return is_reordered or [it for it in after if it in before] != before
 
 
 def proofs_in(path, folder):
@@ -24,8 +24,8 @@ def proofs_in(path, folder):
     return {it: folder.read(f"{path}/{it}") for it in PROOFS if folder.has(f"{path}/{it}")}
 
 
-def ring_of(function, folder):
-    """The folder, and the texts by their names, of the one explicit proof of mutually recursive
+def shared_proof(function, folder):
+    """The folder, and the texts by their names, of the explicit proof of mutually recursive
     functions of which this is one, or twice nothing."""
     *inside, name = function.split("::")[1:]
     top = "/".join(["proofs", *inside])
@@ -38,7 +38,7 @@ def ring_of(function, folder):
 
 
 def names_steps(function, folder):
-    """Whether explicit answers, which name steps, are read for goals of the function."""
+    """Whether an explicit proof, which names steps, is read for goals of the function."""
     own = proofs_in("/".join(["proofs", *function.split("::")[1:]]), folder)
-    shared = ring_of(function, folder)[1].get("Answers.antt", "")
+    shared = shared_proof(function, folder)[1].get("Answers.antt", "")
     return "Answers.antt" in own or f"goal.{function.split('::')[-1]}-" in shared

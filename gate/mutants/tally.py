@@ -1,4 +1,4 @@
-"""What was seen of the mutants of a crate."""
+"""The results for the mutants of a crate."""
 
 
 class Tally:
@@ -10,7 +10,7 @@ class Tally:
         self.seconds = 0.0
 
     def add(self, other):
-        """Adds what was seen of further mutants of the crate."""
+        """Adds the results for further mutants of the crate."""
         self.lines, self.seen = self.lines + other.lines, self.seen + other.seen
         self.controls = self.controls | other.controls
         self.passes, self.failures = self.passes + other.passes, self.failures + other.failures
@@ -23,9 +23,9 @@ class Tally:
     def failed(self, edit, text):
         self.say(edit.label, text, False)
 
-    def refused(self, edit, what):
+    def rejected(self, edit, what):
         if edit.is_control:
-            self.failed(edit, f"a right body counts as refused: {what}")
+            self.failed(edit, f"a correct body counts as rejected: {what}")
         else:
             self.seen.append(edit)
             self.say(edit.label, f"refused: {what}", True)
@@ -33,7 +33,7 @@ class Tally:
     def accepted(self, edit, kinds):
         self.controls |= kinds
         told = ", ".join(sorted(kinds)) or "of no kind that is required"
-        self.say(edit.label, f"a right body, not refused ({told})", True)
+        self.say(edit.label, f"a correct body, not rejected ({told})", True)
 
     def summary(self):
         return (f"wrong: {self.crate}: {self.passes} passed, {self.failures} failed, in "

@@ -1,4 +1,4 @@
-"""Paths by their places in the crate, and imports apart from other words."""
+"""Paths as the crate has them, and imports apart from other words."""
 import re
 
 from words import Word, item_end, without

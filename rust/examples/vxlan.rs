@@ -1,5 +1,7 @@
-//! Builds the link info of a vxlan link, as RTM_NEWLINK wants it, and reads it back.
-use linkinfo::{InfoData, InfoKind, InfoVxlan, LinkInfo, LinkInfoWalk, VecLinkInfo, check, same};
+//! Builds the link info of a vxlan link for RTM_NEWLINK, and parses that of the link.
+use linkinfo::{
+    InfoData, InfoKind, InfoVxlan, LinkInfo, LinkInfoWalk, VecLinkInfo, check, first_unmet, same,
+};
 use std::error::Error;
 use std::net::Ipv4Addr;
 
@@ -20,15 +22,32 @@ fn main() -> Result<(), Box<dyn Error>> {
     let bytes = list.to_vec()?;
     println!("{bytes:02x?}");
 
-    // What the kernel answers is checked and compared without memory, and parsed.
-    check(&bytes)?;
-    println!("the same: {}", same(&bytes, &list.to_vec()?)?);
-    for info in &VecLinkInfo::parse(&bytes)? {
+    // The link as a kernel returns it, with a TTL of 64 that was not requested. It is validated
+    // without memory, and parsed.
+    let link = [
+        0x0a, 0, 1, 0, b'v', b'x', b'l', b'a', b'n', 0, 0, 0, // IFLA_INFO_KIND "vxlan"
+        0x24, 0, 2, 0, // IFLA_INFO_DATA
+        8, 0, 1, 0, 42, 0, 0, 0, // IFLA_VXLAN_ID 42
+        8, 0, 2, 0, 239, 1, 1, 1, // IFLA_VXLAN_GROUP 239.1.1.1
+        5, 0, 5, 0, 64, 0, 0, 0, // IFLA_VXLAN_TTL 64
+        6, 0, 15, 0, 0x12, 0xb5, 0, 0, // IFLA_VXLAN_PORT 4789
+    ];
+    check(&link)?;
+    // Does the link meet the request? `same` is for two requests, so it is false here.
+    assert_eq!(first_unmet(&link, &bytes), Ok(None));
+    assert!(!same(&link, &bytes)?);
+    // For another VNI: the first attribute that the link does not meet, and both offsets.
+    let other = VecLinkInfo::from([
+        LinkInfo::Kind(InfoKind::Vxlan),
+        LinkInfo::Data(InfoData::Vxlan([InfoVxlan::Id(43)].into())),
+    ]);
+    println!("{:?}", first_unmet(&link, &other.to_vec()?));
+    for info in &VecLinkInfo::parse(&link)? {
         println!("{info:?}");
     }
 
     // Borrowed, attribute by attribute: offset, type and payload.
-    for item in LinkInfoWalk::new(&bytes) {
+    for item in LinkInfoWalk::new(&link) {
         let item = item?;
         println!(
             "{:3}: type {}, {} bytes",
@@ -38,7 +57,7 @@ fn main() -> Result<(), Box<dyn Error>> {
         );
     }
 
-    // The first error of bytes that are cut off.
-    println!("{}", check(&bytes[..20]).unwrap_err());
+    // The first error of truncated bytes.
+    println!("{}", check(&link[..20]).unwrap_err());
     Ok(())
 }

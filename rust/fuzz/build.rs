@@ -1,4 +1,4 @@
-//! Links the archive that LINKINFO_ARCHIVE names, where the feature `archive` asks for it.
+//! Links the archive that LINKINFO_ARCHIVE names, with the feature `archive`.
 use std::path::Path;
 use std::{env, fs};
 

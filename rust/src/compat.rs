@@ -1,5 +1,5 @@
-//! What the sources call of their own standard library and Rust's has not, or under another name:
-//! allocation that reports its failure, by `try_reserve`, and conversions that cannot lose bits.
+//! Calls of Rattle's standard library that Rust's does not have, or has under another name:
+//! fallible allocation, by `try_reserve`, and conversions that cannot lose bits.
 
 use alloc::collections::TryReserveError;
 use alloc::string::String;

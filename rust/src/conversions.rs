@@ -2,10 +2,13 @@
 
 use crate::layers::nla_frame::NlasIterator;
 use crate::{
-    Bytes, DecodeError, LinkInfoOf, LinkInfoWalk, LinkPeer, Nlas, Text, ToVecError, VecLinkInfoOf,
+    Bytes, DecodeError, ErrorAt, ErrorIn, LinkInfoOf, LinkInfoWalk, LinkPeer, Nlas, Text,
+    ToVecError, VecLinkInfoOf,
 };
 use alloc::string::String;
 use alloc::vec::Vec;
+use core::error::Error;
+use core::fmt;
 use core::iter::FusedIterator;
 use core::ops::Deref;
 
@@ -26,6 +29,24 @@ impl<P: LinkPeer> TryFrom<&VecLinkInfoOf<P>> for Vec<u8> {
         list.to_vec()
     }
 }
+
+/// Displays the error, whichever list has it.
+impl fmt::Display for ErrorIn {
+    fn fmt(&self, f: &mut fmt::Formatter<'_>) -> fmt::Result {
+        self.error().fmt(f)
+    }
+}
+
+impl Error for ErrorIn {}
+
+/// Displays the error without its offsets.
+impl fmt::Display for ErrorAt {
+    fn fmt(&self, f: &mut fmt::Formatter<'_>) -> fmt::Result {
+        self.error.fmt(f)
+    }
+}
+
+impl Error for ErrorAt {}
 
 /// The list of the items. It aborts where memory runs out, as `Vec` does.
 impl<P> FromIterator<LinkInfoOf<P>> for VecLinkInfoOf<P> {

@@ -1,14 +1,14 @@
 //! The contents of `IFLA_LINKINFO`, the rtnetlink attribute that describes the type of a link
-//! (vxlan, bond, macvlan ..): parsed, checked, compared and serialized.
+//! (vxlan, bond, macvlan ..): parsed, validated, compared and serialized.
 //!
-//! - [`VecLinkInfo::parse`] reads a list, or returns the first error; [`VecLinkInfo::to_vec`]
+//! - [`VecLinkInfo::parse`] parses a list, or returns the first error; [`VecLinkInfo::to_vec`]
 //!   writes its one canonical encoding.
 //! - [`check`] and [`same`] validate and compare encodings without allocating memory.
-//! - [`canon`] and [`canon_into`] write the canonical encoding of what an encoding means.
+//! - [`canon`] and [`canon_into`] write the canonical encoding of the list that an encoding means.
 //! - [`LinkInfoWalk`] iterates over the borrowed attributes.
 //!
-//! The calls at the root accept every input. Those in [`layers`] are for who writes a family of
-//! attributes or a peer: many of them require something of their caller, and panic where it does
+//! The calls at the root accept every input. Those in [`layers`] are for authors of a family of
+//! attributes or of a peer: many of them have conditions for their caller, and panic where one does
 //! not hold.
 //!
 //! ```
@@ -24,8 +24,8 @@
 //! # Ok::<(), Box<dyn std::error::Error>>(())
 //! ```
 //!
-//! Most of the crate is translated from sources that are proved against their contracts; the
-//! repository's `docs/RUST.md` says what that is worth here.
+//! Most of the crate is translated from sources that are proved against their contracts. The crate
+//! itself is not proved: `docs/RUST.md` of the repository says what may be claimed of it.
 //!
 //! A `clone` of a value that owns memory aborts the process where memory runs out, as those of
 //! `alloc` do. Every other call reports it.
@@ -53,16 +53,16 @@ mod netlink_packet_core;
 mod operators;
 
 pub use compat::{AllocError, AllocFailed};
-pub use layers::data::{InfoData, InfoDataOf, InfoPortData, Unmet};
+pub use layers::data::{Difference, InfoData, InfoDataOf, InfoPortData, Unmet};
 pub use layers::devices::{
     InfoIpVlan, InfoIpVtap, InfoIpoib, InfoMacSec, InfoMacVlan, InfoMacVtap, InfoRmNet, InfoVrf,
     InfoVrfPort, InfoXfrm,
 };
 pub use layers::link::{
-    CanonError, CanonIntoError, FaultIn, LinkInfo, LinkInfoItem, LinkInfoOf, LinkInfoWalk,
-    LinkXstats, PlacedFault, VecLinkInfo, VecLinkInfoOf, canon, canon_into, canon_into_of,
-    canon_of, check, check_of, check_placed, check_placed_of, first_unmet, first_unmet_of, same,
-    same_of, same_placed, same_placed_of,
+    CanonError, CanonIntoError, ErrorAt, ErrorIn, LinkInfo, LinkInfoItem, LinkInfoOf, LinkInfoWalk,
+    LinkXstats, VecLinkInfo, VecLinkInfoOf, canon, canon_into, canon_into_of, canon_of, check,
+    check_at, check_at_of, check_of, first_difference, first_difference_of, first_unmet,
+    first_unmet_of, same, same_at, same_at_of, same_of,
 };
 pub use layers::lower::{
     InfoBond, InfoBondPort, InfoBridge, InfoBridgePort, InfoCan, InfoDsa, InfoHsr, InfoVlan,

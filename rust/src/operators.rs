@@ -39,7 +39,7 @@ macro_rules! operators {
             }
         }
 
-        /// The flags of the first set that the second has not.
+        /// The flags of the first set that are not in the second.
         impl Sub for $set {
             type Output = $set;
 
@@ -48,7 +48,7 @@ macro_rules! operators {
             }
         }
 
-        /// The flags that the set has not.
+        /// The flags that are not in the set.
         impl Not for $set {
             type Output = $set;
 

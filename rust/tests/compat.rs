@@ -1,4 +1,4 @@
-//! The calls that stand for those of the sources' own library.
+//! The calls that replace those of Rattle's standard library.
 
 use linkinfo::AllocError;
 use linkinfo::compat::{

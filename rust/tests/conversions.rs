@@ -1,9 +1,10 @@
-//! The traits of Rust's library, each against the call that it stands for, or against the format.
+//! The traits of Rust's library, each compared with the call that it makes, or with the format.
 
 use linkinfo::layers::nla_frame::NlaBuffer;
 use linkinfo::{
     Bytes, Cause, DecodeError, Family, GreIOFlags, InfoData, InfoKind, InfoVxlan, Ip6TunnelFlags,
     IpVlanFlags, LinkInfo, LinkInfoWalk, Nlas, RmNetFlags, Text, ToVecError, VecLinkInfo, check,
+    check_at, first_unmet,
 };
 use std::error::Error;
 
@@ -66,11 +67,15 @@ fn texts_and_bytes() {
 fn errors_are_displayed() {
     let error: Box<dyn Error> = check(&VXLAN[12..]).unwrap_err().into();
     assert_eq!(error.to_string(), "linkinfo 2 order");
+    let second: Box<dyn Error> = first_unmet(&VXLAN, &VXLAN[12..]).unwrap_err().into();
+    assert_eq!(second.to_string(), "linkinfo 2 order");
+    let placed: Box<dyn Error> = check_at(&VXLAN[12..]).unwrap_err().into();
+    assert_eq!(placed.to_string(), "linkinfo 2 order");
     let unfit: Box<dyn Error> = ToVecError::Unfit.into();
     assert_eq!(unfit.to_string(), "unfit");
 }
 
-/// A walk gives each attribute, and stays at its end.
+/// A walk yields each attribute, and then stays at its end.
 #[test]
 fn walks_are_fused() {
     let mut walk = LinkInfoWalk::new(&VXLAN);

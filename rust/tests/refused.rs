@@ -1,22 +1,22 @@
-//! Each request for memory is refused in turn: a call then reports that memory ran out, and never
-//! aborts or panics; and where none is refused it returns its value.
+//! Each allocation fails in turn: a call then reports out of memory, and never aborts or panics.
+//! Where none fails, it returns its value.
 
 use linkinfo::{
     Bytes, CanonError, CanonIntoError, Cause, DecodeError, LinkInfoWalk, Text, ToVecError,
-    VecLinkInfo, canon, canon_into, check, check_placed, same,
+    VecLinkInfo, canon, canon_into, check, check_at, same,
 };
 use std::alloc::{GlobalAlloc, Layout, System};
 use std::cell::Cell;
 use std::ptr::null_mut;
 
 thread_local! {
-    /// How many requests of this thread are still granted, where some are to be refused.
+    /// How many allocations of this thread still succeed, where some shall fail.
     static GRANTED: Cell<Option<usize>> = const { Cell::new(None) };
-    /// How many were refused.
+    /// How many failed.
     static REFUSED: Cell<usize> = const { Cell::new(0) };
 }
 
-/// Whether the request is refused.
+/// Whether the allocation fails.
 fn is_refused() -> bool {
     match GRANTED.get() {
         None => false,
@@ -60,7 +60,7 @@ unsafe impl GlobalAlloc for Refusing {
 #[global_allocator]
 static ALLOCATOR: Refusing = Refusing;
 
-/// What the call returns where each request after the first ones is refused, and how many were.
+/// The result of the call where each allocation after the first ones fails, and how many failed.
 fn granting<T>(count: usize, call: impl FnOnce() -> T) -> (T, usize) {
     REFUSED.set(0);
     GRANTED.set(Some(count));
@@ -69,8 +69,8 @@ fn granting<T>(count: usize, call: impl FnOnce() -> T) -> (T, usize) {
     (result, REFUSED.get())
 }
 
-/// Refuses each request of the call in turn; then the result must be `memory`. Returns how many
-/// requests the call makes.
+/// Fails each allocation of the call in turn; then the result must be `memory`. Returns how many
+/// allocations the call makes.
 fn refuse_each<T: PartialEq>(call: impl Fn() -> T, is_memory: impl Fn(&T) -> bool) -> usize {
     let whole = call();
     for count in 0.. {
@@ -161,14 +161,14 @@ fn copies() {
     assert_eq!((text, bytes), (1, 1));
 }
 
-/// These calls make no request, so none is refused.
+/// These calls do not allocate, so nothing fails.
 #[test]
 fn without_memory() {
     for bytes in lists() {
         let mut buffer = vec![0; 65_536];
         let never = |_: &_| panic!("a request for memory");
         assert_eq!(refuse_each(|| check(&bytes), |_| false), 0);
-        assert_eq!(refuse_each(|| check_placed(&bytes), |_| false), 0);
+        assert_eq!(refuse_each(|| check_at(&bytes), |_| false), 0);
         assert_eq!(refuse_each(|| same(&bytes, &bytes), |_| false), 0);
         assert_eq!(refuse_each(|| LinkInfoWalk::new(&bytes).count(), never), 0);
         let (written, refused) = granting(0, || canon_into(&bytes, &mut buffer));

@@ -1,20 +1,23 @@
--- Behind the last attribute of a walk nothing is left: what was read is the list, with no more headers.
+-- After the last attribute of a walk nothing is left: what was parsed is the list, and no more
+-- headers are examined.
 use Rattle.std.proofs.Common.{◌≡◌, ℕ, List, [], append-nil, refl, sym, ap, ◌∙◌, Result, Ok, Err}
 use Rattle.std.specs.Prelude.{IsOk}
 use Rattle.nla_frame.specs.Answers.{verdict}
 use Rattle.nla_frame.specs.Attribute.{Attribute}
 use Rattle.nla_frame.specs.declared.error.DecodeError.{DecodeError}
 use Rattle.linkinfo_data.specs.Families.{Families}
-use Rattle.linkinfo_table.specs.Lists.{behind as front}
+use Rattle.linkinfo_table.specs.Lists.{append_to as front}
 use Rattle.linkinfo.specs.declared.link_info.LinkInfoOf.{LinkInfoOf}
-use Rattle.linkinfo.specs.declared.role.InForce.{InForce}
+use Rattle.linkinfo.specs.declared.role.CurrentKinds.{CurrentKinds}
 use Rattle.linkinfo.specs.Strings.{headers_from, values_from}
 
-module _ {P : Type 0} (peer : Families P) (t : InForce) (ps : List (Result Attribute ℕ)) (end : ps ≡ []) where
+module _ {P : Type 0} (peer : Families P) (t : CurrentKinds) (ps : List (Result Attribute ℕ))
+    (end : ps ≡ []) where
   abbrev read : List (LinkInfoOf P) → Result (List (LinkInfoOf P)) DecodeError
   read xs = Ok xs
 
-  pub read_end : (F : Result (List (LinkInfoOf P)) DecodeError) (zs : List (LinkInfoOf P)) → front zs (values_from peer t ps) ≡ F → F ≡ Ok zs
+  pub read_end : (F : Result (List (LinkInfoOf P)) DecodeError) (zs : List (LinkInfoOf P)) →
+      front zs (values_from peer t ps) ≡ F → F ≡ Ok zs
   read_end F zs inv =
       sym inv
       ∙ ap (λ (qs : List (Result Attribute ℕ)). front zs (values_from peer t qs)) end
@@ -23,7 +26,7 @@ module _ {P : Type 0} (peer : Families P) (t : InForce) (ps : List (Result Attri
   pub headers_end : headers_from peer t ps ≡ 0
   headers_end = ap (λ (qs : List (Result Attribute ℕ)). headers_from peer t qs) end
 
--- what was checked is accepted
+-- a byte string whose check succeeds is accepted
 pub verdict_ok : {X : Type 0} (m : Result X DecodeError) → Ok tt ≡ verdict m → IsOk m
 verdict_ok (Ok x) e = refl
 verdict_ok (Err d) e = absurd cc

@@ -1,6 +1,15 @@
+pub mod Differences
 pub mod Ending
 pub mod Items
+pub mod Meeting
+pub mod MetAlike
+pub mod MetInside
+pub mod MetLasts
+pub mod MetNames
+pub mod MetReordered
+pub mod MetStays
 pub mod Naming
+pub mod PairedData
 pub mod Pairs
 pub mod Pfcp
 pub mod Places

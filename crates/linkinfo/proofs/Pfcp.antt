@@ -1,5 +1,22 @@
--- What a family for `pfcp` changed: strings with data under it alone.
-use Rattle.std.specs.Prelude.{◌≡◌, ◌==◌, ℕ, ◌&&◌, Bool, true, false, if◌then◌else◌, List, [], ◌∷◌, Result, Ok, Err, IsOk, refl}
+-- What changed when `pfcp` gained a family: byte strings with data under it, and no others.
+use Rattle.std.specs.Prelude.{
+  ◌≡◌,
+  ◌==◌,
+  ℕ,
+  ◌&&◌,
+  Bool,
+  true,
+  false,
+  if◌then◌else◌,
+  List,
+  [],
+  ◌∷◌,
+  Result,
+  Ok,
+  Err,
+  IsOk,
+  refl,
+}
 use Rattle.std.proofs.Common.{sym, ap, subst, ◌∙◌}
 use Rattle.std.proofs.lemmas.Bool.{and_parts, eq-eqb, eqb-true}
 use Rattle.nla_frame.specs.Attribute.{Attribute, masked}
@@ -15,12 +32,19 @@ use Rattle.linkinfo_data.specs.declared.data.DataFamily.{DataFamily}
 use Rattle.linkinfo_data.specs.declared.data.DataFamily.TheVariants as of
 use Rattle.linkinfo_table.specs.Lists.{◌>>=◌, values_under, alike_under}
 use Rattle.linkinfo_table.specs.Rows.{alike_in, row_alike, row_meaning}
-use Rattle.linkinfo.specs.BeforePfcp.{is_pfcp, row_before, meaning_before, alike_before, is_pfcp_data, NoneIsPfcpData}
+use Rattle.linkinfo.specs.BeforePfcp.{
+  is_pfcp,
+  row_before,
+  meaning_before,
+  alike_before,
+  is_pfcp_data,
+  NoneIsPfcpData,
+}
 use Rattle.linkinfo.specs.Items.{data_row, link_alike, link_meaning, link_other, link_row}
 use Rattle.linkinfo.specs.Roles.{role_at}
-use Rattle.linkinfo.specs.Strings.{force_after, values_from, alike_from}
+use Rattle.linkinfo.specs.Strings.{next_kinds, values_from, alike_from}
 use Rattle.linkinfo.specs.declared.link_info.LinkInfoOf.{LinkInfoOf}
-use Rattle.linkinfo.specs.declared.role.InForce.{InForce}
+use Rattle.linkinfo.specs.declared.role.CurrentKinds.{CurrentKinds}
 use Rattle.linkinfo.specs.declared.role.Role.{Role}
 use Rattle.linkinfo.specs.declared.role.Role.TheVariants as role
 use Rattle.linkinfo.proofs.Items.{link_alike_after, role_alike_after, same_role}
@@ -35,8 +59,10 @@ pfcp_role (role.Data t) e = ap (λ (s : KindTag). let r : Role = role.Data s in 
 pfcp_role _ e = absurd cc
 
 module _ {P : Type 0} (peer : Families P) where
-  pub bytes_before : (t : InForce) (a : Attribute) → role_at t a ≡ role.Data tag.Pfcp → meaning_before peer t a ≡ Ok (info.Data (held.Other a.value))
-  bytes_before t a e = ap (λ (r : Role). row_meaning family.LinkInfo link_other (row_before peer r) a) e
+  pub bytes_before : (t : CurrentKinds) (a : Attribute) → role_at t a ≡ role.Data tag.Pfcp →
+      meaning_before peer t a ≡ Ok (info.Data (held.Other a.value))
+  bytes_before t a e =
+      ap (λ (r : Role). row_meaning family.LinkInfo link_other (row_before peer r) a) e
 
   means_by : DataFamily → Attribute → Result (LinkInfoOf P) DecodeError
   means_by f a = row_meaning family.LinkInfo link_other (data_row peer f) a
@@ -49,8 +75,11 @@ module _ {P : Type 0} (peer : Families P) where
   chosen false f e = refl
 
   role_means : (r : Role) (a : Attribute) → is_pfcp_data r ≡ false →
-      row_meaning family.LinkInfo link_other (link_row peer r) a ≡ row_meaning family.LinkInfo link_other (row_before peer r) a
-  role_means (role.Data t) a e = ap (λ (f : DataFamily). row_meaning family.LinkInfo link_other (data_row peer f) a) (sym (chosen (is_pfcp t) (family_of t) e))
+      row_meaning family.LinkInfo link_other (link_row peer r) a
+      ≡ row_meaning family.LinkInfo link_other (row_before peer r) a
+  role_means (role.Data t) a e =
+      ap (λ (f : DataFamily). row_meaning family.LinkInfo link_other (data_row peer f) a)
+      (sym (chosen (is_pfcp t) (family_of t) e))
   role_means role.Kind a e = refl
   role_means role.Xstats a e = refl
   role_means role.PortKind a e = refl
@@ -58,8 +87,11 @@ module _ {P : Type 0} (peer : Families P) where
   role_means role.Misplaced a e = refl
   role_means role.Unknown a e = refl
 
-  role_alike : (r : Role) (a b : Attribute) → is_pfcp_data r ≡ false → row_alike (link_row peer r) a b ≡ row_alike (row_before peer r) a b
-  role_alike (role.Data t) a b e = ap (λ (f : DataFamily). row_alike (data_row peer f) a b) (sym (chosen (is_pfcp t) (family_of t) e))
+  role_alike : (r : Role) (a b : Attribute) → is_pfcp_data r ≡ false →
+      row_alike (link_row peer r) a b ≡ row_alike (row_before peer r) a b
+  role_alike (role.Data t) a b e =
+      ap (λ (f : DataFamily). row_alike (data_row peer f) a b)
+      (sym (chosen (is_pfcp t) (family_of t) e))
   role_alike role.Kind a b e = refl
   role_alike role.Xstats a b e = refl
   role_alike role.PortKind a b e = refl
@@ -67,13 +99,16 @@ module _ {P : Type 0} (peer : Families P) where
   role_alike role.Misplaced a b e = refl
   role_alike role.Unknown a b e = refl
 
-  -- what is accepted was accepted
-  raw_or : (b : Bool) (f : DataFamily) (a : Attribute) → IsOk (row_meaning family.LinkInfo link_other (data_row peer f) a) →
+  -- what is accepted was accepted before
+  raw_or : (b : Bool) (f : DataFamily) (a : Attribute) →
+      IsOk (row_meaning family.LinkInfo link_other (data_row peer f) a) →
       IsOk (row_meaning family.LinkInfo link_other (data_row peer (if b then of.Raw else f)) a)
   raw_or true f a ok = refl
   raw_or false f a ok = ok
 
-  role_was : (r : Role) (a : Attribute) → IsOk (row_meaning family.LinkInfo link_other (link_row peer r) a) → IsOk (row_meaning family.LinkInfo link_other (row_before peer r) a)
+  role_was : (r : Role) (a : Attribute) →
+      IsOk (row_meaning family.LinkInfo link_other (link_row peer r) a) →
+      IsOk (row_meaning family.LinkInfo link_other (row_before peer r) a)
   role_was (role.Data t) a ok = raw_or (is_pfcp t) (family_of t) a ok
   role_was role.Kind a ok = ok
   role_was role.Xstats a ok = ok
@@ -82,69 +117,88 @@ module _ {P : Type 0} (peer : Families P) where
   role_was role.Misplaced a ok = ok
   role_was role.Unknown a ok = ok
 
-  was : (t : InForce) (a : Attribute) → IsOk (link_meaning peer t a) → IsOk (meaning_before peer t a)
-  was t a ok = role_was (role_at t a) a (subst (λ (m : Result (LinkInfoOf P) DecodeError). IsOk m) (meaning_is peer t a (role_at t a) refl) ok)
+  was : (t : CurrentKinds) (a : Attribute) → IsOk (link_meaning peer t a) →
+      IsOk (meaning_before peer t a)
+  was t a ok =
+      role_was (role_at t a) a (subst (λ (m : Result (LinkInfoOf P) DecodeError). IsOk m)
+      (meaning_is peer t a (role_at t a) refl) ok)
 
-  abbrev both : Result (LinkInfoOf P) DecodeError → Result (List (LinkInfoOf P)) DecodeError → Result (List (LinkInfoOf P)) DecodeError
+  abbrev both : Result (LinkInfoOf P) DecodeError → Result (List (LinkInfoOf P)) DecodeError →
+      Result (List (LinkInfoOf P)) DecodeError
   both m v = m >>= λ x. v >>= λ xs. Ok (x ∷ xs)
 
-  first_of_both : (m : Result (LinkInfoOf P) DecodeError) (v : Result (List (LinkInfoOf P)) DecodeError) → IsOk (both m v) → IsOk m
+  first_of_both : (m : Result (LinkInfoOf P) DecodeError)
+      (v : Result (List (LinkInfoOf P)) DecodeError) → IsOk (both m v) → IsOk m
   first_of_both (Ok x) v e = refl
   first_of_both (Err d) v e = absurd cc
 
-  rest_of_both : (m : Result (LinkInfoOf P) DecodeError) (v : Result (List (LinkInfoOf P)) DecodeError) → IsOk (both m v) → IsOk v
+  rest_of_both : (m : Result (LinkInfoOf P) DecodeError)
+      (v : Result (List (LinkInfoOf P)) DecodeError) → IsOk (both m v) → IsOk v
   rest_of_both (Ok x) (Ok xs) e = refl
   rest_of_both (Ok x) (Err d) e = absurd cc
   rest_of_both (Err d) v e = absurd cc
 
-  both_ok : (m : Result (LinkInfoOf P) DecodeError) (v : Result (List (LinkInfoOf P)) DecodeError) → IsOk m → IsOk v → IsOk (both m v)
+  both_ok : (m : Result (LinkInfoOf P) DecodeError) (v : Result (List (LinkInfoOf P)) DecodeError) →
+      IsOk m → IsOk v → IsOk (both m v)
   both_ok (Ok x) (Ok xs) h k = refl
   both_ok (Ok x) (Err d) h k = absurd cc
   both_ok (Err d) v h k = absurd cc
 
-  pub accepted_before : (t : InForce) (ps : List (Result Attribute ℕ)) → IsOk (values_from peer t ps) → IsOk (values_under (meaning_before peer) force_after t ps)
+  pub accepted_before : (t : CurrentKinds) (ps : List (Result Attribute ℕ)) →
+      IsOk (values_from peer t ps) → IsOk (values_under (meaning_before peer) next_kinds t ps)
   accepted_before t [] e = refl
   accepted_before t ((Err n) ∷ more) e = absurd cc
   accepted_before t ((Ok a) ∷ more) e =
-      both_ok (meaning_before peer t a) (values_under (meaning_before peer) force_after (force_after t a) more)
-      (was t a (first_of_both (link_meaning peer t a) (values_from peer (force_after t a) more) e))
-      (accepted_before (force_after t a) more (rest_of_both (link_meaning peer t a) (values_from peer (force_after t a) more) e))
+      both_ok (meaning_before peer t a)
+      (values_under (meaning_before peer) next_kinds (next_kinds t a) more)
+      (was t a (first_of_both (link_meaning peer t a) (values_from peer (next_kinds t a) more) e))
+      (accepted_before (next_kinds t a) more
+      (rest_of_both (link_meaning peer t a) (values_from peer (next_kinds t a) more) e))
 
-  -- without data under `pfcp` nothing else is read
-  means_same : (t : InForce) (a : Attribute) → is_pfcp_data (role_at t a) ≡ false → link_meaning peer t a ≡ meaning_before peer t a
+  -- without data under `pfcp` nothing else is parsed
+  means_same : (t : CurrentKinds) (a : Attribute) → is_pfcp_data (role_at t a) ≡ false →
+      link_meaning peer t a ≡ meaning_before peer t a
   means_same t a e = meaning_is peer t a (role_at t a) refl ∙ role_means (role_at t a) a e
 
-  pub read_before : (t : InForce) (ps : List (Result Attribute ℕ)) → NoneIsPfcpData t ps → values_from peer t ps ≡ values_under (meaning_before peer) force_after t ps
+  pub read_before : (t : CurrentKinds) (ps : List (Result Attribute ℕ)) → NoneIsPfcpData t ps →
+      values_from peer t ps ≡ values_under (meaning_before peer) next_kinds t ps
   read_before t [] e = refl
   read_before t ((Err n) ∷ more) e = refl
   read_before t ((Ok a) ∷ more) e =
-      ap (λ (m : Result (LinkInfoOf P) DecodeError). both m (values_from peer (force_after t a) more)) (means_same t a e.0)
-      ∙ ap (λ (v : Result (List (LinkInfoOf P)) DecodeError). both (meaning_before peer t a) v) (read_before (force_after t a) more e.1)
+      ap (λ (m : Result (LinkInfoOf P) DecodeError).
+      both m (values_from peer (next_kinds t a) more)) (means_same t a e.0)
+      ∙ ap (λ (v : Result (List (LinkInfoOf P)) DecodeError). both (meaning_before peer t a) v)
+      (read_before (next_kinds t a) more e.1)
 
-  link_alike_is : (t : InForce) (a b : Attribute) → link_alike peer t a b ≡ row_alike (link_row peer (role_at t a)) a b
+  link_alike_is : (t : CurrentKinds) (a b : Attribute) →
+      link_alike peer t a b ≡ row_alike (link_row peer (role_at t a)) a b
   unfolding alike_in
   link_alike_is t a b = refl
 
-  alike_same : (t : InForce) (a b : Attribute) → is_pfcp_data (role_at t a) ≡ false → link_alike peer t a b ≡ alike_before peer t a b
+  alike_same : (t : CurrentKinds) (a b : Attribute) → is_pfcp_data (role_at t a) ≡ false →
+      link_alike peer t a b ≡ alike_before peer t a b
   alike_same t a b e = link_alike_is t a b ∙ role_alike (role_at t a) a b e
 
-  pub alike_first : (t : InForce) (ps qs : List (Result Attribute ℕ)) → NoneIsPfcpData t ps →
-      alike_from peer t ps qs ≡ alike_under (alike_before peer) force_after t ps qs
+  pub alike_first : (t : CurrentKinds) (ps qs : List (Result Attribute ℕ)) → NoneIsPfcpData t ps →
+      alike_from peer t ps qs ≡ alike_under (alike_before peer) next_kinds t ps qs
   alike_first t [] [] e = refl
   alike_first t [] (q ∷ qs) e = refl
   alike_first t (p ∷ ps) [] e = alike_none p ps e
     where
-      alike_none : (p : Result Attribute ℕ) (ps : List (Result Attribute ℕ)) → NoneIsPfcpData t (p ∷ ps) →
-          alike_from peer t (p ∷ ps) [] ≡ alike_under (alike_before peer) force_after t (p ∷ ps) []
+      alike_none : (p : Result Attribute ℕ) (ps : List (Result Attribute ℕ)) →
+          NoneIsPfcpData t (p ∷ ps) →
+          alike_from peer t (p ∷ ps) [] ≡ alike_under (alike_before peer) next_kinds t (p ∷ ps) []
       alike_none p ps e = refl
   alike_first t ((Ok a) ∷ ps) ((Ok b) ∷ qs) e =
-      ap (λ (h : Bool). h && alike_from peer (force_after t a) ps qs) (alike_same t a b e.0)
-      ∙ ap (λ (h : Bool). alike_before peer t a b && h) (alike_first (force_after t a) ps qs e.1)
+      ap (λ (h : Bool). h && alike_from peer (next_kinds t a) ps qs) (alike_same t a b e.0)
+      ∙ ap (λ (h : Bool). alike_before peer t a b && h) (alike_first (next_kinds t a) ps qs e.1)
   alike_first t ((Ok a) ∷ ps) ((Err n) ∷ qs) e = refl
   alike_first t ((Err n) ∷ ps) (q ∷ qs) e = refl
 
-  -- the same where it stands second: attributes of different types are alike in neither
-  before_typed : (r : Role) (t : InForce) (a b : Attribute) → row_alike (row_before peer r) a b ≡ true → masked b.kind ≡ masked a.kind
+  -- equivalent attributes had one type before too, so data under `pfcp` as the second attribute
+  -- changes nothing
+  before_typed : (r : Role) (t : CurrentKinds) (a b : Attribute) →
+      row_alike (row_before peer r) a b ≡ true → masked b.kind ≡ masked a.kind
   before_typed (role.Data s) t a b h = eqb-true _ _ (and_parts _ _ h).0
   before_typed role.Kind t a b h = (role_alike_after peer role.Kind t a b h).0
   before_typed role.Xstats t a b h = (role_alike_after peer role.Xstats t a b h).0
@@ -164,11 +218,14 @@ module _ {P : Type 0} (peer : Families P) where
       false_true : (let f : Bool = false in f ≡ true) → ⊥
       false_true e = absurd cc
 
-  alike_same_second : (t : InForce) (a b : Attribute) → is_pfcp_data (role_at t b) ≡ false → link_alike peer t a b ≡ alike_before peer t a b
+  alike_same_second : (t : CurrentKinds) (a b : Attribute) → is_pfcp_data (role_at t b) ≡ false →
+      link_alike peer t a b ≡ alike_before peer t a b
   alike_same_second t a b e = go (masked b.kind == masked a.kind) refl
     where
-      go : (s : Bool) → (masked b.kind == masked a.kind) ≡ s → link_alike peer t a b ≡ alike_before peer t a b
-      go true h = alike_same t a b (ap is_pfcp_data (sym (same_role peer t a b (eqb-true _ _ h))) ∙ e)
+      go : (s : Bool) → (masked b.kind == masked a.kind) ≡ s →
+          link_alike peer t a b ≡ alike_before peer t a b
+      go true h =
+          alike_same t a b (ap is_pfcp_data (sym (same_role peer t a b (eqb-true _ _ h))) ∙ e)
       go false h =
           let apart : masked b.kind ≡ masked a.kind → ⊥ = λ k. differ _ _ h k in
           neither (link_alike peer t a b) (alike_before peer t a b)
@@ -179,17 +236,19 @@ module _ {P : Type 0} (peer : Families P) where
   where_true false x y e = refl
   where_true true x y e = e refl
 
-  pub alike_second : (t : InForce) (ps qs : List (Result Attribute ℕ)) → NoneIsPfcpData t qs →
-      alike_from peer t ps qs ≡ alike_under (alike_before peer) force_after t ps qs
+  pub alike_second : (t : CurrentKinds) (ps qs : List (Result Attribute ℕ)) → NoneIsPfcpData t qs →
+      alike_from peer t ps qs ≡ alike_under (alike_before peer) next_kinds t ps qs
   alike_second t [] [] e = refl
   alike_second t [] (q ∷ qs) e = refl
   alike_second t ((Ok a) ∷ ps) [] e = refl
   alike_second t ((Err n) ∷ ps) [] e = refl
   alike_second t ((Ok a) ∷ ps) ((Ok b) ∷ qs) e =
-      ap (λ (h : Bool). h && alike_from peer (force_after t a) ps qs) (alike_same_second t a b e.0)
-      ∙ where_true (alike_before peer t a b) (alike_from peer (force_after t a) ps qs) (alike_under (alike_before peer) force_after (force_after t a) ps qs)
+      ap (λ (h : Bool). h && alike_from peer (next_kinds t a) ps qs) (alike_same_second t a b e.0)
+      ∙ where_true (alike_before peer t a b) (alike_from peer (next_kinds t a) ps qs)
+      (alike_under (alike_before peer) next_kinds (next_kinds t a) ps qs)
       (λ h.
       let same = link_alike_after peer t a b (alike_same_second t a b e.0 ∙ h) in
-      alike_second (force_after t a) ps qs (subst (λ (u : InForce). NoneIsPfcpData u qs) (sym same) e.1))
+      alike_second (next_kinds t a) ps qs
+      (subst (λ (u : CurrentKinds). NoneIsPfcpData u qs) (sym same) e.1))
   alike_second t ((Ok a) ∷ ps) ((Err n) ∷ qs) e = refl
   alike_second t ((Err n) ∷ ps) (q ∷ qs) e = refl

@@ -1,4 +1,4 @@
--- A list is well formed exactly where each value meets the conditions of its variant, under the
+-- A list is well formed if and only if each value meets the conditions of its variant, under the
 -- current kinds before it.
 use Rattle.std.specs.Prelude.{◌≡◌, ◌≢◌, ◌↔◌, ℕ, zero, suc, ◌<◌, List, [], ◌∷◌, Option, Some, None}
 use Rattle.std.specs.Prelude.{refl}
@@ -19,12 +19,12 @@ use Rattle.linkinfo_data.specs.PortData.{port_family_of}
 use Rattle.linkinfo_data.specs.declared.info_data.InfoDataOf.{InfoDataOf}
 use Rattle.linkinfo_data.specs.declared.port_data.InfoPortData.{InfoPortData}
 use Rattle.linkinfo.specs.Items.{link_other, link_row, link_well}
-use Rattle.linkinfo.specs.Roles.{none_in_force, role_of, role_under}
-use Rattle.linkinfo.specs.Strings.{WellFormed as WellFormedList, force_behind}
+use Rattle.linkinfo.specs.Roles.{no_kinds, role_of, role_under}
+use Rattle.linkinfo.specs.Strings.{WellFormed as WellFormedList, kinds_after_value}
 use Rattle.linkinfo.specs.Xstats.{xstats_bytes}
 use Rattle.linkinfo.specs.declared.link_info.LinkInfoOf.{LinkInfoOf}
 use Rattle.linkinfo.specs.declared.link_info.LinkInfoOf.TheVariants as info
-use Rattle.linkinfo.specs.declared.role.InForce.{InForce}
+use Rattle.linkinfo.specs.declared.role.CurrentKinds.{CurrentKinds}
 use Rattle.linkinfo.specs.declared.role.Role.{Role}
 use Rattle.linkinfo.specs.declared.role.Role.TheVariants as role
 use Rattle.linkinfo.specs.declared.xstats.LinkXstats.{LinkXstats}
@@ -101,7 +101,7 @@ module _ {P : Type 0} (peer : Families P) (well : P → Type 0) (stated : AreSta
   under_known (Some tag) at known = known tag
   under_known None at known = λ e. cc
 
-  abbrev IsUnknownStated : InForce → ℕ → DefaultNla → Type 0
+  abbrev IsUnknownStated : CurrentKinds → ℕ → DefaultNla → Type 0
   IsUnknownStated t n d = IsWell (role_of t n) (info.Other d) ↔
       ((d.kind < 65536) × IsBytes d.value × IsUnnamed n)
 
@@ -122,7 +122,7 @@ module _ {P : Type 0} (peer : Families P) (well : P → Type 0) (stated : AreSta
     λ h. (d, h.0, h.1, refl),
   )
 
-  unknown_stated : (t : InForce) (n : ℕ) (d : DefaultNla) → IsUnknownStated t n d
+  unknown_stated : (t : CurrentKinds) (n : ℕ) (d : DefaultNla) → IsUnknownStated t n d
   unfolding role_of
   unknown_stated t zero d = kept_stated 0 d (λ e. cc, λ e. cc, λ e. cc, λ e. cc, λ e. cc)
   unknown_stated t (suc zero) d = named_stated role.Kind 1 d (λ e. cc) (λ h. h.0 refl)
@@ -143,7 +143,8 @@ module _ {P : Type 0} (peer : Families P) (well : P → Type 0) (stated : AreSta
       ((d.kind < 65536) × IsBytes d.value × IsUnnamed k)) (sym (unknown_from_six t n))
       (kept_stated k d (λ e. cc, λ e. cc, λ e. cc, λ e. cc, λ e. cc))
 
-  pub item_stated : (t : InForce) (x : LinkInfoOf P) → link_well peer t x ↔ item_conditions well t x
+  pub item_stated : (t : CurrentKinds) (x : LinkInfoOf P) → link_well peer t x
+      ↔ item_conditions well t x
   unfolding WellFormed role_of kind_of_name port_kind_of_name
   item_stated t = elim [
     | info.Kind k ↦ table_label kind_table_holds IsText (λ y. info.Kind y) (item_conditions well t)
@@ -156,14 +157,14 @@ module _ {P : Type 0} (peer : Families P) (well : P → Type 0) (stated : AreSta
     | info.Other d ↦ unknown_stated t (masked d.kind) d
   ]
 
-  under_stated : (t : InForce) (xs : List (LinkInfoOf P)) →
-      well_under (link_well peer) force_behind t xs ↔
-      well_under (item_conditions well) force_behind t xs
+  under_stated : (t : CurrentKinds) (xs : List (LinkInfoOf P)) →
+      well_under (link_well peer) kinds_after_value t xs ↔
+      well_under (item_conditions well) kinds_after_value t xs
   under_stated t [] = (λ h. tt, λ h. tt)
   under_stated t (x ∷ xs) = (
-    λ h. ((item_stated t x).0 h.0, (under_stated (force_behind t x) xs).0 h.1),
-    λ h. ((item_stated t x).1 h.0, (under_stated (force_behind t x) xs).1 h.1),
+    λ h. ((item_stated t x).0 h.0, (under_stated (kinds_after_value t x) xs).0 h.1),
+    λ h. ((item_stated t x).1 h.0, (under_stated (kinds_after_value t x) xs).1 h.1),
   )
 
   pub list_stated : (xs : List (LinkInfoOf P)) → WellFormedList peer xs ↔ Conditions well xs
-  list_stated xs = under_stated none_in_force xs
+  list_stated xs = under_stated no_kinds xs

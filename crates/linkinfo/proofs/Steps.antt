@@ -1,43 +1,90 @@
--- One step of a walk, as the values, headers and memory of what it has not gone over.
-use Rattle.std.proofs.Common.{◌≡◌, ℕ, ◌+◌, ◌*◌, ◌≤◌, Bool, true, false, ◌||◌, List, [], ◌∷◌, ◌++◌, length, append_assoc, refl, sym, ap, ◌∙◌, arith, Result, Ok, Err}
+-- One step of a walk, as the values, the headers and the memory of what it has not visited.
+use Rattle.std.proofs.Common.{
+  ◌≡◌,
+  ℕ,
+  ◌+◌,
+  ◌*◌,
+  ◌≤◌,
+  Bool,
+  true,
+  false,
+  ◌||◌,
+  List,
+  [],
+  ◌∷◌,
+  ◌++◌,
+  length,
+  append_assoc,
+  refl,
+  sym,
+  ap,
+  ◌∙◌,
+  arith,
+  Result,
+  Ok,
+  Err,
+}
 use Rattle.std.specs.Prelude.{◌≢◌, is_ok, IsOk}
 use Rattle.nla_frame.specs.Answers.{verdict}
 use Rattle.nla_frame.specs.Attribute.{Attribute, IsAttribute}
-use Rattle.nla_frame.specs.Error.{memory_fault}
-use Rattle.nla_frame.specs.Pieces.{pieces, seen}
+use Rattle.nla_frame.specs.Error.{memory_error}
+use Rattle.nla_frame.specs.NlaItems.{nla_items, seen}
 use Rattle.nla_frame.specs.declared.error.Family.TheVariants as family
 use Rattle.nla_frame.specs.declared.error.DecodeError.{DecodeError}
 use Rattle.linkinfo_numbers.specs.Kind.{kind_of_name}
 use Rattle.linkinfo_numbers.specs.PortKind.{port_kind_of_name}
 use Rattle.linkinfo_data.specs.Families.{Families}
-use Rattle.linkinfo_table.specs.Lists.{◌>>=◌, if_read, behind as front}
-use Rattle.linkinfo_table.specs.Rows.{meaning_in, headers_inside, memory_in, row_meaning, row_headers, row_needs_memory}
+use Rattle.linkinfo_table.specs.Lists.{◌>>=◌, if_read, append_to as front}
+use Rattle.linkinfo_table.specs.Rows.{
+  meaning_in,
+  headers_inside,
+  memory_in,
+  row_meaning,
+  row_headers,
+  row_needs_memory,
+}
 use Rattle.linkinfo.specs.declared.link_info.LinkInfoOf.{LinkInfoOf}
 use Rattle.linkinfo.specs.declared.link_info.LinkInfoOf.TheVariants as info
-use Rattle.linkinfo.specs.declared.role.InForce.{InForce}
+use Rattle.linkinfo.specs.declared.role.CurrentKinds.{CurrentKinds}
 use Rattle.linkinfo.specs.declared.role.Role.{Role}
 use Rattle.linkinfo.specs.declared.role.Role.TheVariants as role
-use Rattle.linkinfo.specs.Items.{link_other, link_row, link_meaning, link_headers, link_needs_memory}
-use Rattle.linkinfo.specs.Roles.{behind, behind_role, name_meaning, none_in_force, role_at, with_name}
-use Rattle.linkinfo.specs.Strings.{or_stay, force_after, values_from, headers_from, memory_from}
-use Rattle.linkinfo.specs.Walks.{LinkWalk, left, Enters, FaultOf, Stops}
+use Rattle.linkinfo.specs.Items.{
+  link_other,
+  link_row,
+  link_meaning,
+  link_headers,
+  link_needs_memory,
+}
+use Rattle.linkinfo.specs.Roles.{
+  kinds_after,
+  kinds_after_role,
+  name_meaning,
+  no_kinds,
+  role_at,
+  with_name,
+}
+use Rattle.linkinfo.specs.Strings.{or_stay, next_kinds, values_from, headers_from, memory_from}
+use Rattle.linkinfo.specs.Walks.{LinkWalk, left, Enters, ErrorOf, Stops}
 use Rattle.linkinfo.proofs.Naming.{named_err, not_both}
 
--- the kinds in force behind an attribute without a fault of its own
-pub after_is : (t u : InForce) (a : Attribute) → behind t a ≡ Ok u → force_after t a ≡ u
-unfolding force_after
-after_is t u a e = ap (λ (r : Result InForce DecodeError). or_stay t r) e
+-- the current kinds after an attribute without an error of its own
+pub after_is : (t u : CurrentKinds) (a : Attribute) → kinds_after t a ≡ Ok u → next_kinds t a ≡ u
+unfolding next_kinds
+after_is t u a e = ap (λ (r : Result CurrentKinds DecodeError). or_stay t r) e
 
--- whether an attribute has a fault of its own depends on its role alone
-pub entered_any : (r : Role) (t u : InForce) (a : Attribute) → behind_role r t a ≡ Ok u → IsOk (behind_role r none_in_force a)
+-- whether an attribute has an error of its own depends on its role alone
+pub entered_any : (r : Role) (t u : CurrentKinds) (a : Attribute) → kinds_after_role r t a ≡ Ok u →
+    IsOk (kinds_after_role r no_kinds a)
 entered_any role.Kind t u a e = go (name_meaning a) _ _ e
   where
-    go : (n : Result (List ℕ) DecodeError) (f g : List ℕ → InForce) → with_name n f ≡ Ok u → IsOk (with_name n g)
+    go : (n : Result (List ℕ) DecodeError) (f g : List ℕ → CurrentKinds) → with_name n f ≡ Ok u →
+        IsOk (with_name n g)
     go (Ok name) f g h = refl
     go (Err d) f g h = absurd cc
 entered_any role.PortKind t u a e = go (name_meaning a) _ _ e
   where
-    go : (n : Result (List ℕ) DecodeError) (f g : List ℕ → InForce) → with_name n f ≡ Ok u → IsOk (with_name n g)
+    go : (n : Result (List ℕ) DecodeError) (f g : List ℕ → CurrentKinds) → with_name n f ≡ Ok u →
+        IsOk (with_name n g)
     go (Ok name) f g h = refl
     go (Err d) f g h = absurd cc
 entered_any role.Misplaced t u a e = absurd cc
@@ -47,161 +94,230 @@ module _ {P : Type 0} (peer : Families P) where
   abbrev pub meant : Role → Attribute → Result (LinkInfoOf P) DecodeError
   meant r a = row_meaning family.LinkInfo link_other (link_row peer r) a
 
-  pub meaning_is : (t : InForce) (a : Attribute) (r : Role) → r ≡ role_at t a → link_meaning peer t a ≡ meant r a
+  pub meaning_is : (t : CurrentKinds) (a : Attribute) (r : Role) → r ≡ role_at t a →
+      link_meaning peer t a ≡ meant r a
   unfolding meaning_in
   meaning_is t a r e = ap (λ (s : Role). meant s a) (sym e)
 
-  pub headers_is : (t : InForce) (a : Attribute) (r : Role) → r ≡ role_at t a → link_headers peer t a ≡ row_headers (link_row peer r) a
+  pub headers_is : (t : CurrentKinds) (a : Attribute) (r : Role) → r ≡ role_at t a →
+      link_headers peer t a ≡ row_headers (link_row peer r) a
   unfolding headers_inside
   headers_is t a r e = ap (λ (s : Role). row_headers (link_row peer s) a) (sym e)
 
-  memory_is : (t : InForce) (a : Attribute) (r : Role) → r ≡ role_at t a → link_needs_memory peer t a ≡ row_needs_memory (link_row peer r) a
+  memory_is : (t : CurrentKinds) (a : Attribute) (r : Role) → r ≡ role_at t a →
+      link_needs_memory peer t a ≡ row_needs_memory (link_row peer r) a
   unfolding memory_in
   memory_is t a r e = ap (λ (s : Role). row_needs_memory (link_row peer s) a) (sym e)
 
   -- a step to an attribute
   pub record Entered (s : LinkWalk) (a : Attribute) (r : Role) (t : LinkWalk) : Type 0 where
-    pub values : values_from peer s.force (pieces (left s)) ≡ (meant r a >>= λ x. values_from peer t.force (pieces (left t)) >>= λ xs. Ok (x ∷ xs))
-    pub headers : headers_from peer s.force (pieces (left s)) ≡ 1 + (row_headers (link_row peer r) a + if_read (meant r a) (headers_from peer t.force (pieces (left t))))
-    pub memory : memory_from peer s.force (pieces (left s)) ≡ (row_needs_memory (link_row peer r) a || is_ok (meant r a))
-    pub clean : IsOk (behind_role r none_in_force a)
-    pub behind : behind_role r s.force a ≡ Ok t.force
+    pub values : values_from peer s.kinds (nla_items (left s))
+        ≡ (meant r a >>= λ x. values_from peer t.kinds (nla_items (left t)) >>= λ xs. Ok (x ∷ xs))
+    pub headers : headers_from peer s.kinds (nla_items (left s))
+        ≡ 1 + (row_headers (link_row peer r) a
+        + if_read (meant r a) (headers_from peer t.kinds (nla_items (left t))))
+    pub memory : memory_from peer s.kinds (nla_items (left s))
+        ≡ (row_needs_memory (link_row peer r) a || is_ok (meant r a))
+    pub clean : IsOk (kinds_after_role r no_kinds a)
+    pub kinds_after : kinds_after_role r s.kinds a ≡ Ok t.kinds
     pub attribute : IsAttribute a
     pub examined : t.attributes.examined ≡ s.attributes.examined + 1
     pub room : length (left t) + (4 + length a.value) ≤ length (left s)
 
-  pub entered : (s : LinkWalk) (a : Attribute) (r : Role) (t : LinkWalk) → Enters s a r t → Entered s a r t
+  pub entered : (s : LinkWalk) (a : Attribute) (r : Role) (t : LinkWalk) → Enters s a r t →
+      Entered s a r t
   entered s a r t h =
-      let after = after_is s.force t.force a h.behind in
-      let means = meaning_is s.force a r h.role in
-      let more : List (Result Attribute ℕ) = pieces (left t) in
-      let behind_is = ap (λ (q : Role). behind_role q s.force a) h.role ∙ h.behind in
+      let after = after_is s.kinds t.kinds a h.kinds_after in
+      let means = meaning_is s.kinds a r h.role in
+      let more : List (Result Attribute ℕ) = nla_items (left t) in
+      let kinds_after_is = ap (λ (q : Role). kinds_after_role q s.kinds a) h.role ∙ h.kinds_after in
       record {
         values =
-            ap (λ (ps : List (Result Attribute ℕ)). values_from peer s.force ps) h.pieces_are
-            ∙ ap (λ (m : Result (LinkInfoOf P) DecodeError). m >>= λ x. values_from peer (force_after s.force a) more >>= λ xs. Ok (x ∷ xs)) means
-            ∙ ap (λ (u : InForce). meant r a >>= λ x. values_from peer u more >>= λ xs. Ok (x ∷ xs)) after;
+            ap (λ (ps : List (Result Attribute ℕ)). values_from peer s.kinds ps) h.nla_items_are
+            ∙ ap (λ (m : Result (LinkInfoOf P) DecodeError). m
+            >>= λ x. values_from peer (next_kinds s.kinds a) more >>= λ xs. Ok (x ∷ xs)) means
+            ∙ ap
+            (λ (u : CurrentKinds). meant r a >>= λ x. values_from peer u more >>= λ xs. Ok (x ∷ xs))
+            after;
         headers =
-            ap (λ (ps : List (Result Attribute ℕ)). headers_from peer s.force ps) h.pieces_are
-            ∙ ap (λ (m : Result (LinkInfoOf P) DecodeError). 1 + (link_headers peer s.force a + if_read m (headers_from peer (force_after s.force a) more))) means
-            ∙ ap (λ (n : ℕ). 1 + (n + if_read (meant r a) (headers_from peer (force_after s.force a) more))) (headers_is s.force a r h.role)
-            ∙ ap (λ (u : InForce). 1 + (row_headers (link_row peer r) a + if_read (meant r a) (headers_from peer u more))) after;
+            ap (λ (ps : List (Result Attribute ℕ)). headers_from peer s.kinds ps) h.nla_items_are
+            ∙ ap (λ (m : Result (LinkInfoOf P) DecodeError). 1
+            + (link_headers peer s.kinds a
+            + if_read m (headers_from peer (next_kinds s.kinds a) more))) means
+            ∙ ap (λ (n : ℕ). 1
+            + (n + if_read (meant r a) (headers_from peer (next_kinds s.kinds a) more)))
+            (headers_is s.kinds a r h.role)
+            ∙ ap (λ (u : CurrentKinds). 1
+            + (row_headers (link_row peer r) a + if_read (meant r a) (headers_from peer u more)))
+            after;
         memory =
-            ap (λ (ps : List (Result Attribute ℕ)). memory_from peer s.force ps) h.pieces_are
-            ∙ ap (λ (m : Result (LinkInfoOf P) DecodeError). link_needs_memory peer s.force a || is_ok m) means
-            ∙ ap (λ (n : Bool). n || is_ok (meant r a)) (memory_is s.force a r h.role);
-        clean = entered_any r s.force t.force a behind_is;
-        behind = behind_is;
+            ap (λ (ps : List (Result Attribute ℕ)). memory_from peer s.kinds ps) h.nla_items_are
+            ∙ ap (λ (m : Result (LinkInfoOf P) DecodeError). link_needs_memory peer s.kinds a
+            || is_ok m) means
+            ∙ ap (λ (n : Bool). n || is_ok (meant r a)) (memory_is s.kinds a r h.role);
+        clean = entered_any r s.kinds t.kinds a kinds_after_is;
+        kinds_after = kinds_after_is;
         attribute = h.attribute;
         examined = h.examined;
         room = h.room;
       }
 
-  -- an attribute's own fault is what it means
-  pub own_fault_is : (r : Role) (t : InForce) (a : Attribute) (e : DecodeError) → behind_role r t a ≡ Err e → (meant r a ≡ Err e) × (row_headers (link_row peer r) a ≡ 0)
-  own_fault_is role.Kind t a e h = (named_err (λ name. info.Kind (kind_of_name name)) a e (go (name_meaning a) _ h), refl)
+  -- an error of an attribute itself is what the attribute means
+  pub own_error_is : (r : Role) (t : CurrentKinds) (a : Attribute) (e : DecodeError) →
+      kinds_after_role r t a ≡ Err e → (meant r a ≡ Err e) × (row_headers (link_row peer r) a ≡ 0)
+  own_error_is role.Kind t a e h = (
+    named_err (λ name. info.Kind (kind_of_name name)) a e (go (name_meaning a) _ h),
+    refl,
+  )
     where
-      go : (n : Result (List ℕ) DecodeError) (f : List ℕ → InForce) → with_name n f ≡ Err e → n ≡ Err e
+      go : (n : Result (List ℕ) DecodeError) (f : List ℕ → CurrentKinds) → with_name n f ≡ Err e →
+          n ≡ Err e
       go (Ok name) f k = absurd cc
       go (Err d) f k = cc
-  own_fault_is role.PortKind t a e h = (named_err (λ name. info.PortKind (port_kind_of_name name)) a e (go (name_meaning a) _ h), refl)
+  own_error_is role.PortKind t a e h = (
+    named_err (λ name. info.PortKind (port_kind_of_name name)) a e (go (name_meaning a) _ h),
+    refl,
+  )
     where
-      go : (n : Result (List ℕ) DecodeError) (f : List ℕ → InForce) → with_name n f ≡ Err e → n ≡ Err e
+      go : (n : Result (List ℕ) DecodeError) (f : List ℕ → CurrentKinds) → with_name n f ≡ Err e →
+          n ≡ Err e
       go (Ok name) f k = absurd cc
       go (Err d) f k = cc
-  own_fault_is role.Misplaced t a e h = (cc, refl)
-  own_fault_is _ t a e h = absurd cc
+  own_error_is role.Misplaced t a e h = (cc, refl)
+  own_error_is _ t a e h = absurd cc
 
-  -- the fault at which a walk stops
+  -- the error at which a walk stops
   pub record Stopped (s : LinkWalk) (e : DecodeError) (t : LinkWalk) : Type 0 where
-    pub values : values_from peer s.force (pieces (left s)) ≡ Err e
-    pub headers : t.attributes.examined ≡ s.attributes.examined + headers_from peer s.force (pieces (left s))
+    pub values : values_from peer s.kinds (nla_items (left s)) ≡ Err e
+    pub headers : t.attributes.examined
+        ≡ s.attributes.examined + headers_from peer s.kinds (nla_items (left s))
     pub room : 4 * t.attributes.examined ≤ 4 * s.attributes.examined + length (left s)
 
-  fault_is : (t : InForce) (ps : List (Result Attribute ℕ)) (e : DecodeError) (n : ℕ) → FaultOf t ps e n → (values_from peer t ps ≡ Err e) × (headers_from peer t ps ≡ n)
-  fault_is t [] e n h = absurd h
-  fault_is t ((Err k) ∷ more) e n h = (ap (λ (d : DecodeError). let r : Result (List (LinkInfoOf P)) DecodeError = Err d in r) (sym h.0), sym h.1)
-  fault_is t ((Ok a) ∷ more) e n h =
-      let own = own_fault_is (role_at t a) t a e h.0 in
+  error_is : (t : CurrentKinds) (ps : List (Result Attribute ℕ)) (e : DecodeError) (n : ℕ) →
+      ErrorOf t ps e n → (values_from peer t ps ≡ Err e) × (headers_from peer t ps ≡ n)
+  error_is t [] e n h = absurd h
+  error_is t ((Err k) ∷ more) e n h = (
+    ap (λ (d : DecodeError). let r : Result (List (LinkInfoOf P)) DecodeError = Err d in r)
+        (sym h.0),
+    sym h.1,
+  )
+  error_is t ((Ok a) ∷ more) e n h =
+      let own = own_error_is (role_at t a) t a e h.0 in
       let means = meaning_is t a (role_at t a) refl ∙ own.0 in
       let none = headers_is t a (role_at t a) refl ∙ own.1 in (
-        ap (λ (m : Result (LinkInfoOf P) DecodeError). m >>= λ x. values_from peer (force_after t a) more >>= λ xs. Ok (x ∷ xs)) means,
-        ap (λ (m : Result (LinkInfoOf P) DecodeError). 1 + (link_headers peer t a + if_read m (headers_from peer (force_after t a) more))) means
+        ap (λ (m : Result (LinkInfoOf P) DecodeError). m
+            >>= λ x. values_from peer (next_kinds t a) more >>= λ xs. Ok (x ∷ xs)) means,
+        ap (λ (m : Result (LinkInfoOf P) DecodeError). 1
+            + (link_headers peer t a + if_read m (headers_from peer (next_kinds t a) more))) means
             ∙ ap (λ (k : ℕ). 1 + (k + 0)) none
             ∙ sym h.1,
       )
 
   pub stopped : (s : LinkWalk) (e : DecodeError) (t : LinkWalk) → Stops s e t → Stopped s e t
   stopped s e t h =
-      let f = fault_is s.force (pieces (left s)) e h.seen h.fault in
-      record { values = f.0; headers = omega (arith, f.1, h.examined); room = omega (arith, h.examined, h.room) }
+      let f = error_is s.kinds (nla_items (left s)) e h.seen h.error in
+      record {
+        values = f.0;
+        headers = omega (arith, f.1, h.examined);
+        room = omega (arith, h.examined, h.room);
+      }
 
--- ---- a list that is read, one value after another
+-- ---- a list that is parsed, one value after another
 
 or_true : (n : Bool) → (n || true) ≡ true
 or_true true = refl
 or_true false = refl
 
--- a first fault that needs no memory
+-- a first error that needs no memory
 pub needs_off : (b n k : Bool) → b ≡ (n || k) → b ≡ false → n ≡ false
 needs_off b true k e none = absurd (not_both b e none)
 needs_off b false k e none = refl
 
 module _ {X : Type 0} where
-  abbrev with_more : Result X DecodeError → Result (List X) DecodeError → Result (List X) DecodeError
+  abbrev with_more : Result X DecodeError → Result (List X) DecodeError →
+      Result (List X) DecodeError
   with_more m V = m >>= λ x. V >>= λ xs. Ok (x ∷ xs)
 
-  pushed : (zs : List X) (x : X) (V : Result (List X) DecodeError) → front zs (V >>= λ xs. Ok (x ∷ xs)) ≡ front (zs ++ x ∷ []) V
-  pushed zs x (Ok xs) = ap (λ (ys : List X). let r : Result (List X) DecodeError = Ok ys in r) (sym (append_assoc zs (x ∷ []) xs))
+  pushed : (zs : List X) (x : X) (V : Result (List X) DecodeError) →
+      front zs (V >>= λ xs. Ok (x ∷ xs)) ≡ front (zs ++ x ∷ []) V
+  pushed zs x (Ok xs) =
+      ap (λ (ys : List X). let r : Result (List X) DecodeError = Ok ys in r)
+      (sym (append_assoc zs (x ∷ []) xs))
   pushed zs x (Err e) = refl
 
-  pub on_value : (F S V : Result (List X) DecodeError) (zs ys : List X) (x : X) (m : Result X DecodeError) → front zs S ≡ F → S ≡ with_more m V → m ≡ Ok x →
+  pub on_value : (F S V : Result (List X) DecodeError) (zs ys : List X) (x : X)
+      (m : Result X DecodeError) → front zs S ≡ F → S ≡ with_more m V → m ≡ Ok x →
       ys ≡ zs ++ x ∷ [] → front ys V ≡ F
   on_value F S V zs ys x m inv step is e =
       ap (λ (l : List X). front l V) e
       ∙ sym (pushed zs x V)
-      ∙ sym (ap (λ (r : Result (List X) DecodeError). front zs r) (step ∙ ap (λ (n : Result X DecodeError). with_more n V) is))
+      ∙ sym (ap (λ (r : Result (List X) DecodeError). front zs r)
+      (step ∙ ap (λ (n : Result X DecodeError). with_more n V) is))
       ∙ inv
 
-  pub on_fault : (F S V : Result (List X) DecodeError) (zs : List X) (m : Result X DecodeError) (e : DecodeError) → front zs S ≡ F → S ≡ with_more m V → m ≡ Err e → F ≡ Err e
-  on_fault F S V zs m e inv step is =
-      sym inv ∙ ap (λ (r : Result (List X) DecodeError). front zs r) (step ∙ ap (λ (n : Result X DecodeError). with_more n V) is)
+  pub on_error : (F S V : Result (List X) DecodeError) (zs : List X) (m : Result X DecodeError)
+      (e : DecodeError) → front zs S ≡ F → S ≡ with_more m V → m ≡ Err e → F ≡ Err e
+  on_error F S V zs m e inv step is =
+      sym inv
+      ∙ ap (λ (r : Result (List X) DecodeError). front zs r)
+      (step ∙ ap (λ (n : Result X DecodeError). with_more n V) is)
 
   pub headers_on : (m : Result X DecodeError) (x : X) (n : ℕ) → m ≡ Ok x → if_read m n ≡ n
   headers_on m x n is = ap (λ (r : Result X DecodeError). if_read r n) is
 
-  pub headers_off : (m : Result X DecodeError) (e : DecodeError) (n : ℕ) → m ≡ Err e → if_read m n ≡ 0
+  pub headers_off : (m : Result X DecodeError) (e : DecodeError) (n : ℕ) → m ≡ Err e →
+      if_read m n ≡ 0
   headers_off m e n is = ap (λ (r : Result X DecodeError). if_read r n) is
 
-  -- where a first value was read, memory was needed
-  pub value_needs : (b n : Bool) (m : Result X DecodeError) (x : X) → b ≡ (n || is_ok m) → m ≡ Ok x → b ≡ false → ⊥
-  value_needs b n m x e is none = not_both b (e ∙ ap (λ (r : Result X DecodeError). n || is_ok r) is ∙ or_true n) none
+  -- if a first value was parsed, memory was needed
+  pub value_needs : (b n : Bool) (m : Result X DecodeError) (x : X) → b ≡ (n || is_ok m) →
+      m ≡ Ok x → b ≡ false → ⊥
+  value_needs b n m x e is none =
+      not_both b (e ∙ ap (λ (r : Result X DecodeError). n || is_ok r) is ∙ or_true n) none
 
-  pub on_fault_unless : (F S V : Result (List X) DecodeError) (zs : List X) (m : Result X DecodeError) (e : DecodeError) → front zs S ≡ F → S ≡ with_more m V →
-      (e ≢ memory_fault → m ≡ Err e) → e ≢ memory_fault → F ≡ Err e
-  on_fault_unless F S V zs m e inv step is ample = on_fault F S V zs m e inv step (is ample)
+  pub on_error_unless : (F S V : Result (List X) DecodeError) (zs : List X)
+      (m : Result X DecodeError) (e : DecodeError) → front zs S ≡ F → S ≡ with_more m V →
+      (e ≢ memory_error → m ≡ Err e) → e ≢ memory_error → F ≡ Err e
+  on_error_unless F S V zs m e inv step is ample = on_error F S V zs m e inv step (is ample)
 
-  -- the headers up to a fault
-  pub counted_fault : (m : Result X DecodeError) (e : DecodeError) (total S h H count new seen seen' : ℕ) → (count + seen) + S ≡ total → S ≡ 1 + (h + if_read m H) →
-      seen' ≡ seen + 1 → (e ≢ memory_fault → m ≡ Err e) → (e ≢ memory_fault → new ≡ count + h) → e ≢ memory_fault → new + seen' ≡ total
-  counted_fault m e total S h H count new seen seen' inv step one is counted ample = omega (arith, inv, step, one, headers_off m e H (is ample), counted ample)
+  -- the headers up to an error
+  pub counted_error : (m : Result X DecodeError) (e : DecodeError)
+      (total S h H count new seen seen' : ℕ) → (count + seen) + S ≡ total →
+      S ≡ 1 + (h + if_read m H) →
+      seen' ≡ seen + 1 → (e ≢ memory_error → m ≡ Err e) → (e ≢ memory_error → new ≡ count + h) →
+      e ≢ memory_error → new + seen' ≡ total
+  counted_error m e total S h H count new seen seen' inv step one is counted ample = omega (
+    arith,
+    inv,
+    step,
+    one,
+    headers_off m e H (is ample),
+    counted ample,
+  )
 
-  -- the same of verdicts
-  pub checked_value : (F S V : Result (List X) DecodeError) (m : Result X DecodeError) → verdict S ≡ verdict F → S ≡ with_more m V → Ok tt ≡ verdict m → verdict V ≡ verdict F
+  -- after an accepted attribute, the verdict on the list is that on the rest
+  pub checked_value : (F S V : Result (List X) DecodeError) (m : Result X DecodeError) →
+      verdict S ≡ verdict F → S ≡ with_more m V → Ok tt ≡ verdict m → verdict V ≡ verdict F
   checked_value F S V m inv step is = go m (sym is) (sym (ap verdict step) ∙ inv)
     where
-      go : (n : Result X DecodeError) → verdict n ≡ Ok tt → verdict (with_more n V) ≡ verdict F → verdict V ≡ verdict F
+      go : (n : Result X DecodeError) → verdict n ≡ Ok tt → verdict (with_more n V) ≡ verdict F →
+          verdict V ≡ verdict F
       go (Ok x) h k = without V k
         where
-          without : (W : Result (List X) DecodeError) → verdict (W >>= λ xs. let r : Result (List X) DecodeError = Ok (x ∷ xs) in r) ≡ verdict F → verdict W ≡ verdict F
+          without : (W : Result (List X) DecodeError) →
+              verdict (W >>= λ xs. let r : Result (List X) DecodeError = Ok (x ∷ xs) in r)
+              ≡ verdict F → verdict W ≡ verdict F
           without (Ok xs) l = l
           without (Err d) l = l
       go (Err d) h k = absurd cc
 
-  pub checked_fault : (F S V : Result (List X) DecodeError) (m : Result X DecodeError) (e : DecodeError) → verdict S ≡ verdict F → S ≡ with_more m V → Err e ≡ verdict m → Err e ≡ verdict F
-  checked_fault F S V m e inv step is = go m is (sym (ap verdict step) ∙ inv)
+  pub checked_error : (F S V : Result (List X) DecodeError) (m : Result X DecodeError)
+      (e : DecodeError) → verdict S ≡ verdict F → S ≡ with_more m V → Err e ≡ verdict m →
+      Err e ≡ verdict F
+  checked_error F S V m e inv step is = go m is (sym (ap verdict step) ∙ inv)
     where
-      go : (n : Result X DecodeError) → Err e ≡ verdict n → verdict (with_more n V) ≡ verdict F → Err e ≡ verdict F
+      go : (n : Result X DecodeError) → Err e ≡ verdict n → verdict (with_more n V) ≡ verdict F →
+          Err e ≡ verdict F
       go (Ok x) h k = absurd cc
       go (Err d) h k = h ∙ k
 
@@ -209,6 +325,7 @@ module _ {X : Type 0} where
   checked_on (Ok x) n e = refl
   checked_on (Err d) n e = absurd cc
 
-  pub checked_off : (m : Result X DecodeError) (e : DecodeError) (n : ℕ) → Err e ≡ verdict m → if_read m n ≡ 0
+  pub checked_off : (m : Result X DecodeError) (e : DecodeError) (n : ℕ) → Err e ≡ verdict m →
+      if_read m n ≡ 0
   checked_off (Ok x) e n h = absurd cc
   checked_off (Err d) e n h = refl

@@ -1,6 +1,29 @@
 -- What finding the first unmet attribute of a list rests on.
-use Rattle.std.specs.Prelude.{◌≡◌, ◌≢◌, ℕ, zero, suc, ◌+◌, ◌<◌, ◌≤◌, ◌^◌, nat_lt, Bool, true, false, List, [], ◌∷◌, ◌==◌, drop, length, refl}
-use Rattle.std.specs.Prelude.{Option, None, Some, Result, Ok, Err, IsOk, IfSome, if◌then◌else◌, is_some}
+use Rattle.std.specs.Prelude.{
+  ◌≡◌,
+  ◌≢◌,
+  ◌&&◌,
+  ⊤,
+  ℕ,
+  zero,
+  suc,
+  ◌+◌,
+  ◌<◌,
+  ◌≤◌,
+  ◌^◌,
+  nat_lt,
+  Bool,
+  true,
+  false,
+  List,
+  [],
+  ◌∷◌,
+  ◌==◌,
+  drop,
+  length,
+  refl,
+}
+use Rattle.std.specs.Prelude.{Option, None, Some, Result, Ok, Err, IsOk, IfSome, if◌then◌else◌}
 use Rattle.std.specs.List.{AllByRecursion, find}
 use Rattle.std.specs.Option.{option_eq, option_map}
 use Rattle.std.specs.Str.{bytes_eq}
@@ -9,35 +32,83 @@ use Rattle.std.proofs.lemmas.Bool.{cases_Bool, eqb-true}
 use Rattle.std.proofs.lemmas.Bool.Decides.{nat_tests}
 use Rattle.nla_frame.specs.Attribute.{Attribute, aligned, masked}
 use Rattle.nla_frame.specs.Payload.{stripped}
-use Rattle.nla_frame.specs.Pieces.{attribute_at, pieces}
+use Rattle.nla_frame.specs.NlaItems.{attribute_at, nla_items}
 use Rattle.nla_frame.specs.declared.error.DecodeError.{DecodeError}
 use Rattle.nla_frame.specs.declared.error.Family.{Family}
-use Rattle.nla_frame.proofs.Stepping.{by_pieces, pieces_nil}
+use Rattle.nla_frame.proofs.Stepping.{by_nla_items, nla_items_nil}
 use Rattle.linkinfo_numbers.specs.Kind.{tag_of_name}
 use Rattle.linkinfo_numbers.specs.PortKind.{port_tag_of_name}
 use Rattle.linkinfo_numbers.specs.declared.tags.KindTag.{KindTag}
 use Rattle.linkinfo_numbers.specs.declared.tags.PortTag.{PortTag}
-use Rattle.linkinfo_table.specs.Last.{StandsIn, attributes_of, has_type, last_of_type, offset_of, placed_from}
+use Rattle.linkinfo_table.specs.Last.{
+  Indexed,
+  StandsIn,
+  attributes_of,
+  covers,
+  has_type,
+  indexed_last,
+  last_of_type,
+  offset_of,
+  placed_from,
+  types_end,
+}
 use Rattle.linkinfo_table.specs.declared.last.PlacedNla.{PlacedNla}
 use Rattle.linkinfo_table.proofs.Lasts.{all_stand, last_passes, last_stands, stands_within}
 use Rattle.linkinfo_data.specs.Families.{Families}
 use Rattle.linkinfo_data.specs.Listing.{Listing, alike_in, family_in}
-use Rattle.linkinfo_data.specs.Unmet.{counts, last_like, list_unmet, misses, unmet_at}
+use Rattle.linkinfo_data.specs.Unmet.{
+  counts,
+  first_told,
+  last_like,
+  list_unmet,
+  misses,
+  told_from,
+  unmet_at,
+}
 use Rattle.linkinfo_data.specs.declared.unmet.Unmet.{Unmet}
-use Rattle.linkinfo.specs.Items.{link_meaning}
-use Rattle.linkinfo.specs.Strings.{first_or, force_after, reading, values_from}
-use Rattle.linkinfo.specs.Unmet.{Named, counted_unmet, first_of, kinds_named, link_at, link_unmet, names_after}
-use Rattle.linkinfo.specs.Unmet.{inner_unmet, names_before, no_names, payload_unmet, same_kind}
-use Rattle.linkinfo.specs.UnmetSteps.{HasAttribute, IsAcceptedLink, kind_place, name_there, port_place}
+use Rattle.linkinfo_data.specs.declared.unmet.UnmetAt.{UnmetAt}
+use Rattle.linkinfo_data.proofs.Blocks.{all_types, unmet_in}
+use Rattle.linkinfo_data.proofs.Unmets.{and_both}
+use Rattle.linkinfo.specs.Items.{link_meaning, link_row}
+use Rattle.linkinfo_data.specs.Difference.{first_or}
+use Rattle.linkinfo.specs.Strings.{next_kinds, reading, values_from}
+use Rattle.linkinfo.specs.Unmet.{
+  Linked,
+  Named,
+  counted_unmet,
+  first_of,
+  inner_unmet,
+  item_unmet,
+  kinds_named,
+  link_at,
+  link_unmet,
+  names_after,
+  names_before,
+  no_names,
+  payload_unmet,
+  role_of_link,
+  role_unmet,
+  same_kind,
+  strings_unmet,
+  whole_unmet,
+}
+use Rattle.linkinfo.specs.UnmetSteps.{
+  HasAttribute,
+  IsAcceptedLink,
+  belongs_to_a_kind,
+  kind_place,
+  name_there,
+  port_place,
+}
 use Rattle.linkinfo.specs.declared.link_info.LinkInfoOf.{LinkInfoOf}
 use Rattle.linkinfo.specs.declared.link_info.LinkInfoOf.TheVariants as info
-use Rattle.linkinfo.specs.declared.role.InForce.{InForce}
+use Rattle.linkinfo.specs.declared.role.CurrentKinds.{CurrentKinds}
 use Rattle.linkinfo.specs.declared.role.Role.TheVariants as role
 use Rattle.linkinfo.specs.declared.role.Role.{Role}
 use Rattle.linkinfo.specs.Roles.{role_at, role_of, role_under}
 use Rattle.nla_frame.specs.declared.error.Family.TheVariants as family
 use Rattle.std.proofs.lemmas.Slice.Eq.{bytes_eq-Decides}
-use Rattle.linkinfo_table.specs.Rows.{labelled}
+use Rattle.linkinfo_table.specs.Rows.{labelled, row_alike}
 use Rattle.linkinfo_table.specs.SelfList.{inside as in_payload}
 use Rattle.linkinfo_data.specs.Data.{data_of, family_of}
 use Rattle.linkinfo_data.specs.Equal.{option_decides}
@@ -45,7 +116,7 @@ use Rattle.linkinfo_data.specs.PortData.{port_data_of, port_family_of}
 use Rattle.linkinfo.proofs.Items.{unknown_from_six}
 use Rattle.linkinfo.proofs.Steps.{meaning_is, meant}
 use Rattle.linkinfo.proofs.Pairs.{front}
-use Rattle.linkinfo.proofs.Places.{behind_at, meaning_enters}
+use Rattle.linkinfo.proofs.Places.{kinds_after_at, meaning_enters}
 
 -- ---- the kinds of the names are those that are current
 
@@ -56,38 +127,42 @@ kind_named true s before = refl
 kind_named false s before = refl
 
 port_named : (four five : Bool) (s : List ℕ) (before : Option (List ℕ)) →
-    cond (four || five) (cond four (Some (port_tag_of_name s)) None) (option_map port_tag_of_name before)
+    cond (four || five) (cond four (Some (port_tag_of_name s)) None)
+    (option_map port_tag_of_name before)
     ≡ option_map port_tag_of_name (if four then Some s else if five then None else before)
 port_named true true s before = refl
 port_named true false s before = refl
 port_named false true s before = refl
 port_named false false s before = refl
 
-in_force_is : (u : InForce) (kind : Option KindTag) (port : Option PortTag) → u.kind ≡ kind → u.port ≡ port →
+kinds_are : (u : CurrentKinds) (kind : Option KindTag) (port : Option PortTag) → u.kind ≡ kind →
+    u.port ≡ port →
     u ≡ record { kind = kind; port = port }
-in_force_is u kind port e f =
-    ap (λ (k : Option KindTag). let v : InForce = record { kind = k; port = u.port } in v) e
-    ∙ ap (λ (p : Option PortTag). let v : InForce = record { kind = kind; port = p } in v) f
+kinds_are u kind port e f =
+    ap (λ (k : Option KindTag). let v : CurrentKinds = record { kind = k; port = u.port } in v) e
+    ∙ ap (λ (p : Option PortTag). let v : CurrentKinds = record { kind = kind; port = p } in v) f
 
--- ---- each attribute is behind those before it
+-- ---- the attributes of a string are in order
 
--- each of these is behind an offset
-abbrev Behind : ℕ → List PlacedNla → Type 0
-Behind n list = AllByRecursion (λ p. n ≤ p.offset) list
+-- each of these is at an offset or after it
+abbrev AllAfter : ℕ → List PlacedNla → Type 0
+AllAfter n list = AllByRecursion (λ p. n ≤ p.offset) list
 
-raised : (m n : ℕ) (list : List PlacedNla) → m ≤ n → Behind n list → Behind m list
+raised : (m n : ℕ) (list : List PlacedNla) → m ≤ n → AllAfter n list → AllAfter m list
 raised m n [] le h = tt
 raised m n (p ∷ more) le h = (omega (arith, le, h.0), raised m n more le h.1)
 
-pub before_counts : (n : ℕ) (names : Named) (p : PlacedNla) (more : List PlacedNla) → nat_lt p.offset n ≡ true →
+pub before_counts : (n : ℕ) (names : Named) (p : PlacedNla) (more : List PlacedNla) →
+    nat_lt p.offset n ≡ true →
     names_before n names (p ∷ more) ≡ names_before n (names_after names p.nla) more
 before_counts n names p more e = rw e refl
 
-pub before_passes : (n : ℕ) (names : Named) (p : PlacedNla) (more : List PlacedNla) → nat_lt p.offset n ≡ false →
+pub before_passes : (n : ℕ) (names : Named) (p : PlacedNla) (more : List PlacedNla) →
+    nat_lt p.offset n ≡ false →
     names_before n names (p ∷ more) ≡ names_before n names more
 before_passes n names p more e = rw e refl
 
-none_before : (n : ℕ) (names : Named) (list : List PlacedNla) → Behind (n + 4) list →
+none_before : (n : ℕ) (names : Named) (list : List PlacedNla) → AllAfter (n + 4) list →
     names_before n names list ≡ names
 none_before n names [] far = refl
 none_before n names (p ∷ more) far =
@@ -95,19 +170,31 @@ none_before n names (p ∷ more) far =
     rw later (none_before n names more far.1)
 
 module _ {P : Type 0} (families : Families P) where
-  named_after : (names : Named) (a : Attribute) → IsOk (link_meaning families (kinds_named names) a) →
-      force_after (kinds_named names) a ≡ kinds_named (names_after names a)
+  named_after : (names : Named) (a : Attribute) →
+      IsOk (link_meaning families (kinds_named names) a) →
+      next_kinds (kinds_named names) a ≡ kinds_named (names_after names a)
   named_after names a ok = go (link_meaning families (kinds_named names) a) refl ok
     where
-      go : (m : Result (LinkInfoOf P) DecodeError) → link_meaning families (kinds_named names) a ≡ m → IsOk m →
-          force_after (kinds_named names) a ≡ kinds_named (names_after names a)
+      go : (m : Result (LinkInfoOf P) DecodeError) →
+          link_meaning families (kinds_named names) a ≡ m → IsOk m →
+          next_kinds (kinds_named names) a ≡ kinds_named (names_after names a)
       go (Ok x) e i =
-          let u = force_after (kinds_named names) a in
-          let is = behind_at (masked a.kind) (kinds_named names) a u (meaning_enters families (kinds_named names) a x e) in
-          in_force_is u _ _
+          let u = next_kinds (kinds_named names) a in
+          let is =
+          kinds_after_at (masked a.kind) (kinds_named names) a u
+          (meaning_enters families (kinds_named names) a x e) in
+          kinds_are u _ _
           (is.kind ∙ kind_named (eqb (masked a.kind) 1) (stripped a.value) names.kind)
-          (is.port ∙ port_named (eqb (masked a.kind) 4) (eqb (masked a.kind) 5) (stripped a.value) names.port)
+          (is.port
+          ∙ port_named (eqb (masked a.kind) 4) (eqb (masked a.kind) 5) (stripped a.value)
+          names.port)
       go (Err d) e i = absurd cc
+
+  -- what holds under the kinds after an attribute holds under those of the names after it
+  pub under_next : (Q : CurrentKinds → Type 0) (names : Named) (a : Attribute) →
+      IsOk (link_meaning families (kinds_named names) a) → Q (next_kinds (kinds_named names) a) →
+      Q (kinds_named (names_after names a))
+  under_next Q names a ok h = subst Q (named_after names a ok) h
 
   -- ---- each attribute of an accepted list means something under its names
 
@@ -118,15 +205,20 @@ module _ {P : Type 0} (families : Families P) where
   abbrev MeansIn : Named → List PlacedNla → PlacedNla → Type 0
   MeansIn names list p = MeansUnder (names_before p.offset names list) p
 
-  -- what is behind an attribute has the names after it
-  skipped : (names : Named) (p : PlacedNla) (more list : List PlacedNla) → Behind (p.offset + 4) list →
-      AllByRecursion (MeansIn (names_after names p.nla) more) list → AllByRecursion (MeansIn names (p ∷ more)) list
+  -- what follows an attribute has the names after it
+  skipped : (names : Named) (p : PlacedNla) (more list : List PlacedNla) →
+      AllAfter (p.offset + 4) list →
+      AllByRecursion (MeansIn (names_after names p.nla) more) list →
+      AllByRecursion (MeansIn names (p ∷ more)) list
   skipped names p more [] far h = tt
   skipped names p more (q ∷ rest) far h =
-      let later : nat_lt p.offset q.offset ≡ true = grind (arith, nat_tests, far.0) in
-      (subst (λ (names : Named). MeansUnder names q) (sym (before_counts q.offset names p more later)) h.0, skipped names p more rest far.1 h.1)
+      let later : nat_lt p.offset q.offset ≡ true = grind (arith, nat_tests, far.0) in (
+        subst (λ (names : Named). MeansUnder names q)
+            (sym (before_counts q.offset names p more later)) h.0,
+        skipped names p more rest far.1 h.1,
+      )
 
-  here : (names : Named) (p : PlacedNla) (more : List PlacedNla) → Behind (p.offset + 4) more →
+  here : (names : Named) (p : PlacedNla) (more : List PlacedNla) → AllAfter (p.offset + 4) more →
       MeansUnder names p → MeansIn names (p ∷ more) p
   here names p more far h =
       let not_before : nat_lt p.offset p.offset ≡ false = grind (arith, nat_tests) in
@@ -134,36 +226,52 @@ module _ {P : Type 0} (families : Families P) where
       (sym (before_passes p.offset names p more not_before ∙ none_before p.offset names more far)) h
 
   pub record Each (names : Named) (n : ℕ) (s : List ℕ) : Type 0 where
-    pub means : AllByRecursion (MeansIn names (placed_from n (pieces s))) (placed_from n (pieces s))
-    pub behind : Behind n (placed_from n (pieces s))
+    pub means : AllByRecursion (MeansIn names (placed_from n (nla_items s)))
+        (placed_from n (nla_items s))
+    pub all_after : AllAfter n (placed_from n (nla_items s))
 
-  each : (s : List ℕ) (names : Named) (n : ℕ) → IsOk (values_from families (kinds_named names) (pieces s)) → Each names n s
+  each : (s : List ℕ) (names : Named) (n : ℕ) →
+      IsOk (values_from families (kinds_named names) (nla_items s)) → Each names n s
   each s =
-      by_pieces (λ s. (names : Named) (n : ℕ) → IsOk (values_from families (kinds_named names) (pieces s)) → Each names n s)
-      (λ names n ok. record { means = rw pieces_nil tt; behind = rw pieces_nil tt })
-      (λ t some e names n ok. record { means = rw e tt; behind = rw e tt })
+      by_nla_items (λ s. (names : Named) (n : ℕ) →
+      IsOk (values_from families (kinds_named names) (nla_items s)) → Each names n s)
+      (λ names n ok. record { means = rw nla_items_nil tt; all_after = rw nla_items_nil tt })
+      (λ t some e names n ok. record { means = rw e tt; all_after = rw e tt })
       (λ t a rest e room more names n ok.
       let f = front families (kinds_named names) a t rest e ok in
       let next = names_after names a in
       let after = n + aligned (4 + length a.value) in
-      let go : IsOk (values_from families (kinds_named next) (pieces rest)) =
-      subst (λ (t : InForce). IsOk (values_from families t (pieces rest))) (named_after names a f.first) f.more in
+      let go : IsOk (values_from families (kinds_named next) (nla_items rest)) =
+      subst (λ (t : CurrentKinds). IsOk (values_from families t (nla_items rest)))
+      (named_after names a f.first) f.more in
       let tail = more next after go in
       let p : PlacedNla = record { offset = n; nla = a } in
-      let far : Behind (n + 4) (placed_from after (pieces rest)) = raised (n + 4) after (placed_from after (pieces rest)) (omega arith) tail.behind in
+      let far : AllAfter (n + 4) (placed_from after (nla_items rest)) =
+      raised (n + 4) after (placed_from after (nla_items rest)) (omega arith) tail.all_after in
       record {
-        means = rw e (here names p (placed_from after (pieces rest)) far f.first, skipped names p (placed_from after (pieces rest)) (placed_from after (pieces rest)) far tail.means);
-        behind = rw e (omega arith, raised n after (placed_from after (pieces rest)) (omega arith) tail.behind);
+        means = rw e (
+          here names p (placed_from after (nla_items rest)) far f.first,
+          skipped names p (placed_from after (nla_items rest))
+              (placed_from after (nla_items rest)) far
+              tail.means,
+        );
+        all_after = rw e (
+          omega arith,
+          raised n after (placed_from after (nla_items rest)) (omega arith) tail.all_after,
+        );
       })
       s
 
   -- .. and is in memory as a whole
-  accepted : (s : List ℕ) (list : List PlacedNla) → length s < 2 ^ 64 → AllByRecursion (StandsIn s) list →
+  accepted : (s : List ℕ) (list : List PlacedNla) → length s < 2 ^ 64 →
+      AllByRecursion (StandsIn s) list →
       AllByRecursion (MeansIn no_names (attributes_of s)) list →
       AllByRecursion (λ p. IsAcceptedLink families (link_at s p)) list
   accepted s [] small h k = tt
-  accepted s (p ∷ more) small h k =
-      (record { means = k.0; room = omega (arith, stands_within s p h.0, small) }, accepted s more small h.1 k.1)
+  accepted s (p ∷ more) small h k = (
+    record { means = k.0; room = omega (arith, stands_within s p h.0, small) },
+    accepted s more small h.1 k.1,
+  )
 
   pub links_accepted : (s : List ℕ) → length s < 2 ^ 64 → IsOk (reading families s) →
       AllByRecursion (λ p. IsAcceptedLink families (link_at s p)) (attributes_of s)
@@ -179,7 +287,8 @@ named_at s kind port = record {
   port = option_map (name_there s) port;
 }
 
-module _ (s : List ℕ) (at : ℕ) (a : Attribute) (there : attribute_at (drop at s) ≡ Ok a) (small : at ≤ length s) where
+module _ (s : List ℕ) (at : ℕ) (a : Attribute) (there : attribute_at (drop at s) ≡ Ok a)
+    (small : at ≤ length s) where
   has_attribute : HasAttribute s at
   has_attribute = record { within = small; attribute = rw there refl }
 
@@ -217,7 +326,8 @@ module _ (s : List ℕ) (at : ℕ) (a : Attribute) (there : attribute_at (drop a
       ]
 
   port_is : (kind : ℕ) (old : Option ℕ) → option_map (name_there s) (port_place true kind at old)
-      ≡ (if kind == 4 then Some (stripped a.value) else if kind == 5 then None else option_map (name_there s) old)
+      ≡ (if kind == 4 then Some (stripped a.value) else if kind == 5 then None
+      else option_map (name_there s) old)
   port_is kind old =
       elim (cases_Bool (kind == 4)) [
         | inl is ↦ rw is (ap Some name_is)
@@ -234,9 +344,11 @@ module _ (s : List ℕ) (at : ℕ) (a : Attribute) (there : attribute_at (drop a
       ∙ ap (λ (p : Option (List ℕ)). let v : Named = record { kind = n.kind; port = p } in v) f
 
   pub named_step : (is_before : Bool) (kind port : Option ℕ) →
-      named_at s (kind_place is_before (masked a.kind) at kind) (port_place is_before (masked a.kind) at port)
+      named_at s (kind_place is_before (masked a.kind) at kind)
+      (port_place is_before (masked a.kind) at port)
       ≡ (if is_before then names_after (named_at s kind port) a else named_at s kind port)
-  named_step true kind port = named_is _ _ (kind_is (masked a.kind) kind) (port_is (masked a.kind) port)
+  named_step true kind port =
+      named_is _ _ (kind_is (masked a.kind) kind) (port_is (masked a.kind) port)
   named_step false kind port = refl
 
 -- ---- the first one
@@ -248,9 +360,35 @@ module _ (unmet : PlacedNla → Option Unmet) (p : PlacedNla) (more : List Place
   pub first_later : unmet p ≡ None → first_of unmet (p ∷ more) ≡ first_of unmet more
   first_later e = rw e refl
 
+first_step : (u : Option Unmet) (p : PlacedNla) (tail : Option UnmetAt) (rest : Option Unmet) →
+    unmet_in tail ≡ rest →
+    unmet_in (first_or (option_map (λ u. record { offset = p.offset; unmet = u }) u) tail)
+    ≡ first_or u rest
+first_step (Some u) p tail rest e = refl
+first_step None p tail rest e = e
+
+-- of attributes of all types
+pub first_of_told : (unmet : PlacedNla → Option Unmet) (list : List PlacedNla) →
+    unmet_in (first_told (λ k. true) unmet list) ≡ first_of unmet list
+first_of_told unmet [] = refl
+first_of_told unmet (p ∷ more) =
+    first_step (unmet p) p (first_told (λ k. true) unmet more) (first_of unmet more)
+    (first_of_told unmet more)
+
+-- .. once no type is left
+pub whole_list : {P : Type 0} (families : Families P) (have want : List ℕ) (n : ℕ)
+    (first : Option UnmetAt) →
+    first ≡ first_told (λ k. nat_lt k n) (counted_unmet families have want) (attributes_of want) →
+    types_end (attributes_of want) ≤ n → unmet_in first ≡ strings_unmet families have want
+whole_list families have want n first e le =
+    let unmet = counted_unmet families have want in
+    ap unmet_in (e ∙ all_types n unmet (attributes_of want) le)
+    ∙ first_of_told unmet (attributes_of want)
+
 -- ---- inside a payload
 
-find_holds : {A : Type 0} (P : A → Type 0) (test : A → Bool) (list : List A) → AllByRecursion P list →
+find_holds : {A : Type 0} (P : A → Type 0) (test : A → Bool) (list : List A) →
+    AllByRecursion P list →
     IfSome (find test list) P
 find_holds P test [] all = tt
 find_holds P test (x ∷ more) all =
@@ -264,15 +402,18 @@ pub record Inside (have want : List ℕ) (u : Unmet) : Type 0 where
   pub wanted : u.want ≤ length want
   pub found : IfSome u.have (λ n. n ≤ length have)
 
-offset_inside : (s : List ℕ) (o : Option PlacedNla) → IfSome o (StandsIn s) → IfSome (offset_of o) (λ n. n ≤ length s)
+offset_inside : (s : List ℕ) (o : Option PlacedNla) → IfSome o (StandsIn s) →
+    IfSome (offset_of o) (λ n. n ≤ length s)
 offset_inside s None h = tt
 offset_inside s (Some p) h = omega (arith, stands_within s p h)
 
-pub inside : (name : Family) (alike : Attribute → Attribute → Bool) (have want : List ℕ) (u : Unmet) →
+pub inside : (name : Family) (alike : Attribute → Attribute → Bool) (have want : List ℕ)
+    (u : Unmet) →
     list_unmet name alike (attributes_of have) (attributes_of want) ≡ Some u → Inside have want u
 inside name alike have want u e =
     go (find (misses alike (attributes_of have) (attributes_of want)) (attributes_of want))
-    (find_holds (StandsIn want) (misses alike (attributes_of have) (attributes_of want)) (attributes_of want) (all_stand want)) e
+    (find_holds (StandsIn want) (misses alike (attributes_of have) (attributes_of want))
+    (attributes_of want) (all_stand want)) e
   where
     some_is : (v w : Unmet) → Some v ≡ Some w → w ≡ v
     some_is v w h = cc
@@ -285,12 +426,16 @@ inside name alike have want u e =
         subst (λ (v : Unmet). Inside have want v) (sym is)
         (record {
           wanted = omega (arith, stands_within want p h);
-          found = offset_inside have (last_like (attributes_of have) p) (last_stands (masked p.nla.kind) have);
+          found =
+              offset_inside have (last_like (attributes_of have) p)
+              (last_stands (masked p.nla.kind) have);
         })
 
-pub payload_list : (o : Option Listing) (name : Family) (alike : List ℕ → List ℕ → Bool) (have want : PlacedNla) (u : Unmet) →
+pub payload_list : (o : Option Listing) (name : Family) (alike : List ℕ → List ℕ → Bool)
+    (have want : PlacedNla) (u : Unmet) →
     family_in o ≡ Some name →
-    list_unmet name (alike_in o) (attributes_of have.nla.value) (attributes_of want.nla.value) ≡ Some u →
+    list_unmet name (alike_in o) (attributes_of have.nla.value) (attributes_of want.nla.value)
+    ≡ Some u →
     payload_unmet o alike have want ≡ Some (inner_unmet want have u)
 payload_list None name alike have want u e k = absurd cc
 payload_list (Some l) name alike have want u e k =
@@ -303,24 +448,55 @@ pub last_type : (kind : ℕ) (list : List PlacedNla) →
     IfSome (last_of_type kind list) (λ p. masked p.nla.kind ≡ kind)
 last_type kind list = go (last_of_type kind list) (last_passes (has_type kind) None list tt)
   where
-    go : (o : Option PlacedNla) → IfSome o (λ p. has_type kind p ≡ true) → IfSome o (λ p. masked p.nla.kind ≡ kind)
+    go : (o : Option PlacedNla) → IfSome o (λ p. has_type kind p ≡ true) →
+        IfSome o (λ p. masked p.nla.kind ≡ kind)
     go None h = tt
     go (Some p) h = eqb-true _ _ h
 
-module _ {P : Type 0} (families : Families P) (have want : List ℕ) (w : PlacedNla) where
-  pub counted_is : (found : Option PlacedNla) (r : Option Unmet) → counts (attributes_of want) w ≡ true →
-      found ≡ last_like (attributes_of have) w → r ≡ link_unmet families (option_map (link_at have) found) (link_at want w) →
-      counted_unmet families have want w ≡ r
-  counted_is found r counted e is =
-      rw counted
-      (ap (λ (o : Option PlacedNla). link_unmet families (option_map (link_at have) o) (link_at want w)) (sym e) ∙ sym is)
+module _ {P : Type 0} (families : Families P) (start : ℕ) (have want : List ℕ)
+    (w : PlacedNla) where
+  abbrev Told : Option UnmetAt → Type 0
+  Told o = told_from (covers start) (counted_unmet families have want) w ≡ o
 
-  pub not_counted : counts (attributes_of want) w ≡ false → counted_unmet families have want w ≡ None
-  not_counted e = rw e refl
+  -- what of an attribute that counts is not met
+  pub told_is : (found : Option PlacedNla) (r : Option Unmet) →
+      (covers start (masked w.nla.kind) && counts (attributes_of want) w) ≡ true →
+      found ≡ last_like (attributes_of have) w →
+      r ≡ link_unmet families (option_map (link_at have) found) (link_at want w) →
+      Told (option_map (λ u. record { offset = w.offset; unmet = u }) r)
+  told_is found r e last is =
+      let both =
+      and_both (covers start (masked w.nla.kind)) (counts (attributes_of want) w) e in
+      let like = last_like (attributes_of have) w in
+      let same : r ≡ link_unmet families (option_map (link_at have) like) (link_at want w) =
+      is ∙ ap (λ (o : Option PlacedNla).
+      link_unmet families (option_map (link_at have) o) (link_at want w)) last in
+      rw (both.0, both.1, ← same) refl
 
-pub none_of : (o : Option Unmet) → is_some o ≡ false → o ≡ None
-none_of None e = refl
-none_of (Some u) e = absurd cc
+  -- one without an entry, or that does not count
+  pub not_told : (covers start (masked w.nla.kind) && counts (attributes_of want) w) ≡ false →
+      Told None
+  not_told e =
+      elim (cases_Bool (covers start (masked w.nla.kind))) [
+        | inl covered ↦
+            let off : counts (attributes_of want) w ≡ false = rw covered at e in
+            rw (covered, off) refl
+        | inr no_entry ↦ rw no_entry refl
+      ]
+
+-- the last attribute of a type, where an index has an entry for it, has that type
+pub indexed_type : (index : Indexed) (kind : ℕ) (n : ℕ) → kind ≡ n →
+    IfSome (indexed_last index kind) (λ p. masked p.nla.kind ≡ n)
+indexed_type index kind n e =
+    elim (cases_Bool (covers index.first kind)) [
+      | inl covered ↦
+          rw covered
+          (subst
+          (λ (k : ℕ). IfSome (last_of_type kind (attributes_of index.source))
+          (λ p. masked p.nla.kind ≡ k))
+          e (last_type kind (attributes_of index.source)))
+      | inr no_entry ↦ rw no_entry tt
+    ]
 
 -- ---- attributes of one type and kind have one role
 
@@ -335,30 +511,86 @@ role_is m n (suc zero) r e known same = sym e
 role_is m n (suc (suc zero)) r e known same = go n.kind refl
   where
     go : (o : Option (List ℕ)) → n.kind ≡ o → role_of (kinds_named m) 2 ≡ r
-    go None is = absurd (known (e ∙ ap (λ (p : Option (List ℕ)). role_under (option_map tag_of_name p) (λ tag. role.Data tag)) is))
+    go None is =
+        absurd (known (e
+        ∙ ap (λ (p : Option (List ℕ)). role_under (option_map tag_of_name p) (λ tag. role.Data tag))
+        is))
     go (Some name) is =
-        let of_kind = e ∙ ap (λ (p : Option (List ℕ)). role_under (option_map tag_of_name p) (λ tag. role.Data tag)) is in
+        let of_kind =
+        e
+        ∙ ap (λ (p : Option (List ℕ)). role_under (option_map tag_of_name p) (λ tag. role.Data tag))
+        is in
         let names = same_names m.kind n.kind (rw of_kind at same) in
-        ap (λ (p : Option (List ℕ)). role_under (option_map tag_of_name p) (λ tag. role.Data tag)) names ∙ sym e
+        ap (λ (p : Option (List ℕ)). role_under (option_map tag_of_name p) (λ tag. role.Data tag))
+        names ∙ sym e
 role_is m n (suc (suc (suc zero))) r e known same = go n.kind refl
   where
     go : (o : Option (List ℕ)) → n.kind ≡ o → role_of (kinds_named m) 3 ≡ r
-    go None is = absurd (known (e ∙ ap (λ (p : Option (List ℕ)). role_under (option_map tag_of_name p) (λ _. role.Xstats)) is))
+    go None is =
+        absurd (known (e
+        ∙ ap (λ (p : Option (List ℕ)). role_under (option_map tag_of_name p) (λ _. role.Xstats))
+        is))
     go (Some name) is =
-        let of_kind = e ∙ ap (λ (p : Option (List ℕ)). role_under (option_map tag_of_name p) (λ _. role.Xstats)) is in
+        let of_kind =
+        e
+        ∙ ap (λ (p : Option (List ℕ)). role_under (option_map tag_of_name p) (λ _. role.Xstats))
+        is in
         let names = same_names m.kind n.kind (rw of_kind at same) in
-        ap (λ (p : Option (List ℕ)). role_under (option_map tag_of_name p) (λ _. role.Xstats)) names ∙ sym e
+        ap (λ (p : Option (List ℕ)). role_under (option_map tag_of_name p) (λ _. role.Xstats)) names
+        ∙ sym e
 role_is m n (suc (suc (suc (suc zero)))) r e known same = sym e
 role_is m n (suc (suc (suc (suc (suc zero))))) r e known same = go n.port refl
   where
     go : (o : Option (List ℕ)) → n.port ≡ o → role_of (kinds_named m) 5 ≡ r
-    go None is = absurd (known (e ∙ ap (λ (p : Option (List ℕ)). role_under (option_map port_tag_of_name p) (λ tag. role.PortData tag)) is))
+    go None is =
+        absurd (known (e
+        ∙ ap (λ (p : Option (List ℕ)).
+        role_under (option_map port_tag_of_name p) (λ tag. role.PortData tag)) is))
     go (Some name) is =
-        let of_kind = e ∙ ap (λ (p : Option (List ℕ)). role_under (option_map port_tag_of_name p) (λ tag. role.PortData tag)) is in
+        let of_kind =
+        e
+        ∙ ap (λ (p : Option (List ℕ)).
+        role_under (option_map port_tag_of_name p) (λ tag. role.PortData tag)) is in
         let names = same_names m.port n.port (rw of_kind at same) in
-        ap (λ (p : Option (List ℕ)). role_under (option_map port_tag_of_name p) (λ tag. role.PortData tag)) names ∙ sym e
+        ap (λ (p : Option (List ℕ)).
+        role_under (option_map port_tag_of_name p) (λ tag. role.PortData tag)) names ∙ sym e
 role_is m n (suc (suc (suc (suc (suc (suc k)))))) r e known same =
     unknown_from_six (kinds_named m) k ∙ sym (e ∙ unknown_from_six (kinds_named n) k)
+
+-- ---- a type whose role does not depend on a kind
+
+abbrev IsFree : Role → Type 0
+IsFree (role.Data tag) = ⊥
+IsFree role.Xstats = ⊥
+IsFree (role.PortData tag) = ⊥
+IsFree _ = ⊤
+
+free_role : (t : CurrentKinds) (k : ℕ) → belongs_to_a_kind k ≡ false → IsFree (role_of t k)
+unfolding role_of
+free_role t zero h = tt
+free_role t (suc zero) h = tt
+free_role t (suc (suc zero)) h = absurd cc
+free_role t (suc (suc (suc zero))) h = absurd cc
+free_role t (suc (suc (suc (suc zero)))) h = tt
+free_role t (suc (suc (suc (suc (suc zero))))) h = absurd cc
+free_role t (suc (suc (suc (suc (suc (suc k)))))) h = subst IsFree (sym (unknown_from_six t k)) tt
+
+same_role : (t u : CurrentKinds) (k : ℕ) → belongs_to_a_kind k ≡ false → role_of t k ≡ role_of u k
+unfolding role_of
+same_role t u zero h = refl
+same_role t u (suc zero) h = refl
+same_role t u (suc (suc zero)) h = absurd cc
+same_role t u (suc (suc (suc zero))) h = absurd cc
+same_role t u (suc (suc (suc (suc zero)))) h = refl
+same_role t u (suc (suc (suc (suc (suc zero))))) h = absurd cc
+same_role t u (suc (suc (suc (suc (suc (suc k)))))) h =
+    unknown_from_six t k ∙ sym (unknown_from_six u k)
+
+-- a type has one role under names of one kind
+pub one_role : (m n : Named) (k : ℕ) → role_of (kinds_named n) k ≢ role.Misplaced →
+    same_kind (role_of (kinds_named n) k) m n ≡ true →
+    role_of (kinds_named m) k ≡ role_of (kinds_named n) k
+one_role m n k known same = role_is m n k (role_of (kinds_named n) k) refl known same
 
 module _ {P : Type 0} (families : Families P) where
   abbrev ok_meant : Role → Attribute → Type 0
@@ -375,13 +607,18 @@ module _ {P : Type 0} (families : Families P) where
     pub found : IsOk (meant families r h.nla)
     pub wanted : IsOk (meant families r w.nla)
 
-  pub roles : (have want : List ℕ) (h w : PlacedNla) (k : ℕ) (t : InForce) (m n : Named) (r : Role) →
-      r ≡ role_of t k → k ≡ masked w.nla.kind → t ≡ kinds_named n → n ≡ (link_at want w).named → m ≡ (link_at have h).named →
+  pub roles : (have want : List ℕ) (h w : PlacedNla) (k : ℕ) (t : CurrentKinds) (m n : Named)
+      (r : Role) →
+      r ≡ role_of t k → k ≡ masked w.nla.kind → t ≡ kinds_named n → n ≡ (link_at want w).named →
+      m ≡ (link_at have h).named →
       true ≡ same_kind r m n → masked h.nla.kind ≡ masked w.nla.kind →
-      IsAcceptedLink families (link_at have h) → IsAcceptedLink families (link_at want w) → Roles have want h w r
+      IsAcceptedLink families (link_at have h) → IsAcceptedLink families (link_at want w) →
+      Roles have want h w r
   roles have want h w k t m n r is number kinds named had same typed hok wok =
       let role : r ≡ role_of (kinds_named n) (masked w.nla.kind) =
-      is ∙ ap (λ (q : ℕ). role_of t q) number ∙ ap (λ (u : InForce). role_of u (masked w.nla.kind)) kinds in
+      is
+      ∙ ap (λ (q : ℕ). role_of t q) number
+      ∙ ap (λ (u : CurrentKinds). role_of u (masked w.nla.kind)) kinds in
       let at_want : r ≡ role_at (kinds_named (link_at want w).named) w.nla =
       role ∙ ap (λ (q : Named). role_of (kinds_named q) (masked w.nla.kind)) named in
       let wanted = subst (λ (x : Result (LinkInfoOf P) DecodeError). IsOk x)
@@ -401,14 +638,63 @@ module _ {P : Type 0} (families : Families P) where
   payload_ok n label (Ok x) ok = refl
   payload_ok n label (Err e) ok = absurd cc
 
-  pub data_ok : (tag : KindTag) (r : Role) (a : Attribute) → r ≡ role.Data tag → IsOk (meant families r a) →
+  pub data_ok : (tag : KindTag) (r : Role) (a : Attribute) → r ≡ role.Data tag →
+      IsOk (meant families r a) →
       IsOk ((data_of families (family_of tag)).means a.value)
   data_ok tag r a is ok =
-      payload_ok (masked a.kind) (λ d. info.Data d) ((data_of families (family_of tag)).means a.value)
+      payload_ok (masked a.kind) (λ d. info.Data d)
+      ((data_of families (family_of tag)).means a.value)
       (subst (λ (q : Role). ok_meant q a) is ok)
 
-  pub port_ok : (tag : PortTag) (r : Role) (a : Attribute) → r ≡ role.PortData tag → IsOk (meant families r a) →
+  pub port_ok : (tag : PortTag) (r : Role) (a : Attribute) → r ≡ role.PortData tag →
+      IsOk (meant families r a) →
       IsOk ((port_data_of (port_family_of tag)).means a.value)
   port_ok tag r a is ok =
-      payload_ok (masked a.kind) (λ d. info.PortData d) ((port_data_of (port_family_of tag)).means a.value)
+      payload_ok (masked a.kind) (λ d. info.PortData d)
+      ((port_data_of (port_family_of tag)).means a.value)
       (subst (λ (q : Role). ok_meant q a) is ok)
+
+  -- what an attribute of such a type means, and what of it is not met, by its role under any kinds
+  free_ok : (s : List ℕ) (p : PlacedNla) (k : ℕ) (t : CurrentKinds) (r : Role) → r ≡ role_of t k →
+      k ≡ masked p.nla.kind → belongs_to_a_kind k ≡ false → IsAcceptedLink families (link_at s p) →
+      IsOk (meant families r p.nla)
+  free_ok s p k t r is number free ok =
+      let u = kinds_named (link_at s p).named in
+      let role : r ≡ role_at u p.nla =
+      is ∙ same_role t u k free ∙ ap (λ (n : ℕ). role_of u n) number in
+      subst (λ (x : Result (LinkInfoOf P) DecodeError). IsOk x) (meaning_is families u p.nla r role)
+      ok.means
+
+  pub free_roles : (have want : List ℕ) (h w : PlacedNla) (k : ℕ) (t : CurrentKinds) (r : Role) →
+      r ≡ role_of t k → k ≡ masked w.nla.kind → belongs_to_a_kind k ≡ false →
+      masked h.nla.kind ≡ masked w.nla.kind →
+      IsAcceptedLink families (link_at have h) → IsAcceptedLink families (link_at want w) →
+      Roles have want h w r
+  free_roles have want h w k t r is number free typed hok wok = record {
+    found = free_ok have h k t r is (number ∙ sym typed) free hok;
+    wanted = free_ok want w k t r is number free wok;
+  }
+
+  whole_by_role : (h w : Linked) (r : Role) → IsFree r →
+      (if same_kind r h.named w.named then role_unmet families r h.at w.at
+      else Some (whole_unmet w.at (Some h.at)))
+      ≡ item_unmet (row_alike (link_row families r)) h.at w.at
+  whole_by_role h w (role.Data tag) free = absurd free
+  whole_by_role h w role.Xstats free = absurd free
+  whole_by_role h w (role.PortData tag) free = absurd free
+  whole_by_role h w role.Kind free = refl
+  whole_by_role h w role.PortKind free = refl
+  whole_by_role h w role.Misplaced free = refl
+  whole_by_role h w role.Unknown free = refl
+
+  pub free_unmet : (h w : Linked) (k : ℕ) (t : CurrentKinds) (r : Role) →
+      r ≡ role_of t k → k ≡ masked w.at.nla.kind → belongs_to_a_kind k ≡ false →
+      item_unmet (row_alike (link_row families r)) h.at w.at ≡ link_unmet families (Some h) w
+  free_unmet h w k t r is number free =
+      let u = kinds_named w.named in
+      let role : r ≡ role_of_link w =
+      is ∙ same_role t u k free ∙ ap (λ (n : ℕ). role_of u n) number in
+      let has_none : IsFree (role_of_link w) =
+      subst (λ (n : ℕ). IsFree (role_of u n)) number (free_role u k free) in
+      ap (λ (q : Role). item_unmet (row_alike (link_row families q)) h.at w.at) role
+      ∙ sym (whole_by_role h w (role_of_link w) has_none)

@@ -1,12 +1,44 @@
--- The canonical string of what a string means: its length, and what is written of it.
-use Rattle.std.proofs.Common.{◌≡◌, ℕ, ◌+◌, ◌-◌, ◌<◌, ◌≤◌, List, [], ◌∷◌, ◌++◌, length, take, drop, refl, sym, ap, subst, ◌∙◌, arith, Result, Ok, Err, Option, Some, None}
+-- The canonical encoding of what a byte string means: its length, and what is written of it.
+use Rattle.std.proofs.Common.{
+  ◌≡◌,
+  ℕ,
+  ◌+◌,
+  ◌-◌,
+  ◌<◌,
+  ◌≤◌,
+  List,
+  [],
+  ◌∷◌,
+  ◌++◌,
+  length,
+  take,
+  drop,
+  refl,
+  sym,
+  ap,
+  subst,
+  ◌∙◌,
+  arith,
+  Result,
+  Ok,
+  Err,
+  Option,
+  Some,
+  None,
+}
 use borrow.Rule.Slice.PartMut.{put_mid}
 use Rattle.std.specs.Prelude.{IsOk}
 use Rattle.std.proofs.lemmas.List.{take_at, drop_at}
-use Rattle.nla_frame.specs.Attribute.{Attribute, ListFits, buffer_len_of, canonical_string, list_string}
+use Rattle.nla_frame.specs.Attribute.{
+  Attribute,
+  ListFits,
+  buffer_len_of,
+  canonical_string,
+  list_string,
+}
 use Rattle.nla_frame.specs.Canonical.{attribute_for, attributes_for}
 use Rattle.nla_frame.specs.declared.error.DecodeError.{DecodeError}
-use Rattle.nla_frame.specs.Pieces.{pieces}
+use Rattle.nla_frame.specs.NlaItems.{nla_items}
 use Rattle.nla_frame.proofs.Emitting.{length-list_string-cons, whole, Written}
 use Rattle.linkinfo_data.specs.Families.{Families}
 use Rattle.linkinfo_data.specs.Lawful.{AreLawful}
@@ -20,88 +52,125 @@ use Rattle.linkinfo.proofs.Steps.{entered, meant, stopped}
 use Rattle.linkinfo.specs.Canon.{IsCanonical, IsCanonicalLength, IsUnfit}
 
 module _ {F : Type 0} (attribute : F → Attribute) where
-  pub length_is : (meaning : Result (List F) DecodeError) (n : ℕ) → IsOk meaning → ListFits (attributes_for attribute meaning) → n ≡ length (list_string (attributes_for attribute meaning)) →
+  pub length_is : (meaning : Result (List F) DecodeError) (n : ℕ) → IsOk meaning →
+      ListFits (attributes_for attribute meaning) →
+      n ≡ length (list_string (attributes_for attribute meaning)) →
       IsCanonicalLength attribute meaning n
   length_is (Ok list) n ok fits size = (fits, size)
-  length_is (Err fault) n ok fits size = absurd cc
+  length_is (Err error) n ok fits size = absurd cc
 
-  pub unfit_is : (meaning : Result (List F) DecodeError) → IsOk meaning → ¬ ListFits (attributes_for attribute meaning) → IsUnfit attribute meaning
+  pub unfit_is : (meaning : Result (List F) DecodeError) → IsOk meaning →
+      ¬ ListFits (attributes_for attribute meaning) → IsUnfit attribute meaning
   unfit_is (Ok list) ok unfit = unfit
-  unfit_is (Err fault) ok unfit = absurd cc
+  unfit_is (Err error) ok unfit = absurd cc
 
-  pub length_accepted : (meaning : Result (List F) DecodeError) (n : ℕ) → IsCanonicalLength attribute meaning n → IsOk meaning
+  pub length_accepted : (meaning : Result (List F) DecodeError) (n : ℕ) →
+      IsCanonicalLength attribute meaning n → IsOk meaning
   length_accepted (Ok list) n h = refl
-  length_accepted (Err fault) n h = absurd h
+  length_accepted (Err error) n h = absurd h
 
-  pub length_fits : (meaning : Result (List F) DecodeError) (n : ℕ) → IsCanonicalLength attribute meaning n → ListFits (attributes_for attribute meaning)
+  pub length_fits : (meaning : Result (List F) DecodeError) (n : ℕ) →
+      IsCanonicalLength attribute meaning n → ListFits (attributes_for attribute meaning)
   length_fits (Ok list) n h = h.0
-  length_fits (Err fault) n h = absurd h
+  length_fits (Err error) n h = absurd h
 
-  pub length_same : (meaning : Result (List F) DecodeError) (n : ℕ) → IsCanonicalLength attribute meaning n → n ≡ length (list_string (attributes_for attribute meaning))
+  pub length_same : (meaning : Result (List F) DecodeError) (n : ℕ) →
+      IsCanonicalLength attribute meaning n →
+      n ≡ length (list_string (attributes_for attribute meaning))
   length_same (Ok list) n h = h.1
-  length_same (Err fault) n h = absurd h
+  length_same (Err error) n h = absurd h
 
-  -- the string in front of what stood behind it
-  front_is : (meaning : Result (List F) DecodeError) (string : List ℕ) (n : ℕ) → IsCanonicalLength attribute meaning n → string ≡ list_string (attributes_for attribute meaning) →
+  -- the encoding at the front of the buffer, before the unchanged rest
+  front_is : (meaning : Result (List F) DecodeError) (string : List ℕ) (n : ℕ) →
+      IsCanonicalLength attribute meaning n →
+      string ≡ list_string (attributes_for attribute meaning) →
       IsCanonical attribute meaning string
   front_is (Ok list) string n h same = (h.0, same)
-  front_is (Err fault) string n h same = absurd h
+  front_is (Err error) string n h same = absurd h
 
-  pub written_front : (meaning : Result (List F) DecodeError) (n : ℕ) (new old : List ℕ) → IsCanonicalLength attribute meaning n →
-      new ≡ list_string (attributes_for attribute meaning) ++ drop (length (list_string (attributes_for attribute meaning))) old → IsCanonical attribute meaning (take n new)
+  pub written_front : (meaning : Result (List F) DecodeError) (n : ℕ) (new old : List ℕ) →
+      IsCanonicalLength attribute meaning n →
+      new ≡ list_string (attributes_for attribute meaning)
+      ++ drop (length (list_string (attributes_for attribute meaning))) old →
+      IsCanonical attribute meaning (take n new)
   written_front meaning n new old h written =
       let string = list_string (attributes_for attribute meaning) in
-      front_is meaning (take n new) n h (ap (λ (b : List ℕ). take n b) written ∙ take_at string (drop (length string) old) n (sym (length_same meaning n h)))
+      front_is meaning (take n new) n h
+      (ap (λ (b : List ℕ). take n b) written
+      ∙ take_at string (drop (length string) old) n (sym (length_same meaning n h)))
 
-  pub written_behind : (meaning : Result (List F) DecodeError) (n : ℕ) (new old : List ℕ) → IsCanonicalLength attribute meaning n →
-      new ≡ list_string (attributes_for attribute meaning) ++ drop (length (list_string (attributes_for attribute meaning))) old → drop n new ≡ drop n old
-  written_behind meaning n new old h written =
+  pub written_after : (meaning : Result (List F) DecodeError) (n : ℕ) (new old : List ℕ) →
+      IsCanonicalLength attribute meaning n →
+      new ≡ list_string (attributes_for attribute meaning)
+      ++ drop (length (list_string (attributes_for attribute meaning))) old →
+      drop n new ≡ drop n old
+  written_after meaning n new old h written =
       let string = list_string (attributes_for attribute meaning) in
       let size = length_same meaning n h in
-      ap (λ (b : List ℕ). drop n b) written ∙ drop_at string (drop (length string) old) n (sym size) ∙ ap (λ (k : ℕ). drop k old) (sym size)
+      ap (λ (b : List ℕ). drop n b) written
+      ∙ drop_at string (drop (length string) old) n (sym size)
+      ∙ ap (λ (k : ℕ). drop k old) (sym size)
 
-  -- the string in a buffer of its own length
-  pub written_whole : (meaning : Result (List F) DecodeError) (n : ℕ) (new old : List ℕ) → IsCanonicalLength attribute meaning n → n ≡ length old →
-      new ≡ list_string (attributes_for attribute meaning) ++ drop (length (list_string (attributes_for attribute meaning))) old → IsCanonical attribute meaning new
+  -- the encoding in a buffer of exactly its length
+  pub written_whole : (meaning : Result (List F) DecodeError) (n : ℕ) (new old : List ℕ) →
+      IsCanonicalLength attribute meaning n → n ≡ length old →
+      new ≡ list_string (attributes_for attribute meaning)
+      ++ drop (length (list_string (attributes_for attribute meaning))) old →
+      IsCanonical attribute meaning new
   written_whole meaning n new old h long written =
       let string = list_string (attributes_for attribute meaning) in
       front_is meaning new n h (written ∙ whole string old (sym long ∙ length_same meaning n h))
 
--- ---- one attribute more
+-- ---- one more attribute
 
 not_ok : {A : Type 0} (m : Result A DecodeError) (e : DecodeError) → m ≡ Err e → IsOk m → ⊥
 not_ok (Ok x) e h ok = absurd cc
 not_ok (Err d) e h ok = absurd cc
 
-pub measured_more : (total : ℕ) (all now rest : List Attribute) (a : Attribute) → total + length (list_string now) ≡ length (list_string all) → now ≡ a ∷ rest →
+pub measured_more : (total : ℕ) (all now rest : List Attribute) (a : Attribute) →
+    total + length (list_string now) ≡ length (list_string all) → now ≡ a ∷ rest →
     (total + buffer_len_of a) + length (list_string rest) ≡ length (list_string all)
 measured_more total all now rest a so_far e =
-    omega (arith, so_far, ap (λ (attributes : List Attribute). length (list_string attributes)) e, length-list_string-cons a rest)
+    omega (
+      arith,
+      so_far,
+      ap (λ (attributes : List Attribute). length (list_string attributes)) e,
+      length-list_string-cons a rest,
+    )
 
 module _ {P : Type 0} (peer : Families P) where
-  -- what is left to write of what a walk has not gone over
+  -- the canonical attributes of those that a walk has not visited
   abbrev pub left_of : LinkWalk → List Attribute
-  left_of w = attributes_for (link_attribute peer) (values_from peer w.force (pieces (left w)))
+  left_of w = attributes_for (link_attribute peer) (values_from peer w.kinds (nla_items (left w)))
 
-  -- a walk over an accepted string meets no fault
-  pub walk_goes_on : (s t : LinkWalk) (r : Result (Attribute × Role) DecodeError) → Advances s (Some r) t → IsOk (values_from peer s.force (pieces (left s))) → IsOk r
+  -- a walk over an accepted byte string meets no error
+  pub walk_goes_on : (s t : LinkWalk) (r : Result (Attribute × Role) DecodeError) →
+      Advances s (Some r) t → IsOk (values_from peer s.kinds (nla_items (left s))) → IsOk r
   walk_goes_on s t (Ok x) h ok = refl
   walk_goes_on s t (Err e) h ok = absurd (not_ok _ e (stopped peer s e t h).values ok)
 
-  -- its step, as what is written
+  -- a step of a walk, as what is written
   pub record Writes (s t : LinkWalk) (a : Attribute) (r : Role) : Type 0 where
     pub accepted : IsOk (meant peer r a)
-    pub others : IsOk (values_from peer t.force (pieces (left t)))
-    pub values : values_from peer s.force (pieces (left s)) ≡ with_first (link_attribute peer) (meant peer r a) (values_from peer t.force (pieces (left t)))
+    pub others : IsOk (values_from peer t.kinds (nla_items (left t)))
+    pub values : values_from peer s.kinds (nla_items (left s))
+        ≡ with_first (link_attribute peer) (meant peer r a)
+        (values_from peer t.kinds (nla_items (left t)))
     pub written : attribute_for (link_attribute peer) (meant peer r a) ≡ written_attribute peer r a
     pub whole : left_of s ≡ written_attribute peer r a ∷ left_of t
     pub shorter : length (left t) < length (left s)
 
-  pub walk_writes : AreLawful peer → (s t : LinkWalk) (r : Result (Attribute × Role) DecodeError) (x : Attribute × Role) → r ≡ Ok x → Advances s (Some r) t →
-      IsOk (values_from peer s.force (pieces (left s))) → Writes s t x.0 x.1
+  pub walk_writes : AreLawful peer →
+      (s t : LinkWalk) (r : Result (Attribute × Role) DecodeError) (x : Attribute × Role) →
+      r ≡ Ok x → Advances s (Some r) t →
+      IsOk (values_from peer s.kinds (nla_items (left s))) → Writes s t x.0 x.1
   walk_writes law s t r x e h ok =
-      let step = entered peer s x.0 x.1 t (subst (λ (q : Result (Attribute × Role) DecodeError). Advances s (Some q) t) e h) in
-      let took = takes (link_attribute peer) (values_from peer s.force (pieces (left s))) (values_from peer t.force (pieces (left t))) (meant peer x.1 x.0) step.values ok in
+      let step =
+      entered peer s x.0 x.1 t
+      (subst (λ (q : Result (Attribute × Role) DecodeError). Advances s (Some q) t) e h) in
+      let took =
+      takes (link_attribute peer) (values_from peer s.kinds (nla_items (left s)))
+      (values_from peer t.kinds (nla_items (left t))) (meant peer x.1 x.0) step.values ok in
       let is = role_written peer law x.1 x.0 took.first in
       record {
         accepted = took.first;
@@ -112,19 +181,32 @@ module _ {P : Type 0} (peer : Families P) where
         shorter = omega (arith, step.room);
       }
 
-  -- written up to a place, and one attribute more: `piece` is what stands from that place on
-  pub write_item : (whole : List ℕ) (s t : LinkWalk) (a : Attribute) (r : Role) (at : ℕ) (old buffer : List ℕ) → Writes s t a r → Written whole (list_string (left_of s)) at old buffer →
-      IsOk (values_from peer s.force (pieces (left s))) → length whole ≤ length buffer → (n : ℕ) → n ≡ buffer_len_of (written_attribute peer r a) → (k : ℕ) → k ≡ length buffer - at →
-      (piece : List ℕ) → piece ≡ canonical_string (written_attribute peer r a) ++ drop (buffer_len_of (written_attribute peer r a)) (take k (drop at buffer)) →
-      Written whole (list_string (left_of t)) (at + n) old (put_mid at k buffer piece)
-  write_item whole s t a r at old buffer step before ok room n size k wide piece new =
+  -- one more attribute written at an offset: `chunk` is what the buffer holds from that offset on
+  pub write_item : (whole : List ℕ) (s t : LinkWalk) (a : Attribute) (r : Role) (at : ℕ)
+      (old buffer : List ℕ) → Writes s t a r →
+      Written whole (list_string (left_of s)) at old buffer →
+      IsOk (values_from peer s.kinds (nla_items (left s))) → length whole
+      ≤ length buffer → (n : ℕ) →
+      n ≡ buffer_len_of (written_attribute peer r a) → (k : ℕ) → k ≡ length buffer - at →
+      (chunk : List ℕ) →
+      chunk ≡ canonical_string (written_attribute peer r a)
+      ++ drop (buffer_len_of (written_attribute peer r a)) (take k (drop at buffer)) →
+      Written whole (list_string (left_of t)) (at + n) old (put_mid at k buffer chunk)
+  write_item whole s t a r at old buffer step before ok room n size k wide chunk new =
       let is = sym step.written in
-      write_first (link_attribute peer) whole (values_from peer s.force (pieces (left s))) (values_from peer t.force (pieces (left t))) (meant peer r a) at old buffer before step.values ok
-      room n (size ∙ ap (λ (z : Attribute). buffer_len_of z) is) k wide piece
-      (new ∙ ap (λ (z : Attribute). canonical_string z ++ drop (buffer_len_of z) (take k (drop at buffer))) is)
+      write_first (link_attribute peer) whole (values_from peer s.kinds (nla_items (left s)))
+      (values_from peer t.kinds (nla_items (left t))) (meant peer r a)
+      at old buffer before step.values ok
+      room n (size ∙ ap (λ (z : Attribute). buffer_len_of z) is) k wide chunk
+      (new
+      ∙ ap (λ (z : Attribute). canonical_string z
+      ++ drop (buffer_len_of z) (take k (drop at buffer))) is)
 
-  -- at its end nothing is left
-  pub walk_ends : (s t : LinkWalk) (r : Option (Result (Attribute × Role) DecodeError)) → Advances s r t → r ≡ None → left_of s ≡ []
+  -- at the end of a walk nothing is left
+  pub walk_ends : (s t : LinkWalk) (r : Option (Result (Attribute × Role) DecodeError)) →
+      Advances s r t → r ≡ None → left_of s ≡ []
   walk_ends s t r h e =
-      let end = subst (λ (q : Option (Result (Attribute × Role) DecodeError)). Advances s q t) e h in
-      ap (λ (ps : List (Result Attribute ℕ)). attributes_for (link_attribute peer) (values_from peer s.force ps)) end.1
+      let end =
+      subst (λ (q : Option (Result (Attribute × Role) DecodeError)). Advances s q t) e h in
+      ap (λ (ps : List (Result Attribute ℕ)).
+      attributes_for (link_attribute peer) (values_from peer s.kinds ps)) end.1

@@ -1,7 +1,20 @@
--- The list as it was read before `pfcp` had a family: the data under it was bytes.
-use Rattle.std.specs.Prelude.{◌≡◌, ℕ, Bool, true, false, if◌then◌else◌, List, [], ◌∷◌, Result, Ok, Err}
+-- The list as it was parsed before `pfcp` had a family: its data was kept as bytes.
+use Rattle.std.specs.Prelude.{
+  ◌≡◌,
+  ℕ,
+  Bool,
+  true,
+  false,
+  if◌then◌else◌,
+  List,
+  [],
+  ◌∷◌,
+  Result,
+  Ok,
+  Err,
+}
 use Rattle.nla_frame.specs.Attribute.{Attribute}
-use Rattle.nla_frame.specs.Pieces.{pieces}
+use Rattle.nla_frame.specs.NlaItems.{nla_items}
 use Rattle.nla_frame.specs.declared.error.DecodeError.{DecodeError}
 use Rattle.nla_frame.specs.declared.error.Family.TheVariants as family
 use Rattle.linkinfo_numbers.specs.declared.tags.KindTag.{KindTag}
@@ -13,10 +26,10 @@ use Rattle.linkinfo_data.specs.declared.data.DataFamily.TheVariants as of
 use Rattle.linkinfo_table.specs.Lists.{values_under, alike_under}
 use Rattle.linkinfo_table.specs.Rows.{Row, row_alike, row_meaning}
 use Rattle.linkinfo.specs.Items.{data_row, link_other, link_row}
-use Rattle.linkinfo.specs.Roles.{none_in_force, role_at}
-use Rattle.linkinfo.specs.Strings.{force_after}
+use Rattle.linkinfo.specs.Roles.{no_kinds, role_at}
+use Rattle.linkinfo.specs.Strings.{next_kinds}
 use Rattle.linkinfo.specs.declared.link_info.LinkInfoOf.{LinkInfoOf}
-use Rattle.linkinfo.specs.declared.role.InForce.{InForce}
+use Rattle.linkinfo.specs.declared.role.CurrentKinds.{CurrentKinds}
 use Rattle.linkinfo.specs.declared.role.Role.{Role}
 use Rattle.linkinfo.specs.declared.role.Role.TheVariants as role
 
@@ -24,39 +37,45 @@ abbrev pub is_pfcp : KindTag → Bool
 is_pfcp tag.Pfcp = true
 is_pfcp _ = false
 
--- the family of a kind's data: under `pfcp` none
+-- the family of a kind's data: none for `pfcp`
 abbrev pub family_before : KindTag → DataFamily
 family_before t = if is_pfcp t then of.Raw else family_of t
 
--- attributes of the list, of which data alone was read otherwise
+-- the rows of the list, of which those of data alone differ
 abbrev pub row_before : {P : Type 0} → Families P → Role → Row (LinkInfoOf P)
 row_before families (role.Data t) = data_row families (family_before t)
 row_before families r = link_row families r
 
-abbrev pub meaning_before : {P : Type 0} → Families P → InForce → Attribute → Result (LinkInfoOf P) DecodeError
-meaning_before families t a = row_meaning family.LinkInfo link_other (row_before families (role_at t a)) a
+abbrev pub meaning_before : {P : Type 0} → Families P → CurrentKinds → Attribute →
+    Result (LinkInfoOf P) DecodeError
+meaning_before families t a =
+    row_meaning family.LinkInfo link_other (row_before families (role_at t a)) a
 
-abbrev pub alike_before : {P : Type 0} → Families P → InForce → Attribute → Attribute → Bool
+abbrev pub alike_before : {P : Type 0} → Families P → CurrentKinds → Attribute → Attribute → Bool
 alike_before families t a b = row_alike (row_before families (role_at t a)) a b
 
--- what a whole string meant, and whether two were alike
-unfoldable pub reading_before : {P : Type 0} → Families P → List ℕ → Result (List (LinkInfoOf P)) DecodeError
-reading_before families s = values_under (meaning_before families) force_after none_in_force (pieces s)
+-- what a whole byte string meant, and whether two were equivalent
+unfoldable pub reading_before : {P : Type 0} → Families P → List ℕ →
+    Result (List (LinkInfoOf P)) DecodeError
+reading_before families s =
+    values_under (meaning_before families) next_kinds no_kinds (nla_items s)
 
 unfoldable pub alike_strings_before : {P : Type 0} → Families P → List ℕ → List ℕ → Bool
-alike_strings_before families a b = alike_under (alike_before families) force_after none_in_force (pieces a) (pieces b)
+alike_strings_before families a b =
+    alike_under (alike_before families) next_kinds no_kinds (nla_items a) (nla_items b)
 
 -- data under `pfcp`
 abbrev pub is_pfcp_data : Role → Bool
 is_pfcp_data (role.Data t) = is_pfcp t
 is_pfcp_data _ = false
 
--- none of these, under the kinds in force that those before it leave, is data under `pfcp`
-abbrev pub NoneIsPfcpData : InForce → List (Result Attribute ℕ) → Type 0
+-- no attribute is data under `pfcp`, under the current kinds that the attributes before it leave
+abbrev pub NoneIsPfcpData : CurrentKinds → List (Result Attribute ℕ) → Type 0
 NoneIsPfcpData t [] = Unit {0}
 NoneIsPfcpData t ((Err n) ∷ more) = Unit {0}
-NoneIsPfcpData t ((Ok a) ∷ more) = (is_pfcp_data (role_at t a) ≡ false) × NoneIsPfcpData (force_after t a) more
+NoneIsPfcpData t ((Ok a) ∷ more) =
+    (is_pfcp_data (role_at t a) ≡ false) × NoneIsPfcpData (next_kinds t a) more
 
--- the string has no data under `pfcp`
+-- the byte string has no data under `pfcp`
 unfoldable pub HasNoPfcpData : List ℕ → Type 0
-HasNoPfcpData s = NoneIsPfcpData none_in_force (pieces s)
+HasNoPfcpData s = NoneIsPfcpData no_kinds (nla_items s)

@@ -1,5 +1,5 @@
--- Which lists are well formed, stated of the values themselves: each by its variant, under the
--- current kinds before it.
+-- Which lists are well formed, stated of the values themselves: of each value by its variant, under
+-- the current kinds before it.
 use Rattle.std.specs.Prelude.{◌≡◌, ◌≢◌, ℕ, ◌<◌, true, List, Option, Some, None}
 use Rattle.std.specs.Str.{is_utf8}
 use Rattle.nla_frame.specs.Attribute.{IsBytes, masked}
@@ -14,14 +14,14 @@ use Rattle.linkinfo_data.specs.Data.{family_of}
 use Rattle.linkinfo_data.specs.PortData.{port_family_of}
 use Rattle.linkinfo_data.specs.declared.info_data.InfoDataOf.{InfoDataOf}
 use Rattle.linkinfo_data.specs.declared.port_data.InfoPortData.{InfoPortData}
-use Rattle.linkinfo.specs.Roles.{none_in_force}
-use Rattle.linkinfo.specs.Strings.{force_behind}
+use Rattle.linkinfo.specs.Roles.{no_kinds}
+use Rattle.linkinfo.specs.Strings.{kinds_after_value}
 use Rattle.linkinfo.specs.Xstats.{xstats_bytes}
 use Rattle.linkinfo.specs.declared.link_info.LinkInfoOf.{LinkInfoOf}
 use Rattle.linkinfo.specs.declared.link_info.LinkInfoOf.TheVariants as info
-use Rattle.linkinfo.specs.declared.role.InForce.{InForce}
+use Rattle.linkinfo.specs.declared.role.CurrentKinds.{CurrentKinds}
 
--- UTF-8, as every text is
+-- UTF-8, as each text is
 abbrev pub IsText : List ℕ → Type 0
 IsText text = (is_utf8 text ≡ true) × IsBytes text
 
@@ -42,7 +42,7 @@ IsUnnamed n = (n ≢ 1) × (n ≢ 2) × (n ≢ 3) × (n ≢ 4) × (n ≢ 5)
 -- A kind, or a port kind, is not `Other` of a known name. Data belongs to the current kind, port
 -- data to the current port kind, and statistics follow a kind. An opaque attribute has none of the
 -- five types, 16 bits of type, and bytes for a payload.
-abbrev pub item_conditions : {P : Type 0} → (P → Type 0) → InForce → LinkInfoOf P → Type 0
+abbrev pub item_conditions : {P : Type 0} → (P → Type 0) → CurrentKinds → LinkInfoOf P → Type 0
 item_conditions well t (info.Kind k) = IsRead kind_table IsText k
 item_conditions well t (info.Data d) = IsDataUnder well t.kind d
 item_conditions well t (info.Xstats x) = (t.kind ≢ None) × IsBytes (xstats_bytes x)
@@ -53,4 +53,4 @@ item_conditions well t (info.Other d) =
 
 -- each value of the list, under the current kinds that those before it leave
 abbrev pub Conditions : {P : Type 0} → (P → Type 0) → List (LinkInfoOf P) → Type 0
-Conditions well xs = well_under (item_conditions well) force_behind none_in_force xs
+Conditions well xs = well_under (item_conditions well) kinds_after_value no_kinds xs

@@ -1,4 +1,5 @@
--- Attributes of the list: what each means by its role, as a row of a table that the kinds in force choose.
+-- Attributes of the list: what each means by its role, as a row of a table that the current kinds
+-- choose.
 use Rattle.std.specs.Prelude.{ℕ, Bool, [], Result}
 use Rattle.nla_frame.specs.Attribute.{Attribute}
 use Rattle.nla_frame.specs.Kept.{attribute_of}
@@ -12,10 +13,20 @@ use Rattle.linkinfo_shapes.specs.declared.shape.Shape.TheVariants.{Name, Raw}
 use Rattle.linkinfo_data.specs.Families.{Families}
 use Rattle.linkinfo_shapes.specs.Shapes.{canonical}
 use Rattle.linkinfo_table.specs.FamilyRows.{shape_codec}
-use Rattle.linkinfo_table.specs.Rows.{Row, Is, Refused, Unknown, meaning_in, alike_in, headers_inside, memory_in, WellFormed}
+use Rattle.linkinfo_table.specs.Rows.{
+  Row,
+  Is,
+  Refused,
+  Unknown,
+  meaning_in,
+  alike_in,
+  headers_inside,
+  memory_in,
+  WellFormed,
+}
 use Rattle.linkinfo.specs.declared.link_info.LinkInfoOf.{LinkInfoOf}
 use Rattle.linkinfo.specs.declared.link_info.LinkInfoOf.TheVariants as info
-use Rattle.linkinfo.specs.declared.role.InForce.{InForce}
+use Rattle.linkinfo.specs.declared.role.CurrentKinds.{CurrentKinds}
 use Rattle.linkinfo.specs.declared.role.Role.{Role}
 use Rattle.linkinfo.specs.declared.role.Role.TheVariants as role
 use Rattle.linkinfo.specs.declared.xstats.LinkXstats.TheVariants as xstats
@@ -23,11 +34,16 @@ use Rattle.linkinfo_data.specs.Data.{data_of, family_of}
 use Rattle.linkinfo_data.specs.declared.data.DataFamily.{DataFamily}
 use Rattle.linkinfo_data.specs.InfoData.{data_attribute, data_payload}
 use Rattle.linkinfo_data.specs.Payloads.{payload_codec}
-use Rattle.linkinfo_data.specs.PortData.{port_data_attribute, port_data_of, port_data_payload, port_family_of}
+use Rattle.linkinfo_data.specs.PortData.{
+  port_data_attribute,
+  port_data_of,
+  port_data_payload,
+  port_family_of,
+}
 use Rattle.linkinfo.specs.Roles.{role_of}
 use Rattle.linkinfo.specs.Xstats.{xstats_bytes}
 
--- the canonical attribute
+-- the canonical attribute of a value
 abbrev pub link_attribute : {P : Type 0} → Families P → LinkInfoOf P → Attribute
 link_attribute peer (info.Xstats x) = record { kind = 3; value = xstats_bytes x }
 link_attribute peer (info.Kind k) = kind_attribute k
@@ -36,56 +52,75 @@ link_attribute peer (info.PortKind k) = port_kind_attribute k
 link_attribute peer (info.PortData d) = port_data_attribute d
 link_attribute peer (info.Other nla) = attribute_of nla
 
--- an attribute of an unknown type
+-- an attribute of an unknown type, kept verbatim
 abbrev pub link_other : {P : Type 0} → DefaultNla → LinkInfoOf P
 link_other nla = info.Other nla
 
--- data as attributes of a family
+-- data as the row of its family
 abbrev pub data_row : {P : Type 0} → Families P → DataFamily → Row (LinkInfoOf P)
-data_row peer f = Is (record { codec = payload_codec (data_of peer f) (data_payload peer); label = λ d. info.Data d })
+data_row peer f =
+    Is (record {
+      codec = payload_codec (data_of peer f) (data_payload peer);
+      label = λ d. info.Data d;
+    })
 
--- Names are those of kinds, statistics are bytes, and data is read under the kind in force. What is misplaced is refused, and an unknown
--- type is kept.
+-- Names are those of kinds, statistics are bytes, and data is that of the current kind. A misplaced
+-- attribute is rejected, and one of an unknown type is kept.
 abbrev pub link_row : {P : Type 0} → Families P → Role → Row (LinkInfoOf P)
-link_row peer role.Kind = Is (record { codec = shape_codec Name; label = λ name. info.Kind (kind_of_name name) })
+link_row peer role.Kind =
+    Is (record { codec = shape_codec Name; label = λ name. info.Kind (kind_of_name name) })
 link_row peer (role.Data tag) = data_row peer (family_of tag)
-link_row peer role.Xstats = Is (record { codec = shape_codec Raw; label = λ bytes. info.Xstats (xstats.Other bytes) })
-link_row peer role.PortKind = Is (record { codec = shape_codec Name; label = λ name. info.PortKind (port_kind_of_name name) })
-link_row peer (role.PortData tag) = Is (record { codec = payload_codec (port_data_of (port_family_of tag)) port_data_payload; label = λ d. info.PortData d })
+link_row peer role.Xstats =
+    Is (record { codec = shape_codec Raw; label = λ bytes. info.Xstats (xstats.Other bytes) })
+link_row peer role.PortKind =
+    Is (record { codec = shape_codec Name; label = λ name. info.PortKind (port_kind_of_name name) })
+link_row peer (role.PortData tag) =
+    Is (record {
+      codec = payload_codec (port_data_of (port_family_of tag)) port_data_payload;
+      label = λ d. info.PortData d;
+    })
 link_row peer role.Misplaced = Refused cause.Order
 link_row peer role.Unknown = Unknown
 
-abbrev pub link_rows : {P : Type 0} → Families P → InForce → ℕ → Row (LinkInfoOf P)
+abbrev pub link_rows : {P : Type 0} → Families P → CurrentKinds → ℕ → Row (LinkInfoOf P)
 link_rows peer t n = link_row peer (role_of t n)
 
--- what an attribute of the list means under the kinds in force, or its fault
-abbrev pub link_meaning : {P : Type 0} → Families P → InForce → Attribute → Result (LinkInfoOf P) DecodeError
+-- what an attribute of the list means under the current kinds, or its error
+abbrev pub link_meaning : {P : Type 0} → Families P → CurrentKinds → Attribute →
+    Result (LinkInfoOf P) DecodeError
 link_meaning peer t a = meaning_in family.LinkInfo link_other (link_rows peer t) a
 
--- what is written for an accepted attribute, by its role: names and data in their canonical payloads, with their types; statistics and attributes of an
--- unknown type as they came
+-- what is written for an accepted attribute, by its role: names and data in their canonical
+-- payloads, with their types; statistics and attributes of an unknown type verbatim
 abbrev pub written_attribute : {P : Type 0} → Families P → Role → Attribute → Attribute
 written_attribute peer role.Kind a = record { kind = 1; value = canonical Name a.value }
-written_attribute peer (role.Data tag) a = record { kind = 2; value = (data_of peer (family_of tag)).canonical a.value }
+written_attribute peer (role.Data tag) a = record {
+  kind = 2;
+  value = (data_of peer (family_of tag)).canonical a.value;
+}
 written_attribute peer role.Xstats a = record { kind = 3; value = a.value }
 written_attribute peer role.PortKind a = record { kind = 4; value = canonical Name a.value }
-written_attribute peer (role.PortData tag) a = record { kind = 5; value = (port_data_of (port_family_of tag)).canonical a.value }
+written_attribute peer (role.PortData tag) a = record {
+  kind = 5;
+  value = (port_data_of (port_family_of tag)).canonical a.value;
+}
 written_attribute peer role.Misplaced a = record { kind = 0; value = [] }
 written_attribute peer role.Unknown a = record { kind = a.kind; value = a.value }
 
--- the headers inside it
-abbrev pub link_headers : {P : Type 0} → Families P → InForce → Attribute → ℕ
+-- the headers inside an attribute
+abbrev pub link_headers : {P : Type 0} → Families P → CurrentKinds → Attribute → ℕ
 link_headers peer t a = headers_inside (link_rows peer t) a
 
--- whether two accepted ones mean the same
-abbrev pub link_alike : {P : Type 0} → Families P → InForce → Attribute → Attribute → Bool
+-- whether two accepted attributes are equivalent
+abbrev pub link_alike : {P : Type 0} → Families P → CurrentKinds → Attribute → Attribute → Bool
 link_alike peer t a b = alike_in (link_rows peer t) a b
 
--- whether reading it may need memory
-abbrev pub link_needs_memory : {P : Type 0} → Families P → InForce → Attribute → Bool
+-- whether parsing an attribute may allocate
+abbrev pub link_needs_memory : {P : Type 0} → Families P → CurrentKinds → Attribute → Bool
 link_needs_memory peer t a = memory_in (link_rows peer t) a
 
--- Whether a value is one that an attribute can mean under the kinds in force: no kind is `Other` of a known name, data belongs to the kind in
--- force, no attribute is `Other` of a known type, and each number, text and list is one that its type can hold.
-abbrev pub link_well : {P : Type 0} → Families P → InForce → LinkInfoOf P → Type 0
+-- Whether an attribute can mean a value under the current kinds. No kind is `Other` of a known
+-- name, data belongs to the current kind, no attribute is `Other` of a known type, and each number,
+-- text and list is one that its type can hold.
+abbrev pub link_well : {P : Type 0} → Families P → CurrentKinds → LinkInfoOf P → Type 0
 link_well peer t x = WellFormed link_other (link_attribute peer) (link_rows peer t) x

@@ -2,8 +2,10 @@ pub mod BeforePfcp
 pub mod Canon
 pub mod Comparing
 pub mod Conditions
+pub mod Difference
 pub mod Items
 pub mod LinkEqual
+pub mod Met
 pub mod Placed
 pub mod Roles
 pub mod Strings

@@ -1,21 +1,62 @@
--- Where in a string its fault stands.
-use Rattle.std.specs.Prelude.{◌≡◌, ℕ, ◌+◌, min, sum_by, List, length}
+-- The offsets of the error of a byte string.
+use Rattle.std.specs.Prelude.{◌≡◌, ℕ, ◌+◌, min, sum_by, List, length, Option, None, Some, unwrap_or}
 use Rattle.std.proofs.Common.{inl, inr}
 use Rattle.nla_frame.specs.Attribute.{Attribute, aligned}
 use Rattle.nla_frame.specs.declared.error.DecodeError.{DecodeError}
 use Rattle.linkinfo_data.specs.Families.{Families}
-use Rattle.linkinfo.specs.Strings.{IsFaulty}
+use Rattle.linkinfo_data.specs.Data.{data_of, family_of}
+use Rattle.linkinfo_data.specs.Difference.{list_error}
+use Rattle.linkinfo_data.specs.Listing.{Listing}
+use Rattle.linkinfo_data.specs.PortData.{port_data_of, port_family_of}
+use Rattle.linkinfo.specs.Roles.{no_kinds, role_at}
+use Rattle.linkinfo.specs.Strings.{IsRejected, kinds_after_all}
+use Rattle.linkinfo.specs.declared.role.Role.TheVariants as role
+use Rattle.linkinfo.specs.declared.role.Role.{Role}
 
--- where the header behind attributes of a string is looked for: after their padding, or at the end
-abbrev pub place_behind : List ℕ → List Attribute → ℕ
-place_behind s front = min (length s) (sum_by (λ a. aligned (4 + length a.value)) front)
+-- the offset of the next header after these attributes: after their padding, or at the end
+abbrev pub place_after : List ℕ → List Attribute → ℕ
+place_after s front = min (length s) (sum_by (λ a. aligned (4 + length a.value)) front)
 
--- the attributes of the list in front of the one that has the fault, or of the rest without a header
-abbrev pub before_fault : {P : Type 0} (peer : Families P) (s : List ℕ) (e : DecodeError) → IsFaulty peer s e → List Attribute
-before_fault peer s e (inl item) = item.front
-before_fault peer s e (inr rest) = rest.front
+-- the attributes of the list before the one that has the error, or before a rest without a header
+abbrev pub before_error : {P : Type 0} (peer : Families P) (s : List ℕ) (e : DecodeError) →
+    IsRejected peer s e → List Attribute
+before_error peer s e (inl item) = item.front
+before_error peer s e (inr rest) = rest.front
 
--- The string has the fault, and at this place stands the attribute of the list that has it, itself or in what stands inside it, or the rest without
--- a header.
-abbrev pub IsFaultyAt : {P : Type 0} → Families P → List ℕ → DecodeError → ℕ → Type 0
-IsFaultyAt peer s e place = (faulty : IsFaulty peer s e) × (place ≡ place_behind s (before_fault peer s e faulty))
+-- The byte string has the error, and at this offset is the attribute of the list that has it,
+-- itself or in its data, or a rest without a header.
+abbrev pub IsRejectedAt : {P : Type 0} → Families P → List ℕ → DecodeError → ℕ → Type 0
+IsRejectedAt peer s e place =
+    (rejected : IsRejected peer s e) × (place ≡ place_after s (before_error peer s e rejected))
+
+-- ---- the innermost attribute that has the error
+
+-- the offset of the error of rejected data, from the header of its attribute: that of an attribute
+-- of a list in it, or that of the first attribute in it
+abbrev pub error_in_payload : Option Listing → List ℕ → ℕ
+error_in_payload (Some listing) payload =
+    4 + unwrap_or (list_error listing.lists listing.accepts payload) 0
+error_in_payload None payload = 4
+
+-- the offset of the error of a rejected attribute of the list, from its header: 0 for names,
+-- statistics and unknown attributes
+abbrev pub error_in : {P : Type 0} → Families P → Role → Attribute → ℕ
+error_in families (role.Data tag) a =
+    error_in_payload (data_of families (family_of tag)).listing a.value
+error_in families (role.PortData tag) a =
+    error_in_payload (port_data_of (port_family_of tag)).listing a.value
+error_in families _ a = 0
+
+abbrev pub error_in_rejected : {P : Type 0} (families : Families P) (s : List ℕ) (e : DecodeError) →
+    IsRejected families s e → ℕ
+error_in_rejected families s e (inl item) =
+    error_in families (role_at (kinds_after_all no_kinds item.front) item.item) item.item
+error_in_rejected families s e (inr rest) = 0
+
+-- The byte string has the error, at this offset as `IsRejectedAt` says, and the innermost attribute
+-- that has it is at `inner`.
+abbrev pub IsErrorAt : {P : Type 0} → Families P → List ℕ → DecodeError → ℕ → ℕ → Type 0
+IsErrorAt families s e place inner =
+    (rejected : IsRejected families s e)
+    × (place ≡ place_after s (before_error families s e rejected))
+    × (inner ≡ place + error_in_rejected families s e rejected)

@@ -1,5 +1,19 @@
 -- Which attribute of a list of link info another list does not meet.
-use Rattle.std.specs.Prelude.{ℕ, ◌==◌, ◌+◌, nat_lt, Bool, true, if◌then◌else◌, List, [], ◌∷◌, Option, None, Some}
+use Rattle.std.specs.Prelude.{
+  ℕ,
+  ◌==◌,
+  ◌+◌,
+  nat_lt,
+  Bool,
+  true,
+  if◌then◌else◌,
+  List,
+  [],
+  ◌∷◌,
+  Option,
+  None,
+  Some,
+}
 use Rattle.std.specs.Prelude.{Result, Ok, Err}
 use Rattle.std.specs.Option.{option_copied, option_eq, option_map}
 use Rattle.std.specs.Str.{bytes_eq}
@@ -21,10 +35,10 @@ use Rattle.linkinfo_data.specs.Unmet.{counts, last_like, list_unmet, meets}
 use Rattle.linkinfo_data.specs.declared.unmet.Unmet.{Unmet}
 use Rattle.linkinfo.specs.Items.{link_row}
 use Rattle.linkinfo.specs.Roles.{role_of}
-use Rattle.linkinfo.specs.Strings.{first_or}
-use Rattle.linkinfo.specs.declared.placed.FaultIn.TheVariants.{First, Second}
-use Rattle.linkinfo.specs.declared.placed.FaultIn.{FaultIn}
-use Rattle.linkinfo.specs.declared.role.InForce.{InForce}
+use Rattle.linkinfo_data.specs.Difference.{first_or}
+use Rattle.linkinfo.specs.declared.placed.ErrorIn.TheVariants.{First, Second}
+use Rattle.linkinfo.specs.declared.placed.ErrorIn.{ErrorIn}
+use Rattle.linkinfo.specs.declared.role.CurrentKinds.{CurrentKinds}
 use Rattle.linkinfo.specs.declared.role.Role.TheVariants as role
 use Rattle.linkinfo.specs.declared.role.Role.{Role}
 use Rattle.linkinfo.specs.declared.unmet.Names as declared_names
@@ -50,7 +64,7 @@ names_after names a = record {
 }
 
 -- the kinds of these names
-abbrev pub kinds_named : Named → InForce
+abbrev pub kinds_named : Named → CurrentKinds
 kinds_named names = record {
   kind = option_map tag_of_name names.kind;
   port = option_map port_tag_of_name names.port;
@@ -100,24 +114,29 @@ inner_unmet want have inner = record {
   have = option_map (λ n. have.offset + 4 + n) inner.have;
 }
 
--- of two attributes of one type and kind: the whole, where the payloads differ and are not equivalent, ..
+-- of two attributes of one type and kind: the whole, where the payloads differ and are not
+-- equivalent, ..
 abbrev pub item_unmet : (Attribute → Attribute → Bool) → PlacedNla → PlacedNla → Option Unmet
 item_unmet alike have want =
     if meets alike have.nla want.nla then None else Some (whole_unmet want (Some have))
 
 -- .. or an attribute of the payload, where it is a list
-abbrev pub payload_unmet : Option Listing → (List ℕ → List ℕ → Bool) → PlacedNla → PlacedNla → Option Unmet
+abbrev pub payload_unmet : Option Listing → (List ℕ → List ℕ → Bool) → PlacedNla → PlacedNla →
+    Option Unmet
 payload_unmet (Some listing) alike have want =
     option_map (inner_unmet want have)
-    (list_unmet listing.family listing.alike (attributes_of have.nla.value) (attributes_of want.nla.value))
+    (list_unmet listing.family listing.alike (attributes_of have.nla.value)
+    (attributes_of want.nla.value))
 payload_unmet None alike have want = item_unmet (λ a b. alike a.value b.value) have want
 
 abbrev pub data_unmet : {X : Type 0} → Payload X → PlacedNla → PlacedNla → Option Unmet
 data_unmet payload have want = payload_unmet payload.listing payload.alike have want
 
 abbrev pub role_unmet : {P : Type 0} → Families P → Role → PlacedNla → PlacedNla → Option Unmet
-role_unmet families (role.Data tag) have want = data_unmet (data_of families (family_of tag)) have want
-role_unmet families (role.PortData tag) have want = data_unmet (port_data_of (port_family_of tag)) have want
+role_unmet families (role.Data tag) have want =
+    data_unmet (data_of families (family_of tag)) have want
+role_unmet families (role.PortData tag) have want =
+    data_unmet (port_data_of (port_family_of tag)) have want
 role_unmet families r have want = item_unmet (row_alike (link_row families r)) have want
 
 abbrev pub link_unmet : {P : Type 0} → Families P → Option Linked → Linked → Option Unmet
@@ -131,7 +150,8 @@ link_unmet families (Some have) want =
 abbrev pub counted_unmet : {P : Type 0} → Families P → List ℕ → List ℕ → PlacedNla → Option Unmet
 counted_unmet families have want p =
     if counts (attributes_of want) p
-    then link_unmet families (option_map (link_at have) (last_like (attributes_of have) p)) (link_at want p)
+    then link_unmet families (option_map (link_at have) (last_like (attributes_of have) p))
+    (link_at want p)
     else None
 
 -- the first
@@ -143,7 +163,8 @@ abbrev pub strings_unmet : {P : Type 0} → Families P → List ℕ → List ℕ
 strings_unmet families have want = first_of (counted_unmet families have want) (attributes_of want)
 
 -- the error of the first string, else that of the second, else what is not met
-abbrev pub unmet_answer : {X : Type 0} → Result X DecodeError → Result X DecodeError → Option Unmet → Result (Option Unmet) FaultIn
+abbrev pub unmet_answer : {X : Type 0} → Result X DecodeError → Result X DecodeError →
+    Option Unmet → Result (Option Unmet) ErrorIn
 unmet_answer (Err e) want unmet = Err (First e)
 unmet_answer (Ok x) (Err e) unmet = Err (Second e)
 unmet_answer (Ok x) (Ok y) unmet = Ok unmet

@@ -1,9 +1,10 @@
--- What the steps of finding the first unmet attribute ask for, and where they find names.
-use Rattle.std.specs.Prelude.{◌+◌, ◌<◌, ◌≤◌, ◌^◌, ◌==◌, ◌&&◌, ℕ, Bool, IsOk, List, [], drop, length}
+-- What the steps of finding the first unmet attribute require, and where they find names.
+use Rattle.std.specs.Prelude.{◌+◌, ◌<◌, ◌≤◌, ◌^◌, ◌==◌, ◌&&◌, ℕ, Bool, IsOk, List, []}
+use Rattle.std.specs.Prelude.{◌||◌, drop, length}
 use Rattle.std.specs.Prelude.{Option, None, Some, Result, Ok, Err, if◌then◌else◌}
 use Rattle.nla_frame.specs.Attribute.{Attribute}
 use Rattle.nla_frame.specs.Payload.{stripped}
-use Rattle.nla_frame.specs.Pieces.{attribute_at}
+use Rattle.nla_frame.specs.NlaItems.{attribute_at}
 use Rattle.nla_frame.specs.declared.error.DecodeError.{DecodeError}
 use Rattle.linkinfo_data.specs.Families.{Families}
 use Rattle.linkinfo.specs.Items.{link_meaning}
@@ -13,6 +14,10 @@ use Rattle.linkinfo.specs.Unmet.{Linked, kinds_named}
 pub record IsAcceptedLink {P : Type 0} (families : Families P) (link : Linked) : Type 0 where
   pub means : IsOk (link_meaning families (kinds_named link.named) link.at.nla)
   pub room : link.at.offset + (4 + length link.at.nla.value) < 2 ^ 64
+
+-- what attributes of these types mean depends on a kind: data, statistics and port data
+abbrev pub belongs_to_a_kind : ℕ → Bool
+belongs_to_a_kind kind = kind == 2 || kind == 3 || kind == 5
 
 -- where the current kind, and the current port kind, is named after an attribute
 abbrev pub kind_place : Bool → ℕ → ℕ → Option ℕ → Option ℕ

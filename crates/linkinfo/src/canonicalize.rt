@@ -1,17 +1,37 @@
-//! The canonical string of what a string means, written into a buffer without values and without memory.
+//! The canonical encoding of a list, from another encoding of it, in a buffer of the caller and
+//! without allocating.
 
-ghost use Rattle.std.specs.Prelude.{◌≡◌, ◌≤◌, ◌++◌, drop, length, take, IfErr, IfOk, IsOk, OnErr, SomeIff};
+ghost use Rattle.std.specs.Prelude.{
+  ◌≡◌,
+  ◌≤◌,
+  ◌++◌,
+  drop,
+  length,
+  take,
+  IfErr,
+  IfOk,
+  IsOk,
+  OnErr,
+  SomeIff,
+};
 ghost use Rattle.nla_frame.specs.Attribute.{ListFits, list_string};
 ghost use Rattle.nla_frame.specs.Canonical.{attributes_for};
-ghost use Rattle.nla_frame.specs.Pieces.{pieces};
+ghost use Rattle.nla_frame.specs.NlaItems.{nla_items};
 ghost use Rattle.linkinfo_data.specs.BytesPeer.{bytes_peer};
-ghost use Rattle.linkinfo.specs.Canon.{IntoRefuses, IsCanonical, IsCanonicalLength, LengthRefuses, canon_into_error_text, into_error};
+ghost use Rattle.linkinfo.specs.Canon.{
+  IntoRefuses,
+  IsCanonical,
+  IsCanonicalLength,
+  LengthRefuses,
+  canon_into_error_text,
+  into_error,
+};
 ghost use Rattle.linkinfo.specs.Items.{link_attribute};
 ghost use Rattle.linkinfo.specs.Strings.{reading, values_from};
 ghost use Rattle.linkinfo.specs.Walks.{left};
 
 use crate::canonical::CanonError;
-use crate::item::{item_canonical_len, put_item};
+use crate::item::{item_canonical_len, write_item};
 use crate::list::check_of;
 use crate::walk::LinkInfoWalk;
 use linkinfo_data::DataFamilies;
@@ -21,18 +41,19 @@ use nla_frame::{Bytes, DecodeError, ExactEq};
 use std::error::Error;
 use std::fmt;
 
-/// Why no canonical string was written.
+/// Why no canonical encoding was written into the buffer.
 #[derive(Clone, Copy, Debug, PartialEq, Eq)]
 pub enum CanonIntoError {
-    /// The string is refused, with the fault of `check`.
+    /// The byte string is rejected, with the error of `check`.
     Refused(DecodeError),
-    /// The list does not fit: a value has more than 65531 bytes, or the string has more than a `usize` counts.
+    /// The list does not fit: the payload of an attribute has more than 65531 bytes, or the
+    /// encoding more than a `usize` can count.
     Unfit,
-    /// The buffer is shorter than the canonical string, which has this many bytes.
+    /// The buffer is shorter than the canonical encoding, which has this many bytes.
     Short(usize),
 }
 
-/// Writes the fault, `unfit`, or `short` and the number of bytes that are needed.
+/// Writes the error, `unfit`, or `short` and the number of bytes that the canonical encoding has.
 impl fmt::Display for CanonIntoError {
     ghost use Rattle.std.specs.Prelude.{Some};
 
@@ -40,7 +61,7 @@ impl fmt::Display for CanonIntoError {
 
     fn fmt<W: fmt::Write>(&self, f: &mut fmt::Formatter<W>) -> fmt::Result {
         match self {
-            CanonIntoError::Refused(fault) => write!(f, "{fault}"),
+            CanonIntoError::Refused(error) => write!(f, "{error}"),
             CanonIntoError::Unfit => f.write_str("unfit"),
             CanonIntoError::Short(needed) => write!(f, "short {needed}"),
         }
@@ -49,13 +70,13 @@ impl fmt::Display for CanonIntoError {
 
 impl Error for CanonIntoError {}
 
-/// Why there is no canonical string.
+/// The error of a byte string without a canonical encoding.
 impl From<CanonError> for CanonIntoError {
     ghost from_gives = { λ cause error. error ≡ into_error cause };
 
     fn from(cause: CanonError) -> CanonIntoError {
         match cause {
-            CanonError::Refused(fault) => CanonIntoError::Refused(fault),
+            CanonError::Refused(error) => CanonIntoError::Refused(error),
             CanonError::Unfit => CanonIntoError::Unfit,
         }
     }
@@ -64,16 +85,26 @@ impl From<CanonError> for CanonIntoError {
 impl ExactEq for CanonIntoError {
     ghost use Rattle.std.proofs.lemmas.Bool.Decides.{Decides-eqb};
     ghost use Rattle.nla_frame.specs.Derived.{derived_decides, no_field, one_field};
-    ghost use Rattle.nla_frame.specs.contracts.exact_eq.DecodeErrorExactEq.TheImpl.Laws.{exact-law as fault_exact};
+    ghost use Rattle.nla_frame.specs.contracts.exact_eq.DecodeErrorExactEq.TheImpl.Laws.{
+      exact-law as error_exact,
+    };
     ghost use Rattle.linkinfo.specs.contracts.canonicalize.CanonIntoError.{enum};
 
-    ghost exact = { derived_decides enum _ (one_field fault_exact, (no_field, (one_field Decides-eqb, tt))) };
+    ghost exact = { derived_decides enum _ (
+      one_field error_exact,
+      (no_field, (one_field Decides-eqb, tt)),
+    ) };
 }
 
-/// The length of the canonical string of what a walk has not gone over, where it fits, and else `None`. Each attribute is measured once.
+/// The length, in bytes, of the canonical encoding of the attributes that a walk has not visited,
+/// or `None` if they do not fit. Each attribute is measured once.
 fn rest_canonical_len<P: LinkPeer>(walk: &mut LinkInfoWalk<'_>) -> Option<usize>
-    requires { IsOk (values_from ⟦<P as DataFamilies>⟧.families walk.old.force (pieces (left walk.old))) }
-    ensures { let attributes = attributes_for (link_attribute ⟦<P as DataFamilies>⟧.families) (values_from ⟦<P as DataFamilies>⟧.families walk.old.force (pieces (left walk.old))) in SomeIff result (ListFits attributes) (length (list_string attributes)) }
+    requires { IsOk
+        (values_from ⟦<P as DataFamilies>⟧.families walk.old.kinds (nla_items (left walk.old))) }
+    ensures { let attributes =
+        attributes_for (link_attribute ⟦<P as DataFamilies>⟧.families)
+        (values_from ⟦<P as DataFamilies>⟧.families walk.old.kinds (nla_items (left walk.old))) in
+        SomeIff result (ListFits attributes) (length (list_string attributes)) }
 {
     families_lawful::<P>();
     let mut total: usize = 0;
@@ -85,26 +116,40 @@ fn rest_canonical_len<P: LinkPeer>(walk: &mut LinkInfoWalk<'_>) -> Option<usize>
     Some(total)
 }
 
-/// Writes the canonical string of what a walk has not gone over at the front of the buffer, and leaves the bytes behind it.
-fn put_rest<P: LinkPeer>(walk: &mut LinkInfoWalk<'_>, buffer: &mut [u8])
-    requires accepted { IsOk (values_from ⟦<P as DataFamilies>⟧.families walk.old.force (pieces (left walk.old))) }
-    requires fits { ListFits (attributes_for (link_attribute ⟦<P as DataFamilies>⟧.families) (values_from ⟦<P as DataFamilies>⟧.families walk.old.force (pieces (left walk.old)))) }
-    requires room { length (list_string (attributes_for (link_attribute ⟦<P as DataFamilies>⟧.families) (values_from ⟦<P as DataFamilies>⟧.families walk.old.force (pieces (left walk.old))))) ≤ length buffer.old }
-    ensures { let string = list_string (attributes_for (link_attribute ⟦<P as DataFamilies>⟧.families) (values_from ⟦<P as DataFamilies>⟧.families walk.old.force (pieces (left walk.old)))) in buffer.new ≡ string ++ drop (length string) buffer.old }
+/// Writes the canonical encoding of the attributes that a walk has not visited to the front of the
+/// buffer. The rest of the buffer is unchanged.
+fn write_rest<P: LinkPeer>(walk: &mut LinkInfoWalk<'_>, buffer: &mut [u8])
+    requires accepted { IsOk
+        (values_from ⟦<P as DataFamilies>⟧.families walk.old.kinds (nla_items (left walk.old))) }
+    requires fits { ListFits (attributes_for (link_attribute ⟦<P as DataFamilies>⟧.families)
+        (values_from ⟦<P as DataFamilies>⟧.families walk.old.kinds (nla_items (left walk.old)))) }
+    requires room { length (list_string
+        (attributes_for (link_attribute ⟦<P as DataFamilies>⟧.families)
+        (values_from ⟦<P as DataFamilies>⟧.families walk.old.kinds (nla_items (left walk.old)))))
+        ≤ length buffer.old }
+    ensures { let string =
+        list_string (attributes_for (link_attribute ⟦<P as DataFamilies>⟧.families)
+        (values_from ⟦<P as DataFamilies>⟧.families walk.old.kinds (nla_items (left walk.old)))) in
+        buffer.new ≡ string ++ drop (length string) buffer.old }
 {
     families_lawful::<P>();
     let mut place: usize = 0;
     while let Some(next) = walk.advance() {
         let (nla, role) = next.unwrap();
-        place += put_item::<P>(&nla, role, &mut buffer[place..]);
+        place += write_item::<P>(&nla, role, &mut buffer[place..]);
     }
 }
 
-/// The length of the canonical string of the list that the bytes frame, or why there is none.
+/// The length, in bytes, of the canonical encoding of the list that `bytes` encodes, or why there
+/// is none.
 #[tactic(auto, unfolding(crate::specs::Strings::reading), using(crate::proofs::Writing::length_is, crate::proofs::Writing::unfit_is))]
 pub(crate) fn canonical_len_of<P: LinkPeer>(bytes: &[u8]) -> Result<usize, CanonError>
-    ensures length { IfOk result (IsCanonicalLength (link_attribute ⟦<P as DataFamilies>⟧.families) (reading ⟦<P as DataFamilies>⟧.families bytes.now)) }
-    ensures refused { IfErr result (LengthRefuses (link_attribute ⟦<P as DataFamilies>⟧.families) (reading ⟦<P as DataFamilies>⟧.families bytes.now)) }
+    ensures length { IfOk result
+        (IsCanonicalLength (link_attribute ⟦<P as DataFamilies>⟧.families)
+        (reading ⟦<P as DataFamilies>⟧.families bytes.now)) }
+    ensures refused { IfErr result
+        (LengthRefuses (link_attribute ⟦<P as DataFamilies>⟧.families)
+        (reading ⟦<P as DataFamilies>⟧.families bytes.now)) }
 {
     check_of::<P>(bytes)?;
     match rest_canonical_len::<P>(&mut LinkInfoWalk::new(bytes)) {
@@ -113,50 +158,70 @@ pub(crate) fn canonical_len_of<P: LinkPeer>(bytes: &[u8]) -> Result<usize, Canon
     }
 }
 
-/// Writes the canonical string of the list that the bytes frame at the front of the buffer, and leaves what stands behind it. Asks for a string that is
-/// accepted, a list that fits, and a buffer of at least that length.
+/// Writes the canonical encoding of the list that `bytes` encodes to the front of the buffer. The
+/// rest of the buffer is unchanged. Requires that the bytes are accepted, that the list fits, and
+/// that the buffer has room for the encoding.
 #[tactic(auto, unfolding(crate::specs::Strings::reading))]
-pub(crate) fn put_canonical_of<P: LinkPeer>(bytes: &[u8], buffer: &mut [u8])
+pub(crate) fn write_canonical_of<P: LinkPeer>(bytes: &[u8], buffer: &mut [u8])
     requires accepted { IsOk (reading ⟦<P as DataFamilies>⟧.families bytes.now) }
-    requires fits { ListFits (attributes_for (link_attribute ⟦<P as DataFamilies>⟧.families) (reading ⟦<P as DataFamilies>⟧.families bytes.now)) }
-    requires room { length (list_string (attributes_for (link_attribute ⟦<P as DataFamilies>⟧.families) (reading ⟦<P as DataFamilies>⟧.families bytes.now))) ≤ length buffer.old }
-    ensures { let string = list_string (attributes_for (link_attribute ⟦<P as DataFamilies>⟧.families) (reading ⟦<P as DataFamilies>⟧.families bytes.now)) in buffer.new ≡ string ++ drop (length string) buffer.old }
+    requires fits { ListFits (attributes_for (link_attribute ⟦<P as DataFamilies>⟧.families)
+        (reading ⟦<P as DataFamilies>⟧.families bytes.now)) }
+    requires room { length (list_string
+        (attributes_for (link_attribute ⟦<P as DataFamilies>⟧.families)
+        (reading ⟦<P as DataFamilies>⟧.families bytes.now))) ≤ length buffer.old }
+    ensures { let string =
+        list_string (attributes_for (link_attribute ⟦<P as DataFamilies>⟧.families)
+        (reading ⟦<P as DataFamilies>⟧.families bytes.now)) in
+        buffer.new ≡ string ++ drop (length string) buffer.old }
 {
-    put_rest::<P>(&mut LinkInfoWalk::new(bytes), buffer);
+    write_rest::<P>(&mut LinkInfoWalk::new(bytes), buffer);
 }
 
-/// Writes the canonical string of the list that the bytes frame, with peers of type `P`, at the front of the buffer, and answers its length. It makes
-/// no values and takes no memory.
+/// Writes the canonical encoding of the list that `bytes` encodes, with peers of type `P`, to the
+/// front of the buffer, and returns its length in bytes.
 ///
-/// Refused with the fault of `check_of`, as `Unfit` where the list does not fit, and as `Short`, with the length that is needed, where the buffer is
-/// shorter than the string. A refusal leaves the buffer as it was, and so does success behind the string.
-#[tactic(auto, using(crate::proofs::Writing::length_accepted, crate::proofs::Writing::length_fits, crate::proofs::Writing::length_same, crate::proofs::Writing::written_front, crate::proofs::Writing::written_behind))]
+/// It builds no values and does not allocate. The error is `Refused` if `check_of` rejects the
+/// bytes. It is `Unfit` if the list does not fit, and `Short`, with the length that is needed, if
+/// the buffer is too short. An error leaves the whole buffer unchanged, and success the rest after
+/// the encoding.
+#[tactic(auto, using(crate::proofs::Writing::length_accepted, crate::proofs::Writing::length_fits, crate::proofs::Writing::length_same, crate::proofs::Writing::written_front, crate::proofs::Writing::written_after))]
 pub fn canon_into_of<P: LinkPeer>(bytes: &[u8], buffer: &mut [u8]) -> Result<usize, CanonIntoError>
-    ensures string { IfOk result (λ n. IsCanonical (link_attribute ⟦<P as DataFamilies>⟧.families) (reading ⟦<P as DataFamilies>⟧.families bytes.now) (take n buffer.new)) }
+    ensures string { IfOk result
+        (λ n.
+        IsCanonical (link_attribute ⟦<P as DataFamilies>⟧.families)
+        (reading ⟦<P as DataFamilies>⟧.families bytes.now) (take n buffer.new)) }
     ensures within { IfOk result (λ n. n ≤ length buffer.old) }
-    ensures behind { IfOk result (λ n. drop n buffer.new ≡ drop n buffer.old) }
-    ensures refused { IfErr result (IntoRefuses (link_attribute ⟦<P as DataFamilies>⟧.families) (reading ⟦<P as DataFamilies>⟧.families bytes.now) (length buffer.old)) }
+    ensures after { IfOk result (λ n. drop n buffer.new ≡ drop n buffer.old) }
+    ensures refused { IfErr result
+        (IntoRefuses (link_attribute ⟦<P as DataFamilies>⟧.families)
+        (reading ⟦<P as DataFamilies>⟧.families bytes.now) (length buffer.old)) }
     ensures unchanged { OnErr result (buffer.new ≡ buffer.old) }
 {
     let needed = canonical_len_of::<P>(bytes)?;
     if needed > buffer.len() {
         return Err(CanonIntoError::Short(needed));
     }
-    put_canonical_of::<P>(bytes, buffer);
+    write_canonical_of::<P>(bytes, buffer);
     Ok(needed)
 }
 
-/// `canon_into_of`, with peers kept as bytes.
+/// Writes the canonical encoding of the list that `bytes` encodes to the front of the buffer, and
+/// returns its length in bytes. Peers are kept as bytes; `canon_into_of` takes other types of peer.
 ///
 /// ```text
 /// let mut buffer = [0; 4096];
 /// let len = canon_into(&received, &mut buffer)?;
 /// ```
 pub fn canon_into(bytes: &[u8], buffer: &mut [u8]) -> Result<usize, CanonIntoError>
-    ensures string { IfOk result (λ n. IsCanonical (link_attribute bytes_peer) (reading bytes_peer bytes.now) (take n buffer.new)) }
+    ensures string { IfOk result
+        (λ n.
+        IsCanonical (link_attribute bytes_peer) (reading bytes_peer bytes.now)
+        (take n buffer.new)) }
     ensures within { IfOk result (λ n. n ≤ length buffer.old) }
-    ensures behind { IfOk result (λ n. drop n buffer.new ≡ drop n buffer.old) }
-    ensures refused { IfErr result (IntoRefuses (link_attribute bytes_peer) (reading bytes_peer bytes.now) (length buffer.old)) }
+    ensures after { IfOk result (λ n. drop n buffer.new ≡ drop n buffer.old) }
+    ensures refused { IfErr result
+        (IntoRefuses (link_attribute bytes_peer) (reading bytes_peer bytes.now)
+        (length buffer.old)) }
     ensures unchanged { OnErr result (buffer.new ≡ buffer.old) }
 {
     canon_into_of::<Bytes>(bytes, buffer)

@@ -1,4 +1,4 @@
-//! The list as a collection of its attributes: made of them, and gone over.
+//! The list as a collection of its attributes: built from them, and iterated over.
 
 ghost use Rattle.std.specs.Prelude.{◌≡◌};
 
@@ -7,7 +7,7 @@ use crate::list::VecLinkInfoOf;
 use nla_frame::Nlas;
 use std::{slice, vec};
 
-/// The list of the attributes, which are taken over as they are.
+/// The list of these attributes, in order. The `Vec` is moved, not copied.
 impl<P> From<Vec<LinkInfoOf<P>>> for VecLinkInfoOf<P> {
     ghost from_gives = { λ items list. list.0 ≡ items.items };
 
@@ -16,7 +16,7 @@ impl<P> From<Vec<LinkInfoOf<P>>> for VecLinkInfoOf<P> {
     }
 }
 
-/// Goes over the attributes in order, and gives each away.
+/// Iterates over the attributes in order, by value.
 impl<P: Drop> IntoIterator for VecLinkInfoOf<P> {
     ghost use Rattle.std.specs.Prelude.{◌≡◌, ◌^◌, ◌<◌, length};
     ghost use Rattle.std.specs.Iterator.Runs.{EveryRun, ItemsAre};
@@ -28,14 +28,18 @@ impl<P: Drop> IntoIterator for VecLinkInfoOf<P> {
 
     type IntoIter = vec::IntoIter<LinkInfoOf<P>>;
 
-    ghost into_iter_gives = { λ list it. (into_iter_items it ≡ list.0) × (into_iter_len it ≡ length list.0) × (into_iter_len it < 2 ^ 64) × EveryRun (into_iter_steps {X = LinkInfoOf P} {Z = Global}) (λ p. ItemsAre p (into_iter_items p.from)) };
+    ghost into_iter_gives = { λ list it. (into_iter_items it ≡ list.0)
+        × (into_iter_len it ≡ length list.0)
+        × (into_iter_len it < 2 ^ 64)
+        × EveryRun (into_iter_steps {X = LinkInfoOf P} {Z = Global})
+        (λ p. ItemsAre p (into_iter_items p.from)) };
 
     fn into_iter(self) -> vec::IntoIter<LinkInfoOf<P>> {
         self.0.into_iter()
     }
 }
 
-/// Goes over the attributes in order, borrowed, as `iter` does.
+/// Iterates over the attributes in order, by reference, as `iter` does.
 impl<'a, P> IntoIterator for &'a VecLinkInfoOf<P> {
     ghost use Rattle.std.specs.Prelude.{◌≡◌, ◌^◌, ◌<◌, length};
     ghost use Rattle.std.specs.Iterator.Adapters.{IterYieldsInOrder};
@@ -46,7 +50,9 @@ impl<'a, P> IntoIterator for &'a VecLinkInfoOf<P> {
 
     type IntoIter = slice::Iter<'a, LinkInfoOf<P>>;
 
-    ghost into_iter_gives = { λ list it. (iter_rest it ≡ list.now.0) × (length (iter_rest it) < 2 ^ 64) × IterYieldsInOrder (LinkInfoOf P) };
+    ghost into_iter_gives = { λ list it. (iter_rest it ≡ list.now.0)
+        × (length (iter_rest it) < 2 ^ 64)
+        × IterYieldsInOrder (LinkInfoOf P) };
 
     fn into_iter(self) -> slice::Iter<'a, LinkInfoOf<P>> {
         self.iter()

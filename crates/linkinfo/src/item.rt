@@ -1,6 +1,23 @@
-//! Reading, checking, comparing and writing one attribute of the list.
+//! One attribute of the list: parsed, validated, compared and written.
 
-ghost use Rattle.std.specs.Prelude.{◌≡◌, ◌==◌, ◌&&◌, ◌+◌, ◌*◌, ◌/◌, ◌<◌, ◌≤◌, ◌^◌, ◌++◌, IsOk, Ok, Some, SomeIff, drop, length};
+ghost use Rattle.std.specs.Prelude.{
+  ◌≡◌,
+  ◌==◌,
+  ◌&&◌,
+  ◌+◌,
+  ◌*◌,
+  ◌/◌,
+  ◌<◌,
+  ◌≤◌,
+  ◌^◌,
+  ◌++◌,
+  IsOk,
+  Ok,
+  Some,
+  SomeIff,
+  drop,
+  length,
+};
 ghost use Rattle.std.specs.Bool.{OnTrue};
 ghost use Rattle.std.specs.Str.{bytes_eq};
 ghost use Rattle.nla_frame.specs.Answers.{CertainUnless, Gives, OnAnswer, verdict};
@@ -10,11 +27,11 @@ ghost use Rattle.linkinfo.specs.Items.{link_other, link_row, written_attribute};
 ghost use Rattle.linkinfo_numbers.specs.Kind.{kind_of_name, tag_of_name};
 ghost use Rattle.linkinfo_numbers.specs.PortKind.{port_kind_of_name, port_tag_of_name};
 ghost use Rattle.linkinfo_shapes.specs.Shapes.{needs_memory};
-ghost use Rattle.linkinfo.specs.Roles.{behind_role, name_meaning, none_in_force, with_name};
+ghost use Rattle.linkinfo.specs.Roles.{kinds_after_role, name_meaning, no_kinds, with_name};
 ghost use Rattle.nla_frame.specs.Attribute.{Fits, buffer_len_of, canonical_string, masked};
 
 use crate::link_info::LinkInfoOf;
-use crate::role::{InForce, Role, fault, name_in};
+use crate::role::{CurrentKinds, Role, error, name_in};
 use crate::xstats::LinkXstats;
 use linkinfo_data::{
     DataFamilies, DataFamily, InfoDataOf, InfoPortData, PayloadFamily, PortFamily, family_of,
@@ -24,31 +41,40 @@ use linkinfo_numbers::{
     IFLA_INFO_DATA, IFLA_INFO_KIND, IFLA_INFO_SLAVE_DATA, IFLA_INFO_SLAVE_KIND, IFLA_INFO_XSTATS,
     InfoKind, InfoPortKind, KindTag, PortTag,
 };
-use linkinfo_table::{LinkPeer, Shape, shape_canonical_len, shape_put_attribute, shape_same};
+use linkinfo_table::{LinkPeer, Shape, shape_canonical_len, shape_same, shape_write_attribute};
 use nla_frame::{
     Bytes, Cause, DecodeError, DefaultNla, HeaderCount, Nla, NlaBuffer, Parseable, Text, fitting,
-    put_bytes_attribute, put_frame,
+    write_bytes_attribute, write_frame,
 };
 use std::alloc::Global;
 
-/// Reads an attribute by its role. Asks for the kinds in force behind it, as a walk leaves them: those of a name are the kinds that it gives.
+/// Parses an attribute by its role. Requires the current kinds after the attribute, as a walk has
+/// them: if the attribute names a kind, the current kind is that name's.
 pub(crate) fn read_item<P: LinkPeer>(
     alloc: Global,
     nla: &NlaBuffer<'_>,
     role: Role,
-    behind: InForce,
+    kinds_after: CurrentKinds,
     count: &mut HeaderCount,
 ) -> Result<LinkInfoOf<P>, DecodeError>
-    requires entered { (before : InForce) × (behind_role role before nla.now ≡ Ok behind) }
+    requires entered { (before : CurrentKinds)
+        × (kinds_after_role role before nla.now ≡ Ok kinds_after) }
     requires room { count.old + length nla.now.value / 4 < 2 ^ 64 }
-    ensures answer { Gives (λ value. value) result (row_meaning family.LinkInfo link_other (link_row ⟦<P as DataFamilies>⟧.families role) nla.now) }
-    ensures certain { CertainUnless (row_needs_memory (link_row ⟦<P as DataFamilies>⟧.families role) nla.now) (λ value. value) result (row_meaning family.LinkInfo link_other (link_row ⟦<P as DataFamilies>⟧.families role) nla.now) }
-    ensures counted { OnAnswer result (count.new ≡ count.old + row_headers (link_row ⟦<P as DataFamilies>⟧.families role) nla.now) }
+    ensures answer { Gives (λ value. value) result
+        (row_meaning family.LinkInfo link_other (link_row ⟦<P as DataFamilies>⟧.families role)
+        nla.now) }
+    ensures certain { CertainUnless
+        (row_needs_memory (link_row ⟦<P as DataFamilies>⟧.families role) nla.now) (λ value. value)
+        result (row_meaning family.LinkInfo link_other
+        (link_row ⟦<P as DataFamilies>⟧.families role) nla.now) }
+    ensures counted { OnAnswer result
+        (count.new
+        ≡ count.old + row_headers (link_row ⟦<P as DataFamilies>⟧.families role) nla.now) }
     ensures rises { count.old ≤ count.new }
     ensures quarter { 4 * count.new ≤ 4 * count.old + length nla.now.value }
 {
     match role {
-        Role::Kind => Ok(LinkInfoOf::Kind(read_kind(alloc, nla, behind.kind)?)),
+        Role::Kind => Ok(LinkInfoOf::Kind(read_kind(alloc, nla, kinds_after.kind)?)),
         Role::Data(tag) => {
             let data = family_of(tag).read(alloc, nla.value(), count)?;
             Ok(LinkInfoOf::Data(data))
@@ -57,17 +83,18 @@ pub(crate) fn read_item<P: LinkPeer>(
             let bytes = Bytes::copy_of(alloc, nla.value())?;
             Ok(LinkInfoOf::Xstats(LinkXstats::Other(bytes)))
         }
-        Role::PortKind => Ok(LinkInfoOf::PortKind(read_port_kind(alloc, nla, behind.port)?)),
+        Role::PortKind => Ok(LinkInfoOf::PortKind(read_port_kind(alloc, nla, kinds_after.port)?)),
         Role::PortData(tag) => {
             let data = port_family_of(tag).read(alloc, nla.value(), count)?;
             Ok(LinkInfoOf::PortData(data))
         }
-        Role::Misplaced => Err(fault(nla, Cause::Order)),
+        Role::Misplaced => Err(error(nla, Cause::Order)),
         Role::Unknown => Ok(LinkInfoOf::Other(DefaultNla::parse(alloc, nla)?)),
     }
 }
 
-/// The kind that an attribute names, by the tag of its name. A known name takes no memory; only every other is copied.
+/// The kind that an attribute names, by the tag of its name. A known name needs no memory; only an
+/// unknown one is copied.
 fn read_kind(
     alloc: Global,
     nla: &NlaBuffer<'_>,
@@ -75,7 +102,8 @@ fn read_kind(
 ) -> Result<InfoKind, DecodeError>
     requires { with_name (name_meaning nla.now) (λ name. Some (tag_of_name name)) ≡ Ok tag }
     ensures answer { Gives (λ kind. kind) result (with_name (name_meaning nla.now) kind_of_name) }
-    ensures certain { CertainUnless (needs_memory Shape.Name nla.now.value) (λ kind. kind) result (with_name (name_meaning nla.now) kind_of_name) }
+    ensures certain { CertainUnless (needs_memory Shape.Name nla.now.value) (λ kind. kind) result
+        (with_name (name_meaning nla.now) kind_of_name) }
 {
     let Some(tag) = tag else { unreachable!() };
     match InfoKind::from_tag(tag) {
@@ -84,15 +112,18 @@ fn read_kind(
     }
 }
 
-/// The same of the port kind that an attribute names.
+/// The port kind that an attribute names, by the tag of its name. A known name needs no memory;
+/// only an unknown one is copied.
 fn read_port_kind(
     alloc: Global,
     nla: &NlaBuffer<'_>,
     tag: Option<PortTag>,
 ) -> Result<InfoPortKind, DecodeError>
     requires { with_name (name_meaning nla.now) (λ name. Some (port_tag_of_name name)) ≡ Ok tag }
-    ensures answer { Gives (λ kind. kind) result (with_name (name_meaning nla.now) port_kind_of_name) }
-    ensures certain { CertainUnless (needs_memory Shape.Name nla.now.value) (λ kind. kind) result (with_name (name_meaning nla.now) port_kind_of_name) }
+    ensures answer { Gives (λ kind. kind) result
+        (with_name (name_meaning nla.now) port_kind_of_name) }
+    ensures certain { CertainUnless (needs_memory Shape.Name nla.now.value) (λ kind. kind) result
+        (with_name (name_meaning nla.now) port_kind_of_name) }
 {
     let Some(tag) = tag else { unreachable!() };
     match InfoPortKind::from_tag(tag) {
@@ -101,18 +132,21 @@ fn read_port_kind(
     }
 }
 
-/// Whether `read_item` would succeed, or its fault. Asks for an attribute without a fault of its own, as a walk gives it, and takes no
-/// memory.
+/// Validates an attribute by its role: returns `Ok` if `read_item` accepts it, otherwise the error
+/// of the attribute. Requires an attribute that a walk has returned. Does not allocate.
 #[inline(always)]
 pub(crate) fn check_item<P: LinkPeer>(
     nla: &NlaBuffer<'_>,
     role: Role,
     count: &mut HeaderCount,
 ) -> Result<(), DecodeError>
-    requires entered { IsOk (behind_role role none_in_force nla.now) }
+    requires entered { IsOk (kinds_after_role role no_kinds nla.now) }
     requires room { count.old + length nla.now.value / 4 < 2 ^ 64 }
-    ensures answer { result ≡ verdict (row_meaning family.LinkInfo link_other (link_row ⟦<P as DataFamilies>⟧.families role) nla.now) }
-    ensures counted { count.new ≡ count.old + row_headers (link_row ⟦<P as DataFamilies>⟧.families role) nla.now }
+    ensures answer { result
+        ≡ verdict (row_meaning family.LinkInfo link_other
+        (link_row ⟦<P as DataFamilies>⟧.families role) nla.now) }
+    ensures counted { count.new
+        ≡ count.old + row_headers (link_row ⟦<P as DataFamilies>⟧.families role) nla.now }
     ensures quarter { 4 * count.new ≤ 4 * count.old + length nla.now.value }
 {
     match role {
@@ -125,23 +159,29 @@ pub(crate) fn check_item<P: LinkPeer>(
         Role::Xstats => Ok(()),
         Role::PortKind => Ok(()),
         Role::PortData(tag) => port_family_of(tag).check(nla.value(), count),
-        Role::Misplaced => Err(fault(nla, Cause::Order)),
+        Role::Misplaced => Err(error(nla, Cause::Order)),
         Role::Unknown => Ok(()),
     }
 }
 
-/// Whether two attributes mean the same by the role of the first. Asks that each has a meaning, and takes no memory.
+/// Returns whether two attributes are equivalent by the role of the first. Requires that both are
+/// accepted. Does not allocate.
 pub(crate) fn same_item<P: LinkPeer>(
     a: &NlaBuffer<'_>,
     b: &NlaBuffer<'_>,
     role: Role,
     count: &mut HeaderCount,
 ) -> bool
-    requires first { IsOk (row_meaning family.LinkInfo link_other (link_row ⟦<P as DataFamilies>⟧.families role) a.now) }
-    requires second { masked b.now.kind ≡ masked a.now.kind → IsOk (row_meaning family.LinkInfo link_other (link_row ⟦<P as DataFamilies>⟧.families role) b.now) }
+    requires first { IsOk (row_meaning family.LinkInfo link_other
+        (link_row ⟦<P as DataFamilies>⟧.families role) a.now) }
+    requires second { masked b.now.kind ≡ masked a.now.kind →
+        IsOk (row_meaning family.LinkInfo link_other (link_row ⟦<P as DataFamilies>⟧.families role)
+        b.now) }
     requires room { count.old + (length a.now.value + length b.now.value) / 4 < 2 ^ 64 }
     ensures same { result ≡ row_alike (link_row ⟦<P as DataFamilies>⟧.families role) a.now b.now }
-    ensures counted { OnTrue result (count.new ≡ count.old + (row_headers (link_row ⟦<P as DataFamilies>⟧.families role) a.now + row_headers (link_row ⟦<P as DataFamilies>⟧.families role) b.now)) }
+    ensures counted { OnTrue result
+        (count.new ≡ count.old + (row_headers (link_row ⟦<P as DataFamilies>⟧.families role) a.now
+        + row_headers (link_row ⟦<P as DataFamilies>⟧.families role) b.now)) }
     ensures rises { count.old ≤ count.new }
     ensures quarter { 4 * count.new ≤ 4 * count.old + (length a.now.value + length b.now.value) }
 {
@@ -162,11 +202,13 @@ pub(crate) fn same_item<P: LinkPeer>(
     }
 }
 
-/// The length of the canonical payload of what an attribute means by its role, where it fits, and else `None`. Asks that it means something, and takes
-/// no memory.
+/// The length, in bytes, of the canonical payload of an attribute by its role, or `None` if it is
+/// above 65531. Requires that the attribute is accepted. Does not allocate.
 pub(crate) fn item_canonical_len<P: LinkPeer>(nla: &NlaBuffer<'_>, role: Role) -> Option<usize>
-    requires { IsOk (row_meaning family.LinkInfo link_other (link_row ⟦<P as DataFamilies>⟧.families role) nla.now) }
-    ensures { let canonical = written_attribute ⟦<P as DataFamilies>⟧.families role nla.now in SomeIff result (Fits canonical) (length canonical.value) }
+    requires { IsOk (row_meaning family.LinkInfo link_other
+        (link_row ⟦<P as DataFamilies>⟧.families role) nla.now) }
+    ensures { let canonical = written_attribute ⟦<P as DataFamilies>⟧.families role nla.now in
+        SomeIff result (Fits canonical) (length canonical.value) }
 {
     let value = nla.value();
     match role {
@@ -180,25 +222,38 @@ pub(crate) fn item_canonical_len<P: LinkPeer>(nla: &NlaBuffer<'_>, role: Role) -
     }
 }
 
-/// Writes the canonical attribute of what an attribute means by its role at the front of the buffer, leaves the bytes behind it, and answers its
-/// length. Asks that it means something, which fits, and for a buffer of at least that length; takes no memory.
-pub(crate) fn put_item<P: LinkPeer>(nla: &NlaBuffer<'_>, role: Role, buffer: &mut [u8]) -> usize
-    requires accepted { IsOk (row_meaning family.LinkInfo link_other (link_row ⟦<P as DataFamilies>⟧.families role) nla.now) }
+/// Writes the canonical encoding of an attribute by its role to the front of the buffer, and
+/// returns its length in bytes. The rest of the buffer is unchanged. Requires that the attribute is
+/// accepted, that its canonical payload has at most 65531 bytes, and that the buffer has room. Does
+/// not allocate.
+pub(crate) fn write_item<P: LinkPeer>(nla: &NlaBuffer<'_>, role: Role, buffer: &mut [u8]) -> usize
+    requires accepted { IsOk (row_meaning family.LinkInfo link_other
+        (link_row ⟦<P as DataFamilies>⟧.families role) nla.now) }
     requires fits { Fits (written_attribute ⟦<P as DataFamilies>⟧.families role nla.now) }
-    requires room { buffer_len_of (written_attribute ⟦<P as DataFamilies>⟧.families role nla.now) ≤ length buffer.old }
-    ensures taken { result ≡ buffer_len_of (written_attribute ⟦<P as DataFamilies>⟧.families role nla.now) }
-    ensures written { buffer.new ≡ canonical_string (written_attribute ⟦<P as DataFamilies>⟧.families role nla.now) ++ drop (buffer_len_of (written_attribute ⟦<P as DataFamilies>⟧.families role nla.now)) buffer.old }
+    requires room { buffer_len_of (written_attribute ⟦<P as DataFamilies>⟧.families role nla.now)
+        ≤ length buffer.old }
+    ensures taken { result
+        ≡ buffer_len_of (written_attribute ⟦<P as DataFamilies>⟧.families role nla.now) }
+    ensures written { buffer.new
+        ≡ canonical_string (written_attribute ⟦<P as DataFamilies>⟧.families role nla.now)
+        ++ drop (buffer_len_of (written_attribute ⟦<P as DataFamilies>⟧.families role nla.now))
+        buffer.old }
 {
     let value = nla.value();
     match role {
-        Role::Kind => shape_put_attribute(Shape::Name, IFLA_INFO_KIND, value, buffer),
+        Role::Kind => shape_write_attribute(Shape::Name, IFLA_INFO_KIND, value, buffer),
         Role::Data(tag) => {
-            put_payload::<InfoDataOf<P>, DataFamily>(family_of(tag), IFLA_INFO_DATA, value, buffer)
+            write_payload::<InfoDataOf<P>, DataFamily>(
+                family_of(tag),
+                IFLA_INFO_DATA,
+                value,
+                buffer,
+            )
         }
-        Role::Xstats => put_bytes_attribute(IFLA_INFO_XSTATS, value, buffer),
-        Role::PortKind => shape_put_attribute(Shape::Name, IFLA_INFO_SLAVE_KIND, value, buffer),
+        Role::Xstats => write_bytes_attribute(IFLA_INFO_XSTATS, value, buffer),
+        Role::PortKind => shape_write_attribute(Shape::Name, IFLA_INFO_SLAVE_KIND, value, buffer),
         Role::PortData(tag) => {
-            put_payload::<InfoPortData, PortFamily>(
+            write_payload::<InfoPortData, PortFamily>(
                 port_family_of(tag),
                 IFLA_INFO_SLAVE_DATA,
                 value,
@@ -206,13 +261,14 @@ pub(crate) fn put_item<P: LinkPeer>(nla: &NlaBuffer<'_>, role: Role, buffer: &mu
             )
         }
         Role::Misplaced => unreachable!(),
-        Role::Unknown => put_bytes_attribute(nla.raw_kind(), value, buffer),
+        Role::Unknown => write_bytes_attribute(nla.raw_kind(), value, buffer),
     }
 }
 
-/// Writes the attribute of a type and the canonical payload of the data that a payload means in the same way: the payload behind the room of its header,
-/// and then header and padding.
-fn put_payload<D: Drop, F: PayloadFamily<D>>(
+/// Writes the canonical encoding of an attribute with data to the front of the buffer, and returns
+/// its length in bytes. The payload is written first, after room for its header; then the header
+/// and the padding.
+fn write_payload<D: Drop, F: PayloadFamily<D>>(
     family: F,
     kind: u16,
     payload: &[u8],
@@ -220,11 +276,18 @@ fn put_payload<D: Drop, F: PayloadFamily<D>>(
 ) -> usize
     requires accepted { IsOk ((F.data_of family).means payload.now) }
     requires fits { length ((F.data_of family).canonical payload.now) ≤ 65531 }
-    requires room { buffer_len_of (record { kind = kind; value = (F.data_of family).canonical payload.now }) ≤ length buffer.old }
-    ensures taken { result ≡ buffer_len_of (record { kind = kind; value = (F.data_of family).canonical payload.now }) }
-    ensures written { buffer.new ≡ canonical_string (record { kind = kind; value = (F.data_of family).canonical payload.now }) ++ drop (buffer_len_of (record { kind = kind; value = (F.data_of family).canonical payload.now })) buffer.old }
+    requires room { buffer_len_of
+        (record { kind = kind; value = (F.data_of family).canonical payload.now })
+        ≤ length buffer.old }
+    ensures taken { result
+        ≡ buffer_len_of (record { kind = kind; value = (F.data_of family).canonical payload.now }) }
+    ensures written { buffer.new
+        ≡ canonical_string
+        (record { kind = kind; value = (F.data_of family).canonical payload.now })
+        ++ drop (buffer_len_of
+        (record { kind = kind; value = (F.data_of family).canonical payload.now })) buffer.old }
 {
-    let len = family.put_canonical(payload, &mut buffer[4..]);
-    put_frame(buffer, kind, len);
+    let len = family.write_canonical(payload, &mut buffer[4..]);
+    write_frame(buffer, kind, len);
     4 + len.next_multiple_of(4)
 }

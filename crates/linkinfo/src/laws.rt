@@ -1,15 +1,48 @@
 //! Laws of the list, each the contract of a function without code.
 
-ghost use Rattle.std.specs.Prelude.{◌≡◌, ◌≢◌, ◌↔◌, ℕ, ◌<◌, None, IsOk, IsTrue, List, Some, Ok, Err, true};
+ghost use Rattle.std.specs.Prelude.{
+  ◌≡◌,
+  ◌≢◌,
+  ◌↔◌,
+  ℕ,
+  ◌<◌,
+  None,
+  IsOk,
+  IsTrue,
+  List,
+  Some,
+  Ok,
+  Err,
+  true,
+};
 ghost use Rattle.std.specs.Iterator.{Yields};
 ghost use Rattle.std.specs.List.{AllByRecursion};
-ghost use Rattle.nla_frame.specs.Attribute.{Attribute, Fits, IsBytes, canonical_string, list_string, masked};
-ghost use Rattle.nla_frame.specs.Error.{memory_fault};
+ghost use Rattle.nla_frame.specs.Attribute.{
+  Attribute,
+  Fits,
+  IsBytes,
+  canonical_string,
+  list_string,
+  masked,
+};
+ghost use Rattle.nla_frame.specs.Error.{memory_error};
 ghost use Rattle.nla_frame.specs.Kept.{kept};
 ghost use Rattle.nla_frame.specs.declared.error.DecodeError.{DecodeError};
 ghost use Rattle.linkinfo_table.specs.Readings.{IsDecided};
-ghost use Rattle.linkinfo.specs.BeforePfcp.{HasNoPfcpData, alike_strings_before, is_pfcp_data, meaning_before, reading_before};
-ghost use Rattle.linkinfo.specs.Conditions.{Conditions, IsDataUnder, IsPortDataUnder, IsText, IsUnnamed};
+ghost use Rattle.linkinfo.specs.BeforePfcp.{
+  HasNoPfcpData,
+  alike_strings_before,
+  is_pfcp_data,
+  meaning_before,
+  reading_before,
+};
+ghost use Rattle.linkinfo.specs.Conditions.{
+  Conditions,
+  IsDataUnder,
+  IsPortDataUnder,
+  IsText,
+  IsUnnamed,
+};
 ghost use Rattle.linkinfo.specs.declared.link_info.LinkInfoOf.TheVariants as info;
 ghost use Rattle.linkinfo_data.specs.declared.info_data.InfoDataOf.TheVariants as data_of;
 ghost use Rattle.linkinfo_numbers.specs.Kind.{kind_table};
@@ -24,11 +57,22 @@ ghost use Rattle.linkinfo.specs.Xstats.{xstats_bytes};
 ghost use Rattle.linkinfo.specs.declared.xstats.LinkXstats.{LinkXstats};
 ghost use Rattle.nla_frame.specs.declared.default_nla.DefaultNla.{DefaultNla};
 ghost use Rattle.linkinfo.specs.declared.role.Role.{Role};
+ghost use Rattle.linkinfo.specs.Difference.{strings_difference};
 ghost use Rattle.linkinfo.specs.Items.{link_meaning, link_other, link_well};
-ghost use Rattle.linkinfo.specs.Roles.{none_in_force, role_at};
-ghost use Rattle.linkinfo.specs.Strings.{IsFaulty, Means, MeansEach, WellFormed, alike_strings, force_behind_all, last_kind, last_port, reading};
+ghost use Rattle.linkinfo.specs.Roles.{no_kinds, role_at};
+ghost use Rattle.linkinfo.specs.Strings.{
+  IsRejected,
+  Means,
+  MeansEach,
+  WellFormed,
+  alike_strings,
+  kinds_after_all,
+  last_kind,
+  last_port,
+  reading,
+};
 ghost use Rattle.linkinfo.specs.Walks.{LinkWalk, Moves, TagsByPlace, given, held, link_walk};
-ghost use Rattle.linkinfo.specs.declared.role.InForce.{InForce};
+ghost use Rattle.linkinfo.specs.declared.role.CurrentKinds.{CurrentKinds};
 ghost use Rattle.linkinfo.specs.declared.role.Role.TheVariants as role;
 
 use crate::link_info::LinkInfoOf;
@@ -38,89 +82,141 @@ use linkinfo_data::DataFamilies;
 use linkinfo_data::laws::{families_lawful, well_formed as data_well_formed};
 use linkinfo_table::LinkPeer;
 
-/// A string reads as it means: the attributes that it frames mean the values, each under the kinds in force before it; or, by `Frames` or
-/// `Broken`, those before one without a meaning mean values, and the fault is that one's; or all mean values, and the fault of a rest without
-/// a header is (Frame, 0, Header). Each string means one list or has one fault, and never both.
+/// What a byte string means. Each attribute in it means a value, under the current kinds before it,
+/// and the string means these values. Otherwise the string has an error, by `Frames` or `Broken`.
+/// Either an attribute has no meaning, those before it mean values, and the error is that
+/// attribute's; or all attributes mean values, and the rest has no header: `(Frame, 0, Header)`.
+/// Each string means one list or has one error, never both.
 pub fn framed<P: LinkPeer>(bytes: &[u8])
-    ensures means { (xs : List (LinkInfoOf P)) → (reading ⟦<P as DataFamilies>⟧.families bytes.now ≡ Ok xs) ↔ Means ⟦<P as DataFamilies>⟧.families bytes.now xs }
-    ensures faulty { (e : DecodeError) → (reading ⟦<P as DataFamilies>⟧.families bytes.now ≡ Err e) ↔ IsFaulty ⟦<P as DataFamilies>⟧.families bytes.now e }
-    ensures decided { IsDecided (Means ⟦<P as DataFamilies>⟧.families bytes.now) (IsFaulty ⟦<P as DataFamilies>⟧.families bytes.now) }
+    ensures means { (xs : List (LinkInfoOf P)) →
+        (reading ⟦<P as DataFamilies>⟧.families bytes.now ≡ Ok xs)
+        ↔ Means ⟦<P as DataFamilies>⟧.families bytes.now xs }
+    ensures rejected { (e : DecodeError) →
+        (reading ⟦<P as DataFamilies>⟧.families bytes.now ≡ Err e)
+        ↔ IsRejected ⟦<P as DataFamilies>⟧.families bytes.now e }
+    ensures decided { IsDecided (Means ⟦<P as DataFamilies>⟧.families bytes.now)
+        (IsRejected ⟦<P as DataFamilies>⟧.families bytes.now) }
 {}
 
-/// Behind attributes that each have a meaning, whatever follows them, the kind in force is that of the last name, and the port kind in force
-/// that of the last port name, unless port data stands behind it.
-pub fn in_force<P: LinkPeer>()
-    ensures { (front : List Attribute) (xs : List (LinkInfoOf P)) → MeansEach ⟦<P as DataFamilies>⟧.families none_in_force front xs → force_behind_all none_in_force front ≡ record { kind = last_kind front; port = last_port front } }
+/// After attributes that each have a meaning, whatever follows them, the current kind is that of
+/// the last name. The current port kind is that of the last port name, or none if port data follows
+/// that name.
+pub fn current_kinds<P: LinkPeer>()
+    ensures { (front : List Attribute) (xs : List (LinkInfoOf P)) →
+        MeansEach ⟦<P as DataFamilies>⟧.families no_kinds front xs →
+        kinds_after_all no_kinds front
+        ≡ record { kind = last_kind front; port = last_port front } }
 {}
 
-/// In every string, accepted or not, the tags of an item of a walk are those found by place: of the last name among the items before it, and
-/// of the last port name, unless port data stands behind it.
+/// In every byte string, accepted or not, the tags of an item of a walk are those of the items
+/// before it. The kind's tag is that of the last name, and the port kind's tag is that of the last
+/// port name, or none if port data follows that name.
 pub fn tags_by_place(bytes: &[u8])
-    ensures { (before : List LinkInfoItem) (item : LinkInfoItem) (u v : LinkWalk) → Yields Moves (link_walk bytes.now) (given before) u → Moves u (Some (Ok item)) v → TagsByPlace before item }
+    ensures { (before : List LinkInfoItem) (item : LinkInfoItem) (u v : LinkWalk) →
+        Yields Moves (link_walk bytes.now) (given before) u → Moves u (Some (Ok item)) v →
+        TagsByPlace before item }
 {}
 
-/// An attribute of an unknown type is kept with its 16-bit type and its payload.
+/// An attribute of an unknown type is kept verbatim, with its 16-bit type and its payload.
 pub fn unknown_kept<P: LinkPeer>()
-    ensures { (t : InForce) (a : Attribute) → role_at t a ≡ role.Unknown → link_meaning ⟦<P as DataFamilies>⟧.families t a ≡ Ok (link_other (kept a)) }
+    ensures { (t : CurrentKinds) (a : Attribute) → role_at t a ≡ role.Unknown →
+        link_meaning ⟦<P as DataFamilies>⟧.families t a ≡ Ok (link_other (kept a)) }
 {}
 
-/// No string means want of memory: an answer (Frame, 0, Memory) of `VecLinkInfoOf::parse` comes of a refused allocation alone.
+/// No byte string has the error `(Frame, 0, Memory)`: `VecLinkInfoOf::parse` returns it only if an
+/// allocation failed.
 pub fn no_memory<P: LinkPeer>()
-    ensures { (s : List ℕ) → reading ⟦<P as DataFamilies>⟧.families s ≢ Err memory_fault }
+    ensures { (s : List ℕ) → reading ⟦<P as DataFamilies>⟧.families s ≢ Err memory_error }
 {
     families_lawful::<P>();
 }
 
-/// `==` of two items of a walk answers true exactly where both hold the same, whatever the places that their values are borrowed from.
+/// `==` of two items of a walk returns true if and only if both hold equal values, whatever bytes
+/// their payloads are borrowed from.
 pub fn equal_items()
-    ensures { (a b : LinkInfoItem) → IsTrue (⟦<LinkInfoItem<'static> as PartialEq>⟧.eq a b) ↔ (held a ≡ held b) }
+    ensures { (a b : LinkInfoItem) →
+        IsTrue (⟦<LinkInfoItem<'static> as PartialEq>⟧.eq a b) ↔ (held a ≡ held b) }
 {}
 
-/// What changed when `pfcp` gained a family, against the list as it was read when data under `pfcp`, and under no other kind (`kind`), was its bytes
-/// (`bytes`): every string that is accepted was accepted; and a string without data under `pfcp` has the same acceptance, value and fault, and is
-/// alike to the same strings.
+/// What changed when `pfcp` gained a family. Before, data under `pfcp`, and under no other kind
+/// (`kind`), was kept as bytes (`bytes`). Every byte string that is accepted now was accepted then.
+/// A byte string without data under `pfcp` has the same acceptance, value and error, and is
+/// equivalent to the same byte strings.
 ///
-/// A value of that time is moved by `InfoData::parse_with_param` on its payload under `InfoKind::Pfcp`.
+/// A value of that time is converted by `InfoData::parse_with_param`, on its payload and
+/// `InfoKind::Pfcp`.
 pub fn pfcp<P: LinkPeer>(bytes: &[u8])
     ensures kind { (r : Role) → (is_pfcp_data r ≡ true) ↔ (r ≡ role.Data tag.Pfcp) }
-    ensures bytes { (t : InForce) (a : Attribute) → role_at t a ≡ role.Data tag.Pfcp → meaning_before ⟦<P as DataFamilies>⟧.families t a ≡ Ok (info.Data (data_of.Other a.value)) }
-    ensures accepted { IsOk (reading ⟦<P as DataFamilies>⟧.families bytes.now) → IsOk (reading_before ⟦<P as DataFamilies>⟧.families bytes.now) }
-    ensures elsewhere { HasNoPfcpData bytes.now → reading ⟦<P as DataFamilies>⟧.families bytes.now ≡ reading_before ⟦<P as DataFamilies>⟧.families bytes.now }
-    ensures alike { HasNoPfcpData bytes.now → (other : List ℕ) → alike_strings ⟦<P as DataFamilies>⟧.families bytes.now other ≡ alike_strings_before ⟦<P as DataFamilies>⟧.families bytes.now other }
-    ensures alike_to { HasNoPfcpData bytes.now → (other : List ℕ) → alike_strings ⟦<P as DataFamilies>⟧.families other bytes.now ≡ alike_strings_before ⟦<P as DataFamilies>⟧.families other bytes.now }
+    ensures bytes { (t : CurrentKinds) (a : Attribute) → role_at t a ≡ role.Data tag.Pfcp →
+        meaning_before ⟦<P as DataFamilies>⟧.families t a ≡ Ok (info.Data (data_of.Other a.value)) }
+    ensures accepted { IsOk (reading ⟦<P as DataFamilies>⟧.families bytes.now) →
+        IsOk (reading_before ⟦<P as DataFamilies>⟧.families bytes.now) }
+    ensures elsewhere { HasNoPfcpData bytes.now →
+        reading ⟦<P as DataFamilies>⟧.families bytes.now
+        ≡ reading_before ⟦<P as DataFamilies>⟧.families bytes.now }
+    ensures alike { HasNoPfcpData bytes.now → (other : List ℕ) →
+        alike_strings ⟦<P as DataFamilies>⟧.families bytes.now other
+        ≡ alike_strings_before ⟦<P as DataFamilies>⟧.families bytes.now other }
+    ensures alike_to { HasNoPfcpData bytes.now → (other : List ℕ) →
+        alike_strings ⟦<P as DataFamilies>⟧.families other bytes.now
+        ≡ alike_strings_before ⟦<P as DataFamilies>⟧.families other bytes.now }
 {}
 
-/// `==` of lists answers true exactly where both hold the same values in the same order.
+/// `==` of two lists returns true if and only if both hold equal values in the same order.
 pub fn equal_lists<P: LinkPeer>()
-    ensures { (x y : VecLinkInfoOf P) → IsTrue (⟦<VecLinkInfoOf<P> as PartialEq>⟧.eq x y) ↔ (x ≡ y) }
+    ensures { (x y : VecLinkInfoOf P) →
+        IsTrue (⟦<VecLinkInfoOf<P> as PartialEq>⟧.eq x y) ↔ (x ≡ y) }
 {}
 
-/// `==` of two walks is true exactly where both are at the same offset of the same bytes, under the
-/// same current kinds and with the same error.
+/// `==` of two walks is true if and only if both are at the same offset of the same bytes, under
+/// the same current kinds and with the same error.
 pub fn equal_walks()
-    ensures { (x y : LinkInfoWalk) → IsTrue (⟦<LinkInfoWalk<'static> as PartialEq>⟧.eq x y) ↔ (x ≡ y) }
+    ensures { (x y : LinkInfoWalk) →
+        IsTrue (⟦<LinkInfoWalk<'static> as PartialEq>⟧.eq x y) ↔ (x ≡ y) }
 {}
 
-/// Each attribute of a list inside an attribute that fits has at most 65,531 bytes of payload, and so
-/// has a first attribute inside one. It holds at every depth, since these fit in turn.
+/// Two accepted lists have no difference (`first_difference`) if and only if they are equivalent.
+pub fn differences<P: LinkPeer>()
+    ensures { (a b : List ℕ) → IsOk (reading ⟦<P as DataFamilies>⟧.families a) →
+        IsOk (reading ⟦<P as DataFamilies>⟧.families b) →
+        (strings_difference ⟦<P as DataFamilies>⟧.families a b ≡ None)
+        ↔ (alike_strings ⟦<P as DataFamilies>⟧.families a b ≡ true) }
+{}
+
+/// Each attribute of a list inside an attribute that fits has at most 65531 bytes of payload, and
+/// so has a first attribute inside one. This is so at every level, since these attributes fit in
+/// turn.
 pub fn fits_inside()
-    ensures list { (kind : ℕ) (inside : List Attribute) → Fits (record { kind = kind; value = list_string inside }) → AllByRecursion Fits inside }
-    ensures first { (kind : ℕ) (inside : Attribute) → Fits (record { kind = kind; value = canonical_string inside }) → Fits inside }
+    ensures list { (kind : ℕ) (inside : List Attribute) →
+        Fits (record { kind = kind; value = list_string inside }) → AllByRecursion Fits inside }
+    ensures first { (kind : ℕ) (inside : Attribute) →
+        Fits (record { kind = kind; value = canonical_string inside }) → Fits inside }
 {}
 
-/// Which lists are well formed, stated by the variant of each value, under the current kinds before it
-/// (`list`). A kind, and a port kind, is not `Other` of a known name (`kind`, `port_kind`). Data has the
-/// variant of the current kind, and port data that of the current port kind; both are well formed as
-/// `linkinfo_data::laws::well_formed` says (`data`, `port_data`). Statistics follow a kind
-/// (`statistics`). An attribute kept verbatim has none of the types 1 to 5 (`unknown`).
+/// Which lists are well formed, stated by the variant of each value, under the current kinds before
+/// it (`list`). A kind, and a port kind, is not `Other` of a known name (`kind`, `port_kind`).
+///
+/// Data has the variant of the current kind, and port data that of the current port kind. Both are
+/// well formed as `linkinfo_data::laws::well_formed` says (`data`, `port_data`). Statistics follow
+/// a kind (`statistics`). An attribute kept verbatim has none of the types 1 to 5 (`unknown`).
 pub fn well_formed<P: LinkPeer>()
-    ensures list { (xs : List (LinkInfoOf P)) → WellFormed ⟦<P as DataFamilies>⟧.families xs ↔ Conditions P.well xs }
-    ensures kind { (t : InForce) (k : InfoKind) → link_well ⟦<P as DataFamilies>⟧.families t (info.Kind k) ↔ IsRead kind_table IsText k }
-    ensures data { (t : InForce) (d : InfoDataOf P) → link_well ⟦<P as DataFamilies>⟧.families t (info.Data d) ↔ IsDataUnder P.well t.kind d }
-    ensures statistics { (t : InForce) (x : LinkXstats) → link_well ⟦<P as DataFamilies>⟧.families t (info.Xstats x) ↔ ((t.kind ≢ None) × IsBytes (xstats_bytes x)) }
-    ensures port_kind { (t : InForce) (k : InfoPortKind) → link_well ⟦<P as DataFamilies>⟧.families t (info.PortKind k) ↔ IsRead port_kind_table IsText k }
-    ensures port_data { (t : InForce) (d : InfoPortData) → link_well ⟦<P as DataFamilies>⟧.families t (info.PortData d) ↔ IsPortDataUnder t.port d }
-    ensures unknown { (t : InForce) (d : DefaultNla) → link_well ⟦<P as DataFamilies>⟧.families t (info.Other d) ↔ ((d.kind < 65536) × IsBytes d.value × IsUnnamed (masked d.kind)) }
+    ensures list { (xs : List (LinkInfoOf P)) →
+        WellFormed ⟦<P as DataFamilies>⟧.families xs ↔ Conditions P.well xs }
+    ensures kind { (t : CurrentKinds) (k : InfoKind) →
+        link_well ⟦<P as DataFamilies>⟧.families t (info.Kind k) ↔ IsRead kind_table IsText k }
+    ensures data { (t : CurrentKinds) (d : InfoDataOf P) →
+        link_well ⟦<P as DataFamilies>⟧.families t (info.Data d) ↔ IsDataUnder P.well t.kind d }
+    ensures statistics { (t : CurrentKinds) (x : LinkXstats) →
+        link_well ⟦<P as DataFamilies>⟧.families t (info.Xstats x)
+        ↔ ((t.kind ≢ None) × IsBytes (xstats_bytes x)) }
+    ensures port_kind { (t : CurrentKinds) (k : InfoPortKind) →
+        link_well ⟦<P as DataFamilies>⟧.families t (info.PortKind k)
+        ↔ IsRead port_kind_table IsText k }
+    ensures port_data { (t : CurrentKinds) (d : InfoPortData) →
+        link_well ⟦<P as DataFamilies>⟧.families t (info.PortData d) ↔ IsPortDataUnder t.port d }
+    ensures unknown { (t : CurrentKinds) (d : DefaultNla) →
+        link_well ⟦<P as DataFamilies>⟧.families t (info.Other d)
+        ↔ ((d.kind < 65536) × IsBytes d.value × IsUnnamed (masked d.kind)) }
 {
     data_well_formed::<P>();
 }

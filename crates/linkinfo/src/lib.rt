@@ -1,12 +1,14 @@
-//! The list of link info attributes: what stands inside `IFLA_LINKINFO`, include/uapi/linux/if_link.h.
+//! The contents of `IFLA_LINKINFO` (include/uapi/linux/if_link.h), the rtnetlink attribute that
+//! describes a network link: parsed, validated, compared and serialized.
 //!
-//! All names that a user needs are here, in groups: for who reads, writes and compares lists; for who builds the data of a link; for who goes over
-//! attributes by hand; for who writes a family of attributes, a peer or a flag set of one's own; and the laws of each layer.
+//! All public names are here, in groups: lists; values of data; data alone; iteration over
+//! attributes; custom families, peers and flag sets; and the laws of each layer.
 #![tactic(auto)]
 
 mod canonical;
 mod canonicalize;
 mod collection;
+mod difference;
 mod item;
 pub mod laws;
 mod link_info;
@@ -14,12 +16,14 @@ mod list;
 mod placed;
 mod role;
 mod unmet;
+pub mod unmet_laws;
 mod walk;
 mod xstats;
 
-// For who reads, writes and compares lists.
+// Lists: parsed, serialized, validated and compared.
 pub use canonical::{CanonError, canon, canon_of};
 pub use canonicalize::{CanonIntoError, canon_into, canon_into_of};
+pub use difference::{first_difference, first_difference_of};
 pub use link_info::{LinkInfo, LinkInfoOf};
 pub use linkinfo_data::{InfoData, InfoDataOf, InfoPortData};
 pub use linkinfo_numbers::{
@@ -27,20 +31,21 @@ pub use linkinfo_numbers::{
     InfoKind, InfoPortKind, KindTag, PortTag, port_tag_of_name, tag_of_name,
 };
 pub use list::{
-    VecLinkInfo, VecLinkInfoOf, check, check_counted, check_counted_of, check_of, same,
-    same_counted, same_counted_of, same_of, same_placed, same_placed_of,
+    VecLinkInfo, VecLinkInfoOf, check, check_counted, check_counted_of, check_of, same, same_at,
+    same_at_of, same_counted, same_counted_of, same_of,
 };
 pub use nla_frame::{
     Bytes, Cause, DecodeError, DefaultNla, Emitable, ExactEq, Family, HeaderCount, Nla, Nlas,
     Parseable, ParseableParametrized, Text, ToVecError, emit_nlas, is_equal, nlas_buffer_len,
     nlas_fit_len, nlas_to_vec,
 };
-pub use placed::{FaultIn, PlacedFault, check_placed, check_placed_of};
+pub use placed::{ErrorAt, ErrorIn, check_at, check_at_of};
 pub use unmet::{first_unmet, first_unmet_of};
 pub use walk::{LinkInfoItem, LinkInfoWalk};
 pub use xstats::LinkXstats;
 
-// For who builds the data of a link or of a port: the attributes of each family, and their numbers and flags (`Flags` has their bits).
+// Values of the data of links and of ports: the attributes of each family, their numbers and their
+// flags (`Flags` has their bits).
 pub use bitflags::Flags;
 pub use linkinfo_devices::{
     InfoIpVlan, InfoIpVtap, InfoIpoib, InfoMacSec, InfoMacVlan, InfoMacVtap, InfoRmNet, InfoVrf,
@@ -64,41 +69,44 @@ pub use linkinfo_tunnels::{
     InfoAmt, InfoBareUdp, InfoGeneve, InfoGre, InfoGre6, InfoGtp, InfoIpTunnel, InfoVti, InfoVxlan,
 };
 
-// For who parses the data of a link or of a port alone: which family a kind has; parsing, checking
-// and comparing a payload by it; and what of it is not met.
+// The data of a link or of a port alone: the family of a kind, and payloads parsed, validated and
+// compared by family. Also what of a payload is not met, where two payloads differ, and the offset
+// of an error.
 pub use linkinfo_data::{
-    DataFamily, DeviceFamily, LowerFamily, PayloadFamily, PeeredFamily, PortFamily, TunnelFamily,
-    Unmet, family_of, list_unmet, port_family_of,
+    DataFamily, DeviceFamily, Difference, LowerFamily, PayloadFamily, PeeredFamily, PortFamily,
+    TunnelFamily, Unmet, family_of, list_difference, list_error, list_unmet, port_family_of,
 };
 
-// For who iterates over attributes: one attribute in a slice, an iterator, the last attribute of
-// each type, numbers and addresses in payloads.
+// Iteration over attributes: one attribute in a slice, an iterator, the last attribute of each
+// type, numbers and addresses in payloads.
 pub use linkinfo_table::{LastOfType, PlacedNla, own_bytes};
 pub use nla_frame::{
     NlaBuffer, NlasIterator, emit_i32, emit_u16, emit_u16_be, emit_u32, emit_u32_be, emit_u64,
-    emit_u64_be, next_piece, parse_i32, parse_ip, parse_ipv4_addr, parse_ipv6_addr, parse_mac,
+    emit_u64_be, next_attribute, parse_i32, parse_ip, parse_ipv4_addr, parse_ipv6_addr, parse_mac,
     parse_u8, parse_u16, parse_u16_be, parse_u32, parse_u32_be, parse_u64, parse_u64_be,
-    put_attribute, put_attributes, put_bytes, put_bytes_attribute, put_frame, without_nul,
+    without_nul, write_attribute, write_attributes, write_bytes, write_bytes_attribute,
+    write_frame,
 };
 
-// For who writes a family of attributes, the peer of veth, vxcan and netkit links, or a flag set, of one's own. Every peer has `DataFamilies` and every
-// family `ListedFamily`: they are there for contracts alone, as `PlainFamilies` and `Plain` are.
+// Custom families of attributes, peers of veth, vxcan and netkit links, and flag sets. Every type
+// of peer has `DataFamilies` and every family `ListedFamily`: they are for contracts alone, as
+// `PlainFamilies` and `Plain` are.
 pub use linkinfo_data::{DataFamilies, Plain, PlainFamilies};
 pub use linkinfo_numbers::{KeepsEveryBit, bits_again};
 pub use linkinfo_peers::BitPeer;
 pub use linkinfo_table::{
-    Datum, FlatFamily, Found, LinkFamily, LinkPeer, ListedFamily, Lookup, Part, PeerFault, Place,
-    RowFamily, Rowless, Shape, TableFamily, UnnestedFamily, WrittenByTable, datum_len,
-    first_canonical_len, first_check, first_put_canonical, first_read, first_same,
-    list_canonical_len, list_check, list_put_canonical, list_read, list_same, part_by_rows, parts,
-    put_by_rows, read_datum, row_canonical_len, row_check, row_emit_payload, row_emit_value,
-    row_fit_len, row_kind, row_put, row_put_canonical, row_read, row_same, row_value_len, rowless,
-    shape_canonical_len, shape_check, shape_put_attribute, shape_put_canonical, shape_same,
-    table_lookup, table_shape, write_datum,
+    Datum, Decoded, Encodable, FlatFamily, LinkFamily, LinkPeer, ListedFamily, Lookup, Opaque,
+    PeerFault, RowFamily, Shape, Slot, TableFamily, UnnestedFamily, WrittenByTable, datum_len,
+    encodable_by_rows, encodables, first_canonical_len, first_check, first_read, first_same,
+    first_write_canonical, list_canonical_len, list_check, list_read, list_same,
+    list_write_canonical, opaque, read_datum, row_canonical_len, row_check, row_emit_payload,
+    row_emit_value, row_fit_len, row_kind, row_read, row_same, row_store, row_value_len,
+    row_write_canonical, shape_canonical_len, shape_check, shape_same, shape_write_attribute,
+    shape_write_canonical, store_by_rows, table_lookup, table_shape, write_datum,
 };
 pub use nla_frame::fitting;
 
-// What follows from the contracts, by layer: functions without code, each there for its contract. Those of the list are `laws`.
+// Laws, by layer: functions without code, each for its contract. Those of the list are `laws`.
 pub use linkinfo_data::laws as data_laws;
 pub use linkinfo_devices::laws as device_laws;
 pub use linkinfo_numbers::laws as number_laws;

@@ -6,24 +6,25 @@ use linkinfo_numbers::{IFLA_INFO_XSTATS, InfoKind, InfoPortKind};
 use linkinfo_table::LinkPeer;
 use nla_frame::{Bytes, DefaultNla, Emitable, ExactEq, Nla, fitting};
 
-/// An attribute of the list, with peers of type `P`.
+/// An attribute in `IFLA_LINKINFO`, with peers of type `P`.
 #[derive(Debug, PartialEq, Eq, Clone, Drop)]
 pub enum LinkInfoOf<P> {
-    /// Statistics of the link (`IFLA_INFO_XSTATS`).
+    /// The statistics of the link (`IFLA_INFO_XSTATS`).
     Xstats(LinkXstats),
     /// The kind of the link (`IFLA_INFO_KIND`).
     Kind(InfoKind),
-    /// Data of the link (`IFLA_INFO_DATA`).
+    /// The data of the link (`IFLA_INFO_DATA`).
     Data(InfoDataOf<P>),
-    /// The kind of the link that the port belongs to (`IFLA_INFO_SLAVE_KIND`).
+    /// The kind of the port, which is the kind of the link that the port belongs to
+    /// (`IFLA_INFO_SLAVE_KIND`).
     PortKind(InfoPortKind),
-    /// Data of the port (`IFLA_INFO_SLAVE_DATA`).
+    /// The data of the port (`IFLA_INFO_SLAVE_DATA`).
     PortData(InfoPortData),
-    /// An attribute of another type, kept as it came.
+    /// An attribute of any other type, kept verbatim.
     Other(DefaultNla),
 }
 
-/// An attribute of the list, with peers kept as bytes.
+/// An attribute in `IFLA_LINKINFO`, with peers kept as bytes.
 pub type LinkInfo = LinkInfoOf<Bytes>;
 
 impl<P: LinkPeer> Nla for LinkInfoOf<P> {
@@ -87,19 +88,47 @@ impl<P: LinkPeer> Nla for LinkInfoOf<P> {
 impl<P: ExactEq> ExactEq for LinkInfoOf<P> {
     ghost use Rattle.linkinfo.specs.declared.link_info.LinkInfoOf.TheVariants as info;
     ghost use Rattle.linkinfo_data.specs.Equal.{apart, under};
-    ghost use Rattle.linkinfo.specs.contracts.xstats.LinkXstatsExactEq.TheImpl.Laws.{exact-law as xstats_exact};
-    ghost use Rattle.linkinfo_numbers.specs.contracts.kind.InfoKindExactEq.TheImpl.Laws.{exact-law as kind_exact};
+    ghost use Rattle.linkinfo.specs.contracts.xstats.LinkXstatsExactEq.TheImpl.Laws.{
+      exact-law as xstats_exact,
+    };
+    ghost use Rattle.linkinfo_numbers.specs.contracts.kind.InfoKindExactEq.TheImpl.Laws.{
+      exact-law as kind_exact,
+    };
     ghost use Rattle.linkinfo_data.specs.DataEqual.{data_decides};
-    ghost use Rattle.linkinfo_numbers.specs.contracts.port_kind.InfoPortKindExactEq.TheImpl.Laws.{exact-law as port_kind_exact};
-    ghost use Rattle.linkinfo_data.specs.contracts.port_data.InfoPortDataExactEq.TheImpl.Laws.{exact-law as port_data_exact};
-    ghost use Rattle.nla_frame.specs.contracts.default_nla.DefaultNlaExactEq.TheImpl.Laws.{exact-law as kept_exact};
+    ghost use Rattle.linkinfo_numbers.specs.contracts.port_kind.InfoPortKindExactEq.TheImpl.Laws.{
+      exact-law as port_kind_exact,
+    };
+    ghost use Rattle.linkinfo_data.specs.contracts.port_data.InfoPortDataExactEq.TheImpl.Laws.{
+      exact-law as port_data_exact,
+    };
+    ghost use Rattle.nla_frame.specs.contracts.default_nla.DefaultNlaExactEq.TheImpl.Laws.{
+      exact-law as kept_exact,
+    };
 
     ghost exact = { elim [
-      | info.Xstats x ↦ elim [ info.Xstats y ↦ under (λ v. info.Xstats v) (λ e. cc) (xstats_exact x y) | _ ↦ apart (λ e. cc) ]
-      | info.Kind x ↦ elim [ info.Kind y ↦ under (λ v. info.Kind v) (λ e. cc) (kind_exact x y) | _ ↦ apart (λ e. cc) ]
-      | info.Data x ↦ elim [ info.Data y ↦ under (λ v. info.Data v) (λ e. cc) (data_decides P.ExactEq P.PartialEq x y) | _ ↦ apart (λ e. cc) ]
-      | info.PortKind x ↦ elim [ info.PortKind y ↦ under (λ v. info.PortKind v) (λ e. cc) (port_kind_exact x y) | _ ↦ apart (λ e. cc) ]
-      | info.PortData x ↦ elim [ info.PortData y ↦ under (λ v. info.PortData v) (λ e. cc) (port_data_exact x y) | _ ↦ apart (λ e. cc) ]
-      | info.Other x ↦ elim [ info.Other y ↦ under (λ v. info.Other v) (λ e. cc) (kept_exact x y) | _ ↦ apart (λ e. cc) ]
+      | info.Xstats x ↦ elim [
+        | info.Xstats y ↦ under (λ v. info.Xstats v) (λ e. cc) (xstats_exact x y)
+        | _ ↦ apart (λ e. cc)
+      ]
+      | info.Kind x ↦ elim [
+        | info.Kind y ↦ under (λ v. info.Kind v) (λ e. cc) (kind_exact x y)
+        | _ ↦ apart (λ e. cc)
+      ]
+      | info.Data x ↦ elim [
+        | info.Data y ↦ under (λ v. info.Data v) (λ e. cc) (data_decides P.ExactEq P.PartialEq x y)
+        | _ ↦ apart (λ e. cc)
+      ]
+      | info.PortKind x ↦ elim [
+        | info.PortKind y ↦ under (λ v. info.PortKind v) (λ e. cc) (port_kind_exact x y)
+        | _ ↦ apart (λ e. cc)
+      ]
+      | info.PortData x ↦ elim [
+        | info.PortData y ↦ under (λ v. info.PortData v) (λ e. cc) (port_data_exact x y)
+        | _ ↦ apart (λ e. cc)
+      ]
+      | info.Other x ↦ elim [
+        | info.Other y ↦ under (λ v. info.Other v) (λ e. cc) (kept_exact x y)
+        | _ ↦ apart (λ e. cc)
+      ]
     ] };
 }

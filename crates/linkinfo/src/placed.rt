@@ -1,70 +1,125 @@
-//! The first fault of a list, and where it stands.
+//! The first error of a list, with its offsets.
 
-ghost use Rattle.std.specs.Prelude.{◌≡◌, Err, IfErr, IsOk, MatchResult};
+ghost use Rattle.std.specs.Prelude.{◌≡◌, ◌+◌, ◌≤◌, Err, IfErr, IsOk, MatchResult, length};
 ghost use Rattle.linkinfo_data.specs.BytesPeer.{bytes_peer};
-ghost use Rattle.linkinfo.specs.Comparing.{fault_in};
-ghost use Rattle.linkinfo.specs.Placed.{IsFaultyAt};
+ghost use Rattle.linkinfo.specs.Comparing.{either_error};
+ghost use Rattle.linkinfo.specs.Placed.{IsErrorAt, IsRejectedAt, error_in, error_in_payload};
 ghost use Rattle.linkinfo.specs.Strings.{reading};
 
 use crate::item::check_item;
+use crate::role::Role;
 use crate::walk::LinkInfoWalk;
-use linkinfo_data::DataFamilies;
+use linkinfo_data::{
+    DataFamilies, DataFamily, InfoDataOf, InfoPortData, PayloadFamily, PortFamily, family_of,
+    list_error, port_family_of,
+};
 use linkinfo_table::LinkPeer;
-use nla_frame::{Bytes, DecodeError, ExactEq, HeaderCount};
+use nla_frame::{Bytes, DecodeError, ExactEq, HeaderCount, NlaBuffer};
 
-/// A fault, and where it stands.
+/// The first error of a list, with its offsets.
 #[derive(Clone, Copy, Debug, PartialEq, Eq)]
-pub struct PlacedFault {
-    /// Family, type and cause.
-    pub fault: DecodeError,
-    /// Where, in bytes from the front of the list, the attribute of the list begins that has the fault, itself or in what stands inside it; or
-    /// where no header is accepted.
+pub struct ErrorAt {
+    /// The error: family, type and cause.
+    pub error: DecodeError,
+    /// The offset, in bytes from the beginning of the list, of the header of the attribute of the
+    /// list that has the error, itself or in its data. If no header is accepted, it is the offset
+    /// of the rejected bytes.
     pub place: usize,
+    /// The offset, in bytes from the beginning of the list, of the header of the innermost
+    /// attribute that has the error: an attribute of data, or of a list in it. Otherwise it is
+    /// `place`.
+    pub inner: usize,
 }
 
-impl ExactEq for PlacedFault {
+impl ExactEq for ErrorAt {
     ghost use Rattle.std.specs.Prelude.{refl};
     ghost use Rattle.std.proofs.lemmas.Bool.Decides.{Decides-eqb};
     ghost use Rattle.nla_frame.specs.Derived.{fields_decide, two_fields};
-    ghost use Rattle.nla_frame.specs.contracts.exact_eq.DecodeErrorExactEq.TheImpl.Laws.{exact-law as fault_exact};
+    ghost use Rattle.nla_frame.specs.contracts.exact_eq.DecodeErrorExactEq.TheImpl.Laws.{
+      exact-law as error_exact,
+    };
 
-    ghost exact = { fields_decide (λ p. (p.fault, p.place)) (λ z. record { fault = z.0; place = z.1 }) (λ p. refl) (two_fields fault_exact Decides-eqb) };
+    ghost exact = { fields_decide (λ p. (p.error, (p.place, p.inner)))
+        (λ z. record { error = z.0; place = z.1.0; inner = z.1.1 }) (λ p. refl)
+        (two_fields error_exact (two_fields Decides-eqb Decides-eqb)) };
 }
 
-/// Which of two strings is refused, and its fault.
+/// The error of one of two byte strings, and which of them has it.
 #[derive(Clone, Copy, Debug, PartialEq, Eq)]
-pub enum FaultIn {
-    /// The first string's fault.
+pub enum ErrorIn {
+    /// The first byte string is rejected with this error.
     First(DecodeError),
-    /// The second string's fault, where the first has none.
+    /// The second byte string is rejected with this error, and the first one is accepted.
     Second(DecodeError),
 }
 
-impl FaultIn {
-    /// The fault, whichever string has it.
-    pub fn fault(self) -> DecodeError
-        ensures { result ≡ fault_in self }
+impl ErrorIn {
+    /// Returns the error, whichever byte string has it.
+    pub fn error(self) -> DecodeError
+        ensures { result ≡ either_error self }
     {
         match self {
-            FaultIn::First(fault) | FaultIn::Second(fault) => fault,
+            ErrorIn::First(error) | ErrorIn::Second(error) => error,
         }
     }
 }
 
-impl ExactEq for FaultIn {
+impl ExactEq for ErrorIn {
     ghost use Rattle.nla_frame.specs.Derived.{derived_decides, one_field};
-    ghost use Rattle.nla_frame.specs.contracts.exact_eq.DecodeErrorExactEq.TheImpl.Laws.{exact-law as fault_exact};
-    ghost use Rattle.linkinfo.specs.contracts.placed.FaultIn.{enum};
+    ghost use Rattle.nla_frame.specs.contracts.exact_eq.DecodeErrorExactEq.TheImpl.Laws.{
+      exact-law as error_exact,
+    };
+    ghost use Rattle.linkinfo.specs.contracts.placed.ErrorIn.{enum};
 
-    ghost exact = { derived_decides enum _ (one_field fault_exact, (one_field fault_exact, tt)) };
+    ghost exact = { derived_decides enum _ (one_field error_exact, (one_field error_exact, tt)) };
 }
 
-/// `check_of`, and where the fault stands. Takes no memory, and looks at each header once.
+/// The offset of the error of rejected data, in bytes from the header of the attribute that holds
+/// the data. It is that of the innermost attribute if the data is a list, otherwise that of the
+/// data's first attribute.
+fn error_in_payload<D: Drop, F: PayloadFamily<D>>(family: F, payload: &[u8]) -> usize
+    ensures offset { result ≡ error_in_payload (F.data_of family).listing payload.now }
+    ensures within { result ≤ 4 + length payload.now }
+{
+    if family.listing().is_none() {
+        return 4;
+    }
+    match list_error::<D, F>(family, payload) {
+        Some(offset) => 4 + offset,
+        None => 4,
+    }
+}
+
+/// The offset of the error of a rejected attribute of the list, in bytes from its header.
+fn error_in<P: LinkPeer>(nla: &NlaBuffer<'_>, role: Role) -> usize
+    ensures offset { result ≡ error_in ⟦<P as DataFamilies>⟧.families role nla.now }
+    ensures within { result ≤ 4 + length nla.now.value }
+{
+    match role {
+        Role::Data(tag) => {
+            error_in_payload::<InfoDataOf<P>, DataFamily>(family_of(tag), nla.value())
+        }
+        Role::PortData(tag) => {
+            error_in_payload::<InfoPortData, PortFamily>(port_family_of(tag), nla.value())
+        }
+        _ => 0,
+    }
+}
+
+/// Validates the contents of `IFLA_LINKINFO`, with peers of type `P`, as `check_of` does, and
+/// returns the offsets of the error beside it.
 ///
-/// The place is that of an attribute of the list: of a fault inside data, port data or a list in them, that of the data's own header.
-pub fn check_placed_of<P: LinkPeer>(bytes: &[u8]) -> Result<(), PlacedFault>
-    ensures answer { MatchResult result (λ _. IsOk (reading ⟦<P as DataFamilies>⟧.families bytes.now)) (λ at. reading ⟦<P as DataFamilies>⟧.families bytes.now ≡ Err at.fault) }
-    ensures place { IfErr result (λ at. IsFaultyAt ⟦<P as DataFamilies>⟧.families bytes.now at.fault at.place) }
+/// The offset `place` is that of an attribute of the list: for an error inside data, port data or a
+/// list in them, it is that of the data's own header. Each header is examined once, those of
+/// rejected data up to three times. Does not allocate.
+pub fn check_at_of<P: LinkPeer>(bytes: &[u8]) -> Result<(), ErrorAt>
+    ensures answer { MatchResult result
+        (λ _. IsOk (reading ⟦<P as DataFamilies>⟧.families bytes.now))
+        (λ at. reading ⟦<P as DataFamilies>⟧.families bytes.now ≡ Err at.error) }
+    ensures place { IfErr result
+        (λ at. IsRejectedAt ⟦<P as DataFamilies>⟧.families bytes.now at.error at.place) }
+    ensures inner { IfErr result
+        (λ at. IsErrorAt ⟦<P as DataFamilies>⟧.families bytes.now at.error at.place at.inner) }
 {
     let mut walk = LinkInfoWalk::new(bytes);
     let mut count = HeaderCount::new();
@@ -73,24 +128,41 @@ pub fn check_placed_of<P: LinkPeer>(bytes: &[u8]) -> Result<(), PlacedFault>
         match next {
             Ok((nla, role)) => match check_item::<P>(&nla, role, &mut count) {
                 Ok(()) => place = walk.place(),
-                Err(fault) => return Err(PlacedFault { fault, place }),
+                Err(error) => {
+                    let inner = place + error_in::<P>(&nla, role);
+                    return Err(ErrorAt {
+                        error,
+                        place,
+                        inner,
+                    });
+                }
             },
-            Err(fault) => return Err(PlacedFault { fault, place }),
+            Err(error) => {
+                return Err(ErrorAt {
+                    error,
+                    place,
+                    inner: place,
+                });
+            }
         }
     }
     Ok(())
 }
 
-/// `check_placed_of`, with peers kept as bytes.
+/// Validates the contents of `IFLA_LINKINFO` as `check` does, and returns the offsets of the error
+/// beside it. Peers are kept as bytes; `check_at_of` takes other types of peer. Does not
+/// allocate.
 ///
 /// ```text
-/// if let Err(at) = check_placed(&received) {
-///     println!(rt; "{} at byte {}", at.fault, at.place)?;
+/// if let Err(at) = check_at(&received) {
+///     println!(rt; "{} at byte {}", at.error, at.place)?;
 /// }
 /// ```
-pub fn check_placed(bytes: &[u8]) -> Result<(), PlacedFault>
-    ensures answer { MatchResult result (λ _. IsOk (reading bytes_peer bytes.now)) (λ at. reading bytes_peer bytes.now ≡ Err at.fault) }
-    ensures place { IfErr result (λ at. IsFaultyAt bytes_peer bytes.now at.fault at.place) }
+pub fn check_at(bytes: &[u8]) -> Result<(), ErrorAt>
+    ensures answer { MatchResult result (λ _. IsOk (reading bytes_peer bytes.now))
+        (λ at. reading bytes_peer bytes.now ≡ Err at.error) }
+    ensures place { IfErr result (λ at. IsRejectedAt bytes_peer bytes.now at.error at.place) }
+    ensures inner { IfErr result (λ at. IsErrorAt bytes_peer bytes.now at.error at.place at.inner) }
 {
-    check_placed_of::<Bytes>(bytes)
+    check_at_of::<Bytes>(bytes)
 }

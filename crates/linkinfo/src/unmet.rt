@@ -1,32 +1,54 @@
 //! Whether a link has all attributes of a request, and which one it lacks.
 
 ghost use Rattle.std.specs.Prelude.{◌≡◌, ◌≢◌, ◌+◌, ◌<◌, ◌^◌, IfErr, IfSome, IsOk, length};
-ghost use Rattle.nla_frame.specs.Error.{memory_fault};
-ghost use Rattle.linkinfo.specs.Comparing.{fault_in};
+ghost use Rattle.nla_frame.specs.Error.{memory_error};
+ghost use Rattle.linkinfo.specs.Comparing.{either_error};
 ghost use Rattle.nla_frame.specs.Attribute.{masked};
-ghost use Rattle.linkinfo.specs.UnmetSteps.{HasAttribute, IsAcceptedLink, kind_place, name_there, port_place};
+ghost use Rattle.linkinfo.specs.UnmetSteps.{
+  HasAttribute,
+  IsAcceptedLink,
+  belongs_to_a_kind,
+  kind_place,
+  name_there,
+  port_place,
+};
 ghost use Rattle.nla_frame.specs.declared.error.Family.TheVariants as family;
 ghost use Rattle.std.specs.Option.{option_copied, option_map};
-ghost use Rattle.linkinfo_table.specs.Last.{attributes_of};
+ghost use Rattle.linkinfo_table.specs.Last.{attributes_of, covers};
+ghost use Rattle.linkinfo_data.specs.Unmet.{first_told};
 ghost use Rattle.linkinfo_table.specs.Rows.{row_alike, row_meaning};
 ghost use Rattle.linkinfo_data.specs.BytesPeer.{bytes_peer};
 ghost use Rattle.linkinfo.specs.Items.{link_other, link_row};
 ghost use Rattle.linkinfo.specs.Strings.{reading};
-ghost use Rattle.linkinfo.specs.Unmet.{data_unmet, item_unmet, kinds_named, link_at, link_unmet, names_before, names_in, no_names, same_kind, strings_unmet, unmet_answer};
+ghost use Rattle.linkinfo.specs.Unmet.{
+  counted_unmet,
+  data_unmet,
+  item_unmet,
+  kinds_named,
+  link_at,
+  link_unmet,
+  names_before,
+  names_in,
+  no_names,
+  same_kind,
+  strings_unmet,
+  unmet_answer,
+};
 
 use crate::item::same_item;
 use crate::list::check_of;
-use crate::placed::FaultIn;
-use crate::role::{InForce, Role, role_of};
+use crate::placed::ErrorIn;
+use crate::role::{CurrentKinds, Role, role_of};
 use linkinfo_data::{
-    DataFamilies, DataFamily, InfoDataOf, InfoPortData, PayloadFamily, PortFamily, Unmet,
-    family_of, list_unmet, port_family_of,
+    DataFamilies, DataFamily, InfoDataOf, InfoPortData, PayloadFamily, PortFamily, Unmet, UnmetAt,
+    earlier, family_of, list_unmet, port_family_of,
 };
 use linkinfo_numbers::{
-    IFLA_INFO_KIND, IFLA_INFO_SLAVE_DATA, IFLA_INFO_SLAVE_KIND, port_tag_of_name, tag_of_name,
+    IFLA_INFO_DATA, IFLA_INFO_KIND, IFLA_INFO_SLAVE_DATA, IFLA_INFO_SLAVE_KIND, IFLA_INFO_XSTATS,
+    port_tag_of_name, tag_of_name,
 };
-use linkinfo_table::{LastOfType, LinkPeer, PlacedNla};
-use nla_frame::{Bytes, Family, HeaderCount, NlaBuffer, next_piece, without_nul};
+use linkinfo_table::{INDEXED, LastOfType, LinkPeer, PlacedNla, types_end};
+use nla_frame::{Bytes, Family, HeaderCount, NlaBuffer, next_attribute, without_nul};
 
 /// The names of the current kinds.
 #[derive(Clone, Copy)]
@@ -37,10 +59,10 @@ struct Names<'a> {
 
 impl<'a> Names<'a> {
     /// The kinds that they name.
-    fn kinds(self) -> InForce
+    fn kinds(self) -> CurrentKinds
         ensures { result ≡ kinds_named (names_in self.entry) }
     {
-        InForce {
+        CurrentKinds {
             kind: match self.kind {
                 Some(name) => Some(tag_of_name(name)),
                 None => None,
@@ -53,8 +75,8 @@ impl<'a> Names<'a> {
     }
 }
 
-/// The offset of the attribute that names the current kind, after one of this type at an offset. That
-/// one counts where it is before the attribute in question.
+/// The offset of the attribute that names the current kind, after one of this type at an offset.
+/// That one counts where it is before the attribute in question.
 fn kind_after(is_before: bool, kind: u16, offset: usize, old: Option<usize>) -> Option<usize>
     ensures { result ≡ kind_place is_before kind offset old }
 {
@@ -65,8 +87,8 @@ fn kind_after(is_before: bool, kind: u16, offset: usize, old: Option<usize>) -> 
     }
 }
 
-/// The offset of the attribute that names the current port kind, after one of this type at an offset.
-/// Port data uses the port kind up.
+/// The offset of the attribute that names the current port kind, after one of this type at an
+/// offset. Port data uses the port kind up.
 fn port_after(is_before: bool, kind: u16, offset: usize, old: Option<usize>) -> Option<usize>
     ensures { result ≡ port_place is_before kind offset old }
 {
@@ -98,7 +120,7 @@ fn names_before<'a>(bytes: &'a [u8], offset: usize) -> Names<'a>
     let mut port = None;
     let mut count = HeaderCount::new();
     let mut rest = bytes;
-    while let Some(Ok((nla, after))) = next_piece(rest, &mut count) {
+    while let Some(Ok((nla, after))) = next_attribute(rest, &mut count) {
         let place = bytes.len() - rest.len();
         let is_before = place < offset;
         kind = kind_after(is_before, nla.kind(), place, kind);
@@ -124,7 +146,12 @@ fn is_same_kind(role: Role, have: Names<'_>, want: Names<'_>) -> bool
 
 /// An attribute of the list that is not met as a whole.
 fn whole(want: &PlacedNla<'_>, have: Option<usize>) -> Unmet
-    ensures { result ≡ record { family = family.LinkInfo; kind = masked want.now.nla.kind; want = want.now.offset; have = have } }
+    ensures { result ≡ record {
+      family = family.LinkInfo;
+      kind = masked want.now.nla.kind;
+      want = want.now.offset;
+      have = have;
+    } }
 {
     Unmet {
         family: Family::LinkInfo,
@@ -134,7 +161,8 @@ fn whole(want: &PlacedNla<'_>, have: Option<usize>) -> Unmet
     }
 }
 
-/// What of data `want` does not find in data `have` of its kind: an attribute, where data is a list.
+/// What of data `want` does not find in data `have` of its kind: an attribute, where data is a
+/// list.
 fn data_unmet<D: Drop, F: PayloadFamily<D>>(
     family: F,
     have: &PlacedNla<'_>,
@@ -147,6 +175,9 @@ fn data_unmet<D: Drop, F: PayloadFamily<D>>(
     ensures { result ≡ data_unmet (F.data_of family) have.now want.now }
 {
     let (had, wanted) = (have.nla.value(), want.nla.value());
+    if had == wanted {
+        return None;
+    }
     match family.listing() {
         Some(name) => {
             let inner = list_unmet::<D, F>(family, name, had, wanted)?;
@@ -160,9 +191,20 @@ fn data_unmet<D: Drop, F: PayloadFamily<D>>(
                 },
             })
         }
-        None if had == wanted || family.same(had, wanted, &mut HeaderCount::new()) => None,
+        None if family.same(had, wanted, &mut HeaderCount::new()) => None,
         None => Some(whole(want, Some(have.offset))),
     }
+}
+
+/// Whether what an attribute of this type means depends on a kind: that of data, statistics or port
+/// data does.
+fn belongs_to_a_kind(kind: u16) -> bool
+    ensures { result ≡ belongs_to_a_kind kind }
+{
+    matches!(
+        kind,
+        IFLA_INFO_DATA | IFLA_INFO_XSTATS | IFLA_INFO_SLAVE_DATA
+    )
 }
 
 /// What of an attribute of `want` the last one of its type in `have` does not meet.
@@ -172,17 +214,24 @@ fn placed_unmet<P: LinkPeer>(
     want: &[u8],
     placed: &PlacedNla<'_>,
 ) -> Option<Unmet>
-    requires have { IfSome found.now (λ p. IsAcceptedLink ⟦<P as DataFamilies>⟧.families (link_at have.now p)) }
+    requires have { IfSome found.now
+        (λ p. IsAcceptedLink ⟦<P as DataFamilies>⟧.families (link_at have.now p)) }
     requires want { IsAcceptedLink ⟦<P as DataFamilies>⟧.families (link_at want.now placed.now) }
     requires same_type { IfSome found.now (λ p. masked p.nla.kind ≡ masked placed.now.nla.kind) }
-    ensures { result ≡ link_unmet ⟦<P as DataFamilies>⟧.families (option_map (link_at have.now) found.now) (link_at want.now placed.now) }
+    ensures { result
+        ≡ link_unmet ⟦<P as DataFamilies>⟧.families (option_map (link_at have.now) found.now)
+        (link_at want.now placed.now) }
 {
     let Some(found) = found else {
         return Some(whole(placed, None));
     };
+    let kind = placed.nla.kind();
+    if !belongs_to_a_kind(kind) {
+        return item_unmet::<P>(role_of(CurrentKinds::none(), kind), found, placed);
+    }
     let had = names_before(have, found.offset);
     let wanted = names_before(want, placed.offset);
-    let role = role_of(wanted.kinds(), placed.nla.kind());
+    let role = role_of(wanted.kinds(), kind);
     if !is_same_kind(role, had, wanted) {
         return Some(whole(placed, Some(found.offset)));
     }
@@ -198,9 +247,12 @@ fn placed_unmet<P: LinkPeer>(
 /// What of an attribute that is no data another one of its type and role does not meet: nothing, or
 /// the whole.
 fn item_unmet<P: LinkPeer>(role: Role, have: &PlacedNla<'_>, want: &PlacedNla<'_>) -> Option<Unmet>
-    requires have { IsOk (row_meaning family.LinkInfo link_other (link_row ⟦<P as DataFamilies>⟧.families role) have.now.nla) }
-    requires want { IsOk (row_meaning family.LinkInfo link_other (link_row ⟦<P as DataFamilies>⟧.families role) want.now.nla) }
-    ensures { result ≡ item_unmet (row_alike (link_row ⟦<P as DataFamilies>⟧.families role)) have.now want.now }
+    requires have { IsOk (row_meaning family.LinkInfo link_other
+        (link_row ⟦<P as DataFamilies>⟧.families role) have.now.nla) }
+    requires want { IsOk (row_meaning family.LinkInfo link_other
+        (link_row ⟦<P as DataFamilies>⟧.families role) want.now.nla) }
+    ensures { result
+        ≡ item_unmet (row_alike (link_row ⟦<P as DataFamilies>⟧.families role)) have.now want.now }
 {
     if have.nla.value() == want.nla.value()
         || same_item::<P>(&have.nla, &want.nla, role, &mut HeaderCount::new())
@@ -217,19 +269,38 @@ fn first_unmet_in<P: LinkPeer>(have: &[u8], want: &[u8]) -> Option<Unmet>
     requires want { IsOk (reading ⟦<P as DataFamilies>⟧.families want.now) }
     ensures { result ≡ strings_unmet ⟦<P as DataFamilies>⟧.families have.now want.now }
 {
-    let found = LastOfType::new(have);
-    let wanted = LastOfType::new(want);
+    let end = types_end(want);
+    let mut first = None;
+    let mut block = 0;
+    while block < end {
+        first = earlier(first, unmet_from::<P>(have, want, block));
+        block += INDEXED;
+    }
+    Some(first?.unmet)
+}
+
+/// The first attribute of an accepted list that another one does not meet, among those of `INDEXED`
+/// types from `start` on.
+fn unmet_from<P: LinkPeer>(have: &[u8], want: &[u8], start: u16) -> Option<UnmetAt>
+    requires have { IsOk (reading ⟦<P as DataFamilies>⟧.families have.now) }
+    requires want { IsOk (reading ⟦<P as DataFamilies>⟧.families want.now) }
+    ensures { result
+        ≡ first_told (covers start)
+        (counted_unmet ⟦<P as DataFamilies>⟧.families have.now want.now)
+        (attributes_of want.now) }
+{
+    let found = LastOfType::new(have, start);
+    let wanted = LastOfType::new(want, start);
     let mut count = HeaderCount::new();
     let mut rest = want;
-    while let Some(Ok((nla, after))) = next_piece(rest, &mut count) {
+    while let Some(Ok((nla, after))) = next_attribute(rest, &mut count) {
         let offset = want.len() - rest.len();
         let placed = PlacedNla { offset, nla };
         let kind = placed.nla.kind();
         if wanted.offset(kind) == Some(offset) {
             let last = found.find(kind);
-            let unmet = placed_unmet::<P>(have, &last, want, &placed);
-            if unmet.is_some() {
-                return unmet;
+            if let Some(unmet) = placed_unmet::<P>(have, &last, want, &placed) {
+                return Some(UnmetAt { offset, unmet });
             }
         }
         rest = after;
@@ -237,34 +308,44 @@ fn first_unmet_in<P: LinkPeer>(have: &[u8], want: &[u8]) -> Option<Unmet>
     None
 }
 
-/// The first attribute of the list `want` that the list `have` does not meet, with peers of type `P`,
-/// or `None` where `have` meets every attribute of `want`, in any order. `have` may have more.
+/// The first attribute of the list `want` that the list `have` does not meet, with peers of type
+/// `P`, or `None` where `have` meets every attribute of `want`. Attributes of different types may
+/// be in any order, and `have` may have more.
 ///
 /// Of several attributes of a type the last one counts, as in the kernel. It is met where the last
 /// attribute of its type in `have`, of the same kind or port kind, has an equal payload or is
-/// equivalent. Data that is a list is compared attribute by attribute (`list_unmet`); names, other
-/// data and statistics as a whole. Flags of a type do not matter.
+/// equivalent. Data that is a list is compared attribute by attribute (`list_unmet`). Names, other
+/// data, statistics, and lists inside data are compared as a whole, with their order and the flags
+/// inside. Flags of an attribute's own type do not matter. Empty data is met by data alone.
 ///
 /// Of what is not met, `family` is that of the attribute inside data, or `Family::LinkInfo` of one
 /// of the list; offsets count from the beginning of each list. The error is that of `have`, else
-/// that of `want`. It takes a pass over both lists for each attribute of `want` outside data. Takes
-/// no memory.
-pub fn first_unmet_of<P: LinkPeer>(have: &[u8], want: &[u8]) -> Result<Option<Unmet>, FaultIn>
-    ensures answer { result ≡ unmet_answer (reading ⟦<P as DataFamilies>⟧.families have.now) (reading ⟦<P as DataFamilies>⟧.families want.now) (strings_unmet ⟦<P as DataFamilies>⟧.families have.now want.now) }
-    ensures no_memory { IfErr result (λ at. fault_in at ≢ memory_fault) }
+/// that of `want`. Does not allocate. Equal lists are validated once. Otherwise the passes over the
+/// lists are as many as in `list_unmet`, and one more over both for data, statistics and port data.
+pub fn first_unmet_of<P: LinkPeer>(have: &[u8], want: &[u8]) -> Result<Option<Unmet>, ErrorIn>
+    ensures answer { result
+        ≡ unmet_answer (reading ⟦<P as DataFamilies>⟧.families have.now)
+        (reading ⟦<P as DataFamilies>⟧.families want.now)
+        (strings_unmet ⟦<P as DataFamilies>⟧.families have.now want.now) }
+    ensures no_memory { IfErr result (λ at. either_error at ≢ memory_error) }
 {
     match check_of::<P>(have) {
         Ok(()) => {}
-        Err(fault) => return Err(FaultIn::First(fault)),
+        Err(error) => return Err(ErrorIn::First(error)),
+    }
+    if have == want {
+        return Ok(None);
     }
     match check_of::<P>(want) {
         Ok(()) => {}
-        Err(fault) => return Err(FaultIn::Second(fault)),
+        Err(error) => return Err(ErrorIn::Second(error)),
     }
     Ok(first_unmet_in::<P>(have, want))
 }
 
-/// `first_unmet_of`, with peers kept as bytes.
+/// Returns the first attribute of the list `want` that the list `have` does not meet, or `None`
+/// where it meets all of them. The error is that of `have`, else that of `want`. Peers are kept as
+/// bytes; `first_unmet_of` takes other types of peer, and says what is met. Does not allocate.
 ///
 /// ```text
 /// match first_unmet(&received, &wanted)? {
@@ -272,9 +353,11 @@ pub fn first_unmet_of<P: LinkPeer>(have: &[u8], want: &[u8]) -> Result<Option<Un
 ///     Some(unmet) => .., // an attribute at offset `unmet.want` of what is wanted
 /// }
 /// ```
-pub fn first_unmet(have: &[u8], want: &[u8]) -> Result<Option<Unmet>, FaultIn>
-    ensures answer { result ≡ unmet_answer (reading bytes_peer have.now) (reading bytes_peer want.now) (strings_unmet bytes_peer have.now want.now) }
-    ensures no_memory { IfErr result (λ at. fault_in at ≢ memory_fault) }
+pub fn first_unmet(have: &[u8], want: &[u8]) -> Result<Option<Unmet>, ErrorIn>
+    ensures answer { result
+        ≡ unmet_answer (reading bytes_peer have.now) (reading bytes_peer want.now)
+        (strings_unmet bytes_peer have.now want.now) }
+    ensures no_memory { IfErr result (λ at. either_error at ≢ memory_error) }
 {
     first_unmet_of::<Bytes>(have, want)
 }

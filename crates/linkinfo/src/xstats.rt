@@ -6,14 +6,14 @@ use linkinfo_numbers::InfoKind;
 use nla_frame::{Bytes, DecodeError, Emitable, ExactEq, NlaBuffer, ParseableParametrized};
 use std::alloc::Global;
 
-/// The statistics of a link, as its driver lays them out.
+/// The statistics of a link (`IFLA_INFO_XSTATS`), in the layout of its driver.
 #[derive(Debug, PartialEq, Eq, Clone, Drop)]
 pub enum LinkXstats {
-    /// Those of every kind: the bytes.
+    /// The bytes of the statistics, for every kind of link.
     Other(Bytes),
 }
 
-/// Written as the bytes.
+/// Written as the bytes of the statistics.
 impl Emitable for LinkXstats {
     ghost use Rattle.linkinfo.specs.Xstats.{xstats_bytes};
 
@@ -32,7 +32,8 @@ impl Emitable for LinkXstats {
     }
 }
 
-/// Keeps the attribute's payload, whatever its type and the kind. It takes memory.
+/// Parsed from the attribute's payload, which is copied, whatever its type and the kind. The error
+/// is `(Frame, 0, Memory)` if the allocation fails.
 impl<'a, 'b> ParseableParametrized<NlaBuffer<'a>, &'b InfoKind> for LinkXstats {
     ghost use Rattle.std.specs.Prelude.{Ok, true};
     ghost use Rattle.linkinfo.specs.declared.xstats.LinkXstats.TheVariants.{Other};

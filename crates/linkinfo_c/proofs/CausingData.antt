@@ -1,11 +1,28 @@
--- Which causes the error of a list of link info has: of data, by family, and of the list itself.
-use Rattle.std.specs.Prelude.{◌≡◌, ℕ, ◌==◌, ◌-◌, Bool, List, [], ◌∷◌, Option, Some, None, Result, Ok, Err, refl}
+-- The causes that the error of a list of link info can have: that of data, by family, and that of
+-- the list itself.
+use Rattle.std.specs.Prelude.{
+  ◌≡◌,
+  ℕ,
+  ◌==◌,
+  ◌-◌,
+  Bool,
+  List,
+  [],
+  ◌∷◌,
+  Option,
+  Some,
+  None,
+  Result,
+  Ok,
+  Err,
+  refl,
+}
 use Rattle.std.proofs.Common.{ap, subst, arith}
 use Rattle.nla_frame.specs.Answers.{verdict}
 use Rattle.nla_frame.specs.Error.{cause_number}
 use Rattle.nla_frame.specs.declared.error.Cause.{Cause}
 use Rattle.nla_frame.specs.Attribute.{Attribute, masked}
-use Rattle.nla_frame.specs.Pieces.{items_of, pieces}
+use Rattle.nla_frame.specs.NlaItems.{items_of, nla_items}
 use Rattle.nla_frame.specs.declared.bytes.Bytes.{Bytes}
 use Rattle.nla_frame.specs.declared.default_nla.DefaultNla.{DefaultNla}
 use Rattle.nla_frame.specs.declared.error.Cause.TheVariants as cause
@@ -16,7 +33,7 @@ use Rattle.linkinfo_numbers.specs.declared.tags.KindTag.{KindTag}
 use Rattle.linkinfo_numbers.specs.declared.tags.KindTag.TheVariants as tag
 use Rattle.linkinfo_shapes.specs.declared.shape.Shape.TheVariants.{Name, Raw}
 use Rattle.linkinfo_shapes.specs.Shapes.{means}
-use Rattle.linkinfo_table.specs.Codecs.{Fault}
+use Rattle.linkinfo_table.specs.Codecs.{PayloadError}
 use Rattle.linkinfo_table.specs.FamilyRows.{PlainRow, own, row_of, table_row}
 use Rattle.linkinfo_table.specs.Lists.{first_meaning, values}
 use Rattle.linkinfo_table.specs.Rows.{labelled, meaning_in, row_meaning}
@@ -54,6 +71,8 @@ use Rattle.linkinfo_data.specs.PeerData.{peers_data_of}
 use Rattle.linkinfo_data.specs.Plain.{plain}
 use Rattle.linkinfo_data.specs.PortData.{port_data_of, port_family_of}
 use Rattle.linkinfo_data.specs.TunnelData.{tunnels_data_of}
+use Rattle.linkinfo_data.specs.declared.difference.Difference.{Difference}
+use Rattle.linkinfo_data.specs.declared.unmet.Unmet.{Unmet}
 use Rattle.linkinfo_data.specs.declared.data.DataFamily.{DataFamily}
 use Rattle.linkinfo_data.specs.declared.data.DataFamily.TheVariants as of
 use Rattle.linkinfo_data.specs.declared.devices.DeviceFamily.{DeviceFamily}
@@ -68,59 +87,130 @@ use Rattle.linkinfo_data.specs.declared.port_data.PortFamily.{PortFamily}
 use Rattle.linkinfo_data.specs.declared.port_data.PortFamily.TheVariants as port_data
 use Rattle.linkinfo_data.specs.declared.tunnels.TunnelFamily.{TunnelFamily}
 use Rattle.linkinfo_data.specs.declared.tunnels.TunnelFamily.TheVariants as tunnel
-use Rattle.linkinfo.specs.Comparing.{same_placed_answer}
-use Rattle.linkinfo.specs.declared.placed.FaultIn.{FaultIn}
-use Rattle.linkinfo.specs.declared.placed.FaultIn.TheVariants as fault_in_one
+use Rattle.linkinfo.specs.Comparing.{placed_answer, same_at_answer}
+use Rattle.linkinfo.specs.declared.placed.ErrorIn.{ErrorIn}
+use Rattle.linkinfo.specs.declared.placed.ErrorIn.TheVariants as error_in_one
 use Rattle.linkinfo.specs.Items.{link_meaning, link_other, link_row}
-use Rattle.linkinfo.specs.Roles.{behind, behind_role, fault_of_item, name_meaning, name_or_fault, none_in_force, role_at, role_of, with_name}
-use Rattle.linkinfo.specs.Walks.{item_or_fault, walk_items}
-use Rattle.linkinfo.specs.Strings.{force_after, reading}
+use Rattle.linkinfo.specs.Roles.{
+  item_own_error,
+  kinds_after,
+  kinds_after_role,
+  name_meaning,
+  name_or_error,
+  no_kinds,
+  role_at,
+  role_of,
+  with_name,
+}
+use Rattle.linkinfo.specs.Unmet.{unmet_answer}
+use Rattle.linkinfo.specs.Walks.{item_or_error, walk_items}
+use Rattle.linkinfo.specs.Strings.{next_kinds, reading}
 use Rattle.linkinfo.specs.declared.link_info.LinkInfoOf.{LinkInfoOf}
 use Rattle.linkinfo.specs.declared.link_info.LinkInfoOf.TheVariants as link
 use Rattle.linkinfo.specs.declared.xstats.LinkXstats.TheVariants as xstats
-use Rattle.linkinfo.specs.declared.role.InForce.{InForce}
+use Rattle.linkinfo.specs.declared.role.CurrentKinds.{CurrentKinds}
 use Rattle.linkinfo.specs.declared.role.Role.{Role}
 use Rattle.linkinfo.specs.declared.role.Role.TheVariants as role
 use Rattle.linkinfo_c.specs.Causes.{IsReturned, IsReturnedCode}
 use Rattle.linkinfo_c.specs.Attributes.{given_inside}
-use Rattle.linkinfo_c.specs.Faults.{fault_in, fault_record}
-use Rattle.linkinfo_c.specs.Items.{fault_behind}
-use Rattle.linkinfo_c.proofs.Causing.{EachCause, EachError, EachFault, EachRow, bad, bad_same, first_errors, inside_faults, labelled_errors, level_each, list_errors, list_errors_under, own_faults, row_if_each, rows_errors, shape_causes, table_rows, variant_errors}
+use Rattle.linkinfo_c.specs.Difference.{difference_record}
+use Rattle.linkinfo_c.specs.Errors.{error_or_none, error_record}
+use Rattle.linkinfo_c.specs.Items.{error_after}
+use Rattle.linkinfo_c.specs.Unmet.{unmet_record}
+use Rattle.linkinfo_c.proofs.Causing.{
+  EachCause,
+  EachError,
+  EachPayloadError,
+  EachRow,
+  bad,
+  bad_same,
+  first_errors,
+  inside_errors,
+  labelled_errors,
+  level_each,
+  list_errors,
+  list_errors_under,
+  own_errors,
+  row_if_each,
+  rows_errors,
+  shape_causes,
+  table_rows,
+  variant_errors,
+}
 
--- a list of attributes by one table
-table_errors : {F : Type 0} (f : Family) (other : DefaultNla → F) (table : List (PlainRow F)) (p : List ℕ) →
-    EachError (values (meaning_in f other (λ n. row_of (table_row table n))) (pieces p))
+-- a list of attributes of one table
+table_errors : {F : Type 0} (f : Family) (other : DefaultNla → F) (table : List (PlainRow F))
+    (p : List ℕ) →
+    EachError (values (meaning_in f other (λ n. row_of (table_row table n))) (nla_items p))
 table_errors f other table p =
-    list_errors (meaning_in f other (λ n. row_of (table_row table n))) (λ a. rows_errors f other (λ n. table_row table n) (λ n. table_rows table n) a) (pieces p)
+    list_errors (meaning_in f other (λ n. row_of (table_row table n)))
+    (λ a. rows_errors f other (λ n. table_row table n) (λ n. table_rows table n) a) (nla_items p)
 
 lower_errors : (f : LowerFamily) (p : List ℕ) → EachError ((lower_data_of {P = Bytes} f).means p)
-lower_errors lower.Bridge p = variant_errors (λ xs. info.Bridge xs) (values plain.bridge.meaning (pieces p)) (table_errors _ _ [] p)
-lower_errors lower.Vlan p = variant_errors (λ xs. info.Vlan xs) (values plain.vlan.meaning (pieces p)) (table_errors _ _ [] p)
-lower_errors lower.Bond p = variant_errors (λ xs. info.Bond xs) (values plain.bond.meaning (pieces p)) (table_errors _ _ [] p)
-lower_errors lower.Hsr p = variant_errors (λ xs. info.Hsr xs) (values plain.hsr.meaning (pieces p)) (table_errors _ _ [] p)
-lower_errors lower.Can p = variant_errors (λ xs. info.Can xs) (values plain.can.meaning (pieces p)) (table_errors _ _ [] p)
-lower_errors lower.Dsa p = variant_errors (λ xs. info.Dsa xs) (values plain.dsa.meaning (pieces p)) (table_errors _ _ [] p)
+lower_errors lower.Bridge p =
+    variant_errors (λ xs. info.Bridge xs) (values plain.bridge.meaning (nla_items p))
+    (table_errors _ _ [] p)
+lower_errors lower.Vlan p =
+    variant_errors (λ xs. info.Vlan xs) (values plain.vlan.meaning (nla_items p))
+    (table_errors _ _ [] p)
+lower_errors lower.Bond p =
+    variant_errors (λ xs. info.Bond xs) (values plain.bond.meaning (nla_items p))
+    (table_errors _ _ [] p)
+lower_errors lower.Hsr p =
+    variant_errors (λ xs. info.Hsr xs) (values plain.hsr.meaning (nla_items p))
+    (table_errors _ _ [] p)
+lower_errors lower.Can p =
+    variant_errors (λ xs. info.Can xs) (values plain.can.meaning (nla_items p))
+    (table_errors _ _ [] p)
+lower_errors lower.Dsa p =
+    variant_errors (λ xs. info.Dsa xs) (values plain.dsa.meaning (nla_items p))
+    (table_errors _ _ [] p)
 
 mac_vlan_each : (c n : ℕ) → EachRow (mac_vlan_rows c n)
-mac_vlan_each c n = level_each family.MacVlan (λ d. macvlan.Other d) mac_vlan_attribute (λ xs. macvlan.MacAddrData xs) mac_vlan_plain_rows (128 - c) n
+mac_vlan_each c n =
+    level_each family.MacVlan (λ d. macvlan.Other d) mac_vlan_attribute
+    (λ xs. macvlan.MacAddrData xs) mac_vlan_plain_rows (128 - c) n
 
 mac_vtap_each : (c n : ℕ) → EachRow (mac_vtap_rows c n)
-mac_vtap_each c n = level_each family.MacVtap (λ d. macvtap.Other d) mac_vtap_attribute (λ xs. macvtap.MacAddrData xs) mac_vtap_plain_rows (128 - c) n
+mac_vtap_each c n =
+    level_each family.MacVtap (λ d. macvtap.Other d) mac_vtap_attribute
+    (λ xs. macvtap.MacAddrData xs) mac_vtap_plain_rows (128 - c) n
 
-devices_errors : (f : DeviceFamily) (p : List ℕ) → EachError ((devices_data_of {P = Bytes} f).means p)
-devices_errors device.IpVlan p = variant_errors (λ xs. info.IpVlan xs) (values plain.ip_vlan.meaning (pieces p)) (table_errors _ _ ip_vlan_rows p)
-devices_errors device.IpVtap p = variant_errors (λ xs. info.IpVtap xs) (values plain.ip_vtap.meaning (pieces p)) (table_errors _ _ ip_vtap_rows p)
-devices_errors device.MacVlan p =
-    variant_errors (λ xs. info.MacVlan xs) (values plain.mac_vlan.meaning (pieces p))
-    (list_errors plain.mac_vlan.meaning (λ a. rows_errors family.MacVlan (λ d. macvlan.Other d) (λ n. mac_vlan_rows 0 n) (λ n. mac_vlan_each 0 n) a) (pieces p))
-devices_errors device.MacVtap p =
-    variant_errors (λ xs. info.MacVtap xs) (values plain.mac_vtap.meaning (pieces p))
-    (list_errors plain.mac_vtap.meaning (λ a. rows_errors family.MacVtap (λ d. macvtap.Other d) (λ n. mac_vtap_rows 0 n) (λ n. mac_vtap_each 0 n) a) (pieces p))
-devices_errors device.Vrf p = variant_errors (λ xs. info.Vrf xs) (values plain.vrf.meaning (pieces p)) (table_errors _ _ vrf_rows p)
-devices_errors device.Ipoib p = variant_errors (λ xs. info.Ipoib xs) (values plain.ipoib.meaning (pieces p)) (table_errors _ _ ipoib_rows p)
-devices_errors device.Xfrm p = variant_errors (λ xs. info.Xfrm xs) (values plain.xfrm.meaning (pieces p)) (table_errors _ _ xfrm_rows p)
-devices_errors device.MacSec p = variant_errors (λ xs. info.MacSec xs) (values plain.mac_sec.meaning (pieces p)) (table_errors _ _ mac_sec_rows p)
-devices_errors device.RmNet p = variant_errors (λ xs. info.RmNet xs) (values plain.rm_net.meaning (pieces p)) (table_errors _ _ rm_net_rows p)
+devices_errors : (f : DeviceFamily) (p : List ℕ) →
+    EachError ((devices_data_of {P = Bytes} f).means p)
+devices_errors device.IpVlan p =
+    variant_errors (λ xs. info.IpVlan xs) (values plain.ip_vlan.meaning (nla_items p))
+    (table_errors _ _ ip_vlan_rows p)
+devices_errors device.IpVtap p =
+    variant_errors (λ xs. info.IpVtap xs) (values plain.ip_vtap.meaning (nla_items p))
+    (table_errors _ _ ip_vtap_rows p)
+devices_errors (device.MacVlan around) p =
+    variant_errors (λ xs. info.MacVlan xs) (values (plain.mac_vlan around).meaning (nla_items p))
+    (list_errors (plain.mac_vlan around).meaning
+    (λ a.
+    rows_errors family.MacVlan (λ d. macvlan.Other d) (λ n. mac_vlan_rows around n)
+    (λ n. mac_vlan_each around n) a) (nla_items p))
+devices_errors (device.MacVtap around) p =
+    variant_errors (λ xs. info.MacVtap xs) (values (plain.mac_vtap around).meaning (nla_items p))
+    (list_errors (plain.mac_vtap around).meaning
+    (λ a.
+    rows_errors family.MacVtap (λ d. macvtap.Other d) (λ n. mac_vtap_rows around n)
+    (λ n. mac_vtap_each around n) a) (nla_items p))
+devices_errors device.Vrf p =
+    variant_errors (λ xs. info.Vrf xs) (values plain.vrf.meaning (nla_items p))
+    (table_errors _ _ vrf_rows p)
+devices_errors device.Ipoib p =
+    variant_errors (λ xs. info.Ipoib xs) (values plain.ipoib.meaning (nla_items p))
+    (table_errors _ _ ipoib_rows p)
+devices_errors device.Xfrm p =
+    variant_errors (λ xs. info.Xfrm xs) (values plain.xfrm.meaning (nla_items p))
+    (table_errors _ _ xfrm_rows p)
+devices_errors device.MacSec p =
+    variant_errors (λ xs. info.MacSec xs) (values plain.mac_sec.meaning (nla_items p))
+    (table_errors _ _ mac_sec_rows p)
+devices_errors device.RmNet p =
+    variant_errors (λ xs. info.RmNet xs) (values plain.rm_net.meaning (nla_items p))
+    (table_errors _ _ rm_net_rows p)
 
 -- the tunnel flags have a row under these kinds
 abbrev HasFlags : KindTag → Type 0
@@ -136,58 +226,109 @@ flags_each tag.Ip6Tnl h = tt
 flags_each _ h = absurd h
 
 ip_tunnel_each : (t : KindTag) → HasFlags t → (n : ℕ) → EachRow (ip_tunnel_row t n)
-ip_tunnel_each t h n = row_if_each (n == 8) (flags_row t) (table_row ip_tunnel_rows n) (flags_each t h) (table_rows ip_tunnel_rows n)
+ip_tunnel_each t h n =
+    row_if_each (n == 8) (flags_row t) (table_row ip_tunnel_rows n) (flags_each t h)
+    (table_rows ip_tunnel_rows n)
 
--- data is of iptunnel under these kinds alone
+-- only these kinds have data of the family iptunnel
 abbrev IsFlagged : TunnelFamily → Type 0
 IsFlagged (tunnel.IpTunnel t) = HasFlags t
 IsFlagged _ = Unit {0}
 
-tunnels_errors : (f : TunnelFamily) → IsFlagged f → (p : List ℕ) → EachError ((tunnels_data_of {P = Bytes} f).means p)
-tunnels_errors tunnel.Vxlan h p = variant_errors (λ xs. info.Vxlan xs) (values plain.vxlan.meaning (pieces p)) (table_errors _ _ vxlan_rows p)
-tunnels_errors tunnel.GreTap h p = variant_errors (λ xs. info.GreTap xs) (values plain.gre.meaning (pieces p)) (table_errors _ _ gre_rows p)
-tunnels_errors tunnel.GreTap6 h p = variant_errors (λ xs. info.GreTap6 xs) (values plain.gre6.meaning (pieces p)) (table_errors _ _ gre6_rows p)
-tunnels_errors tunnel.GreTun h p = variant_errors (λ xs. info.GreTun xs) (values plain.gre.meaning (pieces p)) (table_errors _ _ gre_rows p)
-tunnels_errors tunnel.GreTun6 h p = variant_errors (λ xs. info.GreTun6 xs) (values plain.gre6.meaning (pieces p)) (table_errors _ _ gre6_rows p)
-tunnels_errors tunnel.Vti h p = variant_errors (λ xs. info.Vti xs) (values plain.vti.meaning (pieces p)) (table_errors _ _ vti_rows p)
-tunnels_errors tunnel.Gtp h p = variant_errors (λ xs. info.Gtp xs) (values plain.gtp.meaning (pieces p)) (table_errors _ _ gtp_rows p)
-tunnels_errors tunnel.Geneve h p = variant_errors (λ xs. info.Geneve xs) (values plain.geneve.meaning (pieces p)) (table_errors _ _ geneve_rows p)
-tunnels_errors tunnel.Amt h p = variant_errors (λ xs. info.Amt xs) (values plain.amt.meaning (pieces p)) (table_errors _ _ amt_rows p)
-tunnels_errors tunnel.BareUdp h p = variant_errors (λ xs. info.BareUdp xs) (values plain.bare_udp.meaning (pieces p)) (table_errors _ _ bare_udp_rows p)
-tunnels_errors tunnel.ErSpan h p = variant_errors (λ xs. info.ErSpan xs) (values plain.gre.meaning (pieces p)) (table_errors _ _ gre_rows p)
-tunnels_errors tunnel.Ip6ErSpan h p = variant_errors (λ xs. info.Ip6ErSpan xs) (values plain.gre6.meaning (pieces p)) (table_errors _ _ gre6_rows p)
+tunnels_errors : (f : TunnelFamily) → IsFlagged f → (p : List ℕ) →
+    EachError ((tunnels_data_of {P = Bytes} f).means p)
+tunnels_errors tunnel.Vxlan h p =
+    variant_errors (λ xs. info.Vxlan xs) (values plain.vxlan.meaning (nla_items p))
+    (table_errors _ _ vxlan_rows p)
+tunnels_errors tunnel.GreTap h p =
+    variant_errors (λ xs. info.GreTap xs) (values plain.gre.meaning (nla_items p))
+    (table_errors _ _ gre_rows p)
+tunnels_errors tunnel.GreTap6 h p =
+    variant_errors (λ xs. info.GreTap6 xs) (values plain.gre6.meaning (nla_items p))
+    (table_errors _ _ gre6_rows p)
+tunnels_errors tunnel.GreTun h p =
+    variant_errors (λ xs. info.GreTun xs) (values plain.gre.meaning (nla_items p))
+    (table_errors _ _ gre_rows p)
+tunnels_errors tunnel.GreTun6 h p =
+    variant_errors (λ xs. info.GreTun6 xs) (values plain.gre6.meaning (nla_items p))
+    (table_errors _ _ gre6_rows p)
+tunnels_errors tunnel.Vti h p =
+    variant_errors (λ xs. info.Vti xs) (values plain.vti.meaning (nla_items p))
+    (table_errors _ _ vti_rows p)
+tunnels_errors tunnel.Gtp h p =
+    variant_errors (λ xs. info.Gtp xs) (values plain.gtp.meaning (nla_items p))
+    (table_errors _ _ gtp_rows p)
+tunnels_errors tunnel.Geneve h p =
+    variant_errors (λ xs. info.Geneve xs) (values plain.geneve.meaning (nla_items p))
+    (table_errors _ _ geneve_rows p)
+tunnels_errors tunnel.Amt h p =
+    variant_errors (λ xs. info.Amt xs) (values plain.amt.meaning (nla_items p))
+    (table_errors _ _ amt_rows p)
+tunnels_errors tunnel.BareUdp h p =
+    variant_errors (λ xs. info.BareUdp xs) (values plain.bare_udp.meaning (nla_items p))
+    (table_errors _ _ bare_udp_rows p)
+tunnels_errors tunnel.ErSpan h p =
+    variant_errors (λ xs. info.ErSpan xs) (values plain.gre.meaning (nla_items p))
+    (table_errors _ _ gre_rows p)
+tunnels_errors tunnel.Ip6ErSpan h p =
+    variant_errors (λ xs. info.Ip6ErSpan xs) (values plain.gre6.meaning (nla_items p))
+    (table_errors _ _ gre6_rows p)
 tunnels_errors (tunnel.IpTunnel t) h p =
-    variant_errors (λ xs. info.IpTunnel xs) (values (plain.ip_tunnel t).meaning (pieces p))
-    (list_errors (plain.ip_tunnel t).meaning (λ a. rows_errors family.IpTunnel _ (λ n. ip_tunnel_row t n) (λ n. ip_tunnel_each t h n) a) (pieces p))
+    variant_errors (λ xs. info.IpTunnel xs) (values (plain.ip_tunnel t).meaning (nla_items p))
+    (list_errors (plain.ip_tunnel t).meaning
+    (λ a. rows_errors family.IpTunnel _ (λ n. ip_tunnel_row t n) (λ n. ip_tunnel_each t h n) a)
+    (nla_items p))
 
 -- a payload of a peer that is kept as bytes has no error
-sure : {X : Type 0} (x : X) → EachFault (let m : Result X Fault = Ok x in m)
+sure : {X : Type 0} (x : X) → EachPayloadError (let m : Result X PayloadError = Ok x in m)
 sure x = (λ c k. absurd cc, λ e k. absurd cc)
 
 peers_errors : (f : PeeredFamily) (p : List ℕ) → EachError ((peers_data_of bytes_peer f).means p)
-peers_errors peered.Tun p = variant_errors (λ xs. info.Tun xs) (values plain.tun.meaning (pieces p)) (table_errors _ _ [] p)
+peers_errors peered.Tun p =
+    variant_errors (λ xs. info.Tun xs) (values plain.tun.meaning (nla_items p))
+    (table_errors _ _ [] p)
 peers_errors peered.Veth p =
-    variant_errors (λ x. info.Veth x) (first_meaning bytes_peer.veth.meaning (pieces p))
+    variant_errors (λ x. info.Veth x) (first_meaning bytes_peer.veth.meaning (nla_items p))
     (first_errors bytes_peer.veth.meaning
-    (λ a. rows_errors family.Veth _ _ (λ n. row_if_each (n == 1) _ (table_row (veth_plain {P = Bytes}) n) (λ q. sure _) (table_rows (veth_plain {P = Bytes}) n)) a) (pieces p))
-peers_errors peered.Wireguard p = variant_errors (λ xs. info.Wireguard xs) (values plain.wireguard.meaning (pieces p)) (table_errors _ _ [] p)
+    (λ a.
+    rows_errors family.Veth _ _ (λ n.
+    row_if_each (n == 1) _ (table_row (veth_plain {P = Bytes}) n) (λ q. sure _)
+    (table_rows (veth_plain {P = Bytes}) n)) a) (nla_items p))
+peers_errors peered.Wireguard p =
+    variant_errors (λ xs. info.Wireguard xs) (values plain.wireguard.meaning (nla_items p))
+    (table_errors _ _ [] p)
 peers_errors peered.Netkit p =
-    variant_errors (λ xs. info.Netkit xs) (values bytes_peer.netkit.meaning (pieces p))
+    variant_errors (λ xs. info.Netkit xs) (values bytes_peer.netkit.meaning (nla_items p))
     (list_errors bytes_peer.netkit.meaning
-    (λ a. rows_errors family.Netkit _ _ (λ n. row_if_each (n == 1) _ (table_row (netkit_plain {P = Bytes}) n) (λ q. sure _) (table_rows (netkit_plain {P = Bytes}) n)) a) (pieces p))
+    (λ a.
+    rows_errors family.Netkit _ _
+    (λ n.
+    row_if_each (n == 1) _ (table_row (netkit_plain {P = Bytes}) n) (λ q. sure _)
+    (table_rows (netkit_plain {P = Bytes}) n)) a) (nla_items p))
 peers_errors peered.Vxcan p =
-    variant_errors (λ x. info.Vxcan x) (first_meaning bytes_peer.vxcan.meaning (pieces p))
+    variant_errors (λ x. info.Vxcan x) (first_meaning bytes_peer.vxcan.meaning (nla_items p))
     (first_errors bytes_peer.vxcan.meaning
-    (λ a. rows_errors family.Vxcan _ _ (λ n. row_if_each (n == 1) _ (table_row [] n) (λ q. sure _) (table_rows {F = InfoVxcanOf Bytes} [] n)) a) (pieces p))
-peers_errors peered.BatAdv p = variant_errors (λ xs. info.BatAdv xs) (values plain.bat_adv.meaning (pieces p)) (table_errors _ _ batadv_rows p)
-peers_errors peered.Wwan p = variant_errors (λ xs. info.Wwan xs) (values plain.wwan.meaning (pieces p)) (table_errors _ _ wwan_rows p)
-peers_errors peered.Pfcp p = variant_errors (λ xs. info.Pfcp xs) (values plain.pfcp.meaning (pieces p)) (table_errors _ _ [] p)
+    (λ a.
+    rows_errors family.Vxcan _ _
+    (λ n.
+    row_if_each (n == 1) _ (table_row [] n) (λ q. sure _) (table_rows {F = InfoVxcanOf Bytes} [] n))
+    a) (nla_items p))
+peers_errors peered.BatAdv p =
+    variant_errors (λ xs. info.BatAdv xs) (values plain.bat_adv.meaning (nla_items p))
+    (table_errors _ _ batadv_rows p)
+peers_errors peered.Wwan p =
+    variant_errors (λ xs. info.Wwan xs) (values plain.wwan.meaning (nla_items p))
+    (table_errors _ _ wwan_rows p)
+peers_errors peered.Pfcp p =
+    variant_errors (λ xs. info.Pfcp xs) (values plain.pfcp.meaning (nla_items p))
+    (table_errors _ _ [] p)
 
 abbrev IsFlaggedData : DataFamily → Type 0
 IsFlaggedData (of.Tunnel f) = IsFlagged f
 IsFlaggedData _ = Unit {0}
 
-data_errors : (f : DataFamily) → IsFlaggedData f → (p : List ℕ) → EachError ((data_of bytes_peer f).means p)
+data_errors : (f : DataFamily) → IsFlaggedData f → (p : List ℕ) →
+    EachError ((data_of bytes_peer f).means p)
 data_errors (of.Lower f) h p = lower_errors f p
 data_errors (of.Device f) h p = devices_errors f p
 data_errors (of.Tunnel f) h p = tunnels_errors f h p
@@ -201,37 +342,58 @@ kinds_flagged tag.Ip6Tnl = tt
 kinds_flagged _ = tt
 
 ports_errors : (f : PortFamily) (p : List ℕ) → EachError ((port_data_of f).means p)
-ports_errors port_data.Bond p = variant_errors (λ xs. port_info.BondPort xs) (values plain.bond_port.meaning (pieces p)) (table_errors _ _ [] p)
-ports_errors port_data.Bridge p = variant_errors (λ xs. port_info.BridgePort xs) (values plain.bridge_port.meaning (pieces p)) (table_errors _ _ [] p)
-ports_errors port_data.Vrf p = variant_errors (λ xs. port_info.VrfPort xs) (values plain.vrf_port.meaning (pieces p)) (table_errors _ _ vrf_rows p)
-ports_errors port_data.Team p = variant_errors (λ xs. port_info.TeamPort xs) (values plain.team_port.meaning (pieces p)) (table_errors _ _ [] p)
+ports_errors port_data.Bond p =
+    variant_errors (λ xs. port_info.BondPort xs) (values plain.bond_port.meaning (nla_items p))
+    (table_errors _ _ [] p)
+ports_errors port_data.Bridge p =
+    variant_errors (λ xs. port_info.BridgePort xs) (values plain.bridge_port.meaning (nla_items p))
+    (table_errors _ _ [] p)
+ports_errors port_data.Vrf p =
+    variant_errors (λ xs. port_info.VrfPort xs) (values plain.vrf_port.meaning (nla_items p))
+    (table_errors _ _ vrf_rows p)
+ports_errors port_data.Team p =
+    variant_errors (λ xs. port_info.TeamPort xs) (values plain.team_port.meaning (nla_items p))
+    (table_errors _ _ [] p)
 ports_errors port_data.Raw p = λ e k. absurd cc
 
 -- ---- the list
 
-name_errors : {X : Type 0} (n : ℕ) (label : List ℕ → X) (p : List ℕ) → EachError (labelled family.LinkInfo n label (own (means Name p)))
-name_errors n label p = labelled_errors family.LinkInfo n label (own (means Name p)) (own_faults (means Name p) (shape_causes Name p))
+name_errors : {X : Type 0} (n : ℕ) (label : List ℕ → X) (p : List ℕ) →
+    EachError (labelled family.LinkInfo n label (own (means Name p)))
+name_errors n label p =
+    labelled_errors family.LinkInfo n label (own (means Name p))
+    (own_errors (means Name p) (shape_causes Name p))
 
-role_errors : (r : Role) (a : Attribute) → EachError (row_meaning family.LinkInfo link_other (link_row bytes_peer r) a)
+role_errors : (r : Role) (a : Attribute) →
+    EachError (row_meaning family.LinkInfo link_other (link_row bytes_peer r) a)
 role_errors role.Kind a = name_errors (masked a.kind) _ a.value
 role_errors (role.Data t) a =
-    labelled_errors family.LinkInfo (masked a.kind) (λ d. link.Data d) (inside ((data_of bytes_peer (family_of t)).means a.value))
-    (inside_faults ((data_of bytes_peer (family_of t)).means a.value) (data_errors (family_of t) (kinds_flagged t) a.value))
-role_errors role.Xstats a = labelled_errors family.LinkInfo (masked a.kind) (λ bytes. link.Xstats (xstats.Other bytes)) (own (means Raw a.value)) (own_faults (means Raw a.value) (shape_causes Raw a.value))
+    labelled_errors family.LinkInfo (masked a.kind) (λ d. link.Data d)
+    (inside ((data_of bytes_peer (family_of t)).means a.value))
+    (inside_errors ((data_of bytes_peer (family_of t)).means a.value)
+    (data_errors (family_of t) (kinds_flagged t) a.value))
+role_errors role.Xstats a =
+    labelled_errors family.LinkInfo (masked a.kind) (λ bytes. link.Xstats (xstats.Other bytes))
+    (own (means Raw a.value)) (own_errors (means Raw a.value) (shape_causes Raw a.value))
 role_errors role.PortKind a = name_errors (masked a.kind) _ a.value
 role_errors (role.PortData t) a =
-    labelled_errors family.LinkInfo (masked a.kind) (λ d. link.PortData d) (inside ((port_data_of (port_family_of t)).means a.value))
-    (inside_faults ((port_data_of (port_family_of t)).means a.value) (ports_errors (port_family_of t) a.value))
-role_errors role.Misplaced a = λ e k. subst IsReturned (ap (λ (d : DecodeError). d.cause) (bad_same {X = LinkInfoOf Bytes} _ e k)) (let order : IsReturned cause.Order = tt in order)
+    labelled_errors family.LinkInfo (masked a.kind) (λ d. link.PortData d)
+    (inside ((port_data_of (port_family_of t)).means a.value))
+    (inside_errors ((port_data_of (port_family_of t)).means a.value)
+    (ports_errors (port_family_of t) a.value))
+role_errors role.Misplaced a = λ e k.
+    subst IsReturned (ap (λ (d : DecodeError). d.cause) (bad_same {X = LinkInfoOf Bytes} _ e k))
+    (let order : IsReturned cause.Order = tt in order)
 role_errors role.Unknown a = λ e k. absurd cc
 
-link_errors : (t : InForce) (a : Attribute) → EachError (link_meaning bytes_peer t a)
+link_errors : (t : CurrentKinds) (a : Attribute) → EachError (link_meaning bytes_peer t a)
 unfolding meaning_in
 link_errors t a = role_errors (role_of t (masked a.kind)) a
 
 pub reading_errors : (s : List ℕ) → EachError (reading bytes_peer s)
 unfolding reading
-reading_errors s = list_errors_under (link_meaning bytes_peer) force_after link_errors none_in_force (pieces s)
+reading_errors s =
+    list_errors_under (link_meaning bytes_peer) next_kinds link_errors no_kinds (nla_items s)
 
 -- ---- the numbers of causes
 
@@ -241,31 +403,67 @@ code_of cause.WrongType h = absurd h
 code_of cause.Kind h = absurd h
 code_of cause.Memory h = absurd h
 code_of cause.Peer h = absurd h
-code_of _ h = (λ e. omega (arith, e), λ e. omega (arith, e), λ e. omega (arith, e), λ e. omega (arith, e), λ e. omega (arith, e))
+code_of _ h = (
+  λ e. omega (arith, e),
+  λ e. omega (arith, e),
+  λ e. omega (arith, e),
+  λ e. omega (arith, e),
+  λ e. omega (arith, e),
+)
 
 no_code : IsReturnedCode 0
-no_code = (λ e. omega (arith, e), λ e. omega (arith, e), λ e. omega (arith, e), λ e. omega (arith, e), λ e. omega (arith, e))
+no_code = (
+  λ e. omega (arith, e),
+  λ e. omega (arith, e),
+  λ e. omega (arith, e),
+  λ e. omega (arith, e),
+  λ e. omega (arith, e),
+)
 
-pub fault_code : {X : Type 0} (m : Result X DecodeError) → EachError m → IsReturnedCode (fault_in m).cause
-fault_code (Ok x) h = no_code
-fault_code (Err e) h = code_of e.cause (h e refl)
+pub result_error_code : {X : Type 0} (m : Result X DecodeError) → EachError m →
+    IsReturnedCode (error_or_none m).cause
+result_error_code (Ok x) h = no_code
+result_error_code (Err e) h = code_of e.cause (h e refl)
 
-pub verdict_code : {X : Type 0} (m : Result X DecodeError) → EachError m → IsReturnedCode (fault_in (verdict m)).cause
+pub verdict_code : {X : Type 0} (m : Result X DecodeError) → EachError m →
+    IsReturnedCode (error_or_none (verdict m)).cause
 verdict_code (Ok x) h = no_code
 verdict_code (Err e) h = code_of e.cause (h e refl)
 
--- the error of the first of two strings, or of the second
-pub first_cause : {X : Type 0} (m n : Result X DecodeError) (alike : Bool) (e : DecodeError) → EachError m →
-    (let r : Result Bool FaultIn = Err (fault_in_one.First e) in r) ≡ same_placed_answer m n alike → IsReturned e.cause
-first_cause {X = X} (Err d) n alike e h k = h e (let same : d ≡ e = cc in ap (λ (z : DecodeError). bad {X = X} z) same)
+-- the error of the first of two byte strings, or of the second
+pub first_cause : {X : Type 0} (m n : Result X DecodeError) (alike : Bool) (e : DecodeError) →
+    EachError m →
+    (let r : Result Bool ErrorIn = Err (error_in_one.First e) in r) ≡ same_at_answer m n alike →
+    IsReturned e.cause
+first_cause {X = X} (Err d) n alike e h k =
+    h e (let same : d ≡ e = cc in ap (λ (z : DecodeError). bad {X = X} z) same)
 first_cause (Ok x) (Err d) alike e h k = absurd cc
 first_cause (Ok x) (Ok y) alike e h k = absurd cc
 
-pub second_cause : {X : Type 0} (m n : Result X DecodeError) (alike : Bool) (e : DecodeError) → EachError n →
-    (let r : Result Bool FaultIn = Err (fault_in_one.Second e) in r) ≡ same_placed_answer m n alike → IsReturned e.cause
+pub second_cause : {X : Type 0} (m n : Result X DecodeError) (alike : Bool) (e : DecodeError) →
+    EachError n →
+    (let r : Result Bool ErrorIn = Err (error_in_one.Second e) in r)
+    ≡ same_at_answer m n alike → IsReturned e.cause
 second_cause (Err d) n alike e h k = absurd cc
-second_cause {X = X} (Ok x) (Err d) alike e h k = h e (let same : d ≡ e = cc in ap (λ (z : DecodeError). bad {X = X} z) same)
+second_cause {X = X} (Ok x) (Err d) alike e h k =
+    h e (let same : d ≡ e = cc in ap (λ (z : DecodeError). bad {X = X} z) same)
 second_cause (Ok x) (Ok y) alike e h k = absurd cc
+
+-- the result of `first_unmet`: the error of the link's list, that of the request, or none
+pub unmet_code : {X : Type 0} (m n : Result X DecodeError) (u : Option Unmet) → EachError m →
+    EachError n → IsReturnedCode (unmet_record (unmet_answer m n u)).error.cause
+unmet_code (Err e) n u h k = code_of e.cause (h e refl)
+unmet_code (Ok x) (Err e) u h k = code_of e.cause (k e refl)
+unmet_code (Ok x) (Ok y) None h k = no_code
+unmet_code (Ok x) (Ok y) (Some u) h k = no_code
+
+-- the result of `first_difference`: the error of the first list, that of the second, or none
+pub difference_code : {X : Type 0} (m n : Result X DecodeError) (d : Option Difference) →
+    EachError m → EachError n → IsReturnedCode (difference_record (placed_answer m n d)).error.cause
+difference_code (Err e) n d h k = code_of e.cause (h e refl)
+difference_code (Ok x) (Err e) d h k = code_of e.cause (k e refl)
+difference_code (Ok x) (Ok y) None h k = no_code
+difference_code (Ok x) (Ok y) (Some d) h k = no_code
 
 -- ---- a walk over the list, and over the attributes of data
 
@@ -273,44 +471,58 @@ name_of_error : (a : Attribute) → EachError (name_meaning a)
 unfolding name_meaning
 name_of_error a = go (means Name a.value) (shape_causes Name a.value)
   where
-    go : (m : Result (List ℕ) Cause) → EachCause m → EachError (name_or_fault a m)
+    go : (m : Result (List ℕ) Cause) → EachCause m → EachError (name_or_error a m)
     go (Ok name) h e k = absurd cc
-    go (Err c) h e k = subst IsReturned (ap (λ (d : DecodeError). d.cause) (bad_same {X = List ℕ} (fault_of_item a c) e k)) (h c refl)
+    go (Err c) h e k =
+        subst IsReturned
+        (ap (λ (d : DecodeError). d.cause) (bad_same {X = List ℕ} (item_own_error a c) e k))
+        (h c refl)
 
-named_errors : {X : Type 0} (m : Result (List ℕ) DecodeError) (made : List ℕ → X) → EachError m → EachError (with_name m made)
+named_errors : {X : Type 0} (m : Result (List ℕ) DecodeError) (made : List ℕ → X) → EachError m →
+    EachError (with_name m made)
 named_errors (Ok name) made h e k = absurd cc
-named_errors {X = X} (Err d) made h e k = h e (ap (λ (z : DecodeError). bad {X = List ℕ} z) (bad_same {X = X} d e k))
+named_errors {X = X} (Err d) made h e k =
+    h e (ap (λ (z : DecodeError). bad {X = List ℕ} z) (bad_same {X = X} d e k))
 
-behind_errors : (r : Role) (t : InForce) (a : Attribute) → EachError (behind_role r t a)
-behind_errors role.Kind t a = named_errors (name_meaning a) _ (name_of_error a)
-behind_errors role.PortKind t a = named_errors (name_meaning a) _ (name_of_error a)
-behind_errors (role.PortData tag) t a = λ e k. absurd cc
-behind_errors role.Misplaced t a = λ e k. subst IsReturned (ap (λ (d : DecodeError). d.cause) (bad_same {X = InForce} _ e k)) (let order : IsReturned cause.Order = tt in order)
-behind_errors (role.Data tag) t a = λ e k. absurd cc
-behind_errors role.Xstats t a = λ e k. absurd cc
-behind_errors role.Unknown t a = λ e k. absurd cc
+kinds_after_errors : (r : Role) (t : CurrentKinds) (a : Attribute) →
+    EachError (kinds_after_role r t a)
+kinds_after_errors role.Kind t a = named_errors (name_meaning a) _ (name_of_error a)
+kinds_after_errors role.PortKind t a = named_errors (name_meaning a) _ (name_of_error a)
+kinds_after_errors (role.PortData tag) t a = λ e k. absurd cc
+kinds_after_errors role.Misplaced t a = λ e k.
+    subst IsReturned (ap (λ (d : DecodeError). d.cause) (bad_same {X = CurrentKinds} _ e k))
+    (let order : IsReturned cause.Order = tt in order)
+kinds_after_errors (role.Data tag) t a = λ e k. absurd cc
+kinds_after_errors role.Xstats t a = λ e k. absurd cc
+kinds_after_errors role.Unknown t a = λ e k. absurd cc
 
-pub walk_code : (t : InForce) (ps : List (Result Attribute ℕ)) → IsReturnedCode (fault_behind (walk_items t ps)).cause
+pub walk_code : (t : CurrentKinds) (ps : List (Result Attribute ℕ)) →
+    IsReturnedCode (error_after (walk_items t ps)).cause
 walk_code t [] = no_code
-walk_code t ((Err n) ∷ more) = code_of cause.Header (let header : IsReturned cause.Header = tt in header)
-walk_code t ((Ok a) ∷ more) = go (behind t a) (behind_errors (role_at t a) t a) (λ u. walk_code u more)
+walk_code t ((Err n) ∷ more) =
+    code_of cause.Header (let header : IsReturned cause.Header = tt in header)
+walk_code t ((Ok a) ∷ more) =
+    go (kinds_after t a) (kinds_after_errors (role_at t a) t a) (λ u. walk_code u more)
   where
-    go : (r : Result InForce DecodeError) → EachError r → ((u : InForce) → IsReturnedCode (fault_behind (walk_items u more)).cause) →
-        IsReturnedCode (fault_behind (item_or_fault a r (λ u. walk_items u more))).cause
+    go : (r : Result CurrentKinds DecodeError) → EachError r →
+        ((u : CurrentKinds) → IsReturnedCode (error_after (walk_items u more)).cause) →
+        IsReturnedCode (error_after (item_or_error a r (λ u. walk_items u more))).cause
     go (Ok u) h k = k u
     go (Err e) h k = code_of e.cause (h e refl)
 
-framed_code : (ps : List (Result Attribute ℕ)) → IsReturnedCode (fault_behind (items_of ps)).cause
+framed_code : (ps : List (Result Attribute ℕ)) → IsReturnedCode (error_after (items_of ps)).cause
 framed_code [] = no_code
 framed_code ((Ok a) ∷ more) = framed_code more
-framed_code ((Err n) ∷ more) = code_of cause.Header (let header : IsReturned cause.Header = tt in header)
+framed_code ((Err n) ∷ more) =
+    code_of cause.Header (let header : IsReturned cause.Header = tt in header)
 
-pub given_code : (f : Option Family) (s : List ℕ) → IsReturnedCode (fault_behind (given_inside f s)).cause
-given_code (Some f) s = framed_code (pieces s)
+pub given_code : (f : Option Family) (s : List ℕ) →
+    IsReturnedCode (error_after (given_inside f s)).cause
+given_code (Some f) s = framed_code (nla_items s)
 given_code None s = no_code
 
 pub none_code : IsReturnedCode 0
 none_code = no_code
 
-pub error_code : (e : DecodeError) → IsReturned e.cause → IsReturnedCode (fault_record e).cause
+pub error_code : (e : DecodeError) → IsReturned e.cause → IsReturnedCode (error_record e).cause
 error_code e h = code_of e.cause h

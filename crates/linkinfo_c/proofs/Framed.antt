@@ -1,39 +1,74 @@
--- An iterator over the attributes of a payload, and what an array holds of them.
-use Rattle.std.proofs.Common.{◌≡◌, ℕ, ◌+◌, min, List, [], ◌∷◌, ◌++◌, length, refl, sym, ap, ◌∙◌, arith, false, Ok, Err, Option, Some, None}
+-- An iterator over the attributes of a payload, and what an array has of them.
+use Rattle.std.proofs.Common.{
+  ◌≡◌,
+  ℕ,
+  ◌+◌,
+  min,
+  List,
+  [],
+  ◌∷◌,
+  ◌++◌,
+  length,
+  refl,
+  sym,
+  ap,
+  ◌∙◌,
+  arith,
+  false,
+  Ok,
+  Err,
+  Option,
+  Some,
+  None,
+}
 use Rattle.std.specs.Prelude.{slice_set}
 use Rattle.nla_frame.specs.Attribute.{Attribute, aligned, masked}
-use Rattle.nla_frame.specs.Pieces.{items_of, pieces}
+use Rattle.nla_frame.specs.NlaItems.{items_of, nla_items}
 use Rattle.nla_frame.specs.Walk.{Walk, Moves, items_left}
 use Rattle.nla_frame.specs.declared.error.DecodeError.{DecodeError}
 use Rattle.nla_frame.specs.declared.error.Family.{Family}
 use Rattle.linkinfo_numbers.specs.declared.tags.KindTag.{KindTag}
 use Rattle.linkinfo_shapes.specs.declared.shape.Shape.{Shape}
-use Rattle.linkinfo_c.specs.declared.attributes.LinkinfoAttribute.{LinkinfoAttribute}
-use Rattle.linkinfo_c.specs.Attributes.{attribute_at, attribute_behind, shape_in}
-use Rattle.linkinfo_c.specs.Faults.{no_fault, fault_record}
+use Rattle.linkinfo_c.specs.Attributes.{record_after, shape_in}
+use Rattle.linkinfo_c.specs.Errors.{no_error, error_record}
 use Rattle.linkinfo_c.proofs.Listing.{Lists, Listed}
 use Rattle.linkinfo_c.proofs.Listing as listing
 
-module _ (s : List ℕ) (f : Family) (tag : Option KindTag) where
-  pub record Framed (old new : List LinkinfoAttribute) (count place : ℕ) (w : Walk) : Type 0 where
+module _ {R : Type 0} (record_at : ℕ → Option Shape → Attribute → R) (s : List ℕ) (f : Family)
+    (tag : Option KindTag) where
+  pub record Framed (old new : List R) (count place : ℕ) (w : Walk) : Type 0 where
     pub front : List Attribute
-    pub lists : Lists (attribute_behind s f tag) s (items_of (pieces s)) (items_left w) old new front count place
+    pub lists : Lists (record_after record_at s f tag) s (items_of (nla_items s)) (items_left w) old
+        new front count place
     pub source : w.source ≡ s
     pub examined : w.examined ≡ count
     pub stands : w.place ≡ place
 
-  pub begins : (old : List LinkinfoAttribute) → Framed old old 0 0 (record { source = s; place = 0; examined = 0; failed = false })
-  begins old = record { front = []; lists = listing.begins (attribute_behind s f tag) s (items_of (pieces s)) old; source = refl; examined = refl; stands = refl }
+  pub begins : (old : List R) →
+      Framed old old 0 0 (record { source = s; place = 0; examined = 0; failed = false })
+  begins old = record {
+    front = [];
+    lists = listing.begins (record_after record_at s f tag) s (items_of (nla_items s)) old;
+    source = refl;
+    examined = refl;
+    stands = refl;
+  }
 
-  -- one attribute more
-  pub goes_on : (old new after : List LinkinfoAttribute) (count next place behind : ℕ) (w : Walk) (a : Attribute) (t : Walk) (shape : Option Shape) (k : ℕ) (r : LinkinfoAttribute) →
-      Framed old new count place w → Moves w (Some (Ok a)) t → shape ≡ shape_in f tag k → k ≡ masked a.kind → r ≡ attribute_at place shape a → after ≡ slice_set new count r →
-      next ≡ t.examined → behind ≡ t.place → Framed old after next behind t
-  goes_on old new after count next place behind w a t shape k r framed moves of_type type is put counted at =
-      let is_shape : shape ≡ shape_in f tag (masked a.kind) = of_type ∙ ap (λ (n : ℕ). shape_in f tag n) type in
-      let record_is : r ≡ attribute_behind s f tag framed.front a =
-      is ∙ ap (λ (o : Option Shape). attribute_at place o a) is_shape ∙ ap (λ (n : ℕ). attribute_at n (shape_in f tag (masked a.kind)) a) framed.lists.place_is in
-      let passes : behind ≡ min (length s) (place + aligned (4 + length a.value)) =
+  -- one more attribute
+  pub goes_on : (old new after : List R) (count next place following : ℕ) (w : Walk) (a : Attribute)
+      (t : Walk) (shape : Option Shape) (k : ℕ) (r : R) →
+      Framed old new count place w → Moves w (Some (Ok a)) t → shape ≡ shape_in f tag k →
+      k ≡ masked a.kind → r ≡ record_at place shape a → after ≡ slice_set new count r →
+      next ≡ t.examined → following ≡ t.place → Framed old after next following t
+  goes_on old new after count next place following w a t shape k r framed moves of_type type is put
+      counted at =
+      let is_shape : shape ≡ shape_in f tag (masked a.kind) =
+      of_type ∙ ap (λ (n : ℕ). shape_in f tag n) type in
+      let record_is : r ≡ record_after record_at s f tag framed.front a =
+      is
+      ∙ ap (λ (o : Option Shape). record_at place o a) is_shape
+      ∙ ap (λ (n : ℕ). record_at n (shape_in f tag (masked a.kind)) a) framed.lists.place_is in
+      let passes : following ≡ min (length s) (place + aligned (4 + length a.value)) =
       at
       ∙ moves.steps.place
       ∙ ap (λ (z : List ℕ). min (length z) (w.place + aligned (4 + length a.value))) framed.source
@@ -41,19 +76,29 @@ module _ (s : List ℕ) (f : Family) (tag : Option KindTag) where
       record {
         front = framed.front ++ a ∷ [];
         lists =
-            listing.goes_on (attribute_behind s f tag) s (items_of (pieces s)) (items_left w) (items_left t) old new after framed.front count next place behind a r framed.lists
-            moves.gives record_is put (omega (arith, counted, moves.steps.examined, framed.examined)) passes;
+            listing.goes_on (record_after record_at s f tag) s (items_of (nla_items s))
+            (items_left w)
+            (items_left t) old new after framed.front count next place following a r framed.lists
+            moves.gives record_is put
+            (omega (arith, counted, moves.steps.examined, framed.examined)) passes;
         source = moves.source ∙ framed.source;
         examined = sym counted;
         stands = sym at;
       }
 
-  pub ends : (old new : List LinkinfoAttribute) (count place : ℕ) (w t : Walk) → Framed old new count place w → Moves w None t →
-      Listed (attribute_behind s f tag) s (items_of (pieces s)) old new count place no_fault
+  pub ends : (old new : List R) (count place : ℕ) (w t : Walk) → Framed old new count place w →
+      Moves w None t →
+      Listed (record_after record_at s f tag) s (items_of (nla_items s)) old new count
+      place no_error
   ends old new count place w t framed moves =
-      listing.ends (attribute_behind s f tag) s (items_of (pieces s)) (items_left w) old new framed.front count place framed.lists moves.gives.0
+      listing.ends (record_after record_at s f tag) s (items_of (nla_items s))
+      (items_left w) old new
+      framed.front count place framed.lists moves.gives.0
 
-  pub stops : (old new : List LinkinfoAttribute) (count place : ℕ) (w t : Walk) (e : DecodeError) → Framed old new count place w → Moves w (Some (Err e)) t →
-      Listed (attribute_behind s f tag) s (items_of (pieces s)) old new count place (fault_record e)
+  pub stops : (old new : List R) (count place : ℕ) (w t : Walk) (e : DecodeError) →
+      Framed old new count place w → Moves w (Some (Err e)) t →
+      Listed (record_after record_at s f tag) s (items_of (nla_items s)) old new count place
+      (error_record e)
   stops old new count place w t e framed moves =
-      listing.stops (attribute_behind s f tag) s (items_of (pieces s)) (items_left w) (items_left t) old new framed.front count place e framed.lists moves.gives
+      listing.stops (record_after record_at s f tag) s (items_of (nla_items s)) (items_left w)
+      (items_left t) old new framed.front count place e framed.lists moves.gives

@@ -1,4 +1,4 @@
--- What becomes of a canonical string, as C sees it.
+-- The outcome of writing a canonical encoding, as C has it.
 use Rattle.std.specs.Prelude.{◌≡◌, ◌<◌, ◌≤◌, ℕ, List, ◌++◌, drop, length, map, Result, Ok, Err}
 use Rattle.nla_frame.specs.Attribute.{Attribute, ListFits, list_string}
 use Rattle.nla_frame.specs.declared.bytes.Bytes.{Bytes}
@@ -8,33 +8,38 @@ use Rattle.linkinfo.specs.declared.link_info.LinkInfoOf.{LinkInfoOf}
 use Rattle.linkinfo.specs.Items.{link_attribute}
 use Rattle.linkinfo_c.specs.declared.canon.LinkinfoCanon.{LinkinfoCanon}
 use Rattle.linkinfo_c.specs.Codes.{canon_refused, canon_short, canon_unfit, canon_written}
-use Rattle.linkinfo_c.specs.Faults.{fault_record, no_fault}
+use Rattle.linkinfo_c.specs.Errors.{error_record, no_error}
 
--- ---- the four answers
+-- ---- the four outcomes
 
 abbrev pub written : ℕ → LinkinfoCanon
-written length = record { fault = no_fault; status = canon_written; length = length }
+written length = record { error = no_error; status = canon_written; length = length }
 
 abbrev pub refused : DecodeError → LinkinfoCanon
-refused error = record { fault = fault_record error; status = canon_refused; length = 0 }
+refused error = record { error = error_record error; status = canon_refused; length = 0 }
 
 abbrev pub unfit : LinkinfoCanon
-unfit = record { fault = no_fault; status = canon_unfit; length = 0 }
+unfit = record { error = no_error; status = canon_unfit; length = 0 }
 
 abbrev pub short : ℕ → LinkinfoCanon
-short length = record { fault = no_fault; status = canon_short; length = length }
+short length = record { error = no_error; status = canon_short; length = length }
 
--- ---- the answer
+-- ---- the outcome for a list
 
--- the canonical string of a list that fits stands at the front of a buffer that has room for it, and nothing else is changed
+-- the canonical encoding of a list that fits is at the front of a buffer that has room for it, and
+-- nothing else is changed
 abbrev pub IsCanonOf : List Attribute → List ℕ → List ℕ → LinkinfoCanon → Type 0
 IsCanonOf attributes old new answer =
     (ListFits attributes → length (list_string attributes) ≤ length old
-    → (answer ≡ written (length (list_string attributes))) × (new ≡ list_string attributes ++ drop (length (list_string attributes)) old))
-    × (ListFits attributes → length old < length (list_string attributes) → (answer ≡ short (length (list_string attributes))) × (new ≡ old))
+    →
+    (answer ≡ written (length (list_string attributes)))
+    × (new ≡ list_string attributes ++ drop (length (list_string attributes)) old))
+    × (ListFits attributes → length old < length (list_string attributes) →
+    (answer ≡ short (length (list_string attributes))) × (new ≡ old))
     × (¬ ListFits attributes → (answer ≡ unfit) × (new ≡ old))
 
--- what is answered of a string by what it is read as, and what becomes of the buffer
-abbrev pub IsCanon : Result (List (LinkInfoOf Bytes)) DecodeError → List ℕ → List ℕ → LinkinfoCanon → Type 0
+-- the outcome by what a byte string means, and the buffer after the call
+abbrev pub IsCanon : Result (List (LinkInfoOf Bytes)) DecodeError → List ℕ → List ℕ →
+    LinkinfoCanon → Type 0
 IsCanon (Err error) old new answer = (answer ≡ refused error) × (new ≡ old)
 IsCanon (Ok list) old new answer = IsCanonOf (map (link_attribute bytes_peer) list) old new answer

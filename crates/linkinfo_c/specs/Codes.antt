@@ -1,10 +1,24 @@
--- The numbers by which C knows families, causes, kinds, port kinds and shapes. A number once given stays what it is: new ones come at the end.
+-- The numbers by which C knows families, causes, kinds, port kinds and shapes. A number never
+-- changes once it is given: new ones are added at the end.
 use Rattle.std.specs.Prelude.{ℕ, ◌==◌, if◌then◌else◌, List, [], ◌∷◌, Option, Some, None}
 use Rattle.nla_frame.specs.Error.{cause_number}
 use Rattle.nla_frame.specs.declared.error.Cause.{Cause}
 use Rattle.nla_frame.specs.declared.error.Cause.TheVariants as cause
 use Rattle.nla_frame.specs.declared.error.Family.{Family}
 use Rattle.nla_frame.specs.declared.error.Family.TheVariants as family
+use Rattle.linkinfo_shapes.specs.Data.{
+  Value,
+  number,
+  signed,
+  truth,
+  empty,
+  text,
+  v4,
+  v6,
+  mac,
+  pair,
+  bytes,
+}
 use Rattle.linkinfo_shapes.specs.declared.shape.Shape.{Shape}
 use Rattle.linkinfo_shapes.specs.declared.shape.Shape.TheVariants as shape
 use Rattle.linkinfo_numbers.specs.declared.tags.KindTag.{KindTag}
@@ -17,7 +31,7 @@ abbrev pub of_code : {A : Type 0} → (A → ℕ) → List A → ℕ → Option 
 of_code code_of [] code = None
 of_code code_of (x ∷ more) code = if code == code_of x then Some x else of_code code_of more code
 
--- families; 0 is none
+-- the codes of families; 0 is none
 abbrev pub family_code : Family → ℕ
 family_code family.Frame = 1
 family_code family.LinkInfo = 2
@@ -101,7 +115,7 @@ families =
 abbrev pub family_of_code : ℕ → Option Family
 family_of_code code = of_code family_code families code
 
--- causes have the numbers of `Cause::number`; 0 is none
+-- causes, which have the numbers of `Cause::number`; 0 is none
 abbrev pub causes : List Cause
 causes =
     cause.Header ∷
@@ -120,7 +134,7 @@ causes =
 abbrev pub cause_of_code : ℕ → Option Cause
 cause_of_code code = of_code cause_number causes code
 
--- kinds; 0 is none
+-- the codes of kinds; 0 is none
 abbrev pub kind_code : KindTag → ℕ
 kind_code kind.Other = 1
 kind_code kind.Dummy = 2
@@ -224,7 +238,7 @@ kinds =
 abbrev pub kind_of_code : ℕ → Option KindTag
 kind_of_code code = of_code kind_code kinds code
 
--- port kinds, whose numbers no kind has
+-- the codes of port kinds, none of which is that of a kind
 abbrev pub port_kind_code : PortTag → ℕ
 port_kind_code port.Other = 256
 port_kind_code port.Bond = 257
@@ -244,7 +258,7 @@ port_kinds =
 abbrev pub port_kind_of_code : ℕ → Option PortTag
 port_kind_of_code code = of_code port_kind_code port_kinds code
 
--- shapes; 0 is none
+-- the codes of shapes; 0 is none
 abbrev pub shape_code : Shape → ℕ
 shape_code shape.U8 = 1
 shape_code shape.Le16 = 2
@@ -272,7 +286,7 @@ shape_code shape.Raw = 23
 shape_code shape.SelfList = 24
 shape_code shape.Peer = 25
 
--- what became of a canonical string, `enum linkinfo_canon_status`
+-- the outcomes of a canonical encoding, `enum linkinfo_canon_status`
 
 abbrev pub canon_written : ℕ
 canon_written = 0
@@ -285,3 +299,23 @@ canon_unfit = 2
 
 abbrev pub canon_short : ℕ
 canon_short = 3
+
+-- the types of values, `enum linkinfo_value_type`
+
+abbrev pub value_none : ℕ
+value_none = 0
+
+abbrev pub value_code : Value → ℕ
+value_code (number n) = 1
+value_code (signed z) = 2
+value_code (truth b) = 3
+value_code empty = 4
+value_code (text s) = 5
+value_code (v4 a) = 6
+value_code (v6 a) = 7
+value_code (mac s) = 8
+value_code (pair m n) = 9
+value_code (bytes s) = 11
+
+abbrev pub value_list : ℕ
+value_list = 10

@@ -3,6 +3,9 @@ pub mod Buffers
 pub mod Canon
 pub mod Causes
 pub mod Codes
-pub mod Faults
+pub mod Difference
+pub mod Errors
 pub mod Items
 pub mod Texts
+pub mod Unmet
+pub mod Values

@@ -5,7 +5,7 @@ use Rattle.nla_frame.specs.declared.error.Cause.{Cause}
 use Rattle.nla_frame.specs.declared.error.Family.{Family}
 use Rattle.linkinfo_numbers.specs.Kind.{kind_of_tag, text_of_kind}
 use Rattle.linkinfo_numbers.specs.PortKind.{port_kind_of_tag, text_of_port_kind}
-use Rattle.linkinfo_c.specs.declared.fault.LinkinfoFault.{LinkinfoFault}
+use Rattle.linkinfo_c.specs.declared.error.LinkinfoError.{LinkinfoError}
 use Rattle.linkinfo_c.specs.Codes.{cause_of_code, family_of_code, kind_of_code, port_kind_of_code}
 
 infixl 10 ◌>>=◌
@@ -13,7 +13,7 @@ abbrev pub ◌>>=◌ : {A B : Type 0} → Option A → (A → Option B) → Opti
 (Some x) >>= f = f x
 None >>= f = None
 
--- the text of what is found, and none where nothing is
+-- the text of a value, and the empty text if there is none
 abbrev pub text_of_found : {A : Type 0} → (A → List ℕ) → Option A → List ℕ
 text_of_found text (Some x) = text x
 text_of_found text None = []
@@ -24,7 +24,7 @@ family_text code = text_of_found family_name (family_of_code code)
 abbrev pub cause_text : ℕ → List ℕ
 cause_text code = text_of_found cause_name (cause_of_code code)
 
--- that of `Other` is empty, since it has no one name
+-- the name of a kind; that of `Other` is empty, since it has no one name
 abbrev pub kind_text : ℕ → List ℕ
 kind_text code = text_of_found text_of_kind (kind_of_code code >>= kind_of_tag)
 
@@ -32,10 +32,11 @@ abbrev pub port_kind_text : ℕ → List ℕ
 port_kind_text code = text_of_found text_of_port_kind (port_kind_of_code code >>= port_kind_of_tag)
 
 abbrev error_of : ℕ → Option Family → Option Cause → List ℕ
-error_of kind (Some family) (Some cause) = error_text (record { family = family; kind = kind; cause = cause })
+error_of kind (Some family) (Some cause) =
+    error_text (record { family = family; kind = kind; cause = cause })
 error_of kind (Some family) None = []
 error_of kind None cause = []
 
--- that of a fault of which a code is none, and of no fault, is empty
-abbrev pub fault_text : LinkinfoFault → List ℕ
-fault_text fault = error_of fault.kind (family_of_code fault.family) (cause_of_code fault.cause)
+-- the text of an error; it is empty for no error, and if a number is no code
+abbrev pub record_text : LinkinfoError → List ℕ
+record_text error = error_of error.kind (family_of_code error.family) (cause_of_code error.cause)

@@ -1,18 +1,38 @@
-//! The attributes inside data, written into an array of the caller's.
+//! The attributes in data, written into an array of the caller.
 
-ghost use Rattle.std.specs.Prelude.{◌≡◌, ◌*◌, ◌≤◌, Some, length};
-ghost use Rattle.linkinfo_data.specs.Names.{data_name, device_name, lower_name, peered_name, port_data_name, tunnel_name};
+ghost use Rattle.std.specs.Prelude.{◌≡◌, ℕ, ◌*◌, ◌≤◌, Option, Some, length};
+ghost use Rattle.std.specs.Option.{option_map};
+ghost use Rattle.nla_frame.specs.Attribute.{Attribute};
+ghost use Rattle.linkinfo_data.specs.Names.{
+  data_name,
+  device_name,
+  lower_name,
+  peered_name,
+  port_data_name,
+  tunnel_name,
+};
 ghost use Rattle.linkinfo_shapes.specs.Data.{value_of};
-ghost use Rattle.linkinfo.specs.Placed.{place_behind};
-ghost use Rattle.linkinfo_c.specs.Attributes.{attribute_at, attributes_inside, family_inside, flags_shape, given_inside, number_in, number_of, shape_in};
+ghost use Rattle.linkinfo_shapes.specs.declared.shape.Shape.{Shape};
+ghost use Rattle.linkinfo.specs.Placed.{place_after};
+ghost use Rattle.linkinfo_c.specs.Attributes.{
+  attribute_at,
+  attributes_inside,
+  datum_in,
+  family_inside,
+  flags_shape,
+  given_inside,
+  number_in,
+  records_inside,
+  shape_in,
+};
 ghost use Rattle.linkinfo_c.specs.Buffers.{with_front};
 ghost use Rattle.linkinfo_c.specs.Causes.{IsReturnedCode};
 ghost use Rattle.linkinfo_c.specs.Codes.{kind_of_code};
-ghost use Rattle.linkinfo_c.specs.Items.{attributes_in, fault_behind};
+ghost use Rattle.linkinfo_c.specs.Items.{attributes_in, error_after};
 
 use crate::codes::{kind_of_code, port_kind_of_code, shape_code};
-use crate::fault::{NO_FAULT, fault_record};
-use crate::items::{LinkinfoFound, put_at};
+use crate::error::{NO_ERROR, error_record};
+use crate::items::{LinkinfoListResult, write_at};
 use linkinfo::{
     DataFamily, Datum, DeviceFamily, Family, KindTag, LowerFamily, NlaBuffer, NlasIterator,
     PeeredFamily, PortFamily, Shape, TunnelFamily, family_of, port_family_of, read_datum,
@@ -21,25 +41,26 @@ use linkinfo::{
 
 const IFLA_IPTUN_FLAGS: u16 = 8;
 
-/// `struct linkinfo_attribute`: an attribute inside data.
+/// `struct linkinfo_attribute`: an attribute in data.
 #[repr(C)]
 #[derive(Clone, Copy, Debug, PartialEq, Eq)]
 pub struct LinkinfoAttribute {
-    /// Where its header stands in the data; its payload stands four bytes behind.
+    /// The offset of its header in the data, in bytes; its payload is four bytes after that.
     pub place: usize,
-    /// The length of its payload.
+    /// The length of its payload, in bytes.
     pub len: usize,
-    /// The number that its payload means, and else 0.
+    /// The number that its payload means if `is_number`, otherwise 0.
     pub number: u64,
-    /// Its whole 16-bit type.
+    /// Its whole 16-bit type, flag bits included.
     pub raw_kind: u16,
-    /// The code of its shape, 0 where its type has none.
+    /// The shape of its payload, `enum linkinfo_shape`; 0 if its type has none.
     pub shape: u16,
-    /// Whether its payload means a number without a sign.
+    /// Whether its payload means an unsigned number.
     pub is_number: bool,
 }
 
-/// The family of the attributes inside data of a kind, or inside port data of a port kind, by its code; `None` where the data is bytes.
+/// The family of the attributes in data of a kind, or in port data of a port kind, by the kind's
+/// code. It is `None` if the data is opaque bytes.
 fn family_inside(kind: u16) -> Option<Family>
     ensures { result ≡ family_inside kind }
 {
@@ -83,8 +104,8 @@ fn device_name(family: DeviceFamily) -> Family
     match family {
         DeviceFamily::IpVlan => Family::IpVlan,
         DeviceFamily::IpVtap => Family::IpVtap,
-        DeviceFamily::MacVlan => Family::MacVlan,
-        DeviceFamily::MacVtap => Family::MacVtap,
+        DeviceFamily::MacVlan(_) => Family::MacVlan,
+        DeviceFamily::MacVtap(_) => Family::MacVtap,
         DeviceFamily::Vrf => Family::Vrf,
         DeviceFamily::Ipoib => Family::Ipoib,
         DeviceFamily::Xfrm => Family::Xfrm,
@@ -136,7 +157,7 @@ fn port_data_name(family: PortFamily) -> Option<Family>
     }
 }
 
-/// The shape of the tunnel flags, by the kind.
+/// The shape of the tunnel flags (`IFLA_IPTUN_FLAGS`) under a kind.
 fn flags_shape(kind: Option<KindTag>) -> Option<Shape>
     ensures { result ≡ flags_shape kind }
 {
@@ -147,7 +168,7 @@ fn flags_shape(kind: Option<KindTag>) -> Option<Shape>
     }
 }
 
-/// The shape of a masked type in a family, under a kind.
+/// The shape of a type without flag bits, in a family and under a kind.
 fn shape_in(family: Family, kind: Option<KindTag>, masked: u16) -> Option<Shape>
     ensures { result ≡ shape_in family kind masked }
 {
@@ -157,58 +178,71 @@ fn shape_in(family: Family, kind: Option<KindTag>, masked: u16) -> Option<Shape>
     }
 }
 
-/// The number that a datum is, where it is one without a sign.
-fn number_of(datum: Datum<'_>) -> Option<u64>
-    ensures { result ≡ number_of (value_of datum.entry) }
-{
-    match datum {
-        Datum::Number(number) => Some(number),
-        _ => None,
-    }
+/// A record that C has of an attribute in data.
+pub(crate) trait AttributeRecord: Copy {
+    /// The record of an attribute, by its offset in the data and the shape of its payload.
+    ghost record_at: { ℕ → Option Shape → Attribute → Self };
+
+    /// The record of an attribute at this offset in the data, whose payload has this shape or none.
+    fn of_attribute(place: usize, shape: Option<Shape>, nla: &NlaBuffer<'_>) -> Self
+        ensures { result ≡ record_at place shape nla.now };
 }
 
-/// The number that a payload means under a shape.
-fn number_in(shape: Option<Shape>, payload: &[u8]) -> Option<u64>
-    ensures { result ≡ number_in shape payload.now }
+/// What a payload means, if its type has a shape that accepts the payload. Lists of attributes and
+/// peers have no datum: the family itself parses them.
+pub(crate) fn datum_in(shape: Option<Shape>, payload: &[u8]) -> Option<Datum<'_>>
+    ensures { option_map value_of result ≡ datum_in shape payload.now }
 {
     let shape = shape?;
     if !shape.is_plain() {
         return None;
     }
-    match read_datum(shape, payload) {
-        Ok(datum) => number_of(datum),
-        Err(_) => None,
-    }
+    read_datum(shape, payload).ok()
 }
 
-/// An attribute as C sees it.
-fn attribute_record(place: usize, shape: Option<Shape>, nla: &NlaBuffer<'_>) -> LinkinfoAttribute
-    ensures { result ≡ attribute_at place shape nla.now }
+/// The number that a payload means, if it is an unsigned number.
+fn number_in(shape: Option<Shape>, payload: &[u8]) -> Option<u64>
+    ensures { result ≡ number_in shape payload.now }
 {
-    let number = number_in(shape, nla.value());
-    LinkinfoAttribute {
-        place,
-        len: nla.value().len(),
-        number: number.unwrap_or(0),
-        raw_kind: nla.raw_kind(),
-        shape: shape.map_or(0, shape_code),
-        is_number: number.is_some(),
+    match datum_in(shape, payload) {
+        Some(Datum::Number(number)) => Some(number),
+        _ => None,
     }
 }
 
-/// The attributes that a payload frames, as many as the array holds, as those of a family under a kind.
-fn put_attributes(
+impl AttributeRecord for LinkinfoAttribute {
+    ghost record_at = { attribute_at };
+
+    fn of_attribute(place: usize, shape: Option<Shape>, nla: &NlaBuffer<'_>) -> LinkinfoAttribute {
+        let number = number_in(shape, nla.value());
+        LinkinfoAttribute {
+            place,
+            len: nla.value().len(),
+            number: number.unwrap_or(0),
+            raw_kind: nla.raw_kind(),
+            shape: shape.map_or(0, shape_code),
+            is_number: number.is_some(),
+        }
+    }
+}
+
+/// Writes the attributes of a payload, as those of a family under a kind, into the array: as many
+/// as it has room for.
+fn write_attributes<R: AttributeRecord>(
     bytes: &[u8],
     family: Family,
     kind: Option<KindTag>,
-    attributes: &mut [LinkinfoAttribute],
-) -> LinkinfoFound
-    ensures attributes { attributes.new ≡ with_front (attributes_inside (Some family) kind bytes.now) attributes.old }
-    ensures count { result.count ≡ length (attributes_inside (Some family) kind bytes.now) }
+    records: &mut [R],
+) -> LinkinfoListResult
+    ensures records { records.new
+        ≡ with_front (records_inside R.record_at (Some family) kind bytes.now) records.old }
+    ensures count { result.count
+        ≡ length (records_inside R.record_at (Some family) kind bytes.now) }
     ensures quarter { 4 * result.count ≤ length bytes.now }
-    ensures fault { result.fault ≡ fault_behind (given_inside (Some family) bytes.now) }
-    ensures cause { IsReturnedCode result.fault.cause }
-    ensures place { result.place ≡ place_behind bytes.now (attributes_in (given_inside (Some family) bytes.now)) }
+    ensures error { result.error ≡ error_after (given_inside (Some family) bytes.now) }
+    ensures cause { IsReturnedCode result.error.cause }
+    ensures place { result.place
+        ≡ place_after bytes.now (attributes_in (given_inside (Some family) bytes.now)) }
 {
     let mut nlas = NlasIterator::new(bytes);
     let mut count = 0;
@@ -217,47 +251,74 @@ fn put_attributes(
         match next {
             Ok(nla) => {
                 let shape = shape_in(family, kind, nla.kind());
-                put_at(attributes, count, attribute_record(place, shape, &nla));
+                write_at(records, count, R::of_attribute(place, shape, &nla));
                 count = nlas.examined();
                 place = nlas.place();
             }
             Err(error) => {
-                return LinkinfoFound {
-                    fault: fault_record(error),
+                return LinkinfoListResult {
+                    error: error_record(error),
                     place,
                     count,
                 };
             }
         }
     }
-    LinkinfoFound {
-        fault: NO_FAULT,
+    LinkinfoListResult {
+        error: NO_ERROR,
         place,
         count,
     }
 }
 
-/// The attributes inside data of a kind, or inside port data of a port kind, as many as the array holds, up to the first that has no header. Where such data
-/// is bytes, and under a code that is none, there are none.
+/// Writes the attributes in data of a kind, or in port data of a port kind, into the array: as many
+/// as it has room for, up to the first without an accepted header. There are none if such data is
+/// opaque bytes, and none for a number that is no kind and no port kind.
+pub(crate) fn write_inside<R: AttributeRecord>(
+    bytes: &[u8],
+    kind: u16,
+    records: &mut [R],
+) -> LinkinfoListResult
+    ensures records { records.new
+        ≡ with_front (records_inside R.record_at (family_inside kind) (kind_of_code kind) bytes.now)
+        records.old }
+    ensures count { result.count
+        ≡ length (records_inside R.record_at (family_inside kind) (kind_of_code kind) bytes.now) }
+    ensures quarter { 4 * result.count ≤ length bytes.now }
+    ensures error { result.error ≡ error_after (given_inside (family_inside kind) bytes.now) }
+    ensures cause { IsReturnedCode result.error.cause }
+    ensures place { result.place
+        ≡ place_after bytes.now (attributes_in (given_inside (family_inside kind) bytes.now)) }
+{
+    match family_inside(kind) {
+        Some(family) => write_attributes(bytes, family, kind_of_code(kind), records),
+        None => LinkinfoListResult {
+            error: NO_ERROR,
+            place: 0,
+            count: 0,
+        },
+    }
+}
+
+/// Writes the attributes in data of a kind, or in port data of a port kind, into the array: as many
+/// as it has room for, up to the first without an accepted header. There are none if such data is
+/// opaque bytes, and none for a number that is no kind and no port kind.
 #[unsafe(no_mangle)]
 pub extern "C" fn linkinfo_attributes(
     bytes: &[u8],
     kind: u16,
     attributes: &mut [LinkinfoAttribute],
-) -> LinkinfoFound
-    ensures attributes { attributes.new ≡ with_front (attributes_inside (family_inside kind) (kind_of_code kind) bytes.now) attributes.old }
-    ensures count { result.count ≡ length (attributes_inside (family_inside kind) (kind_of_code kind) bytes.now) }
+) -> LinkinfoListResult
+    ensures attributes { attributes.new
+        ≡ with_front (attributes_inside (family_inside kind) (kind_of_code kind) bytes.now)
+        attributes.old }
+    ensures count { result.count
+        ≡ length (attributes_inside (family_inside kind) (kind_of_code kind) bytes.now) }
     ensures quarter { 4 * result.count ≤ length bytes.now }
-    ensures fault { result.fault ≡ fault_behind (given_inside (family_inside kind) bytes.now) }
-    ensures cause { IsReturnedCode result.fault.cause }
-    ensures place { result.place ≡ place_behind bytes.now (attributes_in (given_inside (family_inside kind) bytes.now)) }
+    ensures error { result.error ≡ error_after (given_inside (family_inside kind) bytes.now) }
+    ensures cause { IsReturnedCode result.error.cause }
+    ensures place { result.place
+        ≡ place_after bytes.now (attributes_in (given_inside (family_inside kind) bytes.now)) }
 {
-    match family_inside(kind) {
-        Some(family) => put_attributes(bytes, family, kind_of_code(kind), attributes),
-        None => LinkinfoFound {
-            fault: NO_FAULT,
-            place: 0,
-            count: 0,
-        },
-    }
+    write_inside(bytes, kind, attributes)
 }

@@ -1,4 +1,4 @@
-//! Canonical strings written into a buffer of the caller's.
+//! Canonical encodings, written into a buffer of the caller.
 
 ghost use Rattle.std.specs.Prelude.{◌≡◌, ◌≢◌, length};
 ghost use Rattle.linkinfo_data.specs.BytesPeer.{bytes_peer};
@@ -6,10 +6,10 @@ ghost use Rattle.linkinfo.specs.Strings.{reading};
 ghost use Rattle.linkinfo_c.specs.Canon.{IsCanon};
 ghost use Rattle.linkinfo_c.specs.Causes.{IsReturnedCode};
 
-use crate::fault::{LinkinfoFault, NO_FAULT, fault_record};
+use crate::error::{LinkinfoError, NO_ERROR, error_record};
 use linkinfo::{CanonIntoError, canon_into};
 
-/// `LINKINFO_CANON_WRITTEN` and its like, `enum linkinfo_canon_status`.
+/// The values of `enum linkinfo_canon_status`, from `LINKINFO_CANON_WRITTEN` on.
 const WRITTEN: u32 = 0;
 
 const REFUSED: u32 = 1;
@@ -18,42 +18,46 @@ const UNFIT: u32 = 2;
 
 const SHORT: u32 = 3;
 
-/// `struct linkinfo_canon`: what became of a canonical string.
+/// `struct linkinfo_canon`: the outcome of `linkinfo_canon`.
 #[repr(C)]
 #[derive(Clone, Copy, Debug, PartialEq, Eq)]
 pub struct LinkinfoCanon {
-    /// The fault of the list, where it is refused.
-    pub fault: LinkinfoFault,
-    /// `enum linkinfo_canon_status`: 0 written, 1 the list is refused, 2 it does not fit, 3 the buffer is short.
+    /// The error of the list, if it is rejected.
+    pub error: LinkinfoError,
+    /// `enum linkinfo_canon_status`: 0 written, 1 the list is rejected, 2 it does not fit, 3 the
+    /// buffer is too short.
     pub status: u32,
-    /// The length of the canonical string, where it is written or the buffer is short; else 0.
+    /// The length of the canonical encoding in bytes, if it is written or the buffer is too short;
+    /// otherwise 0.
     pub length: usize,
 }
 
-/// Writes the canonical string of the list at the front of the buffer, where there is one and room for it; else the buffer stays as it was.
+/// Writes the canonical encoding of a list to the front of the buffer, if there is one and the
+/// buffer has room for it. The bytes after it are unchanged, and without an encoding the whole
+/// buffer is.
 #[unsafe(no_mangle)]
 pub extern "C" fn linkinfo_canon(bytes: &[u8], buffer: &mut [u8]) -> LinkinfoCanon
     ensures answer { IsCanon (reading bytes_peer bytes.now) buffer.old buffer.new result }
-    ensures cause { IsReturnedCode result.fault.cause }
+    ensures cause { IsReturnedCode result.error.cause }
 {
     match canon_into(bytes, buffer) {
         Ok(length) => LinkinfoCanon {
-            fault: NO_FAULT,
+            error: NO_ERROR,
             status: WRITTEN,
             length,
         },
-        Err(CanonIntoError::Refused(fault)) => LinkinfoCanon {
-            fault: fault_record(fault),
+        Err(CanonIntoError::Refused(error)) => LinkinfoCanon {
+            error: error_record(error),
             status: REFUSED,
             length: 0,
         },
         Err(CanonIntoError::Unfit) => LinkinfoCanon {
-            fault: NO_FAULT,
+            error: NO_ERROR,
             status: UNFIT,
             length: 0,
         },
         Err(CanonIntoError::Short(needed)) => LinkinfoCanon {
-            fault: NO_FAULT,
+            error: NO_ERROR,
             status: SHORT,
             length: needed,
         },

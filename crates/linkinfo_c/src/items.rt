@@ -1,46 +1,47 @@
-//! The attributes of a list, written into an array of the caller's.
+//! The attributes of a list, written into an array of the caller.
 
 ghost use Rattle.std.specs.Prelude.{◌≡◌, ◌*◌, ◌≤◌, length, slice_set};
-ghost use Rattle.linkinfo.specs.Placed.{place_behind};
+ghost use Rattle.linkinfo.specs.Placed.{place_after};
 ghost use Rattle.linkinfo_c.specs.Buffers.{with_front};
 ghost use Rattle.linkinfo_c.specs.Causes.{IsReturnedCode};
 ghost use Rattle.linkinfo_c.specs.Codes.{kind_code, port_kind_code};
-ghost use Rattle.linkinfo_c.specs.Items.{attributes_in, code_in, fault_behind, given_by, items_of};
+ghost use Rattle.linkinfo_c.specs.Items.{attributes_in, code_in, error_after, given_by, items_of};
 
 use crate::codes::{kind_code, port_kind_code};
-use crate::fault::{LinkinfoFault, NO_FAULT, fault_record};
+use crate::error::{LinkinfoError, NO_ERROR, error_record};
 use linkinfo::{LinkInfoItem, LinkInfoWalk};
 
 /// `struct linkinfo_item`: an attribute of a list.
 #[repr(C)]
 #[derive(Clone, Copy, Debug, PartialEq, Eq)]
 pub struct LinkinfoItem {
-    /// Where its header stands in the list; its payload stands four bytes behind.
+    /// The offset of its header in the list, in bytes; its payload is four bytes after that.
     pub place: usize,
-    /// The length of its payload.
+    /// The length of its payload, in bytes.
     pub len: usize,
-    /// Its whole 16-bit type.
+    /// Its whole 16-bit type, flag bits included.
     pub raw_kind: u16,
-    /// The code of the kind of the link in force before it, 0 where none is.
+    /// The current kind of the link before it, `enum linkinfo_kind`; 0 if there is none.
     pub kind: u16,
-    /// The code of the kind of the port in force before it, 0 where none is.
+    /// The current port kind before it, `enum linkinfo_port_kind`; 0 if there is none.
     pub port_kind: u16,
 }
 
-/// `struct linkinfo_found`: how many attributes were found, and what ends them.
+/// `struct linkinfo_list_result`: the number of attributes, and the error that ends them.
 #[repr(C)]
 #[derive(Clone, Copy, Debug, PartialEq, Eq)]
-pub struct LinkinfoFound {
-    /// The fault that ends them, or none.
-    pub fault: LinkinfoFault,
-    /// Where that fault stands; without one the number of bytes, or 0 where data is bytes.
+pub struct LinkinfoListResult {
+    /// The error that ends the attributes, or none.
+    pub error: LinkinfoError,
+    /// The offset of that error, in bytes. Without an error it is the number of bytes, or 0 if data
+    /// is opaque bytes.
     pub place: usize,
-    /// How many there are in all, whatever the array holds.
+    /// The number of attributes in all, whatever the array has room for.
     pub count: usize,
 }
 
-/// Puts a value at an index, where there is one.
-pub(crate) fn put_at<T: Copy>(values: &mut [T], index: usize, value: T)
+/// Stores a value at an index of the array, if the array has that index.
+pub(crate) fn write_at<T: Copy>(values: &mut [T], index: usize, value: T)
     ensures { values.new ≡ slice_set values.old index value }
 {
     if index < values.len() {
@@ -48,9 +49,15 @@ pub(crate) fn put_at<T: Copy>(values: &mut [T], index: usize, value: T)
     }
 }
 
-/// An attribute as C sees it.
+/// The record of an attribute.
 fn item_record(item: &LinkInfoItem<'_>) -> LinkinfoItem
-    ensures { result ≡ record { place = item.now.place; len = length item.now.value.now; raw_kind = item.now.raw_kind; kind = code_in kind_code item.now.kind_tag; port_kind = code_in port_kind_code item.now.port_tag } }
+    ensures { result ≡ record {
+      place = item.now.place;
+      len = length item.now.value.now;
+      raw_kind = item.now.raw_kind;
+      kind = code_in kind_code item.now.kind_tag;
+      port_kind = code_in port_kind_code item.now.port_tag;
+    } }
 {
     LinkinfoItem {
         place: item.place,
@@ -61,16 +68,19 @@ fn item_record(item: &LinkInfoItem<'_>) -> LinkinfoItem
     }
 }
 
-/// The attributes of a list in order, as many as the array holds, up to the first that has no header, no kind in force that it needs, or a name that is
-/// not UTF-8. No other payload is looked at. There are at most a quarter as many as bytes.
+/// Writes the attributes of a list in order into the array, as many as it has room for.
+///
+/// They end at the first one that has no accepted header, no current kind that it needs, or a name
+/// that is not UTF-8. No payload but those of names is examined. There are at most a quarter as
+/// many attributes as bytes.
 #[unsafe(no_mangle)]
-pub extern "C" fn linkinfo_items(bytes: &[u8], items: &mut [LinkinfoItem]) -> LinkinfoFound
+pub extern "C" fn linkinfo_items(bytes: &[u8], items: &mut [LinkinfoItem]) -> LinkinfoListResult
     ensures items { items.new ≡ with_front (items_of bytes.now) items.old }
     ensures count { result.count ≡ length (items_of bytes.now) }
     ensures quarter { 4 * result.count ≤ length bytes.now }
-    ensures fault { result.fault ≡ fault_behind (given_by bytes.now) }
-    ensures cause { IsReturnedCode result.fault.cause }
-    ensures place { result.place ≡ place_behind bytes.now (attributes_in (given_by bytes.now)) }
+    ensures error { result.error ≡ error_after (given_by bytes.now) }
+    ensures cause { IsReturnedCode result.error.cause }
+    ensures place { result.place ≡ place_after bytes.now (attributes_in (given_by bytes.now)) }
 {
     let mut walk = LinkInfoWalk::new(bytes);
     let mut count = 0;
@@ -78,21 +88,21 @@ pub extern "C" fn linkinfo_items(bytes: &[u8], items: &mut [LinkinfoItem]) -> Li
     while let Some(next) = walk.next() {
         match next {
             Ok(item) => {
-                put_at(items, count, item_record(&item));
+                write_at(items, count, item_record(&item));
                 count = walk.examined();
                 place = walk.place();
             }
             Err(error) => {
-                return LinkinfoFound {
-                    fault: fault_record(error),
+                return LinkinfoListResult {
+                    error: error_record(error),
                     place,
                     count,
                 };
             }
         }
     }
-    LinkinfoFound {
-        fault: NO_FAULT,
+    LinkinfoListResult {
+        error: NO_ERROR,
         place,
         count,
     }

@@ -1,7 +1,8 @@
-//! Names and texts, written into a buffer of the caller's.
+//! Names and texts, written into a buffer of the caller.
 //!
-//! Each call writes the text and a NUL behind it, the text cut where the buffer has no room for both, and answers the length of the whole text. The
-//! text of a code that is none is empty.
+//! Each call writes the text and a NUL after it, and returns the length of the whole text in bytes.
+//! The text is truncated if the buffer has no room for both. A number that is no code has the empty
+//! text.
 
 ghost use Rattle.std.specs.Prelude.{◌≡◌, ◌<◌, ◌≤◌, length};
 ghost use Rattle.nla_frame.specs.Error.{error_text};
@@ -9,17 +10,24 @@ ghost use Rattle.linkinfo_numbers.specs.Kind.{tag_of_name};
 ghost use Rattle.linkinfo_numbers.specs.PortKind.{port_tag_of_name};
 ghost use Rattle.linkinfo_c.specs.Buffers.{with_text};
 ghost use Rattle.linkinfo_c.specs.Codes.{kind_code, port_kind_code};
-ghost use Rattle.linkinfo_c.specs.Texts.{cause_text, family_text, fault_text, kind_text, port_kind_text};
+ghost use Rattle.linkinfo_c.specs.Texts.{
+  cause_text,
+  family_text,
+  kind_text,
+  port_kind_text,
+  record_text,
+};
 
 use crate::codes::{
     cause_of_code, family_of_code, kind_code, kind_of_code, port_kind_code, port_kind_of_code,
 };
-use crate::fault::LinkinfoFault;
+use crate::error::LinkinfoError;
 use arrayvec::ArrayString;
 use linkinfo::{DecodeError, InfoKind, InfoPortKind, port_tag_of_name, tag_of_name};
 
-/// Writes a text.
-fn put_text(text: &str, buffer: &mut [u8]) -> usize
+/// Writes a text and a NUL after it, truncated to the buffer, and returns the length of the whole
+/// text.
+fn write_text(text: &str, buffer: &mut [u8]) -> usize
     ensures length { result ≡ length text.now }
     ensures text { buffer.new ≡ with_text text.now buffer.old }
 {
@@ -31,31 +39,34 @@ fn put_text(text: &str, buffer: &mut [u8]) -> usize
     text.len()
 }
 
-/// The name of a family, as `linkinfo` or `vxlan`.
+/// Writes the name of a family, as `linkinfo` or `vxlan`, and returns its length in bytes. The name
+/// is empty for a number that is no family.
 #[unsafe(no_mangle)]
 pub extern "C" fn linkinfo_family_name(family: u16, buffer: &mut [u8]) -> usize
     ensures length { result ≡ length (family_text family) }
     ensures text { buffer.new ≡ with_text (family_text family) buffer.old }
 {
     match family_of_code(family) {
-        Some(family) => put_text(family.name(), buffer),
-        None => put_text("", buffer),
+        Some(family) => write_text(family.name(), buffer),
+        None => write_text("", buffer),
     }
 }
 
-/// The name of a cause, as `header` or `length`.
+/// Writes the name of a cause, as `header` or `length`, and returns its length in bytes. The name
+/// is empty for a number that is no cause.
 #[unsafe(no_mangle)]
 pub extern "C" fn linkinfo_cause_name(cause: u32, buffer: &mut [u8]) -> usize
     ensures length { result ≡ length (cause_text cause) }
     ensures text { buffer.new ≡ with_text (cause_text cause) buffer.old }
 {
     match cause_of_code(cause) {
-        Some(cause) => put_text(cause.name(), buffer),
-        None => put_text("", buffer),
+        Some(cause) => write_text(cause.name(), buffer),
+        None => write_text("", buffer),
     }
 }
 
-/// The name of a kind, as `vxlan`; that of every other kind is empty.
+/// Writes the name of a kind, as `vxlan`, and returns its length in bytes. The name is empty for
+/// `LINKINFO_KIND_OTHER`, and for a number that is no kind.
 #[unsafe(no_mangle)]
 pub extern "C" fn linkinfo_kind_name(kind: u16, buffer: &mut [u8]) -> usize
     ensures length { result ≡ length (kind_text kind) }
@@ -63,14 +74,15 @@ pub extern "C" fn linkinfo_kind_name(kind: u16, buffer: &mut [u8]) -> usize
 {
     match kind_of_code(kind) {
         Some(tag) => match InfoKind::from_tag(tag) {
-            Some(kind) => put_text(kind.name(), buffer),
-            None => put_text("", buffer),
+            Some(kind) => write_text(kind.name(), buffer),
+            None => write_text("", buffer),
         },
-        None => put_text("", buffer),
+        None => write_text("", buffer),
     }
 }
 
-/// The name of a port kind, as `bridge`; that of every other port kind is empty.
+/// Writes the name of a port kind, as `bridge`, and returns its length in bytes. The name is empty
+/// for `LINKINFO_PORT_KIND_OTHER`, and for a number that is no port kind.
 #[unsafe(no_mangle)]
 pub extern "C" fn linkinfo_port_kind_name(kind: u16, buffer: &mut [u8]) -> usize
     ensures length { result ≡ length (port_kind_text kind) }
@@ -78,14 +90,15 @@ pub extern "C" fn linkinfo_port_kind_name(kind: u16, buffer: &mut [u8]) -> usize
 {
     match port_kind_of_code(kind) {
         Some(tag) => match InfoPortKind::from_tag(tag) {
-            Some(kind) => put_text(kind.name(), buffer),
-            None => put_text("", buffer),
+            Some(kind) => write_text(kind.name(), buffer),
+            None => write_text("", buffer),
         },
-        None => put_text("", buffer),
+        None => write_text("", buffer),
     }
 }
 
-/// The kind of a name, given without a closing NUL.
+/// Returns the kind of a name, or `LINKINFO_KIND_OTHER` if no kind has it. The name is given
+/// without a closing NUL.
 #[unsafe(no_mangle)]
 pub extern "C" fn linkinfo_kind_of_name(name: &[u8]) -> u16
     ensures { result ≡ kind_code (tag_of_name name.now) }
@@ -93,7 +106,8 @@ pub extern "C" fn linkinfo_kind_of_name(name: &[u8]) -> u16
     kind_code(tag_of_name(name))
 }
 
-/// The port kind of a name, given without a closing NUL.
+/// Returns the port kind of a name, or `LINKINFO_PORT_KIND_OTHER` if no port kind has it. The name
+/// is given without a closing NUL.
 #[unsafe(no_mangle)]
 pub extern "C" fn linkinfo_port_kind_of_name(name: &[u8]) -> u16
     ensures { result ≡ port_kind_code (port_tag_of_name name.now) }
@@ -101,27 +115,29 @@ pub extern "C" fn linkinfo_port_kind_of_name(name: &[u8]) -> u16
     port_kind_code(port_tag_of_name(name))
 }
 
-/// Family, type in decimal and cause of a fault, as `linkinfo 2 order`, at most 28 bytes; that of no fault is empty.
+/// Writes family, type in decimal and cause of an error, as `linkinfo 2 order`, and returns the
+/// length of this text: at most 28 bytes. The text is empty without an error, and if a number is no
+/// family or no cause.
 #[unsafe(no_mangle)]
-pub extern "C" fn linkinfo_fault_text(fault: LinkinfoFault, buffer: &mut [u8]) -> usize
-    ensures length { result ≡ length (fault_text fault) }
+pub extern "C" fn linkinfo_error_text(error: LinkinfoError, buffer: &mut [u8]) -> usize
+    ensures length { result ≡ length (record_text error) }
     ensures most { result ≤ 28 }
-    ensures text { buffer.new ≡ with_text (fault_text fault) buffer.old }
+    ensures text { buffer.new ≡ with_text (record_text error) buffer.old }
 {
-    match (family_of_code(fault.family), cause_of_code(fault.cause)) {
+    match (family_of_code(error.family), cause_of_code(error.cause)) {
         (Some(family), Some(cause)) => {
             let text = error_line(DecodeError {
                 family,
-                kind: fault.kind,
+                kind: error.kind,
                 cause,
             });
-            put_text(text.as_str(), buffer)
+            write_text(text.as_str(), buffer)
         }
-        _ => put_text("", buffer),
+        _ => write_text("", buffer),
     }
 }
 
-/// The text of a fault: at most 10, 5 and 11 bytes with a space between them.
+/// The text of an error: at most 10, 5 and 11 bytes, with a space between them.
 fn error_line(error: DecodeError) -> ArrayString<28>
     ensures { result.bytes ≡ error_text error }
 {

@@ -1,4 +1,5 @@
--- What a family chosen among several says of a payload, from what the variant chosen says of it.
+-- What is known of a payload under a family chosen among several, from what is known under the
+-- variant chosen.
 use Rattle.std.specs.Prelude.{◌≡◌, ℕ, ◌+◌, Bool, List, IsOk}
 use Rattle.std.specs.Bool.{OnTrue}
 use Rattle.std.proofs.Common.{sym, subst}
@@ -11,6 +12,8 @@ module _ {C X : Type 0} (by : C → Payload X) {chosen is : C} (e : chosen ≡ i
   pub same_by : (a b : List ℕ) (r : Bool) → r ≡ (by is).alike a b → r ≡ (by chosen).alike a b
   same_by a b r h = subst (λ (f : C). r ≡ (by f).alike a b) (sym e) h
 
-  pub counted_by : (a b : List ℕ) (r : Bool) (old new : ℕ) → OnTrue r (new ≡ old + ((by is).headers a + (by is).headers b)) →
+  pub counted_by : (a b : List ℕ) (r : Bool) (old new : ℕ) →
+      OnTrue r (new ≡ old + ((by is).headers a + (by is).headers b)) →
       OnTrue r (new ≡ old + ((by chosen).headers a + (by chosen).headers b))
-  counted_by a b r old new h = subst (λ (f : C). OnTrue r (new ≡ old + ((by f).headers a + (by f).headers b))) (sym e) h
+  counted_by a b r old new h =
+      subst (λ (f : C). OnTrue r (new ≡ old + ((by f).headers a + (by f).headers b))) (sym e) h

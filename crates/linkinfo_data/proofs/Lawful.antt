@@ -3,24 +3,24 @@ use Rattle.std.specs.Prelude.{◌≡◌, ℕ, List, [], Some, refl}
 use Rattle.std.specs.Prelude.{◌↔◌, true}
 use denote.RattleType.{RattleType}
 use Rattle.nla_frame.specs.Attribute.{IsBytes}
-use Rattle.nla_frame.specs.Pieces.{pieces}
+use Rattle.nla_frame.specs.NlaItems.{nla_items}
 use Rattle.nla_frame.specs.declared.error.Family.TheVariants as family
 use Rattle.nla_frame.specs.declared.error.Family.{Family}
 use Rattle.linkinfo_numbers.specs.declared.tags.KindTag.{KindTag}
 use Rattle.linkinfo_table.specs.ByRows.{members_by_rows, rows_are_family, rows_name}
 use Rattle.linkinfo_table.specs.ByRows.{rows_name_first, table_is_family, table_names}
-use Rattle.linkinfo_table.specs.Conditions.{rowless_attribute}
+use Rattle.linkinfo_table.specs.Conditions.{opaque_attribute}
 use Rattle.linkinfo_table.specs.FamilyRows.{RowOwes}
 use Rattle.linkinfo_table.specs.FamilyRows.{lookup_of, row_of, table_row}
-use Rattle.linkinfo_table.specs.FaultNames.{EachNames, names_list}
+use Rattle.linkinfo_table.specs.ErrorNames.{EachNames, names_list}
 use Rattle.linkinfo_table.specs.FlatLaws.{none_inside}
 use Rattle.linkinfo_table.specs.Lists.{first_meaning, values}
 use Rattle.linkinfo_table.specs.LookupLaws.{flat_unnested}
 use Rattle.linkinfo_table.specs.Members.{IsFamily, Members}
 use Rattle.linkinfo_table.specs.Rows.{headers_inside, meaning_in}
 use Rattle.linkinfo_table.specs.declared.peer.LinkPeer.{Ghosts}
-use Rattle.linkinfo_table.specs.declared.rowless.Rowless.TheVariants as rowless
-use Rattle.linkinfo_table.specs.declared.rowless.Rowless.{Rowless}
+use Rattle.linkinfo_table.specs.declared.opaque.Opaque.TheVariants as opaque
+use Rattle.linkinfo_table.specs.declared.opaque.Opaque.{Opaque}
 use Rattle.linkinfo_devices.specs.Ipoib.{ipoib_attribute, ipoib_keeps, ipoib_rows}
 use Rattle.linkinfo_devices.specs.Ipvlan.{ip_vlan_attribute, ip_vlan_keeps, ip_vlan_rows}
 use Rattle.linkinfo_devices.specs.Ipvtap.{ip_vtap_attribute, ip_vtap_keeps, ip_vtap_rows}
@@ -73,7 +73,7 @@ use Rattle.linkinfo_peers.specs.declared.veth.InfoVethOf.TheVariants as veth
 use Rattle.linkinfo_peers.specs.declared.vxcan.InfoVxcanOf.TheVariants as vxcan
 use Rattle.linkinfo_peers.specs.declared.wwan.InfoWwan.TheVariants as wwan
 
--- ---- ip vlan
+-- ---- ipvlan
 
 pub ip_vlan_is : IsFamily
     (members_by_rows family.IpVlan (λ d. ip_vlan.Other d) ip_vlan_attribute
@@ -83,11 +83,11 @@ ip_vlan_is = table_is_family family.IpVlan
 
 pub ip_vlan_names : (s : List ℕ) → EachNames family.IpVlan
     (values (meaning_in family.IpVlan (λ d. ip_vlan.Other d)
-    (λ n. row_of (table_row ip_vlan_rows n))) (pieces s))
+    (λ n. row_of (table_row ip_vlan_rows n))) (nla_items s))
 ip_vlan_names s = table_names family.IpVlan
     (λ d. ip_vlan.Other d) ip_vlan_attribute ip_vlan_rows ip_vlan_keeps s
 
--- ---- ip vtap
+-- ---- ipvtap
 
 pub ip_vtap_is : IsFamily
     (members_by_rows family.IpVtap (λ d. ip_vtap.Other d) ip_vtap_attribute
@@ -97,7 +97,7 @@ ip_vtap_is = table_is_family family.IpVtap
 
 pub ip_vtap_names : (s : List ℕ) → EachNames family.IpVtap
     (values (meaning_in family.IpVtap (λ d. ip_vtap.Other d)
-    (λ n. row_of (table_row ip_vtap_rows n))) (pieces s))
+    (λ n. row_of (table_row ip_vtap_rows n))) (nla_items s))
 ip_vtap_names s = table_names family.IpVtap
     (λ d. ip_vtap.Other d) ip_vtap_attribute ip_vtap_rows ip_vtap_keeps s
 
@@ -110,7 +110,7 @@ vrf_is = table_is_family family.Vrf (λ d. vrf.Other d) vrf_attribute vrf_rows v
 
 pub vrf_names : (s : List ℕ) → EachNames family.Vrf
     (values (meaning_in family.Vrf (λ d. vrf.Other d) (λ n. row_of (table_row vrf_rows n)))
-    (pieces s))
+    (nla_items s))
 vrf_names s = table_names family.Vrf (λ d. vrf.Other d) vrf_attribute vrf_rows vrf_keeps s
 
 -- ---- ipoib
@@ -123,7 +123,7 @@ ipoib_is = table_is_family family.Ipoib (λ d. ipoib.Other d) ipoib_attribute ip
 
 pub ipoib_names : (s : List ℕ) → EachNames family.Ipoib
     (values (meaning_in family.Ipoib (λ d. ipoib.Other d) (λ n. row_of (table_row ipoib_rows n)))
-    (pieces s))
+    (nla_items s))
 ipoib_names s = table_names family.Ipoib
     (λ d. ipoib.Other d) ipoib_attribute ipoib_rows ipoib_keeps s
 
@@ -137,10 +137,10 @@ xfrm_is = table_is_family family.Xfrm (λ d. xfrm.Other d) xfrm_attribute xfrm_r
 
 pub xfrm_names : (s : List ℕ) → EachNames family.Xfrm
     (values (meaning_in family.Xfrm (λ d. xfrm.Other d) (λ n. row_of (table_row xfrm_rows n)))
-    (pieces s))
+    (nla_items s))
 xfrm_names s = table_names family.Xfrm (λ d. xfrm.Other d) xfrm_attribute xfrm_rows xfrm_keeps s
 
--- ---- mac sec
+-- ---- macsec
 
 pub mac_sec_is : IsFamily
     (members_by_rows family.MacSec (λ d. mac_sec.Other d) mac_sec_attribute
@@ -150,11 +150,11 @@ mac_sec_is = table_is_family family.MacSec
 
 pub mac_sec_names : (s : List ℕ) → EachNames family.MacSec
     (values (meaning_in family.MacSec (λ d. mac_sec.Other d)
-    (λ n. row_of (table_row mac_sec_rows n))) (pieces s))
+    (λ n. row_of (table_row mac_sec_rows n))) (nla_items s))
 mac_sec_names s = table_names family.MacSec
     (λ d. mac_sec.Other d) mac_sec_attribute mac_sec_rows mac_sec_keeps s
 
--- ---- rm net
+-- ---- rmnet
 
 pub rm_net_is : IsFamily
     (members_by_rows family.RmNet (λ d. rm_net.Other d) rm_net_attribute
@@ -164,7 +164,7 @@ rm_net_is = table_is_family family.RmNet
 
 pub rm_net_names : (s : List ℕ) → EachNames family.RmNet
     (values (meaning_in family.RmNet (λ d. rm_net.Other d) (λ n. row_of (table_row rm_net_rows n)))
-    (pieces s))
+    (nla_items s))
 rm_net_names s = table_names family.RmNet
     (λ d. rm_net.Other d) rm_net_attribute rm_net_rows rm_net_keeps s
 
@@ -177,10 +177,10 @@ amt_is = table_is_family family.Amt (λ d. amt.Other d) amt_attribute amt_rows a
 
 pub amt_names : (s : List ℕ) → EachNames family.Amt
     (values (meaning_in family.Amt (λ d. amt.Other d) (λ n. row_of (table_row amt_rows n)))
-    (pieces s))
+    (nla_items s))
 amt_names s = table_names family.Amt (λ d. amt.Other d) amt_attribute amt_rows amt_keeps s
 
--- ---- bare udp
+-- ---- bareudp
 
 pub bare_udp_is : IsFamily
     (members_by_rows family.BareUdp (λ d. bare_udp.Other d) bare_udp_attribute
@@ -191,7 +191,7 @@ bare_udp_is = table_is_family family.BareUdp
 pub bare_udp_names : (s : List ℕ) →
     EachNames family.BareUdp
     (values (meaning_in family.BareUdp (λ d. bare_udp.Other d)
-    (λ n. row_of (table_row bare_udp_rows n))) (pieces s))
+    (λ n. row_of (table_row bare_udp_rows n))) (nla_items s))
 bare_udp_names s = table_names family.BareUdp
     (λ d. bare_udp.Other d) bare_udp_attribute bare_udp_rows bare_udp_keeps s
 
@@ -205,11 +205,11 @@ geneve_is = table_is_family family.Geneve
 
 pub geneve_names : (s : List ℕ) → EachNames family.Geneve
     (values (meaning_in family.Geneve (λ d. geneve.Other d)
-    (λ n. row_of (table_row geneve_rows n))) (pieces s))
+    (λ n. row_of (table_row geneve_rows n))) (nla_items s))
 geneve_names s = table_names family.Geneve
     (λ d. geneve.Other d) geneve_attribute geneve_rows geneve_keeps s
 
--- ---- gre
+-- ---- gre, gretap and erspan
 
 pub gre_is : IsFamily
     (members_by_rows family.Gre (λ d. gre.Other d) gre_attribute (λ n. table_row gre_rows n)
@@ -218,10 +218,10 @@ gre_is = table_is_family family.Gre (λ d. gre.Other d) gre_attribute gre_rows g
 
 pub gre_names : (s : List ℕ) → EachNames family.Gre
     (values (meaning_in family.Gre (λ d. gre.Other d) (λ n. row_of (table_row gre_rows n)))
-    (pieces s))
+    (nla_items s))
 gre_names s = table_names family.Gre (λ d. gre.Other d) gre_attribute gre_rows gre_keeps s
 
--- ---- gre6
+-- ---- ip6gre, ip6gretap and ip6erspan
 
 pub gre6_is : IsFamily
     (members_by_rows family.Gre6 (λ d. gre6.Other d) gre6_attribute (λ n. table_row gre6_rows n)
@@ -231,7 +231,7 @@ gre6_is = table_is_family family.Gre6 (λ d. gre6.Other d) gre6_attribute gre6_r
 
 pub gre6_names : (s : List ℕ) → EachNames family.Gre6
     (values (meaning_in family.Gre6 (λ d. gre6.Other d) (λ n. row_of (table_row gre6_rows n)))
-    (pieces s))
+    (nla_items s))
 gre6_names s = table_names family.Gre6 (λ d. gre6.Other d) gre6_attribute gre6_rows gre6_keeps s
 
 -- ---- gtp
@@ -243,10 +243,10 @@ gtp_is = table_is_family family.Gtp (λ d. gtp.Other d) gtp_attribute gtp_rows g
 
 pub gtp_names : (s : List ℕ) → EachNames family.Gtp
     (values (meaning_in family.Gtp (λ d. gtp.Other d) (λ n. row_of (table_row gtp_rows n)))
-    (pieces s))
+    (nla_items s))
 gtp_names s = table_names family.Gtp (λ d. gtp.Other d) gtp_attribute gtp_rows gtp_keeps s
 
--- ---- vti
+-- ---- vti and vti6
 
 pub vti_is : IsFamily
     (members_by_rows family.Vti (λ d. vti.Other d) vti_attribute (λ n. table_row vti_rows n)
@@ -255,7 +255,7 @@ vti_is = table_is_family family.Vti (λ d. vti.Other d) vti_attribute vti_rows v
 
 pub vti_names : (s : List ℕ) → EachNames family.Vti
     (values (meaning_in family.Vti (λ d. vti.Other d) (λ n. row_of (table_row vti_rows n)))
-    (pieces s))
+    (nla_items s))
 vti_names s = table_names family.Vti (λ d. vti.Other d) vti_attribute vti_rows vti_keeps s
 
 -- ---- vxlan
@@ -268,7 +268,7 @@ vxlan_is = table_is_family family.Vxlan (λ d. vxlan.Other d) vxlan_attribute vx
 
 pub vxlan_names : (s : List ℕ) → EachNames family.Vxlan
     (values (meaning_in family.Vxlan (λ d. vxlan.Other d) (λ n. row_of (table_row vxlan_rows n)))
-    (pieces s))
+    (nla_items s))
 vxlan_names s = table_names family.Vxlan
     (λ d. vxlan.Other d) vxlan_attribute vxlan_rows vxlan_keeps s
 
@@ -282,7 +282,7 @@ batadv_is = table_is_family family.BatAdv
 
 pub batadv_names : (s : List ℕ) → EachNames family.BatAdv
     (values (meaning_in family.BatAdv (λ d. batadv.Other d)
-    (λ n. row_of (table_row batadv_rows n))) (pieces s))
+    (λ n. row_of (table_row batadv_rows n))) (nla_items s))
 batadv_names s = table_names family.BatAdv
     (λ d. batadv.Other d) batadv_attribute batadv_rows batadv_keeps s
 
@@ -296,10 +296,10 @@ wwan_is = table_is_family family.Wwan (λ d. wwan.Other d) wwan_attribute wwan_r
 
 pub wwan_names : (s : List ℕ) → EachNames family.Wwan
     (values (meaning_in family.Wwan (λ d. wwan.Other d) (λ n. row_of (table_row wwan_rows n)))
-    (pieces s))
+    (nla_items s))
 wwan_names s = table_names family.Wwan (λ d. wwan.Other d) wwan_attribute wwan_rows wwan_keeps s
 
--- ---- IP tunnels
+-- ---- ipip, ip6tnl and sit
 
 pub ip_tunnel_is : (tag : KindTag) →
     IsFamily (members_by_rows family.IpTunnel (λ d. ip_tunnel.Other d) ip_tunnel_attribute
@@ -310,67 +310,67 @@ ip_tunnel_is tag = rows_are_family family.IpTunnel (λ d. ip_tunnel.Other d) ip_
 pub ip_tunnel_names : (tag : KindTag) (s : List ℕ) →
     EachNames family.IpTunnel
     (values (meaning_in family.IpTunnel (λ d. ip_tunnel.Other d)
-    (λ n. row_of (ip_tunnel_row tag n))) (pieces s))
+    (λ n. row_of (ip_tunnel_row tag n))) (nla_items s))
 ip_tunnel_names tag s = rows_name family.IpTunnel (λ d. ip_tunnel.Other d) ip_tunnel_attribute
     (ip_tunnel_row tag) (ip_tunnel_owes tag)
     (λ n. flat_unnested (ip_tunnel_row tag n) (ip_tunnel_flat tag n)) s
 
 -- ---- macvlan links, whose attributes may hold lists
 
-pub mac_vlan_is : IsFamily
+pub mac_vlan_is : (lists : ℕ) → IsFamily
     (members_by_rows family.MacVlan (λ d. macvlan.Other d) mac_vlan_attribute
-    (λ n. mac_vlan_rows 0 n) (headers_inside (λ n. row_of (mac_vlan_rows 0 n))))
-mac_vlan_is = rows_are_family family.MacVlan (λ d. macvlan.Other d) mac_vlan_attribute
-    (λ n. mac_vlan_rows 0 n) (mac_vlan_owes 0) mac_vlan_keep.other
-    (headers_inside (λ n. row_of (mac_vlan_rows 0 n)))
+    (λ n. mac_vlan_rows lists n) (headers_inside (λ n. row_of (mac_vlan_rows lists n))))
+mac_vlan_is lists = rows_are_family family.MacVlan (λ d. macvlan.Other d) mac_vlan_attribute
+    (λ n. mac_vlan_rows lists n) (mac_vlan_owes lists) mac_vlan_keep.other
+    (headers_inside (λ n. row_of (mac_vlan_rows lists n)))
     (λ a. nested_quarter family.MacVlan (λ d. macvlan.Other d) mac_vlan_attribute
-    (λ n. mac_vlan_rows 0 n) (mac_vlan_owes 0) mac_vlan_keep.other a)
+    (λ n. mac_vlan_rows lists n) (mac_vlan_owes lists) mac_vlan_keep.other a)
 
-pub mac_vlan_names : (s : List ℕ) →
+pub mac_vlan_names : (lists : ℕ) (s : List ℕ) →
     EachNames family.MacVlan
-    (values (meaning_in family.MacVlan (λ d. macvlan.Other d) (λ n. row_of (mac_vlan_rows 0 n)))
-    (pieces s))
-mac_vlan_names s = names_list family.MacVlan (λ d. macvlan.Other d) mac_vlan_attribute
+    (values (meaning_in family.MacVlan (λ d. macvlan.Other d) (λ n. row_of (mac_vlan_rows lists n)))
+    (nla_items s))
+mac_vlan_names lists s = names_list family.MacVlan (λ d. macvlan.Other d) mac_vlan_attribute
     (λ c n. lookup_of (mac_vlan_rows c n))
     (λ c a. meaning_in family.MacVlan (λ d. macvlan.Other d)
-    (λ n. row_of (mac_vlan_rows c n)) a) mac_vlan_says 0 s
+    (λ n. row_of (mac_vlan_rows c n)) a) mac_vlan_says lists s
 
 -- ---- macvtap links, whose attributes may hold lists
 
-pub mac_vtap_is : IsFamily
+pub mac_vtap_is : (lists : ℕ) → IsFamily
     (members_by_rows family.MacVtap (λ d. macvtap.Other d) mac_vtap_attribute
-    (λ n. mac_vtap_rows 0 n) (headers_inside (λ n. row_of (mac_vtap_rows 0 n))))
-mac_vtap_is = rows_are_family family.MacVtap (λ d. macvtap.Other d) mac_vtap_attribute
-    (λ n. mac_vtap_rows 0 n) (mac_vtap_owes 0) mac_vtap_keep.other
-    (headers_inside (λ n. row_of (mac_vtap_rows 0 n)))
+    (λ n. mac_vtap_rows lists n) (headers_inside (λ n. row_of (mac_vtap_rows lists n))))
+mac_vtap_is lists = rows_are_family family.MacVtap (λ d. macvtap.Other d) mac_vtap_attribute
+    (λ n. mac_vtap_rows lists n) (mac_vtap_owes lists) mac_vtap_keep.other
+    (headers_inside (λ n. row_of (mac_vtap_rows lists n)))
     (λ a. nested_quarter family.MacVtap (λ d. macvtap.Other d) mac_vtap_attribute
-    (λ n. mac_vtap_rows 0 n) (mac_vtap_owes 0) mac_vtap_keep.other a)
+    (λ n. mac_vtap_rows lists n) (mac_vtap_owes lists) mac_vtap_keep.other a)
 
-pub mac_vtap_names : (s : List ℕ) →
+pub mac_vtap_names : (lists : ℕ) (s : List ℕ) →
     EachNames family.MacVtap
-    (values (meaning_in family.MacVtap (λ d. macvtap.Other d) (λ n. row_of (mac_vtap_rows 0 n)))
-    (pieces s))
-mac_vtap_names s = names_list family.MacVtap (λ d. macvtap.Other d) mac_vtap_attribute
+    (values (meaning_in family.MacVtap (λ d. macvtap.Other d) (λ n. row_of (mac_vtap_rows lists n)))
+    (nla_items s))
+mac_vtap_names lists s = names_list family.MacVtap (λ d. macvtap.Other d) mac_vtap_attribute
     (λ c n. lookup_of (mac_vtap_rows c n))
     (λ c a. meaning_in family.MacVtap (λ d. macvtap.Other d)
-    (λ n. row_of (mac_vtap_rows c n)) a) mac_vtap_says 0 s
+    (λ n. row_of (mac_vtap_rows c n)) a) mac_vtap_says lists s
 
 -- ---- families without rows
 
--- a family without rows
-pub rowless_is : {number : ℕ} (f : Family) →
-    IsFamily (members_by_rows f (λ d. rowless.Other d) (rowless_attribute {number = number})
+-- a family without rows, whose attributes are kept verbatim
+pub opaque_is : {number : ℕ} (f : Family) →
+    IsFamily (members_by_rows f (λ d. opaque.Other d) (opaque_attribute {number = number})
     (λ n. table_row [] n) (λ _. 0))
-rowless_is f = table_is_family f (λ d. rowless.Other d) rowless_attribute [] tt (λ _. refl)
+opaque_is f = table_is_family f (λ d. opaque.Other d) opaque_attribute [] tt (λ _. refl)
 
-abbrev pub rowless_members : (number : ℕ) → Family → Members (Rowless number)
-rowless_members number f =
-    members_by_rows f (λ d. rowless.Other d) (rowless_attribute {number = number})
+abbrev pub opaque_members : (number : ℕ) → Family → Members (Opaque number)
+opaque_members number f =
+    members_by_rows f (λ d. opaque.Other d) (opaque_attribute {number = number})
     (λ n. table_row [] n) (λ _. 0)
 
-pub rowless_names : {number : ℕ} (f : Family) (s : List ℕ) →
-    EachNames f (values (rowless_members number f).meaning (pieces s))
-rowless_names f s = table_names f (λ d. rowless.Other d) rowless_attribute [] tt s
+pub opaque_names : {number : ℕ} (f : Family) (s : List ℕ) →
+    EachNames f (values (opaque_members number f).meaning (nla_items s))
+opaque_names f s = table_names f (λ d. opaque.Other d) opaque_attribute [] tt s
 
 -- ---- links with a peer
 
@@ -397,7 +397,7 @@ module _ (P : RattleType) (peer : Ghosts P.Denot)
   pub veth_names : (s : List ℕ) → EachNames family.Veth
       (first_meaning
       (meaning_in family.Veth (λ d. veth.Other d)
-      (λ n. row_of (veth_rows peer.meaning peer.alike peer.canonical peer.well n))) (pieces s))
+      (λ n. row_of (veth_rows peer.meaning peer.alike peer.canonical peer.well n))) (nla_items s))
   veth_names s = rows_name_first family.Veth (λ d. veth.Other d) (veth_attribute peer.canonical)
       (λ n. veth_rows peer.meaning peer.alike peer.canonical peer.well n) veth_owes
       (λ n. peer_unnested peer.meaning peer.alike peer.canonical peer.well (λ z. veth.Peer z)
@@ -419,7 +419,7 @@ module _ (P : RattleType) (peer : Ghosts P.Denot)
   pub netkit_names : (s : List ℕ) →
       EachNames family.Netkit
       (values (meaning_in family.Netkit (λ d. netkit.Other d)
-      (λ n. row_of (netkit_rows peer.meaning peer.alike peer.canonical peer.well n))) (pieces s))
+      (λ n. row_of (netkit_rows peer.meaning peer.alike peer.canonical peer.well n))) (nla_items s))
   netkit_names s = rows_name family.Netkit (λ d. netkit.Other d) (netkit_attribute peer.canonical)
       (λ n. netkit_rows peer.meaning peer.alike peer.canonical peer.well n) netkit_owes
       (λ n. peer_unnested peer.meaning peer.alike peer.canonical peer.well (λ z. netkit.Peer z)
@@ -441,7 +441,7 @@ module _ (P : RattleType) (peer : Ghosts P.Denot)
   pub vxcan_names : (s : List ℕ) → EachNames family.Vxcan
       (first_meaning
       (meaning_in family.Vxcan (λ d. vxcan.Other d)
-      (λ n. row_of (vxcan_rows peer.meaning peer.alike peer.canonical peer.well n))) (pieces s))
+      (λ n. row_of (vxcan_rows peer.meaning peer.alike peer.canonical peer.well n))) (nla_items s))
   vxcan_names s = rows_name_first family.Vxcan (λ d. vxcan.Other d)
       (vxcan_attribute peer.canonical)
       (λ n. vxcan_rows peer.meaning peer.alike peer.canonical peer.well n) vxcan_owes

@@ -1,3 +1,5 @@
 mod Arms
-pub mod Unmets
+pub mod Blocks
+pub mod Differences
 pub mod Lawful
+pub mod Unmets

@@ -1,5 +1,5 @@
--- Which data, and which port data, are well formed under a family: the variant of the family, and
--- each attribute in it.
+-- Which data and which port data are well formed under a family: those of the family's variant, of
+-- which each attribute is well formed.
 use Rattle.std.specs.Prelude.{◌↔◌, List}
 use Rattle.std.specs.List.{AllByRecursion}
 use Rattle.nla_frame.specs.Attribute.{IsBytes}
@@ -9,7 +9,7 @@ use Rattle.linkinfo_devices.specs.Conditions.{mac_vlan_conditions, mac_vtap_cond
 use Rattle.linkinfo_devices.specs.Conditions.{rm_net_conditions, vrf_conditions, xfrm_conditions}
 use Rattle.linkinfo_peers.specs.Conditions.{batadv_conditions, netkit_conditions, veth_conditions}
 use Rattle.linkinfo_peers.specs.Conditions.{vxcan_conditions, wwan_conditions}
-use Rattle.linkinfo_table.specs.Conditions.{each_stated, rowless_conditions}
+use Rattle.linkinfo_table.specs.Conditions.{each_stated, opaque_conditions}
 use Rattle.linkinfo_table.specs.Members.{Members}
 use Rattle.linkinfo_tunnels.specs.Conditions.{amt_conditions, bare_udp_conditions}
 use Rattle.linkinfo_tunnels.specs.Conditions.{geneve_conditions, gre6_conditions, gre_conditions}
@@ -45,18 +45,20 @@ abbrev pub IsOneOf : {A X : Type 0} → (A → X) → (A → Type 0) → X → T
 IsOneOf variant conditions d = Labelled variant conditions d
 
 abbrev pub lower_conditions : {P : Type 0} → LowerFamily → InfoDataOf P → Type 0
-lower_conditions lower.Bridge d = IsListOf (λ xs. info.Bridge xs) rowless_conditions d
-lower_conditions lower.Vlan d = IsListOf (λ xs. info.Vlan xs) rowless_conditions d
-lower_conditions lower.Bond d = IsListOf (λ xs. info.Bond xs) rowless_conditions d
-lower_conditions lower.Hsr d = IsListOf (λ xs. info.Hsr xs) rowless_conditions d
-lower_conditions lower.Can d = IsListOf (λ xs. info.Can xs) rowless_conditions d
-lower_conditions lower.Dsa d = IsListOf (λ xs. info.Dsa xs) rowless_conditions d
+lower_conditions lower.Bridge d = IsListOf (λ xs. info.Bridge xs) opaque_conditions d
+lower_conditions lower.Vlan d = IsListOf (λ xs. info.Vlan xs) opaque_conditions d
+lower_conditions lower.Bond d = IsListOf (λ xs. info.Bond xs) opaque_conditions d
+lower_conditions lower.Hsr d = IsListOf (λ xs. info.Hsr xs) opaque_conditions d
+lower_conditions lower.Can d = IsListOf (λ xs. info.Can xs) opaque_conditions d
+lower_conditions lower.Dsa d = IsListOf (λ xs. info.Dsa xs) opaque_conditions d
 
 abbrev pub device_conditions : {P : Type 0} → DeviceFamily → InfoDataOf P → Type 0
 device_conditions device.IpVlan d = IsListOf (λ xs. info.IpVlan xs) ip_vlan_conditions d
 device_conditions device.IpVtap d = IsListOf (λ xs. info.IpVtap xs) ip_vtap_conditions d
-device_conditions device.MacVlan d = IsListOf (λ xs. info.MacVlan xs) (mac_vlan_conditions 0) d
-device_conditions device.MacVtap d = IsListOf (λ xs. info.MacVtap xs) (mac_vtap_conditions 0) d
+device_conditions (device.MacVlan lists) d =
+    IsListOf (λ xs. info.MacVlan xs) (mac_vlan_conditions lists) d
+device_conditions (device.MacVtap lists) d =
+    IsListOf (λ xs. info.MacVtap xs) (mac_vtap_conditions lists) d
 device_conditions device.Vrf d = IsListOf (λ xs. info.Vrf xs) vrf_conditions d
 device_conditions device.Ipoib d = IsListOf (λ xs. info.Ipoib xs) ipoib_conditions d
 device_conditions device.Xfrm d = IsListOf (λ xs. info.Xfrm xs) xfrm_conditions d
@@ -79,18 +81,18 @@ tunnel_conditions tunnel.BareUdp d = IsListOf (λ xs. info.BareUdp xs) bare_udp_
 tunnel_conditions tunnel.ErSpan d = IsListOf (λ xs. info.ErSpan xs) gre_conditions d
 tunnel_conditions tunnel.Ip6ErSpan d = IsListOf (λ xs. info.Ip6ErSpan xs) gre6_conditions d
 
--- of links with a peer, by what a peer must be
+-- the conditions of data of links with a peer, given the condition of a peer
 abbrev pub peered_conditions : {P : Type 0} → (P → Type 0) → PeeredFamily → InfoDataOf P → Type 0
-peered_conditions well peered.Tun d = IsListOf (λ xs. info.Tun xs) rowless_conditions d
+peered_conditions well peered.Tun d = IsListOf (λ xs. info.Tun xs) opaque_conditions d
 peered_conditions well peered.Veth d = IsOneOf (λ x. info.Veth x) (veth_conditions well) d
-peered_conditions well peered.Wireguard d = IsListOf (λ xs. info.Wireguard xs) rowless_conditions d
+peered_conditions well peered.Wireguard d = IsListOf (λ xs. info.Wireguard xs) opaque_conditions d
 peered_conditions well peered.Netkit d = IsListOf (λ xs. info.Netkit xs) (netkit_conditions well) d
 peered_conditions well peered.Vxcan d = IsOneOf (λ x. info.Vxcan x) (vxcan_conditions well) d
 peered_conditions well peered.BatAdv d = IsListOf (λ xs. info.BatAdv xs) batadv_conditions d
 peered_conditions well peered.Wwan d = IsListOf (λ xs. info.Wwan xs) wwan_conditions d
-peered_conditions well peered.Pfcp d = IsListOf (λ xs. info.Pfcp xs) rowless_conditions d
+peered_conditions well peered.Pfcp d = IsListOf (λ xs. info.Pfcp xs) opaque_conditions d
 
--- data of a family, and of none, which is bytes
+-- the conditions of data of a family, and of data without a family, which is bytes
 abbrev pub data_conditions : {P : Type 0} → (P → Type 0) → DataFamily → InfoDataOf P → Type 0
 data_conditions well (of.Lower f) d = lower_conditions f d
 data_conditions well (of.Device f) d = device_conditions f d
@@ -98,15 +100,15 @@ data_conditions well (of.Tunnel f) d = tunnel_conditions f d
 data_conditions well (of.Peered f) d = peered_conditions well f d
 data_conditions well of.Raw d = Labelled (λ bytes. info.Other bytes) IsBytes d
 
--- port data of a family, and of none
+-- the conditions of port data of a family, and of port data without a family, which is bytes
 abbrev pub port_data_conditions : PortFamily → InfoPortData → Type 0
-port_data_conditions port_of.Bond d = IsListOf (λ xs. port.BondPort xs) rowless_conditions d
-port_data_conditions port_of.Bridge d = IsListOf (λ xs. port.BridgePort xs) rowless_conditions d
+port_data_conditions port_of.Bond d = IsListOf (λ xs. port.BondPort xs) opaque_conditions d
+port_data_conditions port_of.Bridge d = IsListOf (λ xs. port.BridgePort xs) opaque_conditions d
 port_data_conditions port_of.Vrf d = IsListOf (λ xs. port.VrfPort xs) vrf_conditions d
-port_data_conditions port_of.Team d = IsListOf (λ xs. port.TeamPort xs) rowless_conditions d
+port_data_conditions port_of.Team d = IsListOf (λ xs. port.TeamPort xs) opaque_conditions d
 port_data_conditions port_of.Raw d = Labelled (λ bytes. port.Other bytes) IsBytes d
 
--- ---- data is well formed exactly where it is as these conditions say
+-- ---- a value of a payload is well formed if and only if it meets these conditions
 
 abbrev pub IsStated : {X : Type 0} → Payload X → (X → Type 0) → Type 0
 IsStated {X = X} payload conditions = (d : X) → payload.well d ↔ conditions d

@@ -1,21 +1,29 @@
--- Data of links: what a payload means under a kind.
+-- Data of links: what a payload means under the kind of the link.
+use Rattle.std.specs.Prelude.{ℕ, Option, None, Some}
+use Rattle.std.specs.Option.{option_map}
 use Rattle.linkinfo_numbers.specs.declared.tags.KindTag.{KindTag}
 use Rattle.linkinfo_numbers.specs.declared.tags.KindTag.TheVariants as tag
 use Rattle.linkinfo_data.specs.declared.data.DataFamily.{DataFamily}
 use Rattle.linkinfo_data.specs.declared.data.DataFamily.TheVariants as of
 use Rattle.linkinfo_data.specs.declared.devices.DeviceFamily.TheVariants as device
+use Rattle.linkinfo_data.specs.declared.devices.DeviceFamily.{DeviceFamily}
 use Rattle.linkinfo_data.specs.declared.lower.LowerFamily.TheVariants as lower
 use Rattle.linkinfo_data.specs.declared.peers.PeeredFamily.TheVariants as peered
 use Rattle.linkinfo_data.specs.declared.tunnels.TunnelFamily.TheVariants as tunnel
 use Rattle.linkinfo_data.specs.declared.info_data.InfoDataOf.{InfoDataOf}
 use Rattle.linkinfo_data.specs.declared.info_data.InfoDataOf.TheVariants as info
-use Rattle.linkinfo_data.specs.DeviceData.{devices_data_of, devices_listed}
+use Rattle.linkinfo_data.specs.DeviceData.{
+  devices_data_of,
+  devices_listed,
+  devices_nest,
+  devices_nested_in,
+}
 use Rattle.linkinfo_data.specs.Families.{Families}
-use Rattle.linkinfo_data.specs.Listed.{KeepsListing}
-use Rattle.linkinfo_data.specs.LowerData.{lower_data_of, lower_listed}
+use Rattle.linkinfo_data.specs.Listed.{IsNested, KeepsListing}
+use Rattle.linkinfo_data.specs.LowerData.{lower_data_of, lower_listed, lower_nest}
 use Rattle.linkinfo_data.specs.Payloads.{Payload, as_bytes}
-use Rattle.linkinfo_data.specs.PeerData.{peers_data_of, peers_listed}
-use Rattle.linkinfo_data.specs.TunnelData.{tunnels_data_of, tunnels_listed}
+use Rattle.linkinfo_data.specs.PeerData.{peers_data_of, peers_listed, peers_nest}
+use Rattle.linkinfo_data.specs.TunnelData.{tunnels_data_of, tunnels_listed, tunnels_nest}
 
 -- the family of a kind's data
 abbrev pub family_of : KindTag → DataFamily
@@ -27,8 +35,8 @@ family_of tag.Vxlan = of.Tunnel tunnel.Vxlan
 family_of tag.Bond = of.Lower lower.Bond
 family_of tag.IpVlan = of.Device device.IpVlan
 family_of tag.IpVtap = of.Device device.IpVtap
-family_of tag.MacVlan = of.Device device.MacVlan
-family_of tag.MacVtap = of.Device device.MacVtap
+family_of tag.MacVlan = of.Device (device.MacVlan 0)
+family_of tag.MacVtap = of.Device (device.MacVtap 0)
 family_of tag.GreTap = of.Tunnel tunnel.GreTap
 family_of tag.GreTap6 = of.Tunnel tunnel.GreTap6
 family_of tag.IpIp = of.Tunnel (tunnel.IpTunnel tag.IpIp)
@@ -68,7 +76,7 @@ data_of families (of.Tunnel f) = tunnels_data_of f
 data_of families (of.Peered f) = peers_data_of families f
 data_of families of.Raw = as_bytes (λ bytes. info.Other bytes)
 
--- a list is accepted, and equivalent to another, attribute by attribute
+-- a list is accepted, and is equivalent to another, attribute by attribute
 pub data_listed : {P : Type 0} (families : Families P) (f : DataFamily) →
     KeepsListing (data_of families f)
 data_listed families (of.Lower f) = lower_listed _ f
@@ -76,3 +84,26 @@ data_listed families (of.Device f) = devices_listed _ f
 data_listed families (of.Tunnel f) = tunnels_listed _ f
 data_listed families (of.Peered f) = peers_listed families f
 data_listed families of.Raw = tt {0}
+
+-- the attributes that hold lists, and the family of these lists
+abbrev pub as_device : ℕ × DeviceFamily → ℕ × DataFamily
+as_device nest = (nest.0, of.Device nest.1)
+
+abbrev pub data_nested_in : DataFamily → Option (ℕ × DataFamily)
+data_nested_in (of.Device f) = option_map as_device (devices_nested_in f)
+data_nested_in _ = None
+
+device_nests : {P : Type 0} (families : Families P) (f : DeviceFamily)
+    (nest : Option (ℕ × DeviceFamily)) →
+    IsNested (devices_data_of {P = P}) f nest →
+    IsNested (data_of families) (of.Device f) (option_map as_device nest)
+device_nests families f None law = law
+device_nests families f (Some nest) law = law
+
+pub data_nest : {P : Type 0} (families : Families P) (f : DataFamily) →
+    IsNested (data_of families) f (data_nested_in f)
+data_nest families (of.Lower f) = lower_nest _ f
+data_nest families (of.Device f) = device_nests families f (devices_nested_in f) (devices_nest _ f)
+data_nest families (of.Tunnel f) = tunnels_nest _ f
+data_nest families (of.Peered f) = peers_nest families f
+data_nest families of.Raw = tt {0}

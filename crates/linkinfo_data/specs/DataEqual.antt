@@ -1,4 +1,4 @@
--- When two data are equal, from when two peers are.
+-- When two values of data are equal, given when two peers are.
 use denote.Param.{param}
 use denote.RattleType.{RattleType}
 use mir.Syntax.{Dict}
@@ -11,6 +11,9 @@ use Rattle.linkinfo_data.specs.contracts.info_data.InfoDataOfExactEq.TheImpl as 
 use Rattle.linkinfo_data.specs.contracts.info_data.InfoDataOfExactEq.TheImpl.Laws as laws
 use Rattle.linkinfo_data.specs.contracts.info_data.InfoDataOfPartialEq.TheImpl as same
 
-pub data_decides : {peer : RattleType} {E : Exact peer.Denot} {D : Dict} {S : Equal peer.Denot} {F : Dict} → exact.All peer E D S F → equal.All peer S F →
-    exact.exact-law (it.the_row (param 0 peer)) (law.ghosts peer E D S F) (law.dict peer E D S F) (same.ghosts peer S F) (same.dict peer S F)
-data_decides {peer = peer} {E = E} {D = D} {S = S} {F = F} p q = laws.exact-law peer E D S F (record { exact = p.exact }) (record { laws = q.laws })
+pub data_decides : {peer : RattleType} {E : Exact peer.Denot} {D : Dict} {S : Equal peer.Denot}
+    {F : Dict} → exact.All peer E D S F → equal.All peer S F →
+    exact.exact-law (it.the_row (param 0 peer)) (law.ghosts peer E D S F) (law.dict peer E D S F)
+    (same.ghosts peer S F) (same.dict peer S F)
+data_decides {peer = peer} {E = E} {D = D} {S = S} {F = F} p q =
+    laws.exact-law peer E D S F (record { exact = p.exact }) (record { laws = q.laws })

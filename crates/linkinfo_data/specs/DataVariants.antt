@@ -1,4 +1,5 @@
--- The `==` of data decides equality, where the `==` of what each variant holds does. What decides it for peers says which peers they are.
+-- The `==` of data decides equality if the `==` of the contents of each variant does. The equality
+-- of peers is given with their type.
 use denote.Enum.Compared.{by, Each}
 use denote.RattleType.{RattleType}
 use mir.Syntax.{Dict}
@@ -11,7 +12,11 @@ use Rattle.nla_frame.specs.contracts.exact_eq.ExactEq.TheBound as exact
 use Rattle.linkinfo_data.specs.contracts.info_data.InfoDataOf.{enum}
 use Rattle.linkinfo_data.specs.declared.info_data.InfoDataOf.{InfoDataOf}
 
-pub by_variants : {peer : RattleType} {E : Exact peer.Denot} {D : Dict} {S : Equal peer.Denot} {F : Dict} → exact.All peer E D S F →
-    (tests : Each Bool (enum peer).parts) → EachDecides (enum peer).parts tests → (x y : InfoDataOf peer.Denot) →
-    Decides (by false false (enum peer).parts tests ((enum peer).as_values x) ((enum peer).as_values y)) (x ≡ y)
+pub by_variants : {peer : RattleType} {E : Exact peer.Denot} {D : Dict} {S : Equal peer.Denot}
+    {F : Dict} → exact.All peer E D S F →
+    (tests : Each Bool (enum peer).parts) → EachDecides (enum peer).parts tests →
+    (x y : InfoDataOf peer.Denot) →
+    Decides
+    (by false false (enum peer).parts tests ((enum peer).as_values x) ((enum peer).as_values y))
+    (x ≡ y)
 by_variants {peer = peer} decided tests each x y = derived_decides (enum peer) tests each x y

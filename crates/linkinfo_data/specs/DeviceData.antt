@@ -1,17 +1,41 @@
--- Data of ipvlan, ipvtap, macvlan, macvtap, vrf, ipoib, xfrm, macsec and rmnet links: what payloads mean by each family, and the variant that holds it.
+-- Data of ipvlan, ipvtap, macvlan, macvtap, vrf, ipoib, xfrm, macsec and rmnet links: what payloads
+-- mean under each family, and the variant that holds it.
+use Rattle.std.specs.Prelude.{ℕ, ◌+◌, ◌-◌, if◌then◌else◌, nat_lt, Option, None, Some, refl}
+use Rattle.nla_frame.specs.declared.error.Family.TheVariants as family
+use Rattle.linkinfo_devices.specs.Macvlan.{mac_vlan_attribute, mac_vlan_plain_rows}
+use Rattle.linkinfo_devices.specs.Macvtap.{mac_vtap_attribute, mac_vtap_plain_rows}
+use Rattle.linkinfo_devices.specs.Nested.{list_alike, list_means}
+use Rattle.linkinfo_devices.specs.declared.macvlan.InfoMacVlan as macvlan
+use Rattle.linkinfo_devices.specs.declared.macvtap.InfoMacVtap as macvtap
 use Rattle.linkinfo_data.specs.declared.info_data.InfoDataOf.{InfoDataOf}
 use Rattle.linkinfo_data.specs.declared.info_data.InfoDataOf.TheVariants as info
 use Rattle.linkinfo_data.specs.declared.devices.DeviceFamily.{DeviceFamily}
 use Rattle.linkinfo_data.specs.declared.devices.DeviceFamily.TheVariants as of
-use Rattle.linkinfo_data.specs.Listed.{KeepsListing, as_list_is_listed}
-use Rattle.linkinfo_data.specs.Payloads.{Payload, as_list}
+use Rattle.linkinfo_data.specs.Listed.{
+  IsNested,
+  KeepsListing,
+  as_list_is_listed,
+  as_lists_is_listed,
+}
+use Rattle.linkinfo_data.specs.Listed.{nested_in}
+use Rattle.linkinfo_data.specs.Listing.{Lists, lists_inside}
+use Rattle.linkinfo_data.specs.Payloads.{Payload, as_list, as_lists}
 use Rattle.linkinfo_data.specs.Plain.{plain}
+
+-- the nested lists in data of macvlan and macvtap links, at most 128 levels of them
+abbrev pub mac_vlan_lists : ℕ → Lists
+mac_vlan_lists around = lists_inside plain.mac_vlan (128 - around) around
+
+abbrev pub mac_vtap_lists : ℕ → Lists
+mac_vtap_lists around = lists_inside plain.mac_vtap (128 - around) around
 
 abbrev pub devices_data_of : {P : Type 0} → DeviceFamily → Payload (InfoDataOf P)
 devices_data_of of.IpVlan = as_list plain.ip_vlan (λ xs. info.IpVlan xs)
 devices_data_of of.IpVtap = as_list plain.ip_vtap (λ xs. info.IpVtap xs)
-devices_data_of of.MacVlan = as_list plain.mac_vlan (λ xs. info.MacVlan xs)
-devices_data_of of.MacVtap = as_list plain.mac_vtap (λ xs. info.MacVtap xs)
+devices_data_of (of.MacVlan around) =
+    as_lists (plain.mac_vlan around) (mac_vlan_lists around) (λ xs. info.MacVlan xs)
+devices_data_of (of.MacVtap around) =
+    as_lists (plain.mac_vtap around) (mac_vtap_lists around) (λ xs. info.MacVtap xs)
 devices_data_of of.Vrf = as_list plain.vrf (λ xs. info.Vrf xs)
 devices_data_of of.Ipoib = as_list plain.ipoib (λ xs. info.Ipoib xs)
 devices_data_of of.Xfrm = as_list plain.xfrm (λ xs. info.Xfrm xs)
@@ -21,10 +45,38 @@ devices_data_of of.RmNet = as_list plain.rm_net (λ xs. info.RmNet xs)
 pub devices_listed : (P : Type 0) (f : DeviceFamily) → KeepsListing (devices_data_of {P = P} f)
 devices_listed P of.IpVlan = as_list_is_listed plain.ip_vlan (λ xs. info.IpVlan xs)
 devices_listed P of.IpVtap = as_list_is_listed plain.ip_vtap (λ xs. info.IpVtap xs)
-devices_listed P of.MacVlan = as_list_is_listed plain.mac_vlan (λ xs. info.MacVlan xs)
-devices_listed P of.MacVtap = as_list_is_listed plain.mac_vtap (λ xs. info.MacVtap xs)
+devices_listed P (of.MacVlan around) =
+    as_lists_is_listed (plain.mac_vlan around) (mac_vlan_lists around) (λ xs. info.MacVlan xs)
+devices_listed P (of.MacVtap around) =
+    as_lists_is_listed (plain.mac_vtap around) (mac_vtap_lists around) (λ xs. info.MacVtap xs)
 devices_listed P of.Vrf = as_list_is_listed plain.vrf (λ xs. info.Vrf xs)
 devices_listed P of.Ipoib = as_list_is_listed plain.ipoib (λ xs. info.Ipoib xs)
 devices_listed P of.Xfrm = as_list_is_listed plain.xfrm (λ xs. info.Xfrm xs)
 devices_listed P of.MacSec = as_list_is_listed plain.mac_sec (λ xs. info.MacSec xs)
 devices_listed P of.RmNet = as_list_is_listed plain.rm_net (λ xs. info.RmNet xs)
+
+-- attributes of type 5 of macvlan and macvtap links hold lists if fewer than 128 are around them
+abbrev pub devices_nested_in : DeviceFamily → Option (ℕ × DeviceFamily)
+devices_nested_in (of.MacVlan around) = if nat_lt around 128 then Some (5, of.MacVlan (around + 1))
+    else None
+devices_nested_in (of.MacVtap around) = if nat_lt around 128 then Some (5, of.MacVtap (around + 1))
+    else None
+devices_nested_in _ = None
+
+pub devices_nest : (P : Type 0) (f : DeviceFamily) →
+    IsNested (devices_data_of {P = P}) f (devices_nested_in f)
+devices_nest P (of.MacVlan around) =
+    nested_in plain.mac_vlan (λ xs. macvlan.MacAddrData xs) (λ xs. info.MacVlan xs) (λ c d. refl)
+    (λ c a. list_means family.MacVlan (λ d. macvlan.Other d) mac_vlan_attribute
+    (λ xs. macvlan.MacAddrData xs) mac_vlan_plain_rows c a)
+    (λ c a b. list_alike family.MacVlan (λ d. macvlan.Other d) mac_vlan_attribute
+    (λ xs. macvlan.MacAddrData xs) mac_vlan_plain_rows c a b)
+    (devices_data_of {P = P}) (λ c. of.MacVlan c) (λ c. refl) around (nat_lt around 128) refl
+devices_nest P (of.MacVtap around) =
+    nested_in plain.mac_vtap (λ xs. macvtap.MacAddrData xs) (λ xs. info.MacVtap xs) (λ c d. refl)
+    (λ c a. list_means family.MacVtap (λ d. macvtap.Other d) mac_vtap_attribute
+    (λ xs. macvtap.MacAddrData xs) mac_vtap_plain_rows c a)
+    (λ c a b. list_alike family.MacVtap (λ d. macvtap.Other d) mac_vtap_attribute
+    (λ xs. macvtap.MacAddrData xs) mac_vtap_plain_rows c a b)
+    (devices_data_of {P = P}) (λ c. of.MacVtap c) (λ c. refl) around (nat_lt around 128) refl
+devices_nest P _ = refl

@@ -1,10 +1,10 @@
--- What the families of data and of port data say of their attributes.
+-- What contracts say of the attributes of each family of data and of port data.
 use Rattle.linkinfo_table.specs.Members.{Members}
 use Rattle.linkinfo_peers.specs.declared.veth.InfoVethOf.{InfoVethOf}
 use Rattle.linkinfo_peers.specs.declared.netkit.InfoNetkitOf.{InfoNetkitOf}
 use Rattle.linkinfo_peers.specs.declared.vxcan.InfoVxcanOf.{InfoVxcanOf}
 
--- those with a peer of a type
+-- what they say of those of each family with a peer of type `P`
 pub record Families (P : Type 0) : Type 1 where
   pub veth : Members (InfoVethOf P)
   pub netkit : Members (InfoNetkitOf P)

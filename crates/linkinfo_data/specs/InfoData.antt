@@ -1,4 +1,5 @@
--- The canonical payload of data. What an attribute of ipip, sit and ip6tnl is written as does not depend on the kind, so any tag stands for all three.
+-- The canonical payload of data. The encoding of an attribute of ipip, sit and ip6tnl does not
+-- depend on the kind, so the tag of any of the three is used for all.
 use Rattle.std.specs.Prelude.{ℕ, List, map}
 use Rattle.nla_frame.specs.Attribute.{Attribute, canonical_string, list_string}
 use Rattle.linkinfo_numbers.specs.declared.tags.KindTag.TheVariants as tag
@@ -7,7 +8,7 @@ use Rattle.linkinfo_data.specs.declared.info_data.InfoDataOf.TheVariants as info
 use Rattle.linkinfo_data.specs.Families.{Families}
 use Rattle.linkinfo_data.specs.Plain.{plain}
 
--- Opaque, so that what is proved of data does not go over the rows of all families.
+-- Opaque, so that proofs about data do not unfold the rows of all families.
 unfoldable pub data_payload : {P : Type 0} → Families P → InfoDataOf P → List ℕ
 data_payload families (info.Bridge xs) = list_string (map plain.bridge.attribute xs)
 data_payload families (info.Tun xs) = list_string (map plain.tun.attribute xs)
@@ -17,8 +18,8 @@ data_payload families (info.Vxlan xs) = list_string (map plain.vxlan.attribute x
 data_payload families (info.Bond xs) = list_string (map plain.bond.attribute xs)
 data_payload families (info.IpVlan xs) = list_string (map plain.ip_vlan.attribute xs)
 data_payload families (info.IpVtap xs) = list_string (map plain.ip_vtap.attribute xs)
-data_payload families (info.MacVlan xs) = list_string (map plain.mac_vlan.attribute xs)
-data_payload families (info.MacVtap xs) = list_string (map plain.mac_vtap.attribute xs)
+data_payload families (info.MacVlan xs) = list_string (map (plain.mac_vlan 0).attribute xs)
+data_payload families (info.MacVtap xs) = list_string (map (plain.mac_vtap 0).attribute xs)
 data_payload families (info.GreTap xs) = list_string (map plain.gre.attribute xs)
 data_payload families (info.GreTap6 xs) = list_string (map plain.gre6.attribute xs)
 data_payload families (info.IpTunnel xs) = list_string (map (plain.ip_tunnel tag.IpIp).attribute xs)

@@ -1,4 +1,4 @@
--- Data of each family, and port data, is lawful.
+-- Data and port data of each family are lawful.
 use Rattle.linkinfo_data.specs.declared.data.DataFamily.{DataFamily}
 use Rattle.linkinfo_data.specs.declared.port_data.PortFamily.{PortFamily}
 use Rattle.linkinfo_data.specs.Data.{data_of}

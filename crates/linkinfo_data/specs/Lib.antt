@@ -4,12 +4,14 @@ pub mod Data
 pub mod DataEqual
 pub mod DataVariants
 pub mod DeviceData
+pub mod Difference
 pub mod Equal
 pub mod Families
 pub mod InfoData
 pub mod Lawful
 pub mod Listed
 pub mod Listing
+pub mod Located
 pub mod LowerData
 pub mod Names
 pub mod Payloads

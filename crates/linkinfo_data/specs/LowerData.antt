@@ -1,9 +1,11 @@
--- Data of bridge, vlan, bond, hsr, can and dsa links: what payloads mean by each family, and the variant that holds it.
+-- Data of bridge, vlan, bond, hsr, can and dsa links: what payloads mean under each family, and the
+-- variant that holds it.
+use Rattle.std.specs.Prelude.{None, refl}
 use Rattle.linkinfo_data.specs.declared.info_data.InfoDataOf.{InfoDataOf}
 use Rattle.linkinfo_data.specs.declared.info_data.InfoDataOf.TheVariants as info
 use Rattle.linkinfo_data.specs.declared.lower.LowerFamily.{LowerFamily}
 use Rattle.linkinfo_data.specs.declared.lower.LowerFamily.TheVariants as of
-use Rattle.linkinfo_data.specs.Listed.{KeepsListing, as_list_is_listed}
+use Rattle.linkinfo_data.specs.Listed.{IsNested, KeepsListing, as_list_is_listed}
 use Rattle.linkinfo_data.specs.Payloads.{Payload, as_list}
 use Rattle.linkinfo_data.specs.Plain.{plain}
 
@@ -22,3 +24,8 @@ lower_listed P of.Bond = as_list_is_listed plain.bond (λ xs. info.Bond xs)
 lower_listed P of.Hsr = as_list_is_listed plain.hsr (λ xs. info.Hsr xs)
 lower_listed P of.Can = as_list_is_listed plain.can (λ xs. info.Can xs)
 lower_listed P of.Dsa = as_list_is_listed plain.dsa (λ xs. info.Dsa xs)
+
+-- no attribute holds a list
+pub lower_nest : (P : Type 0) (f : LowerFamily) → IsNested (lower_data_of {P = P}) f None
+lower_nest P of.Bridge = refl
+lower_nest P _ = refl

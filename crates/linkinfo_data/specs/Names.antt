@@ -1,11 +1,11 @@
--- The family that each data is of, by its type: the name that the errors of its attributes bear.
+-- The name of the family of each sort of data: the name in the errors of its attributes.
 use Rattle.std.specs.Prelude.{◌≡◌, List, ℕ, Option, Some, None, Result, Ok, Err}
 use Rattle.std.proofs.Common.{subst}
-use Rattle.nla_frame.specs.Pieces.{pieces}
+use Rattle.nla_frame.specs.NlaItems.{nla_items}
 use Rattle.nla_frame.specs.declared.error.DecodeError.{DecodeError}
 use Rattle.nla_frame.specs.declared.error.Family.{Family}
 use Rattle.nla_frame.specs.declared.error.Family.TheVariants as family
-use Rattle.linkinfo_table.specs.FaultNames.{EachNames}
+use Rattle.linkinfo_table.specs.ErrorNames.{EachNames}
 use Rattle.linkinfo_table.specs.Lists.{◌>>=◌, first_meaning, values}
 use Rattle.linkinfo_table.specs.Members.{Members}
 use Rattle.linkinfo_data.specs.Data.{data_of}
@@ -36,8 +36,8 @@ lower_name lower.Dsa = family.Dsa
 abbrev pub device_name : DeviceFamily → Family
 device_name device.IpVlan = family.IpVlan
 device_name device.IpVtap = family.IpVtap
-device_name device.MacVlan = family.MacVlan
-device_name device.MacVtap = family.MacVtap
+device_name (device.MacVlan lists) = family.MacVlan
+device_name (device.MacVtap lists) = family.MacVtap
 device_name device.Vrf = family.Vrf
 device_name device.Ipoib = family.Ipoib
 device_name device.Xfrm = family.Xfrm
@@ -83,17 +83,17 @@ port_data_name port_data.Vrf = Some family.Vrf
 port_data_name port_data.Team = Some family.TeamPort
 port_data_name port_data.Raw = None
 
--- ---- an error in a payload is that of a header that is not accepted, or names the family
+-- ---- an error in a payload is (Frame, 0, Header), or names the family
 
-abbrev pub FaultsName : {X : Type 0} → Family → Payload X → Type 0
-FaultsName name payload = (p : List ℕ) → EachNames name (payload.means p)
+abbrev pub ErrorsName : {X : Type 0} → Family → Payload X → Type 0
+ErrorsName name payload = (p : List ℕ) → EachNames name (payload.means p)
 
--- what data of each family, and port data, owes to the tables above
+-- errors in data and port data of each family name it, by the tables above
 pub record AreNamed {P : Type 0} (families : Families P) : Type 0 where
   pub link : (f : DataFamily) (name : Family) → data_name f ≡ Some name →
-      FaultsName name (data_of families f)
+      ErrorsName name (data_of families f)
   pub port : (f : PortFamily) (name : Family) → port_data_name f ≡ Some name →
-      FaultsName name (port_data_of f)
+      ErrorsName name (port_data_of f)
 
 labelled_names : {A X : Type 0} (name : Family) (label : A → X) (r : Result A DecodeError) →
     EachNames name r →
@@ -101,23 +101,23 @@ labelled_names : {A X : Type 0} (name : Family) (label : A → X) (r : Result A 
 labelled_names name label (Ok a) h e k = absurd cc
 labelled_names name label (Err d) h e k = h e cc
 
-pub list_faults_name : {A X : Type 0} (name : Family) (m : Members A) (label : List A → X) →
-    ((p : List ℕ) → EachNames name (values m.meaning (pieces p))) →
-    FaultsName name (as_list m label)
-list_faults_name name m label h p = labelled_names name label (values m.meaning (pieces p)) (h p)
+pub list_errors_name : {A X : Type 0} (name : Family) (m : Members A) (label : List A → X) →
+    ((p : List ℕ) → EachNames name (values m.meaning (nla_items p))) →
+    ErrorsName name (as_list m label)
+list_errors_name name m label h p = labelled_names name label (values m.meaning (nla_items p)) (h p)
 
-pub first_faults_name : {A X : Type 0} (name : Family) (m : Members A) (label : A → X) →
-    ((p : List ℕ) → EachNames name (first_meaning m.meaning (pieces p))) →
-    FaultsName name (as_first m label)
-first_faults_name name m label h p =
-    labelled_names name label (first_meaning m.meaning (pieces p)) (h p)
+pub first_errors_name : {A X : Type 0} (name : Family) (m : Members A) (label : A → X) →
+    ((p : List ℕ) → EachNames name (first_meaning m.meaning (nla_items p))) →
+    ErrorsName name (as_first m label)
+first_errors_name name m label h p =
+    labelled_names name label (first_meaning m.meaning (nla_items p)) (h p)
 
--- the family that is named is the one of the table
+-- the family that is named is that of the table
 pub under_name : {X : Type 0} (payload : Payload X) (a b : Family) → Some a ≡ Some b →
-    FaultsName a payload → FaultsName b payload
+    ErrorsName a payload → ErrorsName b payload
 under_name payload a b e h = let same : a ≡ b = cc in
-    subst (λ (z : Family). FaultsName z payload) same h
+    subst (λ (z : Family). ErrorsName z payload) same h
 
--- where the table names none
+-- the case where the table names none
 pub no_name : (name : Family) → (let none : Option Family = None in none) ≡ Some name → ⊥
 no_name name e = absurd cc

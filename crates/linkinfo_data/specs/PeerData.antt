@@ -1,10 +1,12 @@
--- Data of links with a peer, and of tun, wireguard, batadv, wwan and pfcp links: what payloads mean by each family, and the variant that holds it.
+-- Data of veth, vxcan, netkit, tun, wireguard, batadv, wwan and pfcp links: what payloads mean
+-- under each family, and the variant that holds it.
+use Rattle.std.specs.Prelude.{None, refl}
 use Rattle.linkinfo_data.specs.declared.info_data.InfoDataOf.{InfoDataOf}
 use Rattle.linkinfo_data.specs.declared.info_data.InfoDataOf.TheVariants as info
 use Rattle.linkinfo_data.specs.declared.peers.PeeredFamily.{PeeredFamily}
 use Rattle.linkinfo_data.specs.declared.peers.PeeredFamily.TheVariants as of
 use Rattle.linkinfo_data.specs.Families.{Families}
-use Rattle.linkinfo_data.specs.Listed.{KeepsListing, as_list_is_listed}
+use Rattle.linkinfo_data.specs.Listed.{IsNested, KeepsListing, as_list_is_listed}
 use Rattle.linkinfo_data.specs.Payloads.{Payload, as_list, as_first}
 use Rattle.linkinfo_data.specs.Plain.{plain}
 
@@ -28,3 +30,10 @@ peers_listed families of.Vxcan = tt {0}
 peers_listed families of.BatAdv = as_list_is_listed plain.bat_adv (λ xs. info.BatAdv xs)
 peers_listed families of.Wwan = as_list_is_listed plain.wwan (λ xs. info.Wwan xs)
 peers_listed families of.Pfcp = as_list_is_listed plain.pfcp (λ xs. info.Pfcp xs)
+
+-- no attribute holds a list
+pub peers_nest : {P : Type 0} (families : Families P) (f : PeeredFamily) →
+    IsNested (peers_data_of families) f None
+peers_nest families of.Veth = tt {0}
+peers_nest families of.Vxcan = tt {0}
+peers_nest families _ = refl

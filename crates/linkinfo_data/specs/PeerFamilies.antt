@@ -1,4 +1,5 @@
--- The families of data with peers of a type, as proofs and clauses on peers of bytes cite them.
+-- The families of data with a type of peer, as clauses and proofs name them for peers kept as
+-- bytes.
 use Rattle.std.specs.Prelude.{true}
 use denote.RattleType.{RattleType}
 use Rattle.linkinfo_table.specs.declared.peer.LinkPeer.{Ghosts}
@@ -7,4 +8,5 @@ use Rattle.linkinfo_data.specs.contracts.families.AnyDataFamilies.TheImpl.{ghost
 
 abbrev pub families_of : (P : RattleType) → Ghosts P.Denot → Families P.Denot
 families_of P peer =
-    (ghosts P peer no_dict (record {}) no_dict (record { eq = λ _ _. true }) no_dict (record {}) no_dict no_dict).families
+    (ghosts P peer no_dict (record {}) no_dict (record { eq = λ _ _. true }) no_dict (record {})
+    no_dict no_dict).families

@@ -1,13 +1,14 @@
--- Data of ports: what a payload means under a port kind.
+-- Data of ports: what a payload means under the port kind.
 use Rattle.std.specs.Prelude.{ℕ, List, map}
 use Rattle.nla_frame.specs.Attribute.{Attribute, list_string}
 use Rattle.linkinfo_numbers.specs.declared.tags.PortTag.{PortTag}
 use Rattle.linkinfo_numbers.specs.declared.tags.PortTag.TheVariants as tag
+use Rattle.std.specs.Prelude.{None, refl}
 use Rattle.linkinfo_data.specs.declared.port_data.InfoPortData.{InfoPortData}
 use Rattle.linkinfo_data.specs.declared.port_data.InfoPortData.TheVariants as info
 use Rattle.linkinfo_data.specs.declared.port_data.PortFamily.{PortFamily}
 use Rattle.linkinfo_data.specs.declared.port_data.PortFamily.TheVariants as of
-use Rattle.linkinfo_data.specs.Listed.{KeepsListing, as_list_is_listed}
+use Rattle.linkinfo_data.specs.Listed.{IsNested, KeepsListing, as_list_is_listed}
 use Rattle.linkinfo_data.specs.Payloads.{Payload, as_list, as_bytes}
 use Rattle.linkinfo_data.specs.Plain.{plain}
 
@@ -45,3 +46,8 @@ port_listed of.Bridge = as_list_is_listed plain.bridge_port (λ xs. info.BridgeP
 port_listed of.Vrf = as_list_is_listed plain.vrf_port (λ xs. info.VrfPort xs)
 port_listed of.Team = as_list_is_listed plain.team_port (λ xs. info.TeamPort xs)
 port_listed of.Raw = tt {0}
+
+-- no attribute holds a list
+pub port_nest : (f : PortFamily) → IsNested port_data_of f None
+port_nest of.Raw = tt {0}
+port_nest _ = refl

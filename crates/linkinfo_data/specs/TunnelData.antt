@@ -1,9 +1,10 @@
--- Data of tunnels: what payloads mean by each family, and the variant that holds it.
+-- Data of tunnels: what payloads mean under each family, and the variant that holds it.
+use Rattle.std.specs.Prelude.{None, refl}
 use Rattle.linkinfo_data.specs.declared.info_data.InfoDataOf.{InfoDataOf}
 use Rattle.linkinfo_data.specs.declared.info_data.InfoDataOf.TheVariants as info
 use Rattle.linkinfo_data.specs.declared.tunnels.TunnelFamily.{TunnelFamily}
 use Rattle.linkinfo_data.specs.declared.tunnels.TunnelFamily.TheVariants as of
-use Rattle.linkinfo_data.specs.Listed.{KeepsListing, as_list_is_listed}
+use Rattle.linkinfo_data.specs.Listed.{IsNested, KeepsListing, as_list_is_listed}
 use Rattle.linkinfo_data.specs.Payloads.{Payload, as_list}
 use Rattle.linkinfo_data.specs.Plain.{plain}
 
@@ -26,7 +27,8 @@ pub tunnels_listed : (P : Type 0) (f : TunnelFamily) → KeepsListing (tunnels_d
 tunnels_listed P of.Vxlan = as_list_is_listed plain.vxlan (λ xs. info.Vxlan xs)
 tunnels_listed P of.GreTap = as_list_is_listed plain.gre (λ xs. info.GreTap xs)
 tunnels_listed P of.GreTap6 = as_list_is_listed plain.gre6 (λ xs. info.GreTap6 xs)
-tunnels_listed P (of.IpTunnel tag) = as_list_is_listed (plain.ip_tunnel tag) (λ xs. info.IpTunnel xs)
+tunnels_listed P (of.IpTunnel tag) =
+    as_list_is_listed (plain.ip_tunnel tag) (λ xs. info.IpTunnel xs)
 tunnels_listed P of.GreTun = as_list_is_listed plain.gre (λ xs. info.GreTun xs)
 tunnels_listed P of.GreTun6 = as_list_is_listed plain.gre6 (λ xs. info.GreTun6 xs)
 tunnels_listed P of.Vti = as_list_is_listed plain.vti (λ xs. info.Vti xs)
@@ -36,3 +38,8 @@ tunnels_listed P of.Amt = as_list_is_listed plain.amt (λ xs. info.Amt xs)
 tunnels_listed P of.BareUdp = as_list_is_listed plain.bare_udp (λ xs. info.BareUdp xs)
 tunnels_listed P of.ErSpan = as_list_is_listed plain.gre (λ xs. info.ErSpan xs)
 tunnels_listed P of.Ip6ErSpan = as_list_is_listed plain.gre6 (λ xs. info.Ip6ErSpan xs)
+
+-- no attribute holds a list
+pub tunnels_nest : (P : Type 0) (f : TunnelFamily) → IsNested (tunnels_data_of {P = P}) f None
+tunnels_nest P (of.IpTunnel tag) = refl
+tunnels_nest P _ = refl

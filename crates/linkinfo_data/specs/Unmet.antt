@@ -1,5 +1,21 @@
 -- Which attribute of a list another list does not meet.
-use Rattle.std.specs.Prelude.{◌==◌, ◌&&◌, ◌||◌, Bool, false, not, List, Option, None, Some}
+use Rattle.std.specs.Prelude.{
+  ◌==◌,
+  ◌&&◌,
+  ◌||◌,
+  nat_lt,
+  ℕ,
+  Bool,
+  false,
+  not,
+  if◌then◌else◌,
+  List,
+  [],
+  ◌∷◌,
+  Option,
+  None,
+  Some,
+}
 use Rattle.std.specs.List.{find}
 use Rattle.std.specs.Option.{option_eq, option_map}
 use Rattle.std.specs.Str.{bytes_eq}
@@ -7,7 +23,9 @@ use Rattle.nla_frame.specs.Attribute.{Attribute, masked}
 use Rattle.nla_frame.specs.declared.error.Family.{Family}
 use Rattle.linkinfo_table.specs.Last.{last_of_type, offset_of}
 use Rattle.linkinfo_table.specs.declared.last.PlacedNla.{PlacedNla}
+use Rattle.linkinfo_data.specs.Difference.{first_or}
 use Rattle.linkinfo_data.specs.declared.unmet.Unmet.{Unmet}
+use Rattle.linkinfo_data.specs.declared.unmet.UnmetAt.{UnmetAt}
 
 -- the last attribute of a list with the type of another attribute
 abbrev pub last_like : List PlacedNla → PlacedNla → Option PlacedNla
@@ -44,3 +62,30 @@ abbrev pub list_unmet : Family → (Attribute → Attribute → Bool) → List P
     Option Unmet
 list_unmet family alike have want =
     option_map (unmet_at family have) (find (misses alike have want) want)
+
+-- ---- in parts, by types
+
+-- what of an attribute is not met
+abbrev pub missed : Family → (Attribute → Attribute → Bool) → List PlacedNla → List PlacedNla →
+    PlacedNla → Option Unmet
+missed family alike have want wanted =
+    if misses alike have want wanted then Some (unmet_at family have wanted) else None
+
+-- with the offset of the attribute, where its type passes a test
+abbrev pub told_from : (ℕ → Bool) → (PlacedNla → Option Unmet) → PlacedNla → Option UnmetAt
+told_from of_type unmet p =
+    if of_type (masked p.nla.kind)
+    then option_map (λ u. record { offset = p.offset; unmet = u }) (unmet p)
+    else None
+
+-- the first such attribute of a list
+abbrev pub first_told : (ℕ → Bool) → (PlacedNla → Option Unmet) → List PlacedNla → Option UnmetAt
+first_told of_type unmet [] = None
+first_told of_type unmet (p ∷ more) =
+    first_or (told_from of_type unmet p) (first_told of_type unmet more)
+
+-- the one that is earlier in its list
+abbrev pub earlier : Option UnmetAt → Option UnmetAt → Option UnmetAt
+earlier None other = other
+earlier (Some old) None = Some old
+earlier (Some old) (Some new) = if nat_lt new.offset old.offset then Some new else Some old

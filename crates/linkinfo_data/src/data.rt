@@ -1,7 +1,13 @@
-//! Which family the data of a kind has, and data read, checked and compared by it.
+//! The family of a kind's data, and data parsed, validated, compared and written by family.
 
 ghost use Rattle.std.specs.Prelude.{◌≡◌};
-ghost use Rattle.linkinfo_data.specs.Data.{data_listed, data_of, family_of};
+ghost use Rattle.linkinfo_data.specs.Data.{
+  data_listed,
+  data_nest,
+  data_nested_in,
+  data_of,
+  family_of,
+};
 
 use crate::devices::DeviceFamily;
 use crate::families::DataFamilies;
@@ -12,36 +18,51 @@ use crate::peers::PeeredFamily;
 use crate::tunnels::TunnelFamily;
 use linkinfo_numbers::KindTag;
 use linkinfo_table::LinkPeer;
-use nla_frame::{Bytes, DecodeError, ExactEq, Family, HeaderCount, fitting, put_bytes};
+use nla_frame::{Bytes, DecodeError, ExactEq, Family, HeaderCount, fitting, write_bytes};
 use std::alloc::Global;
 
-/// The family of the attributes in a kind's data.
+/// The family of the attributes in `IFLA_INFO_DATA`, which the kind of the link chooses.
 #[derive(Clone, Copy, Debug, PartialEq, Eq)]
 pub enum DataFamily {
-    /// One that is kept verbatim (`linkinfo_table::lower`).
+    /// An opaque family (`linkinfo_table::lower`), whose attributes are kept verbatim.
     Lower(LowerFamily),
-    /// One of `linkinfo_devices`.
+    /// A family of `linkinfo_devices`.
     Device(DeviceFamily),
-    /// One of `linkinfo_tunnels`.
+    /// A family of `linkinfo_tunnels`.
     Tunnel(TunnelFamily),
-    /// One of `linkinfo_peers`.
+    /// A family of `linkinfo_peers`.
     Peered(PeeredFamily),
-    /// None: the data is bytes.
+    /// No family: the data is kept as bytes.
     Raw,
 }
 
 impl ExactEq for DataFamily {
     ghost use Rattle.nla_frame.specs.Derived.{derived_decides, no_field, one_field};
-    ghost use Rattle.linkinfo_data.specs.contracts.lower.LowerFamilyExactEq.TheImpl.Laws.{exact-law as lower_exact};
-    ghost use Rattle.linkinfo_data.specs.contracts.devices.DeviceFamilyExactEq.TheImpl.Laws.{exact-law as device_exact};
-    ghost use Rattle.linkinfo_data.specs.contracts.tunnels.TunnelFamilyExactEq.TheImpl.Laws.{exact-law as tunnel_exact};
-    ghost use Rattle.linkinfo_data.specs.contracts.peers.PeeredFamilyExactEq.TheImpl.Laws.{exact-law as peered_exact};
+    ghost use Rattle.nla_frame.specs.Pairs.{◌&◌};
+    ghost use Rattle.linkinfo_data.specs.contracts.lower.LowerFamilyExactEq.TheImpl.Laws.{
+      exact-law as lower_exact,
+    };
+    ghost use Rattle.linkinfo_data.specs.contracts.devices.DeviceFamilyExactEq.TheImpl.Laws.{
+      exact-law as device_exact,
+    };
+    ghost use Rattle.linkinfo_data.specs.contracts.tunnels.TunnelFamilyExactEq.TheImpl.Laws.{
+      exact-law as tunnel_exact,
+    };
+    ghost use Rattle.linkinfo_data.specs.contracts.peers.PeeredFamilyExactEq.TheImpl.Laws.{
+      exact-law as peered_exact,
+    };
     ghost use Rattle.linkinfo_data.specs.contracts.data.DataFamily.{enum};
 
-    ghost exact = { derived_decides enum _ (one_field lower_exact, (one_field device_exact, (one_field tunnel_exact, (one_field peered_exact, (no_field, tt))))) };
+    ghost exact = { derived_decides enum _
+        (one_field lower_exact
+        & one_field device_exact
+        & one_field tunnel_exact
+        & one_field peered_exact
+        & no_field
+        & tt) };
 }
 
-/// The family of the data of a kind.
+/// The family of the data of links of a kind, by the kind's tag.
 pub fn family_of(tag: KindTag) -> DataFamily
     ensures { result ≡ family_of tag }
 {
@@ -54,8 +75,8 @@ pub fn family_of(tag: KindTag) -> DataFamily
         KindTag::Bond => DataFamily::Lower(LowerFamily::Bond),
         KindTag::IpVlan => DataFamily::Device(DeviceFamily::IpVlan),
         KindTag::IpVtap => DataFamily::Device(DeviceFamily::IpVtap),
-        KindTag::MacVlan => DataFamily::Device(DeviceFamily::MacVlan),
-        KindTag::MacVtap => DataFamily::Device(DeviceFamily::MacVtap),
+        KindTag::MacVlan => DataFamily::Device(DeviceFamily::MacVlan(0)),
+        KindTag::MacVtap => DataFamily::Device(DeviceFamily::MacVtap(0)),
         KindTag::GreTap => DataFamily::Tunnel(TunnelFamily::GreTap),
         KindTag::GreTap6 => DataFamily::Tunnel(TunnelFamily::GreTap6),
         KindTag::IpIp | KindTag::Ip6Tnl | KindTag::SitTun => DataFamily::Tunnel(
@@ -93,6 +114,10 @@ impl<P: LinkPeer> PayloadFamily<InfoDataOf<P>> for DataFamily {
 
     ghost listed = { data_listed ⟦<P as DataFamilies>⟧.families };
 
+    ghost nested_in = { data_nested_in };
+
+    ghost nests = { data_nest ⟦<P as DataFamilies>⟧.families };
+
     fn listing(self) -> Option<Family> {
         match self {
             DataFamily::Lower(family) => PayloadFamily::<InfoDataOf<P>>::listing(family),
@@ -101,6 +126,14 @@ impl<P: LinkPeer> PayloadFamily<InfoDataOf<P>> for DataFamily {
             DataFamily::Peered(family) => PayloadFamily::<InfoDataOf<P>>::listing(family),
             DataFamily::Raw => None,
         }
+    }
+
+    fn nested(self) -> Option<(u16, Self)> {
+        let DataFamily::Device(family) = self else {
+            return None;
+        };
+        let (kind, inner) = PayloadFamily::<InfoDataOf<P>>::nested(family)?;
+        Some((kind, DataFamily::Device(inner)))
     }
 
     fn read(
@@ -165,21 +198,21 @@ impl<P: LinkPeer> PayloadFamily<InfoDataOf<P>> for DataFamily {
         }
     }
 
-    fn put_canonical(self, payload: &[u8], buffer: &mut [u8]) -> usize {
+    fn write_canonical(self, payload: &[u8], buffer: &mut [u8]) -> usize {
         match self {
-            DataFamily::Lower(family) => PayloadFamily::<InfoDataOf<P>>::put_canonical(
+            DataFamily::Lower(family) => PayloadFamily::<InfoDataOf<P>>::write_canonical(
                 family, payload, buffer,
             ),
-            DataFamily::Device(family) => PayloadFamily::<InfoDataOf<P>>::put_canonical(
+            DataFamily::Device(family) => PayloadFamily::<InfoDataOf<P>>::write_canonical(
                 family, payload, buffer,
             ),
-            DataFamily::Tunnel(family) => PayloadFamily::<InfoDataOf<P>>::put_canonical(
+            DataFamily::Tunnel(family) => PayloadFamily::<InfoDataOf<P>>::write_canonical(
                 family, payload, buffer,
             ),
-            DataFamily::Peered(family) => PayloadFamily::<InfoDataOf<P>>::put_canonical(
+            DataFamily::Peered(family) => PayloadFamily::<InfoDataOf<P>>::write_canonical(
                 family, payload, buffer,
             ),
-            DataFamily::Raw => put_bytes(payload, buffer),
+            DataFamily::Raw => write_bytes(payload, buffer),
         }
     }
 }

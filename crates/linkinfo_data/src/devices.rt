@@ -1,38 +1,46 @@
 //! Data of ipvlan, ipvtap, macvlan, macvtap, vrf, ipoib, xfrm, macsec and rmnet links.
 
-ghost use Rattle.linkinfo_data.specs.DeviceData.{devices_data_of, devices_listed};
+ghost use Rattle.linkinfo_data.specs.DeviceData.{
+  devices_data_of,
+  devices_listed,
+  devices_nest,
+  devices_nested_in,
+};
 
 use crate::info_data::InfoDataOf;
 use crate::payload_family::PayloadFamily;
 use crate::written::read_nlas;
 use linkinfo_devices::{
     InfoIpVlan, InfoIpVtap, InfoIpoib, InfoMacSec, InfoMacVlan, InfoMacVtap, InfoRmNet, InfoVrf,
-    InfoXfrm,
+    InfoXfrm, LIST_TYPE, MOST_LISTS,
 };
-use linkinfo_table::{LinkPeer, list_canonical_len, list_check, list_put_canonical, list_same};
+use linkinfo_table::{LinkPeer, list_canonical_len, list_check, list_same, list_write_canonical};
 use nla_frame::{DecodeError, ExactEq, Family, HeaderCount};
 use std::alloc::Global;
 
-/// The families of ipvlan, ipvtap, macvlan, macvtap, vrf, ipoib, xfrm, macsec and rmnet links.
+/// The families of data of ipvlan, ipvtap, macvlan, macvtap, vrf, ipoib, xfrm, macsec and rmnet
+/// links.
 #[derive(Clone, Copy, Debug, PartialEq, Eq)]
 pub enum DeviceFamily {
-    /// That of `ipvlan`.
+    /// Attributes of `ipvlan` links (`IFLA_IPVLAN_*`).
     IpVlan,
-    /// That of `ipvtap`.
+    /// Attributes of `ipvtap` links (`IFLA_IPVLAN_*`).
     IpVtap,
-    /// That of `macvlan`.
-    MacVlan,
-    /// That of `macvtap`.
-    MacVtap,
-    /// That of `vrf`.
+    /// Attributes of `macvlan` links (`IFLA_MACVLAN_*`), with the number of lists of them around
+    /// these: 0 for those directly in the data.
+    MacVlan(u8),
+    /// Attributes of `macvtap` links (`IFLA_MACVLAN_*`), with the number of lists of them around
+    /// these: 0 for those directly in the data.
+    MacVtap(u8),
+    /// Attributes of `vrf` links (`IFLA_VRF_*`).
     Vrf,
-    /// That of `ipoib`.
+    /// Attributes of `ipoib` links (`IFLA_IPOIB_*`).
     Ipoib,
-    /// That of `xfrm`.
+    /// Attributes of `xfrm` links (`IFLA_XFRM_*`).
     Xfrm,
-    /// That of `macsec`.
+    /// Attributes of `macsec` links (`IFLA_MACSEC_*`).
     MacSec,
-    /// That of `rmnet`.
+    /// Attributes of `rmnet` links (`IFLA_RMNET_*`).
     RmNet,
 }
 
@@ -47,17 +55,35 @@ impl<P: LinkPeer> PayloadFamily<InfoDataOf<P>> for DeviceFamily {
 
     ghost listed = { λ family. devices_listed _ family };
 
+    ghost nested_in = { devices_nested_in };
+
+    ghost nests = { λ family. devices_nest _ family };
+
     fn listing(self) -> Option<Family> {
         match self {
             DeviceFamily::IpVlan => Some(Family::IpVlan),
             DeviceFamily::IpVtap => Some(Family::IpVtap),
-            DeviceFamily::MacVlan => Some(Family::MacVlan),
-            DeviceFamily::MacVtap => Some(Family::MacVtap),
+            DeviceFamily::MacVlan(_) => Some(Family::MacVlan),
+            DeviceFamily::MacVtap(_) => Some(Family::MacVtap),
             DeviceFamily::Vrf => Some(Family::Vrf),
             DeviceFamily::Ipoib => Some(Family::Ipoib),
             DeviceFamily::Xfrm => Some(Family::Xfrm),
             DeviceFamily::MacSec => Some(Family::MacSec),
             DeviceFamily::RmNet => Some(Family::RmNet),
+        }
+    }
+
+    fn nested(self) -> Option<(u16, Self)> {
+        match self {
+            DeviceFamily::MacVlan(lists) if lists < MOST_LISTS => Some((
+                LIST_TYPE,
+                DeviceFamily::MacVlan(lists + 1),
+            )),
+            DeviceFamily::MacVtap(lists) if lists < MOST_LISTS => Some((
+                LIST_TYPE,
+                DeviceFamily::MacVtap(lists + 1),
+            )),
+            _ => None,
         }
     }
 
@@ -70,8 +96,8 @@ impl<P: LinkPeer> PayloadFamily<InfoDataOf<P>> for DeviceFamily {
         Ok(match self {
             DeviceFamily::IpVlan => InfoDataOf::IpVlan(read_nlas(alloc, payload, (), count)?),
             DeviceFamily::IpVtap => InfoDataOf::IpVtap(read_nlas(alloc, payload, (), count)?),
-            DeviceFamily::MacVlan => InfoDataOf::MacVlan(read_nlas(alloc, payload, 0, count)?),
-            DeviceFamily::MacVtap => InfoDataOf::MacVtap(read_nlas(alloc, payload, 0, count)?),
+            DeviceFamily::MacVlan(n) => InfoDataOf::MacVlan(read_nlas(alloc, payload, n, count)?),
+            DeviceFamily::MacVtap(n) => InfoDataOf::MacVtap(read_nlas(alloc, payload, n, count)?),
             DeviceFamily::Vrf => InfoDataOf::Vrf(read_nlas(alloc, payload, (), count)?),
             DeviceFamily::Ipoib => InfoDataOf::Ipoib(read_nlas(alloc, payload, (), count)?),
             DeviceFamily::Xfrm => InfoDataOf::Xfrm(read_nlas(alloc, payload, (), count)?),
@@ -85,8 +111,8 @@ impl<P: LinkPeer> PayloadFamily<InfoDataOf<P>> for DeviceFamily {
         match self {
             DeviceFamily::IpVlan => list_check::<InfoIpVlan>(payload, (), count),
             DeviceFamily::IpVtap => list_check::<InfoIpVtap>(payload, (), count),
-            DeviceFamily::MacVlan => list_check::<InfoMacVlan>(payload, 0, count),
-            DeviceFamily::MacVtap => list_check::<InfoMacVtap>(payload, 0, count),
+            DeviceFamily::MacVlan(n) => list_check::<InfoMacVlan>(payload, n, count),
+            DeviceFamily::MacVtap(n) => list_check::<InfoMacVtap>(payload, n, count),
             DeviceFamily::Vrf => list_check::<InfoVrf>(payload, (), count),
             DeviceFamily::Ipoib => list_check::<InfoIpoib>(payload, (), count),
             DeviceFamily::Xfrm => list_check::<InfoXfrm>(payload, (), count),
@@ -99,8 +125,8 @@ impl<P: LinkPeer> PayloadFamily<InfoDataOf<P>> for DeviceFamily {
         match self {
             DeviceFamily::IpVlan => list_same::<InfoIpVlan>(a, b, (), count),
             DeviceFamily::IpVtap => list_same::<InfoIpVtap>(a, b, (), count),
-            DeviceFamily::MacVlan => list_same::<InfoMacVlan>(a, b, 0, count),
-            DeviceFamily::MacVtap => list_same::<InfoMacVtap>(a, b, 0, count),
+            DeviceFamily::MacVlan(n) => list_same::<InfoMacVlan>(a, b, n, count),
+            DeviceFamily::MacVtap(n) => list_same::<InfoMacVtap>(a, b, n, count),
             DeviceFamily::Vrf => list_same::<InfoVrf>(a, b, (), count),
             DeviceFamily::Ipoib => list_same::<InfoIpoib>(a, b, (), count),
             DeviceFamily::Xfrm => list_same::<InfoXfrm>(a, b, (), count),
@@ -113,8 +139,8 @@ impl<P: LinkPeer> PayloadFamily<InfoDataOf<P>> for DeviceFamily {
         match self {
             DeviceFamily::IpVlan => list_canonical_len::<InfoIpVlan>(payload, ()),
             DeviceFamily::IpVtap => list_canonical_len::<InfoIpVtap>(payload, ()),
-            DeviceFamily::MacVlan => list_canonical_len::<InfoMacVlan>(payload, 0),
-            DeviceFamily::MacVtap => list_canonical_len::<InfoMacVtap>(payload, 0),
+            DeviceFamily::MacVlan(n) => list_canonical_len::<InfoMacVlan>(payload, n),
+            DeviceFamily::MacVtap(n) => list_canonical_len::<InfoMacVtap>(payload, n),
             DeviceFamily::Vrf => list_canonical_len::<InfoVrf>(payload, ()),
             DeviceFamily::Ipoib => list_canonical_len::<InfoIpoib>(payload, ()),
             DeviceFamily::Xfrm => list_canonical_len::<InfoXfrm>(payload, ()),
@@ -123,17 +149,17 @@ impl<P: LinkPeer> PayloadFamily<InfoDataOf<P>> for DeviceFamily {
         }
     }
 
-    fn put_canonical(self, payload: &[u8], buffer: &mut [u8]) -> usize {
+    fn write_canonical(self, payload: &[u8], buffer: &mut [u8]) -> usize {
         match self {
-            DeviceFamily::IpVlan => list_put_canonical::<InfoIpVlan>(payload, (), buffer),
-            DeviceFamily::IpVtap => list_put_canonical::<InfoIpVtap>(payload, (), buffer),
-            DeviceFamily::MacVlan => list_put_canonical::<InfoMacVlan>(payload, 0, buffer),
-            DeviceFamily::MacVtap => list_put_canonical::<InfoMacVtap>(payload, 0, buffer),
-            DeviceFamily::Vrf => list_put_canonical::<InfoVrf>(payload, (), buffer),
-            DeviceFamily::Ipoib => list_put_canonical::<InfoIpoib>(payload, (), buffer),
-            DeviceFamily::Xfrm => list_put_canonical::<InfoXfrm>(payload, (), buffer),
-            DeviceFamily::MacSec => list_put_canonical::<InfoMacSec>(payload, (), buffer),
-            DeviceFamily::RmNet => list_put_canonical::<InfoRmNet>(payload, (), buffer),
+            DeviceFamily::IpVlan => list_write_canonical::<InfoIpVlan>(payload, (), buffer),
+            DeviceFamily::IpVtap => list_write_canonical::<InfoIpVtap>(payload, (), buffer),
+            DeviceFamily::MacVlan(n) => list_write_canonical::<InfoMacVlan>(payload, n, buffer),
+            DeviceFamily::MacVtap(n) => list_write_canonical::<InfoMacVtap>(payload, n, buffer),
+            DeviceFamily::Vrf => list_write_canonical::<InfoVrf>(payload, (), buffer),
+            DeviceFamily::Ipoib => list_write_canonical::<InfoIpoib>(payload, (), buffer),
+            DeviceFamily::Xfrm => list_write_canonical::<InfoXfrm>(payload, (), buffer),
+            DeviceFamily::MacSec => list_write_canonical::<InfoMacSec>(payload, (), buffer),
+            DeviceFamily::RmNet => list_write_canonical::<InfoRmNet>(payload, (), buffer),
         }
     }
 }

@@ -1,5 +1,6 @@
-//! What the families of data and of port data say of their attributes: a line each.
+//! Specifications of the attributes of each family of data and of port data, a line a family.
 
+ghost use Rattle.std.specs.Prelude.{ℕ};
 ghost use Rattle.linkinfo_devices.specs.declared.ipvlan.InfoIpVlan.{InfoIpVlan};
 ghost use Rattle.linkinfo_devices.specs.declared.ipvtap.InfoIpVtap.{InfoIpVtap};
 ghost use Rattle.linkinfo_devices.specs.declared.macvlan.InfoMacVlan.{InfoMacVlan};
@@ -22,7 +23,7 @@ ghost use Rattle.linkinfo_peers.specs.declared.batadv.InfoBatAdv.{InfoBatAdv};
 ghost use Rattle.linkinfo_peers.specs.declared.wwan.InfoWwan.{InfoWwan};
 ghost use Rattle.linkinfo_numbers.specs.declared.tags.KindTag.{KindTag};
 ghost use Rattle.linkinfo_table.specs.Members.{Members};
-ghost use Rattle.linkinfo_table.specs.declared.rowless.Rowless.{Rowless};
+ghost use Rattle.linkinfo_table.specs.declared.opaque.Opaque.{Opaque};
 ghost use Rattle.linkinfo_data.specs.Families.{Families};
 
 use linkinfo_devices::{
@@ -41,31 +42,32 @@ use linkinfo_tunnels::{
     InfoAmt, InfoBareUdp, InfoGeneve, InfoGre, InfoGre6, InfoGtp, InfoIpTunnel, InfoVti, InfoVxlan,
 };
 
-/// What each family without a peer says of its attributes; of `ipip`, `ip6tnl` and `sit` by the tag of the kind.
+/// The specification of the attributes of each family without a peer. For `ipip`, `ip6tnl` and
+/// `sit` links it depends on the tag of the kind.
 pub trait PlainFamilies {
-    ghost bridge: { Members (Rowless 3) };
+    ghost bridge: { Members (Opaque 3) };
 
-    ghost vlan: { Members (Rowless 11) };
+    ghost vlan: { Members (Opaque 11) };
 
-    ghost bond: { Members (Rowless 1) };
+    ghost bond: { Members (Opaque 1) };
 
-    ghost hsr: { Members (Rowless 7) };
+    ghost hsr: { Members (Opaque 7) };
 
-    ghost can: { Members (Rowless 5) };
+    ghost can: { Members (Opaque 5) };
 
-    ghost dsa: { Members (Rowless 6) };
+    ghost dsa: { Members (Opaque 6) };
 
-    ghost bridge_port: { Members (Rowless 4) };
+    ghost bridge_port: { Members (Opaque 4) };
 
-    ghost bond_port: { Members (Rowless 2) };
+    ghost bond_port: { Members (Opaque 2) };
 
     ghost ip_vlan: { Members InfoIpVlan };
 
     ghost ip_vtap: { Members InfoIpVtap };
 
-    ghost mac_vlan: { Members InfoMacVlan };
+    ghost mac_vlan: { ℕ → Members InfoMacVlan };
 
-    ghost mac_vtap: { Members InfoMacVtap };
+    ghost mac_vtap: { ℕ → Members InfoMacVtap };
 
     ghost vrf: { Members InfoVrf };
 
@@ -97,20 +99,21 @@ pub trait PlainFamilies {
 
     ghost bare_udp: { Members InfoBareUdp };
 
-    ghost tun: { Members (Rowless 10) };
+    ghost tun: { Members (Opaque 10) };
 
-    ghost wireguard: { Members (Rowless 12) };
+    ghost wireguard: { Members (Opaque 12) };
 
     ghost bat_adv: { Members InfoBatAdv };
 
     ghost wwan: { Members InfoWwan };
 
-    ghost pfcp: { Members (Rowless 8) };
+    ghost pfcp: { Members (Opaque 8) };
 
-    ghost team_port: { Members (Rowless 9) };
+    ghost team_port: { Members (Opaque 9) };
 }
 
-/// Stands for the families without a peer in what is said of them.
+/// The type that implements `PlainFamilies`. Only specifications name it: no call takes or returns
+/// it.
 pub struct Plain;
 
 impl PlainFamilies for Plain {
@@ -134,9 +137,9 @@ impl PlainFamilies for Plain {
 
     ghost ip_vtap = { ⟦<InfoIpVtap as ListedFamily>⟧.members tt };
 
-    ghost mac_vlan = { ⟦<InfoMacVlan as ListedFamily>⟧.members 0 };
+    ghost mac_vlan = { ⟦<InfoMacVlan as ListedFamily>⟧.members };
 
-    ghost mac_vtap = { ⟦<InfoMacVtap as ListedFamily>⟧.members 0 };
+    ghost mac_vtap = { ⟦<InfoMacVtap as ListedFamily>⟧.members };
 
     ghost vrf = { ⟦<InfoVrf as ListedFamily>⟧.members tt };
 
@@ -181,7 +184,8 @@ impl PlainFamilies for Plain {
     ghost team_port = { ⟦<InfoTeamPort as ListedFamily>⟧.members tt };
 }
 
-/// What each family with a peer says of its attributes, with peers of this type. Every peer has them, and no other type.
+/// The specification of the attributes of each family with a peer, for one type of peer. Every type
+/// of peer implements it, and no other type does.
 pub trait DataFamilies: LinkPeer {
     ghost families: { Families Self };
 }

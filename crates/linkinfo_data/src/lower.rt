@@ -1,29 +1,31 @@
 //! Data of bridge, vlan, bond, hsr, can and dsa links.
 
-ghost use Rattle.linkinfo_data.specs.LowerData.{lower_data_of, lower_listed};
+ghost use Rattle.std.specs.Prelude.{None};
+ghost use Rattle.linkinfo_data.specs.LowerData.{lower_data_of, lower_listed, lower_nest};
 
 use crate::info_data::InfoDataOf;
 use crate::payload_family::PayloadFamily;
 use crate::written::read_nlas;
 use linkinfo_table::lower::{InfoBond, InfoBridge, InfoCan, InfoDsa, InfoHsr, InfoVlan};
-use linkinfo_table::{LinkPeer, list_canonical_len, list_check, list_put_canonical, list_same};
+use linkinfo_table::{LinkPeer, list_canonical_len, list_check, list_same, list_write_canonical};
 use nla_frame::{DecodeError, ExactEq, Family, HeaderCount};
 use std::alloc::Global;
 
-/// The families of bridge, vlan, bond, hsr, can and dsa links.
+/// The families of data of bridge, vlan, bond, hsr, can and dsa links, whose attributes are kept
+/// verbatim.
 #[derive(Clone, Copy, Debug, PartialEq, Eq)]
 pub enum LowerFamily {
-    /// That of `bridge`.
+    /// Attributes of `bridge` links (`IFLA_BR_*`).
     Bridge,
-    /// That of `vlan`.
+    /// Attributes of `vlan` links (`IFLA_VLAN_*`).
     Vlan,
-    /// That of `bond`.
+    /// Attributes of `bond` links (`IFLA_BOND_*`).
     Bond,
-    /// That of `hsr`.
+    /// Attributes of `hsr` links (`IFLA_HSR_*`).
     Hsr,
-    /// That of `can`.
+    /// Attributes of `can` links (`IFLA_CAN_*`).
     Can,
-    /// That of `dsa`.
+    /// Attributes of `dsa` links (`IFLA_DSA_*`).
     Dsa,
 }
 
@@ -38,6 +40,10 @@ impl<P: LinkPeer> PayloadFamily<InfoDataOf<P>> for LowerFamily {
 
     ghost listed = { λ family. lower_listed _ family };
 
+    ghost nested_in = { λ _. None };
+
+    ghost nests = { λ family. lower_nest _ family };
+
     fn listing(self) -> Option<Family> {
         match self {
             LowerFamily::Bridge => Some(Family::Bridge),
@@ -47,6 +53,10 @@ impl<P: LinkPeer> PayloadFamily<InfoDataOf<P>> for LowerFamily {
             LowerFamily::Can => Some(Family::Can),
             LowerFamily::Dsa => Some(Family::Dsa),
         }
+    }
+
+    fn nested(self) -> Option<(u16, Self)> {
+        None
     }
 
     fn read(
@@ -99,14 +109,14 @@ impl<P: LinkPeer> PayloadFamily<InfoDataOf<P>> for LowerFamily {
         }
     }
 
-    fn put_canonical(self, payload: &[u8], buffer: &mut [u8]) -> usize {
+    fn write_canonical(self, payload: &[u8], buffer: &mut [u8]) -> usize {
         match self {
-            LowerFamily::Bridge => list_put_canonical::<InfoBridge>(payload, (), buffer),
-            LowerFamily::Vlan => list_put_canonical::<InfoVlan>(payload, (), buffer),
-            LowerFamily::Bond => list_put_canonical::<InfoBond>(payload, (), buffer),
-            LowerFamily::Hsr => list_put_canonical::<InfoHsr>(payload, (), buffer),
-            LowerFamily::Can => list_put_canonical::<InfoCan>(payload, (), buffer),
-            LowerFamily::Dsa => list_put_canonical::<InfoDsa>(payload, (), buffer),
+            LowerFamily::Bridge => list_write_canonical::<InfoBridge>(payload, (), buffer),
+            LowerFamily::Vlan => list_write_canonical::<InfoVlan>(payload, (), buffer),
+            LowerFamily::Bond => list_write_canonical::<InfoBond>(payload, (), buffer),
+            LowerFamily::Hsr => list_write_canonical::<InfoHsr>(payload, (), buffer),
+            LowerFamily::Can => list_write_canonical::<InfoCan>(payload, (), buffer),
+            LowerFamily::Dsa => list_write_canonical::<InfoDsa>(payload, (), buffer),
         }
     }
 }

@@ -1,6 +1,7 @@
-//! Data of links with a peer, and of tun, wireguard, batadv, wwan and pfcp links.
+//! Data of veth, vxcan, netkit, tun, wireguard, batadv, wwan and pfcp links.
 
-ghost use Rattle.linkinfo_data.specs.PeerData.{peers_data_of, peers_listed};
+ghost use Rattle.std.specs.Prelude.{None};
+ghost use Rattle.linkinfo_data.specs.PeerData.{peers_data_of, peers_listed, peers_nest};
 
 use crate::families::DataFamilies;
 use crate::info_data::InfoDataOf;
@@ -10,30 +11,31 @@ use linkinfo_peers::{
     InfoBatAdv, InfoNetkitOf, InfoPfcp, InfoTun, InfoVethOf, InfoVxcanOf, InfoWireguard, InfoWwan,
 };
 use linkinfo_table::{
-    LinkPeer, first_canonical_len, first_check, first_put_canonical, first_read, first_same,
-    list_canonical_len, list_check, list_put_canonical, list_same,
+    LinkPeer, first_canonical_len, first_check, first_read, first_same, first_write_canonical,
+    list_canonical_len, list_check, list_same, list_write_canonical,
 };
 use nla_frame::{DecodeError, ExactEq, Family, HeaderCount};
 use std::alloc::Global;
 
-/// The families of links with a peer, and of tun, wireguard, batadv, wwan and pfcp links.
+/// The families of data of links with a peer (veth, vxcan and netkit), and of tun, wireguard,
+/// batadv, wwan and pfcp links.
 #[derive(Clone, Copy, Debug, PartialEq, Eq)]
 pub enum PeeredFamily {
-    /// That of `tun`.
+    /// Attributes of `tun` links (`IFLA_TUN_*`), kept verbatim.
     Tun,
-    /// That of `veth`.
+    /// The attribute of `veth` links (`VETH_INFO_*`): the first one of their data.
     Veth,
-    /// That of `wireguard`.
+    /// Attributes of `wireguard` links, kept verbatim.
     Wireguard,
-    /// That of `netkit`.
+    /// Attributes of `netkit` links (`IFLA_NETKIT_*`).
     Netkit,
-    /// That of `vxcan`.
+    /// The attribute of `vxcan` links (`VXCAN_INFO_*`): the first one of their data.
     Vxcan,
-    /// That of `batadv`.
+    /// Attributes of `batadv` links (`IFLA_BATADV_*`).
     BatAdv,
-    /// That of `wwan`.
+    /// Attributes of `wwan` links (`IFLA_WWAN_*`).
     Wwan,
-    /// That of `pfcp`.
+    /// Attributes of `pfcp` links, kept verbatim.
     Pfcp,
 }
 
@@ -48,6 +50,10 @@ impl<P: LinkPeer> PayloadFamily<InfoDataOf<P>> for PeeredFamily {
 
     ghost listed = { λ family. peers_listed ⟦<P as DataFamilies>⟧.families family };
 
+    ghost nested_in = { λ _. None };
+
+    ghost nests = { λ family. peers_nest ⟦<P as DataFamilies>⟧.families family };
+
     fn listing(self) -> Option<Family> {
         match self {
             PeeredFamily::Tun => Some(Family::Tun),
@@ -59,6 +65,10 @@ impl<P: LinkPeer> PayloadFamily<InfoDataOf<P>> for PeeredFamily {
             PeeredFamily::Wwan => Some(Family::Wwan),
             PeeredFamily::Pfcp => Some(Family::Pfcp),
         }
+    }
+
+    fn nested(self) -> Option<(u16, Self)> {
+        None
     }
 
     fn read(
@@ -119,16 +129,16 @@ impl<P: LinkPeer> PayloadFamily<InfoDataOf<P>> for PeeredFamily {
         }
     }
 
-    fn put_canonical(self, payload: &[u8], buffer: &mut [u8]) -> usize {
+    fn write_canonical(self, payload: &[u8], buffer: &mut [u8]) -> usize {
         match self {
-            PeeredFamily::Tun => list_put_canonical::<InfoTun>(payload, (), buffer),
-            PeeredFamily::Veth => first_put_canonical::<InfoVethOf<P>>(payload, (), buffer),
-            PeeredFamily::Wireguard => list_put_canonical::<InfoWireguard>(payload, (), buffer),
-            PeeredFamily::Netkit => list_put_canonical::<InfoNetkitOf<P>>(payload, (), buffer),
-            PeeredFamily::Vxcan => first_put_canonical::<InfoVxcanOf<P>>(payload, (), buffer),
-            PeeredFamily::BatAdv => list_put_canonical::<InfoBatAdv>(payload, (), buffer),
-            PeeredFamily::Wwan => list_put_canonical::<InfoWwan>(payload, (), buffer),
-            PeeredFamily::Pfcp => list_put_canonical::<InfoPfcp>(payload, (), buffer),
+            PeeredFamily::Tun => list_write_canonical::<InfoTun>(payload, (), buffer),
+            PeeredFamily::Veth => first_write_canonical::<InfoVethOf<P>>(payload, (), buffer),
+            PeeredFamily::Wireguard => list_write_canonical::<InfoWireguard>(payload, (), buffer),
+            PeeredFamily::Netkit => list_write_canonical::<InfoNetkitOf<P>>(payload, (), buffer),
+            PeeredFamily::Vxcan => first_write_canonical::<InfoVxcanOf<P>>(payload, (), buffer),
+            PeeredFamily::BatAdv => list_write_canonical::<InfoBatAdv>(payload, (), buffer),
+            PeeredFamily::Wwan => list_write_canonical::<InfoWwan>(payload, (), buffer),
+            PeeredFamily::Pfcp => list_write_canonical::<InfoPfcp>(payload, (), buffer),
         }
     }
 }

@@ -1,32 +1,39 @@
 //! The data of a port: `IFLA_INFO_SLAVE_DATA`, include/uapi/linux/if_link.h.
 
-ghost use Rattle.std.specs.Prelude.{◌≡◌};
+ghost use Rattle.std.specs.Prelude.{◌≡◌, None};
 ghost use Rattle.nla_frame.specs.Answers.{CertainUnless, Gives};
 ghost use Rattle.linkinfo_numbers.specs.PortKind.{tag_of_port_kind};
-ghost use Rattle.linkinfo_data.specs.PortData.{port_data_of, port_family_of, port_listed};
+ghost use Rattle.linkinfo_data.specs.PortData.{
+  port_data_of,
+  port_family_of,
+  port_listed,
+  port_nest,
+};
 
 use crate::payload_family::PayloadFamily;
-use crate::written::{list_fit_len, put_list, read_nlas};
+use crate::written::{list_fit_len, read_nlas, write_list};
 use linkinfo_devices::InfoVrfPort;
 use linkinfo_numbers::{IFLA_INFO_SLAVE_DATA, InfoPortKind, PortTag};
 use linkinfo_peers::InfoTeamPort;
 use linkinfo_table::lower::{InfoBondPort, InfoBridgePort};
-use linkinfo_table::{list_canonical_len, list_check, list_put_canonical, list_same};
-use nla_frame::{Bytes, DecodeError, ExactEq, Family, HeaderCount, Nla, Nlas, fitting, put_bytes};
+use linkinfo_table::{list_canonical_len, list_check, list_same, list_write_canonical};
+use nla_frame::{
+    Bytes, DecodeError, ExactEq, Family, HeaderCount, Nla, Nlas, fitting, write_bytes,
+};
 use std::alloc::Global;
 
-/// The family of the attributes in a port kind's data.
+/// The family of the attributes in `IFLA_INFO_SLAVE_DATA`, which the kind of the port chooses.
 #[derive(Clone, Copy, Debug, PartialEq, Eq)]
 pub enum PortFamily {
-    /// That of ports of `bond`.
+    /// Attributes of ports of a `bond` link (`IFLA_BOND_SLAVE_*`), kept verbatim.
     Bond,
-    /// That of ports of `bridge`.
+    /// Attributes of ports of a `bridge` link (`IFLA_BRPORT_*`), kept verbatim.
     Bridge,
-    /// That of ports of `vrf`.
+    /// Attributes of ports of a `vrf` link (`IFLA_VRF_PORT_*`).
     Vrf,
-    /// That of ports of `team`.
+    /// Attributes of ports of a `team` link, kept verbatim.
     Team,
-    /// None: the data is bytes.
+    /// No family: the data is kept as bytes.
     Raw,
 }
 
@@ -36,7 +43,7 @@ impl ExactEq for PortFamily {
     ghost exact = { Prim.search rules };
 }
 
-/// The family of the data of a port kind.
+/// The family of the data of ports of a kind, by the port kind's tag.
 pub fn port_family_of(tag: PortTag) -> PortFamily
     ensures { result ≡ port_family_of tag }
 {
@@ -49,18 +56,19 @@ pub fn port_family_of(tag: PortTag) -> PortFamily
     }
 }
 
-/// The data of a port: attributes of the family of its kind, or the bytes.
+/// The data of a port (`IFLA_INFO_SLAVE_DATA`): the attributes of its port kind's family, or bytes
+/// if the port kind has no family.
 #[derive(Debug, PartialEq, Eq, Clone, Drop)]
 pub enum InfoPortData {
-    /// Of a port of `bond`.
+    /// Attributes of a port of a `bond` link (`IFLA_BOND_SLAVE_*`), kept verbatim.
     BondPort(Nlas<InfoBondPort>),
-    /// Of a port of `bridge`.
+    /// Attributes of a port of a `bridge` link (`IFLA_BRPORT_*`), kept verbatim.
     BridgePort(Nlas<InfoBridgePort>),
-    /// Of a port of `vrf`.
+    /// Attributes of a port of a `vrf` link (`IFLA_VRF_PORT_*`).
     VrfPort(Nlas<InfoVrfPort>),
-    /// Of a port of `team`.
+    /// Attributes of a port of a `team` link, kept verbatim.
     TeamPort(Nlas<InfoTeamPort>),
-    /// Of a port kind without a family.
+    /// The bytes of the data of a port whose kind has no family.
     Other(Bytes),
 }
 
@@ -68,6 +76,10 @@ impl PayloadFamily<InfoPortData> for PortFamily {
     ghost data_of = { port_data_of };
 
     ghost listed = { port_listed };
+
+    ghost nested_in = { λ _. None };
+
+    ghost nests = { port_nest };
 
     fn listing(self) -> Option<Family> {
         match self {
@@ -77,6 +89,10 @@ impl PayloadFamily<InfoPortData> for PortFamily {
             PortFamily::Team => Some(Family::TeamPort),
             PortFamily::Raw => None,
         }
+    }
+
+    fn nested(self) -> Option<(u16, Self)> {
+        None
     }
 
     fn read(
@@ -125,36 +141,45 @@ impl PayloadFamily<InfoPortData> for PortFamily {
         }
     }
 
-    fn put_canonical(self, payload: &[u8], buffer: &mut [u8]) -> usize {
+    fn write_canonical(self, payload: &[u8], buffer: &mut [u8]) -> usize {
         match self {
-            PortFamily::Bond => list_put_canonical::<InfoBondPort>(payload, (), buffer),
-            PortFamily::Bridge => list_put_canonical::<InfoBridgePort>(payload, (), buffer),
-            PortFamily::Vrf => list_put_canonical::<InfoVrfPort>(payload, (), buffer),
-            PortFamily::Team => list_put_canonical::<InfoTeamPort>(payload, (), buffer),
-            PortFamily::Raw => put_bytes(payload, buffer),
+            PortFamily::Bond => list_write_canonical::<InfoBondPort>(payload, (), buffer),
+            PortFamily::Bridge => list_write_canonical::<InfoBridgePort>(payload, (), buffer),
+            PortFamily::Vrf => list_write_canonical::<InfoVrfPort>(payload, (), buffer),
+            PortFamily::Team => list_write_canonical::<InfoTeamPort>(payload, (), buffer),
+            PortFamily::Raw => write_bytes(payload, buffer),
         }
     }
 }
 
 impl InfoPortData {
-    /// Reads a payload as data of a port kind: as the attributes of its family, or as bytes where it has none.
+    /// Parses the payload of `IFLA_INFO_SLAVE_DATA` of a port of this kind.
     ///
-    /// The fault is that of the first attribute in byte order that has no header or no meaning. An answer other than
-    /// (Frame, 0, Memory) is what the payload means.
+    /// The result holds the attributes of the port kind's family, or the bytes if the port kind has
+    /// none. `InfoPortKind::Other` has no family, whatever its name.
+    ///
+    /// The error is that of the first attribute in byte order whose header or value is rejected, or
+    /// `(Frame, 0, Memory)` if an allocation fails first. Every other result depends on the payload
+    /// and the port kind alone.
     pub fn parse_with_param(
         alloc: Global,
         payload: &[u8],
         kind: &InfoPortKind,
     ) -> Result<InfoPortData, DecodeError>
-        ensures answer { Gives (λ value. value) result ((port_data_of (port_family_of (tag_of_port_kind kind.now))).means payload.now) }
-        ensures certain { CertainUnless ((port_data_of (port_family_of (tag_of_port_kind kind.now))).needs_memory payload.now) (λ value. value) result ((port_data_of (port_family_of (tag_of_port_kind kind.now))).means payload.now) }
+        ensures answer { Gives (λ value. value) result
+            ((port_data_of (port_family_of (tag_of_port_kind kind.now))).means payload.now) }
+        ensures certain { CertainUnless
+            ((port_data_of (port_family_of (tag_of_port_kind kind.now))).needs_memory payload.now)
+            (λ value. value) result
+            ((port_data_of (port_family_of (tag_of_port_kind kind.now))).means payload.now) }
     {
         let mut count = HeaderCount::new();
         port_family_of(kind.tag()).read(alloc, payload, &mut count)
     }
 }
 
-/// Written with the type 5. Data of a family is its attributes' strings, one after another.
+/// Written as an attribute of type 5 (`IFLA_INFO_SLAVE_DATA`). The payload is the encodings of the
+/// attributes, one after another.
 #[tactic(auto, unfolding(crate::specs::PortData::port_data_payload))]
 impl Nla for InfoPortData {
     ghost use Rattle.linkinfo_data.specs.PortData.{port_data_attribute};
@@ -171,11 +196,11 @@ impl Nla for InfoPortData {
 
     fn emit_payload(&self, buffer: &mut [u8]) -> usize {
         match self {
-            InfoPortData::BondPort(list) => put_list(list, buffer),
-            InfoPortData::BridgePort(list) => put_list(list, buffer),
-            InfoPortData::VrfPort(list) => put_list(list, buffer),
-            InfoPortData::TeamPort(list) => put_list(list, buffer),
-            InfoPortData::Other(bytes) => put_bytes(bytes.as_slice(), buffer),
+            InfoPortData::BondPort(list) => write_list(list, buffer),
+            InfoPortData::BridgePort(list) => write_list(list, buffer),
+            InfoPortData::VrfPort(list) => write_list(list, buffer),
+            InfoPortData::TeamPort(list) => write_list(list, buffer),
+            InfoPortData::Other(bytes) => write_bytes(bytes.as_slice(), buffer),
         }
     }
 
@@ -199,8 +224,15 @@ impl ExactEq for InfoPortData {
     ghost use Rattle.std.specs.Cmp.Lexicographic.{bytes_decides, pointwise_decides};
     ghost use Rattle.linkinfo_devices.specs.contracts.vrf.InfoVrfExactEq.TheImpl.Laws as vrf_port;
     ghost use Rattle.nla_frame.specs.Derived.{derived_decides, one_field};
+    ghost use Rattle.nla_frame.specs.Pairs.{◌&◌};
     ghost use Rattle.linkinfo_data.specs.contracts.port_data.InfoPortData.{enum};
     ghost use Rattle.std.proofs.Common.{rules};
 
-    ghost exact = { derived_decides enum _ (one_field (pointwise_decides (λ a b. Prim.search rules)), (one_field (pointwise_decides (λ a b. Prim.search rules)), (one_field (pointwise_decides vrf_port.exact-law), (one_field (pointwise_decides (λ a b. Prim.search rules)), (one_field bytes_decides, tt))))) };
+    ghost exact = { derived_decides enum _
+        (one_field (pointwise_decides (λ a b. Prim.search rules))
+        & one_field (pointwise_decides (λ a b. Prim.search rules))
+        & one_field (pointwise_decides vrf_port.exact-law)
+        & one_field (pointwise_decides (λ a b. Prim.search rules))
+        & one_field bytes_decides
+        & tt) };
 }

@@ -1,61 +1,83 @@
 //! Data of tunnels.
 
-ghost use Rattle.linkinfo_data.specs.TunnelData.{tunnels_data_of, tunnels_listed};
+ghost use Rattle.std.specs.Prelude.{None};
+ghost use Rattle.linkinfo_data.specs.TunnelData.{tunnels_data_of, tunnels_listed, tunnels_nest};
 
 use crate::info_data::InfoDataOf;
 use crate::payload_family::PayloadFamily;
 use crate::written::read_nlas;
 use linkinfo_numbers::KindTag;
-use linkinfo_table::{LinkPeer, list_canonical_len, list_check, list_put_canonical, list_same};
+use linkinfo_table::{LinkPeer, list_canonical_len, list_check, list_same, list_write_canonical};
 use linkinfo_tunnels::{
     InfoAmt, InfoBareUdp, InfoGeneve, InfoGre, InfoGre6, InfoGtp, InfoIpTunnel, InfoVti, InfoVxlan,
 };
 use nla_frame::{DecodeError, ExactEq, Family, HeaderCount};
 use std::alloc::Global;
 
-/// The families of tunnels.
+/// The families of data of tunnels.
 #[derive(Clone, Copy, Debug, PartialEq, Eq)]
 pub enum TunnelFamily {
-    /// That of `vxlan`.
+    /// Attributes of `vxlan` links (`IFLA_VXLAN_*`).
     Vxlan,
-    /// That of `gretap`.
+    /// Attributes of `gretap` links (`IFLA_GRE_*`).
     GreTap,
-    /// That of `ip6gretap`.
+    /// Attributes of `ip6gretap` links (`IFLA_GRE_*`).
     GreTap6,
-    /// That of `ipip`, `ip6tnl` and `sit`, by the tag of the kind.
+    /// Attributes of `ipip`, `ip6tnl` and `sit` links (`IFLA_IPTUN_*`), with the tag of the kind.
     IpTunnel(KindTag),
-    /// That of `gre`.
+    /// Attributes of `gre` links (`IFLA_GRE_*`).
     GreTun,
-    /// That of `ip6gre`.
+    /// Attributes of `ip6gre` links (`IFLA_GRE_*`).
     GreTun6,
-    /// That of `vti` and `vti6`.
+    /// Attributes of `vti` and `vti6` links (`IFLA_VTI_*`).
     Vti,
-    /// That of `gtp`.
+    /// Attributes of `gtp` links (`IFLA_GTP_*`).
     Gtp,
-    /// That of `geneve`.
+    /// Attributes of `geneve` links (`IFLA_GENEVE_*`).
     Geneve,
-    /// That of `amt`.
+    /// Attributes of `amt` links (`IFLA_AMT_*`).
     Amt,
-    /// That of `bareudp`.
+    /// Attributes of `bareudp` links (`IFLA_BAREUDP_*`).
     BareUdp,
-    /// That of `erspan`.
+    /// Attributes of `erspan` links (`IFLA_GRE_*`).
     ErSpan,
-    /// That of `ip6erspan`.
+    /// Attributes of `ip6erspan` links (`IFLA_GRE_*`).
     Ip6ErSpan,
 }
 
 impl ExactEq for TunnelFamily {
     ghost use Rattle.nla_frame.specs.Derived.{derived_decides, no_field, one_field};
-    ghost use Rattle.linkinfo_numbers.specs.contracts.tags.KindTagExactEq.TheImpl.Laws.{exact-law as tag_exact};
+    ghost use Rattle.nla_frame.specs.Pairs.{◌&◌};
+    ghost use Rattle.linkinfo_numbers.specs.contracts.tags.KindTagExactEq.TheImpl.Laws.{
+      exact-law as tag_exact,
+    };
     ghost use Rattle.linkinfo_data.specs.contracts.tunnels.TunnelFamily.{enum};
 
-    ghost exact = { derived_decides enum _ (no_field, (no_field, (no_field, (one_field tag_exact, (no_field, (no_field, (no_field, (no_field, (no_field, (no_field, (no_field, (no_field, (no_field, tt))))))))))))) };
+    ghost exact = { derived_decides enum _
+        (no_field
+        & no_field
+        & no_field
+        & one_field tag_exact
+        & no_field
+        & no_field
+        & no_field
+        & no_field
+        & no_field
+        & no_field
+        & no_field
+        & no_field
+        & no_field
+        & tt) };
 }
 
 impl<P: LinkPeer> PayloadFamily<InfoDataOf<P>> for TunnelFamily {
     ghost data_of = { λ family. tunnels_data_of family };
 
     ghost listed = { λ family. tunnels_listed _ family };
+
+    ghost nested_in = { λ _. None };
+
+    ghost nests = { λ family. tunnels_nest _ family };
 
     fn listing(self) -> Option<Family> {
         match self {
@@ -73,6 +95,10 @@ impl<P: LinkPeer> PayloadFamily<InfoDataOf<P>> for TunnelFamily {
             TunnelFamily::ErSpan => Some(Family::Gre),
             TunnelFamily::Ip6ErSpan => Some(Family::Gre6),
         }
+    }
+
+    fn nested(self) -> Option<(u16, Self)> {
+        None
     }
 
     fn read(
@@ -155,21 +181,23 @@ impl<P: LinkPeer> PayloadFamily<InfoDataOf<P>> for TunnelFamily {
         }
     }
 
-    fn put_canonical(self, payload: &[u8], buffer: &mut [u8]) -> usize {
+    fn write_canonical(self, payload: &[u8], buffer: &mut [u8]) -> usize {
         match self {
-            TunnelFamily::Vxlan => list_put_canonical::<InfoVxlan>(payload, (), buffer),
-            TunnelFamily::GreTap => list_put_canonical::<InfoGre>(payload, (), buffer),
-            TunnelFamily::GreTap6 => list_put_canonical::<InfoGre6>(payload, (), buffer),
-            TunnelFamily::IpTunnel(tag) => list_put_canonical::<InfoIpTunnel>(payload, tag, buffer),
-            TunnelFamily::GreTun => list_put_canonical::<InfoGre>(payload, (), buffer),
-            TunnelFamily::GreTun6 => list_put_canonical::<InfoGre6>(payload, (), buffer),
-            TunnelFamily::Vti => list_put_canonical::<InfoVti>(payload, (), buffer),
-            TunnelFamily::Gtp => list_put_canonical::<InfoGtp>(payload, (), buffer),
-            TunnelFamily::Geneve => list_put_canonical::<InfoGeneve>(payload, (), buffer),
-            TunnelFamily::Amt => list_put_canonical::<InfoAmt>(payload, (), buffer),
-            TunnelFamily::BareUdp => list_put_canonical::<InfoBareUdp>(payload, (), buffer),
-            TunnelFamily::ErSpan => list_put_canonical::<InfoGre>(payload, (), buffer),
-            TunnelFamily::Ip6ErSpan => list_put_canonical::<InfoGre6>(payload, (), buffer),
+            TunnelFamily::Vxlan => list_write_canonical::<InfoVxlan>(payload, (), buffer),
+            TunnelFamily::GreTap => list_write_canonical::<InfoGre>(payload, (), buffer),
+            TunnelFamily::GreTap6 => list_write_canonical::<InfoGre6>(payload, (), buffer),
+            TunnelFamily::IpTunnel(tag) => list_write_canonical::<InfoIpTunnel>(
+                payload, tag, buffer,
+            ),
+            TunnelFamily::GreTun => list_write_canonical::<InfoGre>(payload, (), buffer),
+            TunnelFamily::GreTun6 => list_write_canonical::<InfoGre6>(payload, (), buffer),
+            TunnelFamily::Vti => list_write_canonical::<InfoVti>(payload, (), buffer),
+            TunnelFamily::Gtp => list_write_canonical::<InfoGtp>(payload, (), buffer),
+            TunnelFamily::Geneve => list_write_canonical::<InfoGeneve>(payload, (), buffer),
+            TunnelFamily::Amt => list_write_canonical::<InfoAmt>(payload, (), buffer),
+            TunnelFamily::BareUdp => list_write_canonical::<InfoBareUdp>(payload, (), buffer),
+            TunnelFamily::ErSpan => list_write_canonical::<InfoGre>(payload, (), buffer),
+            TunnelFamily::Ip6ErSpan => list_write_canonical::<InfoGre6>(payload, (), buffer),
         }
     }
 }

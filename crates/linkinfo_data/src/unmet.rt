@@ -1,14 +1,14 @@
 //! Whether a list of attributes meets those of another one, and which one it does not meet.
 
 ghost use Rattle.std.specs.Prelude.{◌≡◌, IfSome, IsOk, IsSome, Some};
-ghost use Rattle.linkinfo_table.specs.Last.{StandsIn, attributes_of};
+ghost use Rattle.linkinfo_table.specs.Last.{StandsIn, attributes_of, covers};
 ghost use Rattle.linkinfo_data.specs.Listed.{IsAccepted};
 ghost use Rattle.linkinfo_data.specs.Listing.{alike_in, family_in};
-ghost use Rattle.linkinfo_data.specs.Unmet.{is_met, list_unmet};
+ghost use Rattle.linkinfo_data.specs.Unmet.{earlier, first_told, is_met, list_unmet, missed};
 
 use crate::payload_family::PayloadFamily;
-use linkinfo_table::{LastOfType, PlacedNla, own_bytes};
-use nla_frame::{ExactEq, Family, HeaderCount, next_piece};
+use linkinfo_table::{INDEXED, LastOfType, PlacedNla, own_bytes, types_end};
+use nla_frame::{ExactEq, Family, HeaderCount, next_attribute};
 
 /// An attribute of a request that is not met.
 #[derive(Clone, Copy, Debug, PartialEq, Eq)]
@@ -19,8 +19,31 @@ pub struct Unmet {
     pub kind: u16,
     /// The offset of the attribute in the request.
     pub want: usize,
-    /// The offset of the attribute of that type in the other bytes, or `None` where there is none.
+    /// The offset of the last attribute of that type in the other bytes, or `None` where there is
+    /// none.
     pub have: Option<usize>,
+}
+
+/// What is not met of an attribute of a list, and the offset of that attribute in the list.
+#[derive(Clone, Copy, Debug)]
+pub struct UnmetAt {
+    /// The offset of the attribute in its list.
+    pub offset: usize,
+    /// What of it is not met.
+    pub unmet: Unmet,
+}
+
+/// The one of two attributes that is earlier in their list, or the only one.
+pub fn earlier(one: Option<UnmetAt>, other: Option<UnmetAt>) -> Option<UnmetAt>
+    ensures { result ≡ earlier one other }
+{
+    let Some(old) = one else {
+        return other;
+    };
+    match other {
+        Some(new) if new.offset < old.offset => Some(new),
+        _ => Some(old),
+    }
 }
 
 /// The first attribute of `want` that `have` does not meet, of two accepted payloads that are lists
@@ -28,8 +51,9 @@ pub struct Unmet {
 ///
 /// Of several attributes of a type the last one counts, as in the kernel. It is met where the last
 /// attribute of its type in `have` has an equal payload or is equivalent; flags of the type do not
-/// matter. It passes once over `have` and twice over `want`, and once more over both for each
-/// attribute of a type from 64 on, which no row has. Takes no memory.
+/// matter. It passes once over `want`, and for every `INDEXED` types up to the largest in `want`
+/// twice over `want` and once over `have`. All types of rows are below `INDEXED`. Does not
+/// allocate.
 pub fn list_unmet<D: Drop, F: PayloadFamily<D>>(
     family: F,
     name: Family,
@@ -39,25 +63,55 @@ pub fn list_unmet<D: Drop, F: PayloadFamily<D>>(
     requires listed { family_in (F.data_of family).listing ≡ Some name }
     requires have { IsOk ((F.data_of family).means have.now) }
     requires want { IsOk ((F.data_of family).means want.now) }
-    ensures { result ≡ list_unmet name (alike_in (F.data_of family).listing) (attributes_of have.now) (attributes_of want.now) }
+    ensures { result
+        ≡ list_unmet name (alike_in (F.data_of family).listing) (attributes_of have.now)
+        (attributes_of want.now) }
 {
-    let found = LastOfType::new(have);
-    let wanted = LastOfType::new(want);
+    let end = types_end(want);
+    let mut first = None;
+    let mut block = 0;
+    while block < end {
+        first = earlier(first, unmet_from::<D, F>(family, name, have, want, block));
+        block += INDEXED;
+    }
+    Some(first?.unmet)
+}
+
+/// The first attribute of `want` that `have` does not meet, among those of `INDEXED` types from
+/// `start` on.
+fn unmet_from<D: Drop, F: PayloadFamily<D>>(
+    family: F,
+    name: Family,
+    have: &[u8],
+    want: &[u8],
+    start: u16,
+) -> Option<UnmetAt>
+    requires listed { family_in (F.data_of family).listing ≡ Some name }
+    requires have { IsOk ((F.data_of family).means have.now) }
+    requires want { IsOk ((F.data_of family).means want.now) }
+    ensures { result
+        ≡ first_told (covers start)
+        (missed name (alike_in (F.data_of family).listing) (attributes_of have.now)
+        (attributes_of want.now)) (attributes_of want.now) }
+{
+    let found = LastOfType::new(have, start);
+    let wanted = LastOfType::new(want, start);
     let mut count = HeaderCount::new();
     let mut rest = want;
-    while let Some(Ok((nla, after))) = next_piece(rest, &mut count) {
+    while let Some(Ok((nla, after))) = next_attribute(rest, &mut count) {
         let offset = want.len() - rest.len();
         let placed = PlacedNla { offset, nla };
         let kind = placed.nla.kind();
         if wanted.offset(kind) == Some(offset) {
             let last = found.find(kind);
             if !is_met::<D, F>(family, have, &last, want, &placed) {
-                return Some(Unmet {
+                let unmet = Unmet {
                     family: name,
                     kind,
                     want: offset,
                     have: found.offset(kind),
-                });
+                };
+                return Some(UnmetAt { offset, unmet });
             }
         }
         rest = after;
@@ -65,8 +119,8 @@ pub fn list_unmet<D: Drop, F: PayloadFamily<D>>(
     None
 }
 
-/// Whether an attribute of `have`, or none, meets one of `want`: the payloads are equal, or both are
-/// equivalent.
+/// Whether an attribute of `have`, or none, meets one of `want`: the payloads are equal, or both
+/// are equivalent.
 fn is_met<D: Drop, F: PayloadFamily<D>>(
     family: F,
     have: &[u8],
@@ -77,7 +131,8 @@ fn is_met<D: Drop, F: PayloadFamily<D>>(
     requires listed { IsSome (F.data_of family).listing }
     requires found_stands { IfSome found.now (StandsIn have.now) }
     requires wanted_stands { StandsIn want.now wanted.now }
-    requires found_accepted { IfSome found.now (λ placed. IsAccepted (F.data_of family) placed.nla) }
+    requires found_accepted { IfSome found.now
+        (λ placed. IsAccepted (F.data_of family) placed.nla) }
     requires wanted_accepted { IsAccepted (F.data_of family) wanted.now.nla }
     ensures { result ≡ is_met (alike_in (F.data_of family).listing) found.now wanted.now }
 {
@@ -96,8 +151,13 @@ impl ExactEq for Unmet {
     ghost use Rattle.std.specs.Prelude.{refl};
     ghost use Rattle.std.proofs.lemmas.Bool.Decides.{Decides-eqb};
     ghost use Rattle.nla_frame.specs.Derived.{fields_decide, two_fields};
-    ghost use Rattle.nla_frame.specs.contracts.exact_eq.FamilyExactEq.TheImpl.Laws.{exact-law as family_exact};
+    ghost use Rattle.nla_frame.specs.contracts.exact_eq.FamilyExactEq.TheImpl.Laws.{
+      exact-law as family_exact,
+    };
     ghost use Rattle.linkinfo_data.specs.Equal.{option_decides};
 
-    ghost exact = { fields_decide (λ u. (u.family, (u.kind, (u.want, u.have)))) (λ z. record { family = z.0; kind = z.1.0; want = z.1.1.0; have = z.1.1.1 }) (λ u. refl) (two_fields family_exact (two_fields Decides-eqb (two_fields Decides-eqb (option_decides Decides-eqb)))) };
+    ghost exact = { fields_decide (λ u. (u.family, (u.kind, (u.want, u.have))))
+        (λ z. record { family = z.0; kind = z.1.0; want = z.1.1.0; have = z.1.1.1 }) (λ u. refl)
+        (two_fields family_exact
+        (two_fields Decides-eqb (two_fields Decides-eqb (option_decides Decides-eqb)))) };
 }

@@ -1,18 +1,31 @@
-//! Payloads that are the string of a list of attributes, or of one.
+//! Payloads that are the encoding of a list of attributes, or of one attribute.
 
-ghost use Rattle.std.specs.Prelude.{◌≡◌, ◌+◌, ◌*◌, ◌/◌, ◌<◌, ◌≤◌, ◌++◌, ◌^◌, SomeIff, drop, length, map};
+ghost use Rattle.std.specs.Prelude.{
+  ◌≡◌,
+  ◌+◌,
+  ◌*◌,
+  ◌/◌,
+  ◌<◌,
+  ◌≤◌,
+  ◌++◌,
+  ◌^◌,
+  SomeIff,
+  drop,
+  length,
+  map,
+};
 ghost use Rattle.nla_frame.specs.Answers.{CertainUnless, Gives, OnAnswer};
 ghost use Rattle.nla_frame.specs.Attribute.{canonical_string, list_string};
-ghost use Rattle.nla_frame.specs.Pieces.{pieces};
+ghost use Rattle.nla_frame.specs.NlaItems.{nla_items};
 ghost use Rattle.linkinfo_table.specs.Lists.{headers_of, memory_of, values};
 
 use linkinfo_table::{LinkFamily, list_read};
 use nla_frame::{
-    DecodeError, HeaderCount, Nla, Nlas, fitting, nlas_fit_len, put_attribute, put_attributes,
+    DecodeError, HeaderCount, Nla, Nlas, fitting, nlas_fit_len, write_attribute, write_attributes,
 };
 use std::alloc::Global;
 
-/// Reads the attributes that a payload frames.
+/// Parses a payload as a list of attributes of one family.
 pub(crate) fn read_nlas<F: LinkFamily>(
     alloc: Global,
     payload: &[u8],
@@ -20,50 +33,64 @@ pub(crate) fn read_nlas<F: LinkFamily>(
     count: &mut HeaderCount,
 ) -> Result<Nlas<F>, DecodeError>
     requires { count.old + length payload.now / 4 < 2 ^ 64 }
-    ensures answer { Gives (λ list. list) result (values (F.meaning ctx) (pieces payload.now)) }
-    ensures certain { CertainUnless (memory_of (F.meaning ctx) (F.needs_memory ctx) (pieces payload.now)) (λ list. list) result (values (F.meaning ctx) (pieces payload.now)) }
-    ensures counted { OnAnswer result (count.new ≡ count.old + headers_of (F.meaning ctx) (F.headers ctx) (pieces payload.now)) }
+    ensures answer { Gives (λ list. list) result (values (F.meaning ctx) (nla_items payload.now)) }
+    ensures certain { CertainUnless
+        (memory_of (F.meaning ctx) (F.needs_memory ctx) (nla_items payload.now))
+        (λ list. list) result
+        (values (F.meaning ctx) (nla_items payload.now)) }
+    ensures counted { OnAnswer result
+        (count.new
+        ≡ count.old + headers_of (F.meaning ctx) (F.headers ctx) (nla_items payload.now)) }
     ensures rises { count.old ≤ count.new }
     ensures quarter { 4 * count.new ≤ 4 * count.old + length payload.now }
 {
     Ok(Nlas::new(list_read(alloc, payload, ctx, count)?))
 }
 
-/// Writes the list's string at the front of the buffer, leaves the bytes behind it, and answers its length. Asks that a payload of it fits, and a
-/// buffer of at least its length.
+/// Writes the encoding of a list to the front of the buffer, and returns its length in bytes. The
+/// rest of the buffer is unchanged. Requires that the encoding fits a payload, and that the buffer
+/// has room for it.
 #[tactic(auto, using(nla_frame::proofs::Emitting::list_fits))]
-pub(crate) fn put_list<T: Nla>(list: &Nlas<T>, buffer: &mut [u8]) -> usize
+pub(crate) fn write_list<T: Nla>(list: &Nlas<T>, buffer: &mut [u8]) -> usize
     requires fits { length (list_string (map T.attribute list.now)) ≤ 65531 }
     requires room { length (list_string (map T.attribute list.now)) ≤ length buffer.old }
     ensures taken { result ≡ length (list_string (map T.attribute list.now)) }
-    ensures written { buffer.new ≡ list_string (map T.attribute list.now) ++ drop (length (list_string (map T.attribute list.now))) buffer.old }
+    ensures written { buffer.new
+        ≡ list_string (map T.attribute list.now)
+        ++ drop (length (list_string (map T.attribute list.now))) buffer.old }
 {
-    put_attributes(list.as_slice(), buffer)
+    write_attributes(list.as_slice(), buffer)
 }
 
-/// The length of the list's string where a payload of it fits, and else `None`.
+/// The length, in bytes, of the encoding of a list, or `None` if it does not fit a payload.
 #[tactic(auto, using(nla_frame::proofs::Emitting::list_fits))]
 pub(crate) fn list_fit_len<T: Nla>(list: &Nlas<T>) -> Option<usize>
-    ensures { SomeIff result (length (list_string (map T.attribute list.now)) ≤ 65531) (length (list_string (map T.attribute list.now))) }
+    ensures { SomeIff result (length (list_string (map T.attribute list.now)) ≤ 65531)
+        (length (list_string (map T.attribute list.now))) }
 {
     fitting(nlas_fit_len(list.as_slice())?)
 }
 
-/// Writes the attribute's string in the same way.
+/// Writes the encoding of one attribute to the front of the buffer, and returns its length in
+/// bytes. The rest of the buffer is unchanged. Requires that the encoding fits a payload, and that
+/// the buffer has room for it.
 #[tactic(auto, using(nla_frame::proofs::Emitting::one_fits))]
-pub(crate) fn put_one<T: Nla>(nla: &T, buffer: &mut [u8]) -> usize
+pub(crate) fn write_one<T: Nla>(nla: &T, buffer: &mut [u8]) -> usize
     requires fits { length (canonical_string (T.attribute nla.now)) ≤ 65531 }
     requires room { length (canonical_string (T.attribute nla.now)) ≤ length buffer.old }
     ensures taken { result ≡ length (canonical_string (T.attribute nla.now)) }
-    ensures written { buffer.new ≡ canonical_string (T.attribute nla.now) ++ drop (length (canonical_string (T.attribute nla.now))) buffer.old }
+    ensures written { buffer.new
+        ≡ canonical_string (T.attribute nla.now)
+        ++ drop (length (canonical_string (T.attribute nla.now))) buffer.old }
 {
-    put_attribute(nla, buffer)
+    write_attribute(nla, buffer)
 }
 
-/// The length of the attribute's string where a payload of it fits, and else `None`.
+/// The length, in bytes, of the encoding of one attribute, or `None` if it does not fit a payload.
 #[tactic(auto, using(nla_frame::proofs::Emitting::one_fits))]
 pub(crate) fn one_fit_len<T: Nla>(nla: &T) -> Option<usize>
-    ensures { SomeIff result (length (canonical_string (T.attribute nla.now)) ≤ 65531) (length (canonical_string (T.attribute nla.now))) }
+    ensures { SomeIff result (length (canonical_string (T.attribute nla.now)) ≤ 65531)
+        (length (canonical_string (T.attribute nla.now))) }
 {
     fitting(4 + nla.fit_len()?.next_multiple_of(4))
 }

@@ -1,5 +1,5 @@
--- Which attributes of device links are well formed, by the variant of each: what a number, an
--- address or a kept attribute must be.
+-- Which attributes of device links are well formed, by the variant of each: the conditions on a
+-- number, an address or an opaque attribute.
 use Rattle.std.specs.Prelude.{◌≡◌, ◌↔◌, ℕ, suc, ◌-◌, ◌<◌, ◌≤◌, ◌^◌, Bool, true, false, refl}
 use Rattle.std.proofs.Common.{sym, ap, subst, ◌∙◌}
 use Rattle.nla_frame.specs.declared.error.Family.TheVariants as family
@@ -61,7 +61,7 @@ use Rattle.linkinfo_devices.specs.declared.macvtap.InfoMacVtap.TheViews.{out-rol
 use Rattle.linkinfo_devices.specs.declared.macvtap.InfoMacVtap.TheViews.{roll-InfoMacVtap}
 use Rattle.linkinfo_devices.specs.declared.macvtap.InfoMacVtap.TheViews.{roll-out-InfoMacVtap}
 
--- ---- Ipvlan links
+-- ---- `ipvlan` links
 
 abbrev pub ip_vlan_conditions : InfoIpVlan → Type 0
 ip_vlan_conditions (ip_vlan.Mode mode) = IsNumber ip_vlan_mode_table (2 ^ 16) mode
@@ -85,7 +85,7 @@ ip_vlan_stated = elim [
   | _ ↦ (λ w. subst ip_vlan_conditions w.2 w.1, λ h. (_, h, refl))
 ]
 
--- ---- Ipvtap links
+-- ---- `ipvtap` links
 
 abbrev pub ip_vtap_conditions : InfoIpVtap → Type 0
 ip_vtap_conditions (ip_vtap.Mode mode) = IsNumber ip_vlan_mode_table (2 ^ 16) mode
@@ -109,7 +109,7 @@ ip_vtap_stated = elim [
   | _ ↦ (λ w. subst ip_vtap_conditions w.2 w.1, λ h. (_, h, refl))
 ]
 
--- ---- IP over InfiniBand links
+-- ---- `ipoib` links
 
 abbrev pub ipoib_conditions : InfoIpoib → Type 0
 ipoib_conditions (ipoib.Pkey n) = n < 2 ^ 16
@@ -134,7 +134,7 @@ ipoib_stated = elim [
   | _ ↦ (λ w. subst ipoib_conditions w.2 w.1, λ h. (_, h, refl))
 ]
 
--- ---- MACsec links
+-- ---- `macsec` links
 
 abbrev pub mac_sec_conditions : InfoMacSec → Type 0
 mac_sec_conditions (mac_sec.Sci n) = n < 2 ^ 64
@@ -174,7 +174,7 @@ mac_sec_stated = elim [
   | _ ↦ (λ w. subst mac_sec_conditions w.2 w.1, λ h. (_, h, refl))
 ]
 
--- ---- Qualcomm modem links
+-- ---- `rmnet` links
 
 abbrev pub rm_net_conditions : InfoRmNet → Type 0
 rm_net_conditions (rm_net.MuxId n) = n < 2 ^ 16
@@ -198,7 +198,7 @@ rm_net_stated = elim [
   | _ ↦ (λ w. subst rm_net_conditions w.2 w.1, λ h. (_, h, refl))
 ]
 
--- ---- VRF links
+-- ---- `vrf` links
 
 abbrev pub vrf_conditions : InfoVrf → Type 0
 vrf_conditions (vrf.TableId n) = n < 2 ^ 32
@@ -218,7 +218,7 @@ vrf_stated = elim [
   | _ ↦ (λ w. subst vrf_conditions w.2 w.1, λ h. (_, h, refl))
 ]
 
--- ---- XFRM links
+-- ---- `xfrm` links
 
 abbrev pub xfrm_conditions : InfoXfrm → Type 0
 xfrm_conditions (xfrm.Link n) = n < 2 ^ 32
@@ -239,7 +239,7 @@ xfrm_stated = elim [
   | _ ↦ (λ w. subst xfrm_conditions w.2 w.1, λ h. (_, h, refl))
 ]
 
--- ---- Macvlan links
+-- ---- `macvlan` links
 
 abbrev pub mac_vlan_variant : layer_of_mac_vlan.InfoMacVlan-F InfoMacVlan → MacView InfoMacVlan
 mac_vlan_variant (layer_of_mac_vlan.Mode m) = view.Mode m
@@ -293,7 +293,7 @@ mac_vlan_is_view = record {
   viewed = mac_vlan_viewed;
 }
 
--- of an attribute inside so many lists, at most 128
+-- the conditions on an attribute inside this many lists, at most 128
 abbrev pub mac_vlan_conditions : ℕ → InfoMacVlan → Type 0
 mac_vlan_conditions around x = mac_conditions mac_vlan_labels mac_vlan_view (128 - around) x
 
@@ -301,9 +301,10 @@ pub mac_vlan_stated : (around : ℕ) (x : InfoMacVlan) →
     WellFormed (λ d. macvlan.Other d) mac_vlan_attribute (λ n. row_of (mac_vlan_rows around n)) x ↔
     mac_vlan_conditions around x
 mac_vlan_stated around x =
-    mac_stated family.MacVlan mac_vlan_attribute mac_vlan_labels mac_vlan_keep mac_vlan_view mac_vlan_is_view (128 - around) x
+    mac_stated family.MacVlan mac_vlan_attribute mac_vlan_labels mac_vlan_keep mac_vlan_view
+    mac_vlan_is_view (128 - around) x
 
--- how many levels of nested lists a value has, from the innermost outwards
+-- the number of levels of nested lists in a value, from the innermost outwards
 abbrev pub mac_vlan_depth_layer : layer_of_mac_vlan.InfoMacVlan-F ℕ → ℕ
 mac_vlan_depth_layer (layer_of_mac_vlan.MacAddrData depths) = suc (deepest depths)
 mac_vlan_depth_layer _ = 0
@@ -336,7 +337,7 @@ mac_vlan_depth_is : (x : InfoMacVlan) →
 mac_vlan_depth_is x = ap (λ (z : InfoMacVlan). mac_vlan_depth z) (sym (roll-out-InfoMacVlan x))
     ∙ mac_vlan_rolled_depth (out-InfoMacVlan x)
 
--- the conditions on a value itself and on those in its lists, however deep
+-- the conditions on a value itself and on those in its lists, at any depth
 abbrev pub mac_vlan_values : InfoMacVlan → Type 0
 mac_vlan_values x = (n : ℕ) × mac_conditions mac_vlan_labels mac_vlan_view n x
 
@@ -349,7 +350,7 @@ mac_vlan_depth_stated around x = let is =
       λ h. is.1 (h.0.0, h.0.1, h.1),
     )
 
--- ---- Macvtap links
+-- ---- `macvtap` links
 
 abbrev pub mac_vtap_variant : layer_of_mac_vtap.InfoMacVtap-F InfoMacVtap → MacView InfoMacVtap
 mac_vtap_variant (layer_of_mac_vtap.Mode m) = view.Mode m
@@ -403,7 +404,7 @@ mac_vtap_is_view = record {
   viewed = mac_vtap_viewed;
 }
 
--- of an attribute inside so many lists, at most 128
+-- the conditions on an attribute inside this many lists, at most 128
 abbrev pub mac_vtap_conditions : ℕ → InfoMacVtap → Type 0
 mac_vtap_conditions around x = mac_conditions mac_vtap_labels mac_vtap_view (128 - around) x
 
@@ -411,9 +412,10 @@ pub mac_vtap_stated : (around : ℕ) (x : InfoMacVtap) →
     WellFormed (λ d. macvtap.Other d) mac_vtap_attribute (λ n. row_of (mac_vtap_rows around n)) x ↔
     mac_vtap_conditions around x
 mac_vtap_stated around x =
-    mac_stated family.MacVtap mac_vtap_attribute mac_vtap_labels mac_vtap_keep mac_vtap_view mac_vtap_is_view (128 - around) x
+    mac_stated family.MacVtap mac_vtap_attribute mac_vtap_labels mac_vtap_keep mac_vtap_view
+    mac_vtap_is_view (128 - around) x
 
--- how many levels of nested lists a value has, from the innermost outwards
+-- the number of levels of nested lists in a value, from the innermost outwards
 abbrev pub mac_vtap_depth_layer : layer_of_mac_vtap.InfoMacVtap-F ℕ → ℕ
 mac_vtap_depth_layer (layer_of_mac_vtap.MacAddrData depths) = suc (deepest depths)
 mac_vtap_depth_layer _ = 0
@@ -446,7 +448,7 @@ mac_vtap_depth_is : (x : InfoMacVtap) →
 mac_vtap_depth_is x = ap (λ (z : InfoMacVtap). mac_vtap_depth z) (sym (roll-out-InfoMacVtap x))
     ∙ mac_vtap_rolled_depth (out-InfoMacVtap x)
 
--- the conditions on a value itself and on those in its lists, however deep
+-- the conditions on a value itself and on those in its lists, at any depth
 abbrev pub mac_vtap_values : InfoMacVtap → Type 0
 mac_vtap_values x = (n : ℕ) × mac_conditions mac_vtap_labels mac_vtap_view n x
 

@@ -1,10 +1,18 @@
--- The rows of IP over InfiniBand.
+-- The rows of `ipoib` links.
 use Rattle.std.specs.Prelude.{◌≡◌, ℕ, List, [], ◌∷◌, refl}
 use Rattle.std.proofs.Common.{ap}
 use Rattle.nla_frame.specs.Attribute.{Attribute}
 use Rattle.nla_frame.specs.Kept.{attribute_of}
 use Rattle.nla_frame.specs.declared.error.Family.TheVariants as family
-use Rattle.linkinfo_table.specs.FamilyRows.{PlainRow, row, typed, table_row, lookup_of, lookup_in, EachKeeps}
+use Rattle.linkinfo_table.specs.FamilyRows.{
+  PlainRow,
+  row,
+  typed,
+  table_row,
+  lookup_of,
+  lookup_in,
+  EachKeeps,
+}
 use Rattle.linkinfo_table.specs.FamilyRowLaws.{table_lookup}
 use Rattle.linkinfo_shapes.specs.Table.{shape_of}
 use Rattle.linkinfo_shapes.specs.declared.shape.Shape.TheVariants.{Le16}
@@ -32,5 +40,6 @@ ipoib_keeps = each_keeps ipoib_attribute ipoib_rows refl
     (λ n. refl, (λ n. ap (typed 2 Le16) (key-value_of ipoib_mode_table_holds n), (λ n. refl, tt)))
 
 -- these are the rows of the table of all families
-pub ipoib_lookup : (number : ℕ) → lookup_of (table_row ipoib_rows number) ≡ lookup_in (shape_of family.Ipoib number)
+pub ipoib_lookup : (number : ℕ) →
+    lookup_of (table_row ipoib_rows number) ≡ lookup_in (shape_of family.Ipoib number)
 ipoib_lookup number = table_lookup ipoib_rows number

@@ -1,11 +1,17 @@
--- The rows of ipvlan links.
+-- The rows of `ipvlan` links.
 use Rattle.std.specs.Prelude.{◌≡◌, ℕ, List, refl}
 use Rattle.nla_frame.specs.Attribute.{Attribute}
 use Rattle.nla_frame.specs.Kept.{attribute_of}
 use Rattle.nla_frame.specs.declared.error.Family.TheVariants as family
 use Rattle.linkinfo_table.specs.FamilyRows.{PlainRow, table_row, lookup_of, lookup_in, EachKeeps}
 use Rattle.linkinfo_shapes.specs.Table.{shape_of}
-use Rattle.linkinfo_devices.specs.ModeAndFlags.{mode_and_flags_rows, mode_and_flags_keep, mode_and_flags_lookup, mode_attribute, flags_attribute}
+use Rattle.linkinfo_devices.specs.ModeAndFlags.{
+  mode_and_flags_rows,
+  mode_and_flags_keep,
+  mode_and_flags_lookup,
+  mode_attribute,
+  flags_attribute,
+}
 use Rattle.linkinfo_devices.specs.declared.ipvlan.InfoIpVlan.{InfoIpVlan}
 use Rattle.linkinfo_devices.specs.declared.ipvlan.InfoIpVlan.TheVariants.{Mode, Flags, Other}
 
@@ -21,5 +27,6 @@ pub ip_vlan_keeps : EachKeeps ip_vlan_attribute ip_vlan_rows
 ip_vlan_keeps = mode_and_flags_keep ip_vlan_attribute Mode Flags (λ _. refl) (λ _. refl)
 
 -- these are the rows of the table of all families
-pub ip_vlan_lookup : (number : ℕ) → lookup_of (table_row ip_vlan_rows number) ≡ lookup_in (shape_of family.IpVlan number)
+pub ip_vlan_lookup : (number : ℕ) →
+    lookup_of (table_row ip_vlan_rows number) ≡ lookup_in (shape_of family.IpVlan number)
 ip_vlan_lookup number = mode_and_flags_lookup Mode Flags number

@@ -1,4 +1,4 @@
--- Which attributes of macvlan and macvtap links are well formed, by the variant of each, through
+-- Which attributes of `macvlan` and `macvtap` links are well formed, by the variant of each, with
 -- lists of any depth.
 use Rattle.std.specs.Prelude.{◌≡◌, ◌≢◌, ◌↔◌, ℕ, zero, suc, ◌<◌, ◌≤◌, ◌==◌, ◌^◌, ℤ, FitsSigned, Bool}
 use Rattle.std.specs.Prelude.{true, false, List, [], ◌∷◌, length, map, max, refl}
@@ -55,7 +55,7 @@ pub record IsView {X : Type 0} (l : MacLabels X) (view : X → MacView X) : Type
   pub made : (x : X) → of_view l (view x) ≡ x
   pub viewed : (v : MacView X) → view (of_view l v) ≡ v
 
--- what a value must be, given what a list in it must be
+-- the condition on a value, given the condition on a list in it
 abbrev pub view_conditions : {X : Type 0} → MacLabels X → (List X → Type 0) → MacView X → Type 0
 view_conditions l inside (Mode mode) = IsNumber mac_vlan_mode_table (2 ^ 32) mode
 view_conditions l inside (Flags flags) = flags.0 < 2 ^ 16
@@ -68,15 +68,15 @@ view_conditions l inside (BcQueueLenUsed n) = n < 2 ^ 32
 view_conditions l inside (BcCutoff z) = FitsSigned w32 z
 view_conditions l inside (Other d) = IsUnknownBeside 5 (mac_plain_rows l) d
 
--- where lists may have at most `levels` further levels of nesting, and each value of a list meets
--- the conditions at one level less
+-- the condition if lists may have at most `levels` more levels of nesting, with one level less for
+-- each value of a list
 abbrev pub mac_conditions : {X : Type 0} → MacLabels X → (X → MacView X) → ℕ → X → Type 0
 mac_conditions l view zero x = view_conditions l (λ _. ⊥) (view x)
 mac_conditions l view (suc levels) x =
     view_conditions l (λ xs. AllByRecursion (mac_conditions l view levels) xs) (view x)
 
--- how many levels of nested lists there are: none in a value without a list, and in a list one more
--- than in the deepest of its values
+-- the number of levels of nested lists: none in a value without a list, and in a list one more than
+-- in the deepest of its values
 abbrev pub deepest : List ℕ → ℕ
 deepest [] = 0
 deepest (n ∷ ns) = max n (deepest ns)
@@ -150,7 +150,7 @@ module _ {X : Type 0} (f : Family) (attribute : X → Attribute) (l : MacLabels 
     ),
   )
 
-  -- a list is no attribute that is kept
+  -- a list is not an opaque attribute
   no_list : (xs : List X) (d : DefaultNla) → l.mac_addr_data xs ≢ l.other d
   no_list xs d e =
       let views : MacAddrData xs ≡ Other d =
@@ -219,7 +219,7 @@ module _ {X : Type 0} (f : Family) (attribute : X → Attribute) (l : MacLabels 
   abbrev inside_of : ℕ → List X → Type 0
   inside_of levels xs = AllByRecursion (mac_conditions l view levels) xs
 
-  -- a list at one level more, given that its values are well formed exactly where they meet the
+  -- a list one level deeper, given that its values are well formed if and only if they meet the
   -- conditions
   lists : (levels : ℕ) → ((x : X) → WellIn levels x ↔ mac_conditions l view levels x) →
       (xs : List X) →
@@ -235,7 +235,7 @@ module _ {X : Type 0} (f : Family) (attribute : X → Attribute) (l : MacLabels 
       (λ ys c. (each ys).1
       (subst (view_conditions l (inside_of levels)) (is.viewed (MacAddrData ys)) c)) xs
 
-  -- a value is well formed exactly where it is as these conditions say
+  -- a value is well formed if and only if it meets these conditions
   pub mac_stated : (levels : ℕ) (x : X) → WellIn levels x ↔ mac_conditions l view levels x
   mac_stated zero x = of_value zero (λ _. ⊥)
       (λ xs. (
@@ -253,7 +253,7 @@ module _ {X : Type 0} (l : MacLabels X) (view : X → MacView X) (depth : X → 
   abbrev HoldsAt : ℕ → X → Type 0
   HoldsAt levels x = mac_conditions l view levels x
 
-  -- the conditions say how deep a list is at most
+  -- the conditions bound the depth of a list
   deepest_within : (levels : ℕ) → ((x : X) → HoldsAt levels x → depth x ≤ levels) → (xs : List X) →
       AllByRecursion (HoldsAt levels) xs →
       deepest (map depth xs) ≤ levels
@@ -277,7 +277,7 @@ module _ {X : Type 0} (l : MacLabels X) (view : X → MacView X) (depth : X → 
       (view_within_more levels (λ xs. AllByRecursion (HoldsAt levels) xs)
       (deepest_within levels (within levels)) (view x) h)
 
-  -- and ask for nothing else of the levels
+  -- the conditions require nothing else of the levels
   all_under : (more levels : ℕ) →
       ((x : X) → HoldsAt more x → depth x ≤ levels → HoldsAt levels x) → (xs : List X) →
       AllByRecursion (HoldsAt more) xs →
@@ -314,8 +314,8 @@ module _ {X : Type 0} (l : MacLabels X) (view : X → MacView X) (depth : X → 
       (omega (arith, deep))) (view x) h
       (subst (λ (n : ℕ). n ≤ suc levels) (depth_is x) small)
 
-  -- The conditions hold at a number of levels exactly where they hold at some number, and the value
-  -- has at most that many levels of nested lists.
+  -- The conditions hold at a number of levels if and only if they hold at some number, and the
+  -- value has at most that many levels of nested lists.
   pub mac_depth_stated : (levels : ℕ) (x : X) → HoldsAt levels x ↔
       ((n : ℕ) × HoldsAt n x × (depth x ≤ levels))
   mac_depth_stated levels x = (λ h. (levels, h, within levels x h), λ h. under h.0 levels x h.1 h.2)

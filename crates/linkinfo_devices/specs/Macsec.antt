@@ -1,18 +1,53 @@
--- The rows of MACsec links.
+-- The rows of `macsec` links.
 use Rattle.std.specs.Prelude.{◌≡◌, ℕ, List, [], ◌∷◌, refl}
 use Rattle.std.proofs.Common.{ap}
 use Rattle.nla_frame.specs.Attribute.{Attribute}
 use Rattle.nla_frame.specs.Kept.{attribute_of}
 use Rattle.nla_frame.specs.declared.error.Family.TheVariants as family
-use Rattle.linkinfo_table.specs.FamilyRows.{PlainRow, row, typed, table_row, lookup_of, lookup_in, EachKeeps}
+use Rattle.nla_frame.specs.Pairs.{◌&◌}
+use Rattle.linkinfo_table.specs.FamilyRows.{
+  PlainRow,
+  row,
+  typed,
+  table_row,
+  lookup_of,
+  lookup_in,
+  EachKeeps,
+}
 use Rattle.linkinfo_table.specs.FamilyRowLaws.{table_lookup}
 use Rattle.linkinfo_shapes.specs.Table.{shape_of}
 use Rattle.linkinfo_shapes.specs.declared.shape.Shape.TheVariants.{Le64, Be16, U8, Le32}
 use Rattle.linkinfo_numbers.specs.Table.{key-value_of}
-use Rattle.linkinfo_numbers.specs.Macsec.{mac_sec_cipher_id, mac_sec_cipher_id_number, mac_sec_cipher_id_table_holds, mac_sec_validate, mac_sec_validate_number, mac_sec_validate_table_holds, mac_sec_offload, mac_sec_offload_number, mac_sec_offload_table_holds}
+use Rattle.linkinfo_numbers.specs.Macsec.{
+  mac_sec_cipher_id,
+  mac_sec_cipher_id_number,
+  mac_sec_cipher_id_table_holds,
+  mac_sec_validate,
+  mac_sec_validate_number,
+  mac_sec_validate_table_holds,
+  mac_sec_offload,
+  mac_sec_offload_number,
+  mac_sec_offload_table_holds,
+}
 use Rattle.linkinfo_table.specs.Labels.{each_keeps}
 use Rattle.linkinfo_devices.specs.declared.macsec.InfoMacSec.{InfoMacSec}
-use Rattle.linkinfo_devices.specs.declared.macsec.InfoMacSec.TheVariants.{Sci, Port, IcvLen, CipherSuite, Window, EncodingSa, Encrypt, Protect, IncSci, Es, Scb, ReplayProtect, Validation, Offload, Other}
+use Rattle.linkinfo_devices.specs.declared.macsec.InfoMacSec.TheVariants.{
+  Sci,
+  Port,
+  IcvLen,
+  CipherSuite,
+  Window,
+  EncodingSa,
+  Encrypt,
+  Protect,
+  IncSci,
+  Es,
+  Scb,
+  ReplayProtect,
+  Validation,
+  Offload,
+  Other,
+}
 
 abbrev pub mac_sec_rows : List (PlainRow InfoMacSec)
 mac_sec_rows =
@@ -51,8 +86,23 @@ mac_sec_attribute (Other nla) = attribute_of nla
 
 pub mac_sec_keeps : EachKeeps mac_sec_attribute mac_sec_rows
 mac_sec_keeps = each_keeps mac_sec_attribute mac_sec_rows refl
-    (λ n. refl, (λ n. refl, (λ n. refl, (λ n. ap (typed 4 Le64) (key-value_of mac_sec_cipher_id_table_holds n), (λ n. refl, (λ n. refl, (λ n. refl, (λ n. refl, (λ n. refl, (λ n. refl, (λ n. refl, (λ n. refl, (λ n. ap (typed 13 U8) (key-value_of mac_sec_validate_table_holds n), (λ n. ap (typed 15 U8) (key-value_of mac_sec_offload_table_holds n), tt))))))))))))))
+    ((λ n. refl)
+    & (λ n. refl)
+    & (λ n. refl)
+    & (λ n. ap (typed 4 Le64) (key-value_of mac_sec_cipher_id_table_holds n))
+    & (λ n. refl)
+    & (λ n. refl)
+    & (λ n. refl)
+    & (λ n. refl)
+    & (λ n. refl)
+    & (λ n. refl)
+    & (λ n. refl)
+    & (λ n. refl)
+    & (λ n. ap (typed 13 U8) (key-value_of mac_sec_validate_table_holds n))
+    & (λ n. ap (typed 15 U8) (key-value_of mac_sec_offload_table_holds n))
+    & tt)
 
 -- these are the rows of the table of all families
-pub mac_sec_lookup : (number : ℕ) → lookup_of (table_row mac_sec_rows number) ≡ lookup_in (shape_of family.MacSec number)
+pub mac_sec_lookup : (number : ℕ) →
+    lookup_of (table_row mac_sec_rows number) ≡ lookup_in (shape_of family.MacSec number)
 mac_sec_lookup number = table_lookup mac_sec_rows number

@@ -1,11 +1,40 @@
--- Families of which attributes of type 5 hold lists of the family's own attributes, at most 128 lists inside one another: their rows by the
--- number of lists round an attribute, and what these rows say of type 5 and of every other.
-use Rattle.std.specs.Prelude.{◌≡◌, ◌≢◌, ℕ, zero, suc, ◌+◌, ◌-◌, ◌*◌, ◌<◌, ◌≤◌, ◌==◌, ◌&&◌, Bool, true, false, if◌then◌else◌, ltb, List, length, map, Result, Ok, Err, Option, Some, None, refl}
+-- Families in which attributes of type 5 contain lists of the family's own attributes, with at most
+-- 128 nested lists. Their rows by the number of lists around an attribute, and what these rows say
+-- of type 5 and of every other type.
+use Rattle.std.specs.Prelude.{
+  ◌≡◌,
+  ◌≢◌,
+  ℕ,
+  zero,
+  suc,
+  ◌+◌,
+  ◌-◌,
+  ◌*◌,
+  ◌<◌,
+  ◌≤◌,
+  ◌==◌,
+  ◌&&◌,
+  Bool,
+  true,
+  false,
+  if◌then◌else◌,
+  ltb,
+  List,
+  length,
+  map,
+  Result,
+  Ok,
+  Err,
+  Option,
+  Some,
+  None,
+  refl,
+}
 use Rattle.std.proofs.Common.{sym, ap, subst, ◌∙◌, arith}
 use Rattle.std.proofs.lemmas.Bool.{eqb-true, eq-eqb, and_from, lt-ltb, le-ltb}
 use denote.Ref.{Bor}
 use Rattle.nla_frame.specs.Attribute.{Attribute, masked, list_string}
-use Rattle.nla_frame.specs.Pieces.{pieces}
+use Rattle.nla_frame.specs.NlaItems.{nla_items}
 use Rattle.nla_frame.specs.declared.error.Cause.TheVariants as cause
 use Rattle.nla_frame.specs.declared.error.Family.{Family}
 use Rattle.nla_frame.specs.declared.error.DecodeError.{DecodeError}
@@ -13,13 +42,44 @@ use Rattle.nla_frame.specs.declared.default_nla.DefaultNla.{DefaultNla}
 use Rattle.linkinfo_shapes.specs.declared.shape.Shape.TheVariants as shape
 use Rattle.linkinfo_table.specs.declared.lookup.Lookup.{Lookup}
 use Rattle.linkinfo_table.specs.declared.lookup.Lookup.TheVariants as lookup
-use Rattle.linkinfo_table.specs.Rows.{Row, labelled, row_meaning, meaning_in, row_alike, alike_in, row_headers, headers_inside, row_needs_memory, memory_in}
-use Rattle.linkinfo_table.specs.FamilyRows.{FamilyRow, Plain, Custom, Refuses, Absent, row_of, row_if, lookup_of, IsFlat, PutsLabelled, Puts, SuitsFound, SuitsRow, PlainRow, table_row, EachKeeps, RowOwes, find, plain_or_absent}
-use Rattle.linkinfo_table.specs.FaultMemory.{OwnIsOther}
+use Rattle.linkinfo_table.specs.Rows.{
+  Row,
+  labelled,
+  row_meaning,
+  meaning_in,
+  row_alike,
+  alike_in,
+  row_headers,
+  headers_inside,
+  row_needs_memory,
+  memory_in,
+}
+use Rattle.linkinfo_table.specs.FamilyRows.{
+  FamilyRow,
+  Plain,
+  Custom,
+  Refuses,
+  Absent,
+  row_of,
+  row_if,
+  lookup_of,
+  IsFlat,
+  StoresLabelled,
+  Stores,
+  SuitsDecoded,
+  SuitsRow,
+  PlainRow,
+  table_row,
+  EachKeeps,
+  RowOwes,
+  find,
+  plain_or_absent,
+}
+use Rattle.linkinfo_table.specs.ErrorMemory.{OwnIsOther}
 use Rattle.linkinfo_table.specs.FamilyRowLaws.{owed, table_flat, table_owes}
 use Rattle.linkinfo_table.specs.RowLaws.{rows_quarter}
-use Rattle.linkinfo_table.specs.declared.found.Found.{Found}
-use Rattle.linkinfo_table.specs.declared.found.Found.TheVariants as found
+use Rattle.linkinfo_table.specs.declared.decoded.Decoded.{Decoded}
+use Rattle.linkinfo_table.specs.declared.decoded.Decoded.TheVariants as found
 use Rattle.linkinfo_shapes.specs.Data.{value_of}
 use Rattle.linkinfo_table.specs.Levels.{level_rows, level_owes, inner_codec}
 use Rattle.linkinfo_table.specs.LookupLaws.{flat_unnested, list_no_peer, row_says}
@@ -27,18 +87,23 @@ use Rattle.linkinfo_table.specs.Lookups.{HoldsList, LookupSays}
 use Rattle.linkinfo_table.specs.Lists.{values, headers_of, alike_pairs, memory_of}
 use Rattle.linkinfo_table.specs.SelfList.{inside}
 
--- the value that holds a list, where the list is read
+-- the value that contains a list, if the list is read
 abbrev pub in_list : {X Y : Type 0} → (X → Y) → Result X DecodeError → Result Y DecodeError
 in_list label (Ok xs) = Ok (label xs)
 in_list label (Err e) = Err e
 
--- a value whose payload the family writes itself lends its list, of which the payload is the string
-abbrev pub LendsList : {X : Type 0} → (X → Attribute) → (X → Bool) → X → Option (Bor (List X)) → Type 0
-LendsList canonical is_custom x (Some list) = canonical x ≡ record { kind = 5; value = list_string (map canonical list.now) }
+-- a value with a payload that the family writes itself gives access to its list, whose byte string
+-- is the payload
+abbrev pub LendsList : {X : Type 0} → (X → Attribute) → (X → Bool) → X → Option (Bor (List X)) →
+    Type 0
+LendsList canonical is_custom x (Some list) =
+    canonical x ≡ record { kind = 5; value = list_string (map canonical list.now) }
 LendsList canonical is_custom x None = is_custom x ≡ false
 
--- inside an attribute whose row has a shape of the table, or none, no header is looked at
-pub flat_headers : {X : Type 0} (rows : ℕ → FamilyRow X) (a : Attribute) → IsFlat (rows (masked a.kind)) → headers_inside (λ n. row_of (rows n)) a ≡ 0
+-- inside an attribute with a row that has a shape of the table, or without a row, no header is
+-- examined
+pub flat_headers : {X : Type 0} (rows : ℕ → FamilyRow X) (a : Attribute) →
+    IsFlat (rows (masked a.kind)) → headers_inside (λ n. row_of (rows n)) a ≡ 0
 unfolding headers_inside
 flat_headers {X = X} rows a flat = go (rows (masked a.kind)) flat
   where
@@ -48,58 +113,77 @@ flat_headers {X = X} rows a flat = go (rows (masked a.kind)) flat
     go (Refuses cause) h = refl
     go Absent h = refl
 
--- the rows of an attribute inside `around` lists, by the family's rows of the table
-abbrev pub nested_rows : {X : Type 0} → Family → (DefaultNla → X) → (X → Attribute) → (List X → X) → List (PlainRow X) → ℕ → ℕ → FamilyRow X
-nested_rows f other attribute label plain around n = level_rows f other attribute 5 label (λ k. table_row plain k) (128 - around) n
+-- the rows of an attribute inside `around` lists, given the family's rows of the table
+abbrev pub nested_rows : {X : Type 0} → Family → (DefaultNla → X) → (X → Attribute) → (List X → X) →
+    List (PlainRow X) → ℕ → ℕ → FamilyRow X
+nested_rows f other attribute label plain around n =
+    level_rows f other attribute 5 label (λ k. table_row plain k) (128 - around) n
 
--- what such a family says of a masked type, given what the table of all families says: a list inside 128 others is refused
+-- how such a family reads a masked type, given the table of all families: a list nested in 128
+-- others is rejected
 abbrev pub nested_lookup : ℕ → ℕ → Lookup → Lookup
-nested_lookup around n table = if (n == 5) && ltb 127 around then lookup.Refused cause.Depth else table
+nested_lookup around n table = if (n == 5) && ltb 127 around then lookup.Refused cause.Depth
+    else table
 
-module _ {X : Type 0} (f : Family) (other : DefaultNla → X) (attribute : X → Attribute) (label : List X → X) (plain : List (PlainRow X)) where
+module _ {X : Type 0} (f : Family) (other : DefaultNla → X) (attribute : X → Attribute)
+    (label : List X → X) (plain : List (PlainRow X)) where
   abbrev at : ℕ → ℕ → Row X
   at around n = row_of (nested_rows f other attribute label plain around n)
 
   abbrev level : ℕ → ℕ → Row X
   level levels n = row_of (level_rows f other attribute 5 label (λ k. table_row plain k) levels n)
 
-  -- the row of type 5 where a list more may stand inside
+  -- the row of type 5 if one more list may be nested
   abbrev list_row : ℕ → Row X
-  list_row levels = row_of (Custom shape.SelfList (inner_codec f other attribute 5 label (λ k. table_row plain k) (λ k. level levels k)) label)
+  list_row levels =
+      row_of (Custom shape.SelfList
+      (inner_codec f other attribute 5 label (λ k. table_row plain k) (λ k. level levels k)) label)
 
   five : (c n : ℕ) → c < 128 → n ≡ 5 → at c n ≡ list_row (128 - (c + 1))
   five c n h e =
       let one_less : 128 - c ≡ suc (128 - (c + 1)) = omega (arith, h) in
       ap (λ (levels : ℕ). level levels n) one_less ∙ ap (λ (k : ℕ). level (suc (128 - (c + 1))) k) e
 
-  labelled_inside : (n : ℕ) (r : Result (List X) DecodeError) → labelled f n label (inside r) ≡ in_list label r
+  labelled_inside : (n : ℕ) (r : Result (List X) DecodeError) →
+      labelled f n label (inside r) ≡ in_list label r
   labelled_inside n (Ok xs) = refl
   labelled_inside n (Err e) = refl
 
-  -- type 5 under a list less than the most means what a list of the same family under one list more means, and so on
+  -- type 5 below the maximum depth means what a list of the same family one level deeper means
   pub list_means : (c : ℕ) (a : Attribute) → c < 128 → masked a.kind ≡ 5 →
-      meaning_in f other (λ n. at c n) a ≡ in_list label (values (meaning_in f other (λ n. at (c + 1) n)) (pieces a.value))
+      meaning_in f other (λ n. at c n) a
+      ≡ in_list label (values (meaning_in f other (λ n. at (c + 1) n)) (nla_items a.value))
   unfolding meaning_in
-  list_means c a h e = ap (λ (r : Row X). row_meaning f other r a) (five c (masked a.kind) h e) ∙ labelled_inside (masked a.kind) _
+  list_means c a h e =
+      ap (λ (r : Row X). row_meaning f other r a) (five c (masked a.kind) h e)
+      ∙ labelled_inside (masked a.kind) _
 
   pub list_needs_memory : (c : ℕ) (a : Attribute) → c < 128 → masked a.kind ≡ 5 →
-      memory_in (λ n. at c n) a ≡ memory_of (meaning_in f other (λ n. at (c + 1) n)) (memory_in (λ n. at (c + 1) n)) (pieces a.value)
+      memory_in (λ n. at c n) a
+      ≡ memory_of (meaning_in f other (λ n. at (c + 1) n)) (memory_in (λ n. at (c + 1) n))
+      (nla_items a.value)
   unfolding memory_in
   list_needs_memory c a h e = ap (λ (r : Row X). row_needs_memory r a) (five c (masked a.kind) h e)
 
   pub list_headers : (c : ℕ) (a : Attribute) → c < 128 → masked a.kind ≡ 5 →
-      headers_inside (λ n. at c n) a ≡ headers_of (meaning_in f other (λ n. at (c + 1) n)) (headers_inside (λ n. at (c + 1) n)) (pieces a.value)
+      headers_inside (λ n. at c n) a
+      ≡ headers_of (meaning_in f other (λ n. at (c + 1) n)) (headers_inside (λ n. at (c + 1) n))
+      (nla_items a.value)
   unfolding headers_inside
   list_headers c a h e = ap (λ (r : Row X). row_headers r a) (five c (masked a.kind) h e)
 
   pub list_alike : (c : ℕ) (a b : Attribute) → c < 128 → masked a.kind ≡ 5 →
-      alike_in (λ n. at c n) a b ≡ ((masked b.kind == masked a.kind) && alike_pairs (alike_in (λ n. at (c + 1) n)) (pieces a.value) (pieces b.value))
+      alike_in (λ n. at c n) a
+      b ≡ ((masked b.kind == masked a.kind)
+      && alike_pairs (alike_in (λ n. at (c + 1) n)) (nla_items a.value) (nla_items b.value))
   unfolding alike_in
   list_alike c a b h e = ap (λ (r : Row X). row_alike r a b) (five c (masked a.kind) h e)
 
-  -- every other type, and type 5 under the most lists, has a row of the table, is refused, or has none
+  -- every other type, and type 5 at the maximum depth, has a row of the table, is rejected, or has
+  -- none
   module _ (keeps : EachKeeps attribute plain) where
-    elsewhere : (levels n : ℕ) → (n ≡ 5 → levels ≡ 0) → IsFlat (level_rows f other attribute 5 label (λ k. table_row plain k) levels n)
+    elsewhere : (levels n : ℕ) → (n ≡ 5 → levels ≡ 0) →
+        IsFlat (level_rows f other attribute 5 label (λ k. table_row plain k) levels n)
     elsewhere zero n h = go (n == 5)
       where
         go : (b : Bool) → IsFlat (row_if b (Refuses cause.Depth) (table_row plain n))
@@ -108,57 +192,100 @@ module _ {X : Type 0} (f : Family) (other : DefaultNla → X) (attribute : X →
     elsewhere (suc levels) n h = go (n == 5) refl
       where
         go : (b : Bool) → (n == 5) ≡ b →
-            IsFlat (row_if b (Custom shape.SelfList (inner_codec f other attribute 5 label (λ k. table_row plain k) (λ k. level levels k)) label) (table_row plain n))
+            IsFlat (row_if b (Custom shape.SelfList
+            (inner_codec f other attribute 5 label (λ k. table_row plain k) (λ k. level levels k))
+            label) (table_row plain n))
         go true e = absurd (let never : suc levels ≡ 0 = h (eqb-true n 5 e) in cc)
         go false e = table_flat attribute plain keeps n
 
-    pub flat_elsewhere : (c n : ℕ) → (n ≡ 5 → 128 ≤ c) → IsFlat (nested_rows f other attribute label plain c n)
+    pub flat_elsewhere : (c n : ℕ) → (n ≡ 5 → 128 ≤ c) →
+        IsFlat (nested_rows f other attribute label plain c n)
     flat_elsewhere c n h = elsewhere (128 - c) n (λ e. omega (arith, h e))
 
-    pub nested_owes : (keeps_list : (xs : List X) → attribute (label xs) ≡ record { kind = 5; value = list_string (map attribute xs) }) →
+    pub nested_owes : (keeps_list : (xs : List X) →
+        attribute (label xs) ≡ record { kind = 5; value = list_string (map attribute xs) }) →
         (same : (xs ys : List X) → label xs ≡ label ys → xs ≡ ys) →
-        (keeps_other : (d : DefaultNla) → attribute (other d) ≡ record { kind = d.kind; value = d.value }) →
+        (keeps_other : (d : DefaultNla) →
+        attribute (other d) ≡ record { kind = d.kind; value = d.value }) →
         (c n : ℕ) → RowOwes attribute n (at c n)
     nested_owes keeps_list same keeps_other c n =
-        level_owes f other attribute 5 label (λ k. table_row plain k) (omega arith) keeps_list same keeps_other (λ k. table_owes attribute plain keeps k) (128 - c) n
+        level_owes f other attribute 5 label (λ k. table_row plain k) (omega arith) keeps_list same
+        keeps_other (λ k. table_owes attribute plain keeps k) (128 - c) n
 
-    -- what the rows say of a type is what its attributes mean: type 5 under less than the most lists is a list of the family under one list more
-    module _ (keeps_list : (xs : List X) → attribute (label xs) ≡ record { kind = 5; value = list_string (map attribute xs) })
+    -- the rows agree with what the attributes of a type mean: type 5 below the maximum depth is a
+    -- list of the family one level deeper
+    module _ (keeps_list : (xs : List X) →
+        attribute (label xs) ≡ record { kind = 5; value = list_string (map attribute xs) })
         (owes : (c n : ℕ) → RowOwes attribute n (at c n)) where
       abbrev meaning : ℕ → Attribute → Result X DecodeError
       meaning c a = meaning_in f other (λ n. at c n) a
 
       list_says : (a : Attribute) (levels : ℕ) → levels < 128 → masked a.kind ≡ 5 →
           LookupSays f other attribute meaning a (lookup.Is shape.SelfList)
-          (row_meaning f other (row_of (Custom shape.SelfList (inner_codec f other attribute 5 label (λ k. table_row plain k) (λ k. level levels k)) label)) a)
+          (row_meaning f other (row_of
+          (Custom shape.SelfList
+          (inner_codec f other attribute 5 label (λ k. table_row plain k) (λ k. level levels k))
+          label)) a)
       list_says a levels below e = record {
         plain = λ h. absurd h;
-        list = λ _. (128 - levels, subst (λ (n : ℕ). HoldsList attribute a (values (meaning_in f other (λ k. level n k)) (pieces a.value)) (labelled f (masked a.kind) label (inside (values (meaning_in f other (λ k. level levels k)) (pieces a.value))))) (omega (arith, below)) (go (values (meaning_in f other (λ k. level levels k)) (pieces a.value))));
+        list = λ _. (
+          128 - levels,
+          subst (λ (n : ℕ).
+              HoldsList attribute a
+              (values (meaning_in f other (λ k. level n k)) (nla_items a.value))
+              (labelled f (masked a.kind) label
+              (inside (values (meaning_in f other (λ k. level levels k)) (nla_items a.value)))))
+              (omega (arith, below))
+              (go (values (meaning_in f other (λ k. level levels k)) (nla_items a.value))),
+        );
         peer = λ h. absurd (list_no_peer h);
         peer_typed = λ h. absurd (list_no_peer h);
       }
         where
-          go : (r : Result (List X) DecodeError) → HoldsList attribute a r (labelled f (masked a.kind) label (inside r))
-          go (Ok xs) = (label xs, refl, keeps_list xs ∙ ap (λ (n : ℕ). let b : Attribute = record { kind = n; value = list_string (map attribute xs) } in b) (sym e))
+          go : (r : Result (List X) DecodeError) →
+              HoldsList attribute a r (labelled f (masked a.kind) label (inside r))
+          go (Ok xs) = (
+            label xs,
+            refl,
+            keeps_list xs
+                ∙ ap (λ (n : ℕ). let b : Attribute =
+                record { kind = n; value = list_string (map attribute xs) } in b) (sym e),
+          )
           go (Err d) = refl
 
-      says_at : (levels : ℕ) (a : Attribute) → levels ≤ 128 → RowOwes attribute (masked a.kind) (level levels (masked a.kind)) →
-          LookupSays f other attribute meaning a (lookup_of (level_rows f other attribute 5 label (λ k. table_row plain k) levels (masked a.kind)))
+      says_at : (levels : ℕ) (a : Attribute) → levels ≤ 128 →
+          RowOwes attribute (masked a.kind) (level levels (masked a.kind)) →
+          LookupSays f other attribute meaning a
+          (lookup_of
+          (level_rows f other attribute 5 label (λ k. table_row plain k) levels (masked a.kind)))
           (row_meaning f other (level levels (masked a.kind)) a)
       says_at zero a le owed =
-          row_says f other attribute attribute (λ _. refl) meaning _ a (flat_unnested _ (elsewhere 0 (masked a.kind) (λ _. refl))) owed
+          row_says f other attribute attribute (λ _. refl) meaning _ a
+          (flat_unnested _ (elsewhere 0 (masked a.kind) (λ _. refl))) owed
       says_at (suc levels) a le owed = go (masked a.kind == 5) refl owed
         where
           go : (b : Bool) → (masked a.kind == 5) ≡ b →
-              RowOwes attribute (masked a.kind) (row_of (row_if b (Custom shape.SelfList (inner_codec f other attribute 5 label (λ k. table_row plain k) (λ k. level levels k)) label) (table_row plain (masked a.kind)))) →
+              RowOwes attribute (masked a.kind)
+              (row_of (row_if b (Custom shape.SelfList
+              (inner_codec f other attribute 5 label (λ k. table_row plain k) (λ k. level levels k))
+              label) (table_row plain (masked a.kind)))) →
               LookupSays f other attribute meaning a
-              (lookup_of (row_if b (Custom shape.SelfList (inner_codec f other attribute 5 label (λ k. table_row plain k) (λ k. level levels k)) label) (table_row plain (masked a.kind))))
-              (row_meaning f other (row_of (row_if b (Custom shape.SelfList (inner_codec f other attribute 5 label (λ k. table_row plain k) (λ k. level levels k)) label) (table_row plain (masked a.kind)))) a)
+              (lookup_of (row_if b (Custom shape.SelfList
+              (inner_codec f other attribute 5 label (λ k. table_row plain k) (λ k. level levels k))
+              label) (table_row plain (masked a.kind))))
+              (row_meaning f other (row_of
+              (row_if b (Custom shape.SelfList
+              (inner_codec f other attribute 5 label (λ k. table_row plain k) (λ k. level levels k))
+              label) (table_row plain (masked a.kind)))) a)
           go true e h = list_says a levels (omega (arith, le)) (eqb-true (masked a.kind) 5 e)
-          go false e h = row_says f other attribute attribute (λ _. refl) meaning _ a (flat_unnested _ (table_flat attribute plain keeps (masked a.kind))) h
+          go false e h =
+              row_says f other attribute attribute (λ _. refl) meaning _ a
+              (flat_unnested _ (table_flat attribute plain keeps (masked a.kind))) h
 
       pub nested_says : (c : ℕ) (a : Attribute) →
-          LookupSays f other attribute meaning a (lookup_of (nested_rows f other attribute label plain c (masked a.kind))) (meaning_in f other (λ n. at c n) a)
+          LookupSays f other attribute meaning a
+          (lookup_of (nested_rows f other attribute label plain c (masked a.kind)))
+          (meaning_in f other (λ n. at c n) a)
       unfolding meaning_in
       nested_says c a = says_at (128 - c) a (omega arith) (owes c (masked a.kind))
 
@@ -166,34 +293,47 @@ module _ {X : Type 0} (f : Family) (other : DefaultNla → X) (attribute : X →
   true_false e = cc
 
   -- what these rows say of a masked type
-  module _ (table : ℕ → Lookup) (list : table 5 ≡ lookup.Is shape.SelfList) (others : (n : ℕ) → n ≢ 5 → lookup_of (table_row plain n) ≡ table n) where
-    elsewhere_is : (c n : ℕ) → (n == 5) ≡ false → lookup_of (table_row plain n) ≡ nested_lookup c n (table n)
+  module _ (table : ℕ → Lookup) (list : table 5 ≡ lookup.Is shape.SelfList)
+      (others : (n : ℕ) → n ≢ 5 → lookup_of (table_row plain n) ≡ table n) where
+    elsewhere_is : (c n : ℕ) → (n == 5) ≡ false →
+        lookup_of (table_row plain n) ≡ nested_lookup c n (table n)
     elsewhere_is c n e =
         others n (λ (h : n ≡ 5). absurd (true_false (sym (eq-eqb n 5 h) ∙ e)))
         ∙ sym (ap (λ (b : Bool). if b && ltb 127 c then lookup.Refused cause.Depth else table n) e)
 
-    pub nested_lookup_is : (c n : ℕ) → lookup_of (nested_rows f other attribute label plain c n) ≡ nested_lookup c n (table n)
+    pub nested_lookup_is : (c n : ℕ) →
+        lookup_of (nested_rows f other attribute label plain c n) ≡ nested_lookup c n (table n)
     nested_lookup_is c n = go (128 - c) refl
       where
-        go : (levels : ℕ) → 128 - c ≡ levels → lookup_of (level_rows f other attribute 5 label (λ k. table_row plain k) levels n) ≡ nested_lookup c n (table n)
+        go : (levels : ℕ) → 128 - c ≡ levels →
+            lookup_of (level_rows f other attribute 5 label (λ k. table_row plain k) levels n)
+            ≡ nested_lookup c n (table n)
         go zero h = by (n == 5) refl
           where
-            by : (b : Bool) → (n == 5) ≡ b → lookup_of (row_if b (Refuses cause.Depth) (table_row plain n)) ≡ nested_lookup c n (table n)
+            by : (b : Bool) → (n == 5) ≡ b →
+                lookup_of (row_if b (Refuses cause.Depth) (table_row plain n))
+                ≡ nested_lookup c n (table n)
             by true e =
-                let deep : ((n == 5) && ltb 127 c) ≡ true = and_from (n == 5) (ltb 127 c) e (lt-ltb 127 c (omega (arith, h))) in
+                let deep : ((n == 5) && ltb 127 c) ≡ true =
+                and_from (n == 5) (ltb 127 c) e (lt-ltb 127 c (omega (arith, h))) in
                 sym (ap (λ (b : Bool). if b then lookup.Refused cause.Depth else table n) deep)
             by false e = elsewhere_is c n e
         go (suc levels) h = by (n == 5) refl
           where
             by : (b : Bool) → (n == 5) ≡ b →
-                lookup_of (row_if b (Custom shape.SelfList (inner_codec f other attribute 5 label (λ k. table_row plain k) (λ k. level levels k)) label) (table_row plain n)) ≡ nested_lookup c n (table n)
+                lookup_of (row_if b (Custom shape.SelfList
+                (inner_codec f other attribute 5 label (λ k. table_row plain k)
+                (λ k. level levels k)) label) (table_row plain n)) ≡ nested_lookup c n (table n)
             by true e =
                 let shallow : ltb 127 c ≡ false = le-ltb 127 c (omega (arith, h)) in
                 sym list ∙ ap table (sym (eqb-true n 5 e))
-                ∙ sym (ap (λ (b : Bool). if (n == 5) && b then lookup.Refused cause.Depth else table n) shallow ∙ ap (λ (b : Bool). if b && false then lookup.Refused cause.Depth else table n) e)
+                ∙ sym (ap
+                (λ (b : Bool). if (n == 5) && b then lookup.Refused cause.Depth else table n)
+                shallow
+                ∙ ap (λ (b : Bool). if b && false then lookup.Refused cause.Depth else table n) e)
             by false e = elsewhere_is c n e
 
-  -- a list, which the family reads itself, is of no shape of the table
+  -- a list, which the family reads itself, has no shape of the table
   flat_other : (r : Option (PlainRow X)) → OwnIsOther (plain_or_absent r)
   flat_other (Some r) = tt
   flat_other None = tt
@@ -201,7 +341,8 @@ module _ {X : Type 0} (f : Family) (other : DefaultNla → X) (attribute : X →
   pub nested_other : (c n : ℕ) → OwnIsOther (nested_rows f other attribute label plain c n)
   nested_other c n = go (128 - c)
     where
-      go : (levels : ℕ) → OwnIsOther (level_rows f other attribute 5 label (λ k. table_row plain k) levels n)
+      go : (levels : ℕ) →
+          OwnIsOther (level_rows f other attribute 5 label (λ k. table_row plain k) levels n)
       go zero = by (n == 5)
         where
           by : (b : Bool) → OwnIsOther (row_if b (Refuses cause.Depth) (table_row plain n))
@@ -210,52 +351,79 @@ module _ {X : Type 0} (f : Family) (other : DefaultNla → X) (attribute : X →
       go (suc levels) = by (n == 5)
         where
           by : (b : Bool) →
-              OwnIsOther (row_if b (Custom shape.SelfList (inner_codec f other attribute 5 label (λ k. table_row plain k) (λ k. level levels k)) label) (table_row plain n))
+              OwnIsOther (row_if b (Custom shape.SelfList
+              (inner_codec f other attribute 5 label (λ k. table_row plain k) (λ k. level levels k))
+              label) (table_row plain n))
           by true = λ plain_list. plain_list
           by false = flat_other (find plain n)
 
-  -- what was read of an attribute that holds no list, and what a place holds once its value was put there, by the rows of the table alone
-  pub suits_plain : (c : ℕ) (read : Found) → SuitsFound (λ n. nested_rows f other attribute label plain c n) read → SuitsFound (λ n. table_row plain n) read
+  -- the decoded content of an attribute without a list, and what a slot holds once its value is
+  -- stored, by the rows of the table alone
+  pub suits_plain : (c : ℕ) (read : Decoded) →
+      SuitsDecoded (λ n. nested_rows f other attribute label plain c n) read →
+      SuitsDecoded (λ n. table_row plain n) read
   suits_plain c (found.Typed n datum) suits = go (128 - c) suits
     where
-      go : (levels : ℕ) → SuitsRow (level_rows f other attribute 5 label (λ k. table_row plain k) levels n) (value_of datum) → SuitsRow (table_row plain n) (value_of datum)
+      go : (levels : ℕ) →
+          SuitsRow (level_rows f other attribute 5 label (λ k. table_row plain k) levels n)
+          (value_of datum) → SuitsRow (table_row plain n) (value_of datum)
       go zero h = by (n == 5) h
         where
-          by : (b : Bool) → SuitsRow (row_if b (Refuses cause.Depth) (table_row plain n)) (value_of datum) → SuitsRow (table_row plain n) (value_of datum)
+          by : (b : Bool) →
+              SuitsRow (row_if b (Refuses cause.Depth) (table_row plain n)) (value_of datum) →
+              SuitsRow (table_row plain n) (value_of datum)
           by true h = absurd h
           by false h = h
       go (suc levels) h = by (n == 5) h
         where
           by : (b : Bool) →
-              SuitsRow (row_if b (Custom shape.SelfList (inner_codec f other attribute 5 label (λ k. table_row plain k) (λ k. level levels k)) label) (table_row plain n)) (value_of datum) →
+              SuitsRow (row_if b (Custom shape.SelfList
+              (inner_codec f other attribute 5 label (λ k. table_row plain k) (λ k. level levels k))
+              label) (table_row plain n)) (value_of datum) →
               SuitsRow (table_row plain n) (value_of datum)
           by true h = absurd h
           by false h = h
   suits_plain c (found.Kept nla) suits = tt
 
-  pub puts_plain : {H : Type 0} (with : X → H) (c : ℕ) (read : Found) (held : H) → SuitsFound (λ n. nested_rows f other attribute label plain c n) read →
-      Puts with other (λ n. table_row plain n) read held → Puts with other (λ n. nested_rows f other attribute label plain c n) read held
-  puts_plain with c (found.Typed n datum) held suits puts = go (128 - c) suits
+  pub stores_plain : {H : Type 0} (with : X → H) (c : ℕ) (read : Decoded) (held : H) →
+      SuitsDecoded (λ n. nested_rows f other attribute label plain c n) read →
+      Stores with other (λ n. table_row plain n) read held →
+      Stores with other (λ n. nested_rows f other attribute label plain c n) read held
+  stores_plain with c (found.Typed n datum) held suits stores = go (128 - c) suits
     where
-      go : (levels : ℕ) → SuitsRow (level_rows f other attribute 5 label (λ k. table_row plain k) levels n) (value_of datum) →
-          PutsLabelled with (level_rows f other attribute 5 label (λ k. table_row plain k) levels n) (value_of datum) held
+      go : (levels : ℕ) →
+          SuitsRow (level_rows f other attribute 5 label (λ k. table_row plain k) levels n)
+          (value_of datum) →
+          StoresLabelled with
+          (level_rows f other attribute 5 label (λ k. table_row plain k) levels n)
+          (value_of datum) held
       go zero h = by (n == 5) h
         where
-          by : (b : Bool) → SuitsRow (row_if b (Refuses cause.Depth) (table_row plain n)) (value_of datum) → PutsLabelled with (row_if b (Refuses cause.Depth) (table_row plain n)) (value_of datum) held
+          by : (b : Bool) →
+              SuitsRow (row_if b (Refuses cause.Depth) (table_row plain n)) (value_of datum) →
+              StoresLabelled with (row_if b (Refuses cause.Depth) (table_row plain n))
+              (value_of datum) held
           by true h = absurd h
-          by false h = puts
+          by false h = stores
       go (suc levels) h = by (n == 5) h
         where
           by : (b : Bool) →
-              SuitsRow (row_if b (Custom shape.SelfList (inner_codec f other attribute 5 label (λ k. table_row plain k) (λ k. level levels k)) label) (table_row plain n)) (value_of datum) →
-              PutsLabelled with (row_if b (Custom shape.SelfList (inner_codec f other attribute 5 label (λ k. table_row plain k) (λ k. level levels k)) label) (table_row plain n)) (value_of datum) held
+              SuitsRow (row_if b (Custom shape.SelfList
+              (inner_codec f other attribute 5 label (λ k. table_row plain k) (λ k. level levels k))
+              label) (table_row plain n)) (value_of datum) →
+              StoresLabelled with (row_if b (Custom shape.SelfList
+              (inner_codec f other attribute 5 label (λ k. table_row plain k) (λ k. level levels k))
+              label) (table_row plain n)) (value_of datum) held
           by true h = absurd h
-          by false h = puts
-  puts_plain with c (found.Kept nla) held suits puts = puts
+          by false h = stores
+  stores_plain with c (found.Kept nla) held suits stores = stores
 
 -- at most a quarter of a payload's bytes are headers, whatever the rows
-pub nested_quarter : {X : Type 0} (f : Family) (other : DefaultNla → X) (attribute : X → Attribute) (rows : ℕ → FamilyRow X) →
-    ((n : ℕ) → RowOwes attribute n (row_of (rows n))) → ((d : DefaultNla) → attribute (other d) ≡ record { kind = d.kind; value = d.value }) →
+pub nested_quarter : {X : Type 0} (f : Family) (other : DefaultNla → X) (attribute : X → Attribute)
+    (rows : ℕ → FamilyRow X) →
+    ((n : ℕ) → RowOwes attribute n (row_of (rows n))) →
+    ((d : DefaultNla) → attribute (other d) ≡ record { kind = d.kind; value = d.value }) →
     (a : Attribute) → 4 * headers_inside (λ n. row_of (rows n)) a ≤ length a.value
 nested_quarter f other attribute rows owes keeps_other a =
-    rows_quarter f other attribute (λ n. row_of (rows n)) (λ n e h. owed attribute (λ k. row_of (rows k)) owes n e h) keeps_other a
+    rows_quarter f other attribute (λ n. row_of (rows n))
+    (λ n e h. owed attribute (λ k. row_of (rows k)) owes n e h) keeps_other a

@@ -1,9 +1,17 @@
--- The rows of links to Qualcomm modems.
+-- The rows of `rmnet` links.
 use Rattle.std.specs.Prelude.{◌≡◌, ℕ, List, [], ◌∷◌, refl}
 use Rattle.nla_frame.specs.Attribute.{Attribute}
 use Rattle.nla_frame.specs.Kept.{attribute_of}
 use Rattle.nla_frame.specs.declared.error.Family.TheVariants as family
-use Rattle.linkinfo_table.specs.FamilyRows.{PlainRow, row, typed, table_row, lookup_of, lookup_in, EachKeeps}
+use Rattle.linkinfo_table.specs.FamilyRows.{
+  PlainRow,
+  row,
+  typed,
+  table_row,
+  lookup_of,
+  lookup_in,
+  EachKeeps,
+}
 use Rattle.linkinfo_table.specs.FamilyRowLaws.{table_lookup}
 use Rattle.linkinfo_shapes.specs.Table.{shape_of}
 use Rattle.linkinfo_shapes.specs.declared.shape.Shape.TheVariants.{Le16, FlagPair}
@@ -13,7 +21,7 @@ use Rattle.linkinfo_table.specs.Labels.{each_keeps}
 use Rattle.linkinfo_devices.specs.declared.rmnet.InfoRmNet.{InfoRmNet}
 use Rattle.linkinfo_devices.specs.declared.rmnet.InfoRmNet.TheVariants.{MuxId, Flags, Other}
 
--- flags, and then their mask
+-- flags, then their mask
 abbrev pub flags_under_mask : ℕ × ℕ → InfoRmNetFlags
 flags_under_mask pair = record { flags = rm_net_flags pair.0; mask = rm_net_flags pair.1 }
 
@@ -33,5 +41,6 @@ rm_net_keeps = each_keeps rm_net_attribute rm_net_rows refl
     (λ n. refl, (λ pair. refl, tt))
 
 -- these are the rows of the table of all families
-pub rm_net_lookup : (number : ℕ) → lookup_of (table_row rm_net_rows number) ≡ lookup_in (shape_of family.RmNet number)
+pub rm_net_lookup : (number : ℕ) →
+    lookup_of (table_row rm_net_rows number) ≡ lookup_in (shape_of family.RmNet number)
 rm_net_lookup number = table_lookup rm_net_rows number

@@ -1,10 +1,18 @@
--- The rows of xfrm links.
+-- The rows of `xfrm` links.
 use Rattle.std.specs.Prelude.{◌≡◌, ℕ, List, [], ◌∷◌, refl}
 use Rattle.std.proofs.Common.{lit<}
 use Rattle.nla_frame.specs.Attribute.{Attribute}
 use Rattle.nla_frame.specs.Kept.{attribute_of}
 use Rattle.nla_frame.specs.declared.error.Family.TheVariants as family
-use Rattle.linkinfo_table.specs.FamilyRows.{PlainRow, row, typed, table_row, lookup_of, lookup_in, EachKeeps}
+use Rattle.linkinfo_table.specs.FamilyRows.{
+  PlainRow,
+  row,
+  typed,
+  table_row,
+  lookup_of,
+  lookup_in,
+  EachKeeps,
+}
 use Rattle.linkinfo_table.specs.FamilyRowLaws.{table_lookup}
 use Rattle.linkinfo_shapes.specs.Table.{shape_of}
 use Rattle.linkinfo_shapes.specs.declared.shape.Shape.TheVariants.{Le32}
@@ -23,8 +31,12 @@ xfrm_attribute (IfId n) = typed 2 Le32 n
 xfrm_attribute (Other nla) = attribute_of nla
 
 pub xfrm_keeps : EachKeeps xfrm_attribute xfrm_rows
-xfrm_keeps = (record { low = lit< tt; plain = tt; keeps = λ n. refl }, (record { low = lit< tt; plain = tt; keeps = λ n. refl }, tt))
+xfrm_keeps = (
+  record { low = lit< tt; plain = tt; keeps = λ n. refl },
+  (record { low = lit< tt; plain = tt; keeps = λ n. refl }, tt),
+)
 
 -- these are the rows of the table of all families
-pub xfrm_lookup : (number : ℕ) → lookup_of (table_row xfrm_rows number) ≡ lookup_in (shape_of family.Xfrm number)
+pub xfrm_lookup : (number : ℕ) →
+    lookup_of (table_row xfrm_rows number) ≡ lookup_in (shape_of family.Xfrm number)
 xfrm_lookup number = table_lookup xfrm_rows number

@@ -1,7 +1,12 @@
 //! IP over InfiniBand.
 
 ghost use Rattle.linkinfo_devices.specs.declared.ipoib.InfoIpoib.TheVariants.{Other};
-ghost use Rattle.linkinfo_devices.specs.Ipoib.{ipoib_attribute, ipoib_keeps, ipoib_lookup, ipoib_rows};
+ghost use Rattle.linkinfo_devices.specs.Ipoib.{
+  ipoib_attribute,
+  ipoib_keeps,
+  ipoib_lookup,
+  ipoib_rows,
+};
 ghost use Rattle.linkinfo_table.specs.FamilyRows.{row_of, table_row};
 ghost use Rattle.linkinfo_table.specs.Rows.{meaning_in, memory_in};
 ghost use Rattle.nla_frame.specs.declared.error.Family.TheVariants as family;
@@ -9,22 +14,25 @@ ghost use Rattle.std.specs.Prelude.{◌≡◌, refl};
 
 use linkinfo_numbers::IpoibMode;
 use linkinfo_table::{
-    Found, Part, Place, TableFamily, WrittenByTable, clone_by_rows, part_by_rows, put_by_rows,
+    Decoded, Encodable, Slot, TableFamily, WrittenByTable, clone_by_rows, encodable_by_rows,
     row_emit_payload, row_emit_value, row_fit_len, row_kind, row_read, row_value_len,
+    store_by_rows,
 };
 use nla_frame::{DecodeError, DefaultNla, ExactEq, Family, Nla, NlaBuffer, Parseable};
 use std::alloc::{AllocError, Global};
 
-/// An attribute of IP over InfiniBand: of a link of the kind `ipoib` (include/uapi/linux/if_link.h).
+/// An attribute in the data of an `ipoib` link, an IP over InfiniBand interface
+/// (include/uapi/linux/if_link.h).
 #[derive(Debug, PartialEq, Eq, Drop)]
 pub enum InfoIpoib {
-    /// The partition key (`IFLA_IPOIB_PKEY`), native byte order.
+    /// Partition key (`IFLA_IPOIB_PKEY`), little-endian.
     Pkey(u16),
-    /// How IP goes over InfiniBand (`IFLA_IPOIB_MODE`), native byte order.
+    /// Mode, datagram or connected (`IFLA_IPOIB_MODE`), little-endian.
     Mode(IpoibMode),
-    /// Whether user space joins multicast groups, not 0 where it does (`IFLA_IPOIB_UMCAST`), native byte order.
+    /// Whether user space manages the multicast groups (`IFLA_IPOIB_UMCAST`), not 0 if it does,
+    /// little-endian.
     UmCast(u16),
-    /// An attribute of another type, kept as it came.
+    /// An opaque attribute, of a type that has no variant here, kept verbatim.
     Other(DefaultNla),
 }
 
@@ -38,7 +46,7 @@ macro_rules! rows {
     };
 }
 
-/// A clone equals its source.
+/// A clone is equal to its source.
 impl Clone for InfoIpoib {
     ghost is_clone = { λ source copy. copy ≡ source };
 
@@ -65,17 +73,17 @@ impl TableFamily for InfoIpoib {
     ghost in_table = { ipoib_lookup };
 
     #[inline(always)]
-    fn put_found<P: Place<InfoIpoib>>(
-        place: &mut P,
+    fn store_decoded<P: Slot<InfoIpoib>>(
+        slot: &mut P,
         alloc: Global,
-        found: Found<'_>,
+        decoded: Decoded<'_>,
     ) -> Result<(), AllocError> {
-        rows!(put_by_rows(place, alloc, found))
+        rows!(store_by_rows(slot, alloc, decoded))
     }
 
     #[inline(always)]
-    fn to_part(&self) -> Part<'_> {
-        rows!(part_by_rows self)
+    fn to_encodable(&self) -> Encodable<'_> {
+        rows!(encodable_by_rows self)
     }
 }
 
@@ -107,9 +115,10 @@ impl WrittenByTable for InfoIpoib {
     ghost written = { λ _. refl };
 }
 
-/// Reads the attribute. A payload of another length than its row's is (Ipoib, type, Length).
+/// Reads the attribute. A payload of invalid length is rejected as `(Ipoib, type, Length)`.
 impl<'a> Parseable<NlaBuffer<'a>> for InfoIpoib {
-    ghost meaning = { λ nla. meaning_in family.Ipoib (λ d. Other d) (λ n. row_of (table_row ipoib_rows n)) nla };
+    ghost meaning = { λ nla.
+        meaning_in family.Ipoib (λ d. Other d) (λ n. row_of (table_row ipoib_rows n)) nla };
 
     ghost needs_memory = { λ nla. memory_in (λ n. row_of (table_row ipoib_rows n)) nla };
 

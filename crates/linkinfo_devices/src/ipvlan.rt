@@ -1,7 +1,12 @@
-//! ipvlan links.
+//! Links of kind `ipvlan`.
 
 ghost use Rattle.linkinfo_devices.specs.declared.ipvlan.InfoIpVlan.TheVariants.{Other};
-ghost use Rattle.linkinfo_devices.specs.Ipvlan.{ip_vlan_attribute, ip_vlan_keeps, ip_vlan_lookup, ip_vlan_rows};
+ghost use Rattle.linkinfo_devices.specs.Ipvlan.{
+  ip_vlan_attribute,
+  ip_vlan_keeps,
+  ip_vlan_lookup,
+  ip_vlan_rows,
+};
 ghost use Rattle.linkinfo_table.specs.FamilyRows.{row_of, table_row};
 ghost use Rattle.linkinfo_table.specs.Rows.{meaning_in, memory_in};
 ghost use Rattle.nla_frame.specs.declared.error.Family.TheVariants as family;
@@ -10,20 +15,22 @@ ghost use Rattle.std.specs.Prelude.{◌≡◌, refl};
 use bitflags::Flags;
 use linkinfo_numbers::{IpVlanFlags, IpVlanMode};
 use linkinfo_table::{
-    Found, Part, Place, TableFamily, WrittenByTable, clone_by_rows, part_by_rows, put_by_rows,
+    Decoded, Encodable, Slot, TableFamily, WrittenByTable, clone_by_rows, encodable_by_rows,
     row_emit_payload, row_emit_value, row_fit_len, row_kind, row_read, row_value_len,
+    store_by_rows,
 };
 use nla_frame::{DecodeError, DefaultNla, ExactEq, Family, Nla, NlaBuffer, Parseable};
 use std::alloc::{AllocError, Global};
 
-/// An attribute of an ipvlan link: of a link of the kind `ipvlan` (include/uapi/linux/if_link.h).
+/// An attribute in the data of an `ipvlan` link, an IPVLAN interface
+/// (include/uapi/linux/if_link.h).
 #[derive(Debug, PartialEq, Eq, Drop)]
 pub enum InfoIpVlan {
-    /// The mode (`IFLA_IPVLAN_MODE`), native byte order.
+    /// Mode: `l2`, `l3` or `l3s` (`IFLA_IPVLAN_MODE`), little-endian.
     Mode(IpVlanMode),
-    /// What is kept apart (`IFLA_IPVLAN_FLAGS`), native byte order.
+    /// Flags `private` and `vepa` (`IFLA_IPVLAN_FLAGS`), little-endian.
     Flags(IpVlanFlags),
-    /// An attribute of another type, kept as it came.
+    /// An opaque attribute, of a type that has no variant here, kept verbatim.
     Other(DefaultNla),
 }
 
@@ -36,7 +43,7 @@ macro_rules! rows {
     };
 }
 
-/// A clone equals its source.
+/// A clone is equal to its source.
 impl Clone for InfoIpVlan {
     ghost is_clone = { λ source copy. copy ≡ source };
 
@@ -63,17 +70,17 @@ impl TableFamily for InfoIpVlan {
     ghost in_table = { ip_vlan_lookup };
 
     #[inline(always)]
-    fn put_found<P: Place<InfoIpVlan>>(
-        place: &mut P,
+    fn store_decoded<P: Slot<InfoIpVlan>>(
+        slot: &mut P,
         alloc: Global,
-        found: Found<'_>,
+        decoded: Decoded<'_>,
     ) -> Result<(), AllocError> {
-        rows!(put_by_rows(place, alloc, found))
+        rows!(store_by_rows(slot, alloc, decoded))
     }
 
     #[inline(always)]
-    fn to_part(&self) -> Part<'_> {
-        rows!(part_by_rows self)
+    fn to_encodable(&self) -> Encodable<'_> {
+        rows!(encodable_by_rows self)
     }
 }
 
@@ -105,9 +112,10 @@ impl WrittenByTable for InfoIpVlan {
     ghost written = { λ _. refl };
 }
 
-/// Reads the attribute. A payload of another length than its row's is (IpVlan, type, Length).
+/// Reads the attribute. A payload of invalid length is rejected as `(IpVlan, type, Length)`.
 impl<'a> Parseable<NlaBuffer<'a>> for InfoIpVlan {
-    ghost meaning = { λ nla. meaning_in family.IpVlan (λ d. Other d) (λ n. row_of (table_row ip_vlan_rows n)) nla };
+    ghost meaning = { λ nla.
+        meaning_in family.IpVlan (λ d. Other d) (λ n. row_of (table_row ip_vlan_rows n)) nla };
 
     ghost needs_memory = { λ nla. memory_in (λ n. row_of (table_row ip_vlan_rows n)) nla };
 

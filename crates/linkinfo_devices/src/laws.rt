@@ -1,7 +1,21 @@
-//! Laws of families of devices, each the contract of a function without code.
+//! Laws of the families of devices, each the contract of a function without code.
 
 ghost use Rattle.std.specs.Prelude.{◌≡◌, ◌↔◌, ℕ, ◌-◌, ◌≤◌};
-ghost use Rattle.linkinfo_devices.specs.Conditions.{ip_vlan_conditions, ip_vtap_conditions, ipoib_conditions, mac_sec_conditions, mac_vlan_conditions, mac_vlan_depth, mac_vlan_values, mac_vtap_conditions, mac_vtap_depth, mac_vtap_values, rm_net_conditions, vrf_conditions, xfrm_conditions};
+ghost use Rattle.linkinfo_devices.specs.Conditions.{
+  ip_vlan_conditions,
+  ip_vtap_conditions,
+  ipoib_conditions,
+  mac_sec_conditions,
+  mac_vlan_conditions,
+  mac_vlan_depth,
+  mac_vlan_values,
+  mac_vtap_conditions,
+  mac_vtap_depth,
+  mac_vtap_values,
+  rm_net_conditions,
+  vrf_conditions,
+  xfrm_conditions,
+};
 ghost use Rattle.nla_frame.specs.declared.error.Family.TheVariants as family;
 
 use crate::ipoib::InfoIpoib;
@@ -15,7 +29,7 @@ use crate::vrf::{InfoVrf, InfoVrfPort};
 use crate::xfrm::InfoXfrm;
 use linkinfo_table::LinkFamily;
 
-/// Each name is of the family that it is named after, and so are its errors.
+/// Each name is that of the family it is named after, and so is the family of its errors.
 pub fn named()
     ensures ip_vlan { ⟦<InfoIpVlan as LinkFamily>⟧.FAMILY ≡ family.IpVlan }
     ensures ip_vtap { ⟦<InfoIpVtap as LinkFamily>⟧.FAMILY ≡ family.IpVtap }
@@ -29,26 +43,35 @@ pub fn named()
     ensures xfrm { ⟦<InfoXfrm as LinkFamily>⟧.FAMILY ≡ family.Xfrm }
 {}
 
-/// Which attributes of each family are well formed, stated by the variant of the attribute. No number
-/// is `Other` of a named number. No attribute is `Other` of a type that has a row, nor of type 5 of
-/// macvlan and macvtap, which is a list or is rejected. Each number and each address is one that its
-/// type can hold. Lists are no deeper than `depths` says.
+/// Which attributes of each family are well formed, by the variant of the attribute. No number is
+/// `Other` of a named number. No attribute is `Other` of a type that has a row, nor of type 5 of
+/// `macvlan` and `macvtap`, which is a list or is rejected. Each number and each address is in the
+/// range of its type. Lists are no deeper than `depths` allows.
 pub fn well_formed()
-    ensures ip_vlan { (x : InfoIpVlan) → ⟦<InfoIpVlan as LinkFamily>⟧.well tt x ↔ ip_vlan_conditions x }
-    ensures ip_vtap { (x : InfoIpVtap) → ⟦<InfoIpVtap as LinkFamily>⟧.well tt x ↔ ip_vtap_conditions x }
+    ensures ip_vlan { (x : InfoIpVlan) →
+        ⟦<InfoIpVlan as LinkFamily>⟧.well tt x ↔ ip_vlan_conditions x }
+    ensures ip_vtap { (x : InfoIpVtap) →
+        ⟦<InfoIpVtap as LinkFamily>⟧.well tt x ↔ ip_vtap_conditions x }
     ensures ipoib { (x : InfoIpoib) → ⟦<InfoIpoib as LinkFamily>⟧.well tt x ↔ ipoib_conditions x }
-    ensures mac_sec { (x : InfoMacSec) → ⟦<InfoMacSec as LinkFamily>⟧.well tt x ↔ mac_sec_conditions x }
-    ensures mac_vlan { (around : ℕ) (x : InfoMacVlan) → ⟦<InfoMacVlan as LinkFamily>⟧.well around x ↔ mac_vlan_conditions around x }
-    ensures mac_vtap { (around : ℕ) (x : InfoMacVtap) → ⟦<InfoMacVtap as LinkFamily>⟧.well around x ↔ mac_vtap_conditions around x }
+    ensures mac_sec { (x : InfoMacSec) →
+        ⟦<InfoMacSec as LinkFamily>⟧.well tt x ↔ mac_sec_conditions x }
+    ensures mac_vlan { (around : ℕ) (x : InfoMacVlan) →
+        ⟦<InfoMacVlan as LinkFamily>⟧.well around x ↔ mac_vlan_conditions around x }
+    ensures mac_vtap { (around : ℕ) (x : InfoMacVtap) →
+        ⟦<InfoMacVtap as LinkFamily>⟧.well around x ↔ mac_vtap_conditions around x }
     ensures rm_net { (x : InfoRmNet) → ⟦<InfoRmNet as LinkFamily>⟧.well tt x ↔ rm_net_conditions x }
     ensures vrf { (x : InfoVrf) → ⟦<InfoVrf as LinkFamily>⟧.well tt x ↔ vrf_conditions x }
     ensures xfrm { (x : InfoXfrm) → ⟦<InfoXfrm as LinkFamily>⟧.well tt x ↔ xfrm_conditions x }
 {}
 
-/// How deep lists of macvlan and macvtap attributes are. An attribute in `around` lists is well formed
-/// exactly where its own lists are at most `128 - around` deep, and it is well formed but for depth.
-/// From 128 lists on it contains no list.
+/// How deep lists of `macvlan` and `macvtap` attributes may be nested. An attribute inside `around`
+/// lists is well formed if and only if its lists are at most `128 - around` deep and it is well
+/// formed apart from depth. Inside 128 lists or more it contains no list.
 pub fn depths()
-    ensures mac_vlan { (around : ℕ) (x : InfoMacVlan) → ⟦<InfoMacVlan as LinkFamily>⟧.well around x ↔ (mac_vlan_values x × (mac_vlan_depth x ≤ 128 - around)) }
-    ensures mac_vtap { (around : ℕ) (x : InfoMacVtap) → ⟦<InfoMacVtap as LinkFamily>⟧.well around x ↔ (mac_vtap_values x × (mac_vtap_depth x ≤ 128 - around)) }
+    ensures mac_vlan { (around : ℕ) (x : InfoMacVlan) →
+        ⟦<InfoMacVlan as LinkFamily>⟧.well around x
+        ↔ (mac_vlan_values x × (mac_vlan_depth x ≤ 128 - around)) }
+    ensures mac_vtap { (around : ℕ) (x : InfoMacVtap) →
+        ⟦<InfoMacVtap as LinkFamily>⟧.well around x
+        ↔ (mac_vtap_values x × (mac_vtap_depth x ≤ 128 - around)) }
 {}

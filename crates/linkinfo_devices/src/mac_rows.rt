@@ -1,4 +1,5 @@
-//! The rows that macvlan and macvtap links share: `IFLA_MACVLAN_UNSPEC` and on, include/uapi/linux/if_link.h.
+//! The rows that `macvlan` and `macvtap` links share: `IFLA_MACVLAN_*`
+//! (include/uapi/linux/if_link.h).
 
 macro_rules! mac_rows {
     ($family:ident $body:ident $given:tt) => {

@@ -1,7 +1,12 @@
-//! MACsec links.
+//! MACsec interfaces.
 
 ghost use Rattle.linkinfo_devices.specs.declared.macsec.InfoMacSec.TheVariants.{Other};
-ghost use Rattle.linkinfo_devices.specs.Macsec.{mac_sec_attribute, mac_sec_keeps, mac_sec_lookup, mac_sec_rows};
+ghost use Rattle.linkinfo_devices.specs.Macsec.{
+  mac_sec_attribute,
+  mac_sec_keeps,
+  mac_sec_lookup,
+  mac_sec_rows,
+};
 ghost use Rattle.linkinfo_table.specs.FamilyRows.{row_of, table_row};
 ghost use Rattle.linkinfo_table.specs.Rows.{meaning_in, memory_in};
 ghost use Rattle.nla_frame.specs.declared.error.Family.TheVariants as family;
@@ -9,44 +14,47 @@ ghost use Rattle.std.specs.Prelude.{◌≡◌, refl};
 
 use linkinfo_numbers::{MacSecCipherId, MacSecOffload, MacSecValidate};
 use linkinfo_table::{
-    Found, Part, Place, TableFamily, WrittenByTable, clone_by_rows, part_by_rows, put_by_rows,
+    Decoded, Encodable, Slot, TableFamily, WrittenByTable, clone_by_rows, encodable_by_rows,
     row_emit_payload, row_emit_value, row_fit_len, row_kind, row_read, row_value_len,
+    store_by_rows,
 };
 use nla_frame::{DecodeError, DefaultNla, ExactEq, Family, Nla, NlaBuffer, Parseable};
 use std::alloc::{AllocError, Global};
 
-/// An attribute of a MACsec link: of a link of the kind `macsec` (include/uapi/linux/if_link.h).
+/// An attribute in the data of a `macsec` link, an IEEE 802.1AE MACsec interface
+/// (include/uapi/linux/if_link.h).
 #[derive(Debug, PartialEq, Eq, Drop)]
 pub enum InfoMacSec {
-    /// The identifier of the secure channel (`IFLA_MACSEC_SCI`), read as little-endian; the kernel holds its bytes in network byte order.
+    /// SCI, the secure channel identifier (`IFLA_MACSEC_SCI`), 64 bits, read as little-endian
+    /// although the kernel writes it in network byte order.
     Sci(u64),
-    /// The port number that ends the identifier of the secure channel (`IFLA_MACSEC_PORT`), network byte order.
+    /// Port component of the SCI (`IFLA_MACSEC_PORT`), big-endian.
     Port(u16),
-    /// How many bytes the integrity check value has (`IFLA_MACSEC_ICV_LEN`), one byte.
+    /// Length of the integrity check value (ICV) in bytes (`IFLA_MACSEC_ICV_LEN`), one byte.
     IcvLen(u8),
-    /// The cipher suite (`IFLA_MACSEC_CIPHER_SUITE`), native byte order.
+    /// Cipher suite (`IFLA_MACSEC_CIPHER_SUITE`), little-endian.
     CipherSuite(MacSecCipherId),
-    /// How many frames late a frame may come (`IFLA_MACSEC_WINDOW`), native byte order.
+    /// Replay window in frames (`IFLA_MACSEC_WINDOW`), little-endian.
     Window(u32),
-    /// The number of the secure association that is sent by (`IFLA_MACSEC_ENCODING_SA`), one byte.
+    /// Secure association used for transmission (`IFLA_MACSEC_ENCODING_SA`), one byte.
     EncodingSa(u8),
     /// Whether frames are encrypted (`IFLA_MACSEC_ENCRYPT`), one byte.
     Encrypt(u8),
     /// Whether frames are protected (`IFLA_MACSEC_PROTECT`), one byte.
     Protect(u8),
-    /// Whether each frame has the identifier of the secure channel (`IFLA_MACSEC_INC_SCI`), one byte.
+    /// Whether the SCI is sent in every frame (`IFLA_MACSEC_INC_SCI`), one byte.
     IncSci(u8),
-    /// Whether this is an end station (`IFLA_MACSEC_ES`), one byte.
+    /// Whether the end station bit is set (`IFLA_MACSEC_ES`), one byte.
     Es(u8),
-    /// Whether single copy broadcast is used (`IFLA_MACSEC_SCB`), one byte.
+    /// Whether the single copy broadcast bit is set (`IFLA_MACSEC_SCB`), one byte.
     Scb(u8),
-    /// Whether frames that come again are dropped (`IFLA_MACSEC_REPLAY_PROTECT`), one byte.
+    /// Whether replay protection is enabled (`IFLA_MACSEC_REPLAY_PROTECT`), one byte.
     ReplayProtect(u8),
-    /// How frames that come in are validated (`IFLA_MACSEC_VALIDATION`), one byte.
+    /// Validation of incoming frames (`IFLA_MACSEC_VALIDATION`), one byte.
     Validation(MacSecValidate),
-    /// What the work is offloaded to (`IFLA_MACSEC_OFFLOAD`), one byte.
+    /// Hardware offload (`IFLA_MACSEC_OFFLOAD`), one byte.
     Offload(MacSecOffload),
-    /// An attribute of another type, kept as it came.
+    /// An opaque attribute, of a type that has no variant here, kept verbatim.
     Other(DefaultNla),
 }
 
@@ -71,7 +79,7 @@ macro_rules! rows {
     };
 }
 
-/// A clone equals its source.
+/// A clone is equal to its source.
 impl Clone for InfoMacSec {
     ghost is_clone = { λ source copy. copy ≡ source };
 
@@ -98,17 +106,17 @@ impl TableFamily for InfoMacSec {
     ghost in_table = { mac_sec_lookup };
 
     #[inline(always)]
-    fn put_found<P: Place<InfoMacSec>>(
-        place: &mut P,
+    fn store_decoded<P: Slot<InfoMacSec>>(
+        slot: &mut P,
         alloc: Global,
-        found: Found<'_>,
+        decoded: Decoded<'_>,
     ) -> Result<(), AllocError> {
-        rows!(put_by_rows(place, alloc, found))
+        rows!(store_by_rows(slot, alloc, decoded))
     }
 
     #[inline(always)]
-    fn to_part(&self) -> Part<'_> {
-        rows!(part_by_rows self)
+    fn to_encodable(&self) -> Encodable<'_> {
+        rows!(encodable_by_rows self)
     }
 }
 
@@ -140,9 +148,10 @@ impl WrittenByTable for InfoMacSec {
     ghost written = { λ _. refl };
 }
 
-/// Reads the attribute. A payload of another length than its row's is (MacSec, type, Length).
+/// Reads the attribute. A payload of invalid length is rejected as `(MacSec, type, Length)`.
 impl<'a> Parseable<NlaBuffer<'a>> for InfoMacSec {
-    ghost meaning = { λ nla. meaning_in family.MacSec (λ d. Other d) (λ n. row_of (table_row mac_sec_rows n)) nla };
+    ghost meaning = { λ nla.
+        meaning_in family.MacSec (λ d. Other d) (λ n. row_of (table_row mac_sec_rows n)) nla };
 
     ghost needs_memory = { λ nla. memory_in (λ n. row_of (table_row mac_sec_rows n)) nla };
 
@@ -154,10 +163,19 @@ impl<'a> Parseable<NlaBuffer<'a>> for InfoMacSec {
 impl ExactEq for InfoMacSec {
     ghost use Rattle.std.proofs.lemmas.Bool.Decides.{Decides-eqb};
     ghost use Rattle.nla_frame.specs.Derived.{derived_decides, one_field};
-    ghost use Rattle.linkinfo_numbers.specs.contracts.macsec.MacSecCipherIdExactEq.TheImpl.Laws.{exact-law as cipher_exact};
-    ghost use Rattle.linkinfo_numbers.specs.contracts.macsec.MacSecValidateExactEq.TheImpl.Laws.{exact-law as validation_exact};
-    ghost use Rattle.linkinfo_numbers.specs.contracts.macsec.MacSecOffloadExactEq.TheImpl.Laws.{exact-law as offload_exact};
-    ghost use Rattle.nla_frame.specs.contracts.default_nla.DefaultNlaExactEq.TheImpl.Laws.{exact-law as kept_exact};
+    ghost use Rattle.nla_frame.specs.Pairs.{◌&◌};
+    ghost use Rattle.linkinfo_numbers.specs.contracts.macsec.MacSecCipherIdExactEq.TheImpl.Laws.{
+      exact-law as cipher_exact,
+    };
+    ghost use Rattle.linkinfo_numbers.specs.contracts.macsec.MacSecValidateExactEq.TheImpl.Laws.{
+      exact-law as validation_exact,
+    };
+    ghost use Rattle.linkinfo_numbers.specs.contracts.macsec.MacSecOffloadExactEq.TheImpl.Laws.{
+      exact-law as offload_exact,
+    };
+    ghost use Rattle.nla_frame.specs.contracts.default_nla.DefaultNlaExactEq.TheImpl.Laws.{
+      exact-law as kept_exact,
+    };
     ghost use Rattle.linkinfo_devices.specs.contracts.macsec.InfoMacSec.{enum};
 
     ghost exact = { let number = one_field Decides-eqb in
@@ -165,5 +183,21 @@ impl ExactEq for InfoMacSec {
         let validation = one_field validation_exact in
         let offload = one_field offload_exact in
         let kept = one_field kept_exact in
-        derived_decides enum _ (number, (number, (number, (cipher, (number, (number, (number, (number, (number, (number, (number, (number, (validation, (offload, (kept, tt))))))))))))))) };
+        derived_decides enum _
+        (number
+        & number
+        & number
+        & cipher
+        & number
+        & number
+        & number
+        & number
+        & number
+        & number
+        & number
+        & number
+        & validation
+        & offload
+        & kept
+        & tt) };
 }

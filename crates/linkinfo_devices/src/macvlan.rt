@@ -1,19 +1,56 @@
-//! Macvlan links.
+//! Links of kind `macvlan`.
 
-ghost use Rattle.linkinfo_devices.specs.Macvlan.{mac_vlan_attribute, mac_vlan_holds_list, mac_vlan_keep, mac_vlan_keeps, mac_vlan_owes, mac_vlan_plain_rows, mac_vlan_rows, mac_vlan_says};
-ghost use Rattle.linkinfo_devices.specs.Nested.{LendsList, flat_elsewhere, list_alike, list_headers, list_means, list_needs_memory, nested_other, nested_quarter};
+ghost use Rattle.linkinfo_devices.specs.Macvlan.{
+  mac_vlan_attribute,
+  mac_vlan_holds_list,
+  mac_vlan_keep,
+  mac_vlan_keeps,
+  mac_vlan_owes,
+  mac_vlan_plain_rows,
+  mac_vlan_rows,
+  mac_vlan_says,
+};
+ghost use Rattle.linkinfo_devices.specs.Nested.{
+  LendsList,
+  flat_elsewhere,
+  list_alike,
+  list_headers,
+  list_means,
+  list_needs_memory,
+  nested_other,
+  nested_quarter,
+};
 ghost use Rattle.linkinfo_devices.specs.declared.macvlan.InfoMacVlan as macvlan;
-ghost use Rattle.linkinfo_table.specs.FamilyRows.{Puts, SuitsFound, found_needs_memory, lookup_of, row_of, table_row};
-ghost use Rattle.linkinfo_table.specs.FaultMemory.{rows_certain};
-ghost use Rattle.linkinfo_table.specs.FlatLaws.{flat_alike_is, flat_no_memory, flat_read_well, flat_well_attribute, flat_well_reads};
-ghost use Rattle.linkinfo_table.specs.Rows.{WellFormed, alike_in, headers_inside, meaning_in, memory_in};
+ghost use Rattle.linkinfo_table.specs.FamilyRows.{
+  Stores,
+  SuitsDecoded,
+  decoded_needs_memory,
+  lookup_of,
+  row_of,
+  table_row,
+};
+ghost use Rattle.linkinfo_table.specs.ErrorMemory.{rows_certain};
+ghost use Rattle.linkinfo_table.specs.FlatLaws.{
+  flat_alike_is,
+  flat_no_memory,
+  flat_read_well,
+  flat_well_attribute,
+  flat_well_reads,
+};
+ghost use Rattle.linkinfo_table.specs.Rows.{
+  WellFormed,
+  alike_in,
+  headers_inside,
+  meaning_in,
+  memory_in,
+};
 ghost use Rattle.nla_frame.specs.Attribute.{masked};
 ghost use Rattle.nla_frame.specs.declared.error.Family.TheVariants as family;
 ghost use Rattle.std.specs.Prelude.{◌≡◌, true, IsOk, OnErr, OnOk, refl};
 
 use crate::mac_rows::mac_rows;
 use crate::nested_calls::{nested_check, nested_parse, nested_push, nested_read, nested_same};
-use crate::nested_canonical::{nested_canonical_len, nested_put_canonical};
+use crate::nested_canonical::{nested_canonical_len, nested_write_canonical};
 use crate::nested_emission::{
     nested_emit_payload, nested_emit_value, nested_fit_len, nested_kind, nested_value_len,
 };
@@ -21,52 +58,57 @@ use crate::nested_family::{NestedFamily, nested_shape};
 use bitflags::Flags;
 use linkinfo_numbers::{MacVlanFlags, MacVlanMacAddressMode, MacVlanMode};
 use linkinfo_table::{
-    Found, LinkFamily, Lookup, Part, Place, RowFamily, part_by_rows, put_by_rows,
+    Decoded, Encodable, LinkFamily, Lookup, RowFamily, Slot, encodable_by_rows, store_by_rows,
 };
 use nla_frame::{
     DecodeError, DefaultNla, ExactEq, Family, HeaderCount, Nla, NlaBuffer, Nlas, Parseable,
 };
 use std::alloc::{AllocError, Global};
 
-/// An attribute of a macvlan link (include/uapi/linux/if_link.h).
+/// An attribute in the data of a `macvlan` link, a virtual interface with a MAC address of its own
+/// (include/uapi/linux/if_link.h).
 #[derive(Debug, PartialEq, Eq, Clone, Drop)]
 pub enum InfoMacVlan {
-    /// The mode (`IFLA_MACVLAN_MODE`), native byte order.
+    /// Mode (`IFLA_MACVLAN_MODE`), little-endian.
     Mode(MacVlanMode),
-    /// What the link leaves out (`IFLA_MACVLAN_FLAGS`), native byte order.
+    /// Flags (`IFLA_MACVLAN_FLAGS`), little-endian.
     Flags(MacVlanFlags),
-    /// What is done with source addresses (`IFLA_MACVLAN_MACADDR_MODE`), native byte order.
+    /// Change to the source MAC addresses (`IFLA_MACVLAN_MACADDR_MODE`), little-endian.
     MacAddrMode(MacVlanMacAddressMode),
-    /// A source address (`IFLA_MACVLAN_MACADDR`).
+    /// A source MAC address (`IFLA_MACVLAN_MACADDR`), six bytes.
     MacAddr([u8; 6]),
-    /// A list of attributes of a macvlan link, as a rule its source addresses (`IFLA_MACVLAN_MACADDR_DATA`). A list inside 128 others is
-    /// refused.
+    /// A nested list of `macvlan` attributes, usually the source MAC addresses
+    /// (`IFLA_MACVLAN_MACADDR_DATA`). A list nested in 128 others is rejected.
     MacAddrData(Nlas<InfoMacVlan>),
-    /// How many source addresses there are (`IFLA_MACVLAN_MACADDR_COUNT`), native byte order.
+    /// Number of source MAC addresses (`IFLA_MACVLAN_MACADDR_COUNT`), little-endian.
     MacAddrCount(u32),
-    /// The length of the queue for broadcasts that is asked for (`IFLA_MACVLAN_BC_QUEUE_LEN`), native byte order.
+    /// Requested length of the broadcast queue in packets (`IFLA_MACVLAN_BC_QUEUE_LEN`),
+    /// little-endian.
     BcQueueLen(u32),
-    /// The length of the queue for broadcasts that is in use (`IFLA_MACVLAN_BC_QUEUE_LEN_USED`), native byte order.
+    /// Length of the broadcast queue in use, in packets (`IFLA_MACVLAN_BC_QUEUE_LEN_USED`),
+    /// little-endian.
     BcQueueLenUsed(u32),
-    /// From how many receivers on a broadcast goes by the queue (`IFLA_MACVLAN_BC_CUTOFF`), native byte order; -1 stands for never.
+    /// Broadcast queueing threshold in devices, -1 to disable the queue (`IFLA_MACVLAN_BC_CUTOFF`),
+    /// little-endian.
     BcCutoff(i32),
-    /// An attribute of another type, kept as it came.
+    /// An opaque attribute, of a type that has no variant here, kept verbatim.
     Other(DefaultNla),
 }
 
-/// Puts the value of what was read of an attribute that holds no list in a place.
+/// Stores the decoded value of an attribute that contains no list.
 #[inline(always)]
-fn put_plain<P: Place<InfoMacVlan>>(
-    place: &mut P,
+fn store_plain<P: Slot<InfoMacVlan>>(
+    slot: &mut P,
     alloc: Global,
-    found: Found<'_>,
+    decoded: Decoded<'_>,
 ) -> Result<(), AllocError>
-    requires { SuitsFound (λ n. table_row mac_vlan_plain_rows n) found }
-    ensures value { OnOk result (Puts (P.with place.old) (λ d. macvlan.Other d) (λ n. table_row mac_vlan_plain_rows n) found.entry (P.held place.new)) }
-    ensures unchanged { OnErr result (P.held place.new ≡ P.held place.old) }
+    requires { SuitsDecoded (λ n. table_row mac_vlan_plain_rows n) decoded }
+    ensures value { OnOk result (Stores (P.with slot.old) (λ d. macvlan.Other d)
+        (λ n. table_row mac_vlan_plain_rows n) decoded.entry (P.held slot.new)) }
+    ensures unchanged { OnErr result (P.held slot.new ≡ P.held slot.old) }
     ensures certain { P.is_certain ≡ true → IsOk result }
 {
-    mac_rows!(InfoMacVlan put_by_rows (place, alloc, found))
+    mac_rows!(InfoMacVlan store_by_rows (slot, alloc, decoded))
 }
 
 impl RowFamily for InfoMacVlan {
@@ -94,20 +136,20 @@ impl RowFamily for InfoMacVlan {
         nested_shape(Family::MacVlan, lists, kind)
     }
 
-    #[tactic(auto, using(crate::specs::Macvlan::mac_vlan_suits, crate::specs::Macvlan::mac_vlan_puts))]
+    #[tactic(auto, using(crate::specs::Macvlan::mac_vlan_suits, crate::specs::Macvlan::mac_vlan_stores))]
     #[inline(always)]
-    fn put_found<P: Place<InfoMacVlan>>(
-        place: &mut P,
+    fn store_decoded<P: Slot<InfoMacVlan>>(
+        slot: &mut P,
         alloc: Global,
         _lists: u8,
-        found: Found<'_>,
+        decoded: Decoded<'_>,
     ) -> Result<(), AllocError> {
-        put_plain(place, alloc, found)
+        store_plain(slot, alloc, decoded)
     }
 
     #[inline(always)]
-    fn to_part(&self) -> Part<'_> {
-        mac_rows!(InfoMacVlan part_by_rows self)
+    fn to_encodable(&self) -> Encodable<'_> {
+        mac_rows!(InfoMacVlan encodable_by_rows self)
     }
 }
 
@@ -131,15 +173,25 @@ impl NestedFamily for InfoMacVlan {
 
     ghost list_written = { λ xs. mac_vlan_keep.mac_addr_data xs };
 
-    ghost list_means = { λ c a. list_means family.MacVlan (λ d. macvlan.Other d) mac_vlan_attribute (λ xs. macvlan.MacAddrData xs) (mac_vlan_plain_rows) c a };
+    ghost list_means = { λ c a.
+        list_means family.MacVlan (λ d. macvlan.Other d) mac_vlan_attribute
+        (λ xs. macvlan.MacAddrData xs) (mac_vlan_plain_rows) c a };
 
-    ghost list_needs_memory = { λ c a. list_needs_memory family.MacVlan (λ d. macvlan.Other d) mac_vlan_attribute (λ xs. macvlan.MacAddrData xs) (mac_vlan_plain_rows) c a };
+    ghost list_needs_memory = { λ c a.
+        list_needs_memory family.MacVlan (λ d. macvlan.Other d) mac_vlan_attribute
+        (λ xs. macvlan.MacAddrData xs) (mac_vlan_plain_rows) c a };
 
-    ghost list_headers = { λ c a. list_headers family.MacVlan (λ d. macvlan.Other d) mac_vlan_attribute (λ xs. macvlan.MacAddrData xs) (mac_vlan_plain_rows) c a };
+    ghost list_headers = { λ c a.
+        list_headers family.MacVlan (λ d. macvlan.Other d) mac_vlan_attribute
+        (λ xs. macvlan.MacAddrData xs) (mac_vlan_plain_rows) c a };
 
-    ghost list_alike = { λ c a b. list_alike family.MacVlan (λ d. macvlan.Other d) mac_vlan_attribute (λ xs. macvlan.MacAddrData xs) (mac_vlan_plain_rows) c a b };
+    ghost list_alike = { λ c a b.
+        list_alike family.MacVlan (λ d. macvlan.Other d) mac_vlan_attribute
+        (λ xs. macvlan.MacAddrData xs) (mac_vlan_plain_rows) c a b };
 
-    ghost flat_elsewhere = { λ c n. flat_elsewhere family.MacVlan (λ d. macvlan.Other d) mac_vlan_attribute (λ xs. macvlan.MacAddrData xs) (mac_vlan_plain_rows) mac_vlan_keeps c n };
+    ghost flat_elsewhere = { λ c n.
+        flat_elsewhere family.MacVlan (λ d. macvlan.Other d) mac_vlan_attribute
+        (λ xs. macvlan.MacAddrData xs) (mac_vlan_plain_rows) mac_vlan_keeps c n };
 }
 
 impl Nla for InfoMacVlan {
@@ -166,7 +218,7 @@ impl Nla for InfoMacVlan {
     }
 }
 
-/// An attribute inside as many lists as the context says.
+/// The context is the number of lists around the attribute.
 impl LinkFamily for InfoMacVlan {
     type Context = u8;
 
@@ -178,7 +230,8 @@ impl LinkFamily for InfoMacVlan {
 
     ghost keeping = { λ d. macvlan.Other d };
 
-    ghost meaning = { λ c a. meaning_in family.MacVlan (λ d. macvlan.Other d) (λ n. row_of (mac_vlan_rows c n)) a };
+    ghost meaning = { λ c a.
+        meaning_in family.MacVlan (λ d. macvlan.Other d) (λ n. row_of (mac_vlan_rows c n)) a };
 
     ghost needs_memory = { λ c a. memory_in (λ n. row_of (mac_vlan_rows c n)) a };
 
@@ -186,25 +239,41 @@ impl LinkFamily for InfoMacVlan {
 
     ghost alike = { λ c a b. alike_in (λ n. row_of (mac_vlan_rows c n)) a b };
 
-    ghost well = { λ c x. WellFormed (λ d. macvlan.Other d) mac_vlan_attribute (λ n. row_of (mac_vlan_rows c n)) x };
+    ghost well = { λ c x.
+        WellFormed (λ d. macvlan.Other d) mac_vlan_attribute (λ n. row_of (mac_vlan_rows c n)) x };
 
     ghost keeps = { λ d. mac_vlan_keep.other d };
 
     ghost looked_up = { λ c a. mac_vlan_says c a };
 
-    ghost alike_is = { λ c a b x y. flat_alike_is family.MacVlan (λ d. macvlan.Other d) mac_vlan_attribute (mac_vlan_rows c) (mac_vlan_owes c) mac_vlan_keep.other a b x y };
+    ghost alike_is = { λ c a b x y.
+        flat_alike_is family.MacVlan (λ d. macvlan.Other d) mac_vlan_attribute (mac_vlan_rows c)
+        (mac_vlan_owes c) mac_vlan_keep.other a b x y };
 
-    ghost headers_quarter = { λ c a. nested_quarter family.MacVlan (λ d. macvlan.Other d) mac_vlan_attribute (mac_vlan_rows c) (mac_vlan_owes c) mac_vlan_keep.other a };
+    ghost headers_quarter = { λ c a.
+        nested_quarter family.MacVlan (λ d. macvlan.Other d) mac_vlan_attribute (mac_vlan_rows c)
+        (mac_vlan_owes c) mac_vlan_keep.other a };
 
-    ghost no_memory = { λ c a. flat_no_memory family.MacVlan (λ d. macvlan.Other d) mac_vlan_attribute (mac_vlan_rows c) (mac_vlan_owes c) mac_vlan_keep.other a };
+    ghost no_memory = { λ c a.
+        flat_no_memory family.MacVlan (λ d. macvlan.Other d) mac_vlan_attribute (mac_vlan_rows c)
+        (mac_vlan_owes c) mac_vlan_keep.other a };
 
-    ghost fault_certain = { λ c a e. rows_certain family.MacVlan (λ d. macvlan.Other d) (mac_vlan_rows c) a e (nested_other family.MacVlan (λ d. macvlan.Other d) mac_vlan_attribute (λ xs. macvlan.MacAddrData xs) mac_vlan_plain_rows c (masked a.kind)) };
+    ghost error_certain = { λ c a e.
+        rows_certain family.MacVlan (λ d. macvlan.Other d) (mac_vlan_rows c) a e
+        (nested_other family.MacVlan (λ d. macvlan.Other d) mac_vlan_attribute
+        (λ xs. macvlan.MacAddrData xs) mac_vlan_plain_rows c (masked a.kind)) };
 
-    ghost read_well = { λ c a x. flat_read_well family.MacVlan (λ d. macvlan.Other d) mac_vlan_attribute (mac_vlan_rows c) (mac_vlan_owes c) mac_vlan_keep.other a x };
+    ghost read_well = { λ c a x.
+        flat_read_well family.MacVlan (λ d. macvlan.Other d) mac_vlan_attribute (mac_vlan_rows c)
+        (mac_vlan_owes c) mac_vlan_keep.other a x };
 
-    ghost well_reads = { λ c x. flat_well_reads family.MacVlan (λ d. macvlan.Other d) mac_vlan_attribute (mac_vlan_rows c) (mac_vlan_owes c) mac_vlan_keep.other mac_vlan_attribute (λ _. refl) x };
+    ghost well_reads = { λ c x.
+        flat_well_reads family.MacVlan (λ d. macvlan.Other d) mac_vlan_attribute (mac_vlan_rows c)
+        (mac_vlan_owes c) mac_vlan_keep.other mac_vlan_attribute (λ _. refl) x };
 
-    ghost well_attribute = { λ c x. flat_well_attribute family.MacVlan (λ d. macvlan.Other d) mac_vlan_attribute (mac_vlan_rows c) (mac_vlan_owes c) mac_vlan_keep.other mac_vlan_attribute (λ _. refl) x };
+    ghost well_attribute = { λ c x.
+        flat_well_attribute family.MacVlan (λ d. macvlan.Other d) mac_vlan_attribute
+        (mac_vlan_rows c) (mac_vlan_owes c) mac_vlan_keep.other mac_vlan_attribute (λ _. refl) x };
 
     #[inline(always)]
     fn shape(lists: u8, kind: u16) -> Lookup {
@@ -251,15 +320,17 @@ impl LinkFamily for InfoMacVlan {
         nested_canonical_len::<InfoMacVlan>(nla, lists)
     }
 
-    fn put_canonical(nla: &NlaBuffer<'_>, lists: u8, buffer: &mut [u8]) -> usize {
-        nested_put_canonical::<InfoMacVlan>(nla, lists, buffer)
+    fn write_canonical(nla: &NlaBuffer<'_>, lists: u8, buffer: &mut [u8]) -> usize {
+        nested_write_canonical::<InfoMacVlan>(nla, lists, buffer)
     }
 }
 
-/// Reads the attribute, inside no list. A payload of another length than its row's is (MacVlan, type, Length), a list inside 128 others is
-/// (MacVlan, 5, Depth), and what a list does not frame (Frame, 0, Header).
+/// Reads an attribute that is in no list. A payload of invalid length is rejected as `(MacVlan,
+/// type, Length)`, and a list nested in 128 others as `(MacVlan, 5, Depth)`. A nested list with a
+/// bad header is rejected as `(Frame, 0, Header)`.
 impl<'a> Parseable<NlaBuffer<'a>> for InfoMacVlan {
-    ghost meaning = { λ nla. meaning_in family.MacVlan (λ d. macvlan.Other d) (λ n. row_of (mac_vlan_rows 0 n)) nla };
+    ghost meaning = { λ nla.
+        meaning_in family.MacVlan (λ d. macvlan.Other d) (λ n. row_of (mac_vlan_rows 0 n)) nla };
 
     ghost needs_memory = { λ nla. memory_in (λ n. row_of (mac_vlan_rows 0 n)) nla };
 

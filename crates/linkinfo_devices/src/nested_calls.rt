@@ -1,17 +1,25 @@
-//! Reading, checking and comparing attributes of a family that holds lists of its own, and such lists, by calls that lead to each other.
+//! Reads, checks and compares attributes of a family with nested lists, and such lists, by mutually
+//! recursive calls.
 
 ghost use Rattle.std.specs.Prelude.{◌≡◌, ◌+◌, ◌*◌, ◌/◌, ◌<◌, ◌≤◌, ◌^◌, false, IsOk, OnErr, length};
 ghost use Rattle.std.specs.Bool.{OnTrue};
 ghost use Rattle.nla_frame.specs.Answers.{CertainUnless, Gives, OnAnswer, verdict};
-ghost use Rattle.nla_frame.specs.Pieces.{pieces};
+ghost use Rattle.nla_frame.specs.NlaItems.{nla_items};
 ghost use Rattle.linkinfo_table.specs.FamilyRows.{row_of};
-ghost use Rattle.linkinfo_table.specs.Lists.{Appends, alike_pairs, headers_of, memory_of, push_memory, values};
+ghost use Rattle.linkinfo_table.specs.Lists.{
+  Appends,
+  alike_pairs,
+  headers_of,
+  memory_of,
+  push_memory,
+  values,
+};
 ghost use Rattle.linkinfo_table.specs.Rows.{alike_in, headers_inside, meaning_in, memory_in};
 ghost use Rattle.linkinfo_devices.specs.Nested.{in_list};
 
 use crate::nested_family::{LIST_TYPE, MOST_LISTS, NestedFamily};
-use linkinfo_table::{row_check, row_put, row_read, row_same};
-use nla_frame::{DecodeError, HeaderCount, NlaBuffer, Nlas, laws, next_piece};
+use linkinfo_table::{row_check, row_read, row_same, row_store};
+use nla_frame::{DecodeError, HeaderCount, NlaBuffer, Nlas, laws, next_attribute};
 use std::alloc::Global;
 
 /// Reads an attribute inside `lists` lists.
@@ -23,9 +31,13 @@ pub fn nested_read<F: NestedFamily>(
     count: &mut HeaderCount,
 ) -> Result<F, DecodeError>
     requires { count.old + length nla.now.value / 4 < 2 ^ 64 }
-    ensures answer { Gives (λ value. value) result (meaning_in F.FAMILY F.other (λ n. row_of (F.rows lists n)) nla.now) }
-    ensures certain { CertainUnless (memory_in (λ n. row_of (F.rows lists n)) nla.now) (λ value. value) result (meaning_in F.FAMILY F.other (λ n. row_of (F.rows lists n)) nla.now) }
-    ensures counted { OnAnswer result (count.new ≡ count.old + headers_inside (λ n. row_of (F.rows lists n)) nla.now) }
+    ensures answer { Gives (λ value. value) result
+        (meaning_in F.FAMILY F.other (λ n. row_of (F.rows lists n)) nla.now) }
+    ensures certain { CertainUnless (memory_in (λ n. row_of (F.rows lists n)) nla.now)
+        (λ value. value) result
+        (meaning_in F.FAMILY F.other (λ n. row_of (F.rows lists n)) nla.now) }
+    ensures counted { OnAnswer result
+        (count.new ≡ count.old + headers_inside (λ n. row_of (F.rows lists n)) nla.now) }
     ensures rises { count.old ≤ count.new }
     ensures quarter { 4 * count.new ≤ 4 * count.old + length nla.now.value }
 {
@@ -36,7 +48,8 @@ pub fn nested_read<F: NestedFamily>(
     }
 }
 
-/// Reads an attribute inside `lists` lists, and puts its value behind others, which stay as they are on an error.
+/// Reads an attribute inside `lists` lists, and pushes its value to the end of a list, which an
+/// error leaves unchanged.
 #[cycle(nested_read)]
 pub fn nested_push<F: NestedFamily>(
     items: &mut Vec<F>,
@@ -46,10 +59,14 @@ pub fn nested_push<F: NestedFamily>(
     count: &mut HeaderCount,
 ) -> Result<(), DecodeError>
     requires { count.old + length nla.now.value / 4 < 2 ^ 64 }
-    ensures answer { Appends items.old.items items.new.items result (meaning_in F.FAMILY F.other (λ n. row_of (F.rows lists n)) nla.now) }
+    ensures answer { Appends items.old.items items.new.items result
+        (meaning_in F.FAMILY F.other (λ n. row_of (F.rows lists n)) nla.now) }
     ensures unchanged { OnErr result (items.new.items ≡ items.old.items) }
-    ensures certain { push_memory (memory_in (λ n. row_of (F.rows lists n)) nla.now) (meaning_in F.FAMILY F.other (λ n. row_of (F.rows lists n)) nla.now) ≡ false → result ≡ verdict (meaning_in F.FAMILY F.other (λ n. row_of (F.rows lists n)) nla.now) }
-    ensures counted { OnAnswer result (count.new ≡ count.old + headers_inside (λ n. row_of (F.rows lists n)) nla.now) }
+    ensures certain { push_memory (memory_in (λ n. row_of (F.rows lists n)) nla.now)
+        (meaning_in F.FAMILY F.other (λ n. row_of (F.rows lists n)) nla.now) ≡ false →
+        result ≡ verdict (meaning_in F.FAMILY F.other (λ n. row_of (F.rows lists n)) nla.now) }
+    ensures counted { OnAnswer result
+        (count.new ≡ count.old + headers_inside (λ n. row_of (F.rows lists n)) nla.now) }
     ensures rises { count.old ≤ count.new }
     ensures quarter { 4 * count.new ≤ 4 * count.old + length nla.now.value }
 {
@@ -57,11 +74,11 @@ pub fn nested_push<F: NestedFamily>(
         items.push(nested_read(alloc, nla, lists, count)?)?;
         Ok(())
     } else {
-        row_put::<F, Vec<F>>(items, alloc, nla, lists)
+        row_store::<F, Vec<F>>(items, alloc, nla, lists)
     }
 }
 
-/// Reads a list whose attributes stand inside `lists` lists.
+/// Reads a list whose attributes are inside `lists` lists.
 #[cycle(nested_read)]
 fn nested_list_read<F: NestedFamily>(
     alloc: Global,
@@ -71,15 +88,24 @@ fn nested_list_read<F: NestedFamily>(
 ) -> Result<Vec<F>, DecodeError>
     requires room { count.old + length bytes.now / 4 < 2 ^ 64 }
     requires within { lists ≤ 128 }
-    ensures answer { Gives (λ v. v.items) result (values (meaning_in F.FAMILY F.other (λ n. row_of (F.rows lists n))) (pieces bytes.now)) }
-    ensures certain { CertainUnless (memory_of (meaning_in F.FAMILY F.other (λ n. row_of (F.rows lists n))) (memory_in (λ n. row_of (F.rows lists n))) (pieces bytes.now)) (λ v. v.items) result (values (meaning_in F.FAMILY F.other (λ n. row_of (F.rows lists n))) (pieces bytes.now)) }
-    ensures counted { OnAnswer result (count.new ≡ count.old + headers_of (meaning_in F.FAMILY F.other (λ n. row_of (F.rows lists n))) (headers_inside (λ n. row_of (F.rows lists n))) (pieces bytes.now)) }
+    ensures answer { Gives (λ v. v.items) result
+        (values (meaning_in F.FAMILY F.other (λ n. row_of (F.rows lists n)))
+        (nla_items bytes.now)) }
+    ensures certain { CertainUnless
+        (memory_of (meaning_in F.FAMILY F.other (λ n. row_of (F.rows lists n)))
+        (memory_in (λ n. row_of (F.rows lists n))) (nla_items bytes.now)) (λ v. v.items) result
+        (values (meaning_in F.FAMILY F.other (λ n. row_of (F.rows lists n)))
+        (nla_items bytes.now)) }
+    ensures counted { OnAnswer result
+        (count.new ≡ count.old
+        + headers_of (meaning_in F.FAMILY F.other (λ n. row_of (F.rows lists n)))
+        (headers_inside (λ n. row_of (F.rows lists n))) (nla_items bytes.now)) }
     ensures rises { count.old ≤ count.new }
     ensures quarter { 4 * count.new ≤ 4 * count.old + length bytes.now }
 {
     let mut items = Vec::new(alloc);
     let mut rest = bytes;
-    while let Some(next) = next_piece(rest, count) {
+    while let Some(next) = next_attribute(rest, count) {
         let (nla, after) = next?;
         nested_push(&mut items, alloc, &nla, lists, count)?;
         rest = after;
@@ -87,23 +113,25 @@ fn nested_list_read<F: NestedFamily>(
     Ok(items)
 }
 
-/// The value that holds a list which was read.
+/// The value that contains a decoded list.
 fn value_of_list<F: NestedFamily>(items: Result<Vec<F>, DecodeError>) -> Result<F, DecodeError>
     ensures { result ≡ in_list (λ v. F.list_value v.items) items }
 {
     Ok(F::from_list(Nlas::new(items?)))
 }
 
-/// Reads an attribute that stands in no list.
+/// Reads an attribute that is in no list.
 pub fn nested_parse<F: NestedFamily>(alloc: Global, nla: &NlaBuffer<'_>) -> Result<F, DecodeError>
-    ensures answer { Gives (λ value. value) result (meaning_in F.FAMILY F.other (λ n. row_of (F.rows 0 n)) nla.now) }
-    ensures certain { CertainUnless (memory_in (λ n. row_of (F.rows 0 n)) nla.now) (λ value. value) result (meaning_in F.FAMILY F.other (λ n. row_of (F.rows 0 n)) nla.now) }
+    ensures answer { Gives (λ value. value) result
+        (meaning_in F.FAMILY F.other (λ n. row_of (F.rows 0 n)) nla.now) }
+    ensures certain { CertainUnless (memory_in (λ n. row_of (F.rows 0 n)) nla.now) (λ value. value)
+        result (meaning_in F.FAMILY F.other (λ n. row_of (F.rows 0 n)) nla.now) }
 {
     laws::borrowed(nla);
     nested_read(alloc, nla, 0, &mut HeaderCount::new())
 }
 
-/// Whether `nested_read` would succeed, or the attribute's fault. Takes no memory.
+/// Checks whether `nested_read` would succeed, and returns the error if not. Does not allocate.
 #[cycle(nested_check)]
 #[inline(always)]
 pub fn nested_check<F: NestedFamily>(
@@ -112,8 +140,10 @@ pub fn nested_check<F: NestedFamily>(
     count: &mut HeaderCount,
 ) -> Result<(), DecodeError>
     requires { count.old + length nla.now.value / 4 < 2 ^ 64 }
-    ensures answer { result ≡ verdict (meaning_in F.FAMILY F.other (λ n. row_of (F.rows lists n)) nla.now) }
-    ensures counted { count.new ≡ count.old + headers_inside (λ n. row_of (F.rows lists n)) nla.now }
+    ensures answer { result
+        ≡ verdict (meaning_in F.FAMILY F.other (λ n. row_of (F.rows lists n)) nla.now) }
+    ensures counted { count.new
+        ≡ count.old + headers_inside (λ n. row_of (F.rows lists n)) nla.now }
     ensures rises { count.old ≤ count.new }
     ensures quarter { 4 * count.new ≤ 4 * count.old + length nla.now.value }
 {
@@ -124,7 +154,7 @@ pub fn nested_check<F: NestedFamily>(
     }
 }
 
-/// Whether `nested_list_read` would succeed, or the list's fault.
+/// Checks whether `nested_list_read` would succeed, and returns the error if not.
 #[cycle(nested_check)]
 fn nested_list_check<F: NestedFamily>(
     bytes: &[u8],
@@ -133,13 +163,18 @@ fn nested_list_check<F: NestedFamily>(
 ) -> Result<(), DecodeError>
     requires room { count.old + length bytes.now / 4 < 2 ^ 64 }
     requires within { lists ≤ 128 }
-    ensures answer { result ≡ verdict (values (meaning_in F.FAMILY F.other (λ n. row_of (F.rows lists n))) (pieces bytes.now)) }
-    ensures counted { count.new ≡ count.old + headers_of (meaning_in F.FAMILY F.other (λ n. row_of (F.rows lists n))) (headers_inside (λ n. row_of (F.rows lists n))) (pieces bytes.now) }
+    ensures answer { result
+        ≡ verdict
+        (values (meaning_in F.FAMILY F.other (λ n. row_of (F.rows lists n)))
+        (nla_items bytes.now)) }
+    ensures counted { count.new
+        ≡ count.old + headers_of (meaning_in F.FAMILY F.other (λ n. row_of (F.rows lists n)))
+        (headers_inside (λ n. row_of (F.rows lists n))) (nla_items bytes.now) }
     ensures rises { count.old ≤ count.new }
     ensures quarter { 4 * count.new ≤ 4 * count.old + length bytes.now }
 {
     let mut rest = bytes;
-    while let Some(next) = next_piece(rest, count) {
+    while let Some(next) = next_attribute(rest, count) {
         let (nla, after) = next?;
         nested_check::<F>(&nla, lists, count)?;
         rest = after;
@@ -147,7 +182,8 @@ fn nested_list_check<F: NestedFamily>(
     Ok(())
 }
 
-/// Whether two attributes mean the same value. Asks that both are accepted, and takes no memory.
+/// Whether two attributes are equivalent: they mean equal values. Requires that both are accepted.
+/// Does not allocate.
 #[cycle(nested_same)]
 #[inline(always)]
 pub fn nested_same<F: NestedFamily>(
@@ -160,7 +196,9 @@ pub fn nested_same<F: NestedFamily>(
     requires second { IsOk (meaning_in F.FAMILY F.other (λ n. row_of (F.rows lists n)) b.now) }
     requires room { count.old + (length a.now.value + length b.now.value) / 4 < 2 ^ 64 }
     ensures same { result ≡ alike_in (λ n. row_of (F.rows lists n)) a.now b.now }
-    ensures counted { OnTrue result (count.new ≡ count.old + (headers_inside (λ n. row_of (F.rows lists n)) a.now + headers_inside (λ n. row_of (F.rows lists n)) b.now)) }
+    ensures counted { OnTrue result
+        (count.new ≡ count.old + (headers_inside (λ n. row_of (F.rows lists n)) a.now
+        + headers_inside (λ n. row_of (F.rows lists n)) b.now)) }
     ensures rises { count.old ≤ count.new }
     ensures quarter { 4 * count.new ≤ 4 * count.old + (length a.now.value + length b.now.value) }
 {
@@ -171,22 +209,31 @@ pub fn nested_same<F: NestedFamily>(
     }
 }
 
-/// Whether two lists mean the same values.
+/// Whether two lists are equivalent: they mean equal values.
 #[cycle(nested_same)]
 fn nested_list_same<F: NestedFamily>(a: &[u8], b: &[u8], lists: u8, count: &mut HeaderCount) -> bool
-    requires first { IsOk (values (meaning_in F.FAMILY F.other (λ n. row_of (F.rows lists n))) (pieces a.now)) }
-    requires second { IsOk (values (meaning_in F.FAMILY F.other (λ n. row_of (F.rows lists n))) (pieces b.now)) }
+    requires first { IsOk
+        (values (meaning_in F.FAMILY F.other (λ n. row_of (F.rows lists n))) (nla_items a.now)) }
+    requires second { IsOk
+        (values (meaning_in F.FAMILY F.other (λ n. row_of (F.rows lists n))) (nla_items b.now)) }
     requires room { count.old + (length a.now + length b.now) / 4 < 2 ^ 64 }
     requires within { lists ≤ 128 }
-    ensures same { result ≡ alike_pairs (alike_in (λ n. row_of (F.rows lists n))) (pieces a.now) (pieces b.now) }
-    ensures counted { OnTrue result (count.new ≡ count.old + (headers_of (meaning_in F.FAMILY F.other (λ n. row_of (F.rows lists n))) (headers_inside (λ n. row_of (F.rows lists n))) (pieces a.now) + headers_of (meaning_in F.FAMILY F.other (λ n. row_of (F.rows lists n))) (headers_inside (λ n. row_of (F.rows lists n))) (pieces b.now))) }
+    ensures same { result
+        ≡ alike_pairs (alike_in (λ n. row_of (F.rows lists n))) (nla_items a.now)
+        (nla_items b.now) }
+    ensures counted { OnTrue result
+        (count.new ≡ count.old + (headers_of
+        (meaning_in F.FAMILY F.other (λ n. row_of (F.rows lists n)))
+        (headers_inside (λ n. row_of (F.rows lists n))) (nla_items a.now)
+        + headers_of (meaning_in F.FAMILY F.other (λ n. row_of (F.rows lists n)))
+        (headers_inside (λ n. row_of (F.rows lists n))) (nla_items b.now))) }
     ensures rises { count.old ≤ count.new }
     ensures quarter { 4 * count.new ≤ 4 * count.old + (length a.now + length b.now) }
 {
     let mut x = a;
     let mut y = b;
-    while let Some(next) = next_piece(x, count) {
-        let Some(other) = next_piece(y, count) else {
+    while let Some(next) = next_attribute(x, count) {
+        let Some(other) = next_attribute(y, count) else {
             return false;
         };
         let (p, after_p) = next.unwrap();
@@ -197,5 +244,5 @@ fn nested_list_same<F: NestedFamily>(a: &[u8], b: &[u8], lists: u8, count: &mut 
         x = after_p;
         y = after_q;
     }
-    next_piece(y, count).is_none()
+    next_attribute(y, count).is_none()
 }

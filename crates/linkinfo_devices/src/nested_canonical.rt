@@ -1,24 +1,28 @@
-//! The canonical attribute of what an accepted attribute means in a family that holds lists of its own, without a value: measured and written by calls that
-//! lead to each other, each attribute once, however deep the lists stand.
+//! Re-encodes accepted attributes of a family with nested lists canonically, without building a
+//! value. The calls that measure and write are mutually recursive, and visit each attribute once,
+//! at any depth.
 
 ghost use Rattle.std.specs.Prelude.{◌≡◌, ◌≤◌, ◌++◌, IsOk, SomeIff, drop, length};
 ghost use Rattle.nla_frame.specs.Attribute.{Fits, buffer_len_of, canonical_string};
 ghost use Rattle.nla_frame.specs.Canonical.{attribute_for};
-ghost use Rattle.nla_frame.specs.Pieces.{pieces};
+ghost use Rattle.nla_frame.specs.NlaItems.{nla_items};
 ghost use Rattle.linkinfo_table.specs.FamilyRows.{row_of};
 ghost use Rattle.linkinfo_table.specs.Lists.{canonical_list, values};
 ghost use Rattle.linkinfo_table.specs.Rows.{meaning_in};
 
 use crate::nested_family::{LIST_TYPE, MOST_LISTS, NestedFamily};
-use linkinfo_table::{row_canonical_len, row_put_canonical};
-use nla_frame::{HeaderCount, NlaBuffer, fitting, next_piece, put_frame};
+use linkinfo_table::{row_canonical_len, row_write_canonical};
+use nla_frame::{HeaderCount, NlaBuffer, fitting, next_attribute, write_frame};
 
-/// The length of the canonical payload of the value that an attribute inside `lists` lists means, where it fits, and else `None`. Asks that the
-/// attribute means one, and takes no memory.
+/// Returns the length of the canonical payload of the value that an attribute inside `lists` lists
+/// means, or `None` if it does not fit. Requires that the attribute is accepted. Does not allocate.
 #[cycle(nested_canonical_len)]
 pub fn nested_canonical_len<F: NestedFamily>(nla: &NlaBuffer<'_>, lists: u8) -> Option<usize>
     requires { IsOk (meaning_in F.FAMILY F.other (λ n. row_of (F.rows lists n)) nla.now) }
-    ensures { let canonical = attribute_for F.canonical (meaning_in F.FAMILY F.other (λ n. row_of (F.rows lists n)) nla.now) in SomeIff result (Fits canonical) (length canonical.value) }
+    ensures { let canonical =
+        attribute_for F.canonical
+        (meaning_in F.FAMILY F.other (λ n. row_of (F.rows lists n)) nla.now) in
+        SomeIff result (Fits canonical) (length canonical.value) }
 {
     if nla.kind() == LIST_TYPE && lists < MOST_LISTS {
         nested_list_canonical_len::<F>(nla.value(), lists + 1)
@@ -27,17 +31,23 @@ pub fn nested_canonical_len<F: NestedFamily>(nla: &NlaBuffer<'_>, lists: u8) -> 
     }
 }
 
-/// The length of the canonical string of the list that the bytes mean, or `None` above 65531.
+/// Returns the length of the canonical byte string of the list that the bytes mean, or `None` above
+/// 65531.
 #[cycle(nested_canonical_len)]
 fn nested_list_canonical_len<F: NestedFamily>(bytes: &[u8], lists: u8) -> Option<usize>
-    requires accepted { IsOk (values (meaning_in F.FAMILY F.other (λ n. row_of (F.rows lists n))) (pieces bytes.now)) }
+    requires accepted { IsOk
+        (values (meaning_in F.FAMILY F.other (λ n. row_of (F.rows lists n)))
+        (nla_items bytes.now)) }
     requires within { lists ≤ 128 }
-    ensures { let len = length (canonical_list F.canonical (meaning_in F.FAMILY F.other (λ n. row_of (F.rows lists n))) (pieces bytes.now)) in SomeIff result (len ≤ 65531) len }
+    ensures { let len =
+        length (canonical_list F.canonical
+        (meaning_in F.FAMILY F.other (λ n. row_of (F.rows lists n))) (nla_items bytes.now)) in
+        SomeIff result (len ≤ 65531) len }
 {
     let mut count = HeaderCount::new();
     let mut rest = bytes;
     let mut total: usize = 0;
-    while let Some(next) = next_piece(rest, &mut count) {
+    while let Some(next) = next_attribute(rest, &mut count) {
         let (nla, after) = next.unwrap();
         let len = nested_canonical_len::<F>(&nla, lists)?;
         total = fitting(total + 4 + len.next_multiple_of(4))?;
@@ -46,58 +56,109 @@ fn nested_list_canonical_len<F: NestedFamily>(bytes: &[u8], lists: u8) -> Option
     Some(total)
 }
 
-/// Writes the canonical attribute of the value that an attribute inside `lists` lists means at the front of the buffer, leaves the bytes behind it, and
-/// answers its length. Asks that the attribute means one, which fits, and for a buffer of at least that length; takes no memory.
-#[cycle(nested_put_canonical)]
-pub fn nested_put_canonical<F: NestedFamily>(
+/// Writes the canonical attribute of the value that an attribute inside `lists` lists means at the
+/// front of the buffer, and returns its length.
+///
+/// The bytes after it stay unchanged. Requires that the attribute is accepted, that the value fits,
+/// and that the buffer has at least that length. Does not allocate.
+#[cycle(nested_write_canonical)]
+pub fn nested_write_canonical<F: NestedFamily>(
     nla: &NlaBuffer<'_>,
     lists: u8,
     buffer: &mut [u8],
 ) -> usize
     requires accepted { IsOk (meaning_in F.FAMILY F.other (λ n. row_of (F.rows lists n)) nla.now) }
-    requires fits { Fits (attribute_for F.canonical (meaning_in F.FAMILY F.other (λ n. row_of (F.rows lists n)) nla.now)) }
-    requires room { buffer_len_of (attribute_for F.canonical (meaning_in F.FAMILY F.other (λ n. row_of (F.rows lists n)) nla.now)) ≤ length buffer.old }
-    ensures taken { result ≡ buffer_len_of (attribute_for F.canonical (meaning_in F.FAMILY F.other (λ n. row_of (F.rows lists n)) nla.now)) }
-    ensures written { let canonical = attribute_for F.canonical (meaning_in F.FAMILY F.other (λ n. row_of (F.rows lists n)) nla.now) in buffer.new ≡ canonical_string canonical ++ drop (buffer_len_of canonical) buffer.old }
+    requires fits { Fits (attribute_for F.canonical
+        (meaning_in F.FAMILY F.other (λ n. row_of (F.rows lists n)) nla.now)) }
+    requires room { buffer_len_of
+        (attribute_for F.canonical
+        (meaning_in F.FAMILY F.other (λ n. row_of (F.rows lists n)) nla.now)) ≤ length buffer.old }
+    ensures taken { result
+        ≡ buffer_len_of (attribute_for F.canonical
+        (meaning_in F.FAMILY F.other (λ n. row_of (F.rows lists n)) nla.now)) }
+    ensures written { let canonical =
+        attribute_for F.canonical
+        (meaning_in F.FAMILY F.other (λ n. row_of (F.rows lists n)) nla.now) in
+        buffer.new ≡ canonical_string canonical ++ drop (buffer_len_of canonical) buffer.old }
 {
     if nla.kind() == LIST_TYPE && lists < MOST_LISTS {
-        nested_put_list::<F>(nla.value(), lists + 1, buffer)
+        nested_write_list::<F>(nla.value(), lists + 1, buffer)
     } else {
-        row_put_canonical::<F>(nla, lists, buffer)
+        row_write_canonical::<F>(nla, lists, buffer)
     }
 }
 
-/// Writes the attribute that holds the list which the bytes mean in the same way: the list behind the room of its header, and then header and padding.
-#[cycle(nested_put_canonical)]
-fn nested_put_list<F: NestedFamily>(bytes: &[u8], lists: u8, buffer: &mut [u8]) -> usize
-    requires accepted { IsOk (values (meaning_in F.FAMILY F.other (λ n. row_of (F.rows lists n))) (pieces bytes.now)) }
+/// Writes the canonical attribute of the list that the bytes mean at the front of the buffer, and
+/// returns its length: first the list at offset 4, then header and padding. Requires that the list
+/// is accepted and fits, and that the buffer has at least that length.
+#[cycle(nested_write_canonical)]
+fn nested_write_list<F: NestedFamily>(bytes: &[u8], lists: u8, buffer: &mut [u8]) -> usize
+    requires accepted { IsOk
+        (values (meaning_in F.FAMILY F.other (λ n. row_of (F.rows lists n)))
+        (nla_items bytes.now)) }
     requires within { lists ≤ 128 }
-    requires fits { length (canonical_list F.canonical (meaning_in F.FAMILY F.other (λ n. row_of (F.rows lists n))) (pieces bytes.now)) ≤ 65531 }
-    requires room { buffer_len_of (record { kind = 5; value = canonical_list F.canonical (meaning_in F.FAMILY F.other (λ n. row_of (F.rows lists n))) (pieces bytes.now) }) ≤ length buffer.old }
-    ensures taken { result ≡ buffer_len_of (record { kind = 5; value = canonical_list F.canonical (meaning_in F.FAMILY F.other (λ n. row_of (F.rows lists n))) (pieces bytes.now) }) }
-    ensures written { buffer.new ≡ canonical_string (record { kind = 5; value = canonical_list F.canonical (meaning_in F.FAMILY F.other (λ n. row_of (F.rows lists n))) (pieces bytes.now) }) ++ drop (buffer_len_of (record { kind = 5; value = canonical_list F.canonical (meaning_in F.FAMILY F.other (λ n. row_of (F.rows lists n))) (pieces bytes.now) })) buffer.old }
+    requires fits { length (canonical_list F.canonical
+        (meaning_in F.FAMILY F.other (λ n. row_of (F.rows lists n))) (nla_items bytes.now))
+        ≤ 65531 }
+    requires room { buffer_len_of
+        (record {
+          kind = 5;
+          value =
+              canonical_list F.canonical
+              (meaning_in F.FAMILY F.other (λ n. row_of (F.rows lists n))) (nla_items bytes.now);
+        }) ≤ length buffer.old }
+    ensures taken { result
+        ≡ buffer_len_of (record {
+          kind = 5;
+          value =
+              canonical_list F.canonical
+              (meaning_in F.FAMILY F.other (λ n. row_of (F.rows lists n))) (nla_items bytes.now);
+        }) }
+    ensures written { buffer.new
+        ≡ canonical_string (record {
+          kind = 5;
+          value =
+              canonical_list F.canonical
+              (meaning_in F.FAMILY F.other (λ n. row_of (F.rows lists n))) (nla_items bytes.now);
+        }) ++ drop (buffer_len_of (record {
+          kind = 5;
+          value = canonical_list F.canonical
+              (meaning_in F.FAMILY F.other (λ n. row_of (F.rows lists n))) (nla_items bytes.now);
+        })) buffer.old }
 {
-    let len = nested_list_put_canonical::<F>(bytes, lists, &mut buffer[4..]);
-    put_frame(buffer, LIST_TYPE, len);
+    let len = nested_list_write_canonical::<F>(bytes, lists, &mut buffer[4..]);
+    write_frame(buffer, LIST_TYPE, len);
     4 + len.next_multiple_of(4)
 }
 
-/// Writes the canonical string of the list that the bytes mean in the same way.
-#[cycle(nested_put_canonical)]
-fn nested_list_put_canonical<F: NestedFamily>(bytes: &[u8], lists: u8, buffer: &mut [u8]) -> usize
-    requires accepted { IsOk (values (meaning_in F.FAMILY F.other (λ n. row_of (F.rows lists n))) (pieces bytes.now)) }
+/// Writes the canonical byte string of the list that the bytes mean at the front of the buffer, and
+/// returns its length. Requires that the list is accepted and fits, and that the buffer has at
+/// least that length.
+#[cycle(nested_write_canonical)]
+fn nested_list_write_canonical<F: NestedFamily>(bytes: &[u8], lists: u8, buffer: &mut [u8]) -> usize
+    requires accepted { IsOk
+        (values (meaning_in F.FAMILY F.other (λ n. row_of (F.rows lists n)))
+        (nla_items bytes.now)) }
     requires within { lists ≤ 128 }
-    requires fits { length (canonical_list F.canonical (meaning_in F.FAMILY F.other (λ n. row_of (F.rows lists n))) (pieces bytes.now)) ≤ 65531 }
-    requires room { length (canonical_list F.canonical (meaning_in F.FAMILY F.other (λ n. row_of (F.rows lists n))) (pieces bytes.now)) ≤ length buffer.old }
-    ensures taken { result ≡ length (canonical_list F.canonical (meaning_in F.FAMILY F.other (λ n. row_of (F.rows lists n))) (pieces bytes.now)) }
-    ensures written { let string = canonical_list F.canonical (meaning_in F.FAMILY F.other (λ n. row_of (F.rows lists n))) (pieces bytes.now) in buffer.new ≡ string ++ drop (length string) buffer.old }
+    requires fits { length (canonical_list F.canonical
+        (meaning_in F.FAMILY F.other (λ n. row_of (F.rows lists n))) (nla_items bytes.now))
+        ≤ 65531 }
+    requires room { length (canonical_list F.canonical
+        (meaning_in F.FAMILY F.other (λ n. row_of (F.rows lists n))) (nla_items bytes.now))
+        ≤ length buffer.old }
+    ensures taken { result
+        ≡ length (canonical_list F.canonical
+        (meaning_in F.FAMILY F.other (λ n. row_of (F.rows lists n))) (nla_items bytes.now)) }
+    ensures written { let string =
+        canonical_list F.canonical (meaning_in F.FAMILY F.other (λ n. row_of (F.rows lists n)))
+        (nla_items bytes.now) in buffer.new ≡ string ++ drop (length string) buffer.old }
 {
     let mut count = HeaderCount::new();
     let mut rest = bytes;
     let mut place: usize = 0;
-    while let Some(next) = next_piece(rest, &mut count) {
+    while let Some(next) = next_attribute(rest, &mut count) {
         let (nla, after) = next.unwrap();
-        place += nested_put_canonical::<F>(&nla, lists, &mut buffer[place..]);
+        place += nested_write_canonical::<F>(&nla, lists, &mut buffer[place..]);
         rest = after;
     }
     place

@@ -1,14 +1,14 @@
-//! Measuring and writing values of a family that holds lists of its own: each is one walk over the value, in proportion to its bytes, however
-//! deep the lists stand.
+//! Measures and writes values of a family with nested lists: each call is one walk over the value,
+//! linear in its size at any depth.
 
 ghost use Rattle.std.specs.Prelude.{◌≡◌, ◌≤◌, ◌++◌, SomeIff, drop, length, map};
 ghost use Rattle.nla_frame.specs.Attribute.{Fits, buffer_len_of, canonical_string, list_string};
 
 use crate::nested_family::{LIST_TYPE, NestedFamily};
 use linkinfo_table::{row_emit_payload, row_fit_len, row_kind};
-use nla_frame::{fitting, put_frame};
+use nla_frame::{fitting, write_frame};
 
-/// The length of a value's payload where it fits, and else `None`.
+/// Returns the length of a value's payload if the value fits, and `None` otherwise.
 #[cycle(nested_fit_len)]
 pub fn nested_fit_len<F: NestedFamily>(value: &F) -> Option<usize>
     ensures { SomeIff result (Fits (F.canonical value.now)) (length (F.canonical value.now).value) }
@@ -19,10 +19,11 @@ pub fn nested_fit_len<F: NestedFamily>(value: &F) -> Option<usize>
     }
 }
 
-/// The length of a list's string where a length field counts it, and else `None`.
+/// Returns the length of a list's byte string if a length field can count it, and `None` otherwise.
 #[cycle(nested_fit_len)]
 fn nested_list_fit_len<F: NestedFamily>(items: &[F]) -> Option<usize>
-    ensures { SomeIff result (length (list_string (map F.canonical items.now)) ≤ 65531) (length (list_string (map F.canonical items.now))) }
+    ensures { SomeIff result (length (list_string (map F.canonical items.now)) ≤ 65531)
+        (length (list_string (map F.canonical items.now))) }
 {
     let mut total: usize = 0;
     for item in items {
@@ -32,7 +33,7 @@ fn nested_list_fit_len<F: NestedFamily>(items: &[F]) -> Option<usize>
     Some(total)
 }
 
-/// The length of a value's payload. Asks that the value fits.
+/// The length of a value's payload. Requires that the value fits.
 pub fn nested_value_len<F: NestedFamily>(value: &F) -> usize
     requires { Fits (F.canonical value.now) }
     ensures { result ≡ length (F.canonical value.now).value }
@@ -43,7 +44,7 @@ pub fn nested_value_len<F: NestedFamily>(value: &F) -> usize
     }
 }
 
-/// The type number of a value.
+/// The type that a value is written with.
 pub fn nested_kind<F: NestedFamily>(value: &F) -> u16
     ensures { result ≡ (F.canonical value.now).kind }
 {
@@ -53,7 +54,8 @@ pub fn nested_kind<F: NestedFamily>(value: &F) -> u16
     }
 }
 
-/// Writes a value's payload. Asks that the value fits, and for a buffer of exactly the payload's length.
+/// Writes a value's payload. Requires that the value fits, and that the buffer has exactly the
+/// length of the payload.
 pub fn nested_emit_value<F: NestedFamily>(value: &F, buffer: &mut [u8])
     requires fits { Fits (F.canonical value.now) }
     requires exact { length buffer.old ≡ length (F.canonical value.now).value }
@@ -62,13 +64,15 @@ pub fn nested_emit_value<F: NestedFamily>(value: &F, buffer: &mut [u8])
     nested_emit_payload(value, buffer);
 }
 
-/// Writes a value's payload at the front of the buffer, leaves the bytes behind it, and answers how many it wrote.
+/// Writes a value's payload at the front of the buffer, and returns its length. The bytes after it
+/// stay unchanged. Requires that the value fits, and that the buffer has at least that length.
 #[cycle(nested_emit)]
 pub fn nested_emit_payload<F: NestedFamily>(value: &F, buffer: &mut [u8]) -> usize
     requires fits { Fits (F.canonical value.now) }
     requires room { length (F.canonical value.now).value ≤ length buffer.old }
     ensures taken { result ≡ length (F.canonical value.now).value }
-    ensures written { buffer.new ≡ (F.canonical value.now).value ++ drop (length (F.canonical value.now).value) buffer.old }
+    ensures written { buffer.new
+        ≡ (F.canonical value.now).value ++ drop (length (F.canonical value.now).value) buffer.old }
 {
     match value.list() {
         Some(list) => emit_list(list.as_slice(), buffer),
@@ -76,13 +80,16 @@ pub fn nested_emit_payload<F: NestedFamily>(value: &F, buffer: &mut [u8]) -> usi
     }
 }
 
-/// Writes a list's string in the same way. Asks that a length field counts it.
+/// Writes a list's byte string at the front of the buffer, and returns its length. Requires that a
+/// length field can count it, and that the buffer has at least that length.
 #[cycle(nested_emit)]
 fn emit_list<F: NestedFamily>(items: &[F], buffer: &mut [u8]) -> usize
     requires fits { length (list_string (map F.canonical items.now)) ≤ 65531 }
     requires room { length (list_string (map F.canonical items.now)) ≤ length buffer.old }
     ensures taken { result ≡ length (list_string (map F.canonical items.now)) }
-    ensures written { buffer.new ≡ list_string (map F.canonical items.now) ++ drop (length (list_string (map F.canonical items.now))) buffer.old }
+    ensures written { buffer.new
+        ≡ list_string (map F.canonical items.now)
+        ++ drop (length (list_string (map F.canonical items.now))) buffer.old }
 {
     let mut place: usize = 0;
     for item in items {
@@ -91,15 +98,19 @@ fn emit_list<F: NestedFamily>(items: &[F], buffer: &mut [u8]) -> usize
     place
 }
 
-/// Writes a value's attribute in the same way: its payload, and then header and padding round it.
+/// Writes a value's attribute at the front of the buffer, and returns its length: first the
+/// payload, then header and padding. Requires that the value fits, and that the buffer has at least
+/// that length.
 #[cycle(nested_emit)]
 fn emit_attribute<F: NestedFamily>(value: &F, buffer: &mut [u8]) -> usize
     requires fits { Fits (F.canonical value.now) }
     requires room { buffer_len_of (F.canonical value.now) ≤ length buffer.old }
     ensures taken { result ≡ buffer_len_of (F.canonical value.now) }
-    ensures written { buffer.new ≡ canonical_string (F.canonical value.now) ++ drop (buffer_len_of (F.canonical value.now)) buffer.old }
+    ensures written { buffer.new
+        ≡ canonical_string (F.canonical value.now)
+        ++ drop (buffer_len_of (F.canonical value.now)) buffer.old }
 {
     let len = nested_emit_payload(value, &mut buffer[4..]);
-    put_frame(buffer, nested_kind(value), len);
+    write_frame(buffer, nested_kind(value), len);
     4 + len.next_multiple_of(4)
 }

@@ -1,8 +1,8 @@
-//! Families whose attributes of one type hold lists of the family's own attributes.
+//! Families whose attributes of one type contain a list of the family's own attributes.
 
 ghost use Rattle.std.specs.Prelude.{◌≡◌, ◌+◌, ◌==◌, ◌&&◌, ◌<◌, ◌≤◌, ℕ, List, Option, map};
 ghost use Rattle.nla_frame.specs.Attribute.{Attribute, list_string, masked};
-ghost use Rattle.nla_frame.specs.Pieces.{pieces};
+ghost use Rattle.nla_frame.specs.NlaItems.{nla_items};
 ghost use Rattle.linkinfo_shapes.specs.Table.{shape_of};
 ghost use Rattle.linkinfo_table.specs.FamilyRows.{IsFlat, lookup_in, row_of};
 ghost use Rattle.linkinfo_table.specs.Lists.{alike_pairs, headers_of, memory_of, values};
@@ -12,41 +12,60 @@ ghost use Rattle.linkinfo_devices.specs.Nested.{LendsList, in_list, nested_looku
 use linkinfo_table::{Lookup, RowFamily, table_lookup};
 use nla_frame::{Cause, Family, Nlas};
 
-/// The type of an attribute that holds a list (`IFLA_MACVLAN_MACADDR_DATA`, include/uapi/linux/if_link.h).
+/// The type of an attribute that contains a list (`IFLA_MACVLAN_MACADDR_DATA`,
+/// include/uapi/linux/if_link.h).
 pub const LIST_TYPE: u16 = 5;
 
-/// The most lists inside one another.
+/// The maximum depth of nested lists.
 pub const MOST_LISTS: u8 = 128;
 
-/// A family of which an attribute of type 5 holds a list of the family's own attributes. The context is the number of lists round an
-/// attribute: a list inside 128 others is refused with the cause Depth, before its payload is looked at.
+/// A family in which an attribute of type 5 contains a list of the family's own attributes.
+///
+/// The context is the number of lists around an attribute. A list nested in 128 others is rejected
+/// with the cause `Depth`, before its payload is examined.
 pub trait NestedFamily: RowFamily<Context = u8> {
-    /// The value that holds a list.
+    /// The value that contains a list.
     ghost list_value: { List Self → Self };
 
-    /// The value that holds the list.
+    /// Makes the value that contains the list.
     fn from_list(items: Nlas<Self>) -> Self
         ensures { result ≡ list_value items };
 
-    /// The list that a value holds, where its payload is one.
+    /// The list of a value that contains one, and `None` for other values.
     fn list(&self) -> Option<&Nlas<Self>>
         ensures { LendsList Self.canonical Self.is_custom self.now result };
 
-    ghost list_written: { (xs : List Self) → Self.canonical (list_value xs) ≡ record { kind = 5; value = list_string (map Self.canonical xs) } };
+    ghost list_written: { (xs : List Self) →
+        Self.canonical (list_value xs)
+        ≡ record { kind = 5; value = list_string (map Self.canonical xs) } };
 
-    ghost list_means: { (c : ℕ) (a : Attribute) → c < 128 → masked a.kind ≡ 5 → meaning_in Self.FAMILY Self.other (λ n. row_of (Self.rows c n)) a ≡ in_list list_value (values (meaning_in Self.FAMILY Self.other (λ n. row_of (Self.rows (c + 1) n))) (pieces a.value)) };
+    ghost list_means: { (c : ℕ) (a : Attribute) → c < 128 → masked a.kind ≡ 5 →
+        meaning_in Self.FAMILY Self.other (λ n. row_of (Self.rows c n)) a
+        ≡ in_list list_value (values
+        (meaning_in Self.FAMILY Self.other (λ n. row_of (Self.rows (c + 1) n)))
+        (nla_items a.value)) };
 
-    ghost list_needs_memory: { (c : ℕ) (a : Attribute) → c < 128 → masked a.kind ≡ 5 → memory_in (λ n. row_of (Self.rows c n)) a ≡ memory_of (meaning_in Self.FAMILY Self.other (λ n. row_of (Self.rows (c + 1) n))) (memory_in (λ n. row_of (Self.rows (c + 1) n))) (pieces a.value) };
+    ghost list_needs_memory: { (c : ℕ) (a : Attribute) → c < 128 → masked a.kind ≡ 5 →
+        memory_in (λ n. row_of (Self.rows c n)) a
+        ≡ memory_of (meaning_in Self.FAMILY Self.other (λ n. row_of (Self.rows (c + 1) n)))
+        (memory_in (λ n. row_of (Self.rows (c + 1) n))) (nla_items a.value) };
 
-    ghost list_headers: { (c : ℕ) (a : Attribute) → c < 128 → masked a.kind ≡ 5 → headers_inside (λ n. row_of (Self.rows c n)) a ≡ headers_of (meaning_in Self.FAMILY Self.other (λ n. row_of (Self.rows (c + 1) n))) (headers_inside (λ n. row_of (Self.rows (c + 1) n))) (pieces a.value) };
+    ghost list_headers: { (c : ℕ) (a : Attribute) → c < 128 → masked a.kind ≡ 5 →
+        headers_inside (λ n. row_of (Self.rows c n)) a
+        ≡ headers_of (meaning_in Self.FAMILY Self.other (λ n. row_of (Self.rows (c + 1) n)))
+        (headers_inside (λ n. row_of (Self.rows (c + 1) n))) (nla_items a.value) };
 
-    ghost list_alike: { (c : ℕ) (a b : Attribute) → c < 128 → masked a.kind ≡ 5 → alike_in (λ n. row_of (Self.rows c n)) a b ≡ ((masked b.kind == masked a.kind) && alike_pairs (alike_in (λ n. row_of (Self.rows (c + 1) n))) (pieces a.value) (pieces b.value)) };
+    ghost list_alike: { (c : ℕ) (a b : Attribute) → c < 128 → masked a.kind ≡ 5 →
+        alike_in (λ n. row_of (Self.rows c n)) a b
+        ≡ ((masked b.kind == masked a.kind)
+        && alike_pairs (alike_in (λ n. row_of (Self.rows (c + 1) n))) (nla_items a.value)
+        (nla_items b.value)) };
 
     ghost flat_elsewhere: { (c n : ℕ) → (n ≡ 5 → 128 ≤ c) → IsFlat (Self.rows c n) };
 }
 
-/// What such a family says of a masked type inside `lists` lists: what the table of all families does, but that a list inside 128 others
-/// is refused.
+/// How a type without flag bits is read inside `lists` lists: by the table of all families, except
+/// that a list nested in 128 others is rejected.
 #[inline(always)]
 pub fn nested_shape(family: Family, lists: u8, kind: u16) -> Lookup
     ensures { result ≡ nested_lookup lists kind (lookup_in (shape_of family kind)) }

@@ -1,7 +1,13 @@
-//! Links to Qualcomm modems.
+//! Links of kind `rmnet`.
 
 ghost use Rattle.linkinfo_devices.specs.declared.rmnet.InfoRmNet.TheVariants.{Other};
-ghost use Rattle.linkinfo_devices.specs.Rmnet.{flags_under_mask, rm_net_attribute, rm_net_keeps, rm_net_lookup, rm_net_rows};
+ghost use Rattle.linkinfo_devices.specs.Rmnet.{
+  flags_under_mask,
+  rm_net_attribute,
+  rm_net_keeps,
+  rm_net_lookup,
+  rm_net_rows,
+};
 ghost use Rattle.linkinfo_table.specs.FamilyRows.{row_of, table_row};
 ghost use Rattle.linkinfo_table.specs.Rows.{meaning_in, memory_in};
 ghost use Rattle.nla_frame.specs.declared.error.Family.TheVariants as family;
@@ -10,20 +16,23 @@ ghost use Rattle.std.specs.Prelude.{◌≡◌, refl};
 use bitflags::Flags;
 use linkinfo_numbers::{InfoRmNetFlags, RmNetFlags};
 use linkinfo_table::{
-    Found, Part, Place, TableFamily, WrittenByTable, clone_by_rows, part_by_rows, put_by_rows,
+    Decoded, Encodable, Slot, TableFamily, WrittenByTable, clone_by_rows, encodable_by_rows,
     row_emit_payload, row_emit_value, row_fit_len, row_kind, row_read, row_value_len,
+    store_by_rows,
 };
 use nla_frame::{DecodeError, DefaultNla, ExactEq, Family, Nla, NlaBuffer, Parseable};
 use std::alloc::{AllocError, Global};
 
-/// An attribute of a link to a Qualcomm modem: of a link of the kind `rmnet` (include/uapi/linux/if_link.h).
+/// An attribute in the data of an `rmnet` link, a device on a Qualcomm modem
+/// (include/uapi/linux/if_link.h).
 #[derive(Debug, PartialEq, Eq, Drop)]
 pub enum InfoRmNet {
-    /// The number of the channel among those of the modem (`IFLA_RMNET_MUX_ID`), native byte order.
+    /// Mux ID of the channel of the modem (`IFLA_RMNET_MUX_ID`), little-endian.
     MuxId(u16),
-    /// What is done with the frames of the modem, and which of it is meant (`IFLA_RMNET_FLAGS`), each in native byte order.
+    /// Flags, and the mask of the flags to change (`IFLA_RMNET_FLAGS`, `struct ifla_rmnet_flags`),
+    /// each little-endian.
     Flags(InfoRmNetFlags),
-    /// An attribute of another type, kept as it came.
+    /// An opaque attribute, of a type that has no variant here, kept verbatim.
     Other(DefaultNla),
 }
 
@@ -36,7 +45,7 @@ macro_rules! rows {
     };
 }
 
-/// A clone equals its source.
+/// A clone is equal to its source.
 impl Clone for InfoRmNet {
     ghost is_clone = { λ source copy. copy ≡ source };
 
@@ -63,21 +72,21 @@ impl TableFamily for InfoRmNet {
     ghost in_table = { rm_net_lookup };
 
     #[inline(always)]
-    fn put_found<P: Place<InfoRmNet>>(
-        place: &mut P,
+    fn store_decoded<P: Slot<InfoRmNet>>(
+        slot: &mut P,
         alloc: Global,
-        found: Found<'_>,
+        decoded: Decoded<'_>,
     ) -> Result<(), AllocError> {
-        rows!(put_by_rows(place, alloc, found))
+        rows!(store_by_rows(slot, alloc, decoded))
     }
 
     #[inline(always)]
-    fn to_part(&self) -> Part<'_> {
-        rows!(part_by_rows self)
+    fn to_encodable(&self) -> Encodable<'_> {
+        rows!(encodable_by_rows self)
     }
 }
 
-/// The flags and their mask of two numbers.
+/// Makes flags and their mask from two numbers.
 fn flags_of(pair: (u32, u32)) -> InfoRmNetFlags
     ensures { result ≡ flags_under_mask pair }
 {
@@ -88,7 +97,7 @@ fn flags_of(pair: (u32, u32)) -> InfoRmNetFlags
     )
 }
 
-/// The numbers of flags and their mask.
+/// The two numbers of flags and their mask.
 fn pair_of(under: InfoRmNetFlags) -> (u32, u32)
     ensures { result ≡ (under.flags.0, under.mask.0) }
 {
@@ -123,9 +132,10 @@ impl WrittenByTable for InfoRmNet {
     ghost written = { λ _. refl };
 }
 
-/// Reads the attribute. A payload of another length than its row's is (RmNet, type, Length).
+/// Reads the attribute. A payload of invalid length is rejected as `(RmNet, type, Length)`.
 impl<'a> Parseable<NlaBuffer<'a>> for InfoRmNet {
-    ghost meaning = { λ nla. meaning_in family.RmNet (λ d. Other d) (λ n. row_of (table_row rm_net_rows n)) nla };
+    ghost meaning = { λ nla.
+        meaning_in family.RmNet (λ d. Other d) (λ n. row_of (table_row rm_net_rows n)) nla };
 
     ghost needs_memory = { λ nla. memory_in (λ n. row_of (table_row rm_net_rows n)) nla };
 

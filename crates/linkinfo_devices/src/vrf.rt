@@ -1,4 +1,5 @@
-//! Virtual routing and forwarding: `IFLA_VRF_UNSPEC` and on, and the same of its ports, include/uapi/linux/if_link.h.
+//! Virtual routing and forwarding: `IFLA_VRF_*`, and `IFLA_VRF_PORT_*` of its ports
+//! (include/uapi/linux/if_link.h).
 
 ghost use Rattle.linkinfo_devices.specs.declared.vrf.InfoVrf.TheVariants.{Other};
 ghost use Rattle.linkinfo_devices.specs.Vrf.{vrf_attribute, vrf_keeps, vrf_lookup, vrf_rows};
@@ -8,22 +9,23 @@ ghost use Rattle.nla_frame.specs.declared.error.Family.TheVariants as family;
 ghost use Rattle.std.specs.Prelude.{◌≡◌, refl};
 
 use linkinfo_table::{
-    Found, Part, Place, TableFamily, WrittenByTable, clone_by_rows, part_by_rows, put_by_rows,
+    Decoded, Encodable, Slot, TableFamily, WrittenByTable, clone_by_rows, encodable_by_rows,
     row_emit_payload, row_emit_value, row_fit_len, row_kind, row_read, row_value_len,
+    store_by_rows,
 };
 use nla_frame::{DecodeError, DefaultNla, ExactEq, Family, Nla, NlaBuffer, Parseable};
 use std::alloc::{AllocError, Global};
 
-/// An attribute of a vrf, or of a port of one.
+/// An attribute in the data of a `vrf` link, or in the data of its ports.
 #[derive(Debug, PartialEq, Eq, Drop)]
 pub enum InfoVrf {
-    /// The number of its routing table (`IFLA_VRF_TABLE`, and of a port `IFLA_VRF_PORT_TABLE`), native byte order.
+    /// Routing table ID (`IFLA_VRF_TABLE`, and `IFLA_VRF_PORT_TABLE` of a port), little-endian.
     TableId(u32),
-    /// An attribute of another type, kept as it came.
+    /// An opaque attribute, of a type that has no variant here, kept verbatim.
     Other(DefaultNla),
 }
 
-/// An attribute of a port of a vrf.
+/// An attribute in the data of a port of a `vrf`.
 pub type InfoVrfPort = InfoVrf;
 
 macro_rules! rows {
@@ -34,7 +36,7 @@ macro_rules! rows {
     };
 }
 
-/// A clone equals its source.
+/// A clone is equal to its source.
 impl Clone for InfoVrf {
     ghost is_clone = { λ source copy. copy ≡ source };
 
@@ -61,17 +63,17 @@ impl TableFamily for InfoVrf {
     ghost in_table = { vrf_lookup };
 
     #[inline(always)]
-    fn put_found<P: Place<InfoVrf>>(
-        place: &mut P,
+    fn store_decoded<P: Slot<InfoVrf>>(
+        slot: &mut P,
         alloc: Global,
-        found: Found<'_>,
+        decoded: Decoded<'_>,
     ) -> Result<(), AllocError> {
-        rows!(put_by_rows(place, alloc, found))
+        rows!(store_by_rows(slot, alloc, decoded))
     }
 
     #[inline(always)]
-    fn to_part(&self) -> Part<'_> {
-        rows!(part_by_rows self)
+    fn to_encodable(&self) -> Encodable<'_> {
+        rows!(encodable_by_rows self)
     }
 }
 
@@ -103,9 +105,10 @@ impl WrittenByTable for InfoVrf {
     ghost written = { λ _. refl };
 }
 
-/// Reads the attribute. A payload of another length than its row's is (Vrf, type, Length).
+/// Reads the attribute. A payload of invalid length is rejected as `(Vrf, type, Length)`.
 impl<'a> Parseable<NlaBuffer<'a>> for InfoVrf {
-    ghost meaning = { λ nla. meaning_in family.Vrf (λ d. Other d) (λ n. row_of (table_row vrf_rows n)) nla };
+    ghost meaning = { λ nla.
+        meaning_in family.Vrf (λ d. Other d) (λ n. row_of (table_row vrf_rows n)) nla };
 
     ghost needs_memory = { λ nla. memory_in (λ n. row_of (table_row vrf_rows n)) nla };
 

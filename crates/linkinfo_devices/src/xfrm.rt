@@ -1,4 +1,4 @@
-//! Xfrm interfaces: `IFLA_XFRM_UNSPEC` and on, include/uapi/linux/if_link.h.
+//! XFRM interfaces: `IFLA_XFRM_*` (include/uapi/linux/if_link.h).
 
 ghost use Rattle.linkinfo_devices.specs.declared.xfrm.InfoXfrm.TheVariants.{Other};
 ghost use Rattle.linkinfo_devices.specs.Xfrm.{xfrm_attribute, xfrm_keeps, xfrm_lookup, xfrm_rows};
@@ -8,20 +8,21 @@ ghost use Rattle.nla_frame.specs.declared.error.Family.TheVariants as family;
 ghost use Rattle.std.specs.Prelude.{◌≡◌, refl};
 
 use linkinfo_table::{
-    Found, Part, Place, TableFamily, WrittenByTable, clone_by_rows, part_by_rows, put_by_rows,
+    Decoded, Encodable, Slot, TableFamily, WrittenByTable, clone_by_rows, encodable_by_rows,
     row_emit_payload, row_emit_value, row_fit_len, row_kind, row_read, row_value_len,
+    store_by_rows,
 };
 use nla_frame::{DecodeError, DefaultNla, ExactEq, Family, Nla, NlaBuffer, Parseable};
 use std::alloc::{AllocError, Global};
 
-/// An attribute of an xfrm interface.
+/// An attribute in the data of an `xfrm` link, an XFRM (IPsec) interface.
 #[derive(Debug, PartialEq, Eq, Drop)]
 pub enum InfoXfrm {
-    /// The index of the underlying interface (`IFLA_XFRM_LINK`), native byte order.
+    /// Interface index of the underlying device (`IFLA_XFRM_LINK`), little-endian.
     Link(u32),
-    /// The identifier that policies and states go by (`IFLA_XFRM_IF_ID`), native byte order.
+    /// Interface ID, which policies and states refer to (`IFLA_XFRM_IF_ID`), little-endian.
     IfId(u32),
-    /// An attribute of another type, kept as it came.
+    /// An opaque attribute, of a type that has no variant here, kept verbatim.
     Other(DefaultNla),
 }
 
@@ -34,7 +35,7 @@ macro_rules! rows {
     };
 }
 
-/// A clone equals its source.
+/// A clone is equal to its source.
 impl Clone for InfoXfrm {
     ghost is_clone = { λ source copy. copy ≡ source };
 
@@ -61,17 +62,17 @@ impl TableFamily for InfoXfrm {
     ghost in_table = { xfrm_lookup };
 
     #[inline(always)]
-    fn put_found<P: Place<InfoXfrm>>(
-        place: &mut P,
+    fn store_decoded<P: Slot<InfoXfrm>>(
+        slot: &mut P,
         alloc: Global,
-        found: Found<'_>,
+        decoded: Decoded<'_>,
     ) -> Result<(), AllocError> {
-        rows!(put_by_rows(place, alloc, found))
+        rows!(store_by_rows(slot, alloc, decoded))
     }
 
     #[inline(always)]
-    fn to_part(&self) -> Part<'_> {
-        rows!(part_by_rows self)
+    fn to_encodable(&self) -> Encodable<'_> {
+        rows!(encodable_by_rows self)
     }
 }
 
@@ -103,9 +104,10 @@ impl WrittenByTable for InfoXfrm {
     ghost written = { λ _. refl };
 }
 
-/// Reads the attribute. A payload of another length than its row's is (Xfrm, type, Length).
+/// Reads the attribute. A payload of invalid length is rejected as `(Xfrm, type, Length)`.
 impl<'a> Parseable<NlaBuffer<'a>> for InfoXfrm {
-    ghost meaning = { λ nla. meaning_in family.Xfrm (λ d. Other d) (λ n. row_of (table_row xfrm_rows n)) nla };
+    ghost meaning = { λ nla.
+        meaning_in family.Xfrm (λ d. Other d) (λ n. row_of (table_row xfrm_rows n)) nla };
 
     ghost needs_memory = { λ nla. memory_in (λ n. row_of (table_row xfrm_rows n)) nla };
 

@@ -1,4 +1,4 @@
--- The rows of vlan links.
+-- The rows of `vlan` links.
 use Rattle.std.specs.Prelude.{List, [], ◌∷◌, refl}
 use Rattle.std.proofs.Common.{lit<}
 use Rattle.nla_frame.specs.Attribute.{Attribute}
@@ -6,7 +6,12 @@ use Rattle.nla_frame.specs.Kept.{attribute_of}
 use Rattle.linkinfo_table.specs.FamilyRows.{PlainRow, row, typed, EachKeeps}
 use Rattle.linkinfo_shapes.specs.declared.shape.Shape.TheVariants.{Be16, FlagPair, Le16}
 use Rattle.linkinfo_families_tests.specs.declared.vlan.InfoVlanRow.{InfoVlanRow}
-use Rattle.linkinfo_families_tests.specs.declared.vlan.InfoVlanRow.TheVariants.{Id, Flags, Protocol, Other}
+use Rattle.linkinfo_families_tests.specs.declared.vlan.InfoVlanRow.TheVariants.{
+  Id,
+  Flags,
+  Protocol,
+  Other,
+}
 
 abbrev pub vlan_rows : List (PlainRow InfoVlanRow)
 vlan_rows =
@@ -22,4 +27,10 @@ vlan_attribute (Protocol n) = typed 5 Be16 n
 vlan_attribute (Other nla) = attribute_of nla
 
 pub vlan_keeps : EachKeeps vlan_attribute vlan_rows
-vlan_keeps = (record { low = lit< tt; plain = tt; keeps = λ n. refl }, (record { low = lit< tt; plain = tt; keeps = λ pair. refl }, (record { low = lit< tt; plain = tt; keeps = λ n. refl }, tt)))
+vlan_keeps = (
+  record { low = lit< tt; plain = tt; keeps = λ n. refl },
+  (
+    record { low = lit< tt; plain = tt; keeps = λ pair. refl },
+    (record { low = lit< tt; plain = tt; keeps = λ n. refl }, tt),
+  ),
+)

@@ -1,5 +1,5 @@
-//! Tests of the families of attributes, each by its public calls: a crate with tests is proved twice, so those of all families stand in this one,
-//! over the same helpers.
+//! Tests of the families of attributes, each by its public calls. Those of all families are in this
+//! one crate with common helpers, since a crate with tests is proved twice.
 #![tactic(auto)]
 
 mod vlan;

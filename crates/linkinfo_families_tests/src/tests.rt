@@ -1,11 +1,13 @@
-//! Tests over worked attributes: each row of each family, as the kernel writes it, both peers through each call of the families with one, lists inside
-//! lists, families without rows, and the calls that families are made of.
+//! Tests over worked attributes: each row of each family, as the kernel writes it, and both types
+//! of peer in each call of the families with one. Also nested lists, families without rows, and the
+//! calls that families are made of.
 
 mod amt;
 mod bare_udp;
 mod batadv;
 mod bit;
 mod calls;
+mod encodables;
 mod geneve;
 mod gre;
 mod gre6;
@@ -18,10 +20,9 @@ mod macsec;
 mod macvlan;
 mod nested;
 mod netkit;
-mod parts;
+mod opaque;
 mod peers;
 mod rmnet;
-mod rowless;
 mod rows;
 mod table;
 mod vlan;

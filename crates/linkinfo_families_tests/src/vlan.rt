@@ -1,5 +1,5 @@
-//! A family of one's own, whose rows the table of all families does not have: attributes of vlan links (`IFLA_VLAN_UNSPEC` and on,
-//! include/uapi/linux/if_link.h), which the list keeps as they came.
+//! A custom family, whose rows the table of all families does not have: attributes of `vlan` links
+//! (`IFLA_VLAN_*`, include/uapi/linux/if_link.h), which the list itself keeps opaque.
 
 ghost use Rattle.linkinfo_table.specs.FamilyRowLaws.{table_flat, table_owes};
 ghost use Rattle.linkinfo_table.specs.FamilyRows.{table_row};
@@ -9,22 +9,22 @@ ghost use Rattle.nla_frame.specs.declared.error.Family.TheVariants as family;
 ghost use Rattle.std.specs.Prelude.{false, refl};
 
 use linkinfo_table::{
-    FlatFamily, Found, Lookup, Part, Place, RowFamily, Shape, part_by_rows, put_by_rows,
-    row_emit_payload, row_emit_value, row_fit_len, row_kind, row_value_len,
+    Decoded, Encodable, FlatFamily, Lookup, RowFamily, Shape, Slot, encodable_by_rows,
+    row_emit_payload, row_emit_value, row_fit_len, row_kind, row_value_len, store_by_rows,
 };
 use nla_frame::{DefaultNla, ExactEq, Family, Nla};
 use std::alloc::{AllocError, Global};
 
-/// An attribute of a vlan link.
+/// An attribute in the data of a `vlan` link, a VLAN interface.
 #[derive(Debug, PartialEq, Eq, Clone, Drop)]
 pub enum InfoVlanRow {
-    /// The identifier of the vlan (`IFLA_VLAN_ID`), native byte order.
+    /// VLAN ID (`IFLA_VLAN_ID`), little-endian.
     Id(u16),
-    /// Flags and the mask of those that are meant (`IFLA_VLAN_FLAGS`), native byte order.
+    /// Flags, and the mask of the flags to change (`IFLA_VLAN_FLAGS`), each little-endian.
     Flags((u32, u32)),
-    /// The protocol of the tag (`IFLA_VLAN_PROTOCOL`), network byte order.
+    /// Protocol of the tag (`IFLA_VLAN_PROTOCOL`), big-endian.
     Protocol(u16),
-    /// An attribute of another type, kept as it came.
+    /// An opaque attribute, of a type that has no variant here, kept verbatim.
     Other(DefaultNla),
 }
 
@@ -66,17 +66,17 @@ impl RowFamily for InfoVlanRow {
         }
     }
 
-    fn put_found<P: Place<InfoVlanRow>>(
-        place: &mut P,
+    fn store_decoded<P: Slot<InfoVlanRow>>(
+        slot: &mut P,
         alloc: Global,
         _ctx: (),
-        found: Found<'_>,
+        decoded: Decoded<'_>,
     ) -> Result<(), AllocError> {
-        rows!(put_by_rows(place, alloc, found))
+        rows!(store_by_rows(slot, alloc, decoded))
     }
 
-    fn to_part(&self) -> Part<'_> {
-        rows!(part_by_rows self)
+    fn to_encodable(&self) -> Encodable<'_> {
+        rows!(encodable_by_rows self)
     }
 }
 

@@ -1,5 +1,5 @@
-//! Tests over worked strings, values and payloads: what the contracts call a value, a length, a
-//! text, a number or a row is what the format says.
+//! Tests over worked byte strings, values and payloads: what the contracts define as a value, a
+//! length, a text, a number or a row is what the format specifies.
 
 mod assertions;
 mod data;

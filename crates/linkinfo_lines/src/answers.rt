@@ -1,9 +1,34 @@
-//! The answers to the lines of an input.
+//! The result lines for the lines of an input.
 
-ghost use Rattle.std.specs.Prelude.{◌≡◌, ◌≢◌, ◌++◌, ℕ, List, [], ◌∷◌, if◌then◌else◌, Some, None, IfOk, OnOk};
+ghost use Rattle.std.specs.Prelude.{
+  ◌≡◌,
+  ◌≢◌,
+  ◌++◌,
+  ℕ,
+  List,
+  [],
+  ◌∷◌,
+  if◌then◌else◌,
+  Some,
+  None,
+  IfOk,
+  OnOk,
+};
 ghost use Rattle.hex.specs.Hex.{encode_lower};
-ghost use Rattle.nla_frame.specs.Error.{memory_fault};
-ghost use Rattle.linkinfo_lines.specs.Answers.{Answered, answer_of, bad_line, bytes_of, canon_answer, check_answer, comparison_answer, fault_text, line_answer, on_two, words_answer};
+ghost use Rattle.nla_frame.specs.Error.{memory_error};
+ghost use Rattle.linkinfo_lines.specs.Answers.{
+  Answered,
+  answer_of,
+  bad_line,
+  bytes_of,
+  canon_answer,
+  check_answer,
+  comparison_answer,
+  error_answer,
+  line_answer,
+  on_two,
+  words_answer,
+};
 ghost use Rattle.linkinfo_lines.specs.Lines.{words_of};
 
 use crate::lines::{cut, first_line};
@@ -11,16 +36,17 @@ use linkinfo::{CanonError, Cause, DecodeError};
 use std::alloc::{AllocError, Global};
 use std::io::Write;
 
-/// The answers to an input that comes in parts. A line is answered once it has ended; of the input only the last line is kept, where it has not ended.
+/// The result lines for an input that comes in chunks. A line is processed once it has ended. Of
+/// the input only the last line is kept, while it has not ended.
 #[derive(Drop)]
 pub struct InputAnswers {
     answers: Answers,
-    /// The line that has not ended yet.
+    /// The last line of the input, which has not ended yet.
     line: Vec<u8>,
 }
 
 impl InputAnswers {
-    /// Before the first part.
+    /// Starts an input, before its first chunk.
     pub fn new(alloc: Global) -> InputAnswers
         ensures { Answered [] result.answers.text.items result.line.items }
     {
@@ -30,10 +56,11 @@ impl InputAnswers {
         }
     }
 
-    /// Takes the next part of the input. It fails only where memory runs out.
+    /// Takes the next chunk of the input. The only error is a failed allocation.
     #[tactic(auto, using(crate::proofs::Parts::answered_on))]
     pub fn push(&mut self, part: &[u8]) -> Result<(), AllocError>
-        ensures { OnOk result ((input : List ℕ) → Answered input self.old.answers.text.items self.old.line.items
+        ensures { OnOk result
+            ((input : List ℕ) → Answered input self.old.answers.text.items self.old.line.items
             → Answered (input ++ part.now) self.new.answers.text.items self.new.line.items) }
     {
         let Some(end) = memchr::memrchr(b'\n', part) else {
@@ -45,25 +72,26 @@ impl InputAnswers {
         self.line.extend_from_slice(&part[end + 1..])
     }
 
-    /// The answers to all of the input. It fails only where memory runs out.
+    /// Returns the result lines for the whole input. The only error is a failed allocation.
     #[tactic(auto, using(crate::proofs::Parts::answered_whole))]
     pub fn finish(mut self) -> Result<Vec<u8>, AllocError>
-        ensures { IfOk result (λ text. (input : List ℕ) → Answered input self.answers.text.items self.line.items → text.items ≡ answer_of input) }
+        ensures { IfOk result (λ text. (input : List ℕ) →
+            Answered input self.answers.text.items self.line.items → text.items ≡ answer_of input) }
     {
         self.answers.push_lines(&self.line)?;
         Ok(self.answers.text)
     }
 }
 
-/// The answers so far, and buffers that each line uses again.
+/// The result lines so far, and buffers that are reused for each line.
 #[derive(Drop)]
 struct Answers {
     alloc: Global,
-    /// The answers.
+    /// The result lines.
     text: Vec<u8>,
-    /// What a word names.
+    /// The bytes of the first operand.
     bytes: Vec<u8>,
-    /// What the second word of a comparison names.
+    /// The bytes of the second operand of `same`.
     second: Vec<u8>,
 }
 
@@ -79,7 +107,7 @@ impl Answers {
         }
     }
 
-    /// Adds the answers to all lines of a text, each with its line feed.
+    /// Appends the result lines for all lines of a text, each with its line feed.
     fn push_lines(&mut self, text: &[u8]) -> Result<(), AllocError>
         ensures { OnOk result (self.new.text.items ≡ self.old.text.items ++ answer_of text.now) }
     {
@@ -92,7 +120,7 @@ impl Answers {
         Ok(())
     }
 
-    /// Adds the answer to a line, with its line feed.
+    /// Appends the result line for a line, with its line feed.
     fn push_line(&mut self, line: &[u8]) -> Result<(), AllocError>
         ensures { OnOk result (self.new.text.items ≡ self.old.text.items ++ line_answer line.now) }
     {
@@ -101,7 +129,8 @@ impl Answers {
     }
 
     fn push_answer(&mut self, line: &[u8]) -> Result<(), AllocError>
-        ensures { OnOk result (self.new.text.items ≡ self.old.text.items ++ words_answer (words_of line.now)) }
+        ensures { OnOk result
+            (self.new.text.items ≡ self.old.text.items ++ words_answer (words_of line.now)) }
     {
         let (verb, operands) = cut(line, b' ');
         let Some(operands) = operands else {
@@ -110,8 +139,8 @@ impl Answers {
         self.push_command(verb, operands)
     }
 
-    /// Adds the answer to a verb and what follows its space. An operand with a space in it names no bytes, so the last operand is read
-    /// without looking for more spaces.
+    /// Appends the result of a command, given its verb and its operands. An operand with a space in
+    /// it is invalid, so the last operand is not searched for more spaces.
     fn push_command(&mut self, verb: &[u8], operands: &[u8]) -> Result<(), AllocError>
         ensures { OnOk result (self.new.text.items
             ≡ self.old.text.items ++ words_answer (verb.now ∷ words_of operands.now)) }
@@ -127,7 +156,7 @@ impl Answers {
         }
     }
 
-    /// `check HEX`: whether the list is accepted.
+    /// Appends the result of `check HEX`: whether the list is accepted.
     fn push_check(&mut self, word: &[u8]) -> Result<(), AllocError>
         ensures { OnOk result (self.new.text.items ≡ self.old.text.items ++ check_answer word.now) }
     {
@@ -136,11 +165,11 @@ impl Answers {
         }
         match linkinfo::check(&self.bytes) {
             Ok(()) => self.text.extend_from_slice(b"ok"),
-            Err(fault) => self.push_fault(fault),
+            Err(error) => self.push_error(error),
         }
     }
 
-    /// `canon HEX`: the canonical string of the list, if it fits.
+    /// Appends the result of `canon HEX`: the canonical encoding of the list, if it fits.
     fn push_canon(&mut self, word: &[u8]) -> Result<(), AllocError>
         ensures { OnOk result (self.new.text.items ≡ self.old.text.items ++ canon_answer word.now) }
     {
@@ -151,12 +180,12 @@ impl Answers {
             Ok(bytes) if bytes.is_empty() => self.text.extend_from_slice(b"-"),
             Ok(bytes) => push_hex(&bytes, &mut self.text),
             Err(CanonError::Unfit) => self.text.extend_from_slice(b"unfit"),
-            Err(CanonError::Refused(fault)) if fault.cause == Cause::Memory => Err(AllocError),
-            Err(CanonError::Refused(fault)) => self.push_fault(fault),
+            Err(CanonError::Refused(error)) if error.cause == Cause::Memory => Err(AllocError),
+            Err(CanonError::Refused(error)) => self.push_error(error),
         }
     }
 
-    /// `same HEX HEX`: whether the two lists mean the same.
+    /// Appends the result of `same HEX HEX`: whether the two lists are equivalent.
     fn push_same(&mut self, operands: &[u8]) -> Result<(), AllocError>
         ensures { OnOk result (self.new.text.items
             ≡ self.old.text.items ++ on_two comparison_answer (words_of operands.now)) }
@@ -168,7 +197,7 @@ impl Answers {
         self.push_comparison(first, second)
     }
 
-    /// Adds the answer to a comparison of what two words name.
+    /// Appends the result of comparing the lists of two operands.
     fn push_comparison(&mut self, first: &[u8], second: &[u8]) -> Result<(), AllocError>
         ensures { OnOk result (self.new.text.items
             ≡ self.old.text.items ++ comparison_answer first.now second.now) }
@@ -179,16 +208,17 @@ impl Answers {
         match linkinfo::same(&self.bytes, &self.second) {
             Ok(true) => self.text.extend_from_slice(b"true"),
             Ok(false) => self.text.extend_from_slice(b"false"),
-            Err(fault) => self.push_fault(fault),
+            Err(error) => self.push_error(error),
         }
     }
 
-    /// Adds a fault of the input: want of memory is none, and is never written.
-    fn push_fault(&mut self, fault: DecodeError) -> Result<(), AllocError>
-        requires { fault ≢ memory_fault }
-        ensures { OnOk result (self.new.text.items ≡ self.old.text.items ++ fault_text fault) }
+    /// Appends an error of the input. A failed allocation is not an error of the input, and is
+    /// never written.
+    fn push_error(&mut self, error: DecodeError) -> Result<(), AllocError>
+        requires { error ≢ memory_error }
+        ensures { OnOk result (self.new.text.items ≡ self.old.text.items ++ error_answer error) }
     {
-        write!(self.text, "err {fault}").map_err(|_| AllocError)
+        write!(self.text, "err {error}").map_err(|_| AllocError)
     }
 
     fn push_bad_line(&mut self) -> Result<(), AllocError>
@@ -198,9 +228,11 @@ impl Answers {
     }
 }
 
-/// Reads the bytes that a word names into the buffer, and answers whether it names some.
+/// Decodes an operand into the buffer, and returns whether it is valid: `-` or hex digits. The only
+/// error is a failed allocation.
 fn read_hex(word: &[u8], bytes: &mut Vec<u8>) -> Result<bool, AllocError>
-    ensures { IfOk result (λ named. (if named then Some bytes.new.items else None) ≡ bytes_of word.now) }
+    ensures { IfOk result
+        (λ named. (if named then Some bytes.new.items else None) ≡ bytes_of word.now) }
 {
     if word == b"-".as_slice() {
         bytes.clear();
@@ -213,7 +245,7 @@ fn read_hex(word: &[u8], bytes: &mut Vec<u8>) -> Result<bool, AllocError>
     Ok(hex::decode_to_slice(word, bytes.as_mut_slice()).is_ok())
 }
 
-/// Adds the bytes in lower case hex.
+/// Appends bytes in lower case hex.
 fn push_hex(bytes: &[u8], text: &mut Vec<u8>) -> Result<(), AllocError>
     ensures { OnOk result (text.new.items ≡ text.old.items ++ encode_lower bytes.now) }
 {

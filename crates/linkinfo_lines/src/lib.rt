@@ -1,5 +1,6 @@
-//! The lines of the program `linkinfo_tool` as a library: reads lines, and writes whether a link info list is accepted, its canonical string,
-//! and whether two lists mean the same.
+//! The lines of the program `linkinfo_tool`, as a library. It reads lines, and writes whether a
+//! list of link info attributes is accepted, its canonical encoding, and whether two lists are
+//! equivalent.
 #![tactic(auto)]
 
 mod answers;

@@ -1,4 +1,5 @@
-//! One run of the program: it reads all input, answers each line once it has ended, and writes the answers when the end of input is met.
+//! One run of the program. It reads all input, processes each line once it has ended, and writes
+//! the results at the end of the input.
 
 ghost use Rattle.std.specs.Prelude.{◌≡◌, ◌⊎◌, ℕ, List, Err, IfOk, IfErr, OnOk};
 ghost use Rattle.std.specs.Io.KnownBytes.{Appends, Keeps};
@@ -11,16 +12,16 @@ use std::alloc::Global;
 use std::io::{Read, Write};
 use thiserror::Error;
 
-/// Why a run ended without its whole answer.
+/// Why a run ended without writing all of its output.
 #[derive(Clone, Debug, Drop, PartialEq, Eq, Error)]
 pub enum RunError {
-    /// A read failed, or `MOST_READS` reads did not meet the end. Nothing was written.
+    /// A read failed, or the input did not end within `MOST_READS` reads. Nothing was written.
     #[error("read")]
     Read,
-    /// A write failed, or took no byte. A beginning of the answer was written.
+    /// A write failed, or wrote no byte. What was written is a prefix of the output.
     #[error("write")]
     Write,
-    /// An allocation was refused. Nothing was written.
+    /// An allocation failed. Nothing was written.
     #[error("memory")]
     Memory,
 }
@@ -31,19 +32,22 @@ impl ExactEq for RunError {
     ghost exact = { Prim.search rules };
 }
 
-/// The most reads that one run makes.
+/// The maximum number of reads of one run.
 pub const MOST_READS: u32 = 16_777_216;
 
-/// The most bytes that one read asks for.
+/// The maximum number of bytes of one read.
 const READ_LEN: usize = 65_536;
 
-/// Reads all of the input, and then writes the answer to it. Any error of the reader or the writer ends the run.
+/// Reads the whole input, and then writes the output for it. Each error of the reader or the writer
+/// ends the run.
 pub fn run<R: Read, W: Write>(alloc: Global, reader: &mut R, writer: &mut W) -> Result<(), RunError>
     ensures answered { OnOk result ((input : List ℕ)
         × GivesAll (R.remaining reader.old) (R.remaining reader.new) input
         × Appends (W.contents writer.old) (W.contents writer.new) (answer_of input)) }
-    ensures read { result ≡ Err RunError.Read → Keeps (W.contents writer.old) (W.contents writer.new) }
-    ensures memory { result ≡ Err RunError.Memory → Keeps (W.contents writer.old) (W.contents writer.new) }
+    ensures read { result ≡ Err RunError.Read →
+        Keeps (W.contents writer.old) (W.contents writer.new) }
+    ensures memory { result ≡ Err RunError.Memory →
+        Keeps (W.contents writer.old) (W.contents writer.new) }
     ensures write { result ≡ Err RunError.Write → (input : List ℕ)
         × GivesAll (R.remaining reader.old) (R.remaining reader.new) input
         × AppendsBeginning (W.contents writer.old) (W.contents writer.new) (answer_of input) }
@@ -52,7 +56,7 @@ pub fn run<R: Read, W: Write>(alloc: Global, reader: &mut R, writer: &mut W) -> 
     write_output(writer, &text)
 }
 
-/// The answers to all that the reader gives, in at most `MOST_READS` reads.
+/// Returns the output for the whole input, which ends within `MOST_READS` reads.
 fn answer_input<R: Read>(alloc: Global, reader: &mut R) -> Result<Vec<u8>, RunError>
     ensures all { IfOk result (λ text. (input : List ℕ)
         × GivesAll (R.remaining reader.old) (R.remaining reader.new) input
@@ -72,7 +76,8 @@ fn answer_input<R: Read>(alloc: Global, reader: &mut R) -> Result<Vec<u8>, RunEr
     Err(RunError::Read)
 }
 
-/// Writes all of the bytes. Any error of the writer ends it, and so does a write that takes no byte.
+/// Writes all of the bytes. Each error of the writer ends it, and so does a write that writes no
+/// byte.
 fn write_output<W: Write>(writer: &mut W, bytes: &[u8]) -> Result<(), RunError>
     ensures ok { OnOk result (Appends (W.contents writer.old) (W.contents writer.new) bytes.now) }
     ensures err { IfErr result (λ e. (e ≡ RunError.Write)

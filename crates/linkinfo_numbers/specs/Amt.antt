@@ -37,7 +37,7 @@ amt_mode_text mode.Gateway = codes "gateway"
 amt_mode_text mode.Relay = codes "relay"
 amt_mode_text (mode.Other n) = decimal n
 
--- the value of a word, or its fault
+-- the value that a word names, or the error
 abbrev pub amt_mode_of_word : List ℕ → Result AmtMode DecodeError
 amt_mode_of_word word = value_of_word family.Amt amt_mode_text amt_mode_table.named word
 

@@ -39,9 +39,10 @@ geneve_df_text df.Set = codes "set"
 geneve_df_text df.Inherit = codes "inherit"
 geneve_df_text (df.Other n) = decimal n
 
--- the value of a word, or its fault
+-- the value that a word names, or the error
 abbrev pub geneve_df_of_word : List ℕ → Result GeneveDf DecodeError
 geneve_df_of_word word = value_of_word family.Geneve geneve_df_text geneve_df_table.named word
 
 pub geneve_df_words_hold : ReadsWords family.Geneve geneve_df_text geneve_df_table.named
-geneve_df_words_hold = reads_words family.Geneve geneve_df_text geneve_df_table.named (refl, (refl, (refl, tt)))
+geneve_df_words_hold =
+    reads_words family.Geneve geneve_df_text geneve_df_table.named (refl, (refl, (refl, tt)))

@@ -49,7 +49,8 @@ er_span_dir_number direction.Egress = 1
 er_span_dir_number (direction.Other n) = n
 
 abbrev pub er_span_dir_table : Table ℕ ErSpanDir
-er_span_dir_table = by_number er_span_dir_number direction.Other (direction.Ingress ∷ direction.Egress ∷ [])
+er_span_dir_table =
+    by_number er_span_dir_number direction.Other (direction.Ingress ∷ direction.Egress ∷ [])
 
 -- the value of each number
 abbrev pub er_span_dir : ℕ → ErSpanDir
@@ -69,7 +70,7 @@ er_span_dir_text direction.Ingress = codes "ingress"
 er_span_dir_text direction.Egress = codes "egress"
 er_span_dir_text (direction.Other n) = codes "other(" ++ decimal n ++ codes ")"
 
--- the flags by their names, and at last one without a name that has every bit
+-- the flags by name, and a last entry without a name that has every bit
 abbrev pub gre_io_flags_table : List (List ℕ × ℕ)
 gre_io_flags_table =
     (codes "Checksum", 0x8000) ∷
@@ -87,11 +88,11 @@ pub gre_io_flags_known : known_bits gre_io_flags_table ≡ 0xffff
 unfolding known_from
 gre_io_flags_known = refl
 
--- the set of these bits
+-- the set with these bits
 abbrev pub gre_io_flags : ℕ → GreIOFlags
 gre_io_flags bits = record { 0 = bits }
 
--- the flags by their names, and at last one without a name that has every bit
+-- the flags by name, and a last entry without a name that has every bit
 abbrev pub gre_encap_flags_table : List (List ℕ × ℕ)
 gre_encap_flags_table =
     (codes "Checksum", 1) ∷
@@ -103,6 +104,6 @@ pub gre_encap_flags_known : known_bits gre_encap_flags_table ≡ 0xffff
 unfolding known_from
 gre_encap_flags_known = refl
 
--- the set of these bits
+-- the set with these bits
 abbrev pub gre_encap_flags : ℕ → GreEncapFlags
 gre_encap_flags bits = record { 0 = bits }

@@ -14,7 +14,8 @@ ip_protocol_number protocol.Mpls = 137
 ip_protocol_number (protocol.Other n) = n
 
 abbrev pub ip_protocol_table : Table ℕ IpProtocol
-ip_protocol_table = by_number ip_protocol_number protocol.Other (protocol.Ipip ∷ protocol.Ipv6 ∷ protocol.Mpls ∷ [])
+ip_protocol_table =
+    by_number ip_protocol_number protocol.Other (protocol.Ipip ∷ protocol.Ipv6 ∷ protocol.Mpls ∷ [])
 
 -- the value of each number
 abbrev pub ip_protocol : ℕ → IpProtocol

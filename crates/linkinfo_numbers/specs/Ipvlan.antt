@@ -1,4 +1,4 @@
--- The numbers and words of ipvlan and ipvtap links.
+-- The numbers and words of `ipvlan` and `ipvtap` links.
 use Rattle.std.specs.Prelude.{◌≡◌, ℕ, List, [], ◌∷◌, codes, Result, refl}
 use Rattle.std.specs.Fmt.{decimal}
 use Rattle.std.proofs.Common.{inl, inr}
@@ -41,14 +41,16 @@ ip_vlan_mode_text mode.L3 = codes "l3"
 ip_vlan_mode_text mode.L3S = codes "l3s"
 ip_vlan_mode_text (mode.Other n) = decimal n
 
--- the value of a word, or its fault
+-- the value that a word names, or the error
 abbrev pub ip_vlan_mode_of_word : List ℕ → Result IpVlanMode DecodeError
-ip_vlan_mode_of_word word = value_of_word family.IpVlan ip_vlan_mode_text ip_vlan_mode_table.named word
+ip_vlan_mode_of_word word =
+    value_of_word family.IpVlan ip_vlan_mode_text ip_vlan_mode_table.named word
 
 pub ip_vlan_mode_words_hold : ReadsWords family.IpVlan ip_vlan_mode_text ip_vlan_mode_table.named
-ip_vlan_mode_words_hold = reads_words family.IpVlan ip_vlan_mode_text ip_vlan_mode_table.named (refl, (refl, (refl, tt)))
+ip_vlan_mode_words_hold =
+    reads_words family.IpVlan ip_vlan_mode_text ip_vlan_mode_table.named (refl, (refl, (refl, tt)))
 
--- the flags by their names, and at last one without a name that has every bit
+-- the flags by name, and a last entry without a name that has every bit
 abbrev pub ip_vlan_flags_table : List (List ℕ × ℕ)
 ip_vlan_flags_table =
     (codes "Private", 1) ∷
@@ -59,6 +61,6 @@ pub ip_vlan_flags_known : known_bits ip_vlan_flags_table ≡ 0xffff
 unfolding known_from
 ip_vlan_flags_known = refl
 
--- the set of these bits
+-- the set with these bits
 abbrev pub ip_vlan_flags : ℕ → IpVlanFlags
 ip_vlan_flags bits = record { 0 = bits }

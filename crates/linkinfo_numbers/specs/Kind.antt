@@ -1,5 +1,26 @@
 -- The names of link kinds.
-use Rattle.std.specs.Prelude.{◌≡◌, ◌≢◌, ◌==◌, ℕ, true, false, List, [], ◌∷◌, ◌++◌, ◌+◌, ◌-◌, filter, length, replicate, codes, Option, Some, None, unwrap_or}
+use Rattle.std.specs.Prelude.{
+  ◌≡◌,
+  ◌≢◌,
+  ◌==◌,
+  ℕ,
+  true,
+  false,
+  List,
+  [],
+  ◌∷◌,
+  ◌++◌,
+  ◌+◌,
+  ◌-◌,
+  filter,
+  length,
+  replicate,
+  codes,
+  Option,
+  Some,
+  None,
+  unwrap_or,
+}
 use Rattle.std.specs.Prelude.{is_none, ◌↔◌, Bool, Result, Ok, Err, refl}
 use Rattle.std.specs.List.{list_all, list_any, slice_index}
 use Rattle.std.specs.Str.{bytes_eq, is_utf8}
@@ -13,11 +34,50 @@ use Rattle.linkinfo_numbers.specs.declared.tags.KindTag.{KindTag}
 use Rattle.linkinfo_numbers.specs.declared.tags.KindTag.TheVariants as tag
 use Rattle.linkinfo_numbers.specs.declared.kind.InfoKind.{InfoKind}
 use Rattle.linkinfo_numbers.specs.declared.kind.InfoKind.TheVariants as kind
-use Rattle.linkinfo_numbers.specs.Table.{Table, IsTable, by_name, value_of, IsProper, apart_by, key-value_of, value_of-key, value_of_is_proper, part_of_first}
-use Rattle.linkinfo_numbers.specs.Name.{name_of, name_attribute, name_of-name_attribute, name_of_is_utf8}
-use Rattle.linkinfo_numbers.specs.NameNumber.{TellsBytes, ascii_is_bytes, bytes_from, bytes_from-padded, is_numbered, is_numbered_then, number_of_name}
-use Rattle.linkinfo_numbers.specs.NameNumber.{part_of_first-alike, same-is_numbered, same-is_numbered_then}
-use Rattle.linkinfo_numbers.specs.Tags.{Tags, IsOtherOrTagged, IsTagged, ascii_is_utf8, is_ascii, tag_among, tag_at, tag-value_of, kind-tag_at, tag_at-key}
+use Rattle.linkinfo_numbers.specs.Table.{
+  Table,
+  IsTable,
+  by_name,
+  value_of,
+  IsProper,
+  apart_by,
+  key-value_of,
+  value_of-key,
+  value_of_is_proper,
+  part_of_first,
+}
+use Rattle.linkinfo_numbers.specs.Name.{
+  name_of,
+  name_attribute,
+  name_of-name_attribute,
+  name_of_is_utf8,
+}
+use Rattle.linkinfo_numbers.specs.NameNumber.{
+  TellsBytes,
+  ascii_is_bytes,
+  bytes_from,
+  bytes_from-padded,
+  is_numbered,
+  is_numbered_then,
+  number_of_name,
+}
+use Rattle.linkinfo_numbers.specs.NameNumber.{
+  part_of_first-alike,
+  same-is_numbered,
+  same-is_numbered_then,
+}
+use Rattle.linkinfo_numbers.specs.Tags.{
+  Tags,
+  IsOtherOrTagged,
+  IsTagged,
+  ascii_is_utf8,
+  is_ascii,
+  tag_among,
+  tag_at,
+  tag-value_of,
+  kind-tag_at,
+  tag_at-key,
+}
 use Rattle.linkinfo_numbers.specs.Tags.{tag_among-of_length, tag_among-other_length}
 
 -- the text of each kind
@@ -120,7 +180,7 @@ tag_of_kind kind.Pfcp = tag.Pfcp
 tag_of_kind kind.RmNet = tag.RmNet
 tag_of_kind (kind.Other text) = tag.Other
 
--- the kind of each tag, which `Other` alone does not have
+-- the kind of each tag except `Other`
 abbrev pub kind_of_tag : KindTag → Option InfoKind
 kind_of_tag tag.Dummy = Some kind.Dummy
 kind_of_tag tag.Ifb = Some kind.Ifb
@@ -170,14 +230,19 @@ kind_of_tag tag.Pfcp = Some kind.Pfcp
 kind_of_tag tag.RmNet = Some kind.RmNet
 kind_of_tag tag.Other = None
 
--- the kinds that have a name of their own
+-- the kinds with a known name
 unfoldable pub known_kinds : List InfoKind
 known_kinds =
-    kind.Dummy ∷ kind.Ifb ∷ kind.Bridge ∷ kind.Tun ∷ kind.Nlmon ∷ kind.Vlan ∷ kind.Veth ∷ kind.Vxlan ∷ kind.Bond ∷
-    kind.IpVlan ∷ kind.IpVtap ∷ kind.MacVlan ∷ kind.MacVtap ∷ kind.GreTap ∷ kind.GreTap6 ∷ kind.IpIp ∷ kind.Ip6Tnl ∷
-    kind.SitTun ∷ kind.GreTun ∷ kind.GreTun6 ∷ kind.Vti ∷ kind.Vti6 ∷ kind.Vrf ∷ kind.Gtp ∷ kind.Ipoib ∷
-    kind.Wireguard ∷ kind.Xfrm ∷ kind.MacSec ∷ kind.Hsr ∷ kind.Geneve ∷ kind.Netkit ∷ kind.Vcan ∷ kind.Vxcan ∷
-    kind.Amt ∷ kind.BatAdv ∷ kind.BareUdp ∷ kind.Netdevsim ∷ kind.VirtWifi ∷ kind.Wwan ∷ kind.Can ∷ kind.Dsa ∷
+    kind.Dummy ∷ kind.Ifb ∷ kind.Bridge ∷ kind.Tun ∷ kind.Nlmon ∷ kind.Vlan ∷ kind.Veth ∷ kind.Vxlan
+    ∷ kind.Bond ∷
+    kind.IpVlan ∷ kind.IpVtap ∷ kind.MacVlan ∷ kind.MacVtap ∷ kind.GreTap ∷ kind.GreTap6 ∷ kind.IpIp
+    ∷ kind.Ip6Tnl ∷
+    kind.SitTun ∷ kind.GreTun ∷ kind.GreTun6 ∷ kind.Vti ∷ kind.Vti6 ∷ kind.Vrf ∷ kind.Gtp
+    ∷ kind.Ipoib ∷
+    kind.Wireguard ∷ kind.Xfrm ∷ kind.MacSec ∷ kind.Hsr ∷ kind.Geneve ∷ kind.Netkit ∷ kind.Vcan
+    ∷ kind.Vxcan ∷
+    kind.Amt ∷ kind.BatAdv ∷ kind.BareUdp ∷ kind.Netdevsim ∷ kind.VirtWifi ∷ kind.Wwan ∷ kind.Can
+    ∷ kind.Dsa ∷
     kind.Team ∷ kind.ErSpan ∷ kind.Ip6ErSpan ∷ kind.Pfcp ∷ kind.RmNet ∷ []
 
 abbrev pub kind_table : Table (List ℕ) InfoKind
@@ -200,19 +265,26 @@ kind_table_holds = record {
   same_decides = bytes_eq-Decides;
   other_key = λ name. refl;
   found = elim [ kind.Other name ↦ inl refl | _ ↦ inr refl ];
-  apart = apart_by kind_table (λ k. is_none (kind_of_tag (tag_of_kind k))) (λ name. refl) known_kinds refl;
+  apart =
+      apart_by kind_table (λ k. is_none (kind_of_tag (tag_of_kind k))) (λ name. refl) known_kinds
+      refl;
 }
 
 pub kind_tags_hold : IsTagged kind_table kind_tags
-kind_tags_hold = record { tagged = elim [ kind.Other name ↦ inl refl | _ ↦ inr refl ]; other_untagged = λ name. refl }
+kind_tags_hold = record {
+  tagged = elim [ kind.Other name ↦ inl refl | _ ↦ inr refl ];
+  other_untagged = λ name. refl;
+}
 
-tagged_choice : (k : InfoKind) → IsOtherOrTagged kind_table kind_tags k → ((text : List ℕ) → k ≢ kind.Other text) →
+tagged_choice : (k : InfoKind) → IsOtherOrTagged kind_table kind_tags k →
+    ((text : List ℕ) → k ≢ kind.Other text) →
     kind_of_tag (tag_of_kind k) ≡ Some k
 tagged_choice k (inl q) named = absurd (named (text_of_kind k) q)
 tagged_choice k (inr e) named = e
 
 -- the kind of the tag of a kind that is not `Other` is that kind
-pub kind_of_tag-tag_of_kind : (k : InfoKind) → ((text : List ℕ) → k ≢ kind.Other text) → kind_of_tag (tag_of_kind k) ≡ Some k
+pub kind_of_tag-tag_of_kind : (k : InfoKind) → ((text : List ℕ) → k ≢ kind.Other text) →
+    kind_of_tag (tag_of_kind k) ≡ Some k
 kind_of_tag-tag_of_kind k named = tagged_choice k (kind_tags_hold.tagged k) named
 
 pub only_kind : (got k : InfoKind) → Some got ≡ Some k → got ≡ k
@@ -231,40 +303,49 @@ pub text_of_kind-kind_of_name : (name : List ℕ) → text_of_kind (kind_of_name
 unfolding kind_of_name
 text_of_kind-kind_of_name name = key-value_of kind_table_holds name
 
--- the kind of the text of a kind is that kind exactly where it is not `Other` of a known name
-pub kind_of_name-text_of_kind : (k : InfoKind) → (kind_of_name (text_of_kind k) ≡ k) ↔ IsProper kind_table k
+-- the kind of the text of a kind is that kind if and only if it is not `Other` of a known name
+pub kind_of_name-text_of_kind : (k : InfoKind) →
+    (kind_of_name (text_of_kind k) ≡ k) ↔ IsProper kind_table k
 unfolding kind_of_name
 kind_of_name-text_of_kind k = value_of-key kind_table_holds k
 
--- the tag of the text of a kind is the tag of that kind where it is not `Other` of a known name
-pub tag_of_name-text_of_kind : (k : InfoKind) → IsProper kind_table k → tag_of_name (text_of_kind k) ≡ tag_of_kind k
+-- the tag of the text of a kind is the tag of that kind if it is not `Other` of a known name
+pub tag_of_name-text_of_kind : (k : InfoKind) → IsProper kind_table k →
+    tag_of_name (text_of_kind k) ≡ tag_of_kind k
 unfolding tag_of_name
 tag_of_name-text_of_kind k proper = tag_at-key kind_table_holds kind_tags k proper
 
--- the kind of a name that has a tag is that of the tag
-pub kind_of_name-tagged : (name : List ℕ) (k : InfoKind) → kind_of_tag (tag_of_name name) ≡ Some k → kind_of_name name ≡ k
+-- the kind of a known name is that of its tag
+pub kind_of_name-tagged : (name : List ℕ) (k : InfoKind) → kind_of_tag (tag_of_name name) ≡ Some k →
+    kind_of_name name ≡ k
 unfolding kind_of_name tag_of_name
-kind_of_name-tagged name k e = sym (kind-tag_at kind_table_holds kind_tags_hold name) ∙ ap (λ o. unwrap_or o (kind.Other name)) e
+kind_of_name-tagged name k e =
+    sym (kind-tag_at kind_table_holds kind_tags_hold name)
+    ∙ ap (λ o. unwrap_or o (kind.Other name)) e
 
 -- the kind of every other name is `Other` of it
-pub kind_of_name-untagged : (name : List ℕ) → kind_of_tag (tag_of_name name) ≡ None → kind_of_name name ≡ kind.Other name
+pub kind_of_name-untagged : (name : List ℕ) → kind_of_tag (tag_of_name name) ≡ None →
+    kind_of_name name ≡ kind.Other name
 unfolding kind_of_name tag_of_name
-kind_of_name-untagged name e = sym (kind-tag_at kind_table_holds kind_tags_hold name) ∙ ap (λ o. unwrap_or o (kind.Other name)) e
+kind_of_name-untagged name e =
+    sym (kind-tag_at kind_table_holds kind_tags_hold name)
+    ∙ ap (λ o. unwrap_or o (kind.Other name)) e
 
--- a name that has a tag is UTF-8
+-- a known name is UTF-8
 known_is_ascii : (k : InfoKind) → tag_of_kind k ≢ tag.Other → is_ascii (text_of_kind k) ≡ true
 known_is_ascii = elim [ kind.Other name ↦ λ h. absurd (h refl) | _ ↦ λ h. refl ]
 
 pub tag_of_name-utf8 : (name : List ℕ) → tag_of_name name ≢ tag.Other → is_utf8 name ≡ true
 tag_of_name-utf8 name h =
     ap is_utf8 (sym (text_of_kind-kind_of_name name))
-    ∙ ascii_is_utf8 _ (known_is_ascii (kind_of_name name) (λ e. h (sym (tag_of_kind-kind_of_name name) ∙ e)))
+    ∙ ascii_is_utf8 _
+    (known_is_ascii (kind_of_name name) (λ e. h (sym (tag_of_kind-kind_of_name name) ∙ e)))
 
--- the known kinds whose names have this length
+-- the known kinds with names of this length
 abbrev pub kinds_of_length : ℕ → List InfoKind
 kinds_of_length n = filter (λ k. length (text_of_kind k) == n) known_kinds
 
--- a name is looked for among those of its length alone
+-- looking a name up among the names of its length is enough
 pub tag_of_name-length : (n : ℕ) (name : List ℕ) → length name ≡ n →
     tag_of_name name ≡ tag_among kind_table kind_tags (kinds_of_length n) name
 unfolding tag_of_name
@@ -276,77 +357,94 @@ known_ascii : list_all (λ k. is_ascii (text_of_kind k)) known_kinds ≡ true
 unfolding known_kinds
 known_ascii = refl
 
--- the tag of the first known kind of this length whose name passes
+-- the tag of the first known kind with a name of this length that passes
 abbrev pub tag_by : (List ℕ → Bool) → ℕ → KindTag
 tag_by test n = part_of_first (λ k. test (text_of_kind k)) tag_of_kind tag.Other (kinds_of_length n)
 
--- a name is looked for by each test that says which names of its length it is
+-- any test that decides equality with the names of its length finds a name
 pub tag_of_name-by : (test : List ℕ → Bool) (name : List ℕ) →
     ((text : List ℕ) → length text ≡ length name → IsBytes text → bytes_eq text name ≡ test text) →
     tag_of_name name ≡ tag_by test (length name)
 tag_of_name-by test name same =
     tag_of_name-length (length name) name refl
-    ∙ part_of_first-alike (λ k. is_ascii (text_of_kind k)) (λ k. length (text_of_kind k) == length name)
+    ∙ part_of_first-alike (λ k. is_ascii (text_of_kind k))
+    (λ k. length (text_of_kind k) == length name)
     (λ k. bytes_eq (text_of_kind k) name) (λ k. test (text_of_kind k)) tag_of_kind tag.Other
-    (λ k ascii long. same (text_of_kind k) ((Decides-eqb (length (text_of_kind k)) (length name)).0 long) (ascii_is_bytes (text_of_kind k) ascii))
+    (λ k ascii long.
+    same (text_of_kind k) ((Decides-eqb (length (text_of_kind k)) (length name)).0 long)
+    (ascii_is_bytes (text_of_kind k) ascii))
     known_kinds known_ascii
 
--- the tag of the name of this length and number
+-- the tag of the name with this length and number
 abbrev pub tag_of_number : Width → ℕ → ℕ → KindTag
 tag_of_number w n number = tag_by (is_numbered w number) n
 
--- a name is looked for by the number of its bytes, with zeros behind them
-pub tag_of_name-number : (w : Width) → TellsBytes w → (n number : ℕ) (name : List ℕ) → IsBytes name → length name ≡ n →
-    n + (byte_len w - n) ≡ byte_len w → number ≡ from_le_bytes w (bytes_from 0 n name ++ replicate (byte_len w - n) 0) →
+-- a name is looked up by the number of its bytes, padded with zeros
+pub tag_of_name-number : (w : Width) → TellsBytes w → (n number : ℕ) (name : List ℕ) →
+    IsBytes name → length name ≡ n →
+    n + (byte_len w - n) ≡ byte_len w →
+    number ≡ from_le_bytes w (bytes_from 0 n name ++ replicate (byte_len w - n) 0) →
     tag_of_number w n number ≡ tag_of_name name
 tag_of_name-number w tells n number name of_name long fits is =
     let padded : number ≡ number_of_name w name =
-    is ∙ ap (from_le_bytes w) (bytes_from-padded 0 n (byte_len w - n) (byte_len w) name (omega (arith, long)) fits) in
+    is
+    ∙ ap (from_le_bytes w)
+    (bytes_from-padded 0 n (byte_len w - n) (byte_len w) name (omega (arith, long)) fits) in
     let found : tag_of_name name ≡ tag_by (is_numbered w (number_of_name w name)) (length name) =
     tag_of_name-by (is_numbered w (number_of_name w name)) name
-    (λ text same of_text. same-is_numbered w tells name text of_name of_text same (omega (arith, fits, long, same))) in
+    (λ text same of_text.
+    same-is_numbered w tells name text of_name of_text same (omega (arith, fits, long, same))) in
     rw (← long, padded) (sym found)
 
--- the tag of the name of this length whose first bytes have this number, and whose next byte is this
+-- the tag of the name with this length, this number of the first bytes, and this next byte
 abbrev pub tag_of_number_then : Width → ℕ → ℕ → ℕ → KindTag
 tag_of_number_then w n number last = tag_by (is_numbered_then w number last) n
 
--- a name is looked for by the number of its first bytes and the next one
-pub tag_of_name-number_then : (w : Width) → TellsBytes w → (n number last : ℕ) (name : List ℕ) → IsBytes name → length name ≡ n →
+-- a name is looked up by the number of its first bytes and the next byte
+pub tag_of_name-number_then : (w : Width) → TellsBytes w → (n number last : ℕ) (name : List ℕ) →
+    IsBytes name → length name ≡ n →
     n ≤ suc (byte_len w) → number ≡ number_of_name w name → last ≡ slice_index name (byte_len w) →
     tag_of_number_then w n number last ≡ tag_of_name name
 tag_of_name-number_then w tells n number last name of_name long fits is ends =
-    let found : tag_of_name name ≡ tag_by (is_numbered_then w (number_of_name w name) (slice_index name (byte_len w))) (length name) =
+    let found : tag_of_name name
+    ≡ tag_by (is_numbered_then w (number_of_name w name) (slice_index name (byte_len w)))
+    (length name) =
     tag_of_name-by (is_numbered_then w (number_of_name w name) (slice_index name (byte_len w))) name
-    (λ text same of_text. same-is_numbered_then w tells name text of_name of_text same (omega (arith, fits, long, same))) in
+    (λ text same of_text.
+    same-is_numbered_then w tells name text of_name of_text same
+    (omega (arith, fits, long, same))) in
     rw (← long, is, ends) (sym found)
 
 -- the lengths of the known names
 abbrev pub name_lengths : List ℕ
 name_lengths = 3 ∷ 4 ∷ 5 ∷ 6 ∷ 7 ∷ 9 ∷ []
 
-known_lengths : list_all (λ k. list_any (λ n. n == length (text_of_kind k)) name_lengths) known_kinds ≡ true
+known_lengths : list_all (λ k. list_any (λ n. n == length (text_of_kind k)) name_lengths)
+    known_kinds ≡ true
 unfolding known_kinds
 known_lengths = refl
 
--- a name of another length is not known
-pub tag_of_name-other_length : (name : List ℕ) → list_any (λ n. n == length name) name_lengths ≡ false →
+-- a name of another length is unknown
+pub tag_of_name-other_length : (name : List ℕ) →
+    list_any (λ n. n == length name) name_lengths ≡ false →
     tag_of_name name ≡ tag.Other
 unfolding tag_of_name
-tag_of_name-other_length name h = tag_among-other_length kind_table kind_tags bytes_eq-Decides name_lengths known_kinds name known_lengths h
+tag_of_name-other_length name h =
+    tag_among-other_length kind_table kind_tags bytes_eq-Decides name_lengths known_kinds name
+    known_lengths h
 
--- what an attribute means as a kind: the kind of its name, or its fault
+-- what an attribute means as a kind: the kind of its name, or the error
 abbrev pub kind_meaning_of_name : Result (List ℕ) DecodeError → Result InfoKind DecodeError
 kind_meaning_of_name (Ok name) = Ok (kind_of_name name)
-kind_meaning_of_name (Err fault) = Err fault
+kind_meaning_of_name (Err error) = Err error
 
 abbrev pub kind_meaning : Attribute → Result InfoKind DecodeError
 kind_meaning a = kind_meaning_of_name (name_of 1 a)
 
--- memory is needed for a name that is not known
+-- memory is needed for an unknown name
 abbrev pub kind_needs_memory_for_name : Result (List ℕ) DecodeError → Bool
 kind_needs_memory_for_name (Ok name) = is_none (kind_of_tag (tag_of_name name))
-kind_needs_memory_for_name (Err fault) = false
+kind_needs_memory_for_name (Err error) = false
 
 abbrev pub kind_needs_memory : Attribute → Bool
 kind_needs_memory a = kind_needs_memory_for_name (name_of 1 a)
@@ -358,14 +456,16 @@ kind_attribute k = name_attribute 1 (text_of_kind k)
 -- the attribute of a kind means the kind of its text
 pub kind_meaning-kind_attribute : (k : InfoKind) → is_utf8 (text_of_kind k) ≡ true →
     kind_meaning (kind_attribute k) ≡ Ok (kind_of_name (text_of_kind k))
-kind_meaning-kind_attribute k utf8 = ap kind_meaning_of_name (name_of-name_attribute 1 (text_of_kind k) (lit< tt) utf8)
+kind_meaning-kind_attribute k utf8 =
+    ap kind_meaning_of_name (name_of-name_attribute 1 (text_of_kind k) (lit< tt) utf8)
 
--- that is the kind itself exactly where it is not `Other` of a known name
+-- the attribute of a kind reads back as it if and only if it is not `Other` of a known name
 pub kind_attribute_reads_back : (k : InfoKind) → is_utf8 (text_of_kind k) ≡ true →
     (kind_meaning (kind_attribute k) ≡ Ok k) ↔ IsProper kind_table k
 kind_attribute_reads_back k utf8 =
     let read = kind_meaning-kind_attribute k utf8 in (
-      λ p. let same : kind_of_name (text_of_kind k) ≡ k = cc in (kind_of_name-text_of_kind k).0 same,
+      λ p. let same : kind_of_name (text_of_kind k) ≡ k = cc in
+          (kind_of_name-text_of_kind k).0 same,
       λ proper. read ∙ ap (λ x. Ok x) ((kind_of_name-text_of_kind k).1 proper),
     )
 
@@ -374,15 +474,18 @@ pub kind_of_name_is_proper : (name : List ℕ) → IsProper kind_table (kind_of_
 unfolding kind_of_name
 kind_of_name_is_proper name = value_of_is_proper kind_table_holds name
 
-read_from_name : (name : Result (List ℕ) DecodeError) → ((got : List ℕ) → name ≡ Ok got → is_utf8 got ≡ true) → (k : InfoKind) →
+read_from_name : (name : Result (List ℕ) DecodeError) →
+    ((got : List ℕ) → name ≡ Ok got → is_utf8 got ≡ true) → (k : InfoKind) →
     kind_meaning_of_name name ≡ Ok k → IsProper kind_table k × (is_utf8 (text_of_kind k) ≡ true)
 read_from_name (Ok name) utf8 k e =
     let same : kind_of_name name ≡ k = cc in
     let P : InfoKind → Type 0 = λ x. IsProper kind_table x in
-    let text : name ≡ text_of_kind k = sym (text_of_kind-kind_of_name name) ∙ ap text_of_kind same in
+    let text : name ≡ text_of_kind k =
+    sym (text_of_kind-kind_of_name name) ∙ ap text_of_kind same in
     (subst P same (kind_of_name_is_proper name), ap is_utf8 (sym text) ∙ utf8 name refl)
-read_from_name (Err fault) utf8 k e = cc
+read_from_name (Err error) utf8 k e = cc
 
--- a kind that is read is not `Other` of a known name, and its text is UTF-8
-pub kind_meaning_is_proper : (a : Attribute) (k : InfoKind) → kind_meaning a ≡ Ok k → IsProper kind_table k × (is_utf8 (text_of_kind k) ≡ true)
+-- a kind read from an attribute is not `Other` of a known name, and its text is UTF-8
+pub kind_meaning_is_proper : (a : Attribute) (k : InfoKind) → kind_meaning a ≡ Ok k →
+    IsProper kind_table k × (is_utf8 (text_of_kind k) ≡ true)
 kind_meaning_is_proper a k e = read_from_name (name_of 1 a) (name_of_is_utf8 1 a) k e

@@ -1,4 +1,4 @@
--- The numbers of MACsec links.
+-- The numbers of MACsec interfaces.
 use Rattle.std.specs.Prelude.{ℕ, [], ◌∷◌, refl}
 use Rattle.std.proofs.Common.{inl, inr}
 use Rattle.std.proofs.lemmas.Bool.Decides.{Decides-eqb}
@@ -21,7 +21,8 @@ mac_sec_cipher_id_number (cipher.Other n) = n
 
 abbrev pub mac_sec_cipher_id_table : Table ℕ MacSecCipherId
 mac_sec_cipher_id_table = by_number mac_sec_cipher_id_number cipher.Other
-    (cipher.DefaultGcmAes128 ∷ cipher.GcmAes128 ∷ cipher.GcmAes256 ∷ cipher.GcmAesXpn128 ∷ cipher.GcmAesXpn256 ∷ [])
+    (cipher.DefaultGcmAes128 ∷ cipher.GcmAes128 ∷ cipher.GcmAes256 ∷ cipher.GcmAesXpn128
+    ∷ cipher.GcmAesXpn256 ∷ [])
 
 -- the value of each number
 abbrev pub mac_sec_cipher_id : ℕ → MacSecCipherId
@@ -66,7 +67,8 @@ mac_sec_offload_number offload.Mac = 2
 mac_sec_offload_number (offload.Other n) = n
 
 abbrev pub mac_sec_offload_table : Table ℕ MacSecOffload
-mac_sec_offload_table = by_number mac_sec_offload_number offload.Other (offload.Off ∷ offload.Phy ∷ offload.Mac ∷ [])
+mac_sec_offload_table =
+    by_number mac_sec_offload_number offload.Other (offload.Off ∷ offload.Phy ∷ offload.Mac ∷ [])
 
 -- the value of each number
 abbrev pub mac_sec_offload : ℕ → MacSecOffload

@@ -1,4 +1,4 @@
--- The numbers and words of macvlan and macvtap links.
+-- The numbers and words of `macvlan` and `macvtap` links.
 use Rattle.std.specs.Prelude.{◌≡◌, ℕ, List, [], ◌∷◌, codes, Result, refl}
 use Rattle.std.specs.Fmt.{decimal}
 use Rattle.std.proofs.Common.{inl, inr}
@@ -48,11 +48,13 @@ mac_vlan_mode_text mode.Passthrough = codes "passthru"
 mac_vlan_mode_text mode.Source = codes "source"
 mac_vlan_mode_text (mode.Other n) = decimal n
 
--- the value of a word, or its fault
+-- the value that a word names, or the error
 abbrev pub mac_vlan_mode_of_word : List ℕ → Result MacVlanMode DecodeError
-mac_vlan_mode_of_word word = value_of_word family.MacVlan mac_vlan_mode_text mac_vlan_mode_table.named word
+mac_vlan_mode_of_word word =
+    value_of_word family.MacVlan mac_vlan_mode_text mac_vlan_mode_table.named word
 
-pub mac_vlan_mode_words_hold : ReadsWords family.MacVlan mac_vlan_mode_text mac_vlan_mode_table.named
+pub mac_vlan_mode_words_hold : ReadsWords family.MacVlan mac_vlan_mode_text
+    mac_vlan_mode_table.named
 mac_vlan_mode_words_hold = reads_words family.MacVlan mac_vlan_mode_text mac_vlan_mode_table.named
     (refl, (refl, (refl, (refl, (refl, tt)))))
 
@@ -80,7 +82,7 @@ mac_vlan_mac_address_mode_table_holds = record {
   apart = (λ p. cc, (λ p. cc, (λ p. cc, (λ p. cc, tt))));
 }
 
--- the flags by their names, and at last one without a name that has every bit
+-- the flags by name, and a last entry without a name that has every bit
 abbrev pub mac_vlan_flags_table : List (List ℕ × ℕ)
 mac_vlan_flags_table =
     (codes "NoPromisc", 1) ∷
@@ -91,6 +93,6 @@ pub mac_vlan_flags_known : known_bits mac_vlan_flags_table ≡ 0xffff
 unfolding known_from
 mac_vlan_flags_known = refl
 
--- the set of these bits
+-- the set with these bits
 abbrev pub mac_vlan_flags : ℕ → MacVlanFlags
 mac_vlan_flags bits = record { 0 = bits }

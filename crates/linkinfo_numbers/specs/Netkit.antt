@@ -1,4 +1,4 @@
--- The numbers and words of netkit links.
+-- The numbers and words of `netkit` links.
 use Rattle.std.specs.Prelude.{◌≡◌, ◌==◌, ℕ, if◌then◌else◌, List, [], ◌∷◌, codes, Result, refl}
 use Rattle.std.specs.Fmt.{decimal}
 use Rattle.std.proofs.Common.{inl, inr}
@@ -41,12 +41,13 @@ netkit_mode_text mode.L2 = codes "l2"
 netkit_mode_text mode.L3 = codes "l3"
 netkit_mode_text (mode.Other n) = decimal n
 
--- the value of a word, or its fault
+-- the value that a word names, or the error
 abbrev pub netkit_mode_of_word : List ℕ → Result NetkitMode DecodeError
 netkit_mode_of_word word = value_of_word family.Netkit netkit_mode_text netkit_mode_table.named word
 
 pub netkit_mode_words_hold : ReadsWords family.Netkit netkit_mode_text netkit_mode_table.named
-netkit_mode_words_hold = reads_words family.Netkit netkit_mode_text netkit_mode_table.named (refl, (refl, tt))
+netkit_mode_words_hold =
+    reads_words family.Netkit netkit_mode_text netkit_mode_table.named (refl, (refl, tt))
 
 -- the number of each value
 abbrev pub netkit_policy_number : NetkitPolicy → ℕ
@@ -56,7 +57,8 @@ netkit_policy_number policy.Redirect = 7
 netkit_policy_number (policy.Other n) = n
 
 abbrev pub netkit_policy_table : Table ℕ NetkitPolicy
-netkit_policy_table = by_number netkit_policy_number policy.Other (policy.Pass ∷ policy.Drop ∷ policy.Redirect ∷ [])
+netkit_policy_table =
+    by_number netkit_policy_number policy.Other (policy.Pass ∷ policy.Drop ∷ policy.Redirect ∷ [])
 
 -- the value of each number
 abbrev pub netkit_policy : ℕ → NetkitPolicy
@@ -77,12 +79,17 @@ netkit_policy_text policy.Drop = codes "blackhole"
 netkit_policy_text policy.Redirect = codes "redirect"
 netkit_policy_text (policy.Other n) = decimal n
 
--- the value of a word, or its fault
+-- the value that a word names, or the error
 abbrev pub netkit_policy_of_word : List ℕ → Result NetkitPolicy DecodeError
-netkit_policy_of_word word = value_of_word family.Netkit netkit_policy_text netkit_policy_table.named word
+netkit_policy_of_word word =
+    value_of_word family.Netkit netkit_policy_text netkit_policy_table.named word
 
 pub netkit_policy_words_hold : ReadsWords family.Netkit netkit_policy_text netkit_policy_table.named
-netkit_policy_words_hold = reads_words family.Netkit netkit_policy_text netkit_policy_table.named (refl, (refl, (refl, tt)))
+netkit_policy_words_hold =
+    reads_words family.Netkit netkit_policy_text netkit_policy_table.named (
+      refl,
+      (refl, (refl, tt)),
+    )
 
 -- the number of each value
 abbrev pub netkit_scrub_number : NetkitScrub → ℕ
@@ -101,14 +108,17 @@ netkit_scrub_text scrub.Default = codes "default"
 abbrev pub netkit_scrubs : List NetkitScrub
 netkit_scrubs = scrub.None ∷ scrub.Default ∷ []
 
--- the value of a word, or its fault
+-- the value that a word names, or the error
 abbrev pub netkit_scrub_of_word : List ℕ → Result NetkitScrub DecodeError
 netkit_scrub_of_word word = value_of_word family.Netkit netkit_scrub_text netkit_scrubs word
 
 pub netkit_scrub_words_hold : ReadsWords family.Netkit netkit_scrub_text netkit_scrubs
-netkit_scrub_words_hold = reads_words family.Netkit netkit_scrub_text netkit_scrubs (refl, (refl, tt))
+netkit_scrub_words_hold = reads_words family.Netkit netkit_scrub_text netkit_scrubs (
+  refl,
+  (refl, tt),
+)
 
--- a value reads back from its number
+-- a value converted to its number and back is that value
 pub netkit_scrub-number : (x : NetkitScrub) → netkit_scrub (netkit_scrub_number x) ≡ x
 netkit_scrub-number scrub.None = refl
 netkit_scrub-number scrub.Default = refl

@@ -1,5 +1,23 @@
 -- The names of port kinds.
-use Rattle.std.specs.Prelude.{◌≡◌, ◌≢◌, ℕ, true, false, List, [], ◌∷◌, codes, Option, Some, None, unwrap_or, is_none, ◌↔◌, Bool, Result}
+use Rattle.std.specs.Prelude.{
+  ◌≡◌,
+  ◌≢◌,
+  ℕ,
+  true,
+  false,
+  List,
+  [],
+  ◌∷◌,
+  codes,
+  Option,
+  Some,
+  None,
+  unwrap_or,
+  is_none,
+  ◌↔◌,
+  Bool,
+  Result,
+}
 use Rattle.std.specs.Prelude.{Ok, Err, refl}
 use Rattle.std.specs.Str.{bytes_eq, is_utf8}
 use Rattle.std.proofs.Common.{inl, inr, sym, ap, subst, ◌∙◌, lit<}
@@ -10,15 +28,46 @@ use Rattle.linkinfo_numbers.specs.declared.tags.PortTag.{PortTag}
 use Rattle.linkinfo_numbers.specs.declared.tags.PortTag.TheVariants as tag
 use Rattle.linkinfo_numbers.specs.declared.port_kind.InfoPortKind.{InfoPortKind}
 use Rattle.linkinfo_numbers.specs.declared.port_kind.InfoPortKind.TheVariants as kind
-use Rattle.linkinfo_numbers.specs.Table.{Table, IsTable, by_name, value_of, IsProper, apart_by, key-value_of, value_of-key, value_of_is_proper}
+use Rattle.linkinfo_numbers.specs.Table.{
+  Table,
+  IsTable,
+  by_name,
+  value_of,
+  IsProper,
+  apart_by,
+  key-value_of,
+  value_of-key,
+  value_of_is_proper,
+}
 use Rattle.linkinfo_numbers.specs.Table.{part_of_first-missed}
-use Rattle.linkinfo_numbers.specs.Kind.{known_kinds, kind_of_name-tagged, kind_of_tag, tag_of_name, text_of_kind, text_of_kind-kind_of_name}
+use Rattle.linkinfo_numbers.specs.Kind.{
+  known_kinds,
+  kind_of_name-tagged,
+  kind_of_tag,
+  tag_of_name,
+  text_of_kind,
+  text_of_kind-kind_of_name,
+}
 use Rattle.linkinfo_numbers.specs.declared.tags.KindTag.{KindTag}
 use Rattle.linkinfo_numbers.specs.declared.tags.KindTag.TheVariants as link
 use Rattle.linkinfo_numbers.specs.declared.kind.InfoKind.{InfoKind}
 use Rattle.linkinfo_numbers.specs.declared.kind.InfoKind.TheVariants as link_kind
-use Rattle.linkinfo_numbers.specs.Name.{name_of, name_attribute, name_of-name_attribute, name_of_is_utf8}
-use Rattle.linkinfo_numbers.specs.Tags.{Tags, IsTagged, ascii_is_utf8, is_ascii, tag_at, tag-value_of, kind-tag_at, tag_at-key}
+use Rattle.linkinfo_numbers.specs.Name.{
+  name_of,
+  name_attribute,
+  name_of-name_attribute,
+  name_of_is_utf8,
+}
+use Rattle.linkinfo_numbers.specs.Tags.{
+  Tags,
+  IsTagged,
+  ascii_is_utf8,
+  is_ascii,
+  tag_at,
+  tag-value_of,
+  kind-tag_at,
+  tag_at-key,
+}
 
 -- the text of each kind
 abbrev pub text_of_port_kind : InfoPortKind → List ℕ
@@ -36,7 +85,7 @@ tag_of_port_kind kind.Vrf = tag.Vrf
 tag_of_port_kind kind.Team = tag.Team
 tag_of_port_kind (kind.Other text) = tag.Other
 
--- the kind of each tag, which `Other` alone does not have
+-- the kind of each tag except `Other`
 abbrev pub port_kind_of_tag : PortTag → Option InfoPortKind
 port_kind_of_tag tag.Bond = Some kind.Bond
 port_kind_of_tag tag.Bridge = Some kind.Bridge
@@ -44,7 +93,7 @@ port_kind_of_tag tag.Vrf = Some kind.Vrf
 port_kind_of_tag tag.Team = Some kind.Team
 port_kind_of_tag tag.Other = None
 
--- the kinds that have a name of their own
+-- the kinds with a known name
 unfoldable pub known_port_kinds : List InfoPortKind
 known_port_kinds =
     kind.Bond ∷ kind.Bridge ∷ kind.Vrf ∷ kind.Team ∷ []
@@ -69,69 +118,83 @@ port_kind_table_holds = record {
   same_decides = bytes_eq-Decides;
   other_key = λ name. refl;
   found = elim [ kind.Other name ↦ inl refl | _ ↦ inr refl ];
-  apart = apart_by port_kind_table (λ k. is_none (port_kind_of_tag (tag_of_port_kind k))) (λ name. refl) known_port_kinds refl;
+  apart =
+      apart_by port_kind_table (λ k. is_none (port_kind_of_tag (tag_of_port_kind k))) (λ name. refl)
+      known_port_kinds refl;
 }
 
 pub port_kind_tags_hold : IsTagged port_kind_table port_kind_tags
-port_kind_tags_hold = record { tagged = elim [ kind.Other name ↦ inl refl | _ ↦ inr refl ]; other_untagged = λ name. refl }
+port_kind_tags_hold = record {
+  tagged = elim [ kind.Other name ↦ inl refl | _ ↦ inr refl ];
+  other_untagged = λ name. refl;
+}
 
 -- the tag of the kind of a name is the tag of that name
-pub tag_of_port_kind-port_kind_of_name : (name : List ℕ) → tag_of_port_kind (port_kind_of_name name) ≡ port_tag_of_name name
+pub tag_of_port_kind-port_kind_of_name : (name : List ℕ) →
+    tag_of_port_kind (port_kind_of_name name) ≡ port_tag_of_name name
 unfolding port_kind_of_name port_tag_of_name
 tag_of_port_kind-port_kind_of_name name = tag-value_of port_kind_table port_kind_tags name
 
 -- the text of the kind of a name is that name
-pub text_of_port_kind-port_kind_of_name : (name : List ℕ) → text_of_port_kind (port_kind_of_name name) ≡ name
+pub text_of_port_kind-port_kind_of_name : (name : List ℕ) →
+    text_of_port_kind (port_kind_of_name name) ≡ name
 unfolding port_kind_of_name
 text_of_port_kind-port_kind_of_name name = key-value_of port_kind_table_holds name
 
--- a name that has a tag is UTF-8
-known_is_ascii : (k : InfoPortKind) → tag_of_port_kind k ≢ tag.Other → is_ascii (text_of_port_kind k) ≡ true
+-- a known name is UTF-8
+known_is_ascii : (k : InfoPortKind) → tag_of_port_kind k ≢ tag.Other →
+    is_ascii (text_of_port_kind k) ≡ true
 known_is_ascii = elim [ kind.Other name ↦ λ h. absurd (h refl) | _ ↦ λ h. refl ]
 
-pub port_tag_of_name-utf8 : (name : List ℕ) → port_tag_of_name name ≢ tag.Other → is_utf8 name ≡ true
+pub port_tag_of_name-utf8 : (name : List ℕ) → port_tag_of_name name ≢ tag.Other →
+    is_utf8 name ≡ true
 port_tag_of_name-utf8 name h =
     ap is_utf8 (sym (text_of_port_kind-port_kind_of_name name))
-    ∙ ascii_is_utf8 _ (known_is_ascii (port_kind_of_name name) (λ e. h (sym (tag_of_port_kind-port_kind_of_name name) ∙ e)))
+    ∙ ascii_is_utf8 _ (known_is_ascii (port_kind_of_name name)
+    (λ e. h (sym (tag_of_port_kind-port_kind_of_name name) ∙ e)))
 
--- the kind of the text of a kind is that kind exactly where it is not `Other` of a known name
+-- the kind of the text of a kind is that kind if and only if it is not `Other` of a known name
 pub port_kind_of_name-text_of_port_kind : (k : InfoPortKind) →
     (port_kind_of_name (text_of_port_kind k) ≡ k) ↔ IsProper port_kind_table k
 unfolding port_kind_of_name
 port_kind_of_name-text_of_port_kind k = value_of-key port_kind_table_holds k
 
--- the tag of the text of a kind is the tag of that kind where it is not `Other` of a known name
+-- the tag of the text of a kind is the tag of that kind if it is not `Other` of a known name
 pub port_tag_of_name-text_of_port_kind : (k : InfoPortKind) → IsProper port_kind_table k →
     port_tag_of_name (text_of_port_kind k) ≡ tag_of_port_kind k
 unfolding port_tag_of_name
-port_tag_of_name-text_of_port_kind k proper = tag_at-key port_kind_table_holds port_kind_tags k proper
+port_tag_of_name-text_of_port_kind k proper =
+    tag_at-key port_kind_table_holds port_kind_tags k proper
 
--- the kind of a name that has a tag is that of the tag
-pub port_kind_of_name-tagged : (name : List ℕ) (k : InfoPortKind) → port_kind_of_tag (port_tag_of_name name) ≡ Some k →
+-- the kind of a known name is that of its tag
+pub port_kind_of_name-tagged : (name : List ℕ) (k : InfoPortKind) →
+    port_kind_of_tag (port_tag_of_name name) ≡ Some k →
     port_kind_of_name name ≡ k
 unfolding port_kind_of_name port_tag_of_name
 port_kind_of_name-tagged name k e =
-    sym (kind-tag_at port_kind_table_holds port_kind_tags_hold name) ∙ ap (λ o. unwrap_or o (kind.Other name)) e
+    sym (kind-tag_at port_kind_table_holds port_kind_tags_hold name)
+    ∙ ap (λ o. unwrap_or o (kind.Other name)) e
 
 -- the kind of every other name is `Other` of it
 pub port_kind_of_name-untagged : (name : List ℕ) → port_kind_of_tag (port_tag_of_name name) ≡ None →
     port_kind_of_name name ≡ kind.Other name
 unfolding port_kind_of_name port_tag_of_name
 port_kind_of_name-untagged name e =
-    sym (kind-tag_at port_kind_table_holds port_kind_tags_hold name) ∙ ap (λ o. unwrap_or o (kind.Other name)) e
+    sym (kind-tag_at port_kind_table_holds port_kind_tags_hold name)
+    ∙ ap (λ o. unwrap_or o (kind.Other name)) e
 
--- what an attribute means as a port kind: the kind of its name, or its fault
+-- what an attribute means as a port kind: the kind of its name, or the error
 abbrev pub port_kind_meaning_of_name : Result (List ℕ) DecodeError → Result InfoPortKind DecodeError
 port_kind_meaning_of_name (Ok name) = Ok (port_kind_of_name name)
-port_kind_meaning_of_name (Err fault) = Err fault
+port_kind_meaning_of_name (Err error) = Err error
 
 abbrev pub port_kind_meaning : Attribute → Result InfoPortKind DecodeError
 port_kind_meaning a = port_kind_meaning_of_name (name_of 4 a)
 
--- memory is needed for a name that is not known
+-- memory is needed for an unknown name
 abbrev pub port_kind_needs_memory_for_name : Result (List ℕ) DecodeError → Bool
 port_kind_needs_memory_for_name (Ok name) = is_none (port_kind_of_tag (port_tag_of_name name))
-port_kind_needs_memory_for_name (Err fault) = false
+port_kind_needs_memory_for_name (Err error) = false
 
 abbrev pub port_kind_needs_memory : Attribute → Bool
 port_kind_needs_memory a = port_kind_needs_memory_for_name (name_of 4 a)
@@ -141,50 +204,61 @@ abbrev pub port_kind_attribute : InfoPortKind → Attribute
 port_kind_attribute k = name_attribute 4 (text_of_port_kind k)
 
 -- the attribute of a kind means the kind of its text
-pub port_kind_meaning-port_kind_attribute : (k : InfoPortKind) → is_utf8 (text_of_port_kind k) ≡ true →
+pub port_kind_meaning-port_kind_attribute : (k : InfoPortKind) →
+    is_utf8 (text_of_port_kind k) ≡ true →
     port_kind_meaning (port_kind_attribute k) ≡ Ok (port_kind_of_name (text_of_port_kind k))
 port_kind_meaning-port_kind_attribute k utf8 =
     ap port_kind_meaning_of_name (name_of-name_attribute 4 (text_of_port_kind k) (lit< tt) utf8)
 
--- that is the kind itself exactly where it is not `Other` of a known name
+-- the attribute of a kind reads back as it if and only if it is not `Other` of a known name
 pub port_kind_attribute_reads_back : (k : InfoPortKind) → is_utf8 (text_of_port_kind k) ≡ true →
     (port_kind_meaning (port_kind_attribute k) ≡ Ok k) ↔ IsProper port_kind_table k
 port_kind_attribute_reads_back k utf8 =
     let read = port_kind_meaning-port_kind_attribute k utf8 in (
-      λ p. let same : port_kind_of_name (text_of_port_kind k) ≡ k = cc in (port_kind_of_name-text_of_port_kind k).0 same,
+      λ p. let same : port_kind_of_name (text_of_port_kind k) ≡ k = cc in
+          (port_kind_of_name-text_of_port_kind k).0 same,
       λ proper. read ∙ ap (λ x. Ok x) ((port_kind_of_name-text_of_port_kind k).1 proper),
     )
 
 -- the kind of a name is not `Other` of a known name
-pub port_kind_of_name_is_proper : (name : List ℕ) → IsProper port_kind_table (port_kind_of_name name)
+pub port_kind_of_name_is_proper : (name : List ℕ) →
+    IsProper port_kind_table (port_kind_of_name name)
 unfolding port_kind_of_name
 port_kind_of_name_is_proper name = value_of_is_proper port_kind_table_holds name
 
-read_from_name : (name : Result (List ℕ) DecodeError) → ((got : List ℕ) → name ≡ Ok got → is_utf8 got ≡ true) → (k : InfoPortKind) →
-    port_kind_meaning_of_name name ≡ Ok k → IsProper port_kind_table k × (is_utf8 (text_of_port_kind k) ≡ true)
+read_from_name : (name : Result (List ℕ) DecodeError) →
+    ((got : List ℕ) → name ≡ Ok got → is_utf8 got ≡ true) → (k : InfoPortKind) →
+    port_kind_meaning_of_name name ≡ Ok k →
+    IsProper port_kind_table k × (is_utf8 (text_of_port_kind k) ≡ true)
 read_from_name (Ok name) utf8 k e =
     let same : port_kind_of_name name ≡ k = cc in
     let P : InfoPortKind → Type 0 = λ x. IsProper port_kind_table x in
-    let text : name ≡ text_of_port_kind k = sym (text_of_port_kind-port_kind_of_name name) ∙ ap text_of_port_kind same in
+    let text : name ≡ text_of_port_kind k =
+    sym (text_of_port_kind-port_kind_of_name name) ∙ ap text_of_port_kind same in
     (subst P same (port_kind_of_name_is_proper name), ap is_utf8 (sym text) ∙ utf8 name refl)
-read_from_name (Err fault) utf8 k e = cc
+read_from_name (Err error) utf8 k e = cc
 
--- a kind that is read is not `Other` of a known name, and its text is UTF-8
-pub port_kind_meaning_is_proper : (a : Attribute) (k : InfoPortKind) → port_kind_meaning a ≡ Ok k → IsProper port_kind_table k × (is_utf8 (text_of_port_kind k) ≡ true)
+-- a kind read from an attribute is not `Other` of a known name, and its text is UTF-8
+pub port_kind_meaning_is_proper : (a : Attribute) (k : InfoPortKind) → port_kind_meaning a ≡ Ok k →
+    IsProper port_kind_table k × (is_utf8 (text_of_port_kind k) ≡ true)
 port_kind_meaning_is_proper a k e = read_from_name (name_of 4 a) (name_of_is_utf8 4 a) k e
 
 -- ---- the names of port kinds are names of link kinds
 
--- a name that has the tag of a known link kind is the text of that kind
-pub name_of_tagged : (name : List ℕ) (k : InfoKind) → kind_of_tag (tag_of_name name) ≡ Some k → name ≡ text_of_kind k
-name_of_tagged name k e = sym (text_of_kind-kind_of_name name) ∙ ap text_of_kind (kind_of_name-tagged name k e)
+-- a name with the tag of a known link kind is the text of that kind
+pub name_of_tagged : (name : List ℕ) (k : InfoKind) → kind_of_tag (tag_of_name name) ≡ Some k →
+    name ≡ text_of_kind k
+name_of_tagged name k e =
+    sym (text_of_kind-kind_of_name name) ∙ ap text_of_kind (kind_of_name-tagged name k e)
 
--- so the tag of a name as a port kind follows from its tag as a link kind
-pub port_tag-bond : (name : List ℕ) → tag_of_name name ≡ link.Bond → tag.Bond ≡ port_tag_of_name name
+-- the port tag of a name follows from its tag as a link kind
+pub port_tag-bond : (name : List ℕ) → tag_of_name name ≡ link.Bond →
+    tag.Bond ≡ port_tag_of_name name
 unfolding known_port_kinds port_tag_of_name
 port_tag-bond name e = rw (name_of_tagged name link_kind.Bond (ap kind_of_tag e)) refl
 
-pub port_tag-bridge : (name : List ℕ) → tag_of_name name ≡ link.Bridge → tag.Bridge ≡ port_tag_of_name name
+pub port_tag-bridge : (name : List ℕ) → tag_of_name name ≡ link.Bridge →
+    tag.Bridge ≡ port_tag_of_name name
 unfolding known_port_kinds port_tag_of_name
 port_tag-bridge name e = rw (name_of_tagged name link_kind.Bridge (ap kind_of_tag e)) refl
 
@@ -192,13 +266,16 @@ pub port_tag-vrf : (name : List ℕ) → tag_of_name name ≡ link.Vrf → tag.V
 unfolding known_port_kinds port_tag_of_name
 port_tag-vrf name e = rw (name_of_tagged name link_kind.Vrf (ap kind_of_tag e)) refl
 
-pub port_tag-team : (name : List ℕ) → tag_of_name name ≡ link.Team → tag.Team ≡ port_tag_of_name name
+pub port_tag-team : (name : List ℕ) → tag_of_name name ≡ link.Team →
+    tag.Team ≡ port_tag_of_name name
 unfolding known_port_kinds port_tag_of_name
 port_tag-team name e = rw (name_of_tagged name link_kind.Team (ap kind_of_tag e)) refl
 
-not_text : (k : InfoPortKind) (name : List ℕ) (t : KindTag) → tag_of_name (text_of_port_kind k) ≡ t → tag_of_name name ≢ t →
+not_text : (k : InfoPortKind) (name : List ℕ) (t : KindTag) →
+    tag_of_name (text_of_port_kind k) ≡ t → tag_of_name name ≢ t →
     ¬ (bytes_eq (text_of_port_kind k) name ≡ true)
-not_text k name t is other found = other (ap tag_of_name (sym ((bytes_eq-Decides (text_of_port_kind k) name).0 found)) ∙ is)
+not_text k name t is other found =
+    other (ap tag_of_name (sym ((bytes_eq-Decides (text_of_port_kind k) name).0 found)) ∙ is)
 
 tag_of_bond : tag_of_name (codes "bond") ≡ link.Bond
 unfolding tag_of_name known_kinds
@@ -216,14 +293,19 @@ tag_of_team : tag_of_name (codes "team") ≡ link.Team
 unfolding tag_of_name known_kinds
 tag_of_team = refl
 
-pub port_tag-other : (name : List ℕ) → tag_of_name name ≢ link.Bond → tag_of_name name ≢ link.Bridge → tag_of_name name ≢ link.Vrf →
+pub port_tag-other : (name : List ℕ) → tag_of_name name ≢ link.Bond →
+    tag_of_name name ≢ link.Bridge → tag_of_name name ≢ link.Vrf →
     tag_of_name name ≢ link.Team → tag.Other ≡ port_tag_of_name name
 unfolding known_port_kinds port_tag_of_name
 port_tag-other name bond bridge vrf team =
-    sym (part_of_first-missed (λ k. bytes_eq (text_of_port_kind k) name) tag_of_port_kind tag.Other known_port_kinds (
+    sym (part_of_first-missed (λ k. bytes_eq (text_of_port_kind k) name) tag_of_port_kind tag.Other
+    known_port_kinds (
       not_text kind.Bond name link.Bond tag_of_bond bond,
       (
         not_text kind.Bridge name link.Bridge tag_of_bridge bridge,
-        (not_text kind.Vrf name link.Vrf tag_of_vrf vrf, (not_text kind.Team name link.Team tag_of_team team, tt)),
+        (
+          not_text kind.Vrf name link.Vrf tag_of_vrf vrf,
+          (not_text kind.Team name link.Team tag_of_team team, tt),
+        ),
       ),
     ))

@@ -1,9 +1,9 @@
--- The flags of rmnet links.
+-- The flags of `rmnet` links.
 use Rattle.std.specs.Prelude.{◌≡◌, ℕ, List, [], ◌∷◌, codes, refl}
 use Rattle.bitflags.specs.Sets.{known_bits, known_from}
 use Rattle.linkinfo_numbers.specs.declared.rmnet.RmNetFlags.{RmNetFlags}
 
--- the flags by their names, and at last one without a name that has every bit
+-- the flags by name, and a last entry without a name that has every bit
 abbrev pub rm_net_flags_table : List (List ℕ × ℕ)
 rm_net_flags_table =
     (codes "IngressDeaggregation", 1) ∷
@@ -18,6 +18,6 @@ pub rm_net_flags_known : known_bits rm_net_flags_table ≡ 0xffffffff
 unfolding known_from
 rm_net_flags_known = refl
 
--- the set of these bits
+-- the set with these bits
 abbrev pub rm_net_flags : ℕ → RmNetFlags
 rm_net_flags bits = record { 0 = bits }

@@ -42,7 +42,7 @@ tunnel_encap_type_text encapsulation.Gue = codes "gue"
 tunnel_encap_type_text encapsulation.Mpls = codes "mpls"
 tunnel_encap_type_text (encapsulation.Other n) = decimal n
 
--- the flags by their names, and at last one without a name that has every bit
+-- the flags by name, and a last entry without a name that has every bit
 abbrev pub tunnel_encap_flags_table : List (List ℕ × ℕ)
 tunnel_encap_flags_table =
     (codes "CSum", 1) ∷
@@ -54,11 +54,11 @@ pub tunnel_encap_flags_known : known_bits tunnel_encap_flags_table ≡ 0xffff
 unfolding known_from
 tunnel_encap_flags_known = refl
 
--- the set of these bits
+-- the set with these bits
 abbrev pub tunnel_encap_flags : ℕ → TunnelEncapFlags
 tunnel_encap_flags bits = record { 0 = bits }
 
--- the flags by their names, and at last one without a name that has every bit
+-- the flags by name, and a last entry without a name that has every bit
 abbrev pub ip6_tunnel_flags_table : List (List ℕ × ℕ)
 ip6_tunnel_flags_table =
     (codes "IgnEncapLimit", 0x1) ∷
@@ -77,6 +77,6 @@ pub ip6_tunnel_flags_known : known_bits ip6_tunnel_flags_table ≡ 0xffffffff
 unfolding known_from
 ip6_tunnel_flags_known = refl
 
--- the set of these bits
+-- the set with these bits
 abbrev pub ip6_tunnel_flags : ℕ → Ip6TunnelFlags
 ip6_tunnel_flags bits = record { 0 = bits }

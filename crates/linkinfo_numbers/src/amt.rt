@@ -2,19 +2,20 @@
 
 ghost use Rattle.std.specs.Prelude.{◌≡◌};
 
-use crate::word::word_fault;
+use crate::word::word_error;
 use nla_frame::{DecodeError, ExactEq, Family};
 use std::fmt;
 use std::str::FromStr;
 
-/// The role of one end of an AMT tunnel: `IFLA_AMT_MODE`, a native 32-bit number (include/uapi/linux/amt.h).
+/// The mode of an AMT interface: `IFLA_AMT_MODE`, a little-endian 32-bit number
+/// (include/uapi/linux/amt.h).
 #[derive(Clone, Copy, Debug, PartialEq, Eq)]
 pub enum AmtMode {
-    /// `AMT_MODE_GATEWAY`.
+    /// `AMT_MODE_GATEWAY`: the interface is an AMT gateway.
     Gateway,
-    /// `AMT_MODE_RELAY`.
+    /// `AMT_MODE_RELAY`: the interface is an AMT relay.
     Relay,
-    /// Any other number.
+    /// Any number without a name.
     Other(u32),
 }
 
@@ -61,7 +62,7 @@ impl fmt::Display for AmtMode {
     }
 }
 
-/// Every text but the words of `Display` is refused as (Amt, 0, Word).
+/// Every text that `Display` does not write is rejected as `(Amt, 0, Word)`.
 impl FromStr for AmtMode {
     type Err = DecodeError;
 
@@ -73,7 +74,7 @@ impl FromStr for AmtMode {
         match word {
             "gateway" => Ok(AmtMode::Gateway),
             "relay" => Ok(AmtMode::Relay),
-            _ => Err(word_fault(Family::Amt)),
+            _ => Err(word_error(Family::Amt)),
         }
     }
 }

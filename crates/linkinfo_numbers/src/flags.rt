@@ -1,10 +1,11 @@
-//! Sets of flags of which every bit is known.
+//! Flag sets that keep every bit.
 
 ghost use Rattle.std.specs.Prelude.{◌≡◌, ◌<◌, ◌^◌, IsSomeAnd};
 
 use bitflags::Flags;
 
-/// A set of flags of which every bit is known: each number of its width is a set, and stays whole in it.
+/// A flag set that keeps every bit: each number of its width is a valid set, and converting it back
+/// gives that number.
 pub trait KeepsEveryBit: Flags {
     ghost use Rattle.std.specs.Prelude.{◌≡◌, ◌<◌, ◌^◌, ℕ};
     ghost use Rattle.std.specs.Int.RustNames.{bit_and};
@@ -12,10 +13,12 @@ pub trait KeepsEveryBit: Flags {
 
     ghost has_contracts: { Self.exact };
 
-    ghost every_bit: { (bits : ℕ) → bits < 2 ^ Self.Bits.size → bit_and bits (known_bits Self.table) ≡ bits };
+    ghost every_bit: { (bits : ℕ) → bits < 2 ^ Self.Bits.size →
+        bit_and bits (known_bits Self.table) ≡ bits };
 }
 
-/// The bits of the set of a number, by `from_bits`, which is never `None`, and by `from_bits_retain`: both are that number.
+/// The bits of the set made from a number by `from_bits`, which never returns `None`, and by
+/// `from_bits_retain`. Both are that number.
 pub fn bits_again<F: KeepsEveryBit>(bits: F::Bits) -> (Option<F::Bits>, F::Bits)
     requires { F.Bits.pattern bits < 2 ^ F.Bits.size }
     ensures from_bits { IsSomeAnd result.0 (λ again. F.Bits.pattern again ≡ F.Bits.pattern bits) }

@@ -2,21 +2,22 @@
 
 ghost use Rattle.std.specs.Prelude.{◌≡◌};
 
-use crate::word::word_fault;
+use crate::word::word_error;
 use nla_frame::{DecodeError, ExactEq, Family};
 use std::fmt;
 use std::str::FromStr;
 
-/// What a Geneve tunnel does with the do-not-fragment bit: `IFLA_GENEVE_DF`, one byte (include/uapi/linux/if_link.h).
+/// How a Geneve tunnel sets the don't-fragment (DF) bit of the outer header: `IFLA_GENEVE_DF`, one
+/// byte (include/uapi/linux/if_link.h).
 #[derive(Clone, Copy, Debug, PartialEq, Eq)]
 pub enum GeneveDf {
-    /// `GENEVE_DF_UNSET`.
+    /// `GENEVE_DF_UNSET`: the DF bit is not set.
     Unset,
-    /// `GENEVE_DF_SET`.
+    /// `GENEVE_DF_SET`: the DF bit is set.
     Set,
-    /// `GENEVE_DF_INHERIT`.
+    /// `GENEVE_DF_INHERIT`: the DF bit is copied from the inner packet.
     Inherit,
-    /// Any other number.
+    /// Any number without a name.
     Other(u8),
 }
 
@@ -66,7 +67,7 @@ impl fmt::Display for GeneveDf {
     }
 }
 
-/// Every text but the words of `Display` is refused as (Geneve, 0, Word).
+/// Every text that `Display` does not write is rejected as `(Geneve, 0, Word)`.
 impl FromStr for GeneveDf {
     type Err = DecodeError;
 
@@ -79,7 +80,7 @@ impl FromStr for GeneveDf {
             "unset" => Ok(GeneveDf::Unset),
             "set" => Ok(GeneveDf::Set),
             "inherit" => Ok(GeneveDf::Inherit),
-            _ => Err(word_fault(Family::Geneve)),
+            _ => Err(word_error(Family::Geneve)),
         }
     }
 }

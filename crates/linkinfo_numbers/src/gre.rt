@@ -7,16 +7,17 @@ use bitflags::{Flag, Flags};
 use nla_frame::ExactEq;
 use std::fmt;
 
-/// What a GRE tunnel is wrapped in: `IFLA_GRE_ENCAP_TYPE`, a native 16-bit number (include/uapi/linux/if_tunnel.h).
+/// The secondary encapsulation of a GRE tunnel: `IFLA_GRE_ENCAP_TYPE`, a little-endian 16-bit
+/// number (include/uapi/linux/if_tunnel.h).
 #[derive(Clone, Copy, Debug, PartialEq, Eq)]
 pub enum GreEncapType {
-    /// `TUNNEL_ENCAP_NONE`.
+    /// `TUNNEL_ENCAP_NONE`: no secondary encapsulation.
     None,
-    /// `TUNNEL_ENCAP_FOU`.
+    /// `TUNNEL_ENCAP_FOU`: Foo over UDP.
     Fou,
-    /// `TUNNEL_ENCAP_GUE`.
+    /// `TUNNEL_ENCAP_GUE`: Generic UDP Encapsulation.
     Gue,
-    /// Any other number.
+    /// Any number without a name.
     Other(u16),
 }
 
@@ -82,14 +83,15 @@ impl ExactEq for GreEncapType {
     ghost exact = { Prim.search rules };
 }
 
-/// Which traffic an ERSPAN tunnel mirrors: `IFLA_GRE_ERSPAN_DIR`, one byte (include/uapi/linux/if_tunnel.h).
+/// The direction of the traffic that an ERSPAN version 2 tunnel mirrors: `IFLA_GRE_ERSPAN_DIR`, one
+/// byte (include/uapi/linux/if_tunnel.h).
 #[derive(Clone, Copy, Debug, PartialEq, Eq)]
 pub enum ErSpanDir {
-    /// What comes in.
+    /// Ingress traffic (0).
     Ingress,
-    /// What goes out.
+    /// Egress traffic (1).
     Egress,
-    /// Any other number.
+    /// Any number without a name.
     Other(u8),
 }
 
@@ -152,37 +154,37 @@ impl ExactEq for ErSpanDir {
     ghost exact = { Prim.search rules };
 }
 
-/// What a GRE header holds: `IFLA_GRE_IFLAGS` and `IFLA_GRE_OFLAGS`, a big-endian 16-bit number (include/uapi/linux/if_tunnel.h).
-/// Every number of that width is a set.
+/// The flags of a GRE header: `IFLA_GRE_IFLAGS` and `IFLA_GRE_OFLAGS`, a big-endian 16-bit number
+/// (include/uapi/linux/if_tunnel.h). Every 16-bit number is a valid set.
 #[derive(Clone, Copy, Debug, PartialEq, Eq)]
 pub struct GreIOFlags(u16);
 
 impl GreIOFlags {
-    /// `GRE_CSUM`.
+    /// `GRE_CSUM`: a checksum is present.
     pub const Checksum: GreIOFlags = GreIOFlags(0x8000);
 
-    /// `GRE_ROUTING`.
+    /// `GRE_ROUTING`: routing information is present.
     pub const Routing: GreIOFlags = GreIOFlags(0x4000);
 
-    /// `GRE_KEY`.
+    /// `GRE_KEY`: a key is present.
     pub const Key: GreIOFlags = GreIOFlags(0x2000);
 
-    /// `GRE_SEQ`.
+    /// `GRE_SEQ`: a sequence number is present.
     pub const Seq: GreIOFlags = GreIOFlags(0x1000);
 
-    /// `GRE_STRICT`.
+    /// `GRE_STRICT`: strict source route.
     pub const Strict0: GreIOFlags = GreIOFlags(0x0800);
 
-    /// `GRE_REC`, three bits.
+    /// `GRE_REC`: recursion control, three bits.
     pub const Rec: GreIOFlags = GreIOFlags(0x0700);
 
-    /// `GRE_ACK`.
+    /// `GRE_ACK`: an acknowledgment number is present.
     pub const Ack: GreIOFlags = GreIOFlags(0x0080);
 
-    /// `GRE_FLAGS`, four bits.
+    /// `GRE_FLAGS`: reserved flags, four bits.
     pub const Flags: GreIOFlags = GreIOFlags(0x0078);
 
-    /// `GRE_VERSION`, three bits.
+    /// `GRE_VERSION`: the GRE version, three bits.
     pub const Version: GreIOFlags = GreIOFlags(0x0007);
 
     const TABLE: &'static [Flag<GreIOFlags>] = &[
@@ -263,7 +265,7 @@ impl KeepsEveryBit for GreIOFlags {
     ghost every_bit = { every_bit_16 gre_io_flags_table gre_io_flags_known };
 }
 
-/// No flag.
+/// The default is the empty set.
 impl Default for GreIOFlags {
     ghost is_default = { λ set. set.0 ≡ 0 };
 
@@ -278,19 +280,20 @@ impl ExactEq for GreIOFlags {
     ghost exact = { Prim.search rules };
 }
 
-/// How a GRE tunnel is wrapped: `IFLA_GRE_ENCAP_FLAGS`, a native 16-bit number (include/uapi/linux/if_tunnel.h). Every number of
-/// that width is a set.
+/// The flags of the secondary encapsulation of a GRE tunnel: `IFLA_GRE_ENCAP_FLAGS`, a
+/// little-endian 16-bit number (include/uapi/linux/if_tunnel.h). Every 16-bit number is a valid
+/// set.
 #[derive(Clone, Copy, Debug, PartialEq, Eq)]
 pub struct GreEncapFlags(u16);
 
 impl GreEncapFlags {
-    /// `TUNNEL_ENCAP_FLAG_CSUM`.
+    /// `TUNNEL_ENCAP_FLAG_CSUM`: UDP checksums over IPv4.
     pub const Checksum: GreEncapFlags = GreEncapFlags(1);
 
-    /// `TUNNEL_ENCAP_FLAG_CSUM6`.
+    /// `TUNNEL_ENCAP_FLAG_CSUM6`: UDP checksums over IPv6.
     pub const Checksum6: GreEncapFlags = GreEncapFlags(2);
 
-    /// `TUNNEL_ENCAP_FLAG_REMCSUM`.
+    /// `TUNNEL_ENCAP_FLAG_REMCSUM`: remote checksum offload.
     pub const RemoteChecksum: GreEncapFlags = GreEncapFlags(4);
 
     const TABLE: &'static [Flag<GreEncapFlags>] = &[
@@ -347,7 +350,7 @@ impl KeepsEveryBit for GreEncapFlags {
     ghost every_bit = { every_bit_16 gre_encap_flags_table gre_encap_flags_known };
 }
 
-/// No flag.
+/// The default is the empty set.
 impl Default for GreEncapFlags {
     ghost is_default = { λ set. set.0 ≡ 0 };
 

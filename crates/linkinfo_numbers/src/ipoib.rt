@@ -4,14 +4,15 @@ ghost use Rattle.std.specs.Prelude.{◌≡◌};
 
 use nla_frame::ExactEq;
 
-/// How IP goes over InfiniBand: `IFLA_IPOIB_MODE`, a native 16-bit number (include/uapi/linux/if_link.h).
+/// The mode of an IPoIB interface: `IFLA_IPOIB_MODE`, a little-endian 16-bit number
+/// (include/uapi/linux/if_link.h).
 #[derive(Clone, Copy, Debug, PartialEq, Eq)]
 pub enum IpoibMode {
-    /// `IPOIB_MODE_DATAGRAM`.
+    /// `IPOIB_MODE_DATAGRAM`: unreliable datagram (UD) transport.
     Datagram,
-    /// `IPOIB_MODE_CONNECTED`.
+    /// `IPOIB_MODE_CONNECTED`: reliable connected (RC) transport.
     Connected,
-    /// Any other number.
+    /// Any number without a name.
     Other(u16),
 }
 

@@ -1,24 +1,25 @@
-//! ipvlan and ipvtap links.
+//! IPVLAN and IPVTAP links.
 
 ghost use Rattle.std.specs.Prelude.{◌≡◌};
 
 use crate::flags::KeepsEveryBit;
-use crate::word::word_fault;
+use crate::word::word_error;
 use bitflags::{Flag, Flags};
 use nla_frame::{DecodeError, ExactEq, Family};
 use std::fmt;
 use std::str::FromStr;
 
-/// The mode of an ipvlan or ipvtap link: `IFLA_IPVLAN_MODE`, a native 16-bit number (include/uapi/linux/if_link.h).
+/// The mode of an `ipvlan` or `ipvtap` link: `IFLA_IPVLAN_MODE`, a little-endian 16-bit number
+/// (include/uapi/linux/if_link.h).
 #[derive(Clone, Copy, Debug, PartialEq, Eq)]
 pub enum IpVlanMode {
-    /// `IPVLAN_MODE_L2`.
+    /// `IPVLAN_MODE_L2`: the link processes packets at layer 2.
     L2,
-    /// `IPVLAN_MODE_L3`.
+    /// `IPVLAN_MODE_L3`: the lower device routes packets at layer 3.
     L3,
-    /// `IPVLAN_MODE_L3S`.
+    /// `IPVLAN_MODE_L3S`: layer 3 as in `L3`, with working connection tracking.
     L3S,
-    /// Any other number.
+    /// Any number without a name.
     Other(u16),
 }
 
@@ -68,7 +69,7 @@ impl fmt::Display for IpVlanMode {
     }
 }
 
-/// Every text but the words of `Display` is refused as (IpVlan, 0, Word).
+/// Every text that `Display` does not write is rejected as `(IpVlan, 0, Word)`.
 impl FromStr for IpVlanMode {
     type Err = DecodeError;
 
@@ -81,7 +82,7 @@ impl FromStr for IpVlanMode {
             "l2" => Ok(IpVlanMode::L2),
             "l3" => Ok(IpVlanMode::L3),
             "l3s" => Ok(IpVlanMode::L3S),
-            _ => Err(word_fault(Family::IpVlan)),
+            _ => Err(word_error(Family::IpVlan)),
         }
     }
 }
@@ -92,16 +93,18 @@ impl ExactEq for IpVlanMode {
     ghost exact = { Prim.search rules };
 }
 
-/// What an ipvlan or ipvtap link keeps apart: `IFLA_IPVLAN_FLAGS`, a native 16-bit number (include/uapi/linux/if_link.h). Every
-/// number of that width is a set.
+/// The flags of an `ipvlan` or `ipvtap` link: `IFLA_IPVLAN_FLAGS`, a little-endian 16-bit number
+/// (include/uapi/linux/if_link.h). Every 16-bit number is a valid set. Without a flag, the links of
+/// one lower device can talk to each other (bridge).
 #[derive(Clone, Copy, Debug, PartialEq, Eq)]
 pub struct IpVlanFlags(u16);
 
 impl IpVlanFlags {
-    /// `IPVLAN_F_PRIVATE`.
+    /// `IPVLAN_F_PRIVATE`: the links of one lower device cannot talk to each other.
     pub const Private: IpVlanFlags = IpVlanFlags(1);
 
-    /// `IPVLAN_F_VEPA`.
+    /// `IPVLAN_F_VEPA`: traffic between the links of one lower device goes through an external
+    /// switch.
     pub const Vepa: IpVlanFlags = IpVlanFlags(2);
 
     const TABLE: &'static [Flag<IpVlanFlags>] = &[
@@ -154,7 +157,7 @@ impl KeepsEveryBit for IpVlanFlags {
     ghost every_bit = { every_bit_16 ip_vlan_flags_table ip_vlan_flags_known };
 }
 
-/// No flag.
+/// The default is the empty set.
 impl Default for IpVlanFlags {
     ghost is_default = { λ set. set.0 ≡ 0 };
 
@@ -169,8 +172,8 @@ impl ExactEq for IpVlanFlags {
     ghost exact = { Prim.search rules };
 }
 
-/// The mode of an ipvtap link, which is that of an ipvlan link.
+/// The mode of an `ipvtap` link; it has the values of an `ipvlan` link.
 pub type IpVtapMode = IpVlanMode;
 
-/// The flags of an ipvtap link, which are those of an ipvlan link.
+/// The flags of an `ipvtap` link; they are those of an `ipvlan` link.
 pub type IpVtapFlags = IpVlanFlags;

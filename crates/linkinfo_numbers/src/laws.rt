@@ -1,37 +1,113 @@
-//! Laws of the tables, each the contract of a function without code.
+//! Laws of the number types, flag sets and kinds, each the contract of a function without code.
 
 ghost use Rattle.std.specs.Prelude.{◌≡◌, ◌↔◌, ◌==◌, ℕ, List, Ok, IsTrue, if◌then◌else◌};
 ghost use Rattle.nla_frame.specs.Attribute.{Attribute};
-ghost use Rattle.linkinfo_numbers.specs.Amt.{amt_mode, amt_mode_number, amt_mode_table, amt_mode_text};
-ghost use Rattle.linkinfo_numbers.specs.Geneve.{geneve_df, geneve_df_number, geneve_df_table, geneve_df_text};
+ghost use Rattle.linkinfo_numbers.specs.Amt.{
+  amt_mode,
+  amt_mode_number,
+  amt_mode_table,
+  amt_mode_text,
+};
+ghost use Rattle.linkinfo_numbers.specs.Geneve.{
+  geneve_df,
+  geneve_df_number,
+  geneve_df_table,
+  geneve_df_text,
+};
 ghost use Rattle.linkinfo_numbers.specs.Vxlan.{vxlan_df, vxlan_df_number, vxlan_df_table};
 ghost use Rattle.linkinfo_numbers.specs.Gtp.{gtp_role, gtp_role_number, gtp_role_table};
 ghost use Rattle.linkinfo_numbers.specs.Ipoib.{ipoib_mode, ipoib_mode_number, ipoib_mode_table};
-ghost use Rattle.linkinfo_numbers.specs.Ipvlan.{ip_vlan_mode, ip_vlan_mode_number, ip_vlan_mode_table, ip_vlan_mode_text};
-ghost use Rattle.linkinfo_numbers.specs.Macvlan.{mac_vlan_mode, mac_vlan_mode_number, mac_vlan_mode_table, mac_vlan_mode_text};
-ghost use Rattle.linkinfo_numbers.specs.Macvlan.{mac_vlan_mac_address_mode, mac_vlan_mac_address_mode_number};
+ghost use Rattle.linkinfo_numbers.specs.Ipvlan.{
+  ip_vlan_mode,
+  ip_vlan_mode_number,
+  ip_vlan_mode_table,
+  ip_vlan_mode_text,
+};
+ghost use Rattle.linkinfo_numbers.specs.Macvlan.{
+  mac_vlan_mode,
+  mac_vlan_mode_number,
+  mac_vlan_mode_table,
+  mac_vlan_mode_text,
+};
+ghost use Rattle.linkinfo_numbers.specs.Macvlan.{
+  mac_vlan_mac_address_mode,
+  mac_vlan_mac_address_mode_number,
+};
 ghost use Rattle.linkinfo_numbers.specs.Macvlan.{mac_vlan_mac_address_mode_table};
-ghost use Rattle.linkinfo_numbers.specs.Macsec.{mac_sec_cipher_id, mac_sec_cipher_id_number, mac_sec_cipher_id_table};
-ghost use Rattle.linkinfo_numbers.specs.Macsec.{mac_sec_validate, mac_sec_validate_number, mac_sec_validate_table, mac_sec_offload};
+ghost use Rattle.linkinfo_numbers.specs.Macsec.{
+  mac_sec_cipher_id,
+  mac_sec_cipher_id_number,
+  mac_sec_cipher_id_table,
+};
+ghost use Rattle.linkinfo_numbers.specs.Macsec.{
+  mac_sec_validate,
+  mac_sec_validate_number,
+  mac_sec_validate_table,
+  mac_sec_offload,
+};
 ghost use Rattle.linkinfo_numbers.specs.Macsec.{mac_sec_offload_number, mac_sec_offload_table};
-ghost use Rattle.linkinfo_numbers.specs.Netkit.{netkit_mode, netkit_mode_number, netkit_mode_table, netkit_mode_text};
-ghost use Rattle.linkinfo_numbers.specs.Netkit.{netkit_policy, netkit_policy_number, netkit_policy_table, netkit_policy_text};
-ghost use Rattle.linkinfo_numbers.specs.Netkit.{netkit_scrub, netkit_scrub_number, netkit_scrub_text, netkit_scrubs};
-ghost use Rattle.linkinfo_numbers.specs.Gre.{gre_encap_type, gre_encap_type_number, gre_encap_type_table, er_span_dir};
+ghost use Rattle.linkinfo_numbers.specs.Netkit.{
+  netkit_mode,
+  netkit_mode_number,
+  netkit_mode_table,
+  netkit_mode_text,
+};
+ghost use Rattle.linkinfo_numbers.specs.Netkit.{
+  netkit_policy,
+  netkit_policy_number,
+  netkit_policy_table,
+  netkit_policy_text,
+};
+ghost use Rattle.linkinfo_numbers.specs.Netkit.{
+  netkit_scrub,
+  netkit_scrub_number,
+  netkit_scrub_text,
+  netkit_scrubs,
+};
+ghost use Rattle.linkinfo_numbers.specs.Gre.{
+  gre_encap_type,
+  gre_encap_type_number,
+  gre_encap_type_table,
+  er_span_dir,
+};
 ghost use Rattle.linkinfo_numbers.specs.Gre.{er_span_dir_number, er_span_dir_table};
 ghost use Rattle.linkinfo_numbers.specs.Gre.{gre_encap_flags, gre_io_flags};
 ghost use Rattle.linkinfo_numbers.specs.Ipvlan.{ip_vlan_flags};
 ghost use Rattle.linkinfo_numbers.specs.Macvlan.{mac_vlan_flags};
 ghost use Rattle.linkinfo_numbers.specs.Rmnet.{rm_net_flags};
 ghost use Rattle.linkinfo_numbers.specs.Tunnel.{ip6_tunnel_flags, tunnel_encap_flags};
-ghost use Rattle.linkinfo_numbers.specs.Tunnel.{tunnel_encap_type, tunnel_encap_type_number, tunnel_encap_type_table};
-ghost use Rattle.linkinfo_numbers.specs.Ethernet.{ethernet_protocol, ethernet_protocol_number, ethernet_protocol_table};
+ghost use Rattle.linkinfo_numbers.specs.Tunnel.{
+  tunnel_encap_type,
+  tunnel_encap_type_number,
+  tunnel_encap_type_table,
+};
+ghost use Rattle.linkinfo_numbers.specs.Ethernet.{
+  ethernet_protocol,
+  ethernet_protocol_number,
+  ethernet_protocol_table,
+};
 ghost use Rattle.linkinfo_numbers.specs.Ip.{ip_protocol, ip_protocol_number, ip_protocol_table};
 ghost use Rattle.std.specs.Str.{is_utf8};
-ghost use Rattle.linkinfo_numbers.specs.Kind.{kind_attribute, kind_meaning, kind_of_name, kind_table, tag_of_kind, tag_of_name};
+ghost use Rattle.linkinfo_numbers.specs.Kind.{
+  kind_attribute,
+  kind_meaning,
+  kind_of_name,
+  kind_table,
+  tag_of_kind,
+  tag_of_name,
+};
 ghost use Rattle.linkinfo_numbers.specs.Kind.{text_of_kind};
-ghost use Rattle.linkinfo_numbers.specs.PortKind.{port_kind_attribute, port_kind_meaning, port_kind_of_name, port_kind_table};
-ghost use Rattle.linkinfo_numbers.specs.PortKind.{port_tag_of_name, tag_of_port_kind, text_of_port_kind};
+ghost use Rattle.linkinfo_numbers.specs.PortKind.{
+  port_kind_attribute,
+  port_kind_meaning,
+  port_kind_of_name,
+  port_kind_table,
+};
+ghost use Rattle.linkinfo_numbers.specs.PortKind.{
+  port_tag_of_name,
+  tag_of_port_kind,
+  text_of_port_kind,
+};
 ghost use Rattle.linkinfo_numbers.specs.Table.{IsProper, ReadsBackWhereProper};
 ghost use Rattle.linkinfo_numbers.specs.Word.{ReadsWords};
 
@@ -54,7 +130,8 @@ use crate::vxlan::VxlanDf;
 use nla_frame::Family;
 use std::hash::Hash;
 
-/// The number of the value of a number is that number. Only `NetkitScrub` gives 1 for every number but 0.
+/// A number converted to its value and back is the same number. The exception is `NetkitScrub`,
+/// which gives 1 for every number but 0.
 pub fn number_round_trip(number: u64)
     ensures amt_mode { amt_mode_number (amt_mode number) ≡ number }
     ensures geneve_df { geneve_df_number (geneve_df number) ≡ number }
@@ -63,7 +140,8 @@ pub fn number_round_trip(number: u64)
     ensures ipoib_mode { ipoib_mode_number (ipoib_mode number) ≡ number }
     ensures ip_vlan_mode { ip_vlan_mode_number (ip_vlan_mode number) ≡ number }
     ensures mac_vlan_mode { mac_vlan_mode_number (mac_vlan_mode number) ≡ number }
-    ensures mac_vlan_mac_address_mode { mac_vlan_mac_address_mode_number (mac_vlan_mac_address_mode number) ≡ number }
+    ensures mac_vlan_mac_address_mode { mac_vlan_mac_address_mode_number
+        (mac_vlan_mac_address_mode number) ≡ number }
     ensures mac_sec_cipher_id { mac_sec_cipher_id_number (mac_sec_cipher_id number) ≡ number }
     ensures mac_sec_validate { mac_sec_validate_number (mac_sec_validate number) ≡ number }
     ensures mac_sec_offload { mac_sec_offload_number (mac_sec_offload number) ≡ number }
@@ -74,11 +152,12 @@ pub fn number_round_trip(number: u64)
     ensures tunnel_encap_type { tunnel_encap_type_number (tunnel_encap_type number) ≡ number }
     ensures ethernet_protocol { ethernet_protocol_number (ethernet_protocol number) ≡ number }
     ensures ip_protocol { ip_protocol_number (ip_protocol number) ≡ number }
-    ensures netkit_scrub { netkit_scrub_number (netkit_scrub number) ≡ (if number == 0 then 0 else 1) }
+    ensures netkit_scrub { netkit_scrub_number (netkit_scrub number)
+        ≡ (if number == 0 then 0 else 1) }
 {}
 
-/// The value of the number of a value is that value exactly where it is not `Other` of a named number. `NetkitScrub` has no
-/// `Other`.
+/// A value converted to its number and back is the same value if and only if it is not `Other` of a
+/// named number. `NetkitScrub` has no `Other`.
 pub fn value_round_trip()
     ensures amt_mode { ReadsBackWhereProper amt_mode_table }
     ensures geneve_df { ReadsBackWhereProper geneve_df_table }
@@ -98,11 +177,13 @@ pub fn value_round_trip()
     ensures tunnel_encap_type { ReadsBackWhereProper tunnel_encap_type_table }
     ensures ethernet_protocol { ReadsBackWhereProper ethernet_protocol_table }
     ensures ip_protocol { ReadsBackWhereProper ip_protocol_table }
-    ensures netkit_scrub { (scrub : NetkitScrub) → netkit_scrub (netkit_scrub_number scrub) ≡ scrub }
+    ensures netkit_scrub { (scrub : NetkitScrub) →
+        netkit_scrub (netkit_scrub_number scrub) ≡ scrub }
     ensures forward { NetkitPolicy.Forward ≡ NetkitPolicy.Pass }
 {}
 
-/// The displayed text of a named value reads back as it, and every other text is refused.
+/// The text that `Display` writes for a named value parses as that value, and every other text is
+/// rejected.
 pub fn word_round_trip()
     ensures amt_mode { ReadsWords Family.Amt amt_mode_text amt_mode_table.named }
     ensures geneve_df { ReadsWords Family.Geneve geneve_df_text geneve_df_table.named }
@@ -113,39 +194,47 @@ pub fn word_round_trip()
     ensures netkit_scrub { ReadsWords Family.Netkit netkit_scrub_text netkit_scrubs }
 {}
 
-/// A kind made from a text has that text and its tag. Made from a kind's text it is that kind exactly where the kind is not `Other`
-/// of a known name, and then its attribute reads as it, and its text has its tag. A kind that is read from an attribute is so, and its
+/// A kind made from a text has that text and its tag. A kind made from a kind's own text is equal
+/// to it if and only if it is not `Other` of a known name. Then its attribute also reads back as
+/// that kind, and the text has its tag. Each kind read from an attribute is such a kind, and its
 /// text is UTF-8.
 pub fn kind_texts()
     ensures text { (name : List ℕ) → text_of_kind (kind_of_name name) ≡ name }
     ensures tag { (name : List ℕ) → tag_of_kind (kind_of_name name) ≡ tag_of_name name }
-    ensures again { (kind : InfoKind) → (kind_of_name (text_of_kind kind) ≡ kind) ↔ IsProper kind_table kind }
+    ensures again { (kind : InfoKind) →
+        (kind_of_name (text_of_kind kind) ≡ kind) ↔ IsProper kind_table kind }
     ensures reads_back { (kind : InfoKind) → IsTrue (is_utf8 (text_of_kind kind))
         → (kind_meaning (kind_attribute kind) ≡ Ok kind) ↔ IsProper kind_table kind }
     ensures read { (attribute : Attribute) (kind : InfoKind) → kind_meaning attribute ≡ Ok kind
         → IsProper kind_table kind × IsTrue (is_utf8 (text_of_kind kind)) }
-    ensures same_tag { (kind : InfoKind) → IsProper kind_table kind → tag_of_name (text_of_kind kind) ≡ tag_of_kind kind }
+    ensures same_tag { (kind : InfoKind) → IsProper kind_table kind →
+        tag_of_name (text_of_kind kind) ≡ tag_of_kind kind }
     ensures port_text { (name : List ℕ) → text_of_port_kind (port_kind_of_name name) ≡ name }
-    ensures port_tag { (name : List ℕ) → tag_of_port_kind (port_kind_of_name name) ≡ port_tag_of_name name }
-    ensures port_again { (kind : InfoPortKind) → (port_kind_of_name (text_of_port_kind kind) ≡ kind) ↔ IsProper port_kind_table kind }
+    ensures port_tag { (name : List ℕ) →
+        tag_of_port_kind (port_kind_of_name name) ≡ port_tag_of_name name }
+    ensures port_again { (kind : InfoPortKind) →
+        (port_kind_of_name (text_of_port_kind kind) ≡ kind) ↔ IsProper port_kind_table kind }
     ensures port_reads_back { (kind : InfoPortKind) → IsTrue (is_utf8 (text_of_port_kind kind))
         → (port_kind_meaning (port_kind_attribute kind) ≡ Ok kind) ↔ IsProper port_kind_table kind }
-    ensures port_read { (attribute : Attribute) (kind : InfoPortKind) → port_kind_meaning attribute ≡ Ok kind
+    ensures port_read { (attribute : Attribute) (kind : InfoPortKind) →
+        port_kind_meaning attribute ≡ Ok kind
         → IsProper port_kind_table kind × IsTrue (is_utf8 (text_of_port_kind kind)) }
     ensures port_same_tag { (kind : InfoPortKind) → IsProper port_kind_table kind
         → port_tag_of_name (text_of_port_kind kind) ≡ tag_of_port_kind kind }
 {}
 
-/// Equal sets make the same writes to a hasher.
+/// Equal sets have equal hashes: they make equal writes to a hasher.
 pub fn equal_sets_hash_alike()
-    ensures tunnel_encap_flags { (x y : TunnelEncapFlags) → IsTrue (⟦<TunnelEncapFlags as PartialEq>⟧.eq x y)
+    ensures tunnel_encap_flags { (x y : TunnelEncapFlags) →
+        IsTrue (⟦<TunnelEncapFlags as PartialEq>⟧.eq x y)
         → ⟦<TunnelEncapFlags as Hash>⟧.hash_input x ≡ ⟦<TunnelEncapFlags as Hash>⟧.hash_input y }
-    ensures ip6_tunnel_flags { (x y : Ip6TunnelFlags) → IsTrue (⟦<Ip6TunnelFlags as PartialEq>⟧.eq x y)
+    ensures ip6_tunnel_flags { (x y : Ip6TunnelFlags) →
+        IsTrue (⟦<Ip6TunnelFlags as PartialEq>⟧.eq x y)
         → ⟦<Ip6TunnelFlags as Hash>⟧.hash_input x ≡ ⟦<Ip6TunnelFlags as Hash>⟧.hash_input y }
 {}
 
-/// The flags of a GRE header: `GRE_CSUM` and its like (include/uapi/linux/if_tunnel.h, where each
-/// is `__cpu_to_be16` of this number).
+/// The bits of the flags of a GRE header: `GRE_CSUM` and the others
+/// (include/uapi/linux/if_tunnel.h, where each is `__cpu_to_be16` of this number).
 pub fn gre_io_flag_bits()
     ensures checksum { GreIOFlags.Checksum ≡ gre_io_flags 0x8000 }
     ensures routing { GreIOFlags.Routing ≡ gre_io_flags 0x4000 }
@@ -158,7 +247,7 @@ pub fn gre_io_flag_bits()
     ensures version { GreIOFlags.Version ≡ gre_io_flags 0x0007 }
 {}
 
-/// The flags of what a GRE tunnel is wrapped in: `TUNNEL_ENCAP_FLAG_CSUM` and its like
+/// The bits of the flags of a GRE tunnel's encapsulation: `TUNNEL_ENCAP_FLAG_CSUM` and the others
 /// (include/uapi/linux/if_tunnel.h).
 pub fn gre_encap_flag_bits()
     ensures checksum { GreEncapFlags.Checksum ≡ gre_encap_flags 1 }
@@ -166,7 +255,7 @@ pub fn gre_encap_flag_bits()
     ensures remote_checksum { GreEncapFlags.RemoteChecksum ≡ gre_encap_flags 4 }
 {}
 
-/// The flags of what an IP tunnel is wrapped in: `TUNNEL_ENCAP_FLAG_CSUM` and its like
+/// The bits of the flags of an IP tunnel's encapsulation: `TUNNEL_ENCAP_FLAG_CSUM` and the others
 /// (include/uapi/linux/if_tunnel.h).
 pub fn tunnel_encap_flag_bits()
     ensures csum { TunnelEncapFlags.CSum ≡ tunnel_encap_flags 1 }
@@ -174,9 +263,9 @@ pub fn tunnel_encap_flag_bits()
     ensures rem_csum { TunnelEncapFlags.RemCSum ≡ tunnel_encap_flags 4 }
 {}
 
-/// The flags of an IPv6 tunnel: `IP6_TNL_F_IGN_ENCAP_LIMIT` and its like
-/// (include/uapi/linux/ip6_tunnel.h), and `IP6_TNL_F_CAP_XMIT`, `IP6_TNL_F_CAP_RCV` and
-/// `IP6_TNL_F_CAP_PER_PACKET`, which the kernel sets (include/net/ip6_tunnel.h).
+/// The bits of the flags of an IPv6 tunnel: `IP6_TNL_F_IGN_ENCAP_LIMIT` and the others
+/// (include/uapi/linux/ip6_tunnel.h). The kernel itself sets `IP6_TNL_F_CAP_XMIT`,
+/// `IP6_TNL_F_CAP_RCV` and `IP6_TNL_F_CAP_PER_PACKET` (include/net/ip6_tunnel.h).
 pub fn ip6_tunnel_flag_bits()
     ensures ign_encap_limit { Ip6TunnelFlags.IgnEncapLimit ≡ ip6_tunnel_flags 0x1 }
     ensures use_orig_tclass { Ip6TunnelFlags.UseOrigTclass ≡ ip6_tunnel_flags 0x2 }
@@ -190,20 +279,21 @@ pub fn ip6_tunnel_flag_bits()
     ensures cap_per_packet { Ip6TunnelFlags.CapPerPacket ≡ ip6_tunnel_flags 0x40000 }
 {}
 
-/// The flags of an ipvlan link: `IPVLAN_F_PRIVATE` and its like (include/uapi/linux/if_link.h).
+/// The bits of the flags of an `ipvlan` link: `IPVLAN_F_PRIVATE` and the others
+/// (include/uapi/linux/if_link.h).
 pub fn ip_vlan_flag_bits()
     ensures private { IpVlanFlags.Private ≡ ip_vlan_flags 1 }
     ensures vepa { IpVlanFlags.Vepa ≡ ip_vlan_flags 2 }
 {}
 
-/// The flags of a macvlan link: `MACVLAN_FLAG_NOPROMISC` and its like
+/// The bits of the flags of a `macvlan` link: `MACVLAN_FLAG_NOPROMISC` and the others
 /// (include/uapi/linux/if_link.h).
 pub fn mac_vlan_flag_bits()
     ensures no_promisc { MacVlanFlags.NoPromisc ≡ mac_vlan_flags 1 }
     ensures no_dst { MacVlanFlags.NoDst ≡ mac_vlan_flags 2 }
 {}
 
-/// The flags of an rmnet link: `RMNET_FLAGS_INGRESS_DEAGGREGATION` and its like
+/// The bits of the flags of an `rmnet` link: `RMNET_FLAGS_INGRESS_DEAGGREGATION` and the others
 /// (include/uapi/linux/if_link.h).
 pub fn rm_net_flag_bits()
     ensures ingress_deaggregation { RmNetFlags.IngressDeaggregation ≡ rm_net_flags 1 }

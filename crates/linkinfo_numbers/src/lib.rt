@@ -1,4 +1,4 @@
-//! The numbers, flag sets and names that stand inside `IFLA_LINKINFO`.
+//! The numbers, flag sets and names in the contents of `IFLA_LINKINFO`.
 #![tactic(auto)]
 
 mod amt;

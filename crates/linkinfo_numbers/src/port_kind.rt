@@ -1,7 +1,12 @@
-//! Kinds of ports.
+//! Port kinds.
 
 ghost use Rattle.std.specs.Prelude.{◌≡◌, ◌≢◌, IfOk, IsOk};
-ghost use Rattle.linkinfo_numbers.specs.PortKind.{port_kind_of_name, port_kind_of_tag, tag_of_port_kind, port_tag_of_name};
+ghost use Rattle.linkinfo_numbers.specs.PortKind.{
+  port_kind_of_name,
+  port_kind_of_tag,
+  tag_of_port_kind,
+  port_tag_of_name,
+};
 ghost use Rattle.linkinfo_numbers.specs.PortKind.{text_of_port_kind};
 
 use crate::name::{emit_name, name_fit_len, name_of};
@@ -11,23 +16,25 @@ use nla_frame::{DecodeError, ExactEq, Nla, NlaBuffer, Parseable, Text};
 use std::alloc::{AllocError, Global};
 use std::fmt;
 
-/// The kind of the link that a port belongs to: `IFLA_INFO_SLAVE_KIND`, the name of its driver (include/uapi/linux/if_link.h).
+/// The port kind: `IFLA_INFO_SLAVE_KIND`, the name of the driver of the link that this link is a
+/// port of (include/uapi/linux/if_link.h).
 #[derive(Clone, Debug, PartialEq, Eq, Drop)]
 pub enum InfoPortKind {
-    /// `bond`
+    /// `bond`: a port of a bonding device.
     Bond,
-    /// `bridge`
+    /// `bridge`: a port of an Ethernet bridge.
     Bridge,
-    /// `vrf`
+    /// `vrf`: a port of a VRF device.
     Vrf,
-    /// `team`
+    /// `team`: a port of a team device.
     Team,
     /// Every other name.
     Other(Text),
 }
 
 impl InfoPortKind {
-    /// The kind of this name: `Other` of it where the name is not known. A known name takes no memory.
+    /// Makes the port kind of this name, `Other` if the name is unknown. A known name needs no
+    /// memory.
     pub fn from_text(alloc: Global, text: &str) -> Result<InfoPortKind, AllocError>
         ensures kind { IfOk result (λ kind. kind ≡ port_kind_of_name text.now) }
         ensures tag { IfOk result (λ kind. tag_of_port_kind kind ≡ port_tag_of_name text.now) }
@@ -40,7 +47,7 @@ impl InfoPortKind {
         }
     }
 
-    /// The tag, by the variant: that of `Other` is `Other`, whatever its text.
+    /// The tag of the port kind, by the variant: the tag of `Other` is `Other`, whatever its name.
     pub fn tag(&self) -> PortTag
         ensures { result ≡ tag_of_port_kind self.now }
     {
@@ -53,7 +60,7 @@ impl InfoPortKind {
         }
     }
 
-    /// The name.
+    /// The name of the port kind.
     pub fn name(&self) -> &str
         ensures { result.now ≡ text_of_port_kind self.now }
     {
@@ -66,7 +73,7 @@ impl InfoPortKind {
         }
     }
 
-    /// The kind of this tag; `None` for `Other` alone, whose kind has a text.
+    /// The port kind of this tag, or `None` for `Other`, whose name the tag does not tell.
     pub fn from_tag(tag: PortTag) -> Option<InfoPortKind>
         ensures { result ≡ port_kind_of_tag tag }
     {
@@ -80,7 +87,7 @@ impl InfoPortKind {
     }
 }
 
-/// Writes the name.
+/// Writes the name of the port kind.
 impl fmt::Display for InfoPortKind {
     ghost use Rattle.std.specs.Prelude.{Some};
     ghost use Rattle.linkinfo_numbers.specs.PortKind.{text_of_port_kind};
@@ -92,7 +99,8 @@ impl fmt::Display for InfoPortKind {
     }
 }
 
-/// Written as the name and a NUL, with the type 4. It fits where the name has at most 65530 bytes.
+/// An attribute `IFLA_INFO_SLAVE_KIND` (4): the name and one NUL. It fits if the name has at most
+/// 65530 bytes.
 impl Nla for InfoPortKind {
     ghost use Rattle.linkinfo_numbers.specs.PortKind.{port_kind_attribute};
 
@@ -115,11 +123,10 @@ impl Nla for InfoPortKind {
     }
 }
 
-/// The kind of the attribute's name.
+/// Reads the port kind from an attribute `IFLA_INFO_SLAVE_KIND`.
 ///
-/// Refused as (LinkInfo, the attribute's type, WrongType) where it has another type, and as (LinkInfo, 4, Utf8) where the name is
-/// not
-/// UTF-8. A name that is not known takes memory.
+/// An attribute of another type is rejected as `(LinkInfo, type, WrongType)` with that type, and a
+/// name that is not UTF-8 as `(LinkInfo, 4, Utf8)`. Only an unknown name needs memory.
 impl<'a> Parseable<NlaBuffer<'a>> for InfoPortKind {
     ghost use Rattle.linkinfo_numbers.specs.PortKind.{port_kind_meaning, port_kind_needs_memory};
 

@@ -1,4 +1,4 @@
-//! rmnet links.
+//! Links of kind `rmnet`.
 
 ghost use Rattle.std.specs.Prelude.{◌≡◌};
 
@@ -6,28 +6,28 @@ use crate::flags::KeepsEveryBit;
 use bitflags::{Flag, Flags};
 use nla_frame::ExactEq;
 
-/// What an rmnet link does with the frames of its modem: `flags` and `mask` of `struct ifla_rmnet_flags`, native 32-bit numbers
-/// (include/uapi/linux/if_link.h). Every number of that width is a set.
+/// The flags of an `rmnet` link: `flags` and `mask` of `struct ifla_rmnet_flags`, little-endian
+/// 32-bit numbers (include/uapi/linux/if_link.h). Every 32-bit number is a valid set.
 #[derive(Clone, Copy, Debug, PartialEq, Eq)]
 pub struct RmNetFlags(u32);
 
 impl RmNetFlags {
-    /// `RMNET_FLAGS_INGRESS_DEAGGREGATION`.
+    /// `RMNET_FLAGS_INGRESS_DEAGGREGATION`: received frames are deaggregated.
     pub const IngressDeaggregation: RmNetFlags = RmNetFlags(1);
 
-    /// `RMNET_FLAGS_INGRESS_MAP_COMMANDS`.
+    /// `RMNET_FLAGS_INGRESS_MAP_COMMANDS`: received MAP commands are handled.
     pub const IngressCommands: RmNetFlags = RmNetFlags(2);
 
-    /// `RMNET_FLAGS_INGRESS_MAP_CKSUMV4`.
+    /// `RMNET_FLAGS_INGRESS_MAP_CKSUMV4`: MAPv4 checksums of received frames.
     pub const IngressMapCksumV4: RmNetFlags = RmNetFlags(4);
 
-    /// `RMNET_FLAGS_EGRESS_MAP_CKSUMV4`.
+    /// `RMNET_FLAGS_EGRESS_MAP_CKSUMV4`: MAPv4 checksums of sent frames.
     pub const EgressMapCksumV4: RmNetFlags = RmNetFlags(8);
 
-    /// `RMNET_FLAGS_INGRESS_MAP_CKSUMV5`.
+    /// `RMNET_FLAGS_INGRESS_MAP_CKSUMV5`: MAPv5 checksums of received frames.
     pub const IngressMapCksumV5: RmNetFlags = RmNetFlags(16);
 
-    /// `RMNET_FLAGS_EGRESS_MAP_CKSUMV5`.
+    /// `RMNET_FLAGS_EGRESS_MAP_CKSUMV5`: MAPv5 checksums of sent frames.
     pub const EgressMapCksumV5: RmNetFlags = RmNetFlags(32);
 
     const TABLE: &'static [Flag<RmNetFlags>] = &[
@@ -102,17 +102,17 @@ impl ExactEq for RmNetFlags {
     ghost exact = { Prim.search rules };
 }
 
-/// `struct ifla_rmnet_flags`: the flags, and which of them are meant.
+/// `struct ifla_rmnet_flags`: flags, and the mask of those to change.
 #[derive(Clone, Copy, Debug, PartialEq, Eq)]
 pub struct InfoRmNetFlags {
-    /// `flags`: the bits to set, native order on the wire.
+    /// `flags`: the values of the flags, little-endian.
     pub flags: RmNetFlags,
-    /// `mask`: the bits that are meant, native order on the wire.
+    /// `mask`: the flags to change, little-endian.
     pub mask: RmNetFlags,
 }
 
 impl InfoRmNetFlags {
-    /// These flags under this mask.
+    /// Makes the pair of these flags and this mask.
     pub fn new(flags: RmNetFlags, mask: RmNetFlags) -> InfoRmNetFlags
         ensures { result ≡ record { flags = flags; mask = mask } }
     {

@@ -1,4 +1,4 @@
--- The rows of B.A.T.M.A.N. links.
+-- The rows of `batadv` links.
 use Rattle.std.specs.Prelude.{List, [], ◌∷◌, refl}
 use Rattle.nla_frame.specs.Attribute.{Attribute}
 use Rattle.nla_frame.specs.Kept.{attribute_of}

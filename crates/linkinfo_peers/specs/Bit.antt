@@ -1,5 +1,21 @@
--- A bit as a peer: one byte, which is true where it is not zero, as payloads of truths are.
-use Rattle.std.specs.Prelude.{◌≡◌, ◌↔◌, ℕ, Bool, true, false, List, Option, Some, None, Result, Ok, Err, IsSome, refl}
+-- A peer that is one boolean: one byte, true if it is not zero, read as the shape Truth.
+use Rattle.std.specs.Prelude.{
+  ◌≡◌,
+  ◌↔◌,
+  ℕ,
+  Bool,
+  true,
+  false,
+  List,
+  Option,
+  Some,
+  None,
+  Result,
+  Ok,
+  Err,
+  IsSome,
+  refl,
+}
 use Rattle.nla_frame.specs.Attribute.{IsBytes}
 use Rattle.nla_frame.specs.Canonical.{bytes_for}
 use Rattle.nla_frame.specs.declared.error.Cause.{Cause}
@@ -37,13 +53,14 @@ read_bit : (r : Result Bool Cause) (x : BitPeer) → bit_of r ≡ Some x → r �
 read_bit (Ok b) x e = cc
 read_bit (Err c) x e = absurd cc
 
--- the truth that was read of a payload is its bit
-pub bit_was_read : (p : List ℕ) (d : Datum) (b : Bool) → ReadsAs Truth p (Ok d) → IsDatumOr Truth false d b → bit_meaning p ≡ Some (bit b)
+-- the boolean read from a payload is its bit
+pub bit_was_read : (p : List ℕ) (d : Datum) (b : Bool) → ReadsAs Truth p (Ok d) →
+    IsDatumOr Truth false d b → bit_meaning p ≡ Some (bit b)
 bit_was_read p d b h is =
     let same : unwrap Truth (value_of d) ≡ b = sym (is.0 (read_suits Truth p d h)) in
     ap bit_of (read_means Truth p d h) ∙ ap (λ (z : Bool). some_bit z) same
 
--- a payload that means a bit is accepted as a truth
+-- a payload that means a bit is accepted under the shape Truth
 pub bit_accepted : (p : List ℕ) → IsSome (bit_meaning p) → IsAccepted Truth p
 bit_accepted p some = go (means Truth p) refl some
   where
@@ -51,9 +68,12 @@ bit_accepted p some = go (means Truth p) refl some
     go (Ok b) e h = accepted Truth p b e
     go (Err c) e h = absurd cc
 
-pub bit_alike_is : (p q : List ℕ) (x y : BitPeer) → IsBytes p → IsBytes q → bit_meaning p ≡ Some x → bit_meaning q ≡ Some y → (bit_alike p q ≡ true) ↔ (x ≡ y)
+pub bit_alike_is : (p q : List ℕ) (x y : BitPeer) → IsBytes p → IsBytes q → bit_meaning p ≡ Some x →
+    bit_meaning q ≡ Some y → (bit_alike p q ≡ true) ↔ (x ≡ y)
 bit_alike_is p q x y i j e g =
-    let law = means_alike Truth p q x.0 y.0 i j (read_bit (means Truth p) x e) (read_bit (means Truth q) y g) in
+    let law =
+    means_alike Truth p q x.0 y.0 i j (read_bit (means Truth p) x e)
+    (read_bit (means Truth q) y g) in
     (λ t. ap bit (law.0 t), λ same. law.1 (ap (λ (z : BitPeer). z.0) same))
 
 pub bit_well_means : (x : BitPeer) → bit_meaning (bit_payload x) ≡ Some x
@@ -62,7 +82,7 @@ bit_well_means x = ap bit_of (means-canon Truth x.0 tt)
 pub bit_well_bytes : (x : BitPeer) → IsBytes (bit_payload x)
 bit_well_bytes x = IsBytes-canon Truth x.0 tt
 
--- a bit is written as the canonical payload of a truth
+-- a bit is written as the canonical payload of the shape Truth
 pub bit_written : (p : List ℕ) → payload_for bit_payload (bit_meaning p) ≡ canonical Truth p
 unfolding canonical
 bit_written p = go (means Truth p)

@@ -1,5 +1,5 @@
--- Which attributes of B.A.T.M.A.N., WWAN, veth, vxcan and netkit links are well formed, by the
--- variant of each: what a number, a text, a peer or a kept attribute must be.
+-- Which attributes of `batadv`, `wwan`, `veth`, `vxcan` and `netkit` links are well formed, by the
+-- variant of each: the conditions on a number, a text, a peer or an opaque attribute.
 use Rattle.std.specs.Prelude.{◌≡◌, ◌↔◌, ℕ, ◌<◌, ◌^◌, Bool, true, false, List, [], Option, refl}
 use Rattle.std.specs.Str.{is_utf8}
 use Rattle.std.proofs.Common.{subst}
@@ -70,7 +70,7 @@ wwan_stated = elim [
   | _ ↦ (λ w. subst wwan_conditions w.2 w.1, λ h. (_, h, refl))
 ]
 
--- ---- links with a peer, of which a peer is well formed where its type says so
+-- ---- links with a peer, which is well formed by its own type
 
 abbrev pub veth_conditions : {P : Type 0} → (P → Type 0) → InfoVethOf P → Type 0
 veth_conditions well (veth.Peer peer) = well peer
@@ -94,7 +94,7 @@ abbrev netkit_is_other : {P : Type 0} → InfoNetkitOf P → Bool
 netkit_is_other (netkit.Other d) = true
 netkit_is_other _ = false
 
--- what is scrubbed has two values, and each is read
+-- the scrubbing has two values, and each is read from a payload
 scrubbed : {F : Type 0} (label : NetkitScrub → F) (s : NetkitScrub) →
     (u : Bool) × Unit {0} × (label (scrub_of u) ≡ label s)
 scrubbed label scrub.None = (false, tt, refl)

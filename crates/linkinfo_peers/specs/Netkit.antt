@@ -1,28 +1,50 @@
--- The rows of netkit links, over a peer's meaning, what makes two of its payloads alike, its canonical payload, and what holds of it.
+-- The rows of `netkit` links, given a peer's meaning, the equivalence of its payloads, its
+-- canonical payload, and the condition on it.
 use Rattle.std.specs.Prelude.{◌≡◌, ◌==◌, ℕ, Bool, true, false, not, List, [], ◌∷◌, Option, refl}
 use Rattle.std.proofs.Common.{ap}
 use Rattle.nla_frame.specs.Attribute.{Attribute}
 use Rattle.nla_frame.specs.Kept.{attribute_of}
+use Rattle.nla_frame.specs.Pairs.{◌&◌}
 use Rattle.linkinfo_shapes.specs.Shapes.{truth_number}
 use Rattle.linkinfo_shapes.specs.declared.shape.Shape.TheVariants as shape
 use Rattle.linkinfo_numbers.specs.Table.{key-value_of}
-use Rattle.linkinfo_numbers.specs.Netkit.{netkit_mode, netkit_mode_number, netkit_mode_table_holds, netkit_policy, netkit_policy_number, netkit_policy_table_holds, netkit_scrub, netkit_scrub_number}
+use Rattle.linkinfo_numbers.specs.Netkit.{
+  netkit_mode,
+  netkit_mode_number,
+  netkit_mode_table_holds,
+  netkit_policy,
+  netkit_policy_number,
+  netkit_policy_table_holds,
+  netkit_scrub,
+  netkit_scrub_number,
+}
 use Rattle.linkinfo_numbers.specs.declared.netkit.NetkitScrub.{NetkitScrub}
 use Rattle.linkinfo_table.specs.FamilyRows.{FamilyRow, PlainRow, row, typed, EachKeeps}
 use Rattle.linkinfo_table.specs.Labels.{each_keeps}
 use Rattle.linkinfo_peers.specs.PeerRows.{peer_rows}
 use Rattle.linkinfo_peers.specs.declared.netkit.InfoNetkitOf.{InfoNetkitOf}
-use Rattle.linkinfo_peers.specs.declared.netkit.InfoNetkitOf.TheVariants.{Peer, Primary, Policy, PeerPolicy, Mode, Scrub, PeerScrub, Headroom, Tailroom, Other}
+use Rattle.linkinfo_peers.specs.declared.netkit.InfoNetkitOf.TheVariants.{
+  Peer,
+  Primary,
+  Policy,
+  PeerPolicy,
+  Mode,
+  Scrub,
+  PeerScrub,
+  Headroom,
+  Tailroom,
+  Other,
+}
 
--- what is scrubbed where the payload's number is not 0, and where it is
+-- the scrubbing if the number in the payload is not 0, and if it is
 abbrev pub scrub_of : Bool → NetkitScrub
 scrub_of by_default = netkit_scrub (truth_number by_default)
 
--- whether the number of what is scrubbed is not 0
+-- whether the number of the scrubbing is not 0
 abbrev pub is_by_default : NetkitScrub → Bool
 is_by_default scrub = not (netkit_scrub_number scrub == 0)
 
--- the rows beside the peer's
+-- the rows except the peer's
 abbrev pub netkit_plain : {P : Type 0} → List (PlainRow (InfoNetkitOf P))
 netkit_plain =
     row 2 shape.Truth (λ b. Primary b) ∷
@@ -47,7 +69,7 @@ netkit_attribute payload (Headroom n) = typed 8 shape.Le16 n
 netkit_attribute payload (Tailroom n) = typed 9 shape.Le16 n
 netkit_attribute payload (Other nla) = attribute_of nla
 
--- the payload of a peer is written by the family itself
+-- the family itself writes the payload of a peer
 abbrev pub netkit_is_custom : {P : Type 0} → InfoNetkitOf P → Bool
 netkit_is_custom (Peer peer) = true
 netkit_is_custom _ = false
@@ -56,9 +78,20 @@ scrub_again : (by_default : Bool) → is_by_default (scrub_of by_default) ≡ by
 scrub_again true = refl
 scrub_again false = refl
 
-pub netkit_keeps : {P : Type 0} (payload : P → List ℕ) → EachKeeps (netkit_attribute payload) netkit_plain
+pub netkit_keeps : {P : Type 0} (payload : P → List ℕ) →
+    EachKeeps (netkit_attribute payload) netkit_plain
 netkit_keeps payload = each_keeps (netkit_attribute payload) netkit_plain refl
-    (λ b. refl, (λ n. ap (typed 3 shape.Le32) (key-value_of netkit_policy_table_holds n), (λ n. ap (typed 4 shape.Le32) (key-value_of netkit_policy_table_holds n), (λ n. ap (typed 5 shape.Le32) (key-value_of netkit_mode_table_holds n), (λ b. ap (typed 6 shape.Scrub) (scrub_again b), (λ b. ap (typed 7 shape.Scrub) (scrub_again b), (λ n. refl, (λ n. refl, tt))))))))
+    ((λ b. refl)
+    & (λ n. ap (typed 3 shape.Le32) (key-value_of netkit_policy_table_holds n))
+    & (λ n. ap (typed 4 shape.Le32) (key-value_of netkit_policy_table_holds n))
+    & (λ n. ap (typed 5 shape.Le32) (key-value_of netkit_mode_table_holds n))
+    & (λ b. ap (typed 6 shape.Scrub) (scrub_again b))
+    & (λ b. ap (typed 7 shape.Scrub) (scrub_again b))
+    & (λ n. refl)
+    & (λ n. refl)
+    & tt)
 
-abbrev pub netkit_rows : {P : Type 0} → (List ℕ → Option P) → (List ℕ → List ℕ → Bool) → (P → List ℕ) → (P → Type 0) → ℕ → FamilyRow (InfoNetkitOf P)
-netkit_rows meaning alike payload well n = peer_rows meaning alike payload well (λ peer. Peer peer) netkit_plain n
+abbrev pub netkit_rows : {P : Type 0} → (List ℕ → Option P) → (List ℕ → List ℕ → Bool) →
+    (P → List ℕ) → (P → Type 0) → ℕ → FamilyRow (InfoNetkitOf P)
+netkit_rows meaning alike payload well n =
+    peer_rows meaning alike payload well (λ peer. Peer peer) netkit_plain n

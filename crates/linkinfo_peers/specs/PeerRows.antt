@@ -1,5 +1,23 @@
--- Rows of a family with a peer: type 1 is the peer, and the other types have rows of shapes or none.
-use Rattle.std.specs.Prelude.{◌≡◌, ◌≢◌, ◌↔◌, ℕ, ◌==◌, Bool, true, false, List, ◌∷◌, Option, None, Some, Result, Err, refl}
+-- Rows of a family with a peer: type 1 is the peer, and the other types have rows of shapes or
+-- none.
+use Rattle.std.specs.Prelude.{
+  ◌≡◌,
+  ◌≢◌,
+  ◌↔◌,
+  ℕ,
+  ◌==◌,
+  Bool,
+  true,
+  false,
+  List,
+  ◌∷◌,
+  Option,
+  None,
+  Some,
+  Result,
+  Err,
+  refl,
+}
 use Rattle.std.proofs.Common.{sym, ap, subst, cond, lit<, ◌∙◌}
 use Rattle.std.proofs.lemmas.Bool.{ne_eqb}
 use Rattle.nla_frame.specs.Attribute.{Attribute, IsBytes, masked}
@@ -9,20 +27,37 @@ use Rattle.nla_frame.specs.declared.error.Cause.TheVariants as cause
 use Rattle.linkinfo_shapes.specs.Table.{found}
 use Rattle.linkinfo_shapes.specs.declared.shape.Shape.TheVariants as shape
 use Rattle.linkinfo_table.specs.Rows.{labelled}
-use Rattle.linkinfo_table.specs.FamilyRows.{FamilyRow, Custom, PlainRow, row_of, row_if, lookup_of, lookup_in, table_row, without_labels, IsFlat, IsUnnested, RowOwes, EachKeeps}
+use Rattle.linkinfo_table.specs.FamilyRows.{
+  FamilyRow,
+  Custom,
+  PlainRow,
+  row_of,
+  row_if,
+  lookup_of,
+  lookup_in,
+  table_row,
+  without_labels,
+  IsFlat,
+  IsUnnested,
+  RowOwes,
+  EachKeeps,
+}
 use Rattle.linkinfo_table.specs.FamilyRowLaws.{row_if_owes, table_flat, table_lookup, table_owes}
 use Rattle.linkinfo_table.specs.LookupLaws.{flat_unnested}
-use Rattle.linkinfo_table.specs.Codecs.{Fault, Own}
-use Rattle.linkinfo_table.specs.Peers.{peer_codec, peer_is_codec, peer_or_fault}
+use Rattle.linkinfo_table.specs.Codecs.{Own, PayloadError}
+use Rattle.linkinfo_table.specs.Peers.{peer_codec, peer_is_codec, peer_or_error}
 
 -- what an attribute means as a peer: the value of its peer, or the cause Peer
-abbrev pub peer_meaning : {P F : Type 0} → Family → (P → F) → (List ℕ → Option P) → Attribute → Result F DecodeError
-peer_meaning family value meaning a = labelled family (masked a.kind) value (peer_or_fault (meaning a.value))
+abbrev pub peer_meaning : {P F : Type 0} → Family → (P → F) → (List ℕ → Option P) → Attribute →
+    Result F DecodeError
+peer_meaning family value meaning a =
+    labelled family (masked a.kind) value (peer_or_error (meaning a.value))
 
 some_same : {P : Type 0} (x y : P) → Some x ≡ Some y → x ≡ y
 some_same x y e = cc
 
-module _ {P F : Type 0} (meaning : List ℕ → Option P) (alike : List ℕ → List ℕ → Bool) (payload : P → List ℕ) (well : P → Type 0) (value : P → F) where
+module _ {P F : Type 0} (meaning : List ℕ → Option P) (alike : List ℕ → List ℕ → Bool)
+    (payload : P → List ℕ) (well : P → Type 0) (value : P → F) where
   abbrev pub peer_row : FamilyRow F
   peer_row = Custom shape.Peer (peer_codec meaning alike payload well) value
 
@@ -30,34 +65,42 @@ module _ {P F : Type 0} (meaning : List ℕ → Option P) (alike : List ℕ → 
   abbrev pub peer_rows : List (PlainRow F) → ℕ → FamilyRow F
   peer_rows plain n = row_if (n == 1) peer_row (table_row plain n)
 
-  -- they are the rows of a table of shapes that has the peer first
-  pub peer_lookup : (plain : List (PlainRow F)) (n : ℕ) → lookup_of (peer_rows plain n) ≡ lookup_in (found ((1, shape.Peer) ∷ without_labels plain) n)
+  -- they are the rows of a table of shapes with the peer first
+  pub peer_lookup : (plain : List (PlainRow F)) (n : ℕ) →
+      lookup_of (peer_rows plain n) ≡ lookup_in (found ((1, shape.Peer) ∷ without_labels plain) n)
   peer_lookup plain n = go (n == 1)
     where
-      go : (b : Bool) → lookup_of (row_if b peer_row (table_row plain n)) ≡ lookup_in (cond b (Some shape.Peer) (found (without_labels plain) n))
+      go : (b : Bool) →
+          lookup_of (row_if b peer_row (table_row plain n))
+          ≡ lookup_in (cond b (Some shape.Peer) (found (without_labels plain) n))
       go true = refl
       go false = table_lookup plain n
 
-  module _ (attribute : F → Attribute) (plain : List (PlainRow F)) (keeps : EachKeeps attribute plain) where
-    -- every other row has a shape, or is none
+  module _ (attribute : F → Attribute) (plain : List (PlainRow F))
+      (keeps : EachKeeps attribute plain) where
+    -- every other row has a shape, or there is none
     pub flat_elsewhere : (n : ℕ) → n ≢ 1 → IsFlat (peer_rows plain n)
-    flat_elsewhere n other = subst (λ (b : Bool). IsFlat (row_if b peer_row (table_row plain n))) (sym (ne_eqb n 1 other)) (table_flat attribute plain keeps n)
+    flat_elsewhere n other =
+        subst (λ (b : Bool). IsFlat (row_if b peer_row (table_row plain n)))
+        (sym (ne_eqb n 1 other)) (table_flat attribute plain keeps n)
 
-    -- no attribute holds others, and the only fault of a peer is the cause Peer
-    only_peer : (o : Option P) (fault : Fault) → peer_or_fault o ≡ Err fault → fault ≡ Own cause.Peer
-    only_peer (Some x) fault h = absurd cc
-    only_peer None fault h = cc
+    -- no attribute contains others, and the only error of a peer is the cause Peer
+    only_peer : (o : Option P) (error : PayloadError) → peer_or_error o ≡ Err error →
+        error ≡ Own cause.Peer
+    only_peer (Some x) error h = absurd cc
+    only_peer None error h = cc
 
     pub peer_unnested : (n : ℕ) → IsUnnested (peer_rows plain n)
     peer_unnested n = go (n == 1)
       where
         go : (b : Bool) → IsUnnested (row_if b peer_row (table_row plain n))
-        go true = (refl, λ p fault h. only_peer (meaning p) fault h)
+        go true = (refl, λ p error h. only_peer (meaning p) error h)
         go false = flat_unnested (table_row plain n) (table_flat attribute plain keeps n)
 
-    -- what each row owes, from the laws of the peer and what the value of a peer shows
+    -- what each row owes, from the laws of the peer and the canonical attribute of a peer's value
     pub peer_owes :
-        ((p q : List ℕ) (x y : P) → IsBytes p → IsBytes q → meaning p ≡ Some x → meaning q ≡ Some y → (alike p q ≡ true) ↔ (x ≡ y)) →
+        ((p q : List ℕ) (x y : P) → IsBytes p → IsBytes q → meaning p ≡ Some x →
+        meaning q ≡ Some y → (alike p q ≡ true) ↔ (x ≡ y)) →
         ((p : List ℕ) (x : P) → IsBytes p → meaning p ≡ Some x → well x) →
         ((x : P) → well x → meaning (payload x) ≡ Some x) →
         ((x : P) → well x → IsBytes (payload x)) →
@@ -67,10 +110,12 @@ module _ {P F : Type 0} (meaning : List ℕ → Option P) (alike : List ℕ → 
         row_if_owes attribute 1 n peer_row (table_row plain n)
         (record {
           low = lit< tt;
-          codec = peer_is_codec meaning alike payload well alike_is meaning_well well_means well_bytes;
+          codec =
+              peer_is_codec meaning alike payload well alike_is meaning_well well_means well_bytes;
           keeps = shown;
           same = λ x y h g e.
-              let payloads : payload x ≡ payload y = ap (λ (a : Attribute). a.value) (sym (shown x) ∙ ap attribute e ∙ shown y) in
+              let payloads : payload x ≡ payload y =
+              ap (λ (a : Attribute). a.value) (sym (shown x) ∙ ap attribute e ∙ shown y) in
               some_same x y (sym (well_means x h) ∙ ap meaning payloads ∙ well_means y g);
         })
         (table_owes attribute plain keeps n)

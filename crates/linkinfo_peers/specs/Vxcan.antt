@@ -1,4 +1,5 @@
--- The rows of vxcan links, over a peer's meaning, what makes two of its payloads alike, its canonical payload, and what holds of it.
+-- The rows of `vxcan` links, given a peer's meaning, the equivalence of its payloads, its canonical
+-- payload, and the condition on it.
 use Rattle.std.specs.Prelude.{ℕ, Bool, true, false, List, [], Option}
 use Rattle.nla_frame.specs.Attribute.{Attribute}
 use Rattle.nla_frame.specs.Kept.{attribute_of}
@@ -11,11 +12,13 @@ abbrev pub vxcan_attribute : {P : Type 0} → (P → List ℕ) → InfoVxcanOf P
 vxcan_attribute payload (Peer peer) = record { kind = 1; value = payload peer }
 vxcan_attribute payload (Other nla) = attribute_of nla
 
--- the payload of a peer is written by the family itself
+-- the family itself writes the payload of a peer
 abbrev pub vxcan_is_custom : {P : Type 0} → InfoVxcanOf P → Bool
 vxcan_is_custom (Peer peer) = true
 vxcan_is_custom (Other nla) = false
 
--- no row beside the peer's
-abbrev pub vxcan_rows : {P : Type 0} → (List ℕ → Option P) → (List ℕ → List ℕ → Bool) → (P → List ℕ) → (P → Type 0) → ℕ → FamilyRow (InfoVxcanOf P)
-vxcan_rows meaning alike payload well n = peer_rows meaning alike payload well (λ peer. Peer peer) [] n
+-- there is no row except the peer's
+abbrev pub vxcan_rows : {P : Type 0} → (List ℕ → Option P) → (List ℕ → List ℕ → Bool) →
+    (P → List ℕ) → (P → Type 0) → ℕ → FamilyRow (InfoVxcanOf P)
+vxcan_rows meaning alike payload well n =
+    peer_rows meaning alike payload well (λ peer. Peer peer) [] n

@@ -1,4 +1,4 @@
--- The rows of WWAN links.
+-- The rows of `wwan` links.
 use Rattle.std.specs.Prelude.{List, [], ◌∷◌, refl}
 use Rattle.nla_frame.specs.Attribute.{Attribute}
 use Rattle.nla_frame.specs.Kept.{attribute_of}

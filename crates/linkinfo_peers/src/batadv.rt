@@ -1,4 +1,4 @@
-//! B.A.T.M.A.N. links: `IFLA_BATADV_UNSPEC` and on, include/uapi/linux/batman_adv.h.
+//! B.A.T.M.A.N. Advanced links: `IFLA_BATADV_*` (include/uapi/linux/batman_adv.h).
 
 ghost use Rattle.linkinfo_peers.specs.declared.batadv.InfoBatAdv.TheVariants.{Other};
 ghost use Rattle.linkinfo_peers.specs.Batadv.{batadv_attribute, batadv_keeps, batadv_rows};
@@ -9,18 +9,19 @@ ghost use Rattle.nla_frame.specs.declared.error.Family.TheVariants as family;
 ghost use Rattle.std.specs.Prelude.{◌≡◌, refl};
 
 use linkinfo_table::{
-    Found, Part, Place, TableFamily, WrittenByTable, clone_by_rows, part_by_rows, put_by_rows,
+    Decoded, Encodable, Slot, TableFamily, WrittenByTable, clone_by_rows, encodable_by_rows,
     row_emit_payload, row_emit_value, row_fit_len, row_kind, row_read, row_value_len,
+    store_by_rows,
 };
 use nla_frame::{DecodeError, DefaultNla, ExactEq, Family, Nla, NlaBuffer, Parseable, Text};
 use std::alloc::{AllocError, Global};
 
-/// An attribute of a B.A.T.M.A.N. link: of a link of the kind `batadv`.
+/// An attribute in the data of a `batadv` link, a B.A.T.M.A.N. Advanced mesh interface.
 #[derive(Debug, PartialEq, Eq, Drop)]
 pub enum InfoBatAdv {
-    /// The name of the routing algorithm (`IFLA_BATADV_ALGO_NAME`), closed by a zero byte.
+    /// Name of the routing algorithm (`IFLA_BATADV_ALGO_NAME`), with one closing zero byte.
     AlgoName(Text),
-    /// An attribute of another type, kept as it came.
+    /// An opaque attribute, of a type that has no variant here, kept verbatim.
     Other(DefaultNla),
 }
 
@@ -32,7 +33,7 @@ macro_rules! rows {
     };
 }
 
-/// A clone equals its source.
+/// A clone is equal to its source.
 impl Clone for InfoBatAdv {
     ghost is_clone = { λ source copy. copy ≡ source };
 
@@ -59,17 +60,17 @@ impl TableFamily for InfoBatAdv {
     ghost in_table = { λ n. table_lookup batadv_rows n };
 
     #[inline(always)]
-    fn put_found<P: Place<InfoBatAdv>>(
-        place: &mut P,
+    fn store_decoded<P: Slot<InfoBatAdv>>(
+        slot: &mut P,
         alloc: Global,
-        found: Found<'_>,
+        decoded: Decoded<'_>,
     ) -> Result<(), AllocError> {
-        rows!(put_by_rows(place, alloc, found))
+        rows!(store_by_rows(slot, alloc, decoded))
     }
 
     #[inline(always)]
-    fn to_part(&self) -> Part<'_> {
-        rows!(part_by_rows self)
+    fn to_encodable(&self) -> Encodable<'_> {
+        rows!(encodable_by_rows self)
     }
 }
 
@@ -101,9 +102,10 @@ impl WrittenByTable for InfoBatAdv {
     ghost written = { λ _. refl };
 }
 
-/// Reads the attribute. A name that is not UTF-8 is (BatAdv, 1, Utf8).
+/// Reads the attribute. A name that is not UTF-8 is rejected as `(BatAdv, 1, Utf8)`.
 impl<'a> Parseable<NlaBuffer<'a>> for InfoBatAdv {
-    ghost meaning = { λ nla. meaning_in family.BatAdv (λ d. Other d) (λ n. row_of (table_row batadv_rows n)) nla };
+    ghost meaning = { λ nla.
+        meaning_in family.BatAdv (λ d. Other d) (λ n. row_of (table_row batadv_rows n)) nla };
 
     ghost needs_memory = { λ nla. memory_in (λ n. row_of (table_row batadv_rows n)) nla };
 

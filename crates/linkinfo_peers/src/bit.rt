@@ -1,21 +1,29 @@
-//! A bit as a peer.
+//! A peer that is a single boolean.
 
 ghost use Rattle.std.specs.Prelude.{◌≢◌, Err};
 ghost use Rattle.linkinfo_table.specs.Peers.{PeerGives};
-ghost use Rattle.linkinfo_table.specs.declared.peer.PeerFault.TheVariants as fault;
-ghost use Rattle.linkinfo_peers.specs.Bit.{bit_alike, bit_alike_is, bit_meaning, bit_payload, bit_well_bytes, bit_well_means};
+ghost use Rattle.linkinfo_table.specs.declared.peer.PeerFault.TheVariants as error;
+ghost use Rattle.linkinfo_peers.specs.Bit.{
+  bit_alike,
+  bit_alike_is,
+  bit_meaning,
+  bit_payload,
+  bit_well_bytes,
+  bit_well_means,
+};
 
 use linkinfo_shapes::{
-    Datum, Shape, read_datum, shape_canonical_len, shape_check, shape_put_canonical, shape_same,
+    Datum, Shape, read_datum, shape_canonical_len, shape_check, shape_same, shape_write_canonical,
     write_datum,
 };
 use linkinfo_table::{LinkPeer, PeerFault};
 use nla_frame::ExactEq;
 use std::alloc::Global;
 
-/// A peer of one byte: true where the byte is not zero, and written as 01 or 00. A payload of another length is refused.
+/// A peer of one byte: true if the byte is not zero, and written as 01 or 00. A payload of another
+/// length is rejected.
 ///
-/// Every bit is well formed, and no call takes memory.
+/// Every value is well formed, and no call allocates.
 #[derive(Clone, Copy, Debug, PartialEq, Eq)]
 pub struct BitPeer(pub bool);
 
@@ -39,7 +47,7 @@ impl LinkPeer for BitPeer {
     #[tactic(auto, using(linkinfo_shapes::specs::DataLaws::read_fails))]
     fn read(_alloc: Global, payload: &[u8]) -> Result<BitPeer, PeerFault>
         ensures meaning { PeerGives result (bit_meaning payload.now) }
-        ensures certain { result ≢ Err fault.Memory }
+        ensures certain { result ≢ Err error.Memory }
     {
         match read_datum(Shape::Truth, payload) {
             Ok(datum) => Ok(BitPeer(datum.bool_or_false())),
@@ -71,8 +79,8 @@ impl LinkPeer for BitPeer {
     }
 
     #[tactic(auto, using(crate::specs::Bit::bit_accepted, crate::specs::Bit::bit_written))]
-    fn put_canonical(payload: &[u8], buffer: &mut [u8]) -> usize {
-        shape_put_canonical(Shape::Truth, payload, buffer)
+    fn write_canonical(payload: &[u8], buffer: &mut [u8]) -> usize {
+        shape_write_canonical(Shape::Truth, payload, buffer)
     }
 }
 

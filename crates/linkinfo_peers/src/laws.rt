@@ -1,18 +1,24 @@
-//! Laws of families, each the contract of a function without code.
+//! Laws of the families, each the contract of a function without code.
 
 ghost use Rattle.std.specs.Prelude.{◌≡◌, ◌↔◌};
-ghost use Rattle.linkinfo_peers.specs.Conditions.{batadv_conditions, netkit_conditions, veth_conditions, vxcan_conditions, wwan_conditions};
+ghost use Rattle.linkinfo_peers.specs.Conditions.{
+  batadv_conditions,
+  netkit_conditions,
+  veth_conditions,
+  vxcan_conditions,
+  wwan_conditions,
+};
 ghost use Rattle.nla_frame.specs.declared.error.Family.TheVariants as family;
 
 use crate::batadv::InfoBatAdv;
 use crate::netkit::InfoNetkitOf;
-use crate::rowless::{InfoPfcp, InfoTeamPort, InfoTun, InfoWireguard};
+use crate::opaque::{InfoPfcp, InfoTeamPort, InfoTun, InfoWireguard};
 use crate::veth::InfoVethOf;
 use crate::vxcan::InfoVxcanOf;
 use crate::wwan::InfoWwan;
 use linkinfo_table::{LinkFamily, LinkPeer};
 
-/// Each name is of the family that it is named after, and so are its errors.
+/// Each name is that of the family it is named after, and so is the family of its errors.
 pub fn named()
     ensures bat_adv { ⟦<InfoBatAdv as LinkFamily>⟧.FAMILY ≡ family.BatAdv }
     ensures pfcp { ⟦<InfoPfcp as LinkFamily>⟧.FAMILY ≡ family.Pfcp }
@@ -22,26 +28,31 @@ pub fn named()
     ensures wwan { ⟦<InfoWwan as LinkFamily>⟧.FAMILY ≡ family.Wwan }
 {}
 
-/// So are those of families with a peer, whatever its type.
+/// The names of the families with a peer, and the families of their errors, are those they are
+/// named after, whatever the type of the peer.
 pub fn peers_named<P: LinkPeer>()
     ensures netkit { ⟦<InfoNetkitOf<P> as LinkFamily>⟧.FAMILY ≡ family.Netkit }
     ensures veth { ⟦<InfoVethOf<P> as LinkFamily>⟧.FAMILY ≡ family.Veth }
     ensures vxcan { ⟦<InfoVxcanOf<P> as LinkFamily>⟧.FAMILY ≡ family.Vxcan }
 {}
 
-/// Which attributes of batadv and WWAN links are well formed, stated by the variant of the attribute.
-/// No attribute is `Other` of a type that has a row. Each number and each text is one that its type
-/// can hold.
+/// Which attributes of `batadv` and `wwan` links are well formed, by the variant of the attribute.
+/// No attribute is `Other` of a type that has a row. Each number and each text is in the range of
+/// its type.
 pub fn well_formed()
-    ensures bat_adv { (x : InfoBatAdv) → ⟦<InfoBatAdv as LinkFamily>⟧.well tt x ↔ batadv_conditions x }
+    ensures bat_adv { (x : InfoBatAdv) →
+        ⟦<InfoBatAdv as LinkFamily>⟧.well tt x ↔ batadv_conditions x }
     ensures wwan { (x : InfoWwan) → ⟦<InfoWwan as LinkFamily>⟧.well tt x ↔ wwan_conditions x }
 {}
 
-/// Which attributes of netkit, veth and vxcan links are well formed, whatever the type of peer: a peer
-/// by its own type; no number is `Other` of a named number, and no attribute `Other` of a type that has
-/// a row.
+/// Which attributes of `netkit`, `veth` and `vxcan` links are well formed, whatever the type of the
+/// peer. A peer is well formed by its own type. No number is `Other` of a named number, and no
+/// attribute is `Other` of a type that has a row.
 pub fn peers_well_formed<P: LinkPeer>()
-    ensures netkit { (x : InfoNetkitOf P) → ⟦<InfoNetkitOf<P> as LinkFamily>⟧.well tt x ↔ netkit_conditions P.well x }
-    ensures veth { (x : InfoVethOf P) → ⟦<InfoVethOf<P> as LinkFamily>⟧.well tt x ↔ veth_conditions P.well x }
-    ensures vxcan { (x : InfoVxcanOf P) → ⟦<InfoVxcanOf<P> as LinkFamily>⟧.well tt x ↔ vxcan_conditions P.well x }
+    ensures netkit { (x : InfoNetkitOf P) →
+        ⟦<InfoNetkitOf<P> as LinkFamily>⟧.well tt x ↔ netkit_conditions P.well x }
+    ensures veth { (x : InfoVethOf P) →
+        ⟦<InfoVethOf<P> as LinkFamily>⟧.well tt x ↔ veth_conditions P.well x }
+    ensures vxcan { (x : InfoVxcanOf P) →
+        ⟦<InfoVxcanOf<P> as LinkFamily>⟧.well tt x ↔ vxcan_conditions P.well x }
 {}

@@ -1,7 +1,15 @@
-//! Netkit links, which come in pairs: `IFLA_NETKIT_UNSPEC` and on, include/uapi/linux/if_link.h.
+//! Netkit links, which come in pairs: `IFLA_NETKIT_*` (include/uapi/linux/if_link.h).
 
 ghost use Rattle.linkinfo_peers.specs.PeerRows.{flat_elsewhere, peer_owes, peer_unnested};
-ghost use Rattle.linkinfo_peers.specs.Netkit.{is_by_default, netkit_attribute, netkit_is_custom, netkit_keeps, netkit_plain, netkit_rows, scrub_of};
+ghost use Rattle.linkinfo_peers.specs.Netkit.{
+  is_by_default,
+  netkit_attribute,
+  netkit_is_custom,
+  netkit_keeps,
+  netkit_plain,
+  netkit_rows,
+  scrub_of,
+};
 ghost use Rattle.linkinfo_peers.specs.declared.netkit.InfoNetkitOf.TheVariants as netkit;
 ghost use Rattle.linkinfo_table.specs.FamilyRows.{row_of};
 ghost use Rattle.linkinfo_table.specs.Rows.{meaning_in, memory_in};
@@ -12,42 +20,42 @@ use crate::peer_calls::{
     peer_check, peer_emit_payload, peer_emit_value, peer_fit_len, peer_kind, peer_read, peer_same,
     peer_value_len,
 };
-use crate::peer_canonical::{peer_canonical_len, peer_put_canonical};
+use crate::peer_canonical::{peer_canonical_len, peer_write_canonical};
 use crate::peer_family::PeerFamily;
 use linkinfo_numbers::{NetkitMode, NetkitPolicy, NetkitScrub};
 use linkinfo_table::{
-    Found, LinkPeer, Lookup, Part, Place, RowFamily, UnnestedFamily, part_by_rows, put_by_rows,
-    table_lookup,
+    Decoded, Encodable, LinkPeer, Lookup, RowFamily, Slot, UnnestedFamily, encodable_by_rows,
+    store_by_rows, table_lookup,
 };
 use nla_frame::{Bytes, DecodeError, DefaultNla, ExactEq, Family, Nla, NlaBuffer, Parseable};
 use std::alloc::{AllocError, Global};
 
-/// An attribute of a netkit link, with a peer of type `P`.
+/// An attribute in the data of a `netkit` link, with a peer of type `P`.
 #[derive(Debug, PartialEq, Eq, Clone, Drop)]
 pub enum InfoNetkitOf<P> {
-    /// The other end of the pair (`IFLA_NETKIT_PEER_INFO`).
+    /// The peer of the pair (`IFLA_NETKIT_PEER_INFO`).
     Peer(P),
-    /// Whether this end is the primary one, which programs are attached to (`IFLA_NETKIT_PRIMARY`), one byte.
+    /// Whether this is the primary device of the pair (`IFLA_NETKIT_PRIMARY`), one byte.
     Primary(bool),
-    /// What this end does with packets that no program judges (`IFLA_NETKIT_POLICY`), native byte order.
+    /// Policy without a BPF program at the primary device (`IFLA_NETKIT_POLICY`), little-endian.
     Policy(NetkitPolicy),
-    /// What the other end does with packets that no program judges (`IFLA_NETKIT_PEER_POLICY`), native byte order.
+    /// Policy without a BPF program at the peer (`IFLA_NETKIT_PEER_POLICY`), little-endian.
     PeerPolicy(NetkitPolicy),
-    /// The layer of the link (`IFLA_NETKIT_MODE`), native byte order.
+    /// Mode, `l2` or `l3` (`IFLA_NETKIT_MODE`), little-endian.
     Mode(NetkitMode),
-    /// Whether mark and priority of a packet are cleared at this end (`IFLA_NETKIT_SCRUB`), native byte order.
+    /// Scrubbing of mark and priority at the primary device (`IFLA_NETKIT_SCRUB`), little-endian.
     Scrub(NetkitScrub),
-    /// Whether mark and priority of a packet are cleared at the other end (`IFLA_NETKIT_PEER_SCRUB`), native byte order.
+    /// Scrubbing of mark and priority at the peer (`IFLA_NETKIT_PEER_SCRUB`), little-endian.
     PeerScrub(NetkitScrub),
-    /// The bytes kept free before each packet (`IFLA_NETKIT_HEADROOM`), native byte order.
+    /// Headroom before each packet in bytes (`IFLA_NETKIT_HEADROOM`), little-endian.
     Headroom(u16),
-    /// The bytes kept free behind each packet (`IFLA_NETKIT_TAILROOM`), native byte order.
+    /// Tailroom after each packet in bytes (`IFLA_NETKIT_TAILROOM`), little-endian.
     Tailroom(u16),
-    /// An attribute of another type, kept as it came.
+    /// An opaque attribute, of a type that has no variant here, kept verbatim.
     Other(DefaultNla),
 }
 
-/// An attribute of a netkit link, whose peer is the bytes of its payload.
+/// An attribute in the data of a `netkit` link, with the peer as opaque bytes.
 pub type InfoNetkit = InfoNetkitOf<Bytes>;
 
 macro_rules! rows {
@@ -81,7 +89,10 @@ impl<P: LinkPeer> RowFamily for InfoNetkitOf<P> {
 
     ghost is_custom = { netkit_is_custom };
 
-    ghost owes = { λ _ n. peer_owes P.meaning P.alike P.canonical P.well (λ peer. netkit.Peer peer) (netkit_attribute P.canonical) netkit_plain (netkit_keeps P.canonical) P.alike_is P.meaning_well P.well_means P.well_bytes (λ _. refl) n };
+    ghost owes = { λ _ n.
+        peer_owes P.meaning P.alike P.canonical P.well (λ peer. netkit.Peer peer)
+        (netkit_attribute P.canonical) netkit_plain (netkit_keeps P.canonical) P.alike_is
+        P.meaning_well P.well_means P.well_bytes (λ _. refl) n };
 
     ghost keeps_other = { λ _. refl };
 
@@ -92,22 +103,22 @@ impl<P: LinkPeer> RowFamily for InfoNetkitOf<P> {
     }
 
     #[inline(always)]
-    fn put_found<L: Place<InfoNetkitOf<P>>>(
-        place: &mut L,
+    fn store_decoded<L: Slot<InfoNetkitOf<P>>>(
+        slot: &mut L,
         alloc: Global,
         _ctx: (),
-        found: Found<'_>,
+        decoded: Decoded<'_>,
     ) -> Result<(), AllocError> {
-        rows!(put_by_rows(place, alloc, found))
+        rows!(store_by_rows(slot, alloc, decoded))
     }
 
     #[inline(always)]
-    fn to_part(&self) -> Part<'_> {
-        rows!(part_by_rows self)
+    fn to_encodable(&self) -> Encodable<'_> {
+        rows!(encodable_by_rows self)
     }
 }
 
-/// What is scrubbed: by default, or nothing.
+/// The scrubbing: default or none.
 fn scrub_of(by_default: bool) -> NetkitScrub
     ensures { result ≡ scrub_of by_default }
 {
@@ -133,7 +144,9 @@ impl<P: LinkPeer> PeerFamily for InfoNetkitOf<P> {
 
     ghost peer_alike = { λ _ _ _. refl };
 
-    ghost flat_elsewhere = { λ _ n. flat_elsewhere P.meaning P.alike P.canonical P.well (λ peer. netkit.Peer peer) (netkit_attribute P.canonical) netkit_plain (netkit_keeps P.canonical) n };
+    ghost flat_elsewhere = { λ _ n.
+        flat_elsewhere P.meaning P.alike P.canonical P.well (λ peer. netkit.Peer peer)
+        (netkit_attribute P.canonical) netkit_plain (netkit_keeps P.canonical) n };
 
     fn from_peer(peer: P) -> InfoNetkitOf<P> {
         InfoNetkitOf::Peer(peer)
@@ -171,11 +184,15 @@ impl<P: LinkPeer> Nla for InfoNetkitOf<P> {
     }
 }
 
-/// Reads the attribute. A peer that is refused is (Netkit, 1, Peer), and a payload of another length than its row's (Netkit, type, Length).
+/// Reads the attribute. A rejected peer gives the error `(Netkit, 1, Peer)`, a payload of invalid
+/// length `(Netkit, type, Length)`.
 impl<'a, P: LinkPeer> Parseable<NlaBuffer<'a>> for InfoNetkitOf<P> {
-    ghost meaning = { λ nla. meaning_in family.Netkit (λ d. netkit.Other d) (λ n. row_of (netkit_rows P.meaning P.alike P.canonical P.well n)) nla };
+    ghost meaning = { λ nla.
+        meaning_in family.Netkit (λ d. netkit.Other d)
+        (λ n. row_of (netkit_rows P.meaning P.alike P.canonical P.well n)) nla };
 
-    ghost needs_memory = { λ nla. memory_in (λ n. row_of (netkit_rows P.meaning P.alike P.canonical P.well n)) nla };
+    ghost needs_memory = { λ nla.
+        memory_in (λ n. row_of (netkit_rows P.meaning P.alike P.canonical P.well n)) nla };
 
     fn parse(alloc: Global, buffer: &NlaBuffer<'a>) -> Result<InfoNetkitOf<P>, DecodeError> {
         peer_read(alloc, buffer, ())
@@ -185,7 +202,9 @@ impl<'a, P: LinkPeer> Parseable<NlaBuffer<'a>> for InfoNetkitOf<P> {
 impl<P: LinkPeer> UnnestedFamily for InfoNetkitOf<P> {
     ghost written = { λ _. refl };
 
-    ghost unnested = { λ _ n. peer_unnested P.meaning P.alike P.canonical P.well (λ peer. netkit.Peer peer) (netkit_attribute P.canonical) netkit_plain (netkit_keeps P.canonical) n };
+    ghost unnested = { λ _ n.
+        peer_unnested P.meaning P.alike P.canonical P.well (λ peer. netkit.Peer peer)
+        (netkit_attribute P.canonical) netkit_plain (netkit_keeps P.canonical) n };
 
     fn read_by_row(
         alloc: Global,
@@ -207,8 +226,8 @@ impl<P: LinkPeer> UnnestedFamily for InfoNetkitOf<P> {
         peer_canonical_len::<InfoNetkitOf<P>>(nla, ctx)
     }
 
-    fn put_canonical_by_row(nla: &NlaBuffer<'_>, ctx: (), buffer: &mut [u8]) -> usize {
-        peer_put_canonical::<InfoNetkitOf<P>>(nla, ctx, buffer)
+    fn write_canonical_by_row(nla: &NlaBuffer<'_>, ctx: (), buffer: &mut [u8]) -> usize {
+        peer_write_canonical::<InfoNetkitOf<P>>(nla, ctx, buffer)
     }
 }
 

@@ -1,9 +1,21 @@
-//! What each family with a peer does: the calls of families by rows, but for attributes of type 1.
+//! The calls of families with a peer: those of families defined by rows, except for attributes of
+//! type 1.
 
-ghost use Rattle.std.specs.Prelude.{◌≡◌, ◌==◌, ◌&&◌, ◌≤◌, ◌++◌, IsOk, IsSome, SomeIff, drop, length};
+ghost use Rattle.std.specs.Prelude.{
+  ◌≡◌,
+  ◌==◌,
+  ◌&&◌,
+  ◌≤◌,
+  ◌++◌,
+  IsOk,
+  IsSome,
+  SomeIff,
+  drop,
+  length,
+};
 ghost use Rattle.nla_frame.specs.Answers.{CertainUnless, Gives, verdict};
 ghost use Rattle.nla_frame.specs.Attribute.{Fits, masked};
-ghost use Rattle.nla_frame.specs.Error.{memory_fault};
+ghost use Rattle.nla_frame.specs.Error.{memory_error};
 ghost use Rattle.nla_frame.specs.declared.error.Cause.TheVariants as cause;
 ghost use Rattle.linkinfo_table.specs.FamilyRows.{row_of};
 ghost use Rattle.linkinfo_table.specs.Rows.{alike_in, meaning_in, memory_in};
@@ -17,8 +29,8 @@ use linkinfo_table::{
 use nla_frame::{Cause, DecodeError, Family, NlaBuffer};
 use std::alloc::Global;
 
-/// The type of a peer: `VETH_INFO_PEER` (include/uapi/linux/veth.h), `VXCAN_INFO_PEER` (include/uapi/linux/can/vxcan.h) and
-/// `IFLA_NETKIT_PEER_INFO` (include/uapi/linux/if_link.h).
+/// The type of the peer attribute: `VETH_INFO_PEER` (include/uapi/linux/veth.h), `VXCAN_INFO_PEER`
+/// (include/uapi/linux/can/vxcan.h) and `IFLA_NETKIT_PEER_INFO` (include/uapi/linux/if_link.h).
 pub(crate) const PEER: u16 = 1;
 
 fn refused(family: Family, kind: u16) -> DecodeError
@@ -32,7 +44,7 @@ fn refused(family: Family, kind: u16) -> DecodeError
 }
 
 fn no_memory() -> DecodeError
-    ensures { result ≡ memory_fault }
+    ensures { result ≡ memory_error }
 {
     DecodeError {
         family: Family::Frame,
@@ -42,7 +54,8 @@ fn no_memory() -> DecodeError
 }
 
 fn read_as_peer<F: PeerFamily>(alloc: Global, nla: &NlaBuffer<'_>) -> Result<F, DecodeError>
-    ensures { Gives (λ value. value) result (peer_meaning F.FAMILY F.peer_value F.Peer.LinkPeer.meaning nla.now) }
+    ensures { Gives (λ value. value) result
+        (peer_meaning F.FAMILY F.peer_value F.Peer.LinkPeer.meaning nla.now) }
 {
     match F::Peer::read(alloc, nla.value()) {
         Ok(peer) => Ok(F::from_peer(peer)),
@@ -52,7 +65,8 @@ fn read_as_peer<F: PeerFamily>(alloc: Global, nla: &NlaBuffer<'_>) -> Result<F, 
 }
 
 fn check_as_peer<F: PeerFamily>(nla: &NlaBuffer<'_>) -> Result<(), DecodeError>
-    ensures { result ≡ verdict (peer_meaning F.FAMILY F.peer_value F.Peer.LinkPeer.meaning nla.now) }
+    ensures { result
+        ≡ verdict (peer_meaning F.FAMILY F.peer_value F.Peer.LinkPeer.meaning nla.now) }
 {
     if F::Peer::check(nla.value()) {
         Ok(())
@@ -63,20 +77,25 @@ fn check_as_peer<F: PeerFamily>(nla: &NlaBuffer<'_>) -> Result<(), DecodeError>
 
 fn same_as_peer<F: PeerFamily>(a: &NlaBuffer<'_>, b: &NlaBuffer<'_>) -> bool
     requires first { IsSome (F.Peer.LinkPeer.meaning a.now.value) }
-    requires second { masked b.now.kind ≡ masked a.now.kind → IsSome (F.Peer.LinkPeer.meaning b.now.value) }
-    ensures { result ≡ ((masked b.now.kind == masked a.now.kind) && F.Peer.LinkPeer.alike a.now.value b.now.value) }
+    requires second { masked b.now.kind ≡ masked a.now.kind →
+        IsSome (F.Peer.LinkPeer.meaning b.now.value) }
+    ensures { result ≡ ((masked b.now.kind == masked a.now.kind)
+        && F.Peer.LinkPeer.alike a.now.value b.now.value) }
 {
     b.kind() == a.kind() && F::Peer::same(a.value(), b.value())
 }
 
-/// Reads an attribute: a peer under type 1, and else by its row. A refused peer is (family, 1, Peer).
+/// Reads an attribute: type 1 as a peer, any other type by its row. A rejected peer gives the error
+/// `(family, 1, Peer)`.
 pub fn peer_read<F: PeerFamily>(
     alloc: Global,
     nla: &NlaBuffer<'_>,
     ctx: F::Context,
 ) -> Result<F, DecodeError>
-    ensures answer { Gives (λ value. value) result (meaning_in F.FAMILY F.other (λ n. row_of (F.rows ctx n)) nla.now) }
-    ensures certain { CertainUnless (memory_in (λ n. row_of (F.rows ctx n)) nla.now) (λ value. value) result (meaning_in F.FAMILY F.other (λ n. row_of (F.rows ctx n)) nla.now) }
+    ensures answer { Gives (λ value. value) result
+        (meaning_in F.FAMILY F.other (λ n. row_of (F.rows ctx n)) nla.now) }
+    ensures certain { CertainUnless (memory_in (λ n. row_of (F.rows ctx n)) nla.now)
+        (λ value. value) result (meaning_in F.FAMILY F.other (λ n. row_of (F.rows ctx n)) nla.now) }
 {
     if nla.kind() == PEER {
         read_as_peer(alloc, nla)
@@ -85,7 +104,7 @@ pub fn peer_read<F: PeerFamily>(
     }
 }
 
-/// Whether `peer_read` would succeed, or the attribute's fault. Takes no memory.
+/// Checks whether `peer_read` would succeed, and returns the error if not. Does not allocate.
 pub fn peer_check<F: PeerFamily>(nla: &NlaBuffer<'_>, ctx: F::Context) -> Result<(), DecodeError>
     ensures { result ≡ verdict (meaning_in F.FAMILY F.other (λ n. row_of (F.rows ctx n)) nla.now) }
 {
@@ -96,7 +115,8 @@ pub fn peer_check<F: PeerFamily>(nla: &NlaBuffer<'_>, ctx: F::Context) -> Result
     }
 }
 
-/// Whether two attributes mean the same value. Asks that both are accepted, and takes no memory.
+/// Whether two attributes are equivalent: they mean equal values. Requires that both are accepted.
+/// Does not allocate.
 pub fn peer_same<F: PeerFamily>(a: &NlaBuffer<'_>, b: &NlaBuffer<'_>, ctx: F::Context) -> bool
     requires first { IsOk (meaning_in F.FAMILY F.other (λ n. row_of (F.rows ctx n)) a.now) }
     requires second { IsOk (meaning_in F.FAMILY F.other (λ n. row_of (F.rows ctx n)) b.now) }
@@ -109,7 +129,7 @@ pub fn peer_same<F: PeerFamily>(a: &NlaBuffer<'_>, b: &NlaBuffer<'_>, ctx: F::Co
     }
 }
 
-/// The type number of a value.
+/// The type of a value.
 pub fn peer_kind<F: PeerFamily>(value: &F) -> u16
     ensures { result ≡ (F.canonical value.now).kind }
 {
@@ -119,7 +139,7 @@ pub fn peer_kind<F: PeerFamily>(value: &F) -> u16
     }
 }
 
-/// The length of a value's payload where it fits, and else `None`.
+/// Returns the length of a value's payload if the value fits, and `None` otherwise.
 pub fn peer_fit_len<F: PeerFamily>(value: &F) -> Option<usize>
     ensures { SomeIff result (Fits (F.canonical value.now)) (length (F.canonical value.now).value) }
 {
@@ -129,7 +149,7 @@ pub fn peer_fit_len<F: PeerFamily>(value: &F) -> Option<usize>
     }
 }
 
-/// The length of a value's payload. Asks that the value fits.
+/// The length of a value's payload. Requires that the value fits.
 pub fn peer_value_len<F: PeerFamily>(value: &F) -> usize
     requires { Fits (F.canonical value.now) }
     ensures { result ≡ length (F.canonical value.now).value }
@@ -140,7 +160,8 @@ pub fn peer_value_len<F: PeerFamily>(value: &F) -> usize
     }
 }
 
-/// Writes a value's payload. Asks that the value fits, and for a buffer of exactly its length.
+/// Writes a value's payload. Requires that the value fits, and that the buffer has exactly its
+/// length.
 pub fn peer_emit_value<F: PeerFamily>(value: &F, buffer: &mut [u8])
     requires fits { Fits (F.canonical value.now) }
     requires exact { length buffer.old ≡ length (F.canonical value.now).value }
@@ -152,13 +173,14 @@ pub fn peer_emit_value<F: PeerFamily>(value: &F, buffer: &mut [u8])
     }
 }
 
-/// Writes a value's payload at the front of the buffer, leaves the bytes behind it, and answers how many it wrote. Asks that the value fits, and for a
-/// buffer of at least the payload's length.
+/// Writes a value's payload at the front of the buffer, and returns its length. The bytes after it
+/// stay unchanged. Requires that the value fits, and that the buffer has at least its length.
 pub fn peer_emit_payload<F: PeerFamily>(value: &F, buffer: &mut [u8]) -> usize
     requires fits { Fits (F.canonical value.now) }
     requires room { length (F.canonical value.now).value ≤ length buffer.old }
     ensures taken { result ≡ length (F.canonical value.now).value }
-    ensures written { buffer.new ≡ (F.canonical value.now).value ++ drop (length (F.canonical value.now).value) buffer.old }
+    ensures written { buffer.new
+        ≡ (F.canonical value.now).value ++ drop (length (F.canonical value.now).value) buffer.old }
 {
     match value.peer() {
         Some(_) => {

@@ -1,7 +1,13 @@
-//! Veth links, which come in pairs: `VETH_INFO_UNSPEC` and on, include/uapi/linux/veth.h.
+//! Veth links, which come in pairs: `VETH_INFO_*` (include/uapi/linux/veth.h).
 
 ghost use Rattle.linkinfo_peers.specs.PeerRows.{flat_elsewhere, peer_owes, peer_unnested};
-ghost use Rattle.linkinfo_peers.specs.Veth.{veth_attribute, veth_is_custom, veth_keeps, veth_plain, veth_rows};
+ghost use Rattle.linkinfo_peers.specs.Veth.{
+  veth_attribute,
+  veth_is_custom,
+  veth_keeps,
+  veth_plain,
+  veth_rows,
+};
 ghost use Rattle.linkinfo_peers.specs.declared.veth.InfoVethOf.TheVariants as veth;
 ghost use Rattle.linkinfo_table.specs.FamilyRows.{row_of};
 ghost use Rattle.linkinfo_table.specs.Rows.{meaning_in, memory_in};
@@ -12,24 +18,24 @@ use crate::peer_calls::{
     peer_check, peer_emit_payload, peer_emit_value, peer_fit_len, peer_kind, peer_read, peer_same,
     peer_value_len,
 };
-use crate::peer_canonical::{peer_canonical_len, peer_put_canonical};
+use crate::peer_canonical::{peer_canonical_len, peer_write_canonical};
 use crate::peer_family::PeerFamily;
 use linkinfo_table::{
-    Found, LinkPeer, Lookup, Part, Place, RowFamily, UnnestedFamily, table_lookup,
+    Decoded, Encodable, LinkPeer, Lookup, RowFamily, Slot, UnnestedFamily, table_lookup,
 };
 use nla_frame::{Bytes, DecodeError, DefaultNla, ExactEq, Family, Nla, NlaBuffer, Parseable};
 use std::alloc::{AllocError, Global};
 
-/// An attribute of a veth link, with a peer of type `P`.
+/// An attribute in the data of a `veth` link, with a peer of type `P`.
 #[derive(Debug, PartialEq, Eq, Clone, Drop)]
 pub enum InfoVethOf<P> {
-    /// The other end of the pair (`VETH_INFO_PEER`).
+    /// The peer of the pair (`VETH_INFO_PEER`).
     Peer(P),
-    /// An attribute of another type, kept as it came.
+    /// An opaque attribute, of a type that has no variant here, kept verbatim.
     Other(DefaultNla),
 }
 
-/// An attribute of a veth link, whose peer is the bytes of its payload.
+/// An attribute in the data of a `veth` link, with the peer as opaque bytes.
 pub type InfoVeth = InfoVethOf<Bytes>;
 
 impl<P: LinkPeer> RowFamily for InfoVethOf<P> {
@@ -47,7 +53,10 @@ impl<P: LinkPeer> RowFamily for InfoVethOf<P> {
 
     ghost is_custom = { veth_is_custom };
 
-    ghost owes = { λ _ n. peer_owes P.meaning P.alike P.canonical P.well (λ peer. veth.Peer peer) (veth_attribute P.canonical) veth_plain (veth_keeps P.canonical) P.alike_is P.meaning_well P.well_means P.well_bytes (λ _. refl) n };
+    ghost owes = { λ _ n.
+        peer_owes P.meaning P.alike P.canonical P.well (λ peer. veth.Peer peer)
+        (veth_attribute P.canonical) veth_plain (veth_keeps P.canonical) P.alike_is P.meaning_well
+        P.well_means P.well_bytes (λ _. refl) n };
 
     ghost keeps_other = { λ _. refl };
 
@@ -58,22 +67,22 @@ impl<P: LinkPeer> RowFamily for InfoVethOf<P> {
     }
 
     #[inline(always)]
-    fn put_found<L: Place<InfoVethOf<P>>>(
-        place: &mut L,
+    fn store_decoded<L: Slot<InfoVethOf<P>>>(
+        slot: &mut L,
         _alloc: Global,
         _ctx: (),
-        found: Found<'_>,
+        decoded: Decoded<'_>,
     ) -> Result<(), AllocError> {
-        match found {
-            Found::Typed(_, _) => unreachable!(),
-            Found::Kept(nla) => place.put(InfoVethOf::Other(nla)),
+        match decoded {
+            Decoded::Typed(_, _) => unreachable!(),
+            Decoded::Kept(nla) => slot.store(InfoVethOf::Other(nla)),
         }
     }
 
-    fn to_part(&self) -> Part<'_> {
+    fn to_encodable(&self) -> Encodable<'_> {
         match self {
-            InfoVethOf::Peer(_) => Part::Custom,
-            InfoVethOf::Other(nla) => Part::Kept(nla),
+            InfoVethOf::Peer(_) => Encodable::Custom,
+            InfoVethOf::Other(nla) => Encodable::Kept(nla),
         }
     }
 }
@@ -91,7 +100,9 @@ impl<P: LinkPeer> PeerFamily for InfoVethOf<P> {
 
     ghost peer_alike = { λ _ _ _. refl };
 
-    ghost flat_elsewhere = { λ _ n. flat_elsewhere P.meaning P.alike P.canonical P.well (λ peer. veth.Peer peer) (veth_attribute P.canonical) veth_plain (veth_keeps P.canonical) n };
+    ghost flat_elsewhere = { λ _ n.
+        flat_elsewhere P.meaning P.alike P.canonical P.well (λ peer. veth.Peer peer)
+        (veth_attribute P.canonical) veth_plain (veth_keeps P.canonical) n };
 
     fn from_peer(peer: P) -> InfoVethOf<P> {
         InfoVethOf::Peer(peer)
@@ -129,11 +140,14 @@ impl<P: LinkPeer> Nla for InfoVethOf<P> {
     }
 }
 
-/// Reads the attribute. A peer that is refused is (Veth, 1, Peer).
+/// Reads the attribute. A rejected peer gives the error `(Veth, 1, Peer)`.
 impl<'a, P: LinkPeer> Parseable<NlaBuffer<'a>> for InfoVethOf<P> {
-    ghost meaning = { λ nla. meaning_in family.Veth (λ d. veth.Other d) (λ n. row_of (veth_rows P.meaning P.alike P.canonical P.well n)) nla };
+    ghost meaning = { λ nla.
+        meaning_in family.Veth (λ d. veth.Other d)
+        (λ n. row_of (veth_rows P.meaning P.alike P.canonical P.well n)) nla };
 
-    ghost needs_memory = { λ nla. memory_in (λ n. row_of (veth_rows P.meaning P.alike P.canonical P.well n)) nla };
+    ghost needs_memory = { λ nla.
+        memory_in (λ n. row_of (veth_rows P.meaning P.alike P.canonical P.well n)) nla };
 
     fn parse(alloc: Global, buffer: &NlaBuffer<'a>) -> Result<InfoVethOf<P>, DecodeError> {
         peer_read(alloc, buffer, ())
@@ -143,7 +157,9 @@ impl<'a, P: LinkPeer> Parseable<NlaBuffer<'a>> for InfoVethOf<P> {
 impl<P: LinkPeer> UnnestedFamily for InfoVethOf<P> {
     ghost written = { λ _. refl };
 
-    ghost unnested = { λ _ n. peer_unnested P.meaning P.alike P.canonical P.well (λ peer. veth.Peer peer) (veth_attribute P.canonical) veth_plain (veth_keeps P.canonical) n };
+    ghost unnested = { λ _ n.
+        peer_unnested P.meaning P.alike P.canonical P.well (λ peer. veth.Peer peer)
+        (veth_attribute P.canonical) veth_plain (veth_keeps P.canonical) n };
 
     fn read_by_row(
         alloc: Global,
@@ -165,8 +181,8 @@ impl<P: LinkPeer> UnnestedFamily for InfoVethOf<P> {
         peer_canonical_len::<InfoVethOf<P>>(nla, ctx)
     }
 
-    fn put_canonical_by_row(nla: &NlaBuffer<'_>, ctx: (), buffer: &mut [u8]) -> usize {
-        peer_put_canonical::<InfoVethOf<P>>(nla, ctx, buffer)
+    fn write_canonical_by_row(nla: &NlaBuffer<'_>, ctx: (), buffer: &mut [u8]) -> usize {
+        peer_write_canonical::<InfoVethOf<P>>(nla, ctx, buffer)
     }
 }
 

@@ -1,4 +1,4 @@
-//! Vxcan links, which come in pairs: `VXCAN_INFO_UNSPEC` and on, include/uapi/linux/can/vxcan.h.
+//! Virtual CAN links that come in pairs: `VXCAN_INFO_*` (include/uapi/linux/can/vxcan.h).
 
 ghost use Rattle.linkinfo_peers.specs.PeerRows.{flat_elsewhere, peer_owes, peer_unnested};
 ghost use Rattle.linkinfo_peers.specs.Vxcan.{vxcan_attribute, vxcan_is_custom, vxcan_rows};
@@ -12,24 +12,24 @@ use crate::peer_calls::{
     peer_check, peer_emit_payload, peer_emit_value, peer_fit_len, peer_kind, peer_read, peer_same,
     peer_value_len,
 };
-use crate::peer_canonical::{peer_canonical_len, peer_put_canonical};
+use crate::peer_canonical::{peer_canonical_len, peer_write_canonical};
 use crate::peer_family::PeerFamily;
 use linkinfo_table::{
-    Found, LinkPeer, Lookup, Part, Place, RowFamily, UnnestedFamily, table_lookup,
+    Decoded, Encodable, LinkPeer, Lookup, RowFamily, Slot, UnnestedFamily, table_lookup,
 };
 use nla_frame::{Bytes, DecodeError, DefaultNla, ExactEq, Family, Nla, NlaBuffer, Parseable};
 use std::alloc::{AllocError, Global};
 
-/// An attribute of a vxcan link, with a peer of type `P`.
+/// An attribute in the data of a `vxcan` link, with a peer of type `P`.
 #[derive(Debug, PartialEq, Eq, Clone, Drop)]
 pub enum InfoVxcanOf<P> {
-    /// The other end of the pair (`VXCAN_INFO_PEER`).
+    /// The peer of the pair (`VXCAN_INFO_PEER`).
     Peer(P),
-    /// An attribute of another type, kept as it came.
+    /// An opaque attribute, of a type that has no variant here, kept verbatim.
     Other(DefaultNla),
 }
 
-/// An attribute of a vxcan link, whose peer is the bytes of its payload.
+/// An attribute in the data of a `vxcan` link, with the peer as opaque bytes.
 pub type InfoVxcan = InfoVxcanOf<Bytes>;
 
 impl<P: LinkPeer> RowFamily for InfoVxcanOf<P> {
@@ -47,7 +47,10 @@ impl<P: LinkPeer> RowFamily for InfoVxcanOf<P> {
 
     ghost is_custom = { vxcan_is_custom };
 
-    ghost owes = { λ _ n. peer_owes P.meaning P.alike P.canonical P.well (λ peer. vxcan.Peer peer) (vxcan_attribute P.canonical) [] tt P.alike_is P.meaning_well P.well_means P.well_bytes (λ _. refl) n };
+    ghost owes = { λ _ n.
+        peer_owes P.meaning P.alike P.canonical P.well (λ peer. vxcan.Peer peer)
+        (vxcan_attribute P.canonical) [] tt P.alike_is P.meaning_well P.well_means P.well_bytes
+        (λ _. refl) n };
 
     ghost keeps_other = { λ _. refl };
 
@@ -58,22 +61,22 @@ impl<P: LinkPeer> RowFamily for InfoVxcanOf<P> {
     }
 
     #[inline(always)]
-    fn put_found<L: Place<InfoVxcanOf<P>>>(
-        place: &mut L,
+    fn store_decoded<L: Slot<InfoVxcanOf<P>>>(
+        slot: &mut L,
         _alloc: Global,
         _ctx: (),
-        found: Found<'_>,
+        decoded: Decoded<'_>,
     ) -> Result<(), AllocError> {
-        match found {
-            Found::Typed(_, _) => unreachable!(),
-            Found::Kept(nla) => place.put(InfoVxcanOf::Other(nla)),
+        match decoded {
+            Decoded::Typed(_, _) => unreachable!(),
+            Decoded::Kept(nla) => slot.store(InfoVxcanOf::Other(nla)),
         }
     }
 
-    fn to_part(&self) -> Part<'_> {
+    fn to_encodable(&self) -> Encodable<'_> {
         match self {
-            InfoVxcanOf::Peer(_) => Part::Custom,
-            InfoVxcanOf::Other(nla) => Part::Kept(nla),
+            InfoVxcanOf::Peer(_) => Encodable::Custom,
+            InfoVxcanOf::Other(nla) => Encodable::Kept(nla),
         }
     }
 }
@@ -91,7 +94,9 @@ impl<P: LinkPeer> PeerFamily for InfoVxcanOf<P> {
 
     ghost peer_alike = { λ _ _ _. refl };
 
-    ghost flat_elsewhere = { λ _ n. flat_elsewhere P.meaning P.alike P.canonical P.well (λ peer. vxcan.Peer peer) (vxcan_attribute P.canonical) [] tt n };
+    ghost flat_elsewhere = { λ _ n.
+        flat_elsewhere P.meaning P.alike P.canonical P.well (λ peer. vxcan.Peer peer)
+        (vxcan_attribute P.canonical) [] tt n };
 
     fn from_peer(peer: P) -> InfoVxcanOf<P> {
         InfoVxcanOf::Peer(peer)
@@ -129,11 +134,14 @@ impl<P: LinkPeer> Nla for InfoVxcanOf<P> {
     }
 }
 
-/// Reads the attribute. A peer that is refused is (Vxcan, 1, Peer).
+/// Reads the attribute. A rejected peer gives the error `(Vxcan, 1, Peer)`.
 impl<'a, P: LinkPeer> Parseable<NlaBuffer<'a>> for InfoVxcanOf<P> {
-    ghost meaning = { λ nla. meaning_in family.Vxcan (λ d. vxcan.Other d) (λ n. row_of (vxcan_rows P.meaning P.alike P.canonical P.well n)) nla };
+    ghost meaning = { λ nla.
+        meaning_in family.Vxcan (λ d. vxcan.Other d)
+        (λ n. row_of (vxcan_rows P.meaning P.alike P.canonical P.well n)) nla };
 
-    ghost needs_memory = { λ nla. memory_in (λ n. row_of (vxcan_rows P.meaning P.alike P.canonical P.well n)) nla };
+    ghost needs_memory = { λ nla.
+        memory_in (λ n. row_of (vxcan_rows P.meaning P.alike P.canonical P.well n)) nla };
 
     fn parse(alloc: Global, buffer: &NlaBuffer<'a>) -> Result<InfoVxcanOf<P>, DecodeError> {
         peer_read(alloc, buffer, ())
@@ -143,7 +151,9 @@ impl<'a, P: LinkPeer> Parseable<NlaBuffer<'a>> for InfoVxcanOf<P> {
 impl<P: LinkPeer> UnnestedFamily for InfoVxcanOf<P> {
     ghost written = { λ _. refl };
 
-    ghost unnested = { λ _ n. peer_unnested P.meaning P.alike P.canonical P.well (λ peer. vxcan.Peer peer) (vxcan_attribute P.canonical) [] tt n };
+    ghost unnested = { λ _ n.
+        peer_unnested P.meaning P.alike P.canonical P.well (λ peer. vxcan.Peer peer)
+        (vxcan_attribute P.canonical) [] tt n };
 
     fn read_by_row(
         alloc: Global,
@@ -165,8 +175,8 @@ impl<P: LinkPeer> UnnestedFamily for InfoVxcanOf<P> {
         peer_canonical_len::<InfoVxcanOf<P>>(nla, ctx)
     }
 
-    fn put_canonical_by_row(nla: &NlaBuffer<'_>, ctx: (), buffer: &mut [u8]) -> usize {
-        peer_put_canonical::<InfoVxcanOf<P>>(nla, ctx, buffer)
+    fn write_canonical_by_row(nla: &NlaBuffer<'_>, ctx: (), buffer: &mut [u8]) -> usize {
+        peer_write_canonical::<InfoVxcanOf<P>>(nla, ctx, buffer)
     }
 }
 

@@ -1,4 +1,4 @@
-//! WWAN links: `IFLA_WWAN_UNSPEC` and on, include/uapi/linux/wwan.h.
+//! Wireless WAN links: `IFLA_WWAN_*` (include/uapi/linux/wwan.h).
 
 ghost use Rattle.linkinfo_peers.specs.declared.wwan.InfoWwan.TheVariants.{Other};
 ghost use Rattle.linkinfo_peers.specs.Wwan.{wwan_attribute, wwan_keeps, wwan_rows};
@@ -9,18 +9,19 @@ ghost use Rattle.nla_frame.specs.declared.error.Family.TheVariants as family;
 ghost use Rattle.std.specs.Prelude.{◌≡◌, refl};
 
 use linkinfo_table::{
-    Found, Part, Place, TableFamily, WrittenByTable, clone_by_rows, part_by_rows, put_by_rows,
+    Decoded, Encodable, Slot, TableFamily, WrittenByTable, clone_by_rows, encodable_by_rows,
     row_emit_payload, row_emit_value, row_fit_len, row_kind, row_read, row_value_len,
+    store_by_rows,
 };
 use nla_frame::{DecodeError, DefaultNla, ExactEq, Family, Nla, NlaBuffer, Parseable};
 use std::alloc::{AllocError, Global};
 
-/// An attribute of a WWAN link: of a link of the kind `wwan`.
+/// An attribute in the data of a `wwan` link, a link of a wireless modem.
 #[derive(Debug, PartialEq, Eq, Drop)]
 pub enum InfoWwan {
-    /// The identifier of the link on its modem (`IFLA_WWAN_LINK_ID`), native byte order.
+    /// Link ID (`IFLA_WWAN_LINK_ID`), little-endian.
     LinkId(u32),
-    /// An attribute of another type, kept as it came.
+    /// An opaque attribute, of a type that has no variant here, kept verbatim.
     Other(DefaultNla),
 }
 
@@ -32,7 +33,7 @@ macro_rules! rows {
     };
 }
 
-/// A clone equals its source.
+/// A clone is equal to its source.
 impl Clone for InfoWwan {
     ghost is_clone = { λ source copy. copy ≡ source };
 
@@ -59,17 +60,17 @@ impl TableFamily for InfoWwan {
     ghost in_table = { λ n. table_lookup wwan_rows n };
 
     #[inline(always)]
-    fn put_found<P: Place<InfoWwan>>(
-        place: &mut P,
+    fn store_decoded<P: Slot<InfoWwan>>(
+        slot: &mut P,
         alloc: Global,
-        found: Found<'_>,
+        decoded: Decoded<'_>,
     ) -> Result<(), AllocError> {
-        rows!(put_by_rows(place, alloc, found))
+        rows!(store_by_rows(slot, alloc, decoded))
     }
 
     #[inline(always)]
-    fn to_part(&self) -> Part<'_> {
-        rows!(part_by_rows self)
+    fn to_encodable(&self) -> Encodable<'_> {
+        rows!(encodable_by_rows self)
     }
 }
 
@@ -101,9 +102,10 @@ impl WrittenByTable for InfoWwan {
     ghost written = { λ _. refl };
 }
 
-/// Reads the attribute. A payload of another length than four bytes is (Wwan, 1, Length).
+/// Reads the attribute. A payload of invalid length is rejected as `(Wwan, 1, Length)`.
 impl<'a> Parseable<NlaBuffer<'a>> for InfoWwan {
-    ghost meaning = { λ nla. meaning_in family.Wwan (λ d. Other d) (λ n. row_of (table_row wwan_rows n)) nla };
+    ghost meaning = { λ nla.
+        meaning_in family.Wwan (λ d. Other d) (λ n. row_of (table_row wwan_rows n)) nla };
 
     ghost needs_memory = { λ nla. memory_in (λ n. row_of (table_row wwan_rows n)) nla };
 

@@ -1,5 +1,25 @@
--- Data as the program holds them: one type for all shapes, in place of the type that a shape gives.
-use Rattle.std.specs.Prelude.{◌≡◌, ℕ, ◌+◌, ◌^◌, ◌<◌, ℤ, pos, Bool, false, List, [], length, Option, Some, None, Result, Ok, Err}
+-- Data as the program holds them: one type for all shapes, where `Carrier` gives one type per
+-- shape.
+use Rattle.std.specs.Prelude.{
+  ◌≡◌,
+  ℕ,
+  ◌+◌,
+  ◌^◌,
+  ◌<◌,
+  ℤ,
+  pos,
+  Bool,
+  false,
+  List,
+  [],
+  length,
+  Option,
+  Some,
+  None,
+  Result,
+  Ok,
+  Err,
+}
 use Rattle.std.specs.Net.Addr.{octets_of}
 use Rattle.std.specs.declared.net.ip_addr.IpAddr.{IpAddr}
 use Rattle.std.specs.declared.net.ip_addr.IpAddr.TheVariants as ip
@@ -8,11 +28,37 @@ use Rattle.std.specs.declared.net.ipv6_addr.Ipv6Addr.{Ipv6Addr}
 use Rattle.nla_frame.specs.declared.error.Cause.{Cause}
 use Rattle.linkinfo_shapes.specs.Shapes.{Carrier, means, canon}
 use Rattle.linkinfo_shapes.specs.declared.shape.Shape.{Shape}
-use Rattle.linkinfo_shapes.specs.declared.shape.Shape.TheVariants.{U8, Le16, Le32, Le64, Be16, Be32, Be64, I32, Truth, TruthOne, Mark, Name, V4, V6, GeneveV4, GeneveV6, Ip, Mac, BePair, FlagPair, EmptyOrByte, Scrub, Raw, SelfList, Peer}
+use Rattle.linkinfo_shapes.specs.declared.shape.Shape.TheVariants.{
+  U8,
+  Le16,
+  Le32,
+  Le64,
+  Be16,
+  Be32,
+  Be64,
+  I32,
+  Truth,
+  TruthOne,
+  Mark,
+  Name,
+  V4,
+  V6,
+  GeneveV4,
+  GeneveV6,
+  Ip,
+  Mac,
+  BePair,
+  FlagPair,
+  EmptyOrByte,
+  Scrub,
+  Raw,
+  SelfList,
+  Peer,
+}
 use Rattle.linkinfo_shapes.specs.declared.datum.Datum.{Datum}
 use Rattle.linkinfo_shapes.specs.declared.datum.Datum.TheVariants as datum
 
--- what a `Datum` says, with no reference in it
+-- the value of a `Datum`, without references
 pub data Value : Type 0 where
   number : ℕ → Value
   signed : ℤ → Value
@@ -47,7 +93,7 @@ abbrev pub byte_value : Option ℕ → Value
 byte_value None = empty
 byte_value (Some b) = number b
 
--- a shape's datum as a value
+-- the datum of a shape as a value
 abbrev pub wrap : (shape : Shape) → Carrier shape → Value
 wrap U8 n = number n
 wrap Le16 n = number n
@@ -75,7 +121,7 @@ wrap Raw s = bytes s
 wrap SelfList x = empty
 wrap Peer x = empty
 
--- what a value of each kind holds; any other value gives zero, false, or nothing
+-- the content of a value of each variant; any other value gives zero, false, or nothing
 abbrev pub number_in : Value → ℕ
 number_in (number n) = n
 number_in _ = 0
@@ -148,7 +194,7 @@ unwrap Raw value = bytes_in value
 unwrap SelfList value = tt
 unwrap Peer value = tt
 
--- the kinds of values, and the bounds of their numbers
+-- the variants of values, and the bounds of their numbers
 abbrev pub IsNumberBelow : ℕ → Value → Type 0
 IsNumberBelow bound (number n) = n < bound
 IsNumberBelow bound _ = ⊥
@@ -199,7 +245,7 @@ abbrev pub IsBytesValue : Value → Type 0
 IsBytesValue (bytes s) = Unit {0}
 IsBytesValue _ = ⊥
 
--- the value is one of the shape's
+-- the value is a datum of the shape
 unfoldable pub Suits : Shape → Value → Type 0
 Suits U8 value = IsNumberBelow 256 value
 Suits Le16 value = IsNumberBelow (2 ^ 16) value
@@ -227,9 +273,11 @@ Suits Raw value = IsBytesValue value
 Suits SelfList value = ⊥
 Suits Peer value = ⊥
 
--- `x` is the shape's datum in `d`, where `d` suits the shape, and else the value `other`
+-- `x` is the shape's datum in `d` if `d` suits the shape, and the value `other` otherwise
 abbrev pub IsDatumOr : (shape : Shape) → Carrier shape → Datum → Carrier shape → Type 0
-IsDatumOr shape other d x = (Suits shape (value_of d) → x ≡ unwrap shape (value_of d)) × ((Suits shape (value_of d) → ⊥) → x ≡ other)
+IsDatumOr shape other d x =
+    (Suits shape (value_of d) → x ≡ unwrap shape (value_of d))
+    × ((Suits shape (value_of d) → ⊥) → x ≡ other)
 
 -- what a payload means, as a value
 abbrev pub wrapped : (shape : Shape) → Result (Carrier shape) Cause → Result Value Cause
@@ -243,12 +291,12 @@ reads shape payload = wrapped shape (means shape payload)
 unfoldable pub written : Shape → Value → List ℕ
 written shape value = canon shape (unwrap shape value)
 
--- the answer is the datum of the payload, which suits the shape, or what is wrong with the payload
+-- the result is the datum of the payload, which suits the shape, or why the payload is rejected
 unfoldable pub ReadsAs : Shape → List ℕ → Result Datum Cause → Type 0
 ReadsAs shape payload (Ok d) = (reads shape payload ≡ Ok (value_of d)) × Suits shape (value_of d)
 ReadsAs shape payload (Err e) = reads shape payload ≡ Err e
 
--- the length of every payload that is written under the shape, where they have one length
+-- the length of every payload that is written under the shape, if they all have one length
 abbrev pub fixed_length : Shape → Option ℕ
 fixed_length U8 = Some 1
 fixed_length Le16 = Some 2

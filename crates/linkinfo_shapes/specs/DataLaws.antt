@@ -1,14 +1,89 @@
--- What the words on data say of what shapes mean.
-use Rattle.std.proofs.Common.{◌≡◌, ℕ, List, [], ◌∷◌, length, refl, sym, ap, ◌∙◌, Option, Some, None, Result, Ok, Err, length-append}
+-- How data as values relate to the meaning of payloads.
+use Rattle.std.proofs.Common.{
+  ◌≡◌,
+  ℕ,
+  List,
+  [],
+  ◌∷◌,
+  length,
+  refl,
+  sym,
+  ap,
+  ◌∙◌,
+  Option,
+  Some,
+  None,
+  Result,
+  Ok,
+  Err,
+  length-append,
+}
 use Rattle.nla_frame.specs.declared.error.Cause.{Cause}
 use Rattle.std.specs.declared.net.ip_addr.IpAddr.TheVariants as ip
 use Rattle.std.specs.Prelude.{IsOk}
 use Rattle.nla_frame.specs.Canonical.{bytes_for}
-use Rattle.linkinfo_shapes.specs.Shapes.{IsPlain, IsAccepted, Carrier, means, canon, canonical, Holds, verdict}
-use Rattle.linkinfo_shapes.specs.Data.{Value, number, signed, truth, empty, text, v4, v6, mac, pair, bytes, value_of, wrap, unwrap, Suits, wrapped, reads, written, ReadsAs, fixed_length, value_length}
+use Rattle.linkinfo_shapes.specs.Shapes.{
+  IsPlain,
+  IsAccepted,
+  Carrier,
+  means,
+  canon,
+  canonical,
+  Holds,
+  verdict,
+}
+use Rattle.linkinfo_shapes.specs.Data.{
+  Value,
+  number,
+  signed,
+  truth,
+  empty,
+  text,
+  v4,
+  v6,
+  mac,
+  pair,
+  bytes,
+  value_of,
+  wrap,
+  unwrap,
+  Suits,
+  wrapped,
+  reads,
+  written,
+  ReadsAs,
+  fixed_length,
+  value_length,
+}
 use Rattle.linkinfo_shapes.specs.declared.datum.Datum.{Datum}
 use Rattle.linkinfo_shapes.specs.declared.shape.Shape.{Shape}
-use Rattle.linkinfo_shapes.specs.declared.shape.Shape.TheVariants.{U8, Le16, Le32, Le64, Be16, Be32, Be64, I32, Truth, TruthOne, Mark, Name, V4, V6, GeneveV4, GeneveV6, Ip, Mac, BePair, FlagPair, EmptyOrByte, Scrub, Raw, SelfList, Peer}
+use Rattle.linkinfo_shapes.specs.declared.shape.Shape.TheVariants.{
+  U8,
+  Le16,
+  Le32,
+  Le64,
+  Be16,
+  Be32,
+  Be64,
+  I32,
+  Truth,
+  TruthOne,
+  Mark,
+  Name,
+  V4,
+  V6,
+  GeneveV4,
+  GeneveV6,
+  Ip,
+  Mac,
+  BePair,
+  FlagPair,
+  EmptyOrByte,
+  Scrub,
+  Raw,
+  SelfList,
+  Peer,
+}
 
 abbrev done : {X : Type 0} → X → Result X Cause
 done x = Ok x
@@ -16,7 +91,7 @@ done x = Ok x
 abbrev some : {X : Type 0} → X → Option X
 some x = Some x
 
--- ---- a shape's datum, as a value and back
+-- ---- the datum of a shape, as a value and back
 
 pub unwrap-wrap : (shape : Shape) (x : Carrier shape) → unwrap shape (wrap shape x) ≡ x
 unwrap-wrap U8 x = refl
@@ -47,7 +122,8 @@ unwrap-wrap Raw x = refl
 unwrap-wrap SelfList x = refl
 unwrap-wrap Peer x = refl
 
-pub wrap-unwrap : (shape : Shape) (value : Value) → Suits shape value → wrap shape (unwrap shape value) ≡ value
+pub wrap-unwrap : (shape : Shape) (value : Value) → Suits shape value →
+    wrap shape (unwrap shape value) ≡ value
 unfolding Suits
 wrap-unwrap U8 (number n) h = refl
 wrap-unwrap U8 _ h = absurd h
@@ -137,54 +213,71 @@ suits_plain SelfList value h = h
 suits_plain Peer value h = h
 suits_plain _ value h = tt
 
--- ---- what a reader's answer says
+-- ---- results of readers
 
-unwrapped : (shape : Shape) (m : Result (Carrier shape) Cause) (value : Value) → wrapped shape m ≡ Ok value → m ≡ Ok (unwrap shape value)
-unwrapped shape (Ok x) value e = let same : wrap shape x ≡ value = cc in ap done (sym (unwrap-wrap shape x) ∙ ap (unwrap shape) same)
+unwrapped : (shape : Shape) (m : Result (Carrier shape) Cause) (value : Value) →
+    wrapped shape m ≡ Ok value → m ≡ Ok (unwrap shape value)
+unwrapped shape (Ok x) value e =
+    let same : wrap shape x ≡ value = cc in
+    ap done (sym (unwrap-wrap shape x) ∙ ap (unwrap shape) same)
 unwrapped shape (Err c) value e = absurd cc
 
-pub reads_ok : (shape : Shape) (payload : List ℕ) (value : Value) → reads shape payload ≡ Ok value → means shape payload ≡ Ok (unwrap shape value)
+pub reads_ok : (shape : Shape) (payload : List ℕ) (value : Value) → reads shape payload ≡ Ok value →
+    means shape payload ≡ Ok (unwrap shape value)
 unfolding reads
 reads_ok shape payload value e = unwrapped shape (means shape payload) value e
 
-faulted : (shape : Shape) (m : Result (Carrier shape) Cause) (c : Cause) → wrapped shape m ≡ Err c → m ≡ Err c
-faulted shape (Ok x) c e = absurd cc
-faulted shape (Err d) c e = let same : d ≡ c = cc in ap (λ (z : Cause). Err z) same
+errored : (shape : Shape) (m : Result (Carrier shape) Cause) (c : Cause) → wrapped shape m ≡ Err c →
+    m ≡ Err c
+errored shape (Ok x) c e = absurd cc
+errored shape (Err d) c e = let same : d ≡ c = cc in ap (λ (z : Cause). Err z) same
 
-pub reads_err : (shape : Shape) (payload : List ℕ) (c : Cause) → reads shape payload ≡ Err c → means shape payload ≡ Err c
+pub reads_err : (shape : Shape) (payload : List ℕ) (c : Cause) → reads shape payload ≡ Err c →
+    means shape payload ≡ Err c
 unfolding reads
-reads_err shape payload c e = faulted shape (means shape payload) c e
+reads_err shape payload c e = errored shape (means shape payload) c e
 
-pub read_means : (shape : Shape) (payload : List ℕ) (d : Datum) → ReadsAs shape payload (Ok d) → means shape payload ≡ Ok (unwrap shape (value_of d))
+pub read_means : (shape : Shape) (payload : List ℕ) (d : Datum) → ReadsAs shape payload (Ok d) →
+    means shape payload ≡ Ok (unwrap shape (value_of d))
 unfolding ReadsAs
 read_means shape payload d h = reads_ok shape payload (value_of d) h.0
 
-pub read_suits : (shape : Shape) (payload : List ℕ) (d : Datum) → ReadsAs shape payload (Ok d) → Suits shape (value_of d)
+pub read_suits : (shape : Shape) (payload : List ℕ) (d : Datum) → ReadsAs shape payload (Ok d) →
+    Suits shape (value_of d)
 unfolding ReadsAs
 read_suits shape payload d h = h.1
 
-pub read_fails : (shape : Shape) (payload : List ℕ) (c : Cause) → ReadsAs shape payload (Err c) → means shape payload ≡ Err c
+pub read_fails : (shape : Shape) (payload : List ℕ) (c : Cause) → ReadsAs shape payload (Err c) →
+    means shape payload ≡ Err c
 unfolding ReadsAs
 read_fails shape payload c h = reads_err shape payload c h
 
-pub read_verdict : (shape : Shape) (payload : List ℕ) (answer : Result Datum Cause) → ReadsAs shape payload answer → verdict answer ≡ verdict (means shape payload)
+pub read_verdict : (shape : Shape) (payload : List ℕ) (answer : Result Datum Cause) →
+    ReadsAs shape payload answer → verdict answer ≡ verdict (means shape payload)
 read_verdict shape payload (Ok d) h = sym (ap verdict (read_means shape payload d h))
 read_verdict shape payload (Err c) h = sym (ap verdict (read_fails shape payload c h))
 
-pub written_is : (shape : Shape) (value : Value) → written shape value ≡ canon shape (unwrap shape value)
+pub written_is : (shape : Shape) (value : Value) →
+    written shape value ≡ canon shape (unwrap shape value)
 unfolding written
 written_is shape value = refl
 
--- a payload without a fault: what is written for its datum is its canonical payload, and reading it has no fault
-pub canonical_is : (shape : Shape) (payload : List ℕ) (x : Carrier shape) → means shape payload ≡ Ok x → canonical shape payload ≡ canon shape x
+-- an accepted payload: what is written for its datum is its canonical payload, and reading it gives
+-- no error
+pub canonical_is : (shape : Shape) (payload : List ℕ) (x : Carrier shape) →
+    means shape payload ≡ Ok x → canonical shape payload ≡ canon shape x
 unfolding canonical
-canonical_is shape payload x e = ap (λ (m : Result (Carrier shape) Cause). bytes_for (canon shape) m) e
+canonical_is shape payload x e =
+    ap (λ (m : Result (Carrier shape) Cause). bytes_for (canon shape) m) e
 
-pub read_written : (shape : Shape) (payload : List ℕ) (d : Datum) → ReadsAs shape payload (Ok d) → written shape (value_of d) ≡ canonical shape payload
+pub read_written : (shape : Shape) (payload : List ℕ) (d : Datum) → ReadsAs shape payload (Ok d) →
+    written shape (value_of d) ≡ canonical shape payload
 read_written shape payload d h =
-    written_is shape (value_of d) ∙ sym (canonical_is shape payload (unwrap shape (value_of d)) (read_means shape payload d h))
+    written_is shape (value_of d)
+    ∙ sym (canonical_is shape payload (unwrap shape (value_of d)) (read_means shape payload d h))
 
-pub read_accepted : (shape : Shape) (payload : List ℕ) (c : Cause) → IsAccepted shape payload → ReadsAs shape payload (Err c) → ⊥
+pub read_accepted : (shape : Shape) (payload : List ℕ) (c : Cause) → IsAccepted shape payload →
+    ReadsAs shape payload (Err c) → ⊥
 unfolding IsAccepted
 read_accepted shape payload c h k = not_ok (means shape payload) h (read_fails shape payload c k)
   where
@@ -197,7 +290,8 @@ read_accepted shape payload c h k = not_ok (means shape payload) h (read_fails s
 some_same : (m n : ℕ) → some m ≡ some n → m ≡ n
 some_same m n e = cc
 
-pub length_fixed : (shape : Shape) (value : Value) (n : ℕ) → fixed_length shape ≡ Some n → length (written shape value) ≡ n
+pub length_fixed : (shape : Shape) (value : Value) (n : ℕ) → fixed_length shape ≡ Some n →
+    length (written shape value) ≡ n
 unfolding written
 length_fixed U8 value n e = some_same 1 n e
 length_fixed Le16 value n e = some_same 2 n e
@@ -225,7 +319,8 @@ length_fixed Raw value n e = absurd cc
 length_fixed SelfList value n e = absurd cc
 length_fixed Peer value n e = absurd cc
 
-pub length_variable : (shape : Shape) (value : Value) → fixed_length shape ≡ None → Suits shape value → length (written shape value) ≡ value_length value
+pub length_variable : (shape : Shape) (value : Value) → fixed_length shape ≡ None →
+    Suits shape value → length (written shape value) ≡ value_length value
 unfolding written Suits
 length_variable U8 value e h = absurd cc
 length_variable Le16 value e h = absurd cc

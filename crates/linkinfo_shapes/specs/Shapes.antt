@@ -1,7 +1,46 @@
--- The shapes of payloads: what a payload means, the one payload that is written, which payloads are alike.
-use Rattle.std.specs.Prelude.{◌≡◌, ℕ, ◌^◌, ◌<◌, ◌==◌, ℤ, Bool, true, false, not, if◌then◌else◌, List, [], ◌∷◌, ◌++◌, length, take, drop, slice_index, Option, Some, None, Result, Ok, Err, IsOk, FitsSigned}
+-- The shapes of payloads: what a payload means, the canonical payload that is written, which
+-- payloads are equivalent.
+use Rattle.std.specs.Prelude.{
+  ◌≡◌,
+  ℕ,
+  ◌^◌,
+  ◌<◌,
+  ◌==◌,
+  ℤ,
+  Bool,
+  true,
+  false,
+  not,
+  if◌then◌else◌,
+  List,
+  [],
+  ◌∷◌,
+  ◌++◌,
+  length,
+  take,
+  drop,
+  slice_index,
+  Option,
+  Some,
+  None,
+  Result,
+  Ok,
+  Err,
+  IsOk,
+  FitsSigned,
+}
 use Rattle.std.specs.Bool.{beq}
-use Rattle.std.specs.Int.{w16, w32, w64, cast_signed, cast_unsigned, from_be_bytes, from_le_bytes, to_be_bytes, to_le_bytes}
+use Rattle.std.specs.Int.{
+  w16,
+  w32,
+  w64,
+  cast_signed,
+  cast_unsigned,
+  from_be_bytes,
+  from_le_bytes,
+  to_be_bytes,
+  to_le_bytes,
+}
 use Rattle.std.specs.Net.Addr.{octets_of}
 use Rattle.std.specs.Str.{bytes_eq, is_utf8}
 use Rattle.std.specs.declared.net.ip_addr.IpAddr.{IpAddr}
@@ -14,7 +53,33 @@ use Rattle.nla_frame.specs.Payload.{of_length, ip_of, ipv4_of, ipv6_of, stripped
 use Rattle.nla_frame.specs.declared.error.Cause.{Cause}
 use Rattle.nla_frame.specs.declared.error.Cause.TheVariants as cause
 use Rattle.linkinfo_shapes.specs.declared.shape.Shape.{Shape}
-use Rattle.linkinfo_shapes.specs.declared.shape.Shape.TheVariants.{U8, Le16, Le32, Le64, Be16, Be32, Be64, I32, Truth, TruthOne, Mark, Name, V4, V6, GeneveV4, GeneveV6, Ip, Mac, BePair, FlagPair, EmptyOrByte, Scrub, Raw, SelfList, Peer}
+use Rattle.linkinfo_shapes.specs.declared.shape.Shape.TheVariants.{
+  U8,
+  Le16,
+  Le32,
+  Le64,
+  Be16,
+  Be32,
+  Be64,
+  I32,
+  Truth,
+  TruthOne,
+  Mark,
+  Name,
+  V4,
+  V6,
+  GeneveV4,
+  GeneveV6,
+  Ip,
+  Mac,
+  BePair,
+  FlagPair,
+  EmptyOrByte,
+  Scrub,
+  Raw,
+  SelfList,
+  Peer,
+}
 
 -- a shape whose payloads are read here, and not by the family itself
 abbrev pub IsPlain : Shape → Type 0
@@ -22,7 +87,8 @@ IsPlain SelfList = ⊥
 IsPlain Peer = ⊥
 IsPlain _ = Unit {0}
 
--- the data of a shape; of the shapes that a family reads itself no payload is accepted here, and nothing is a datum (`Holds`)
+-- the data of a shape; for the shapes that a family reads itself, no payload is accepted here, and
+-- nothing is a datum (`Holds`)
 abbrev pub Carrier : Shape → Type 0
 Carrier U8 = ℕ
 Carrier Le16 = ℕ
@@ -54,11 +120,12 @@ Carrier Peer = Unit {0}
 abbrev pub text_of : List ℕ → Result (List ℕ) Cause
 text_of bytes = if is_utf8 bytes then Ok bytes else Err cause.Utf8
 
--- an address of `size` bytes; one of the other version's size is the cause AddressKind
+-- an address of `size` bytes; the length of the other version gives the cause AddressKind
 abbrev pub of_version : {X : Type 0} → ℕ → ℕ → List ℕ → X → Result X Cause
-of_version size other payload address = if length payload == other then Err cause.AddressKind else of_length size payload address
+of_version size other payload address = if length payload == other then Err cause.AddressKind
+    else of_length size payload address
 
--- a payload's datum, or what is wrong with the payload
+-- the datum of a payload, or why the payload is rejected
 abbrev pub means : (shape : Shape) → List ℕ → Result (Carrier shape) Cause
 means U8 payload = of_length 1 payload (slice_index payload 0)
 means Le16 payload = of_length 2 payload (from_le_bytes w16 payload)
@@ -78,20 +145,27 @@ means GeneveV4 payload = of_version 4 16 payload (ipv4_of payload)
 means GeneveV6 payload = of_version 16 4 payload (ipv6_of payload)
 means Ip payload = ip_of payload
 means Mac payload = of_length 6 payload payload
-means BePair payload = of_length 4 payload (from_be_bytes w16 (take 2 payload), from_be_bytes w16 (drop 2 payload))
-means FlagPair payload = of_length 8 payload (from_le_bytes w32 (take 4 payload), from_le_bytes w32 (drop 4 payload))
-means EmptyOrByte payload = if length payload == 0 then Ok None else of_length 1 payload (Some (slice_index payload 0))
+means BePair payload = of_length 4 payload (
+  from_be_bytes w16 (take 2 payload),
+  from_be_bytes w16 (drop 2 payload),
+)
+means FlagPair payload = of_length 8 payload (
+  from_le_bytes w32 (take 4 payload),
+  from_le_bytes w32 (drop 4 payload),
+)
+means EmptyOrByte payload = if length payload == 0 then Ok None
+    else of_length 1 payload (Some (slice_index payload 0))
 means Scrub payload = of_length 4 payload (not (from_le_bytes w32 payload == 0))
 means Raw payload = Ok payload
 means SelfList payload = Err cause.Length
 means Peer payload = Err cause.Length
 
--- the answer without its datum
+-- the result without its datum
 abbrev pub verdict : {X : Type 0} → Result X Cause → Result (Unit {0}) Cause
 verdict (Ok x) = Ok tt
 verdict (Err e) = Err e
 
--- the length of every accepted payload, where they have one length
+-- the length of every accepted payload, if they all have one length
 abbrev pub accepted_length : Shape → Option ℕ
 accepted_length U8 = Some 1
 accepted_length Le16 = Some 2
@@ -124,7 +198,7 @@ abbrev pub ip_octets : IpAddr → List ℕ
 ip_octets (ip.V4 a) = a.octets
 ip_octets (ip.V6 a) = octets_of a.segments
 
--- the one payload that is written for a datum
+-- the canonical payload of a datum
 abbrev pub canon : (shape : Shape) → Carrier shape → List ℕ
 canon U8 n = n ∷ []
 canon Le16 n = to_le_bytes w16 n
@@ -153,15 +227,15 @@ canon Raw bytes = bytes
 canon SelfList x = []
 canon Peer x = []
 
--- the one payload that is written for what an accepted payload means
+-- the canonical payload of what an accepted payload means
 unfoldable pub canonical : Shape → List ℕ → List ℕ
 canonical shape payload = bytes_for (canon shape) (means shape payload)
 
--- four octets
+-- an address of four octets
 abbrev pub IsIpv4 : Ipv4Addr → Type 0
 IsIpv4 a = (length a.octets ≡ 4) × IsBytes a.octets
 
--- eight segments of 16 bits
+-- an address of eight 16-bit segments
 abbrev pub IsIpv6 : Ipv6Addr → Type 0
 IsIpv6 a = (length a.segments ≡ 8) × ((i : ℕ) → slice_index a.segments i < 2 ^ 16)
 
@@ -170,7 +244,7 @@ abbrev pub IsIp : IpAddr → Type 0
 IsIp (ip.V4 a) = IsIpv4 a
 IsIp (ip.V6 a) = IsIpv6 a
 
--- what a Rust value of the datum's type can be
+-- the data that a Rust value can hold
 abbrev pub Holds : (shape : Shape) → Carrier shape → Type 0
 Holds U8 n = n < 256
 Holds Le16 n = n < 2 ^ 16
@@ -203,7 +277,7 @@ Holds Peer x = ⊥
 abbrev pub is_zero : List ℕ → Bool
 is_zero payload = bytes_eq payload (0 ∷ 0 ∷ 0 ∷ 0 ∷ [])
 
--- whether two accepted payloads say the same, with no datum made
+-- whether two accepted payloads are equivalent, without decoding a datum
 abbrev pub payload_alike : Shape → List ℕ → List ℕ → Bool
 payload_alike Truth p q = beq (slice_index p 0 == 0) (slice_index q 0 == 0)
 payload_alike TruthOne p q = beq (slice_index p 0 == 1) (slice_index q 0 == 1)
@@ -212,7 +286,7 @@ payload_alike Name p q = bytes_eq (stripped p) (stripped q)
 payload_alike Scrub p q = beq (is_zero p) (is_zero q)
 payload_alike _ p q = bytes_eq p q
 
--- whether a value that is read from this payload owns memory: bytes do, and a text does
+-- whether a value read from this payload owns memory: bytes and texts do
 abbrev pub needs_memory : Shape → List ℕ → Bool
 needs_memory Raw payload = true
 needs_memory Name payload = is_utf8 (stripped payload)

@@ -1,9 +1,34 @@
--- Which shape an attribute has, by family and masked type: one table for all families.
+-- The shape of each attribute, by family and type without flag bits: one table for all families.
 use Rattle.std.specs.Prelude.{ℕ, ◌==◌, if◌then◌else◌, List, [], ◌∷◌, Option, Some, None}
 use Rattle.nla_frame.specs.declared.error.Family.{Family}
 use Rattle.nla_frame.specs.declared.error.Family.TheVariants as family
 use Rattle.linkinfo_shapes.specs.declared.shape.Shape.{Shape}
-use Rattle.linkinfo_shapes.specs.declared.shape.Shape.TheVariants.{U8, Le16, Le32, Le64, Be16, Be32, Be64, I32, Truth, TruthOne, Mark, Name, V4, V6, GeneveV4, GeneveV6, Ip, Mac, BePair, FlagPair, EmptyOrByte, Scrub, SelfList, Peer}
+use Rattle.linkinfo_shapes.specs.declared.shape.Shape.TheVariants.{
+  U8,
+  Le16,
+  Le32,
+  Le64,
+  Be16,
+  Be32,
+  Be64,
+  I32,
+  Truth,
+  TruthOne,
+  Mark,
+  Name,
+  V4,
+  V6,
+  GeneveV4,
+  GeneveV6,
+  Ip,
+  Mac,
+  BePair,
+  FlagPair,
+  EmptyOrByte,
+  Scrub,
+  SelfList,
+  Peer,
+}
 
 -- Amt
 abbrev pub amt_rows : List (ℕ × Shape)
@@ -126,7 +151,7 @@ ipoib_rows =
     (3, Le16) ∷  -- UmCast
     []
 
--- IpTunnel; its type 8 has no row, since the kind of the link decides on its shape
+-- IpTunnel; its type 8 has no row, since its shape depends on the kind of the link
 abbrev pub ip_tunnel_rows : List (ℕ × Shape)
 ip_tunnel_rows =
     (1, Le32) ∷  -- Link
@@ -277,7 +302,7 @@ vxlan_rows =
     (25, Truth) ∷  -- CollectMetadata
     (26, Be32) ∷  -- Label
     (27, Mark) ∷  -- Gpe
-    (28, EmptyOrByte) ∷  -- EmptyOrByte
+    (28, EmptyOrByte) ∷  -- TtlInheritFlag, TtlInherit
     (29, U8) ∷  -- Df
     (30, Truth) ∷  -- Vnifilter
     (31, Truth) ∷  -- Localbypass
@@ -286,7 +311,7 @@ vxlan_rows =
     (34, Truth) ∷  -- McRoute
     []
 
--- a family's rows, by their numbers
+-- the rows of a family, by type
 abbrev pub rows_of : Family → List (ℕ × Shape)
 rows_of family.Amt = amt_rows
 rows_of family.BareUdp = bare_udp_rows
@@ -313,7 +338,7 @@ rows_of family.Vti = vti_rows
 rows_of family.Vxlan = vxlan_rows
 rows_of _ = []
 
--- the shape of a number's row, where there is one
+-- the shape in the row of a type, if there is one
 abbrev pub found : List (ℕ × Shape) → ℕ → Option Shape
 found [] number = None
 found (row ∷ rows) number = if number == row.0 then Some row.1 else found rows number

@@ -1,4 +1,4 @@
-//! The canonical payload of what an accepted payload means, without a value.
+//! Re-encodes accepted payloads canonically, without building a value.
 
 ghost use Rattle.std.specs.Prelude.{◌≡◌, ◌≤◌, ◌++◌, SomeIff, drop, length};
 ghost use Rattle.nla_frame.specs.Attribute.{buffer_len_of, canonical_string};
@@ -8,7 +8,7 @@ ghost use Rattle.linkinfo_shapes.specs.Shapes.{IsAccepted, IsPlain, canonical};
 use crate::datum::Datum;
 use crate::payload::{datum_len, read_datum, write_datum};
 use crate::shape::Shape;
-use nla_frame::put_frame;
+use nla_frame::write_frame;
 
 /// The datum of an accepted payload.
 #[tactic(auto, using(crate::specs::DataLaws::read_suits, crate::specs::DataLaws::read_written, crate::specs::DataLaws::read_accepted))]
@@ -25,8 +25,11 @@ fn datum_in(shape: Shape, payload: &[u8]) -> Datum<'_>
     }
 }
 
-/// The length of the canonical payload of what a payload means, or `None` above 65531. Takes no memory. Asks for a shape other than
-/// `Shape::SelfList` and `Shape::Peer`, and for a payload that is accepted.
+/// Returns the length of an accepted payload's canonical encoding, or `None` above 65531. Does not
+/// allocate.
+///
+/// Requires a shape other than `Shape::SelfList` and `Shape::Peer`, and a payload that the shape
+/// accepts.
 #[inline(always)]
 pub fn shape_canonical_len(shape: Shape, payload: &[u8]) -> Option<usize>
     requires plain { IsPlain shape }
@@ -36,16 +39,21 @@ pub fn shape_canonical_len(shape: Shape, payload: &[u8]) -> Option<usize>
     datum_len(shape, &datum_in(shape, payload))
 }
 
-/// Writes the canonical payload of what a payload means at the front of the buffer, leaves the bytes behind it, and answers its length. Takes no
-/// memory. Asks the same, that the canonical payload has at most 65531 bytes, and for a buffer of at least as many.
+/// Writes the canonical encoding of an accepted payload at the front of the buffer, and returns its
+/// length. The bytes after it stay unchanged. Does not allocate.
+///
+/// Requires a shape other than `Shape::SelfList` and `Shape::Peer`, and a payload that the shape
+/// accepts. Requires that the canonical payload has at most 65531 bytes, and that the buffer has at
+/// least as many.
 #[inline(always)]
-pub fn shape_put_canonical(shape: Shape, payload: &[u8], buffer: &mut [u8]) -> usize
+pub fn shape_write_canonical(shape: Shape, payload: &[u8], buffer: &mut [u8]) -> usize
     requires plain { IsPlain shape }
     requires accepted { IsAccepted shape payload.now }
     requires fits { length (canonical shape payload.now) ≤ 65531 }
     requires room { length (canonical shape payload.now) ≤ length buffer.old }
     ensures taken { result ≡ length (canonical shape payload.now) }
-    ensures written { buffer.new ≡ canonical shape payload.now ++ drop (length (canonical shape payload.now)) buffer.old }
+    ensures written { buffer.new
+        ≡ canonical shape payload.now ++ drop (length (canonical shape payload.now)) buffer.old }
 {
     let datum = datum_in(shape, payload);
     match datum_len(shape, &datum) {
@@ -57,18 +65,28 @@ pub fn shape_put_canonical(shape: Shape, payload: &[u8], buffer: &mut [u8]) -> u
     }
 }
 
-/// Writes the attribute of a type and the canonical payload of what a payload means, its header, payload and zero padding, at the front of the
-/// buffer, leaves the bytes behind it, and answers its length. Asks the same, and for a buffer of at least the attribute's length.
+/// Writes an attribute with the canonical encoding of an accepted payload at the front of the
+/// buffer, and returns its length: header, payload and zero padding. The bytes after it stay
+/// unchanged. Does not allocate.
+///
+/// Requires a shape other than `Shape::SelfList` and `Shape::Peer`, and a payload that the shape
+/// accepts. Requires that the canonical payload has at most 65531 bytes, and that the buffer has at
+/// least as many bytes as the attribute.
 #[inline(always)]
-pub fn shape_put_attribute(shape: Shape, kind: u16, payload: &[u8], buffer: &mut [u8]) -> usize
+pub fn shape_write_attribute(shape: Shape, kind: u16, payload: &[u8], buffer: &mut [u8]) -> usize
     requires plain { IsPlain shape }
     requires accepted { IsAccepted shape payload.now }
     requires fits { length (canonical shape payload.now) ≤ 65531 }
-    requires room { buffer_len_of (record { kind = kind; value = canonical shape payload.now }) ≤ length buffer.old }
-    ensures taken { result ≡ buffer_len_of (record { kind = kind; value = canonical shape payload.now }) }
-    ensures written { buffer.new ≡ canonical_string (record { kind = kind; value = canonical shape payload.now }) ++ drop (buffer_len_of (record { kind = kind; value = canonical shape payload.now })) buffer.old }
+    requires room { buffer_len_of (record { kind = kind; value = canonical shape payload.now })
+        ≤ length buffer.old }
+    ensures taken { result
+        ≡ buffer_len_of (record { kind = kind; value = canonical shape payload.now }) }
+    ensures written { buffer.new
+        ≡ canonical_string (record { kind = kind; value = canonical shape payload.now })
+        ++ drop (buffer_len_of (record { kind = kind; value = canonical shape payload.now }))
+        buffer.old }
 {
-    let len = shape_put_canonical(shape, payload, &mut buffer[4..]);
-    put_frame(buffer, kind, len);
+    let len = shape_write_canonical(shape, payload, &mut buffer[4..]);
+    write_frame(buffer, kind, len);
     4 + len.next_multiple_of(4)
 }

@@ -1,4 +1,4 @@
-//! What payloads hold.
+//! Data: decoded payloads, one type for all shapes.
 #![tactic(auto, unfolding(crate::specs::Data::Suits))]
 
 ghost use Rattle.std.specs.Prelude.{[], false, pos, replicate};
@@ -7,33 +7,35 @@ ghost use Rattle.linkinfo_shapes.specs.Data.{IsDatumOr};
 use crate::shape::Shape;
 use std::net::{IpAddr, Ipv4Addr, Ipv6Addr};
 
-/// What a payload holds, with texts and bytes borrowed from it. Each shape has data of certain variants: those suit the shape.
+/// A datum: a decoded payload, whose text or bytes are borrowed. The data of a shape are those of
+/// certain variants, within bounds.
 #[derive(Clone, Copy, Debug, PartialEq, Eq)]
 pub enum Datum<'a> {
-    /// A number of `Shape::U8`, of the `Le` and `Be` shapes, or the byte of `Shape::EmptyOrByte`.
+    /// The number of `Shape::U8`, of the `Le` and `Be` shapes, or the byte of `Shape::EmptyOrByte`.
     Number(u64),
     /// The number of `Shape::I32`.
     Signed(i32),
-    /// What `Shape::Truth` and `Shape::TruthOne` say, and `Shape::Scrub`, where true is the default scrubbing.
+    /// The boolean of `Shape::Truth` and `Shape::TruthOne`; of `Shape::Scrub`, true for default
+    /// scrubbing.
     Truth(bool),
-    /// `Shape::Mark`, and `Shape::EmptyOrByte` without a byte.
+    /// No payload: `Shape::Mark`, and `Shape::EmptyOrByte` without a byte.
     Empty,
     /// The text of `Shape::Name`, without its closing zero byte.
     Text(&'a str),
-    /// The address of `Shape::V4`, `Shape::GeneveV4` and `Shape::Ip`.
+    /// The IPv4 address of `Shape::V4`, `Shape::GeneveV4` and `Shape::Ip`.
     V4(Ipv4Addr),
-    /// The address of `Shape::V6`, `Shape::GeneveV6` and `Shape::Ip`.
+    /// The IPv6 address of `Shape::V6`, `Shape::GeneveV6` and `Shape::Ip`.
     V6(Ipv6Addr),
     /// The hardware address of `Shape::Mac`.
     Mac([u8; 6]),
     /// The two numbers of `Shape::BePair`, or flags and mask of `Shape::FlagPair`.
     Pair(u32, u32),
-    /// The payload of `Shape::Raw`.
+    /// The bytes of `Shape::Raw`.
     Bytes(&'a [u8]),
 }
 
 impl<'a> Datum<'a> {
-    /// The number of a datum that suits `Shape::U8`, and else 0.
+    /// The number if this is a datum of `Shape::U8`, and 0 otherwise.
     #[inline(always)]
     pub fn u8_or_zero(self) -> u8
         ensures { IsDatumOr Shape.U8 0 self.entry result }
@@ -44,7 +46,7 @@ impl<'a> Datum<'a> {
         }
     }
 
-    /// The number of a datum that suits `Shape::Le16` or `Shape::Be16`, and else 0.
+    /// The number if this is a datum of `Shape::Le16` or `Shape::Be16`, and 0 otherwise.
     #[inline(always)]
     pub fn u16_or_zero(self) -> u16
         ensures le16 { IsDatumOr Shape.Le16 0 self.entry result }
@@ -56,7 +58,7 @@ impl<'a> Datum<'a> {
         }
     }
 
-    /// The number of a datum that suits `Shape::Le32` or `Shape::Be32`, and else 0.
+    /// The number if this is a datum of `Shape::Le32` or `Shape::Be32`, and 0 otherwise.
     #[inline(always)]
     pub fn u32_or_zero(self) -> u32
         ensures le32 { IsDatumOr Shape.Le32 0 self.entry result }
@@ -68,7 +70,7 @@ impl<'a> Datum<'a> {
         }
     }
 
-    /// The number of a datum that suits `Shape::Le64` or `Shape::Be64`, and else 0.
+    /// The number if this is a datum of `Shape::Le64` or `Shape::Be64`, and 0 otherwise.
     #[inline(always)]
     pub fn u64_or_zero(self) -> u64
         ensures le64 { IsDatumOr Shape.Le64 0 self.entry result }
@@ -80,7 +82,7 @@ impl<'a> Datum<'a> {
         }
     }
 
-    /// The number of a datum that suits `Shape::I32`, and else 0.
+    /// The number if this is a datum of `Shape::I32`, and 0 otherwise.
     #[inline(always)]
     pub fn i32_or_zero(self) -> i32
         ensures { IsDatumOr Shape.I32 (pos 0) self.entry result }
@@ -91,7 +93,8 @@ impl<'a> Datum<'a> {
         }
     }
 
-    /// What a datum says that suits `Shape::Truth`, `Shape::TruthOne` or `Shape::Scrub`, and else false.
+    /// The boolean if this is a datum of `Shape::Truth`, `Shape::TruthOne` or `Shape::Scrub`, and
+    /// false otherwise.
     #[inline(always)]
     pub fn bool_or_false(self) -> bool
         ensures truth { IsDatumOr Shape.Truth false self.entry result }
@@ -104,7 +107,7 @@ impl<'a> Datum<'a> {
         }
     }
 
-    /// The text of a datum that suits `Shape::Name`, and else the empty text.
+    /// The text if this is a datum of `Shape::Name`, and the empty text otherwise.
     #[inline(always)]
     pub fn text_or_empty(self) -> &'a str
         ensures { IsDatumOr Shape.Name [] self.entry result.now }
@@ -115,7 +118,7 @@ impl<'a> Datum<'a> {
         }
     }
 
-    /// The address of a datum that suits `Shape::V4` or `Shape::GeneveV4`, and else 0.0.0.0.
+    /// The address if this is a datum of `Shape::V4` or `Shape::GeneveV4`, and 0.0.0.0 otherwise.
     #[inline(always)]
     pub fn ipv4_or_unspecified(self) -> Ipv4Addr
         ensures v4 { IsDatumOr Shape.V4 Ipv4Addr.UNSPECIFIED self.entry result }
@@ -127,7 +130,7 @@ impl<'a> Datum<'a> {
         }
     }
 
-    /// The address of a datum that suits `Shape::V6` or `Shape::GeneveV6`, and else `::`.
+    /// The address if this is a datum of `Shape::V6` or `Shape::GeneveV6`, and `::` otherwise.
     #[inline(always)]
     pub fn ipv6_or_unspecified(self) -> Ipv6Addr
         ensures v6 { IsDatumOr Shape.V6 Ipv6Addr.UNSPECIFIED self.entry result }
@@ -139,7 +142,7 @@ impl<'a> Datum<'a> {
         }
     }
 
-    /// The address of a datum that suits `Shape::Ip`, and else `::`.
+    /// The address if this is a datum of `Shape::Ip`, and `::` otherwise.
     #[inline(always)]
     pub fn ip_or_unspecified(self) -> IpAddr
         ensures { IsDatumOr Shape.Ip (IpAddr.V6 Ipv6Addr.UNSPECIFIED) self.entry result }
@@ -151,7 +154,7 @@ impl<'a> Datum<'a> {
         }
     }
 
-    /// The hardware address of a datum that suits `Shape::Mac`, and else six zeros.
+    /// The hardware address if this is a datum of `Shape::Mac`, and six zeros otherwise.
     #[inline(always)]
     pub fn mac_or_zeros(self) -> [u8; 6]
         ensures { IsDatumOr Shape.Mac (replicate 6 0) self.entry result }
@@ -162,7 +165,7 @@ impl<'a> Datum<'a> {
         }
     }
 
-    /// The two numbers of a datum that suits `Shape::BePair`, and else two zeros.
+    /// The two numbers if this is a datum of `Shape::BePair`, and two zeros otherwise.
     #[inline(always)]
     pub fn u16_pair_or_zeros(self) -> (u16, u16)
         ensures { IsDatumOr Shape.BePair (0, 0) self.entry result }
@@ -173,7 +176,7 @@ impl<'a> Datum<'a> {
         }
     }
 
-    /// Flags and mask of a datum that suits `Shape::FlagPair`, and else two zeros.
+    /// Flags and mask if this is a datum of `Shape::FlagPair`, and two zeros otherwise.
     #[inline(always)]
     pub fn u32_pair_or_zeros(self) -> (u32, u32)
         ensures { IsDatumOr Shape.FlagPair (0, 0) self.entry result }
@@ -184,7 +187,7 @@ impl<'a> Datum<'a> {
         }
     }
 
-    /// The byte of a datum that suits `Shape::EmptyOrByte`, where there is one, and else `None`.
+    /// The byte if this is a datum of `Shape::EmptyOrByte` with one, and `None` otherwise.
     #[inline(always)]
     pub fn byte_or_none(self) -> Option<u8>
         ensures { IsDatumOr Shape.EmptyOrByte None self.entry result }
@@ -195,7 +198,7 @@ impl<'a> Datum<'a> {
         }
     }
 
-    /// The bytes of a datum that suits `Shape::Raw`, and else no bytes.
+    /// The bytes if this is a datum of `Shape::Raw`, and no bytes otherwise.
     #[inline(always)]
     pub fn bytes_or_empty(self) -> &'a [u8]
         ensures { IsDatumOr Shape.Raw [] self.entry result.now }

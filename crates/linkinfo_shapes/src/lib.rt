@@ -1,5 +1,6 @@
-//! The shapes of payloads: what bytes mean under each, what is written for a datum, which payloads say the same, and which shape each
-//! attribute of a link info family has.
+//! Shapes, the layouts of payloads: what bytes mean under each shape, and what is written for a
+//! datum. Also which payloads are equivalent, and which shape each attribute of a link info family
+//! has.
 #![tactic(auto)]
 
 mod canonical;
@@ -11,7 +12,7 @@ mod shape;
 mod table;
 mod writers;
 
-pub use canonical::{shape_canonical_len, shape_put_attribute, shape_put_canonical};
+pub use canonical::{shape_canonical_len, shape_write_attribute, shape_write_canonical};
 pub use datum::Datum;
 pub use payload::{datum_len, read_datum, shape_check, shape_same, write_datum};
 pub use shape::Shape;

@@ -1,9 +1,25 @@
-//! Payloads and data, by shape.
+//! Checks, reads, compares, measures and writes payloads, by shape.
 
 ghost use Rattle.std.specs.Prelude.{◌≡◌, ◌≤◌, ◌↔◌, IsTrue, None, length, SomeIff, slice_index};
 ghost use Rattle.nla_frame.specs.Payload.{of_length};
-ghost use Rattle.linkinfo_shapes.specs.Data.{ReadsAs, Suits, fixed_length, value_length, value_of, written};
-ghost use Rattle.linkinfo_shapes.specs.Shapes.{IsAccepted, IsPlain, accepted_length, is_zero as is_zero_number, means, of_version, payload_alike, verdict};
+ghost use Rattle.linkinfo_shapes.specs.Data.{
+  ReadsAs,
+  Suits,
+  fixed_length,
+  value_length,
+  value_of,
+  written,
+};
+ghost use Rattle.linkinfo_shapes.specs.Shapes.{
+  IsAccepted,
+  IsPlain,
+  accepted_length,
+  is_zero as is_zero_number,
+  means,
+  of_version,
+  payload_alike,
+  verdict,
+};
 
 use crate::datum::Datum;
 use crate::readers::*;
@@ -11,8 +27,11 @@ use crate::shape::Shape;
 use crate::writers::*;
 use nla_frame::{Cause, fitting, without_nul};
 
-/// Whether the payload is accepted under the shape, or why not. Takes no memory; of a payload that is no name its length alone is looked at.
-/// Asks for a shape other than `Shape::SelfList` and `Shape::Peer`, whose payloads the family reads itself.
+/// Returns whether the shape accepts the payload, and the cause if not. Does not allocate, and
+/// looks at the contents of names only, otherwise at lengths.
+///
+/// Requires a shape other than `Shape::SelfList` and `Shape::Peer`, whose payloads the family reads
+/// itself.
 #[inline(always)]
 #[tactic(auto, using(crate::specs::ShapeLaws::verdict_fixed))]
 pub fn shape_check(shape: Shape, payload: &[u8]) -> Result<(), Cause>
@@ -25,7 +44,7 @@ pub fn shape_check(shape: Shape, payload: &[u8]) -> Result<(), Cause>
     }
 }
 
-/// The length of every payload that is accepted under the shape, where they have one length.
+/// The length of every payload that the shape accepts, if they all have one length.
 #[inline(always)]
 fn accepted_len(shape: Shape) -> Option<usize>
     ensures { result ≡ accepted_length shape }
@@ -42,7 +61,7 @@ fn accepted_len(shape: Shape) -> Option<usize>
     }
 }
 
-/// Refuses a payload of another length.
+/// Rejects a payload of another length.
 #[inline(always)]
 fn check_len(payload: &[u8], len: usize) -> Result<(), Cause>
     ensures { result ≡ of_length len payload.now tt }
@@ -54,7 +73,7 @@ fn check_len(payload: &[u8], len: usize) -> Result<(), Cause>
     }
 }
 
-/// The same of the shapes that accept payloads of more than one length.
+/// Checks a payload of a shape that accepts more than one length.
 #[inline(always)]
 fn check_variable(shape: Shape, payload: &[u8]) -> Result<(), Cause>
     requires plain { IsPlain shape }
@@ -72,7 +91,8 @@ fn check_variable(shape: Shape, payload: &[u8]) -> Result<(), Cause>
     }
 }
 
-/// Refuses a payload of another length than `size`, with the cause AddressKind where it has the length `other`.
+/// Rejects a payload of another length than `size`, with the cause AddressKind if it has the length
+/// `other`.
 #[inline(always)]
 fn check_version(payload: &[u8], size: usize, other: usize) -> Result<(), Cause>
     ensures { result ≡ of_version size other payload.now tt }
@@ -84,7 +104,7 @@ fn check_version(payload: &[u8], size: usize, other: usize) -> Result<(), Cause>
     }
 }
 
-/// Whether the payload is an address of either version.
+/// Whether the payload is an address of either IP version.
 #[inline(always)]
 fn check_ip(payload: &[u8]) -> Result<(), Cause>
     ensures { result ≡ verdict (means Shape.Ip payload.now) }
@@ -117,8 +137,10 @@ fn check_name(payload: &[u8]) -> Result<(), Cause>
     }
 }
 
-/// What the payload holds under the shape, or why it is refused. Takes no memory: a text or bytes are the payload's own. Asks for a
-/// shape other than `Shape::SelfList` and `Shape::Peer`.
+/// Reads the payload under the shape; returns the datum, or why the payload is rejected. Does not
+/// allocate: text and bytes are borrowed from the payload.
+///
+/// Requires a shape other than `Shape::SelfList` and `Shape::Peer`.
 #[inline(always)]
 pub fn read_datum(shape: Shape, payload: &[u8]) -> Result<Datum<'_>, Cause>
     requires { IsPlain shape }
@@ -152,8 +174,10 @@ pub fn read_datum(shape: Shape, payload: &[u8]) -> Result<Datum<'_>, Cause>
     }
 }
 
-/// Whether two payloads mean the same under the shape. Takes no memory. Asks for a shape other than `Shape::SelfList` and
-/// `Shape::Peer`, and for two payloads that are accepted.
+/// Whether two payloads are equivalent: they have equal data under the shape. Does not allocate.
+///
+/// Requires a shape other than `Shape::SelfList` and `Shape::Peer`, and two payloads that the shape
+/// accepts.
 #[tactic(auto, using(crate::specs::ShapeLaws::accepted_alike))]
 #[inline(always)]
 pub fn shape_same(shape: Shape, a: &[u8], b: &[u8]) -> bool
@@ -180,7 +204,7 @@ fn is_alike(shape: Shape, a: &[u8], b: &[u8]) -> bool
     }
 }
 
-/// The first byte, or 0 where there is none.
+/// The first byte, or 0 for no bytes.
 #[inline(always)]
 fn first_byte(payload: &[u8]) -> u8
     ensures { result ≡ slice_index payload.now 0 }
@@ -196,12 +220,13 @@ fn is_zero(payload: &[u8]) -> bool
     payload == [0, 0, 0, 0].as_slice()
 }
 
-/// The length of the payload that is written for the datum, or `None` above 65531, the most that the length field of an attribute can
-/// count with its header. Asks for a datum that suits the shape.
+/// Returns the length of the payload that is written for the datum. It is `None` above 65531, the
+/// maximum length of a payload. Requires a datum of the shape.
 #[inline(always)]
 pub fn datum_len(shape: Shape, datum: &Datum<'_>) -> Option<usize>
     requires { Suits shape (value_of datum.now) }
-    ensures { let len = length (written shape (value_of datum.now)) in SomeIff result (len ≤ 65531) len }
+    ensures { let len = length (written shape (value_of datum.now)) in
+        SomeIff result (len ≤ 65531) len }
 {
     fitting(written_len(shape, datum))
 }
@@ -218,7 +243,7 @@ fn written_len(shape: Shape, datum: &Datum<'_>) -> usize
     }
 }
 
-/// The length of every payload that is written under the shape, where they have one length.
+/// The length of every payload that is written under the shape, if they all have one length.
 #[inline(always)]
 fn fixed_len(shape: Shape) -> Option<usize>
     ensures { result ≡ fixed_length shape }
@@ -249,8 +274,8 @@ fn variable_len(datum: &Datum<'_>) -> usize
     }
 }
 
-/// Writes the payload of the datum. Asks for a datum that suits the shape, and for a buffer of exactly that payload's length, which
-/// `datum_len` tells.
+/// Writes the payload of the datum. Requires a datum of the shape, and that the buffer has exactly
+/// the length that `datum_len` returns.
 #[tactic(auto, using(crate::specs::DataLaws::suits_plain))]
 #[inline(always)]
 pub fn write_datum(shape: Shape, datum: &Datum<'_>, buffer: &mut [u8])

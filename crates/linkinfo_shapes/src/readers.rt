@@ -1,4 +1,4 @@
-//! One reader for each shape: the datum of a payload, or what is wrong with the payload.
+//! One reader per shape: the datum of a payload, or why the payload is rejected.
 #![tactic(auto, unfolding(crate::specs::Data::ReadsAs, crate::specs::Data::reads, crate::specs::Data::Suits))]
 
 ghost use Rattle.std.specs.Prelude.{◌≡◌};

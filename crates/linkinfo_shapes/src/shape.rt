@@ -1,17 +1,18 @@
-//! How payloads are laid out.
+//! Shapes: the layouts of payloads.
 
 ghost use Rattle.std.specs.Prelude.{◌↔◌, IsTrue};
 ghost use Rattle.linkinfo_shapes.specs.Shapes.{IsPlain};
 
 use nla_frame::ExactEq;
 
-/// The layout of an attribute's payload: which payloads are accepted, and what each holds.
+/// The shape of an attribute, the layout of its payload: which payloads are accepted, and what
+/// datum each holds.
 ///
-/// A payload of a length that its shape does not take is refused with the cause Length, where nothing else is said. "Little-endian"
-/// stands for the kernel's native order.
+/// A payload of another length is rejected with the cause `Length`, unless noted otherwise. Numbers
+/// that the kernel writes in native byte order are little-endian.
 #[derive(Clone, Copy, Debug, PartialEq, Eq)]
 pub enum Shape {
-    /// One byte (`nla_get_u8`).
+    /// One byte, an unsigned number (`nla_get_u8`).
     U8,
     /// Two bytes, a little-endian number (`nla_get_u16`).
     Le16,
@@ -27,47 +28,53 @@ pub enum Shape {
     Be64,
     /// Four bytes, a little-endian two's complement number (`nla_get_s32`).
     I32,
-    /// One byte, true where it is not zero, written as 1 or 0 (`IFLA_VXLAN_LEARNING` and its like).
+    /// One byte, true if it is not zero; written as 1 or 0 (such as `IFLA_VXLAN_LEARNING`).
     Truth,
-    /// One byte, true where it is 1, written as 1 or 0 (`IFLA_GRE_PMTUDISC`).
+    /// One byte, true if it is 1; written as 1 or 0 (`IFLA_GRE_PMTUDISC`).
     TruthOne,
-    /// A presence flag: the attribute alone tells, whatever its payload, and it is written empty (`NLA_FLAG`, `nla_put_flag`).
+    /// A flag that is set by the presence of the attribute. Any payload is accepted, and an empty
+    /// one is written (`NLA_FLAG`, `nla_put_flag`).
     Mark,
-    /// UTF-8 text in front of one closing zero byte, which may be absent and is always written (`nla_put_string`). Other bytes are
-    /// refused with the cause Utf8.
+    /// UTF-8 text with one closing zero byte, which may be absent and is always written
+    /// (`nla_put_string`). Bytes that are not UTF-8 are rejected with the cause `Utf8`.
     Name,
     /// Four bytes, an IPv4 address in network byte order (`nla_get_in_addr`).
     V4,
     /// Sixteen bytes, an IPv6 address in network byte order (`nla_get_in6_addr`).
     V6,
-    /// Four bytes, an IPv4 address; sixteen bytes are refused with the cause AddressKind (`IFLA_GENEVE_REMOTE`).
+    /// Four bytes, an IPv4 address in network byte order. Sixteen bytes are rejected with the cause
+    /// `AddressKind` (`IFLA_GENEVE_REMOTE`).
     GeneveV4,
-    /// Sixteen bytes, an IPv6 address; four bytes are refused with the cause AddressKind (`IFLA_GENEVE_REMOTE6`).
+    /// Sixteen bytes, an IPv6 address in network byte order. Four bytes are rejected with the cause
+    /// `AddressKind` (`IFLA_GENEVE_REMOTE6`).
     GeneveV6,
-    /// Four or sixteen bytes, an IPv4 or an IPv6 address.
+    /// Four or sixteen bytes, an IPv4 or an IPv6 address in network byte order.
     Ip,
     /// Six bytes, a hardware address (`ETH_ALEN`).
     Mac,
     /// Two big-endian numbers of two bytes each (`struct ifla_vxlan_port_range`).
     BePair,
-    /// Two little-endian numbers of four bytes each, flags and then their mask (`struct ifla_rmnet_flags`).
+    /// Two little-endian numbers of four bytes each: flags, then their mask (`struct
+    /// ifla_rmnet_flags`).
     FlagPair,
-    /// No bytes, or one (`IFLA_VXLAN_TTL_INHERIT`).
+    /// No byte, or one (`IFLA_VXLAN_TTL_INHERIT`).
     EmptyOrByte,
-    /// Four bytes, a little-endian number of which zero means that nothing is scrubbed and every other one the default scrubbing,
-    /// written as 0 or 1 (`enum netkit_scrub`).
+    /// Four bytes, a little-endian number: zero for no scrubbing, every other number for default
+    /// scrubbing; written as 0 or 1 (`enum netkit_scrub`).
     Scrub,
-    /// Bytes of any kind, kept as they are.
+    /// Opaque bytes of any length, kept verbatim.
     Raw,
-    /// A list of attributes of the family that holds it, which that family reads itself (`IFLA_MACVLAN_MACADDR_DATA`).
+    /// A nested list of attributes of the same family, which that family reads itself
+    /// (`IFLA_MACVLAN_MACADDR_DATA`).
     SelfList,
-    /// The other end of a pair of links, which the family reads by its peer type (`VETH_INFO_PEER`, `VXCAN_INFO_PEER`,
-    /// `IFLA_NETKIT_PEER_INFO`).
+    /// The peer of a pair of links, which the family reads by its peer type (`VETH_INFO_PEER`,
+    /// `VXCAN_INFO_PEER`, `IFLA_NETKIT_PEER_INFO`).
     Peer,
 }
 
 impl Shape {
-    /// Whether payloads of the shape are read here: of every shape but `SelfList` and `Peer`, whose payloads the family reads itself.
+    /// Whether this crate reads payloads of the shape: true for every shape but `SelfList` and
+    /// `Peer`, whose payloads the family reads itself.
     pub fn is_plain(self) -> bool
         ensures { IsTrue result ↔ IsPlain self }
     {

@@ -1,15 +1,39 @@
-//! Which shape an attribute has: one table for all families.
+//! The shape of each attribute: one table for all families.
 
 ghost use Rattle.std.specs.Prelude.{◌≡◌};
 ghost use Rattle.linkinfo_shapes.specs.Table.{shape_of, found};
-ghost use Rattle.linkinfo_shapes.specs.Table.{amt_rows, bare_udp_rows, bat_adv_rows, geneve_rows, gre_rows, gre6_rows, gtp_rows, ipoib_rows, ip_tunnel_rows, ip_vlan_rows, mac_vlan_rows, mac_sec_rows, netkit_rows, rm_net_rows, veth_rows, vrf_rows, wwan_rows, xfrm_rows, vti_rows, vxlan_rows};
+ghost use Rattle.linkinfo_shapes.specs.Table.{
+  amt_rows,
+  bare_udp_rows,
+  bat_adv_rows,
+  geneve_rows,
+  gre_rows,
+  gre6_rows,
+  gtp_rows,
+  ipoib_rows,
+  ip_tunnel_rows,
+  ip_vlan_rows,
+  mac_vlan_rows,
+  mac_sec_rows,
+  netkit_rows,
+  rm_net_rows,
+  veth_rows,
+  vrf_rows,
+  wwan_rows,
+  xfrm_rows,
+  vti_rows,
+  vxlan_rows,
+};
 
 use crate::shape::Shape;
 use nla_frame::Family;
 
-/// The shape of a family's attribute, by its masked type, the type without its two flag bits. `None` where the family has no row for
-/// it, for `Family::Frame` and `Family::LinkInfo`, and for type 8 of `Family::IpTunnel` (`IFLA_IPTUN_FLAGS`), whose shape the kind of
-/// the link decides on. The numbers are those of include/uapi/linux/if_link.h, where no other file is named.
+/// The shape of a family's attribute, by its type without the two flag bits.
+///
+/// `None` if the family has no row for that type, and for `Family::Frame` and `Family::LinkInfo`.
+/// Also `None` for type 8 of `Family::IpTunnel` (`IFLA_IPTUN_FLAGS`), whose shape depends on the
+/// kind of the link. The types are those of include/uapi/linux/if_link.h unless another file is
+/// named.
 #[inline(always)]
 pub fn table_shape(family: Family, kind: u16) -> Option<Shape>
     ensures { result ≡ shape_of family kind }
@@ -213,7 +237,8 @@ fn ipoib(kind: u16) -> Option<Shape>
     }
 }
 
-/// `IFLA_IPTUN_*` (include/uapi/linux/if_tunnel.h). Type 8, `IFLA_IPTUN_FLAGS`, has no row: the kind of the link decides on its shape.
+/// `IFLA_IPTUN_*` (include/uapi/linux/if_tunnel.h). Type 8, `IFLA_IPTUN_FLAGS`, has no row, since
+/// its shape depends on the kind of the link.
 #[inline(always)]
 fn ip_tunnel(kind: u16) -> Option<Shape>
     ensures { result ≡ found ip_tunnel_rows kind }
@@ -328,7 +353,8 @@ fn rm_net(kind: u16) -> Option<Shape>
     }
 }
 
-/// `VETH_INFO_PEER` (include/uapi/linux/veth.h) and `VXCAN_INFO_PEER` (include/uapi/linux/can/vxcan.h).
+/// `VETH_INFO_PEER` (include/uapi/linux/veth.h) and `VXCAN_INFO_PEER`
+/// (include/uapi/linux/can/vxcan.h).
 #[inline(always)]
 fn veth(kind: u16) -> Option<Shape>
     ensures { result ≡ found veth_rows kind }

@@ -1,4 +1,4 @@
-//! One writer for each shape: the canonical payload of a datum.
+//! One writer per shape: the canonical payload of a datum.
 #![tactic(auto, unfolding(crate::specs::Data::Suits, crate::specs::Data::written))]
 
 ghost use Rattle.std.specs.Prelude.{◌≡◌, length};

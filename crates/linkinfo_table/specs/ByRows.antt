@@ -1,15 +1,15 @@
--- A family as its rows give it: what `LinkFamily` says of its attributes under one context is
--- lawful, and each error names the family, by what the rows owe.
+-- A family by its rows: what `LinkFamily` defines for its attributes under one context is lawful,
+-- and each error has the family's name. Both follow from what the rows owe.
 use Rattle.std.specs.Prelude.{◌≡◌, ℕ, ◌*◌, ◌≤◌, List, length, Result, refl}
 use Rattle.nla_frame.specs.Attribute.{Attribute, masked}
-use Rattle.nla_frame.specs.Pieces.{pieces}
+use Rattle.nla_frame.specs.NlaItems.{nla_items}
 use Rattle.nla_frame.specs.declared.default_nla.DefaultNla.{DefaultNla}
 use Rattle.nla_frame.specs.declared.error.DecodeError.{DecodeError}
 use Rattle.nla_frame.specs.declared.error.Family.{Family}
 use Rattle.linkinfo_table.specs.FamilyRows.{EachKeeps, FamilyRow, IsUnnested, PlainRow, RowOwes}
 use Rattle.linkinfo_table.specs.FamilyRows.{lookup_of, row_of, table_row}
 use Rattle.linkinfo_table.specs.FamilyRowLaws.{table_flat, table_owes}
-use Rattle.linkinfo_table.specs.FaultNames.{EachNames, names_first, names_list}
+use Rattle.linkinfo_table.specs.ErrorNames.{EachNames, names_first, names_list}
 use Rattle.linkinfo_table.specs.FlatLaws.{flat_alike_is, flat_no_memory, flat_read_well}
 use Rattle.linkinfo_table.specs.FlatLaws.{flat_well_attribute, flat_well_reads, none_inside}
 use Rattle.linkinfo_table.specs.LookupLaws.{flat_unnested, rows_say}
@@ -48,13 +48,13 @@ module _ {X : Type 0} (f : Family) (other : DefaultNla → X) (attribute : X →
     }
 
     module _ (unnested : (n : ℕ) → IsUnnested (rows n)) where
-      pub rows_name : (s : List ℕ) → EachNames f (values means (pieces s))
+      pub rows_name : (s : List ℕ) → EachNames f (values means (nla_items s))
       rows_name s =
           names_list f other attribute (λ _ n. lookup_of (rows n)) (λ _ a. means a)
           (λ _ a. rows_say f other attribute attribute (λ _. refl) (λ _ b. means b) rows a
           (unnested (masked a.kind)) (owes (masked a.kind))) (tt {0}) s
 
-      pub rows_name_first : (s : List ℕ) → EachNames f (first_meaning means (pieces s))
+      pub rows_name_first : (s : List ℕ) → EachNames f (first_meaning means (nla_items s))
       rows_name_first s =
           names_first f other attribute (λ _ n. lookup_of (rows n)) (λ _ a. means a)
           (λ _ a. rows_say f other attribute attribute (λ _. refl) (λ _ b. means b) rows a
@@ -72,7 +72,7 @@ module _ {X : Type 0} (f : Family) (other : DefaultNla → X) (attribute : X →
       keeps_other (λ _. 0) none_inside
 
   pub table_names : (s : List ℕ) →
-      EachNames f (values (meaning_in f other (λ n. row_of (table_row table n))) (pieces s))
+      EachNames f (values (meaning_in f other (λ n. row_of (table_row table n))) (nla_items s))
   table_names s =
       rows_name f other attribute (λ n. table_row table n) (table_owes attribute table keeps)
       (λ n. flat_unnested (table_row table n) (table_flat attribute table keeps n)) s

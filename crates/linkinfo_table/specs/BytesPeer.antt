@@ -1,4 +1,4 @@
--- Bytes as peers: any payload means itself.
+-- Peers that are bytes: any payload means itself.
 use Rattle.std.specs.Prelude.{◌≡◌, ◌↔◌, ℕ, true, List, Option, Some, refl}
 use Rattle.std.proofs.Common.{sym, subst, ◌∙◌}
 use Rattle.std.specs.Str.{bytes_eq}
@@ -11,7 +11,8 @@ peer p = Some p
 peer_same : (p q : List ℕ) → peer p ≡ peer q → p ≡ q
 peer_same p q e = cc
 
-pub bytes_alike_is : (p q x y : List ℕ) → IsBytes p → IsBytes q → peer p ≡ Some x → peer q ≡ Some y → (bytes_eq p q ≡ true) ↔ (x ≡ y)
+pub bytes_alike_is : (p q x y : List ℕ) → IsBytes p → IsBytes q → peer p ≡ Some x →
+    peer q ≡ Some y → (bytes_eq p q ≡ true) ↔ (x ≡ y)
 bytes_alike_is p q x y bp bq e h = (
   λ t. sym (peer_same p x e) ∙ (bytes_eq-Decides p q).0 t ∙ peer_same q y h,
   λ t. (bytes_eq-Decides p q).1 (peer_same p x e ∙ t ∙ sym (peer_same q y h)),

@@ -1,5 +1,5 @@
--- Which values of a family are well formed, stated of the value itself, in place of the datum that
--- a row makes it of: what the rows of a table give for such a statement.
+-- Which values of a family are well formed, stated by the value itself instead of the datum that a
+-- row builds it from: what the rows of a table give for such a statement.
 use Rattle.std.specs.Prelude.{◌≡◌, ◌≢◌, ◌↔◌, ℕ, ◌<◌, ◌==◌, Bool, true, false, if◌then◌else◌, List}
 use Rattle.std.specs.Prelude.{[], ◌∷◌, ◌++◌, map, Option, Some, None, refl}
 use Rattle.std.specs.List.{AllByRecursion}
@@ -15,19 +15,19 @@ use Rattle.linkinfo_table.specs.FamilyRows.{FamilyRow, PlainRow, IsNoRow, find, 
 use Rattle.linkinfo_table.specs.FamilyRows.{row_if, row_of, table_row}
 use Rattle.linkinfo_table.specs.Lists.{AllWell}
 use Rattle.linkinfo_table.specs.Rows.{WellAt, WellFormed}
-use Rattle.linkinfo_table.specs.declared.rowless.Rowless.{Rowless}
-use Rattle.linkinfo_table.specs.declared.rowless.Rowless.TheVariants as rowless
+use Rattle.linkinfo_table.specs.declared.opaque.Opaque.{Opaque}
+use Rattle.linkinfo_table.specs.declared.opaque.Opaque.TheVariants as opaque
 
--- an attribute of a type without a row: 16 bits of type, bytes for a payload, and a masked type
+-- an opaque attribute of a type without a row: a 16-bit type, a payload of bytes, and a masked type
 -- that no row has
 abbrev pub IsUnknown : {F : Type 0} → List (PlainRow F) → DefaultNla → Type 0
 IsUnknown rows d = (d.kind < 65536) × IsBytes d.value × IsNoRow rows (masked d.kind)
 
--- where one more type has a row of its own
+-- an opaque attribute, where one more type has a row of its own
 abbrev pub IsUnknownBeside : {F : Type 0} → ℕ → List (PlainRow F) → DefaultNla → Type 0
 IsUnknownBeside number rows d = (masked d.kind ≢ number) × IsUnknown rows d
 
--- ---- no label of a row makes a value that keeps an attribute
+-- ---- no label of a row makes the value of an opaque attribute
 
 -- a test of a row's values, as a function of the datum that the program holds
 abbrev tested : {F : Type 0} → (F → Bool) → PlainRow F → Value → Bool
@@ -36,7 +36,7 @@ tested is_other r v = is_other (r.label (unwrap r.shape v))
 abbrev never : {F : Type 0} → PlainRow F → Value → Bool
 never r v = false
 
--- the test fails for what each row's label makes
+-- the test fails for each value that a row's label makes
 abbrev pub AreTyped : {F : Type 0} → (F → Bool) → List (PlainRow F) → Type 0
 AreTyped is_other rows = AllByRecursion
     (λ r. (u : Carrier r.shape) → is_other (r.label u) ≡ false) rows
@@ -54,7 +54,7 @@ are_typed is_other (r ∷ rows) e =
       are_typed is_other rows rest,
     )
 
--- rows before others
+-- rows before other rows
 pub typed_before : {F : Type 0} (is_other : F → Bool) (front rest : List (PlainRow F)) →
     AreTyped is_other front → AreTyped is_other rest →
     AreTyped is_other (front ++ rest)
@@ -80,7 +80,7 @@ absent_no_row {F = F} (r ∷ rows) n e = go (n == r.number) refl (λ h. absent_n
     go false s rest h =
         (λ same. let yes : (n == r.number) ≡ true = eq-eqb n r.number same in cc, rest h)
 
--- what holds of each row holds of the one that is found
+-- what holds of each row holds of the one that is looked up
 found_row : {F : Type 0} (P : PlainRow F → Type 0) (rows : List (PlainRow F)) (n : ℕ)
     (r : PlainRow F) → AllByRecursion P rows → find rows n ≡ Some r → P r
 found_row P [] n r h e = absurd cc
@@ -93,8 +93,8 @@ found_row {F = F} P (q ∷ rows) n r h e = go (n == q.number) (λ k. found_row P
 
 -- ---- a value of a row
 
--- A label is that of some datum that the program can hold exactly where it is that of such a datum:
--- for a condition on labels that is this one on data.
+-- For a condition on labels that agrees with one on data: a label satisfies it if and only if it is
+-- the label of some datum that the program can hold.
 pub plain_label : {U F : Type 0} (Holds : U → Type 0) (label : U → F) (Condition : F → Type 0) →
     ((u : U) → Holds u → Condition (label u)) →
     ((u : U) → Condition (label u) → Holds u) → (u : U) →
@@ -102,9 +102,9 @@ pub plain_label : {U F : Type 0} (Holds : U → Type 0) (label : U → F) (Condi
 plain_label Holds label Condition to from u =
     (λ w. subst Condition w.2 (to w.0 w.1), λ c. (u, from u c, refl))
 
--- ---- a value that keeps an attribute
+-- ---- the value of an opaque attribute
 
--- it is well formed exactly where no row has its type
+-- it is well formed if and only if no row has its type
 pub unknown_label : {F : Type 0} (other : DefaultNla → F) (attribute : F → Attribute)
     (rows : List (PlainRow F)) (is_other : F → Bool) →
     ((d : DefaultNla) → attribute (other d) ≡ attribute_of d) →
@@ -135,7 +135,8 @@ unknown_label {F = F} other attribute rows is_other keeps is typed d =
       λ h. (d, h.0, h.1, refl),
     )
 
--- the same where one more type has a row of its own, which no value that keeps an attribute has
+-- the value of an opaque attribute, where one more type has a row of its own, which no opaque
+-- attribute has
 pub unknown_beside : {F : Type 0} (other : DefaultNla → F) (number : ℕ) (own : FamilyRow F)
     (rows : List (PlainRow F)) (d : DefaultNla) →
     ¬ WellAt other (row_of own) (other d) →
@@ -160,7 +161,7 @@ unknown_beside {F = F} other number own rows d never_own elsewhere =
 
 -- ---- lists
 
--- what is the same of each value is the same of a list
+-- an equivalence for each value gives one for lists
 pub each_stated : {X : Type 0} (P Q : X → Type 0) → ((x : X) → P x ↔ Q x) → (xs : List X) →
     AllWell P xs ↔ AllByRecursion Q xs
 each_stated P Q same [] = (λ _. tt, λ _. tt)
@@ -171,19 +172,19 @@ each_stated P Q same (x ∷ xs) = (
 
 -- ---- families without rows
 
--- an attribute of any type is kept
-abbrev pub rowless_conditions : {number : ℕ} → Rowless number → Type 0
-rowless_conditions {number = number} (rowless.Other d) = IsUnknown {F = Rowless number} [] d
+-- an attribute of any type is opaque
+abbrev pub opaque_conditions : {number : ℕ} → Opaque number → Type 0
+opaque_conditions {number = number} (opaque.Other d) = IsUnknown {F = Opaque number} [] d
 
-abbrev pub rowless_attribute : {number : ℕ} → Rowless number → Attribute
-rowless_attribute (rowless.Other d) = attribute_of d
+abbrev pub opaque_attribute : {number : ℕ} → Opaque number → Attribute
+opaque_attribute (opaque.Other d) = attribute_of d
 
-pub rowless_stated : {number : ℕ} (x : Rowless number) →
-    WellFormed (λ d. rowless.Other d) rowless_attribute (λ n. row_of (table_row [] n)) x ↔
-    rowless_conditions x
+pub opaque_stated : {number : ℕ} (x : Opaque number) →
+    WellFormed (λ d. opaque.Other d) opaque_attribute (λ n. row_of (table_row [] n)) x ↔
+    opaque_conditions x
 unfolding WellFormed
-rowless_stated =
+opaque_stated =
     elim [
-      | rowless.Other d ↦ unknown_label (λ z. rowless.Other z) rowless_attribute [] (λ _. true)
+      | opaque.Other d ↦ unknown_label (λ z. opaque.Other z) opaque_attribute [] (λ _. true)
           (λ _. refl) (λ _. refl) tt d
     ]

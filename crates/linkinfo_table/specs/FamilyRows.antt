@@ -1,23 +1,51 @@
--- The rows of a family, as its table gives them: by shape, or by a codec of the family's own.
-use Rattle.std.specs.Prelude.{◌≡◌, ◌≢◌, ℕ, ◌<◌, ◌==◌, Bool, true, false, if◌then◌else◌, List, [], ◌∷◌, map, Option, Some, None, Result, Ok, Err}
+-- The rows of a family, as its table defines them: by shape, or by a codec of the family's own.
+use Rattle.std.specs.Prelude.{
+  ◌≡◌,
+  ◌≢◌,
+  ℕ,
+  ◌<◌,
+  ◌==◌,
+  Bool,
+  true,
+  false,
+  if◌then◌else◌,
+  List,
+  [],
+  ◌∷◌,
+  map,
+  Option,
+  Some,
+  None,
+  Result,
+  Ok,
+  Err,
+}
 use Rattle.nla_frame.specs.Attribute.{Attribute}
 use Rattle.nla_frame.specs.declared.default_nla.DefaultNla.{DefaultNla}
 use Rattle.nla_frame.specs.declared.error.Cause.{Cause}
 use Rattle.nla_frame.specs.declared.error.Cause.TheVariants as cause
 use Rattle.linkinfo_shapes.specs.declared.shape.Shape.{Shape}
 use Rattle.linkinfo_shapes.specs.declared.shape.Shape.TheVariants.{Name, Peer, Raw}
-use Rattle.linkinfo_shapes.specs.Shapes.{IsPlain, Carrier, means, canon, Holds, payload_alike, needs_memory}
+use Rattle.linkinfo_shapes.specs.Shapes.{
+  IsPlain,
+  Carrier,
+  means,
+  canon,
+  Holds,
+  payload_alike,
+  needs_memory,
+}
 use Rattle.linkinfo_shapes.specs.Data.{Value, text, bytes, value_of, unwrap, written, Suits}
 use Rattle.linkinfo_table.specs.declared.lookup.Lookup.{Lookup}
 use Rattle.linkinfo_table.specs.declared.lookup.Lookup.TheVariants as lookup
-use Rattle.linkinfo_table.specs.declared.part.Part.{Part}
-use Rattle.linkinfo_table.specs.declared.part.Part.TheVariants as part
-use Rattle.linkinfo_table.specs.declared.found.Found.{Found}
-use Rattle.linkinfo_table.specs.declared.found.Found.TheVariants as found
-use Rattle.linkinfo_table.specs.Codecs.{Codec, Fault, Own}
+use Rattle.linkinfo_table.specs.declared.encodable.Encodable.{Encodable}
+use Rattle.linkinfo_table.specs.declared.encodable.Encodable.TheVariants as encodable
+use Rattle.linkinfo_table.specs.declared.decoded.Decoded.{Decoded}
+use Rattle.linkinfo_table.specs.declared.decoded.Decoded.TheVariants as decoded
+use Rattle.linkinfo_table.specs.Codecs.{Codec, Own, PayloadError}
 use Rattle.linkinfo_table.specs.Rows.{Row, Is, Refused, Unknown, IsRow}
 
-abbrev pub own : {X : Type 0} → Result X Cause → Result X Fault
+abbrev pub own : {X : Type 0} → Result X Cause → Result X PayloadError
 own (Ok x) = Ok x
 own (Err cause) = Err (Own cause)
 
@@ -36,7 +64,7 @@ shape_codec shape = record {
 pub data FamilyRow (F : Type 0) : Type 1 where
   -- a payload of this shape, and the label of its datum
   Plain : (shape : Shape) → (Carrier shape → F) → FamilyRow F
-  -- a payload that the family reads itself, a peer or a list of its own attributes
+  -- a payload that the family reads itself: a peer, or a list of its own attributes
   Custom : Shape → (codec : Codec) → (codec.Carrier → F) → FamilyRow F
   Refuses : Cause → FamilyRow F
   Absent : FamilyRow F
@@ -47,7 +75,7 @@ row_of (Custom shape codec label) = Is (record { codec = codec; label = label })
 row_of (Refuses cause) = Refused cause
 row_of Absent = Unknown
 
--- what `LinkFamily::shape` answers
+-- the result of `LinkFamily::shape`
 abbrev pub lookup_of : {F : Type 0} → FamilyRow F → Lookup
 lookup_of (Plain shape label) = lookup.Is shape
 lookup_of (Custom shape codec label) = lookup.Is shape
@@ -60,10 +88,13 @@ IsFlat (Plain shape label) = IsPlain shape
 IsFlat (Custom shape codec label) = ⊥
 IsFlat _ = Unit {0}
 
--- a row that holds no attributes: one that the table of shapes reads, or a peer, of which the only fault is the cause Peer
+-- a row without attributes inside: one that the table of shapes reads, or a peer, whose only error
+-- is the cause Peer
 abbrev pub IsUnnested : {F : Type 0} → FamilyRow F → Type 0
 IsUnnested (Plain shape label) = IsPlain shape
-IsUnnested (Custom shape codec label) = (shape ≡ Peer) × ((p : List ℕ) (fault : Fault) → codec.means p ≡ Err fault → fault ≡ Own cause.Peer)
+IsUnnested (Custom shape codec label) =
+    (shape ≡ Peer)
+    × ((p : List ℕ) (error : PayloadError) → codec.means p ≡ Err error → error ≡ Own cause.Peer)
 IsUnnested _ = Unit {0}
 
 -- what a row owes
@@ -72,7 +103,7 @@ RowOwes attribute number (Is e) = IsRow attribute number e
 RowOwes attribute number (Refused c) = c ≢ cause.Memory
 RowOwes attribute number Unknown = Unit {0}
 
--- ---- a table: its rows by number
+-- ---- a table: its rows by type
 
 pub record PlainRow (F : Type 0) : Type 0 where
   pub number : ℕ
@@ -90,11 +121,11 @@ abbrev pub plain_or_absent : {F : Type 0} → Option (PlainRow F) → FamilyRow 
 plain_or_absent (Some r) = Plain r.shape r.label
 plain_or_absent None = Absent
 
--- the row of a number in a table of shapes
+-- the row of a type in a table of shapes
 abbrev pub table_row : {F : Type 0} → List (PlainRow F) → ℕ → FamilyRow F
 table_row rows number = plain_or_absent (find rows number)
 
--- a number that no row has
+-- a type that no row has
 abbrev pub IsNoRow : {F : Type 0} → List (PlainRow F) → ℕ → Type 0
 IsNoRow [] number = Unit {0}
 IsNoRow (r ∷ rows) number = (number ≢ r.number) × IsNoRow rows number
@@ -108,7 +139,7 @@ row_if false x y = y
 abbrev pub without_labels : {F : Type 0} → List (PlainRow F) → List (ℕ × Shape)
 without_labels rows = map (λ r. (r.number, r.shape)) rows
 
--- what the table of all families says
+-- the lookup of the table of all families
 abbrev pub lookup_in : Option Shape → Lookup
 lookup_in (Some shape) = lookup.Is shape
 lookup_in None = lookup.Unknown
@@ -117,11 +148,12 @@ lookup_in None = lookup.Unknown
 abbrev pub typed : (number : ℕ) (shape : Shape) → Carrier shape → Attribute
 typed number shape x = record { kind = number; value = canon shape x }
 
--- a label keeps the number and the datum of its row
+-- a label keeps the type and the datum of its row
 pub record Keeps {F : Type 0} (attribute : F → Attribute) (r : PlainRow F) : Type 0 where
   pub low : r.number < 16384
   pub plain : IsPlain r.shape
-  pub keeps : (x : Carrier r.shape) → attribute (r.label x) ≡ record { kind = r.number; value = canon r.shape x }
+  pub keeps : (x : Carrier r.shape) →
+      attribute (r.label x) ≡ record { kind = r.number; value = canon r.shape x }
 
 abbrev pub EachKeeps : {F : Type 0} → (F → Attribute) → List (PlainRow F) → Type 0
 EachKeeps attribute [] = Unit {0}
@@ -139,56 +171,62 @@ abbrev pub IsLabelled : {F : Type 0} → FamilyRow F → Value → F → Type 0
 IsLabelled (Plain shape label) value x = x ≡ label (unwrap shape value)
 IsLabelled _ value x = ⊥
 
--- making a value of this shape copies a text or bytes, for which memory is allocated
+-- building a value of this shape copies text or bytes, which allocates memory
 abbrev pub owns_memory : Shape → Bool
 owns_memory Name = true
 owns_memory Raw = true
 owns_memory _ = false
 
--- so does making a value of this datum
+-- so does building a value of this datum
 abbrev pub is_copied : Value → Bool
 is_copied (text s) = true
 is_copied (bytes s) = true
 is_copied _ = false
 
--- what was read of an attribute: a datum belongs to the row of its type
-abbrev pub SuitsFound : {F : Type 0} → (ℕ → FamilyRow F) → Found → Type 0
-SuitsFound rows (found.Typed number datum) = SuitsRow (rows number) (value_of datum)
-SuitsFound rows (found.Kept nla) = Unit {0}
+-- the decoded content of an attribute: a datum belongs to the row of its type
+abbrev pub SuitsDecoded : {F : Type 0} → (ℕ → FamilyRow F) → Decoded → Type 0
+SuitsDecoded rows (decoded.Typed number datum) = SuitsRow (rows number) (value_of datum)
+SuitsDecoded rows (decoded.Kept nla) = Unit {0}
 
--- what a place holds once the row's label of a datum was put there
-abbrev pub PutsLabelled : {F H : Type 0} → (F → H) → FamilyRow F → Value → H → Type 0
-PutsLabelled with (Plain shape label) value held = held ≡ with (label (unwrap shape value))
-PutsLabelled with _ value held = ⊥
+-- what a slot holds once the row's label of a datum is stored
+abbrev pub StoresLabelled : {F H : Type 0} → (F → H) → FamilyRow F → Value → H → Type 0
+StoresLabelled with (Plain shape label) value held = held ≡ with (label (unwrap shape value))
+StoresLabelled with _ value held = ⊥
 
--- what a place holds once the value of what was read was put there
-abbrev pub Puts : {F H : Type 0} → (F → H) → (DefaultNla → F) → (ℕ → FamilyRow F) → Found → H → Type 0
-Puts with other rows (found.Typed number datum) held = PutsLabelled with (rows number) (value_of datum) held
-Puts with other rows (found.Kept nla) held = held ≡ with (other nla)
+-- what a slot holds once the value of the decoded content is stored
+abbrev pub Stores : {F H : Type 0} → (F → H) → (DefaultNla → F) → (ℕ → FamilyRow F) → Decoded → H →
+    Type 0
+Stores with other rows (decoded.Typed number datum) held =
+    StoresLabelled with (rows number) (value_of datum) held
+Stores with other rows (decoded.Kept nla) held = held ≡ with (other nla)
 
--- making a value of what was read needs memory
-abbrev pub found_needs_memory : Found → Bool
-found_needs_memory (found.Typed number datum) = is_copied (value_of datum)
-found_needs_memory (found.Kept nla) = false
+-- building a value of the decoded content needs memory
+abbrev pub decoded_needs_memory : Decoded → Bool
+decoded_needs_memory (decoded.Typed number datum) = is_copied (value_of datum)
+decoded_needs_memory (decoded.Kept nla) = false
 
--- what a value shows of its canonical attribute: type, shape and datum, or that it is kept as it came
-abbrev pub Shows : Part → Attribute → Bool → Type 0
-Shows (part.Typed number shape datum) a is_custom =
-    (a ≡ record { kind = number; value = written shape (value_of datum) }) × Suits shape (value_of datum) × (is_custom ≡ false)
-Shows (part.Kept nla) a is_custom = (a ≡ record { kind = nla.now.kind; value = nla.now.value }) × (is_custom ≡ false)
-Shows part.Custom a is_custom = is_custom ≡ true
+-- what a value shows of its canonical attribute: type, shape and datum, or that it is opaque
+abbrev pub Shows : Encodable → Attribute → Bool → Type 0
+Shows (encodable.Typed number shape datum) a is_custom =
+    (a ≡ record { kind = number; value = written shape (value_of datum) })
+    × Suits shape (value_of datum)
+    × (is_custom ≡ false)
+Shows (encodable.Kept nla) a is_custom =
+    (a ≡ record { kind = nla.now.kind; value = nla.now.value }) × (is_custom ≡ false)
+Shows encodable.Custom a is_custom = is_custom ≡ true
 
--- ---- equality of these data, whatever the places that they borrow from
+-- ---- equality of these data, wherever they borrow from
 
--- one type and one datum, or one attribute that is kept
-abbrev pub SameFound : Found → Found → Type 0
-SameFound (found.Typed n d) (found.Typed k e) = (n ≡ k) × (value_of d ≡ value_of e)
-SameFound (found.Kept x) (found.Kept y) = x ≡ y
-SameFound _ _ = ⊥
+-- equal types and data, or equal opaque attributes
+abbrev pub SameDecoded : Decoded → Decoded → Type 0
+SameDecoded (decoded.Typed n d) (decoded.Typed k e) = (n ≡ k) × (value_of d ≡ value_of e)
+SameDecoded (decoded.Kept x) (decoded.Kept y) = x ≡ y
+SameDecoded _ _ = ⊥
 
--- the same of what a value shows, of a type, a shape and a datum
-abbrev pub SamePart : Part → Part → Type 0
-SamePart (part.Typed n s d) (part.Typed k t e) = (n ≡ k) × (s ≡ t) × (value_of d ≡ value_of e)
-SamePart (part.Kept x) (part.Kept y) = x.now ≡ y.now
-SamePart part.Custom part.Custom = Unit {0}
-SamePart _ _ = ⊥
+-- equal types, shapes and data, or equal opaque attributes
+abbrev pub SameEncodable : Encodable → Encodable → Type 0
+SameEncodable (encodable.Typed n s d) (encodable.Typed k t e) = (n ≡ k) × (s ≡ t)
+    × (value_of d ≡ value_of e)
+SameEncodable (encodable.Kept x) (encodable.Kept y) = x.now ≡ y.now
+SameEncodable encodable.Custom encodable.Custom = Unit {0}
+SameEncodable _ _ = ⊥

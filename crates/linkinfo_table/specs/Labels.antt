@@ -1,4 +1,5 @@
--- What each row of a table keeps, from what its labels keep: its numbers are masked types, and its shapes plain, by one computation.
+-- What each row of a table keeps, from what its labels keep: its types are masked types, and its
+-- shapes plain, by one computation.
 use Rattle.std.specs.Prelude.{◌≡◌, ◌&&◌, ltb, Bool, true, false, List, [], ◌∷◌}
 use Rattle.std.specs.Cmp.{first_so, second_so}
 use Rattle.std.specs.List.{list_all}
@@ -19,23 +20,28 @@ is_plain _ = true
 abbrev pub is_plain_row : {F : Type 0} → PlainRow F → Bool
 is_plain_row r = ltb r.number 16384 && is_plain r.shape
 
--- the canonical attribute of what a label makes of a datum is the row's number with that datum
+-- the canonical attribute of a label's value has the row's type, with the datum
 abbrev pub LabelsKeep : {F : Type 0} → (F → Attribute) → List (PlainRow F) → Type 0
 LabelsKeep attribute [] = Unit {0}
-LabelsKeep attribute (r ∷ rows) = ((x : Carrier r.shape) → attribute (r.label x) ≡ typed r.number r.shape x) × LabelsKeep attribute rows
+LabelsKeep attribute (r ∷ rows) =
+    ((x : Carrier r.shape) → attribute (r.label x) ≡ typed r.number r.shape x)
+    × LabelsKeep attribute rows
 
 plain_shape : (shape : Shape) → is_plain shape ≡ true → IsPlain shape
 plain_shape SelfList h = absurd cc
 plain_shape Peer h = absurd cc
 plain_shape _ h = tt
 
--- a table of plain rows whose labels keep number and datum keeps them in each row
-pub each_keeps : {F : Type 0} (attribute : F → Attribute) (rows : List (PlainRow F)) → list_all (λ r. is_plain_row r) rows ≡ true →
+-- a table of plain rows with labels that keep type and datum keeps them in each row
+pub each_keeps : {F : Type 0} (attribute : F → Attribute) (rows : List (PlainRow F)) →
+    list_all (λ r. is_plain_row r) rows ≡ true →
     LabelsKeep attribute rows → EachKeeps attribute rows
 each_keeps attribute [] plain keep = tt
 each_keeps attribute (r ∷ rows) plain keep =
-    let here : is_plain_row r ≡ true = first_so (is_plain_row r) (list_all (λ q. is_plain_row q) rows) plain in
-    let rest : list_all (λ q. is_plain_row q) rows ≡ true = second_so (is_plain_row r) (list_all (λ q. is_plain_row q) rows) plain in (
+    let here : is_plain_row r ≡ true =
+    first_so (is_plain_row r) (list_all (λ q. is_plain_row q) rows) plain in
+    let rest : list_all (λ q. is_plain_row q) rows ≡ true =
+    second_so (is_plain_row r) (list_all (λ q. is_plain_row q) rows) plain in (
       record {
         low = ltb-true r.number 16384 (first_so (ltb r.number 16384) (is_plain r.shape) here);
         plain = plain_shape r.shape (second_so (ltb r.number 16384) (is_plain r.shape) here);

@@ -1,55 +1,87 @@
--- What a list of attributes means, over the pieces of its string, given what one attribute means. A state may go along, as the kind in force
--- does at top level: `m t a` is the meaning of an attribute under the state, `after t a` the state behind it.
-use Rattle.std.specs.Prelude.{if◌then◌else◌, ◌≡◌, ◌≢◌, ℕ, ◌+◌, Bool, true, false, ◌&&◌, ◌||◌, is_ok, List, [], ◌∷◌, ◌++◌, Result, Ok, Err}
+-- What a list of attributes means, over the items of its byte string, given what one attribute
+-- means. There may be a state, such as the current kinds at top level. `m t a` is the meaning of an
+-- attribute under the state, and `after t a` the state after it.
+use Rattle.std.specs.Prelude.{
+  if◌then◌else◌,
+  ◌≡◌,
+  ◌≢◌,
+  ℕ,
+  ◌+◌,
+  Bool,
+  true,
+  false,
+  ◌&&◌,
+  ◌||◌,
+  is_ok,
+  List,
+  [],
+  ◌∷◌,
+  ◌++◌,
+  Result,
+  Ok,
+  Err,
+}
 use Rattle.nla_frame.specs.Attribute.{Attribute, canonical_string, list_string}
 use Rattle.nla_frame.specs.Canonical.{attribute_for, attributes_for}
-use Rattle.nla_frame.specs.Error.{header_fault, memory_fault}
+use Rattle.nla_frame.specs.Error.{header_error, memory_error}
 use Rattle.nla_frame.specs.declared.error.DecodeError.{DecodeError}
 
 infixl 10 ◌>>=◌
-abbrev pub ◌>>=◌ : {A B : Type 0} → Result A DecodeError → (A → Result B DecodeError) → Result B DecodeError
+abbrev pub ◌>>=◌ : {A B : Type 0} → Result A DecodeError → (A → Result B DecodeError) →
+    Result B DecodeError
 (Ok x) >>= f = f x
 (Err e) >>= f = Err e
 
--- what comes only behind an item that was read
+-- what comes only after a decoded item
 abbrev pub if_read : {X : Type 0} → Result X DecodeError → ℕ → ℕ
 if_read (Ok x) n = n
 if_read (Err e) n = 0
 
--- the values in order, or the first fault in byte order; a rest without a header is the header fault
-abbrev pub values_under : {T X : Type 0} → (T → Attribute → Result X DecodeError) → (T → Attribute → T) → T → List (Result Attribute ℕ) → Result (List X) DecodeError
+-- the values in order, or the first error in byte order; a rest without a header is the header
+-- error
+abbrev pub values_under : {T X : Type 0} → (T → Attribute → Result X DecodeError) →
+    (T → Attribute → T) → T → List (Result Attribute ℕ) → Result (List X) DecodeError
 values_under m after t [] = Ok []
-values_under m after t ((Err n) ∷ more) = Err header_fault
-values_under m after t ((Ok a) ∷ more) = m t a >>= λ x. values_under m after (after t a) more >>= λ xs. Ok (x ∷ xs)
+values_under m after t ((Err n) ∷ more) = Err header_error
+values_under m after t ((Ok a) ∷ more) =
+    m t a >>= λ x. values_under m after (after t a) more >>= λ xs. Ok (x ∷ xs)
 
--- values that were read before, in front of those that follow
-abbrev pub behind : {X : Type 0} → List X → Result (List X) DecodeError → Result (List X) DecodeError
-behind front r = r >>= λ xs. Ok (front ++ xs)
+-- values read before, followed by the others
+abbrev pub append_to : {X : Type 0} → List X → Result (List X) DecodeError →
+    Result (List X) DecodeError
+append_to front r = r >>= λ xs. Ok (front ++ xs)
 
--- What reading one attribute into a place answers: on success the place holds what it means. Want of memory may stand in the place of a fault.
-abbrev pub PutsGives : {X H : Type 0} → (X → H) → H → Result (Unit {0}) DecodeError → Result X DecodeError → Type 0
-PutsGives with held (Ok _) meaning = (meaning >>= λ x. Ok (with x)) ≡ Ok held
-PutsGives with held (Err e) meaning = e ≢ memory_fault → meaning ≡ Err e
+-- The result of reading one attribute into a slot: on success the slot holds what the attribute
+-- means, and on an error that is the attribute's error or the memory error.
+abbrev pub StoreGives : {X H : Type 0} → (X → H) → H → Result (Unit {0}) DecodeError →
+    Result X DecodeError → Type 0
+StoreGives with held (Ok _) meaning = (meaning >>= λ x. Ok (with x)) ≡ Ok held
+StoreGives with held (Err e) meaning = e ≢ memory_error → meaning ≡ Err e
 
--- the same behind the values of a list
-abbrev pub Appends : {X : Type 0} → List X → List X → Result (Unit {0}) DecodeError → Result X DecodeError → Type 0
-Appends old new result meaning = PutsGives (λ x. old ++ x ∷ []) new result meaning
+-- the result of reading one attribute to the end of a list
+abbrev pub Appends : {X : Type 0} → List X → List X → Result (Unit {0}) DecodeError →
+    Result X DecodeError → Type 0
+Appends old new result meaning = StoreGives (λ x. old ++ x ∷ []) new result meaning
 
--- putting what an attribute means may need memory: for what the value owns, and for its place unless that is certain
-abbrev pub put_memory : {X : Type 0} → Bool → Bool → Result X DecodeError → Bool
-put_memory certain needs meaning = needs || (if certain then false else is_ok meaning)
+-- storing what an attribute means may need memory: for what the value owns, and for its slot
+-- unless that is certain
+abbrev pub store_memory : {X : Type 0} → Bool → Bool → Result X DecodeError → Bool
+store_memory certain needs meaning = needs || (if certain then false else is_ok meaning)
 
 abbrev pub push_memory : {X : Type 0} → Bool → Result X DecodeError → Bool
-push_memory needs meaning = put_memory false needs meaning
+push_memory needs meaning = store_memory false needs meaning
 
--- the headers that are looked at, those inside attributes too, up to the first fault
-abbrev pub headers_under : {T X : Type 0} → (T → Attribute → Result X DecodeError) → (T → Attribute → ℕ) → (T → Attribute → T) → T → List (Result Attribute ℕ) → ℕ
+-- the number of headers examined, those inside attributes included, up to the first error
+abbrev pub headers_under : {T X : Type 0} → (T → Attribute → Result X DecodeError) →
+    (T → Attribute → ℕ) → (T → Attribute → T) → T → List (Result Attribute ℕ) → ℕ
 headers_under m h after t [] = 0
 headers_under m h after t ((Err n) ∷ more) = n
-headers_under m h after t ((Ok a) ∷ more) = 1 + (h t a + if_read (m t a) (headers_under m h after (after t a) more))
+headers_under m h after t ((Ok a) ∷ more) =
+    1 + (h t a + if_read (m t a) (headers_under m h after (after t a) more))
 
--- as many attributes, alike in pairs, each pair under the first list's state
-abbrev pub alike_under : {T : Type 0} → (T → Attribute → Attribute → Bool) → (T → Attribute → T) → T → List (Result Attribute ℕ) → List (Result Attribute ℕ) → Bool
+-- equal numbers of attributes, equivalent in pairs, each pair under the state of the first list
+abbrev pub alike_under : {T : Type 0} → (T → Attribute → Attribute → Bool) → (T → Attribute → T) →
+    T → List (Result Attribute ℕ) → List (Result Attribute ℕ) → Bool
 alike_under f after t [] [] = true
 alike_under f after t [] (y ∷ ys) = false
 alike_under f after t (x ∷ xs) [] = false
@@ -57,41 +89,49 @@ alike_under f after t ((Ok a) ∷ xs) ((Ok b) ∷ ys) = f t a b && alike_under f
 alike_under f after t ((Ok a) ∷ xs) ((Err n) ∷ ys) = false
 alike_under f after t ((Err n) ∷ xs) (y ∷ ys) = false
 
--- each value is well formed under the state that those before it leave
+-- each value is well formed under the state after those before it
 abbrev pub well_under : {T X : Type 0} → (T → X → Type 0) → (T → X → T) → T → List X → Type 0
 well_under well next t [] = Unit {0}
 well_under well next t (x ∷ xs) = well t x × well_under well next (next t x) xs
 
--- Whether reading a list may need memory: not for the empty list, and not where the first attribute has no header or a fault that needs none.
-abbrev pub memory_under : {T X : Type 0} → (T → Attribute → Result X DecodeError) → (T → Attribute → Bool) → T → List (Result Attribute ℕ) → Bool
+-- Whether reading a list may need memory: not for the empty list, and not if the first attribute
+-- has no header or an error that needs none.
+abbrev pub memory_under : {T X : Type 0} → (T → Attribute → Result X DecodeError) →
+    (T → Attribute → Bool) → T → List (Result Attribute ℕ) → Bool
 memory_under m needs t [] = false
 memory_under m needs t ((Err n) ∷ more) = false
 memory_under m needs t ((Ok a) ∷ more) = needs t a || is_ok (m t a)
 
--- the same of lists without a state
-abbrev pub values : {X : Type 0} → (Attribute → Result X DecodeError) → List (Result Attribute ℕ) → Result (List X) DecodeError
+-- lists without a state
+abbrev pub values : {X : Type 0} → (Attribute → Result X DecodeError) → List (Result Attribute ℕ) →
+    Result (List X) DecodeError
 values m ps = values_under (λ _ a. m a) (λ t _. t) (tt {0}) ps
 
-abbrev pub headers_of : {X : Type 0} → (Attribute → Result X DecodeError) → (Attribute → ℕ) → List (Result Attribute ℕ) → ℕ
+abbrev pub headers_of : {X : Type 0} → (Attribute → Result X DecodeError) → (Attribute → ℕ) →
+    List (Result Attribute ℕ) → ℕ
 headers_of m h ps = headers_under (λ _ a. m a) (λ _ a. h a) (λ t _. t) (tt {0}) ps
 
-abbrev pub alike_pairs : (Attribute → Attribute → Bool) → List (Result Attribute ℕ) → List (Result Attribute ℕ) → Bool
+abbrev pub alike_pairs : (Attribute → Attribute → Bool) → List (Result Attribute ℕ) →
+    List (Result Attribute ℕ) → Bool
 alike_pairs f ps qs = alike_under (λ _ a b. f a b) (λ t _. t) (tt {0}) ps qs
 
-abbrev pub memory_of : {X : Type 0} → (Attribute → Result X DecodeError) → (Attribute → Bool) → List (Result Attribute ℕ) → Bool
+abbrev pub memory_of : {X : Type 0} → (Attribute → Result X DecodeError) → (Attribute → Bool) →
+    List (Result Attribute ℕ) → Bool
 memory_of m needs ps = memory_under (λ _ a. m a) (λ _ a. needs a) (tt {0}) ps
 
 abbrev pub AllWell : {X : Type 0} → (X → Type 0) → List X → Type 0
 AllWell well xs = well_under (λ _ x. well x) (λ t _. t) (tt {0}) xs
 
--- the canonical string of what a list means
-abbrev pub canonical_list : {X : Type 0} → (X → Attribute) → (Attribute → Result X DecodeError) → List (Result Attribute ℕ) → List ℕ
+-- the canonical byte string of what a list means
+abbrev pub canonical_list : {X : Type 0} → (X → Attribute) → (Attribute → Result X DecodeError) →
+    List (Result Attribute ℕ) → List ℕ
 canonical_list attribute m ps = list_string (attributes_for attribute (values m ps))
 
--- The first attribute alone: what follows it is not looked at.
-abbrev pub first_meaning : {X : Type 0} → (Attribute → Result X DecodeError) → List (Result Attribute ℕ) → Result X DecodeError
-first_meaning m [] = Err header_fault
-first_meaning m ((Err n) ∷ more) = Err header_fault
+-- The first attribute alone: what follows it is not examined.
+abbrev pub first_meaning : {X : Type 0} → (Attribute → Result X DecodeError) →
+    List (Result Attribute ℕ) → Result X DecodeError
+first_meaning m [] = Err header_error
+first_meaning m ((Err n) ∷ more) = Err header_error
 first_meaning m ((Ok a) ∷ more) = m a
 
 abbrev pub first_headers : (Attribute → ℕ) → List (Result Attribute ℕ) → ℕ
@@ -99,7 +139,8 @@ first_headers h [] = 0
 first_headers h ((Err n) ∷ more) = n
 first_headers h ((Ok a) ∷ more) = 1 + h a
 
-abbrev pub first_alike : (Attribute → Attribute → Bool) → List (Result Attribute ℕ) → List (Result Attribute ℕ) → Bool
+abbrev pub first_alike : (Attribute → Attribute → Bool) → List (Result Attribute ℕ) →
+    List (Result Attribute ℕ) → Bool
 first_alike f ((Ok a) ∷ ps) ((Ok b) ∷ qs) = f a b
 first_alike f ps qs = false
 
@@ -108,6 +149,7 @@ first_memory needs [] = false
 first_memory needs ((Err n) ∷ more) = false
 first_memory needs ((Ok a) ∷ more) = needs a
 
--- the canonical string of what the first attribute means
-abbrev pub canonical_first : {X : Type 0} → (X → Attribute) → (Attribute → Result X DecodeError) → List (Result Attribute ℕ) → List ℕ
+-- the canonical byte string of what the first attribute means
+abbrev pub canonical_first : {X : Type 0} → (X → Attribute) → (Attribute → Result X DecodeError) →
+    List (Result Attribute ℕ) → List ℕ
 canonical_first attribute m ps = canonical_string (attribute_for attribute (first_meaning m ps))

@@ -1,8 +1,8 @@
--- What a family's answer to the lookup of a type says of the meaning of an attribute of that type.
+-- What the lookup of a type says of the meaning of an attribute of that type.
 use Rattle.std.specs.Prelude.{◌≡◌, ℕ, List, ◌∷◌, map, Result, Ok, Err}
 use Rattle.nla_frame.specs.Attribute.{Attribute, list_string, masked}
 use Rattle.nla_frame.specs.Kept.{kept}
-use Rattle.nla_frame.specs.Pieces.{pieces}
+use Rattle.nla_frame.specs.NlaItems.{nla_items}
 use Rattle.nla_frame.specs.declared.default_nla.DefaultNla.{DefaultNla}
 use Rattle.nla_frame.specs.declared.error.Cause.{Cause}
 use Rattle.nla_frame.specs.declared.error.Cause.TheVariants as cause
@@ -16,43 +16,58 @@ use Rattle.linkinfo_table.specs.Lists.{values}
 use Rattle.linkinfo_table.specs.declared.lookup.Lookup.{Lookup}
 use Rattle.linkinfo_table.specs.declared.lookup.Lookup.TheVariants as lookup
 
--- a fault of the attribute's own names the family and the masked type
-abbrev pub own_fault : Family → Attribute → Cause → DecodeError
-own_fault family a cause = record { family = family; kind = masked a.kind; cause = cause }
+-- an attribute's own error has the family and the masked type
+abbrev pub own_error : Family → Attribute → Cause → DecodeError
+own_error family a cause = record { family = family; kind = masked a.kind; cause = cause }
 
--- a value that holds the datum: its canonical attribute is of the masked type, with the canonical payload of the datum; a cause is the
--- attribute's own fault
-abbrev pub MeansDatum : {X : Type 0} → Family → (X → Attribute) → Attribute → (shape : Shape) → Result (Carrier shape) Cause → Result X DecodeError → Type 0
-MeansDatum {X = X} family attribute a shape (Ok u) m = (x : X) × (m ≡ Ok x) × (attribute x ≡ typed (masked a.kind) shape u)
-MeansDatum family attribute a shape (Err cause) m = m ≡ Err (own_fault family a cause)
+-- A value with the datum: its canonical attribute is of the masked type, with the canonical payload
+-- of the datum. A cause is the attribute's own error.
+abbrev pub MeansDatum : {X : Type 0} → Family → (X → Attribute) → Attribute → (shape : Shape) →
+    Result (Carrier shape) Cause → Result X DecodeError → Type 0
+MeansDatum {X = X} family attribute a shape (Ok u) m =
+    (x : X) × (m ≡ Ok x) × (attribute x ≡ typed (masked a.kind) shape u)
+MeansDatum family attribute a shape (Err cause) m = m ≡ Err (own_error family a cause)
 
--- a value that holds the list: its canonical payload is the list's string; a fault inside the list is that of the attribute
-abbrev pub HoldsList : {X : Type 0} → (X → Attribute) → Attribute → Result (List X) DecodeError → Result X DecodeError → Type 0
-HoldsList {X = X} attribute a (Ok xs) m = (x : X) × (m ≡ Ok x) × (attribute x ≡ record { kind = masked a.kind; value = list_string (map attribute xs) })
+-- A value with the list: its canonical payload is the byte string of the list. An error inside the
+-- list is that of the attribute.
+abbrev pub HoldsList : {X : Type 0} → (X → Attribute) → Attribute → Result (List X) DecodeError →
+    Result X DecodeError → Type 0
+HoldsList {X = X} attribute a (Ok xs) m =
+    (x : X)
+    × (m ≡ Ok x)
+    × (attribute x ≡ record { kind = masked a.kind; value = list_string (map attribute xs) })
 HoldsList attribute a (Err e) m = m ≡ Err e
 
--- What the shape of its type says of the meaning `m` of an attribute, where `meaning c` is what attributes of the family mean under `c`: a shape of
--- the table is what the payload is read by; an address list is a list of the family's attributes, under some context; a peer is typed by
--- the masked type, and its only fault is the cause Peer.
-pub record ShapeSays {C X : Type 0} (family : Family) (attribute : X → Attribute) (meaning : C → Attribute → Result X DecodeError) (a : Attribute) (shape : Shape)
+-- What the shape of its type says of the meaning `m` of an attribute, where `meaning c` is what
+-- attributes of the family mean under `c`. A shape of the table is the one by which the payload is
+-- read. An address list is a list of the family's attributes, under some context. A peer is of the
+-- masked type, and its only error is the cause Peer.
+pub record ShapeSays {C X : Type 0} (family : Family) (attribute : X → Attribute)
+    (meaning : C → Attribute → Result X DecodeError) (a : Attribute) (shape : Shape)
     (m : Result X DecodeError) : Type 0 where
   pub plain : IsPlain shape → MeansDatum family attribute a shape (means shape a.value) m
-  pub list : shape ≡ SelfList → (c : C) × HoldsList attribute a (values (meaning c) (pieces a.value)) m
-  pub peer : shape ≡ Peer → (e : DecodeError) → m ≡ Err e → e ≡ own_fault family a cause.Peer
+  pub list : shape ≡ SelfList →
+      (c : C) × HoldsList attribute a (values (meaning c) (nla_items a.value)) m
+  pub peer : shape ≡ Peer → (e : DecodeError) → m ≡ Err e → e ≡ own_error family a cause.Peer
   pub peer_typed : shape ≡ Peer → (x : X) → m ≡ Ok x → (attribute x).kind ≡ masked a.kind
 
--- a refusal is the attribute's own fault, and an attribute of an unknown type is kept
-abbrev pub LookupSays : {C X : Type 0} → Family → (DefaultNla → X) → (X → Attribute) → (C → Attribute → Result X DecodeError) → Attribute → Lookup → Result X DecodeError → Type 0
-LookupSays family keeping attribute meaning a (lookup.Is shape) m = ShapeSays family attribute meaning a shape m
-LookupSays family keeping attribute meaning a (lookup.Refused cause) m = m ≡ Err (own_fault family a cause)
+-- a rejection is the attribute's own error, and an attribute of an unknown type is opaque
+abbrev pub LookupSays : {C X : Type 0} → Family → (DefaultNla → X) → (X → Attribute) →
+    (C → Attribute → Result X DecodeError) → Attribute → Lookup → Result X DecodeError → Type 0
+LookupSays family keeping attribute meaning a (lookup.Is shape) m =
+    ShapeSays family attribute meaning a shape m
+LookupSays family keeping attribute meaning a (lookup.Refused cause) m =
+    m ≡ Err (own_error family a cause)
 LookupSays family keeping attribute meaning a lookup.Unknown m = m ≡ Ok (keeping (kept a))
 
--- An attribute of such a type holds no others: its type has a shape of the table, is refused, or has none.
+-- An attribute of such a type contains no others: its type has a shape of the table, is rejected,
+-- or has none.
 abbrev pub HoldsNone : Lookup → Type 0
 HoldsNone (lookup.Is shape) = IsPlain shape
 HoldsNone _ = Unit {0}
 
--- the first attribute of a string holds no others, and has this fault
-abbrev pub BeginsFaulty : {X : Type 0} → (ℕ → Lookup) → (Attribute → Result X DecodeError) → List (Result Attribute ℕ) → DecodeError → Type 0
-BeginsFaulty l m ((Ok a) ∷ more) e = HoldsNone (l (masked a.kind)) × (m a ≡ Err e)
-BeginsFaulty l m _ e = ⊥
+-- the first attribute of a byte string contains no others, and has this error
+abbrev pub BeginsRejected : {X : Type 0} → (ℕ → Lookup) → (Attribute → Result X DecodeError) →
+    List (Result Attribute ℕ) → DecodeError → Type 0
+BeginsRejected l m ((Ok a) ∷ more) e = HoldsNone (l (masked a.kind)) × (m a ≡ Err e)
+BeginsRejected l m _ e = ⊥

@@ -1,33 +1,51 @@
--- A payload that is a peer of a type that is handed in: what its calls answer, the codec, and that it is lawful where the peer is.
-use Rattle.std.specs.Prelude.{◌≡◌, ◌≢◌, ◌↔◌, ℕ, Bool, true, List, [], Option, Some, None, Result, Ok, Err}
+-- A payload that is a peer of a user-supplied type: the results of its calls, the codec, and that
+-- it is lawful if the peer is.
+use Rattle.std.specs.Prelude.{
+  ◌≡◌,
+  ◌≢◌,
+  ◌↔◌,
+  ℕ,
+  Bool,
+  true,
+  List,
+  [],
+  Option,
+  Some,
+  None,
+  Result,
+  Ok,
+  Err,
+}
 use Rattle.std.proofs.Common.{arith, ap}
 use Rattle.nla_frame.specs.Attribute.{IsBytes}
-use Rattle.nla_frame.specs.Error.{memory_fault}
+use Rattle.nla_frame.specs.Error.{memory_error}
 use Rattle.nla_frame.specs.declared.error.Cause.TheVariants as cause
 use Rattle.linkinfo_table.specs.declared.peer.PeerFault.{PeerFault}
-use Rattle.linkinfo_table.specs.declared.peer.PeerFault.TheVariants as fault
-use Rattle.linkinfo_table.specs.Codecs.{Codec, Fault, Own, Inside, IsCodec}
+use Rattle.linkinfo_table.specs.declared.peer.PeerFault.TheVariants as error
+use Rattle.linkinfo_table.specs.Codecs.{Codec, PayloadError, Own, Inside, IsCodec}
 
--- what reading a peer answers: its meaning; `Refused` only where there is none; or `Memory`
+-- the result of reading a peer: its meaning; `Refused` only if there is none; or `Memory`
 abbrev pub PeerGives : {P : Type 0} → Result P PeerFault → Option P → Type 0
 PeerGives (Ok peer) meaning = meaning ≡ Some peer
-PeerGives (Err fault.Refused) meaning = meaning ≡ None
-PeerGives (Err fault.Memory) meaning = Unit {0}
+PeerGives (Err error.Refused) meaning = meaning ≡ None
+PeerGives (Err error.Memory) meaning = Unit {0}
 
--- the payload that is written for the peer that a payload means; where it means none, the empty one
+-- the payload that is written for the peer that a payload means, and the empty payload if it means
+-- none
 abbrev pub payload_for : {P : Type 0} → (P → List ℕ) → Option P → List ℕ
 payload_for canonical (Some peer) = canonical peer
 payload_for canonical None = []
 
 -- a payload without a meaning has the cause Peer
-abbrev pub peer_or_fault : {P : Type 0} → Option P → Result P Fault
-peer_or_fault (Some peer) = Ok peer
-peer_or_fault None = Err (Own cause.Peer)
+abbrev pub peer_or_error : {P : Type 0} → Option P → Result P PayloadError
+peer_or_error (Some peer) = Ok peer
+peer_or_error None = Err (Own cause.Peer)
 
-abbrev pub peer_codec : {P : Type 0} → (List ℕ → Option P) → (List ℕ → List ℕ → Bool) → (P → List ℕ) → (P → Type 0) → Codec
+abbrev pub peer_codec : {P : Type 0} → (List ℕ → Option P) → (List ℕ → List ℕ → Bool) →
+    (P → List ℕ) → (P → Type 0) → Codec
 peer_codec {P = P} meaning alike payload well = record {
   Carrier = P;
-  means = λ p. peer_or_fault (meaning p);
+  means = λ p. peer_or_error (meaning p);
   canon = payload;
   Holds = well;
   alike = alike;
@@ -35,29 +53,32 @@ peer_codec {P = P} meaning alike payload well = record {
   needs_memory = λ _. true;
 }
 
-is_some : {P : Type 0} (o : Option P) (x : P) → peer_or_fault o ≡ Ok x → o ≡ Some x
+is_some : {P : Type 0} (o : Option P) (x : P) → peer_or_error o ≡ Ok x → o ≡ Some x
 is_some (Some y) x h = cc
 is_some None x h = absurd cc
 
-not_memory : {P : Type 0} (o : Option P) → peer_or_fault o ≢ Err (Own cause.Memory)
+not_memory : {P : Type 0} (o : Option P) → peer_or_error o ≢ Err (Own cause.Memory)
 not_memory (Some y) h = absurd cc
 not_memory None h = absurd cc
 
-not_inside : {P : Type 0} (o : Option P) → peer_or_fault o ≢ Err (Inside memory_fault)
+not_inside : {P : Type 0} (o : Option P) → peer_or_error o ≢ Err (Inside memory_error)
 not_inside (Some y) h = absurd cc
 not_inside None h = absurd cc
 
-module _ {P : Type 0} (meaning : List ℕ → Option P) (alike : List ℕ → List ℕ → Bool) (payload : P → List ℕ) (well : P → Type 0)
-    (alike_is : (p q : List ℕ) (x y : P) → IsBytes p → IsBytes q → meaning p ≡ Some x → meaning q ≡ Some y → (alike p q ≡ true) ↔ (x ≡ y))
+module _ {P : Type 0} (meaning : List ℕ → Option P) (alike : List ℕ → List ℕ → Bool)
+    (payload : P → List ℕ) (well : P → Type 0)
+    (alike_is : (p q : List ℕ) (x y : P) → IsBytes p → IsBytes q → meaning p ≡ Some x →
+    meaning q ≡ Some y → (alike p q ≡ true) ↔ (x ≡ y))
     (meaning_well : (p : List ℕ) (x : P) → IsBytes p → meaning p ≡ Some x → well x)
     (well_means : (x : P) → well x → meaning (payload x) ≡ Some x)
     (well_bytes : (x : P) → well x → IsBytes (payload x)) where
   pub peer_is_codec : IsCodec (peer_codec meaning alike payload well)
   peer_is_codec = record {
     holds = λ p x bytes e. meaning_well p x bytes (is_some (meaning p) x e);
-    again = λ x w fits. ap peer_or_fault (well_means x w);
+    again = λ x w fits. ap peer_or_error (well_means x w);
     bytes = λ x w fits. well_bytes x w;
-    alike_is = λ p q x y bp bq e g. alike_is p q x y bp bq (is_some (meaning p) x e) (is_some (meaning q) y g);
+    alike_is = λ p q x y bp bq e g.
+        alike_is p q x y bp bq (is_some (meaning p) x e) (is_some (meaning q) y g);
     quarter = λ p. omega arith;
     no_own_memory = λ p. not_memory (meaning p);
     no_inner_memory = λ p. not_inside (meaning p);

@@ -1,6 +1,6 @@
-//! Reading, writing and cloning by one list of rows.
+//! Reads, writes and clones values by one list of rows.
 //!
-//! A family gives its list as a macro of its own, a row of the list for each row of its table:
+//! A family defines its list as a macro, with an entry for each row of its table:
 //!
 //! ```text
 //! macro_rules! rows {
@@ -13,66 +13,91 @@
 //! }
 //! ```
 //!
-//! A row has the type number by its name in the kernel, the shape by the name of its function in `parts`, and the variant. Behind the variant
-//! stands how its field differs from the plain datum of the shape:
+//! A row has the type by its name in the kernel, the shape by the name of its function in
+//! `encodables`, and the variant. After the variant comes how its field differs from the plain
+//! datum of the shape:
 //!
-//! - `as GtpRole`, a number with a type, and `as &GreEncapType` where that type is turned into its number by reference;
-//! - `as flags IpVlanFlags`, a set of flags;
+//! - `as GtpRole`, a number type, and `as &GreEncapType` if the number is made from a reference;
+//! - `as flags IpVlanFlags`, a flag set;
 //! - `by scrub_of, is_by_default`, two functions, from the datum and to it;
 //! - `or TtlInheritFlag`, the variant of the empty payload.
 //!
-//! A row whose payload the family reads and writes itself has the word `custom` for its shape. Behind the rows `; else Ipv4Flags` names variants that
-//! the family reads and writes before it asks the list. Types and functions that the list names are
-//! looked up where the family expands it: there `Flags`, and `Text` for a name, are to be in scope too.
+//! A row with a payload that the family reads and writes itself has the word `custom` as its shape.
+//! After the rows, `; else Ipv4Flags` names variants that the family reads and writes before it
+//! consults the list. Types and functions in the list are resolved where the family expands it:
+//! `Flags`, and `Text` for a name, must be in scope there.
 
-/// Puts the value of what was read of an attribute in a place, by the rows: `rows!(put_by_rows(place, alloc, found))`.
+/// Stores the decoded value of an attribute, by the rows: `rows!(store_by_rows(slot, alloc,
+/// decoded))`.
 #[macro_export]
-macro_rules! put_by_rows {
-    ($family:ident ($place:ident, $alloc:ident, $found:ident); $(($name:ident = $number:literal, $shape:ident, $variant:ident $(or $empty:ident)? $(as $($named:tt)+)? $(by $from:ident, $to:ident)?)),* $(,)? $(; else $($elsewhere:ident),+)?) => {{
-        let (kind, datum) = match $found {
-            $crate::Found::Typed(kind, datum) => (kind, datum),
-            $crate::Found::Kept(nla) => return $place.put($family::Other(nla)),
+macro_rules! store_by_rows {
+    (
+        $family:ident ($slot:ident, $alloc:ident, $decoded:ident);
+        $((
+            $name:ident = $number:literal, $shape:ident, $variant:ident $(or $empty:ident)?
+            $(as $($named:tt)+)? $(by $from:ident, $to:ident)?
+        )),* $(,)?
+        $(; else $($elsewhere:ident),+)?
+    ) => {{
+        let (kind, datum) = match $decoded {
+            $crate::Decoded::Typed(kind, datum) => (kind, datum),
+            $crate::Decoded::Kept(nla) => return $slot.store($family::Other(nla)),
         };
         match kind {
-            $($number => $crate::put_row!($place, $alloc, datum, $shape, $family $variant $(or $empty)? $(as $($named)+)? $(by $from)?),)*
+            $($number => $crate::store_row!(
+                $slot, $alloc, datum, $shape,
+                $family $variant $(or $empty)? $(as $($named)+)? $(by $from)?
+            ),)*
             _ => unreachable!(),
         }
     }};
 }
 
-/// Puts the value of one row's datum in a place.
+/// Stores the value of one row's datum.
 #[macro_export]
-macro_rules! put_row {
-    ($place:ident, $alloc:ident, $datum:ident, custom, $family:ident $variant:ident) => {
+macro_rules! store_row {
+    ($slot:ident, $alloc:ident, $datum:ident, custom, $family:ident $variant:ident) => {
         unreachable!()
     };
-    ($place:ident, $alloc:ident, $datum:ident, mark, $family:ident $variant:ident) => {
-        $place.put($family::$variant)
+    ($slot:ident, $alloc:ident, $datum:ident, mark, $family:ident $variant:ident) => {
+        $slot.store($family::$variant)
     };
-    ($place:ident, $alloc:ident, $datum:ident, name, $family:ident $variant:ident) => {
-        $place.put($family::$variant(Text::copy_of($alloc, $datum.text_or_empty())?))
+    ($slot:ident, $alloc:ident, $datum:ident, name, $family:ident $variant:ident) => {
+        $slot.store($family::$variant(Text::copy_of($alloc, $datum.text_or_empty())?))
     };
-    ($place:ident, $alloc:ident, $datum:ident, empty_or_byte, $family:ident $variant:ident or $empty:ident) => {
+    (
+        $slot:ident, $alloc:ident, $datum:ident, empty_or_byte,
+        $family:ident $variant:ident or $empty:ident
+    ) => {
         match $datum.byte_or_none() {
-            Some(byte) => $place.put($family::$variant(byte)),
-            None => $place.put($family::$empty),
+            Some(byte) => $slot.store($family::$variant(byte)),
+            None => $slot.store($family::$empty),
         }
     };
-    ($place:ident, $alloc:ident, $datum:ident, $shape:ident, $family:ident $variant:ident) => {
-        $place.put($family::$variant($crate::datum_of!($shape, $datum)))
+    ($slot:ident, $alloc:ident, $datum:ident, $shape:ident, $family:ident $variant:ident) => {
+        $slot.store($family::$variant($crate::datum_of!($shape, $datum)))
     };
-    ($place:ident, $alloc:ident, $datum:ident, $shape:ident, $family:ident $variant:ident as flags $set:ident) => {
-        $place.put($family::$variant($set::from_bits_retain($crate::datum_of!($shape, $datum))))
+    (
+        $slot:ident, $alloc:ident, $datum:ident, $shape:ident,
+        $family:ident $variant:ident as flags $set:ident
+    ) => {
+        $slot.store($family::$variant($set::from_bits_retain($crate::datum_of!($shape, $datum))))
     };
-    ($place:ident, $alloc:ident, $datum:ident, $shape:ident, $family:ident $variant:ident as $(&)? $named:ident) => {
-        $place.put($family::$variant($named::from($crate::datum_of!($shape, $datum))))
+    (
+        $slot:ident, $alloc:ident, $datum:ident, $shape:ident,
+        $family:ident $variant:ident as $(&)? $named:ident
+    ) => {
+        $slot.store($family::$variant($named::from($crate::datum_of!($shape, $datum))))
     };
-    ($place:ident, $alloc:ident, $datum:ident, $shape:ident, $family:ident $variant:ident by $from:ident) => {
-        $place.put($family::$variant($from($crate::datum_of!($shape, $datum))))
+    (
+        $slot:ident, $alloc:ident, $datum:ident, $shape:ident,
+        $family:ident $variant:ident by $from:ident
+    ) => {
+        $slot.store($family::$variant($from($crate::datum_of!($shape, $datum))))
     };
 }
 
-/// The datum of a shape.
+/// Builds the datum of a shape.
 #[macro_export]
 macro_rules! datum_of {
     (u8, $datum:ident) => {
@@ -134,15 +159,25 @@ macro_rules! datum_of {
     };
 }
 
-/// The type number, shape and datum of a value, or the attribute that it keeps, by the rows: `rows!(part_by_rows self)`.
+/// The type, shape and datum of a value, or its opaque attribute, by the rows:
+/// `rows!(encodable_by_rows self)`.
 #[macro_export]
-macro_rules! part_by_rows {
-    ($family:ident $value:tt; $(($name:ident = $number:literal, $shape:ident, $variant:ident $(or $empty:ident)? $(as $($named:tt)+)? $(by $from:ident, $to:ident)?)),* $(,)? $(; else $($elsewhere:ident),+)?) => {
+macro_rules! encodable_by_rows {
+    (
+        $family:ident $value:tt;
+        $((
+            $name:ident = $number:literal, $shape:ident, $variant:ident $(or $empty:ident)?
+            $(as $($named:tt)+)? $(by $from:ident, $to:ident)?
+        )),* $(,)?
+        $(; else $($elsewhere:ident),+)?
+    ) => {
         match $value {
-            $($crate::row_pattern!($shape, $family $variant, x) => $crate::part_row!($number, $shape, x $(or $empty)? $(as $($named)+)? $(by $to)?),
-            $($family::$empty => $crate::parts::$shape($number, None),)?)*
+            $($crate::row_pattern!($shape, $family $variant, x) => $crate::encodable_row!(
+                $number, $shape, x $(or $empty)? $(as $($named)+)? $(by $to)?
+            ),
+            $($family::$empty => $crate::encodables::$shape($number, None),)?)*
             $($($family::$elsewhere(_) => unreachable!(),)+)?
-            $family::Other(nla) => $crate::Part::Kept(nla),
+            $family::Other(nla) => $crate::Encodable::Kept(nla),
         }
     };
 }
@@ -161,44 +196,53 @@ macro_rules! row_pattern {
     };
 }
 
-/// The part of one row's value.
+/// The `Encodable` of one row's value.
 #[macro_export]
-macro_rules! part_row {
+macro_rules! encodable_row {
     ($number:literal, custom, $x:ident) => {
-        $crate::Part::Custom
+        $crate::Encodable::Custom
     };
     ($number:literal, mark, $x:ident) => {
-        $crate::parts::mark($number)
+        $crate::encodables::mark($number)
     };
     ($number:literal, name, $x:ident) => {
-        $crate::parts::name($number, $x.as_str())
+        $crate::encodables::name($number, $x.as_str())
     };
     ($number:literal, $shape:ident, $x:ident) => {
-        $crate::parts::$shape($number, *$x)
+        $crate::encodables::$shape($number, *$x)
     };
     ($number:literal, $shape:ident, $x:ident or $empty:ident) => {
-        $crate::parts::$shape($number, Some(*$x))
+        $crate::encodables::$shape($number, Some(*$x))
     };
     ($number:literal, $shape:ident, $x:ident as flags $set:ident) => {
-        $crate::parts::$shape($number, $x.bits())
+        $crate::encodables::$shape($number, $x.bits())
     };
     ($number:literal, $shape:ident, $x:ident as &$named:ident) => {
-        $crate::parts::$shape($number, <$crate::number_of!($shape)>::from($x))
+        $crate::encodables::$shape($number, <$crate::number_of!($shape)>::from($x))
     };
     ($number:literal, $shape:ident, $x:ident as $named:ident) => {
-        $crate::parts::$shape($number, <$crate::number_of!($shape)>::from(*$x))
+        $crate::encodables::$shape($number, <$crate::number_of!($shape)>::from(*$x))
     };
     ($number:literal, $shape:ident, $x:ident by $to:ident) => {
-        $crate::parts::$shape($number, $to(*$x))
+        $crate::encodables::$shape($number, $to(*$x))
     };
 }
 
-/// A clone of a value, by the rows: `rows!(clone_by_rows self)`. Allocates memory for a name and for `Other`.
+/// Clones a value, by the rows: `rows!(clone_by_rows self)`. Allocates only for a name and for
+/// `Other`.
 #[macro_export]
 macro_rules! clone_by_rows {
-    ($family:ident $value:tt; $(($name:ident = $number:literal, $shape:ident, $variant:ident $(or $empty:ident)? $(as $($named:tt)+)? $(by $from:ident, $to:ident)?)),* $(,)? $(; else $($elsewhere:ident),+)?) => {
+    (
+        $family:ident $value:tt;
+        $((
+            $name:ident = $number:literal, $shape:ident, $variant:ident $(or $empty:ident)?
+            $(as $($named:tt)+)? $(by $from:ident, $to:ident)?
+        )),* $(,)?
+        $(; else $($elsewhere:ident),+)?
+    ) => {
         Ok(match $value {
-            $($crate::row_pattern!($shape, $family $variant, x) => $crate::clone_row!($shape, $family $variant, x),
+            $($crate::row_pattern!($shape, $family $variant, x) =>
+                $crate::clone_row!($shape, $family $variant, x),
             $($family::$empty => $family::$empty,)?)*
             $($($family::$elsewhere(x) => $family::$elsewhere(*x),)+)?
             $family::Other(nla) => $family::Other(nla.clone()?),
@@ -206,7 +250,7 @@ macro_rules! clone_by_rows {
     };
 }
 
-/// A clone of one row's value.
+/// Clones one row's value.
 #[macro_export]
 macro_rules! clone_row {
     (mark, $family:ident $variant:ident, $x:ident) => {

@@ -1,4 +1,4 @@
-//! The canonical attribute of what an accepted attribute means, by its row, without a value.
+//! Re-encodes accepted attributes canonically by their rows, without building a value.
 
 ghost use Rattle.std.specs.Prelude.{◌≡◌, ◌≤◌, ◌++◌, IsOk, SomeIff, drop, length};
 ghost use Rattle.nla_frame.specs.Attribute.{Fits, buffer_len_of, canonical_string, masked};
@@ -9,25 +9,27 @@ ghost use Rattle.linkinfo_table.specs.Rows.{meaning_in};
 
 use crate::lookup::Lookup;
 use crate::row_family::RowFamily;
-use linkinfo_shapes::{Shape, shape_canonical_len, shape_put_attribute};
-use nla_frame::{NlaBuffer, fitting, put_bytes_attribute};
+use linkinfo_shapes::{Shape, shape_canonical_len, shape_write_attribute};
+use nla_frame::{NlaBuffer, fitting, write_bytes_attribute};
 
-/// What the canonical attribute of an accepted attribute is written from.
+/// What the canonical encoding of an accepted attribute is written from.
 #[derive(Clone, Copy)]
 pub(crate) enum Written<'a> {
-    /// A type number, its shape, and a payload that is accepted under it.
+    /// A type, its shape, and a payload that the shape accepts.
     Typed(u16, Shape, &'a [u8]),
-    /// A 16-bit type and a payload, which are kept as they came.
+    /// The 16-bit type and the payload of an opaque attribute.
     Kept(u16, &'a [u8]),
 }
 
-/// What an attribute's canonical attribute is written from, by its row. Asks that the attribute means a value, and that its row has a shape of the
-/// table, or none.
+/// What the canonical encoding of an attribute is written from, by its row. Requires that the
+/// attribute is accepted, and that the family does not read its payload itself.
 #[inline(always)]
 fn written_from<'a, F: RowFamily>(nla: &NlaBuffer<'a>, ctx: F::Context) -> Written<'a>
     requires flat { IsFlat (F.rows ctx (masked nla.now.kind)) }
     requires accepted { IsOk (meaning_in F.FAMILY F.other (λ n. row_of (F.rows ctx n)) nla.now) }
-    ensures { IsWrittenFrom result (attribute_for F.canonical (meaning_in F.FAMILY F.other (λ n. row_of (F.rows ctx n)) nla.now)) }
+    ensures { IsWrittenFrom result
+        (attribute_for F.canonical
+        (meaning_in F.FAMILY F.other (λ n. row_of (F.rows ctx n)) nla.now)) }
 {
     let kind = nla.kind();
     match F::shape(ctx, kind) {
@@ -37,12 +39,18 @@ fn written_from<'a, F: RowFamily>(nla: &NlaBuffer<'a>, ctx: F::Context) -> Writt
     }
 }
 
-/// The length of the canonical payload of the value that an attribute means, where it fits, and else `None`. Takes no memory. Asks the same.
+/// Returns the length of the canonical payload of the value that an attribute means, or `None` if
+/// it does not fit. Does not allocate.
+///
+/// Requires that the attribute is accepted, and that the family does not read its payload itself.
 #[inline(always)]
 pub fn row_canonical_len<F: RowFamily>(nla: &NlaBuffer<'_>, ctx: F::Context) -> Option<usize>
     requires flat { IsFlat (F.rows ctx (masked nla.now.kind)) }
     requires accepted { IsOk (meaning_in F.FAMILY F.other (λ n. row_of (F.rows ctx n)) nla.now) }
-    ensures { let canonical = attribute_for F.canonical (meaning_in F.FAMILY F.other (λ n. row_of (F.rows ctx n)) nla.now) in SomeIff result (Fits canonical) (length canonical.value) }
+    ensures { let canonical =
+        attribute_for F.canonical
+        (meaning_in F.FAMILY F.other (λ n. row_of (F.rows ctx n)) nla.now) in
+        SomeIff result (Fits canonical) (length canonical.value) }
 {
     match written_from::<F>(nla, ctx) {
         Written::Typed(_, shape, payload) => shape_canonical_len(shape, payload),
@@ -50,23 +58,34 @@ pub fn row_canonical_len<F: RowFamily>(nla: &NlaBuffer<'_>, ctx: F::Context) -> 
     }
 }
 
-/// Writes the canonical attribute of the value that an attribute means at the front of the buffer, leaves the bytes behind it, and answers its
-/// length. Takes no memory. Asks the same, that the canonical attribute fits, and for a buffer of at least its length.
+/// Writes the canonical encoding of the value that an attribute means at the front of the buffer,
+/// and returns its length. The bytes after it stay unchanged. Does not allocate.
+///
+/// Requires that the attribute is accepted, that the family does not read its payload itself, that
+/// the encoding fits, and that the buffer has at least that length.
 #[inline(always)]
-pub fn row_put_canonical<F: RowFamily>(
+pub fn row_write_canonical<F: RowFamily>(
     nla: &NlaBuffer<'_>,
     ctx: F::Context,
     buffer: &mut [u8],
 ) -> usize
     requires flat { IsFlat (F.rows ctx (masked nla.now.kind)) }
     requires accepted { IsOk (meaning_in F.FAMILY F.other (λ n. row_of (F.rows ctx n)) nla.now) }
-    requires fits { Fits (attribute_for F.canonical (meaning_in F.FAMILY F.other (λ n. row_of (F.rows ctx n)) nla.now)) }
-    requires room { buffer_len_of (attribute_for F.canonical (meaning_in F.FAMILY F.other (λ n. row_of (F.rows ctx n)) nla.now)) ≤ length buffer.old }
-    ensures taken { result ≡ buffer_len_of (attribute_for F.canonical (meaning_in F.FAMILY F.other (λ n. row_of (F.rows ctx n)) nla.now)) }
-    ensures written { let canonical = attribute_for F.canonical (meaning_in F.FAMILY F.other (λ n. row_of (F.rows ctx n)) nla.now) in buffer.new ≡ canonical_string canonical ++ drop (buffer_len_of canonical) buffer.old }
+    requires fits { Fits (attribute_for F.canonical
+        (meaning_in F.FAMILY F.other (λ n. row_of (F.rows ctx n)) nla.now)) }
+    requires room { buffer_len_of
+        (attribute_for F.canonical
+        (meaning_in F.FAMILY F.other (λ n. row_of (F.rows ctx n)) nla.now)) ≤ length buffer.old }
+    ensures taken { result
+        ≡ buffer_len_of (attribute_for F.canonical
+        (meaning_in F.FAMILY F.other (λ n. row_of (F.rows ctx n)) nla.now)) }
+    ensures written { let canonical =
+        attribute_for F.canonical
+        (meaning_in F.FAMILY F.other (λ n. row_of (F.rows ctx n)) nla.now) in
+        buffer.new ≡ canonical_string canonical ++ drop (buffer_len_of canonical) buffer.old }
 {
     match written_from::<F>(nla, ctx) {
-        Written::Typed(kind, shape, payload) => shape_put_attribute(shape, kind, payload, buffer),
-        Written::Kept(kind, payload) => put_bytes_attribute(kind, payload, buffer),
+        Written::Typed(kind, shape, payload) => shape_write_attribute(shape, kind, payload, buffer),
+        Written::Kept(kind, payload) => write_bytes_attribute(kind, payload, buffer),
     }
 }

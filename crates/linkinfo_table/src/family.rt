@@ -1,11 +1,43 @@
-//! Families of attributes: what a family's types are read, checked, compared and written as.
+//! Families of attributes: how the attributes of one kind of data are read, checked, compared and
+//! written.
 
-ghost use Rattle.std.specs.Prelude.{◌≡◌, ◌≢◌, ◌↔◌, ℕ, ◌+◌, ◌*◌, ◌/◌, ◌<◌, ◌≤◌, ◌^◌, ◌++◌, Bool, true, false, Err, Ok, IsOk, IsTrue, OnErr, Result, SomeIff, drop, length};
+ghost use Rattle.std.specs.Prelude.{
+  ◌≡◌,
+  ◌≢◌,
+  ◌↔◌,
+  ℕ,
+  ◌+◌,
+  ◌*◌,
+  ◌/◌,
+  ◌<◌,
+  ◌≤◌,
+  ◌^◌,
+  ◌++◌,
+  Bool,
+  true,
+  false,
+  Err,
+  Ok,
+  IsOk,
+  IsTrue,
+  OnErr,
+  Result,
+  SomeIff,
+  drop,
+  length,
+};
 ghost use Rattle.std.specs.Bool.{OnTrue};
 ghost use Rattle.nla_frame.specs.Answers.{CertainUnless, Gives, OnAnswer, verdict};
-ghost use Rattle.nla_frame.specs.Attribute.{Attribute, Fits, IsAttribute, buffer_len_of, canonical_string, masked};
+ghost use Rattle.nla_frame.specs.Attribute.{
+  Attribute,
+  Fits,
+  IsAttribute,
+  buffer_len_of,
+  canonical_string,
+  masked,
+};
 ghost use Rattle.nla_frame.specs.Canonical.{attribute_for};
-ghost use Rattle.nla_frame.specs.Error.{memory_fault};
+ghost use Rattle.nla_frame.specs.Error.{memory_error};
 ghost use Rattle.nla_frame.specs.Kept.{attribute_of};
 ghost use Rattle.nla_frame.specs.declared.default_nla.DefaultNla.{DefaultNla};
 ghost use Rattle.nla_frame.specs.declared.error.DecodeError.{DecodeError};
@@ -18,45 +50,48 @@ use crate::lookup::Lookup;
 use nla_frame::{DecodeError, Family, HeaderCount, Nla, NlaBuffer};
 use std::alloc::Global;
 
-/// The attributes that may stand in one kind of data, as `IFLA_VXLAN_ID` and its like in that of a vxlan.
+/// A family: the attributes of one kind of data, such as `IFLA_VXLAN_*` in the data of a `vxlan`
+/// link.
 ///
-/// A context says what the meaning of an attribute depends on beside its bytes: the kind of the link, the number of lists round the
-/// attribute, or nothing.
+/// The context is what the meaning of an attribute depends on apart from its bytes: the kind of the
+/// link, the number of lists around the attribute, or nothing.
 pub trait LinkFamily: Nla + Sized + Drop {
-    /// What the meaning of an attribute depends on beside its bytes.
+    /// What the meaning of an attribute depends on apart from its bytes.
     type Context: Copy;
 
-    /// Its name, which its faults bear.
+    /// The name of the family, which its errors have.
     const FAMILY: Family;
 
     ghost FAMILY: { Family };
 
-    /// What the family says of a masked type.
+    /// How the family reads each type without flag bits.
     ghost lookup: { Self.Context → ℕ → Lookup };
 
-    /// The value that keeps an attribute of an unknown type.
+    /// The value of an opaque attribute.
     ghost keeping: { DefaultNla → Self };
 
-    /// What an attribute means: a value, or its fault.
+    /// What an attribute means: a value, or an error.
     ghost meaning: { Self.Context → Attribute → Result Self DecodeError };
 
-    /// Whether reading an attribute may need memory.
+    /// Whether reading an attribute may allocate.
     ghost needs_memory: { Self.Context → Attribute → Bool };
 
-    /// How many headers are looked at inside an attribute, up to its fault.
+    /// The number of headers examined inside an attribute, up to the first error.
     ghost headers: { Self.Context → Attribute → ℕ };
 
-    /// Whether two accepted attributes mean the same.
+    /// Whether two accepted attributes are equivalent.
     ghost alike: { Self.Context → Attribute → Attribute → Bool };
 
-    /// Whether a value is one that an attribute can mean.
+    /// Whether a value is well formed: an attribute can mean it.
     ghost well: { Self.Context → Self → Type 0 };
 
-    /// The shape of a masked type, or why it is refused, or that it is unknown and kept.
+    /// How the family reads a type without flag bits: by a shape, by a cause that rejects it, or as
+    /// an opaque attribute.
     fn shape(ctx: Self::Context, kind: u16) -> Lookup
         ensures { result ≡ lookup ctx kind };
 
-    /// Reads an attribute. An answer other than (Frame, 0, Memory) is what it means.
+    /// Reads an attribute. Any result but the error `(Frame, 0, Memory)` is what the attribute
+    /// means.
     fn read(
         alloc: Global,
         nla: &NlaBuffer<'_>,
@@ -65,12 +100,13 @@ pub trait LinkFamily: Nla + Sized + Drop {
     ) -> Result<Self, DecodeError>
         requires { count.old + length nla.now.value / 4 < 2 ^ 64 }
         ensures answer { Gives (λ value. value) result (meaning ctx nla.now) }
-        ensures certain { CertainUnless (needs_memory ctx nla.now) (λ value. value) result (meaning ctx nla.now) }
+        ensures certain { CertainUnless (needs_memory ctx nla.now) (λ value. value) result
+            (meaning ctx nla.now) }
         ensures counted { OnAnswer result (count.new ≡ count.old + headers ctx nla.now) }
         ensures rises { count.old ≤ count.new }
         ensures quarter { 4 * count.new ≤ 4 * count.old + length nla.now.value };
 
-    /// Reads an attribute, and puts its value behind a list.
+    /// Reads an attribute, and pushes its value to the end of a list.
     fn push(
         items: &mut Vec<Self>,
         alloc: Global,
@@ -81,7 +117,8 @@ pub trait LinkFamily: Nla + Sized + Drop {
         requires { count.old + length nla.now.value / 4 < 2 ^ 64 }
         ensures answer { Appends items.old.items items.new.items result (meaning ctx nla.now) }
         ensures unchanged { OnErr result (items.new.items ≡ items.old.items) }
-        ensures certain { push_memory (needs_memory ctx nla.now) (meaning ctx nla.now) ≡ false → result ≡ verdict (meaning ctx nla.now) }
+        ensures certain { push_memory (needs_memory ctx nla.now) (meaning ctx nla.now) ≡ false →
+            result ≡ verdict (meaning ctx nla.now) }
         ensures counted { OnAnswer result (count.new ≡ count.old + headers ctx nla.now) }
         ensures rises { count.old ≤ count.new }
         ensures quarter { 4 * count.new ≤ 4 * count.old + length nla.now.value }
@@ -90,7 +127,7 @@ pub trait LinkFamily: Nla + Sized + Drop {
         Ok(())
     }
 
-    /// Whether `read` would succeed, or the attribute's fault. Takes no memory.
+    /// Checks whether `read` would succeed, and returns the error if not. Does not allocate.
     fn check_value(
         nla: &NlaBuffer<'_>,
         ctx: Self::Context,
@@ -102,7 +139,8 @@ pub trait LinkFamily: Nla + Sized + Drop {
         ensures rises { count.old ≤ count.new }
         ensures quarter { 4 * count.new ≤ 4 * count.old + length nla.now.value };
 
-    /// Whether two attributes mean the same value. Asks that each means one, and takes no memory.
+    /// Whether two attributes are equivalent: they mean equal values. Requires that each is
+    /// accepted. Does not allocate.
     fn same_value(
         a: &NlaBuffer<'_>,
         b: &NlaBuffer<'_>,
@@ -113,40 +151,57 @@ pub trait LinkFamily: Nla + Sized + Drop {
         requires second { IsOk (meaning ctx b.now) }
         requires room { count.old + (length a.now.value + length b.now.value) / 4 < 2 ^ 64 }
         ensures same { result ≡ alike ctx a.now b.now }
-        ensures counted { OnTrue result (count.new ≡ count.old + (headers ctx a.now + headers ctx b.now)) }
+        ensures counted { OnTrue result
+            (count.new ≡ count.old + (headers ctx a.now + headers ctx b.now)) }
         ensures rises { count.old ≤ count.new }
-        ensures quarter { 4 * count.new ≤ 4 * count.old + (length a.now.value + length b.now.value) };
+        ensures quarter { 4 * count.new
+            ≤ 4 * count.old + (length a.now.value + length b.now.value) };
 
-    /// The length of the canonical payload of the value that an attribute means, where it fits, and else `None`. Asks that it means one, and takes
-    /// no memory.
+    /// Returns the length of the canonical payload of the value that an attribute means, or `None`
+    /// if it does not fit. Requires that the attribute is accepted. Does not allocate.
     fn canonical_len(nla: &NlaBuffer<'_>, ctx: Self::Context) -> Option<usize>
         requires { IsOk (meaning ctx nla.now) }
-        ensures { let canonical = attribute_for Self.attribute (meaning ctx nla.now) in SomeIff result (Fits canonical) (length canonical.value) };
+        ensures { let canonical = attribute_for Self.attribute (meaning ctx nla.now) in
+            SomeIff result (Fits canonical) (length canonical.value) };
 
-    /// Writes the canonical attribute of the value that an attribute means, its header, payload and zero padding, at the front of the buffer, leaves
-    /// the bytes behind it, and answers its length. Asks that it means one, which fits, and for a buffer of at least that length; takes no memory.
-    fn put_canonical(nla: &NlaBuffer<'_>, ctx: Self::Context, buffer: &mut [u8]) -> usize
+    /// Writes the canonical encoding of the value that an attribute means at the front of the
+    /// buffer, and returns its length: header, payload and zero padding.
+    ///
+    /// The bytes after it stay unchanged. Requires that the attribute is accepted, that the value
+    /// fits, and that the buffer has at least that length. Does not allocate.
+    fn write_canonical(nla: &NlaBuffer<'_>, ctx: Self::Context, buffer: &mut [u8]) -> usize
         requires accepted { IsOk (meaning ctx nla.now) }
         requires fits { Fits (attribute_for Self.attribute (meaning ctx nla.now)) }
-        requires room { buffer_len_of (attribute_for Self.attribute (meaning ctx nla.now)) ≤ length buffer.old }
-        ensures taken { result ≡ buffer_len_of (attribute_for Self.attribute (meaning ctx nla.now)) }
-        ensures written { let canonical = attribute_for Self.attribute (meaning ctx nla.now) in buffer.new ≡ canonical_string canonical ++ drop (buffer_len_of canonical) buffer.old };
+        requires room { buffer_len_of (attribute_for Self.attribute (meaning ctx nla.now))
+            ≤ length buffer.old }
+        ensures taken { result
+            ≡ buffer_len_of (attribute_for Self.attribute (meaning ctx nla.now)) }
+        ensures written { let canonical = attribute_for Self.attribute (meaning ctx nla.now) in
+            buffer.new ≡ canonical_string canonical ++ drop (buffer_len_of canonical) buffer.old };
 
     ghost keeps: { (nla : DefaultNla) → Self.attribute (keeping nla) ≡ attribute_of nla };
 
-    ghost looked_up: { (c : Self.Context) (a : Attribute) → LookupSays FAMILY keeping Self.attribute meaning a (lookup c (masked a.kind)) (meaning c a) };
+    ghost looked_up: { (c : Self.Context) (a : Attribute) →
+        LookupSays FAMILY keeping Self.attribute meaning a (lookup c (masked a.kind))
+        (meaning c a) };
 
-    ghost alike_is: { (c : Self.Context) (a b : Attribute) (x y : Self) → IsAttribute a → IsAttribute b → meaning c a ≡ Ok x → meaning c b ≡ Ok y → (alike c a b ≡ true) ↔ (x ≡ y) };
+    ghost alike_is: { (c : Self.Context) (a b : Attribute) (x y : Self) → IsAttribute a →
+        IsAttribute b → meaning c a ≡ Ok x → meaning c b ≡ Ok y → (alike c a b ≡ true) ↔ (x ≡ y) };
 
-    ghost headers_quarter: { (c : Self.Context) (a : Attribute) → 4 * headers c a ≤ length a.value };
+    ghost headers_quarter: { (c : Self.Context) (a : Attribute) →
+        4 * headers c a ≤ length a.value };
 
-    ghost no_memory: { (c : Self.Context) (a : Attribute) → meaning c a ≢ Err memory_fault };
+    ghost no_memory: { (c : Self.Context) (a : Attribute) → meaning c a ≢ Err memory_error };
 
-    ghost fault_certain: { (c : Self.Context) (a : Attribute) (e : DecodeError) → HoldsNone (lookup c (masked a.kind)) → meaning c a ≡ Err e → needs_memory c a ≡ false };
+    ghost error_certain: { (c : Self.Context) (a : Attribute) (e : DecodeError) →
+        HoldsNone (lookup c (masked a.kind)) → meaning c a ≡ Err e → needs_memory c a ≡ false };
 
-    ghost read_well: { (c : Self.Context) (a : Attribute) (x : Self) → IsAttribute a → meaning c a ≡ Ok x → well c x };
+    ghost read_well: { (c : Self.Context) (a : Attribute) (x : Self) → IsAttribute a →
+        meaning c a ≡ Ok x → well c x };
 
-    ghost well_reads: { (c : Self.Context) (x : Self) → well c x → Fits (Self.attribute x) → meaning c (Self.attribute x) ≡ Ok x };
+    ghost well_reads: { (c : Self.Context) (x : Self) → well c x → Fits (Self.attribute x) →
+        meaning c (Self.attribute x) ≡ Ok x };
 
-    ghost well_attribute: { (c : Self.Context) (x : Self) → well c x → Fits (Self.attribute x) → IsAttribute (Self.attribute x) };
+    ghost well_attribute: { (c : Self.Context) (x : Self) → well c x → Fits (Self.attribute x) →
+        IsAttribute (Self.attribute x) };
 }

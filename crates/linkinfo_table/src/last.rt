@@ -1,14 +1,35 @@
 //! The last attribute of each type in a list: the one that the kernel reads.
 
-ghost use Rattle.std.specs.Prelude.{◌≡◌, ◌≤◌, ◌∷◌, [], IfSome, IsOk, Ok, drop, length};
-ghost use Rattle.nla_frame.specs.Pieces.{attribute_at, pieces};
-ghost use Rattle.linkinfo_table.specs.Last.{StandsIn, attributes_of, last_of_type, offset_of};
+ghost use Rattle.std.specs.Prelude.{
+  ◌≡◌,
+  ◌≤◌,
+  ◌-◌,
+  ◌∷◌,
+  [],
+  IfSome,
+  IsOk,
+  None,
+  Ok,
+  Some,
+  drop,
+  if◌then◌else◌,
+  length,
+};
+ghost use Rattle.nla_frame.specs.NlaItems.{attribute_at, nla_items};
+ghost use Rattle.linkinfo_table.specs.Last.{
+  StandsIn,
+  attributes_of,
+  covers,
+  indexed_last,
+  offset_of,
+  types_end,
+};
 
-use nla_frame::{ExactEq, HeaderCount, NlaBuffer, next_piece};
+use nla_frame::{ExactEq, HeaderCount, NlaBuffer, next_attribute};
 use std::marker::Model;
 
-/// The types that have an entry of their own in the index. The largest type of a row is below.
-const INDEXED: usize = 64;
+/// How many types an index has an entry for. The types of all rows are below.
+pub const INDEXED: u16 = 64;
 
 /// An attribute of a byte string, and the offset of its header there.
 #[derive(Debug, PartialEq, Eq, Drop)]
@@ -19,79 +40,95 @@ pub struct PlacedNla<'a> {
     pub nla: NlaBuffer<'a>,
 }
 
-/// The last attribute of each type in the attributes of a byte string, up to a damaged header.
+/// The last attribute of each of `INDEXED` types in the attributes of a byte string, up to a
+/// damaged header.
 ///
-/// Types are compared without their flags. A type below 64 is found in constant time, any other in
-/// one pass over the byte string. Takes no memory.
+/// Types are compared without their flags. Each is found in constant time. Does not allocate.
 #[derive(Debug, Drop)]
 pub struct LastOfType<'a> {
     source: &'a [u8],
-    offsets: [Option<usize>; INDEXED],
+    first: u16,
+    offsets: [Option<usize>; INDEXED as usize],
 }
 
 impl<'a> Model for LastOfType<'a> {
-    ghost use Rattle.std.specs.Prelude.{List, ℕ};
-    ghost use Rattle.linkinfo_table.specs.Last.{IsIndexOf};
+    ghost use Rattle.linkinfo_table.specs.Last.{Indexed, IsIndexOf};
 
-    ghost Value = { List ℕ };
+    ghost Value = { Indexed };
 
-    ghost view = { λ index. index.source.now };
+    ghost view = { λ index. record { source = index.source.now; first = index.first } };
 
-    ghost invariant = { λ index. IsIndexOf index.source.now index.offsets };
+    ghost invariant = { λ index. IsIndexOf index.source.now index.first index.offsets };
 }
 
 impl<'a> LastOfType<'a> {
-    /// The index of a byte string, in one pass over it.
-    pub fn new(source: &'a [u8]) -> LastOfType<'a>
-        ensures { result ≡ source.now }
+    /// The index of a byte string for `INDEXED` types, `first` and those after it, in one pass.
+    pub fn new(source: &'a [u8], first: u16) -> LastOfType<'a>
+        ensures { result ≡ record { source = source.now; first = first } }
     {
-        let mut offsets = [None; INDEXED];
+        let mut offsets = [None; INDEXED as usize];
         let mut count = HeaderCount::new();
         let mut rest = source;
-        while let Some(Ok((nla, after))) = next_piece(rest, &mut count) {
-            let kind = nla.kind() as usize;
-            if kind < INDEXED {
-                offsets[kind] = Some(source.len() - rest.len());
+        while let Some(Ok((nla, after))) = next_attribute(rest, &mut count) {
+            if let Some(entry) = entry_of(first, nla.kind()) {
+                offsets[entry] = Some(source.len() - rest.len());
             }
             rest = after;
         }
-        LastOfType { source, offsets }
-    }
-
-    /// The offset of the last attribute of a type, or `None` where there is none.
-    pub fn offset(&self, kind: u16) -> Option<usize>
-        ensures { result ≡ offset_of (last_of_type kind (attributes_of self.now)) }
-    {
-        match self.offsets.get(kind as usize) {
-            Some(offset) => *offset,
-            None => last_offset(self.source, kind),
+        LastOfType {
+            source,
+            first,
+            offsets,
         }
     }
 
-    /// The last attribute of a type, or `None` where there is none.
+    /// The offset of the last attribute of a type, or `None` where there is none, or where the type
+    /// has no entry.
+    pub fn offset(&self, kind: u16) -> Option<usize>
+        ensures { result ≡ offset_of (indexed_last self.now kind) }
+    {
+        let entry = entry_of(self.first, kind)?;
+        self.offsets[entry]
+    }
+
+    /// The last attribute of a type, or `None` where there is none, or where the type has no entry.
     pub fn find(&self, kind: u16) -> Option<PlacedNla<'a>>
-        ensures last { result ≡ last_of_type kind (attributes_of self.now) }
-        ensures stands { IfSome result (StandsIn self.now) }
+        ensures last { result ≡ indexed_last self.now kind }
+        ensures stands { IfSome result (StandsIn self.now.source) }
     {
         let offset = self.offset(kind)?;
         Some(placed_at(self.source, offset))
     }
 }
 
-/// The offset of the last attribute of a type in a byte string, by one pass over it.
-fn last_offset(source: &[u8], kind: u16) -> Option<usize>
-    ensures { result ≡ offset_of (last_of_type kind (attributes_of source.now)) }
+/// The entry of a type in an index whose first type this is, or `None` where it has none.
+fn entry_of(first: u16, kind: u16) -> Option<usize>
+    ensures { result ≡ (if covers first kind then Some (kind - first) else None) }
 {
+    if kind >= first && kind - first < INDEXED {
+        Some((kind - first) as usize)
+    } else {
+        None
+    }
+}
+
+/// The least number above all types of the attributes of a byte string, without their flags, up to
+/// a damaged header: 0 where there is no attribute, and at most 16,384.
+pub fn types_end(source: &[u8]) -> u16
+    ensures end { result ≡ types_end (attributes_of source.now) }
+    ensures small { result ≤ 16384 }
+{
+    let mut end = 0;
     let mut count = HeaderCount::new();
     let mut rest = source;
-    let mut last = None;
-    while let Some(Ok((nla, after))) = next_piece(rest, &mut count) {
-        if nla.kind() == kind {
-            last = Some(source.len() - rest.len());
+    while let Some(Ok((nla, after))) = next_attribute(rest, &mut count) {
+        let kind = nla.kind();
+        if kind >= end {
+            end = kind + 1;
         }
         rest = after;
     }
-    last
+    end
 }
 
 /// The attribute at an offset. Requires that one is there.
@@ -108,11 +145,11 @@ fn placed_at<'a>(source: &'a [u8], offset: usize) -> PlacedNla<'a>
 }
 
 /// The bytes of an attribute in its byte string: header and payload, without padding. Requires that
-/// the attribute is there.
+/// the attribute is at its offset there.
 #[tactic(auto, using(crate::proofs::Lasts::stands_within))]
 pub fn own_bytes<'a>(source: &'a [u8], placed: &PlacedNla<'_>) -> &'a [u8]
     requires { StandsIn source.now placed.now }
-    ensures { pieces result.now ≡ Ok placed.now.nla ∷ [] }
+    ensures { nla_items result.now ≡ Ok placed.now.nla ∷ [] }
 {
     let end = placed.offset + placed.nla.length() as usize;
     &source[placed.offset..end]

@@ -1,23 +1,48 @@
 //! Lists of attributes of one family.
 
-ghost use Rattle.std.specs.Prelude.{◌≡◌, ◌↔◌, ◌+◌, ◌*◌, ◌/◌, ◌<◌, ◌≤◌, ◌^◌, ◌++◌, [], IsOk, IsTrue, SomeIff, drop, length};
+ghost use Rattle.std.specs.Prelude.{
+  ◌≡◌,
+  ◌↔◌,
+  ◌+◌,
+  ◌*◌,
+  ◌/◌,
+  ◌<◌,
+  ◌≤◌,
+  ◌^◌,
+  ◌++◌,
+  [],
+  IsOk,
+  IsTrue,
+  SomeIff,
+  drop,
+  length,
+};
 ghost use Rattle.std.specs.Bool.{OnTrue};
 ghost use Rattle.nla_frame.specs.Answers.{CertainUnless, Gives, OnAnswer, verdict};
-ghost use Rattle.nla_frame.specs.Pieces.{pieces};
-ghost use Rattle.linkinfo_table.specs.Lists.{alike_pairs, canonical_list, headers_of, memory_of, values};
+ghost use Rattle.nla_frame.specs.NlaItems.{nla_items};
+ghost use Rattle.linkinfo_table.specs.Lists.{
+  alike_pairs,
+  canonical_list,
+  headers_of,
+  memory_of,
+  values,
+};
 
 use crate::family::LinkFamily;
-use nla_frame::{DecodeError, HeaderCount, fitting, next_piece};
+use nla_frame::{DecodeError, HeaderCount, fitting, next_attribute};
 use std::alloc::Global;
 
-/// The bytes of the shortest attribute that has a payload, header and padding included.
+/// The length of the shortest attribute with a payload, header and padding included.
 const LEAST_TYPED: usize = 8;
 
-/// The most values that room is reserved for before they are read.
+/// The maximum number of values to reserve memory for before they are read.
 const MOST_RESERVED: usize = 24;
 
-/// Reads the attributes that a byte slice frames. The fault of a list is that of its first attribute in byte order that has no header or
-/// no meaning. The empty slice is the empty list, and takes no memory. Once the first attribute is read, room is taken for it and for some of the others.
+/// Reads the attributes that a byte string frames. The error of a list is that of the first
+/// attribute in byte order whose header or value is rejected.
+///
+/// The empty byte string is the empty list, and needs no memory. Once the first attribute is read,
+/// memory is reserved for it and some of the others.
 pub fn list_read<F: LinkFamily>(
     alloc: Global,
     bytes: &[u8],
@@ -25,13 +50,16 @@ pub fn list_read<F: LinkFamily>(
     count: &mut HeaderCount,
 ) -> Result<Vec<F>, DecodeError>
     requires { count.old + length bytes.now / 4 < 2 ^ 64 }
-    ensures answer { Gives (λ v. v.items) result (values (F.meaning ctx) (pieces bytes.now)) }
-    ensures certain { CertainUnless (memory_of (F.meaning ctx) (F.needs_memory ctx) (pieces bytes.now)) (λ v. v.items) result (values (F.meaning ctx) (pieces bytes.now)) }
-    ensures counted { OnAnswer result (count.new ≡ count.old + headers_of (F.meaning ctx) (F.headers ctx) (pieces bytes.now)) }
+    ensures answer { Gives (λ v. v.items) result (values (F.meaning ctx) (nla_items bytes.now)) }
+    ensures certain { CertainUnless
+        (memory_of (F.meaning ctx) (F.needs_memory ctx) (nla_items bytes.now)) (λ v. v.items) result
+        (values (F.meaning ctx) (nla_items bytes.now)) }
+    ensures counted { OnAnswer result
+        (count.new ≡ count.old + headers_of (F.meaning ctx) (F.headers ctx) (nla_items bytes.now)) }
     ensures rises { count.old ≤ count.new }
     ensures quarter { 4 * count.new ≤ 4 * count.old + length bytes.now }
 {
-    let Some(next) = next_piece(bytes, count) else {
+    let Some(next) = next_attribute(bytes, count) else {
         return Ok(Vec::new(alloc));
     };
     let (nla, after) = next?;
@@ -40,7 +68,7 @@ pub fn list_read<F: LinkFamily>(
     let mut items = Vec::with_capacity(alloc, room + 1)?;
     items.push_reserved(first);
     let mut rest = after;
-    while let Some(next) = next_piece(rest, count) {
+    while let Some(next) = next_attribute(rest, count) {
         let (nla, after) = next?;
         F::push(&mut items, alloc, &nla, ctx, count)?;
         rest = after;
@@ -48,20 +76,21 @@ pub fn list_read<F: LinkFamily>(
     Ok(items)
 }
 
-/// Whether `list_read` would succeed, or the list's fault. Takes no memory.
+/// Checks whether `list_read` would succeed, and returns the error if not. Does not allocate.
 pub fn list_check<F: LinkFamily>(
     bytes: &[u8],
     ctx: F::Context,
     count: &mut HeaderCount,
 ) -> Result<(), DecodeError>
     requires { count.old + length bytes.now / 4 < 2 ^ 64 }
-    ensures answer { result ≡ verdict (values (F.meaning ctx) (pieces bytes.now)) }
-    ensures counted { count.new ≡ count.old + headers_of (F.meaning ctx) (F.headers ctx) (pieces bytes.now) }
+    ensures answer { result ≡ verdict (values (F.meaning ctx) (nla_items bytes.now)) }
+    ensures counted { count.new
+        ≡ count.old + headers_of (F.meaning ctx) (F.headers ctx) (nla_items bytes.now) }
     ensures rises { count.old ≤ count.new }
     ensures quarter { 4 * count.new ≤ 4 * count.old + length bytes.now }
 {
     let mut rest = bytes;
-    while let Some(next) = next_piece(rest, count) {
+    while let Some(next) = next_attribute(rest, count) {
         let (nla, after) = next?;
         F::check_value(&nla, ctx, count)?;
         rest = after;
@@ -69,39 +98,45 @@ pub fn list_check<F: LinkFamily>(
     Ok(())
 }
 
-/// Whether two lists mean the same values. Asks that each is accepted, and takes no memory.
+/// Whether two lists are equivalent: they mean equal values. Requires that each is accepted. Does
+/// not allocate.
 pub fn list_same<F: LinkFamily>(
     a: &[u8],
     b: &[u8],
     ctx: F::Context,
     count: &mut HeaderCount,
 ) -> bool
-    requires first { IsOk (values (F.meaning ctx) (pieces a.now)) }
-    requires second { IsOk (values (F.meaning ctx) (pieces b.now)) }
+    requires first { IsOk (values (F.meaning ctx) (nla_items a.now)) }
+    requires second { IsOk (values (F.meaning ctx) (nla_items b.now)) }
     requires room { count.old + (length a.now + length b.now) / 4 < 2 ^ 64 }
-    ensures same { result ≡ alike_pairs (F.alike ctx) (pieces a.now) (pieces b.now) }
-    ensures equal { IsTrue result ↔ (values (F.meaning ctx) (pieces a.now) ≡ values (F.meaning ctx) (pieces b.now)) }
-    ensures counted { OnTrue result (count.new ≡ count.old + (headers_of (F.meaning ctx) (F.headers ctx) (pieces a.now) + headers_of (F.meaning ctx) (F.headers ctx) (pieces b.now))) }
+    ensures same { result ≡ alike_pairs (F.alike ctx) (nla_items a.now) (nla_items b.now) }
+    ensures equal { IsTrue result
+        ↔ (values (F.meaning ctx) (nla_items a.now) ≡ values (F.meaning ctx) (nla_items b.now)) }
+    ensures counted { OnTrue result
+        (count.new ≡ count.old + (headers_of (F.meaning ctx) (F.headers ctx) (nla_items a.now)
+        + headers_of (F.meaning ctx) (F.headers ctx) (nla_items b.now))) }
     ensures rises { count.old ≤ count.new }
     ensures quarter { 4 * count.new ≤ 4 * count.old + (length a.now + length b.now) }
 {
     pairs_same::<F>(a, b, ctx, count)
 }
 
-/// The same, attribute by attribute.
+/// Compares two lists attribute by attribute.
 fn pairs_same<F: LinkFamily>(a: &[u8], b: &[u8], ctx: F::Context, count: &mut HeaderCount) -> bool
-    requires first { IsOk (values (F.meaning ctx) (pieces a.now)) }
-    requires second { IsOk (values (F.meaning ctx) (pieces b.now)) }
+    requires first { IsOk (values (F.meaning ctx) (nla_items a.now)) }
+    requires second { IsOk (values (F.meaning ctx) (nla_items b.now)) }
     requires room { count.old + (length a.now + length b.now) / 4 < 2 ^ 64 }
-    ensures same { result ≡ alike_pairs (F.alike ctx) (pieces a.now) (pieces b.now) }
-    ensures counted { OnTrue result (count.new ≡ count.old + (headers_of (F.meaning ctx) (F.headers ctx) (pieces a.now) + headers_of (F.meaning ctx) (F.headers ctx) (pieces b.now))) }
+    ensures same { result ≡ alike_pairs (F.alike ctx) (nla_items a.now) (nla_items b.now) }
+    ensures counted { OnTrue result
+        (count.new ≡ count.old + (headers_of (F.meaning ctx) (F.headers ctx) (nla_items a.now)
+        + headers_of (F.meaning ctx) (F.headers ctx) (nla_items b.now))) }
     ensures rises { count.old ≤ count.new }
     ensures quarter { 4 * count.new ≤ 4 * count.old + (length a.now + length b.now) }
 {
     let mut x = a;
     let mut y = b;
-    while let Some(next) = next_piece(x, count) {
-        let Some(other) = next_piece(y, count) else {
+    while let Some(next) = next_attribute(x, count) {
+        let Some(other) = next_attribute(y, count) else {
             return false;
         };
         let (p, after_p) = next.unwrap();
@@ -112,19 +147,22 @@ fn pairs_same<F: LinkFamily>(a: &[u8], b: &[u8], ctx: F::Context, count: &mut He
         x = after_p;
         y = after_q;
     }
-    next_piece(y, count).is_none()
+    next_attribute(y, count).is_none()
 }
 
-/// The length of the canonical string of the list that a slice means, or `None` above 65531, the most bytes of a payload. Each attribute is
-/// measured once. Asks that the list is accepted, and takes no memory.
+/// Returns the length of the canonical encoding of the list that a byte string means. It is `None`
+/// above 65531, the maximum length of a payload.
+///
+/// Each attribute is measured once. Requires that the list is accepted. Does not allocate.
 pub fn list_canonical_len<F: LinkFamily>(bytes: &[u8], ctx: F::Context) -> Option<usize>
-    requires { IsOk (values (F.meaning ctx) (pieces bytes.now)) }
-    ensures { let len = length (canonical_list F.attribute (F.meaning ctx) (pieces bytes.now)) in SomeIff result (len ≤ 65531) len }
+    requires { IsOk (values (F.meaning ctx) (nla_items bytes.now)) }
+    ensures { let len = length (canonical_list F.attribute (F.meaning ctx) (nla_items bytes.now)) in
+        SomeIff result (len ≤ 65531) len }
 {
     let mut count = HeaderCount::new();
     let mut rest = bytes;
     let mut total: usize = 0;
-    while let Some(next) = next_piece(rest, &mut count) {
+    while let Some(next) = next_attribute(rest, &mut count) {
         let (nla, after) = next.unwrap();
         let len = F::canonical_len(&nla, ctx)?;
         total = fitting(total + 4 + len.next_multiple_of(4))?;
@@ -133,21 +171,33 @@ pub fn list_canonical_len<F: LinkFamily>(bytes: &[u8], ctx: F::Context) -> Optio
     Some(total)
 }
 
-/// Writes the canonical string of the list that a slice means at the front of the buffer, leaves the bytes behind it, and answers its length. Asks
-/// that the list is accepted and its canonical string has at most 65531 bytes, and for a buffer of at least as many; takes no memory.
-pub fn list_put_canonical<F: LinkFamily>(bytes: &[u8], ctx: F::Context, buffer: &mut [u8]) -> usize
-    requires accepted { IsOk (values (F.meaning ctx) (pieces bytes.now)) }
-    requires fits { length (canonical_list F.attribute (F.meaning ctx) (pieces bytes.now)) ≤ 65531 }
-    requires room { length (canonical_list F.attribute (F.meaning ctx) (pieces bytes.now)) ≤ length buffer.old }
-    ensures taken { result ≡ length (canonical_list F.attribute (F.meaning ctx) (pieces bytes.now)) }
-    ensures written { let string = canonical_list F.attribute (F.meaning ctx) (pieces bytes.now) in buffer.new ≡ string ++ drop (length string) buffer.old }
+/// Writes the canonical encoding of the list that a byte string means at the front of the buffer,
+/// and returns its length. The bytes after it stay unchanged.
+///
+/// Requires that the list is accepted, that its encoding has at most 65531 bytes, and that the
+/// buffer has at least as many. Does not allocate.
+pub fn list_write_canonical<F: LinkFamily>(
+    bytes: &[u8],
+    ctx: F::Context,
+    buffer: &mut [u8],
+) -> usize
+    requires accepted { IsOk (values (F.meaning ctx) (nla_items bytes.now)) }
+    requires fits { length (canonical_list F.attribute (F.meaning ctx) (nla_items bytes.now))
+        ≤ 65531 }
+    requires room { length (canonical_list F.attribute (F.meaning ctx) (nla_items bytes.now))
+        ≤ length buffer.old }
+    ensures taken { result
+        ≡ length (canonical_list F.attribute (F.meaning ctx) (nla_items bytes.now)) }
+    ensures written { let string =
+        canonical_list F.attribute (F.meaning ctx) (nla_items bytes.now) in
+        buffer.new ≡ string ++ drop (length string) buffer.old }
 {
     let mut count = HeaderCount::new();
     let mut rest = bytes;
     let mut place: usize = 0;
-    while let Some(next) = next_piece(rest, &mut count) {
+    while let Some(next) = next_attribute(rest, &mut count) {
         let (nla, after) = next.unwrap();
-        place += F::put_canonical(&nla, ctx, &mut buffer[place..]);
+        place += F::write_canonical(&nla, ctx, &mut buffer[place..]);
         rest = after;
     }
     place

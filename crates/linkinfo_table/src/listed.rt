@@ -1,12 +1,13 @@
-//! A family as the payloads that hold its attributes see it.
+//! Families as seen by the payloads that contain their attributes.
 
 ghost use Rattle.linkinfo_table.specs.Members.{Members, members_of};
 
 use crate::family::LinkFamily;
 
-/// All that a family says, in one record for each context. Every family is one, and no other type.
+/// All that a family defines, in one record per context. Every family implements it, and no other
+/// type does.
 pub trait ListedFamily: LinkFamily {
-    /// What the family says under a context.
+    /// What the family defines under a context.
     ghost members: { Self.Context → Members Self };
 }
 

@@ -1,46 +1,54 @@
-//! The names of `linkinfo_lower`: attributes of bond, bridge, vlan, can, hsr and dsa links, and of
-//! ports of bonds and bridges, which are kept verbatim.
+//! The names of `linkinfo_lower`: attributes of `bond`, `bridge`, `vlan`, `can`, `hsr` and `dsa`
+//! links, and of ports of bonds and bridges, which are opaque.
 //!
-//! They are defined here, so that the crates above wait for no crate of their own.
+//! They are defined here, so that the crates above need not wait for a crate of their own.
 
-use crate::rowless::{BOND, BOND_PORT, BRIDGE, BRIDGE_PORT, CAN, DSA, HSR, Rowless, VLAN};
+use crate::opaque::{BOND, BOND_PORT, BRIDGE, BRIDGE_PORT, CAN, DSA, HSR, Opaque, VLAN};
 
-/// An attribute of a bond: of a link of the kind `bond` (`IFLA_BOND_MODE` and on, include/uapi/linux/if_link.h).
+/// An attribute in the data of a `bond` link, a bonding device (`IFLA_BOND_*`,
+/// include/uapi/linux/if_link.h).
 ///
-/// Its type, flag bits included, and its payload are kept as they came.
-pub type InfoBond = Rowless<BOND>;
+/// It is opaque: its type, flag bits included, and its payload are kept verbatim.
+pub type InfoBond = Opaque<BOND>;
 
-/// An attribute of a port of a bond: of a link whose port kind is `bond` (`IFLA_BOND_SLAVE_STATE` and on, include/uapi/linux/if_link.h).
+/// An attribute in the data of a port of a `bond` (`IFLA_BOND_SLAVE_*`,
+/// include/uapi/linux/if_link.h).
 ///
-/// Its type, flag bits included, and its payload are kept as they came.
-pub type InfoBondPort = Rowless<BOND_PORT>;
+/// It is opaque: its type, flag bits included, and its payload are kept verbatim.
+pub type InfoBondPort = Opaque<BOND_PORT>;
 
-/// An attribute of a bridge: of a link of the kind `bridge` (`IFLA_BR_FORWARD_DELAY` and on, include/uapi/linux/if_link.h).
+/// An attribute in the data of a `bridge` link, an Ethernet bridge (`IFLA_BR_*`,
+/// include/uapi/linux/if_link.h).
 ///
-/// Its type, flag bits included, and its payload are kept as they came.
-pub type InfoBridge = Rowless<BRIDGE>;
+/// It is opaque: its type, flag bits included, and its payload are kept verbatim.
+pub type InfoBridge = Opaque<BRIDGE>;
 
-/// An attribute of a port of a bridge: of a link whose port kind is `bridge` (`IFLA_BRPORT_STATE` and on, include/uapi/linux/if_link.h).
+/// An attribute in the data of a port of a `bridge` (`IFLA_BRPORT_*`,
+/// include/uapi/linux/if_link.h).
 ///
-/// Its type, flag bits included, and its payload are kept as they came.
-pub type InfoBridgePort = Rowless<BRIDGE_PORT>;
+/// It is opaque: its type, flag bits included, and its payload are kept verbatim.
+pub type InfoBridgePort = Opaque<BRIDGE_PORT>;
 
-/// An attribute of a CAN device: of a link of the kind `can` (`IFLA_CAN_BITTIMING` and on, include/uapi/linux/can/netlink.h).
+/// An attribute in the data of a `can` link, a CAN interface (`IFLA_CAN_*`,
+/// include/uapi/linux/can/netlink.h).
 ///
-/// Its type, flag bits included, and its payload are kept as they came.
-pub type InfoCan = Rowless<CAN>;
+/// It is opaque: its type, flag bits included, and its payload are kept verbatim.
+pub type InfoCan = Opaque<CAN>;
 
-/// An attribute of a port of a distributed switch: of a link of the kind `dsa` (`IFLA_DSA_CONDUIT` and on, include/uapi/linux/if_link.h).
+/// An attribute in the data of a `dsa` link, a user port of a DSA switch (`IFLA_DSA_*`,
+/// include/uapi/linux/if_link.h).
 ///
-/// Its type, flag bits included, and its payload are kept as they came.
-pub type InfoDsa = Rowless<DSA>;
+/// It is opaque: its type, flag bits included, and its payload are kept verbatim.
+pub type InfoDsa = Opaque<DSA>;
 
-/// An attribute of a redundant ring by HSR or PRP: of a link of the kind `hsr` (`IFLA_HSR_SLAVE1` and on, include/uapi/linux/if_link.h).
+/// An attribute in the data of an `hsr` link, an HSR or PRP device (`IFLA_HSR_*`,
+/// include/uapi/linux/if_link.h).
 ///
-/// Its type, flag bits included, and its payload are kept as they came.
-pub type InfoHsr = Rowless<HSR>;
+/// It is opaque: its type, flag bits included, and its payload are kept verbatim.
+pub type InfoHsr = Opaque<HSR>;
 
-/// An attribute of a VLAN link: of a link of the kind `vlan` (`IFLA_VLAN_ID` and on, include/uapi/linux/if_link.h).
+/// An attribute in the data of a `vlan` link, a VLAN interface (`IFLA_VLAN_*`,
+/// include/uapi/linux/if_link.h).
 ///
-/// Its type, flag bits included, and its payload are kept as they came.
-pub type InfoVlan = Rowless<VLAN>;
+/// It is opaque: its type, flag bits included, and its payload are kept verbatim.
+pub type InfoVlan = Opaque<VLAN>;

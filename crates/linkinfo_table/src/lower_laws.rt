@@ -1,4 +1,4 @@
-//! Laws of the families that are kept verbatim, each the contract of a function without code.
+//! Laws of the opaque families, each the contract of a function without code.
 
 ghost use Rattle.std.specs.Prelude.{◌≡◌};
 ghost use Rattle.nla_frame.specs.declared.error.Family.TheVariants as family;
@@ -8,7 +8,7 @@ use crate::lower::{
     InfoBond, InfoBondPort, InfoBridge, InfoBridgePort, InfoCan, InfoDsa, InfoHsr, InfoVlan,
 };
 
-/// Each name is of the family that it is named after.
+/// Each name is that of the family it is named after.
 pub fn named()
     ensures bond { ⟦<InfoBond as LinkFamily>⟧.FAMILY ≡ family.Bond }
     ensures bond_port { ⟦<InfoBondPort as LinkFamily>⟧.FAMILY ≡ family.BondPort }

@@ -1,33 +1,45 @@
-//! Families that are given by rows.
+//! Families defined by rows.
 
 ghost use Rattle.std.specs.Prelude.{◌≡◌, ℕ, Bool, false, true, IsOk, OnErr, OnOk};
 ghost use Rattle.nla_frame.specs.Attribute.{Attribute};
 ghost use Rattle.nla_frame.specs.declared.error.Family.{Family};
 ghost use Rattle.nla_frame.specs.declared.default_nla.DefaultNla.{DefaultNla};
-ghost use Rattle.linkinfo_table.specs.FamilyRows.{FamilyRow, IsFlat, Puts, RowOwes, Shows, SuitsFound, found_needs_memory, lookup_of, row_of};
+ghost use Rattle.linkinfo_table.specs.FamilyRows.{
+  FamilyRow,
+  IsFlat,
+  RowOwes,
+  Shows,
+  Stores,
+  SuitsDecoded,
+  decoded_needs_memory,
+  lookup_of,
+  row_of,
+};
 
-use crate::found::Found;
+use crate::decoded::Decoded;
+use crate::encodable::Encodable;
 use crate::lookup::Lookup;
-use crate::part::Part;
-use crate::place::Place;
+use crate::slot::Slot;
 use nla_frame::{DefaultNla, Family, Nla};
 use std::alloc::{AllocError, Global};
 
-/// A family whose types are rows: a number, a shape, and the variant that holds its datum.
+/// A family defined by rows: for each type a shape, and the variant for its datum.
 ///
-/// A family writes its rows, and these small functions between data and variants. Reading, checking, comparing, measuring and emitting
-/// follow.
+/// A family defines its rows, and these small functions between data and variants. Reading,
+/// checking, comparing, measuring and writing follow from them.
 pub trait RowFamily: Sized + Drop {
+    /// What the meaning of an attribute depends on apart from its bytes.
     type Context: Copy;
 
+    /// The name of the family, which its errors have.
     const FAMILY: Family;
 
     ghost FAMILY: { Family };
 
-    /// The row of a masked type.
+    /// The row of each type without flag bits.
     ghost rows: { Self.Context → ℕ → FamilyRow Self };
 
-    /// The variant of an attribute that is kept as it came.
+    /// The variant of an opaque attribute.
     ghost other: { DefaultNla → Self };
 
     /// The canonical attribute of a value.
@@ -36,33 +48,38 @@ pub trait RowFamily: Sized + Drop {
     /// Whether the family writes a value's payload itself.
     ghost is_custom: { Self → Bool };
 
-    /// What the row of a masked type says.
+    /// How the row of a type without flag bits is read.
     fn shape(ctx: Self::Context, kind: u16) -> Lookup
         ensures { result ≡ lookup_of (rows ctx kind) };
 
-    /// Puts the value of what was read of an attribute in a place. Asks that a datum belongs to the shape of its type's row; only a text or
-    /// bytes, which are copied, and the place may want memory. On an error the place holds what it held.
-    fn put_found<P: Place<Self>>(
-        place: &mut P,
+    /// Stores the value of an attribute's decoded content. An error leaves the slot unchanged.
+    ///
+    /// Requires that a datum belongs to the shape of its type's row. Allocates only for text and
+    /// bytes, which are copied, and if the slot must grow.
+    fn store_decoded<P: Slot<Self>>(
+        slot: &mut P,
         alloc: Global,
         ctx: Self::Context,
-        found: Found<'_>,
+        decoded: Decoded<'_>,
     ) -> Result<(), AllocError>
-        requires { SuitsFound (rows ctx) found }
-        ensures value { OnOk result (Puts (P.with place.old) other (rows ctx) found.entry (P.held place.new)) }
-        ensures unchanged { OnErr result (P.held place.new ≡ P.held place.old) }
-        ensures certain { P.is_certain ≡ true → found_needs_memory found.entry ≡ false → IsOk result };
+        requires { SuitsDecoded (rows ctx) decoded }
+        ensures value { OnOk result
+            (Stores (P.with slot.old) other (rows ctx) decoded.entry (P.held slot.new)) }
+        ensures unchanged { OnErr result (P.held slot.new ≡ P.held slot.old) }
+        ensures certain { P.is_certain ≡ true → decoded_needs_memory decoded.entry ≡ false →
+            IsOk result };
 
-    /// The type number, shape and datum of a value, or the attribute that it keeps.
-    fn to_part(&self) -> Part<'_>
+    /// The type, shape and datum of a value, or its opaque attribute.
+    fn to_encodable(&self) -> Encodable<'_>
         ensures { Shows result (canonical self.now) (is_custom self.now) };
 
     ghost owes: { (c : Self.Context) (n : ℕ) → RowOwes canonical n (row_of (rows c n)) };
 
-    ghost keeps_other: { (d : DefaultNla) → canonical (other d) ≡ record { kind = d.kind; value = d.value } };
+    ghost keeps_other: { (d : DefaultNla) →
+        canonical (other d) ≡ record { kind = d.kind; value = d.value } };
 }
 
-/// A family of which each row has a shape of the table. It is a `LinkFamily` by its rows.
+/// A family in which each row has a shape of the table. It is a `LinkFamily` by its rows.
 pub trait FlatFamily: RowFamily + Nla {
     ghost flat: { (c : Self.Context) (n : ℕ) → IsFlat (Self.rows c n) };
 

@@ -1,20 +1,32 @@
-//! What each family that is given by rows does.
+//! The calls of families defined by rows.
 
-ghost use Rattle.std.specs.Prelude.{◌≡◌, ◌==◌, ◌&&◌, ◌≤◌, ◌++◌, drop, false, length, IsOk, OnErr, SomeIff};
+ghost use Rattle.std.specs.Prelude.{
+  ◌≡◌,
+  ◌==◌,
+  ◌&&◌,
+  ◌≤◌,
+  ◌++◌,
+  drop,
+  false,
+  length,
+  IsOk,
+  OnErr,
+  SomeIff,
+};
 ghost use Rattle.std.specs.Str.{bytes_eq};
 ghost use Rattle.nla_frame.specs.Answers.{CertainUnless, Gives, verdict};
 ghost use Rattle.nla_frame.specs.Attribute.{Fits, masked};
 ghost use Rattle.linkinfo_shapes.specs.Shapes.{IsAccepted, IsPlain, payload_alike};
 ghost use Rattle.linkinfo_shapes.specs.Table.{shape_of};
 ghost use Rattle.linkinfo_table.specs.FamilyRows.{IsFlat, lookup_in, row_of};
-ghost use Rattle.linkinfo_table.specs.Lists.{PutsGives, put_memory};
+ghost use Rattle.linkinfo_table.specs.Lists.{StoreGives, store_memory};
 ghost use Rattle.linkinfo_table.specs.Rows.{alike_in, meaning_in, memory_in};
 
-use crate::found::Found;
+use crate::decoded::Decoded;
+use crate::encodable::Encodable;
 use crate::lookup::Lookup;
-use crate::part::Part;
-use crate::place::Place;
 use crate::row_family::RowFamily;
+use crate::slot::Slot;
 use linkinfo_shapes::{
     Shape, datum_len, read_datum, shape_check, shape_same, table_shape, write_datum,
 };
@@ -22,7 +34,7 @@ use nla_frame::{Cause, DecodeError, DefaultNla, Family, Nla, NlaBuffer, Parseabl
 use std::alloc::Global;
 
 #[inline(always)]
-fn fault(family: Family, kind: u16, cause: Cause) -> DecodeError
+fn error(family: Family, kind: u16, cause: Cause) -> DecodeError
     ensures { result ≡ record { family = family; kind = kind; cause = cause } }
 {
     DecodeError {
@@ -32,7 +44,7 @@ fn fault(family: Family, kind: u16, cause: Cause) -> DecodeError
     }
 }
 
-/// What the table of all families says of a masked type: its shape, or that it has none.
+/// How the table of all families reads a type without flag bits: by its shape, or as opaque.
 #[inline(always)]
 pub fn table_lookup(family: Family, kind: u16) -> Lookup
     ensures { result ≡ lookup_in (shape_of family kind) }
@@ -43,53 +55,59 @@ pub fn table_lookup(family: Family, kind: u16) -> Lookup
     }
 }
 
-/// Reads an attribute by its row, and puts its value in a place. On an error the place holds what it held. Asks for one whose row has a
-/// shape of the table, or none.
+/// Reads an attribute by its row, and stores its value. An error leaves the slot unchanged.
+/// Requires that the family does not read the payload itself.
 #[inline(always)]
-pub fn row_put<F: RowFamily, P: Place<F>>(
-    place: &mut P,
+pub fn row_store<F: RowFamily, P: Slot<F>>(
+    slot: &mut P,
     alloc: Global,
     nla: &NlaBuffer<'_>,
     ctx: F::Context,
 ) -> Result<(), DecodeError>
     requires { IsFlat (F.rows ctx (masked nla.now.kind)) }
-    ensures answer { PutsGives (P.with place.old) (P.held place.new) result (meaning_in F.FAMILY F.other (λ n. row_of (F.rows ctx n)) nla.now) }
-    ensures unchanged { OnErr result (P.held place.new ≡ P.held place.old) }
-    ensures certain { put_memory P.is_certain (memory_in (λ n. row_of (F.rows ctx n)) nla.now) (meaning_in F.FAMILY F.other (λ n. row_of (F.rows ctx n)) nla.now) ≡ false → result ≡ verdict (meaning_in F.FAMILY F.other (λ n. row_of (F.rows ctx n)) nla.now) }
+    ensures answer { StoreGives (P.with slot.old) (P.held slot.new) result
+        (meaning_in F.FAMILY F.other (λ n. row_of (F.rows ctx n)) nla.now) }
+    ensures unchanged { OnErr result (P.held slot.new ≡ P.held slot.old) }
+    ensures certain { store_memory P.is_certain (memory_in (λ n. row_of (F.rows ctx n)) nla.now)
+        (meaning_in F.FAMILY F.other (λ n. row_of (F.rows ctx n)) nla.now) ≡ false →
+        result ≡ verdict (meaning_in F.FAMILY F.other (λ n. row_of (F.rows ctx n)) nla.now) }
 {
     let kind = nla.kind();
     match F::shape(ctx, kind) {
         Lookup::Is(shape) => match read_datum(shape, nla.value()) {
-            Ok(datum) => Ok(F::put_found(place, alloc, ctx, Found::Typed(kind, datum))?),
-            Err(cause) => Err(fault(F::FAMILY, kind, cause)),
+            Ok(datum) => Ok(F::store_decoded(slot, alloc, ctx, Decoded::Typed(kind, datum))?),
+            Err(cause) => Err(error(F::FAMILY, kind, cause)),
         },
-        Lookup::Refused(cause) => Err(fault(F::FAMILY, kind, cause)),
+        Lookup::Refused(cause) => Err(error(F::FAMILY, kind, cause)),
         Lookup::Unknown => {
             let kept = DefaultNla::parse(alloc, nla)?;
-            Ok(F::put_found(place, alloc, ctx, Found::Kept(kept))?)
+            Ok(F::store_decoded(slot, alloc, ctx, Decoded::Kept(kept))?)
         }
     }
 }
 
-/// Reads an attribute by its row. Asks the same.
+/// Reads an attribute by its row. Requires that the family does not read the payload itself.
 pub fn row_read<F: RowFamily>(
     alloc: Global,
     nla: &NlaBuffer<'_>,
     ctx: F::Context,
 ) -> Result<F, DecodeError>
     requires { IsFlat (F.rows ctx (masked nla.now.kind)) }
-    ensures answer { Gives (λ value. value) result (meaning_in F.FAMILY F.other (λ n. row_of (F.rows ctx n)) nla.now) }
-    ensures certain { CertainUnless (memory_in (λ n. row_of (F.rows ctx n)) nla.now) (λ value. value) result (meaning_in F.FAMILY F.other (λ n. row_of (F.rows ctx n)) nla.now) }
+    ensures answer { Gives (λ value. value) result
+        (meaning_in F.FAMILY F.other (λ n. row_of (F.rows ctx n)) nla.now) }
+    ensures certain { CertainUnless (memory_in (λ n. row_of (F.rows ctx n)) nla.now)
+        (λ value. value) result (meaning_in F.FAMILY F.other (λ n. row_of (F.rows ctx n)) nla.now) }
 {
-    let mut place = None;
-    row_put::<F, Option<F>>(&mut place, alloc, nla, ctx)?;
-    match place {
+    let mut slot = None;
+    row_store::<F, Option<F>>(&mut slot, alloc, nla, ctx)?;
+    match slot {
         Some(value) => Ok(value),
         None => unreachable!(),
     }
 }
 
-/// Whether `row_read` would succeed, or the attribute's fault. Takes no memory. Asks the same.
+/// Checks whether `row_read` would succeed, and returns the error if not. Does not allocate.
+/// Requires that the family does not read the payload itself.
 #[inline(always)]
 pub fn row_check<F: RowFamily>(nla: &NlaBuffer<'_>, ctx: F::Context) -> Result<(), DecodeError>
     requires { IsFlat (F.rows ctx (masked nla.now.kind)) }
@@ -99,14 +117,17 @@ pub fn row_check<F: RowFamily>(nla: &NlaBuffer<'_>, ctx: F::Context) -> Result<(
     match F::shape(ctx, kind) {
         Lookup::Is(shape) => match shape_check(shape, nla.value()) {
             Ok(()) => Ok(()),
-            Err(cause) => Err(fault(F::FAMILY, kind, cause)),
+            Err(cause) => Err(error(F::FAMILY, kind, cause)),
         },
-        Lookup::Refused(cause) => Err(fault(F::FAMILY, kind, cause)),
+        Lookup::Refused(cause) => Err(error(F::FAMILY, kind, cause)),
         Lookup::Unknown => Ok(()),
     }
 }
 
-/// Whether two attributes mean the same value. Asks the same of the first, and that both are accepted. Takes no memory.
+/// Whether two attributes are equivalent: they mean equal values. Does not allocate.
+///
+/// Requires that both are accepted, and that the family does not read the payload of the first
+/// itself.
 #[inline(always)]
 pub fn row_same<F: RowFamily>(a: &NlaBuffer<'_>, b: &NlaBuffer<'_>, ctx: F::Context) -> bool
     requires flat { IsFlat (F.rows ctx (masked a.now.kind)) }
@@ -126,7 +147,8 @@ fn typed_same(shape: Shape, a: &NlaBuffer<'_>, b: &NlaBuffer<'_>) -> bool
     requires plain { IsPlain shape }
     requires first { IsAccepted shape a.now.value }
     requires second { masked b.now.kind ≡ masked a.now.kind → IsAccepted shape b.now.value }
-    ensures { result ≡ ((masked b.now.kind == masked a.now.kind) && payload_alike shape a.now.value b.now.value) }
+    ensures { result ≡ ((masked b.now.kind == masked a.now.kind)
+        && payload_alike shape a.now.value b.now.value) }
 {
     b.kind() == a.kind() && shape_same(shape, a.value(), b.value())
 }
@@ -138,33 +160,35 @@ fn kept_same(a: &NlaBuffer<'_>, b: &NlaBuffer<'_>) -> bool
     b.raw_kind() == a.raw_kind() && a.value() == b.value()
 }
 
-/// The type number of a value. Asks for one whose payload the family does not write itself.
+/// The type of a value. Requires that the family does not write the payload itself.
 #[inline(always)]
 pub fn row_kind<F: RowFamily>(value: &F) -> u16
     requires { F.is_custom value.now ≡ false }
     ensures { result ≡ (F.canonical value.now).kind }
 {
-    match value.to_part() {
-        Part::Typed(kind, _, _) => kind,
-        Part::Kept(nla) => nla.kind(),
-        Part::Custom => unreachable!(),
+    match value.to_encodable() {
+        Encodable::Typed(kind, _, _) => kind,
+        Encodable::Kept(nla) => nla.kind(),
+        Encodable::Custom => unreachable!(),
     }
 }
 
-/// The length of a value's payload where it fits, and else `None`. Asks the same.
+/// Returns the length of a value's payload if the value fits, and `None` otherwise. Requires that
+/// the family does not write the payload itself.
 #[inline(always)]
 pub fn row_fit_len<F: RowFamily>(value: &F) -> Option<usize>
     requires { F.is_custom value.now ≡ false }
     ensures { SomeIff result (Fits (F.canonical value.now)) (length (F.canonical value.now).value) }
 {
-    match value.to_part() {
-        Part::Typed(_, shape, datum) => datum_len(shape, &datum),
-        Part::Kept(nla) => nla.fit_len(),
-        Part::Custom => unreachable!(),
+    match value.to_encodable() {
+        Encodable::Typed(_, shape, datum) => datum_len(shape, &datum),
+        Encodable::Kept(nla) => nla.fit_len(),
+        Encodable::Custom => unreachable!(),
     }
 }
 
-/// The length of a value's payload. Asks the same, and that the value fits.
+/// The length of a value's payload. Requires that the value fits, and that the family does not
+/// write the payload itself.
 #[inline(always)]
 pub fn row_value_len<F: RowFamily>(value: &F) -> usize
     requires custom { F.is_custom value.now ≡ false }
@@ -177,7 +201,8 @@ pub fn row_value_len<F: RowFamily>(value: &F) -> usize
     }
 }
 
-/// Writes a value's payload. Asks the same, and for a buffer of exactly its length.
+/// Writes a value's payload. Requires that the value fits, that the family does not write the
+/// payload itself, and that the buffer has exactly its length.
 #[inline(always)]
 pub fn row_emit_value<F: RowFamily>(value: &F, buffer: &mut [u8])
     requires custom { F.is_custom value.now ≡ false }
@@ -185,32 +210,36 @@ pub fn row_emit_value<F: RowFamily>(value: &F, buffer: &mut [u8])
     requires exact { length buffer.old ≡ length (F.canonical value.now).value }
     ensures { buffer.new ≡ (F.canonical value.now).value }
 {
-    match value.to_part() {
-        Part::Typed(_, shape, datum) => write_datum(shape, &datum, buffer),
-        Part::Kept(nla) => nla.emit_value(buffer),
-        Part::Custom => unreachable!(),
+    match value.to_encodable() {
+        Encodable::Typed(_, shape, datum) => write_datum(shape, &datum, buffer),
+        Encodable::Kept(nla) => nla.emit_value(buffer),
+        Encodable::Custom => unreachable!(),
     }
 }
 
-/// Writes a value's payload at the front of the buffer, leaves the bytes behind it, and answers how many it wrote. Asks the same, and for a buffer
-/// of at least the payload's length.
+/// Writes a value's payload at the front of the buffer, and returns its length. The bytes after it
+/// stay unchanged.
+///
+/// Requires that the value fits, that the family does not write the payload itself, and that the
+/// buffer has at least its length.
 #[inline(always)]
 pub fn row_emit_payload<F: RowFamily>(value: &F, buffer: &mut [u8]) -> usize
     requires custom { F.is_custom value.now ≡ false }
     requires fits { Fits (F.canonical value.now) }
     requires room { length (F.canonical value.now).value ≤ length buffer.old }
     ensures taken { result ≡ length (F.canonical value.now).value }
-    ensures written { buffer.new ≡ (F.canonical value.now).value ++ drop (length (F.canonical value.now).value) buffer.old }
+    ensures written { buffer.new
+        ≡ (F.canonical value.now).value ++ drop (length (F.canonical value.now).value) buffer.old }
 {
-    match value.to_part() {
-        Part::Typed(_, shape, datum) => match datum_len(shape, &datum) {
+    match value.to_encodable() {
+        Encodable::Typed(_, shape, datum) => match datum_len(shape, &datum) {
             Some(len) => {
                 write_datum(shape, &datum, &mut buffer[..len]);
                 len
             }
             None => unreachable!(),
         },
-        Part::Kept(nla) => nla.emit_payload(buffer),
-        Part::Custom => unreachable!(),
+        Encodable::Kept(nla) => nla.emit_payload(buffer),
+        Encodable::Custom => unreachable!(),
     }
 }

@@ -1,63 +1,81 @@
-//! Families of plain rows: each row has a shape of the table of all families, and no context changes it.
+//! Families of plain rows: each row has a shape of the table of all families, in every context.
 
 ghost use Rattle.std.specs.Prelude.{◌≡◌, ℕ, List, false, true, IsOk, OnErr, OnOk};
 ghost use Rattle.nla_frame.specs.Attribute.{Attribute};
 ghost use Rattle.nla_frame.specs.declared.error.Family.{Family};
 ghost use Rattle.nla_frame.specs.declared.default_nla.DefaultNla.{DefaultNla};
 ghost use Rattle.linkinfo_shapes.specs.Table.{shape_of};
-ghost use Rattle.linkinfo_table.specs.FamilyRows.{EachKeeps, PlainRow, Puts, Shows, SuitsFound, found_needs_memory, lookup_in, lookup_of, table_row};
+ghost use Rattle.linkinfo_table.specs.FamilyRows.{
+  EachKeeps,
+  PlainRow,
+  Shows,
+  Stores,
+  SuitsDecoded,
+  decoded_needs_memory,
+  lookup_in,
+  lookup_of,
+  table_row,
+};
 
-use crate::found::Found;
+use crate::decoded::Decoded;
+use crate::encodable::Encodable;
 use crate::lookup::Lookup;
-use crate::part::Part;
-use crate::place::Place;
 use crate::row_family::{FlatFamily, RowFamily};
 use crate::rows::table_lookup;
+use crate::slot::Slot;
 use nla_frame::{DefaultNla, Family, Nla};
 use std::alloc::{AllocError, Global};
 
-/// A family that is given by one table of plain rows. It is a `LinkFamily` by that table.
+/// A family defined by one table of plain rows. It is a `LinkFamily` by that table.
 ///
-/// A family writes its name, its table, and two functions between data and variants, which `put_by_rows` and `part_by_rows` make of one list
-/// of its rows.
+/// A family defines its name, its table, and two functions between data and variants.
+/// `store_by_rows` and `encodable_by_rows` generate both from one list of its rows.
 pub trait TableFamily: Sized + Drop {
+    /// The name of the family, which its errors have.
     const FAMILY: Family;
 
     ghost FAMILY: { Family };
 
-    /// Its rows.
+    /// The rows of the family.
     ghost table: { List (PlainRow Self) };
 
-    /// The value that keeps an attribute of a type without a row.
+    /// The value of an opaque attribute, of a type without a row.
     ghost other: { DefaultNla → Self };
 
-    /// The attribute that a value is emitted as.
+    /// The attribute that a value is written as.
     ghost canonical: { Self → Attribute };
 
-    /// Puts the value of what was read of an attribute in a place. Asks that a datum belongs to the shape of its type's row; only a text or
-    /// bytes, which are copied, and the place may want memory. On an error the place holds what it held.
-    fn put_found<P: Place<Self>>(
-        place: &mut P,
+    /// Stores the value of an attribute's decoded content. An error leaves the slot unchanged.
+    ///
+    /// Requires that a datum belongs to the shape of its type's row. Allocates only for text and
+    /// bytes, which are copied, and if the slot must grow.
+    fn store_decoded<P: Slot<Self>>(
+        slot: &mut P,
         alloc: Global,
-        found: Found<'_>,
+        decoded: Decoded<'_>,
     ) -> Result<(), AllocError>
-        requires { SuitsFound (λ n. table_row table n) found }
-        ensures value { OnOk result (Puts (P.with place.old) other (λ n. table_row table n) found.entry (P.held place.new)) }
-        ensures unchanged { OnErr result (P.held place.new ≡ P.held place.old) }
-        ensures certain { P.is_certain ≡ true → found_needs_memory found.entry ≡ false → IsOk result };
+        requires { SuitsDecoded (λ n. table_row table n) decoded }
+        ensures value { OnOk result
+            (Stores (P.with slot.old) other (λ n. table_row table n) decoded.entry
+            (P.held slot.new)) }
+        ensures unchanged { OnErr result (P.held slot.new ≡ P.held slot.old) }
+        ensures certain { P.is_certain ≡ true → decoded_needs_memory decoded.entry ≡ false →
+            IsOk result };
 
-    /// The type number, shape and datum of a value, or the attribute that it keeps.
-    fn to_part(&self) -> Part<'_>
+    /// The type, shape and datum of a value, or its opaque attribute.
+    fn to_encodable(&self) -> Encodable<'_>
         ensures { Shows result (canonical self.now) false };
 
     ghost keeps: { EachKeeps Self.canonical Self.table };
 
-    ghost keeps_other: { (d : DefaultNla) → Self.canonical (Self.other d) ≡ record { kind = d.kind; value = d.value } };
+    ghost keeps_other: { (d : DefaultNla) →
+        Self.canonical (Self.other d) ≡ record { kind = d.kind; value = d.value } };
 
-    ghost in_table: { (n : ℕ) → lookup_of (table_row Self.table n) ≡ lookup_in (shape_of Self.FAMILY n) };
+    ghost in_table: { (n : ℕ) →
+        lookup_of (table_row Self.table n) ≡ lookup_in (shape_of Self.FAMILY n) };
 }
 
-/// What a family of plain rows emits is what its table says.
+/// A family of plain rows that writes its attributes as its table defines them.
 pub trait WrittenByTable: TableFamily + Nla {
     ghost written: { (x : Self) → Self.attribute x ≡ Self.canonical x };
 }
@@ -88,18 +106,18 @@ impl<F: TableFamily> RowFamily for F {
     }
 
     #[inline(always)]
-    fn put_found<P: Place<F>>(
-        place: &mut P,
+    fn store_decoded<P: Slot<F>>(
+        slot: &mut P,
         alloc: Global,
         _ctx: (),
-        found: Found<'_>,
+        decoded: Decoded<'_>,
     ) -> Result<(), AllocError> {
-        <F as TableFamily>::put_found(place, alloc, found)
+        <F as TableFamily>::store_decoded(slot, alloc, decoded)
     }
 
     #[inline(always)]
-    fn to_part(&self) -> Part<'_> {
-        <F as TableFamily>::to_part(self)
+    fn to_encodable(&self) -> Encodable<'_> {
+        <F as TableFamily>::to_encodable(self)
     }
 }
 

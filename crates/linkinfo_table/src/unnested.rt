@@ -1,4 +1,4 @@
-//! A family by rows of which no attribute holds others is a `LinkFamily`.
+//! A family defined by rows without nested attributes is a `LinkFamily`.
 
 ghost use Rattle.std.specs.Prelude.{◌≡◌, ◌≤◌, ◌++◌, ℕ, false, IsOk, OnErr, SomeIff, drop, length};
 ghost use Rattle.std.proofs.Common.{◌∙◌};
@@ -6,11 +6,18 @@ ghost use Rattle.nla_frame.specs.Answers.{CertainUnless, Gives, verdict};
 ghost use Rattle.nla_frame.specs.Attribute.{Fits, buffer_len_of, canonical_string, masked};
 ghost use Rattle.nla_frame.specs.Canonical.{attribute_for};
 ghost use Rattle.linkinfo_table.specs.FamilyRows.{IsUnnested, lookup_of, row_of};
-ghost use Rattle.linkinfo_table.specs.FaultMemory.{rows_certain, unnested_other};
+ghost use Rattle.linkinfo_table.specs.ErrorMemory.{rows_certain, unnested_other};
 ghost use Rattle.linkinfo_table.specs.Lists.{Appends, push_memory};
 ghost use Rattle.linkinfo_table.specs.LookupLaws.{rows_say};
 ghost use Rattle.linkinfo_table.specs.Rows.{alike_in, meaning_in, memory_in, WellFormed};
-ghost use Rattle.linkinfo_table.specs.FlatLaws.{flat_alike_is, none_inside, flat_no_memory, flat_read_well, flat_well_reads, flat_well_attribute};
+ghost use Rattle.linkinfo_table.specs.FlatLaws.{
+  flat_alike_is,
+  none_inside,
+  flat_no_memory,
+  flat_read_well,
+  flat_well_reads,
+  flat_well_attribute,
+};
 
 use crate::family::LinkFamily;
 use crate::lookup::Lookup;
@@ -18,8 +25,8 @@ use crate::row_family::RowFamily;
 use nla_frame::{DecodeError, Family, HeaderCount, Nla, NlaBuffer};
 use std::alloc::Global;
 
-/// A family by rows of which no attribute holds others, so that none is looked at inside one. It is a `LinkFamily` by its rows, and by
-/// these calls, which read, check and compare an attribute by its row.
+/// A family defined by rows without nested attributes, so that no header inside an attribute is
+/// examined. It is a `LinkFamily` by its rows, and by these calls, which use an attribute's row.
 pub trait UnnestedFamily: RowFamily + Nla {
     /// Reads an attribute by its row.
     fn read_by_row(
@@ -27,55 +34,84 @@ pub trait UnnestedFamily: RowFamily + Nla {
         nla: &NlaBuffer<'_>,
         ctx: <Self as RowFamily>::Context,
     ) -> Result<Self, DecodeError>
-        ensures answer { Gives (λ value. value) result (meaning_in Self.FAMILY Self.other (λ n. row_of (Self.rows ctx n)) nla.now) }
-        ensures certain { CertainUnless (memory_in (λ n. row_of (Self.rows ctx n)) nla.now) (λ value. value) result (meaning_in Self.FAMILY Self.other (λ n. row_of (Self.rows ctx n)) nla.now) };
+        ensures answer { Gives (λ value. value) result
+            (meaning_in Self.FAMILY Self.other (λ n. row_of (Self.rows ctx n)) nla.now) }
+        ensures certain { CertainUnless (memory_in (λ n. row_of (Self.rows ctx n)) nla.now)
+            (λ value. value) result
+            (meaning_in Self.FAMILY Self.other (λ n. row_of (Self.rows ctx n)) nla.now) };
 
-    /// Reads an attribute by its row, and puts its value behind a list. On an error the list is what it was.
+    /// Reads an attribute by its row, and pushes its value to the end of a list. An error leaves
+    /// the list unchanged.
     fn push_by_row(
         items: &mut Vec<Self>,
         alloc: Global,
         nla: &NlaBuffer<'_>,
         ctx: <Self as RowFamily>::Context,
     ) -> Result<(), DecodeError>
-        ensures answer { Appends items.old.items items.new.items result (meaning_in Self.FAMILY Self.other (λ n. row_of (Self.rows ctx n)) nla.now) }
+        ensures answer { Appends items.old.items items.new.items result
+            (meaning_in Self.FAMILY Self.other (λ n. row_of (Self.rows ctx n)) nla.now) }
         ensures unchanged { OnErr result (items.new.items ≡ items.old.items) }
-        ensures certain { push_memory (memory_in (λ n. row_of (Self.rows ctx n)) nla.now) (meaning_in Self.FAMILY Self.other (λ n. row_of (Self.rows ctx n)) nla.now) ≡ false → result ≡ verdict (meaning_in Self.FAMILY Self.other (λ n. row_of (Self.rows ctx n)) nla.now) }
+        ensures certain { push_memory (memory_in (λ n. row_of (Self.rows ctx n)) nla.now)
+            (meaning_in Self.FAMILY Self.other (λ n. row_of (Self.rows ctx n)) nla.now) ≡ false →
+            result
+            ≡ verdict (meaning_in Self.FAMILY Self.other (λ n. row_of (Self.rows ctx n)) nla.now) }
     {
         items.push(Self::read_by_row(alloc, nla, ctx)?)?;
         Ok(())
     }
 
-    /// Whether `read_by_row` would succeed, or the attribute's fault. Takes no memory.
+    /// Checks whether `read_by_row` would succeed, and returns the error if not. Does not allocate.
     fn check_by_row(
         nla: &NlaBuffer<'_>,
         ctx: <Self as RowFamily>::Context,
     ) -> Result<(), DecodeError>
-        ensures { result ≡ verdict (meaning_in Self.FAMILY Self.other (λ n. row_of (Self.rows ctx n)) nla.now) };
+        ensures { result
+            ≡ verdict (meaning_in Self.FAMILY Self.other (λ n. row_of (Self.rows ctx n)) nla.now) };
 
-    /// Whether two attributes mean the same value. Asks that both are accepted, and takes no memory.
+    /// Whether two attributes are equivalent: they mean equal values. Requires that both are
+    /// accepted. Does not allocate.
     fn same_by_row(a: &NlaBuffer<'_>, b: &NlaBuffer<'_>, ctx: <Self as RowFamily>::Context) -> bool
-        requires first { IsOk (meaning_in Self.FAMILY Self.other (λ n. row_of (Self.rows ctx n)) a.now) }
-        requires second { IsOk (meaning_in Self.FAMILY Self.other (λ n. row_of (Self.rows ctx n)) b.now) }
+        requires first { IsOk
+            (meaning_in Self.FAMILY Self.other (λ n. row_of (Self.rows ctx n)) a.now) }
+        requires second { IsOk
+            (meaning_in Self.FAMILY Self.other (λ n. row_of (Self.rows ctx n)) b.now) }
         ensures { result ≡ alike_in (λ n. row_of (Self.rows ctx n)) a.now b.now };
 
-    /// The length of the canonical payload of the value that an attribute means, where it fits, and else `None`. Asks that it means one, and takes
-    /// no memory.
+    /// Returns the length of the canonical payload of the value that an attribute means, or `None`
+    /// if it does not fit. Requires that the attribute is accepted. Does not allocate.
     fn canonical_len_by_row(nla: &NlaBuffer<'_>, ctx: <Self as RowFamily>::Context) -> Option<usize>
-        requires { IsOk (meaning_in Self.FAMILY Self.other (λ n. row_of (Self.rows ctx n)) nla.now) }
-        ensures { let canonical = attribute_for Self.canonical (meaning_in Self.FAMILY Self.other (λ n. row_of (Self.rows ctx n)) nla.now) in SomeIff result (Fits canonical) (length canonical.value) };
+        requires { IsOk
+            (meaning_in Self.FAMILY Self.other (λ n. row_of (Self.rows ctx n)) nla.now) }
+        ensures { let canonical =
+            attribute_for Self.canonical
+            (meaning_in Self.FAMILY Self.other (λ n. row_of (Self.rows ctx n)) nla.now) in
+            SomeIff result (Fits canonical) (length canonical.value) };
 
-    /// Writes the canonical attribute of the value that an attribute means at the front of the buffer, leaves the bytes behind it, and answers its
-    /// length. Asks that it means one, which fits, and for a buffer of at least that length; takes no memory.
-    fn put_canonical_by_row(
+    /// Writes the canonical encoding of the value that an attribute means at the front of the
+    /// buffer, and returns its length. The bytes after it stay unchanged.
+    ///
+    /// Requires that the attribute is accepted, that the value fits, and that the buffer has at
+    /// least that length. Does not allocate.
+    fn write_canonical_by_row(
         nla: &NlaBuffer<'_>,
         ctx: <Self as RowFamily>::Context,
         buffer: &mut [u8],
     ) -> usize
-        requires accepted { IsOk (meaning_in Self.FAMILY Self.other (λ n. row_of (Self.rows ctx n)) nla.now) }
-        requires fits { Fits (attribute_for Self.canonical (meaning_in Self.FAMILY Self.other (λ n. row_of (Self.rows ctx n)) nla.now)) }
-        requires room { buffer_len_of (attribute_for Self.canonical (meaning_in Self.FAMILY Self.other (λ n. row_of (Self.rows ctx n)) nla.now)) ≤ length buffer.old }
-        ensures taken { result ≡ buffer_len_of (attribute_for Self.canonical (meaning_in Self.FAMILY Self.other (λ n. row_of (Self.rows ctx n)) nla.now)) }
-        ensures written { let canonical = attribute_for Self.canonical (meaning_in Self.FAMILY Self.other (λ n. row_of (Self.rows ctx n)) nla.now) in buffer.new ≡ canonical_string canonical ++ drop (buffer_len_of canonical) buffer.old };
+        requires accepted { IsOk
+            (meaning_in Self.FAMILY Self.other (λ n. row_of (Self.rows ctx n)) nla.now) }
+        requires fits { Fits (attribute_for Self.canonical
+            (meaning_in Self.FAMILY Self.other (λ n. row_of (Self.rows ctx n)) nla.now)) }
+        requires room { buffer_len_of
+            (attribute_for Self.canonical
+            (meaning_in Self.FAMILY Self.other (λ n. row_of (Self.rows ctx n)) nla.now))
+            ≤ length buffer.old }
+        ensures taken { result
+            ≡ buffer_len_of (attribute_for Self.canonical
+            (meaning_in Self.FAMILY Self.other (λ n. row_of (Self.rows ctx n)) nla.now)) }
+        ensures written { let canonical =
+            attribute_for Self.canonical
+            (meaning_in Self.FAMILY Self.other (λ n. row_of (Self.rows ctx n)) nla.now) in
+            buffer.new ≡ canonical_string canonical ++ drop (buffer_len_of canonical) buffer.old };
 
     ghost written: { (x : Self) → Self.attribute x ≡ Self.canonical x };
 
@@ -105,21 +141,36 @@ impl<F: UnnestedFamily> LinkFamily for F {
 
     ghost keeps = { λ nla. F.written (F.other nla) ∙ F.keeps_other nla };
 
-    ghost looked_up = { λ c a. rows_say F.RowFamily.FAMILY F.other F.canonical F.attribute F.written (λ d b. meaning_in F.RowFamily.FAMILY F.other (λ n. row_of (F.rows d n)) b) (F.rows c) a (F.unnested c (masked a.kind)) (F.owes c (masked a.kind)) };
+    ghost looked_up = { λ c a.
+        rows_say F.RowFamily.FAMILY F.other F.canonical F.attribute F.written
+        (λ d b. meaning_in F.RowFamily.FAMILY F.other (λ n. row_of (F.rows d n)) b) (F.rows c) a
+        (F.unnested c (masked a.kind)) (F.owes c (masked a.kind)) };
 
-    ghost alike_is = { λ c a b x y. flat_alike_is F.RowFamily.FAMILY F.other F.canonical (F.rows c) (F.owes c) F.keeps_other a b x y };
+    ghost alike_is = { λ c a b x y.
+        flat_alike_is F.RowFamily.FAMILY F.other F.canonical (F.rows c) (F.owes c) F.keeps_other a b
+        x y };
 
     ghost headers_quarter = { λ _ a. none_inside a };
 
-    ghost no_memory = { λ c a. flat_no_memory F.RowFamily.FAMILY F.other F.canonical (F.rows c) (F.owes c) F.keeps_other a };
+    ghost no_memory = { λ c a.
+        flat_no_memory F.RowFamily.FAMILY F.other F.canonical (F.rows c) (F.owes c) F.keeps_other
+        a };
 
-    ghost fault_certain = { λ c a e. rows_certain F.RowFamily.FAMILY F.other (F.rows c) a e (unnested_other (F.rows c (masked a.kind)) (F.unnested c (masked a.kind))) };
+    ghost error_certain = { λ c a e.
+        rows_certain F.RowFamily.FAMILY F.other (F.rows c) a e
+        (unnested_other (F.rows c (masked a.kind)) (F.unnested c (masked a.kind))) };
 
-    ghost read_well = { λ c a x. flat_read_well F.RowFamily.FAMILY F.other F.canonical (F.rows c) (F.owes c) F.keeps_other a x };
+    ghost read_well = { λ c a x.
+        flat_read_well F.RowFamily.FAMILY F.other F.canonical (F.rows c) (F.owes c) F.keeps_other a
+        x };
 
-    ghost well_reads = { λ c x. flat_well_reads F.RowFamily.FAMILY F.other F.canonical (F.rows c) (F.owes c) F.keeps_other F.attribute F.written x };
+    ghost well_reads = { λ c x.
+        flat_well_reads F.RowFamily.FAMILY F.other F.canonical (F.rows c) (F.owes c) F.keeps_other
+        F.attribute F.written x };
 
-    ghost well_attribute = { λ c x. flat_well_attribute F.RowFamily.FAMILY F.other F.canonical (F.rows c) (F.owes c) F.keeps_other F.attribute F.written x };
+    ghost well_attribute = { λ c x.
+        flat_well_attribute F.RowFamily.FAMILY F.other F.canonical (F.rows c) (F.owes c)
+        F.keeps_other F.attribute F.written x };
 
     fn shape(ctx: <F as RowFamily>::Context, kind: u16) -> Lookup {
         <F as RowFamily>::shape(ctx, kind)
@@ -167,11 +218,11 @@ impl<F: UnnestedFamily> LinkFamily for F {
         F::canonical_len_by_row(nla, ctx)
     }
 
-    fn put_canonical(
+    fn write_canonical(
         nla: &NlaBuffer<'_>,
         ctx: <F as RowFamily>::Context,
         buffer: &mut [u8],
     ) -> usize {
-        F::put_canonical_by_row(nla, ctx, buffer)
+        F::write_canonical_by_row(nla, ctx, buffer)
     }
 }

@@ -1,4 +1,4 @@
-//! A peer of one's own, by `linkinfo` alone.
+//! A custom peer that needs `linkinfo` alone.
 
 ghost use Rattle.std.specs.Prelude.{[], Some, refl, true};
 ghost use Rattle.std.proofs.Common.{lit<};
@@ -6,7 +6,8 @@ ghost use Rattle.std.proofs.Common.{lit<};
 use linkinfo::{ExactEq, LinkPeer, PeerFault};
 use std::alloc::Global;
 
-/// A peer that is not looked at: every payload means it, and it is written as none.
+/// A peer without contents: every payload is accepted and parses as it, and it is written as an
+/// empty payload.
 #[derive(Clone, Copy, Debug, PartialEq, Eq)]
 pub struct AnyPeer;
 
@@ -49,7 +50,7 @@ impl LinkPeer for AnyPeer {
         Some(0)
     }
 
-    fn put_canonical(_payload: &[u8], _buffer: &mut [u8]) -> usize {
+    fn write_canonical(_payload: &[u8], _buffer: &mut [u8]) -> usize {
         0
     }
 }

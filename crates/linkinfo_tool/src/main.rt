@@ -1,11 +1,12 @@
-//! Answers lines of standard input on standard output: whether a link info list is accepted, its canonical string, and whether two
-//! lists mean the same.
+//! Reads lines of standard input, and writes a result line for each to standard output: whether a
+//! list of link info attributes is accepted, its canonical encoding, and whether two lists are
+//! equivalent.
 #![tactic(auto)]
 
 use linkinfo_lines::run;
 use std::process::ExitCode;
 
-/// Ends with status 0 where the whole answer was written, and else with status 1. Arguments are not looked at.
+/// Returns status 0 where all output was written, and else status 1. Arguments are ignored.
 fn main(rt: HostRuntime) -> ExitCode {
     match run(rt.alloc(), &mut rt.stdin(), &mut rt.stdout()) {
         Ok(()) => ExitCode::SUCCESS,

@@ -4,7 +4,16 @@ use Rattle.std.proofs.Common.{ap}
 use Rattle.nla_frame.specs.Attribute.{Attribute}
 use Rattle.nla_frame.specs.Kept.{attribute_of}
 use Rattle.nla_frame.specs.declared.error.Family.TheVariants as family
-use Rattle.linkinfo_table.specs.FamilyRows.{PlainRow, row, typed, table_row, lookup_of, lookup_in, EachKeeps}
+use Rattle.nla_frame.specs.Pairs.{◌&◌}
+use Rattle.linkinfo_table.specs.FamilyRows.{
+  PlainRow,
+  row,
+  typed,
+  table_row,
+  lookup_of,
+  lookup_in,
+  EachKeeps,
+}
 use Rattle.linkinfo_table.specs.FamilyRowLaws.{table_lookup}
 use Rattle.linkinfo_shapes.specs.Table.{shape_of}
 use Rattle.linkinfo_shapes.specs.declared.shape.Shape.TheVariants.{Le32, Be16, Ip}
@@ -12,7 +21,17 @@ use Rattle.linkinfo_numbers.specs.Table.{key-value_of}
 use Rattle.linkinfo_numbers.specs.Amt.{amt_mode, amt_mode_number, amt_mode_table_holds}
 use Rattle.linkinfo_table.specs.Labels.{each_keeps}
 use Rattle.linkinfo_tunnels.specs.declared.amt.InfoAmt.{InfoAmt}
-use Rattle.linkinfo_tunnels.specs.declared.amt.InfoAmt.TheVariants.{Mode, RelayPort, GatewayPort, Link, LocalIp, RemoteIp, DiscoveryIp, MaxTunnels, Other}
+use Rattle.linkinfo_tunnels.specs.declared.amt.InfoAmt.TheVariants.{
+  Mode,
+  RelayPort,
+  GatewayPort,
+  Link,
+  LocalIp,
+  RemoteIp,
+  DiscoveryIp,
+  MaxTunnels,
+  Other,
+}
 
 abbrev pub amt_rows : List (PlainRow InfoAmt)
 amt_rows =
@@ -39,8 +58,17 @@ amt_attribute (Other nla) = attribute_of nla
 
 pub amt_keeps : EachKeeps amt_attribute amt_rows
 amt_keeps = each_keeps amt_attribute amt_rows refl
-    (λ n. ap (typed 1 Le32) (key-value_of amt_mode_table_holds n), (λ n. refl, (λ n. refl, (λ n. refl, (λ a. refl, (λ a. refl, (λ a. refl, (λ n. refl, tt))))))))
+    ((λ n. ap (typed 1 Le32) (key-value_of amt_mode_table_holds n))
+    & (λ n. refl)
+    & (λ n. refl)
+    & (λ n. refl)
+    & (λ a. refl)
+    & (λ a. refl)
+    & (λ a. refl)
+    & (λ n. refl)
+    & tt)
 
 -- these are the rows of the table of all families
-pub amt_lookup : (number : ℕ) → lookup_of (table_row amt_rows number) ≡ lookup_in (shape_of family.Amt number)
+pub amt_lookup : (number : ℕ) →
+    lookup_of (table_row amt_rows number) ≡ lookup_in (shape_of family.Amt number)
 amt_lookup number = table_lookup amt_rows number

@@ -1,18 +1,36 @@
--- The rows of Bare UDP tunnels.
+-- The rows of bare UDP tunnels.
 use Rattle.std.specs.Prelude.{◌≡◌, ℕ, List, [], ◌∷◌, refl}
 use Rattle.std.proofs.Common.{ap}
 use Rattle.nla_frame.specs.Attribute.{Attribute}
 use Rattle.nla_frame.specs.Kept.{attribute_of}
 use Rattle.nla_frame.specs.declared.error.Family.TheVariants as family
-use Rattle.linkinfo_table.specs.FamilyRows.{PlainRow, row, typed, table_row, lookup_of, lookup_in, EachKeeps}
+use Rattle.linkinfo_table.specs.FamilyRows.{
+  PlainRow,
+  row,
+  typed,
+  table_row,
+  lookup_of,
+  lookup_in,
+  EachKeeps,
+}
 use Rattle.linkinfo_table.specs.FamilyRowLaws.{table_lookup}
 use Rattle.linkinfo_shapes.specs.Table.{shape_of}
 use Rattle.linkinfo_shapes.specs.declared.shape.Shape.TheVariants.{Be16, Le16, Mark}
 use Rattle.linkinfo_numbers.specs.Table.{key-value_of}
-use Rattle.linkinfo_numbers.specs.Ethernet.{ethernet_protocol, ethernet_protocol_number, ethernet_protocol_table_holds}
+use Rattle.linkinfo_numbers.specs.Ethernet.{
+  ethernet_protocol,
+  ethernet_protocol_number,
+  ethernet_protocol_table_holds,
+}
 use Rattle.linkinfo_table.specs.Labels.{each_keeps}
 use Rattle.linkinfo_tunnels.specs.declared.bare_udp.InfoBareUdp.{InfoBareUdp}
-use Rattle.linkinfo_tunnels.specs.declared.bare_udp.InfoBareUdp.TheVariants.{Port, Ethertype, SrcPortMin, MultiprotoMode, Other}
+use Rattle.linkinfo_tunnels.specs.declared.bare_udp.InfoBareUdp.TheVariants.{
+  Port,
+  Ethertype,
+  SrcPortMin,
+  MultiprotoMode,
+  Other,
+}
 
 abbrev pub bare_udp_rows : List (PlainRow InfoBareUdp)
 bare_udp_rows =
@@ -30,9 +48,15 @@ bare_udp_attribute MultiprotoMode = typed 4 Mark tt
 bare_udp_attribute (Other nla) = attribute_of nla
 
 pub bare_udp_keeps : EachKeeps bare_udp_attribute bare_udp_rows
-bare_udp_keeps = each_keeps bare_udp_attribute bare_udp_rows refl
-    (λ n. refl, (λ n. ap (typed 2 Be16) (key-value_of ethernet_protocol_table_holds n), (λ n. refl, (λ _. refl, tt))))
+bare_udp_keeps = each_keeps bare_udp_attribute bare_udp_rows refl (
+  λ n. refl,
+  (
+    λ n. ap (typed 2 Be16) (key-value_of ethernet_protocol_table_holds n),
+    (λ n. refl, (λ _. refl, tt)),
+  ),
+)
 
 -- these are the rows of the table of all families
-pub bare_udp_lookup : (number : ℕ) → lookup_of (table_row bare_udp_rows number) ≡ lookup_in (shape_of family.BareUdp number)
+pub bare_udp_lookup : (number : ℕ) →
+    lookup_of (table_row bare_udp_rows number) ≡ lookup_in (shape_of family.BareUdp number)
 bare_udp_lookup number = table_lookup bare_udp_rows number

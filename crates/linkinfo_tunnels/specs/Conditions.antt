@@ -1,5 +1,5 @@
--- Which attributes of tunnels are well formed, by the variant of each: what a number, an address or
--- a kept attribute must be.
+-- Which attributes of tunnels are well formed, by the variant of each: the conditions on a number,
+-- an address or an opaque attribute.
 use Rattle.std.specs.Prelude.{◌≡◌, ◌↔◌, ℕ, ◌<◌, ◌^◌, Bool, true, false, drop, take, Option, Some}
 use Rattle.std.specs.Prelude.{None, refl}
 use Rattle.std.proofs.Common.{subst}
@@ -53,7 +53,7 @@ use Rattle.linkinfo_tunnels.specs.declared.vti.InfoVti.TheVariants as vti
 use Rattle.linkinfo_tunnels.specs.declared.vxlan.InfoVxlan.{InfoVxlan}
 use Rattle.linkinfo_tunnels.specs.declared.vxlan.InfoVxlan.TheVariants as vxlan
 
--- ---- AMT tunnels
+-- ---- `amt` links
 
 abbrev pub amt_conditions : InfoAmt → Type 0
 amt_conditions (amt.Mode x) = IsNumber amt_mode_table (2 ^ 32) x
@@ -82,7 +82,7 @@ amt_stated = elim [
   | _ ↦ (λ w. subst amt_conditions w.2 w.1, λ h. (_, h, refl))
 ]
 
--- ---- bareudp tunnels
+-- ---- `bareudp` links
 
 abbrev pub bare_udp_conditions : InfoBareUdp → Type 0
 bare_udp_conditions (bare_udp.Port n) = n < 2 ^ 16
@@ -109,7 +109,7 @@ bare_udp_stated = elim [
   | _ ↦ (λ w. subst bare_udp_conditions w.2 w.1, λ h. (_, h, refl))
 ]
 
--- ---- GENEVE tunnels
+-- ---- `geneve` links
 
 abbrev pub geneve_conditions : InfoGeneve → Type 0
 geneve_conditions (geneve.Id n) = n < 2 ^ 32
@@ -142,7 +142,7 @@ geneve_stated = elim [
   | _ ↦ (λ w. subst geneve_conditions w.2 w.1, λ h. (_, h, refl))
 ]
 
--- ---- GRE over IPv4 tunnels
+-- ---- `gre`, `gretap` and `erspan` links
 
 abbrev pub gre_conditions : InfoGre → Type 0
 gre_conditions (gre.Link n) = n < 2 ^ 32
@@ -184,7 +184,7 @@ gre_stated = elim [
   | _ ↦ (λ w. subst gre_conditions w.2 w.1, λ h. (_, h, refl))
 ]
 
--- ---- GRE over IPv6 tunnels
+-- ---- `ip6gre`, `ip6gretap` and `ip6erspan` links
 
 abbrev pub gre6_conditions : InfoGre6 → Type 0
 gre6_conditions (gre6.Link n) = n < 2 ^ 32
@@ -228,7 +228,7 @@ gre6_stated = elim [
   | _ ↦ (λ w. subst gre6_conditions w.2 w.1, λ h. (_, h, refl))
 ]
 
--- ---- GTP tunnels
+-- ---- `gtp` links
 
 abbrev pub gtp_conditions : InfoGtp → Type 0
 gtp_conditions (gtp.Fd0 n) = n < 2 ^ 32
@@ -257,7 +257,7 @@ gtp_stated = elim [
   | _ ↦ (λ w. subst gtp_conditions w.2 w.1, λ h. (_, h, refl))
 ]
 
--- ---- IP tunnels
+-- ---- `ipip`, `sit` and `ip6tnl` links
 
 abbrev pub ip_tunnel_conditions : KindTag → InfoIpTunnel → Type 0
 ip_tunnel_conditions tag (ip_tunnel.Link n) = n < 2 ^ 32
@@ -371,7 +371,7 @@ ip_tunnel_stated tag = elim [
   | _ ↦ (λ w. subst (ip_tunnel_conditions tag) w.2 w.1, λ h. (_, h, refl))
 ]
 
--- ---- VTI tunnels
+-- ---- `vti` and `vti6` links
 
 abbrev pub vti_conditions : InfoVti → Type 0
 vti_conditions (vti.Link n) = n < 2 ^ 32
@@ -396,7 +396,7 @@ vti_stated = elim [
   | _ ↦ (λ w. subst vti_conditions w.2 w.1, λ h. (_, h, refl))
 ]
 
--- ---- VXLAN tunnels
+-- ---- `vxlan` links
 
 abbrev pub vxlan_conditions : InfoVxlan → Type 0
 vxlan_conditions (vxlan.Id n) = n < 2 ^ 32

@@ -4,15 +4,51 @@ use Rattle.std.proofs.Common.{ap}
 use Rattle.nla_frame.specs.Attribute.{Attribute}
 use Rattle.nla_frame.specs.Kept.{attribute_of}
 use Rattle.nla_frame.specs.declared.error.Family.TheVariants as family
-use Rattle.linkinfo_table.specs.FamilyRows.{PlainRow, row, typed, table_row, lookup_of, lookup_in, EachKeeps}
+use Rattle.nla_frame.specs.Pairs.{◌&◌}
+use Rattle.linkinfo_table.specs.FamilyRows.{
+  PlainRow,
+  row,
+  typed,
+  table_row,
+  lookup_of,
+  lookup_in,
+  EachKeeps,
+}
 use Rattle.linkinfo_table.specs.FamilyRowLaws.{table_lookup}
 use Rattle.linkinfo_shapes.specs.Table.{shape_of}
-use Rattle.linkinfo_shapes.specs.declared.shape.Shape.TheVariants.{Le32, GeneveV4, U8, Be16, Mark, GeneveV6, Truth, Be32}
+use Rattle.linkinfo_shapes.specs.declared.shape.Shape.TheVariants.{
+  Le32,
+  GeneveV4,
+  U8,
+  Be16,
+  Mark,
+  GeneveV6,
+  Truth,
+  Be32,
+}
 use Rattle.linkinfo_numbers.specs.Table.{key-value_of}
 use Rattle.linkinfo_numbers.specs.Geneve.{geneve_df, geneve_df_number, geneve_df_table_holds}
 use Rattle.linkinfo_table.specs.Labels.{each_keeps}
 use Rattle.linkinfo_tunnels.specs.declared.geneve.InfoGeneve.{InfoGeneve}
-use Rattle.linkinfo_tunnels.specs.declared.geneve.InfoGeneve.TheVariants.{Id, Remote, Ttl, Tos, Port, CollectMetadata, Remote6, UdpCsum, UdpZeroCsum6Tx, UdpZeroCsum6Rx, Label, TtlInherit, Df, InnerProtoInherit, Local, Local6, Other}
+use Rattle.linkinfo_tunnels.specs.declared.geneve.InfoGeneve.TheVariants.{
+  Id,
+  Remote,
+  Ttl,
+  Tos,
+  Port,
+  CollectMetadata,
+  Remote6,
+  UdpCsum,
+  UdpZeroCsum6Tx,
+  UdpZeroCsum6Rx,
+  Label,
+  TtlInherit,
+  Df,
+  InnerProtoInherit,
+  Local,
+  Local6,
+  Other,
+}
 
 abbrev pub geneve_rows : List (PlainRow InfoGeneve)
 geneve_rows =
@@ -55,8 +91,25 @@ geneve_attribute (Other nla) = attribute_of nla
 
 pub geneve_keeps : EachKeeps geneve_attribute geneve_rows
 geneve_keeps = each_keeps geneve_attribute geneve_rows refl
-    (λ n. refl, (λ a. refl, (λ n. refl, (λ n. refl, (λ n. refl, (λ _. refl, (λ a. refl, (λ b. refl, (λ b. refl, (λ b. refl, (λ n. refl, (λ b. refl, (λ n. ap (typed 13 U8) (key-value_of geneve_df_table_holds n), (λ _. refl, (λ a. refl, (λ a. refl, tt))))))))))))))))
+    ((λ n. refl)
+    & (λ a. refl)
+    & (λ n. refl)
+    & (λ n. refl)
+    & (λ n. refl)
+    & (λ _. refl)
+    & (λ a. refl)
+    & (λ b. refl)
+    & (λ b. refl)
+    & (λ b. refl)
+    & (λ n. refl)
+    & (λ b. refl)
+    & (λ n. ap (typed 13 U8) (key-value_of geneve_df_table_holds n))
+    & (λ _. refl)
+    & (λ a. refl)
+    & (λ a. refl)
+    & tt)
 
 -- these are the rows of the table of all families
-pub geneve_lookup : (number : ℕ) → lookup_of (table_row geneve_rows number) ≡ lookup_in (shape_of family.Geneve number)
+pub geneve_lookup : (number : ℕ) →
+    lookup_of (table_row geneve_rows number) ≡ lookup_in (shape_of family.Geneve number)
 geneve_lookup number = table_lookup geneve_rows number

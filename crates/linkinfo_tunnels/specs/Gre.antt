@@ -4,15 +4,64 @@ use Rattle.std.proofs.Common.{ap}
 use Rattle.nla_frame.specs.Attribute.{Attribute}
 use Rattle.nla_frame.specs.Kept.{attribute_of}
 use Rattle.nla_frame.specs.declared.error.Family.TheVariants as family
-use Rattle.linkinfo_table.specs.FamilyRows.{PlainRow, row, typed, table_row, lookup_of, lookup_in, EachKeeps}
+use Rattle.nla_frame.specs.Pairs.{◌&◌}
+use Rattle.linkinfo_table.specs.FamilyRows.{
+  PlainRow,
+  row,
+  typed,
+  table_row,
+  lookup_of,
+  lookup_in,
+  EachKeeps,
+}
 use Rattle.linkinfo_table.specs.FamilyRowLaws.{table_lookup}
 use Rattle.linkinfo_shapes.specs.Table.{shape_of}
-use Rattle.linkinfo_shapes.specs.declared.shape.Shape.TheVariants.{Le32, Be16, Be32, V4, U8, TruthOne, Le16, Mark}
+use Rattle.linkinfo_shapes.specs.declared.shape.Shape.TheVariants.{
+  Le32,
+  Be16,
+  Be32,
+  V4,
+  U8,
+  TruthOne,
+  Le16,
+  Mark,
+}
 use Rattle.linkinfo_numbers.specs.Table.{key-value_of}
-use Rattle.linkinfo_numbers.specs.Gre.{gre_encap_type, gre_encap_type_number, gre_encap_type_table_holds, er_span_dir, er_span_dir_number, er_span_dir_table_holds, gre_io_flags, gre_encap_flags}
+use Rattle.linkinfo_numbers.specs.Gre.{
+  gre_encap_type,
+  gre_encap_type_number,
+  gre_encap_type_table_holds,
+  er_span_dir,
+  er_span_dir_number,
+  er_span_dir_table_holds,
+  gre_io_flags,
+  gre_encap_flags,
+}
 use Rattle.linkinfo_table.specs.Labels.{each_keeps}
 use Rattle.linkinfo_tunnels.specs.declared.gre.InfoGre.{InfoGre}
-use Rattle.linkinfo_tunnels.specs.declared.gre.InfoGre.TheVariants.{Link, IFlags, OFlags, IKey, OKey, Local, Remote, Ttl, Tos, PathMTUDiscovery, EncapType, EncapFlags, SourcePort, DestinationPort, CollectMetadata, FwMask, ErSpanIndex, ErSpanVer, ErSpanDir, ErSpanHwId, Other}
+use Rattle.linkinfo_tunnels.specs.declared.gre.InfoGre.TheVariants.{
+  Link,
+  IFlags,
+  OFlags,
+  IKey,
+  OKey,
+  Local,
+  Remote,
+  Ttl,
+  Tos,
+  PathMTUDiscovery,
+  EncapType,
+  EncapFlags,
+  SourcePort,
+  DestinationPort,
+  CollectMetadata,
+  FwMask,
+  ErSpanIndex,
+  ErSpanVer,
+  ErSpanDir,
+  ErSpanHwId,
+  Other,
+}
 
 abbrev pub gre_rows : List (PlainRow InfoGre)
 gre_rows =
@@ -63,8 +112,29 @@ gre_attribute (Other nla) = attribute_of nla
 
 pub gre_keeps : EachKeeps gre_attribute gre_rows
 gre_keeps = each_keeps gre_attribute gre_rows refl
-    (λ n. refl, (λ n. refl, (λ n. refl, (λ n. refl, (λ n. refl, (λ a. refl, (λ a. refl, (λ n. refl, (λ n. refl, (λ b. refl, (λ n. ap (typed 14 Le16) (key-value_of gre_encap_type_table_holds n), (λ n. refl, (λ n. refl, (λ n. refl, (λ _. refl, (λ n. refl, (λ n. refl, (λ n. refl, (λ n. ap (typed 23 U8) (key-value_of er_span_dir_table_holds n), (λ n. refl, tt))))))))))))))))))))
+    ((λ n. refl)
+    & (λ n. refl)
+    & (λ n. refl)
+    & (λ n. refl)
+    & (λ n. refl)
+    & (λ a. refl)
+    & (λ a. refl)
+    & (λ n. refl)
+    & (λ n. refl)
+    & (λ b. refl)
+    & (λ n. ap (typed 14 Le16) (key-value_of gre_encap_type_table_holds n))
+    & (λ n. refl)
+    & (λ n. refl)
+    & (λ n. refl)
+    & (λ _. refl)
+    & (λ n. refl)
+    & (λ n. refl)
+    & (λ n. refl)
+    & (λ n. ap (typed 23 U8) (key-value_of er_span_dir_table_holds n))
+    & (λ n. refl)
+    & tt)
 
 -- these are the rows of the table of all families
-pub gre_lookup : (number : ℕ) → lookup_of (table_row gre_rows number) ≡ lookup_in (shape_of family.Gre number)
+pub gre_lookup : (number : ℕ) →
+    lookup_of (table_row gre_rows number) ≡ lookup_in (shape_of family.Gre number)
 gre_lookup number = table_lookup gre_rows number

@@ -4,15 +4,64 @@ use Rattle.std.proofs.Common.{ap}
 use Rattle.nla_frame.specs.Attribute.{Attribute}
 use Rattle.nla_frame.specs.Kept.{attribute_of}
 use Rattle.nla_frame.specs.declared.error.Family.TheVariants as family
-use Rattle.linkinfo_table.specs.FamilyRows.{PlainRow, row, typed, table_row, lookup_of, lookup_in, EachKeeps}
+use Rattle.nla_frame.specs.Pairs.{◌&◌}
+use Rattle.linkinfo_table.specs.FamilyRows.{
+  PlainRow,
+  row,
+  typed,
+  table_row,
+  lookup_of,
+  lookup_in,
+  EachKeeps,
+}
 use Rattle.linkinfo_table.specs.FamilyRowLaws.{table_lookup}
 use Rattle.linkinfo_shapes.specs.Table.{shape_of}
-use Rattle.linkinfo_shapes.specs.declared.shape.Shape.TheVariants.{Le32, Be16, Be32, V6, U8, Le16, Mark}
+use Rattle.linkinfo_shapes.specs.declared.shape.Shape.TheVariants.{
+  Le32,
+  Be16,
+  Be32,
+  V6,
+  U8,
+  Le16,
+  Mark,
+}
 use Rattle.linkinfo_numbers.specs.Table.{key-value_of}
-use Rattle.linkinfo_numbers.specs.Gre.{gre_encap_type, gre_encap_type_number, gre_encap_type_table_holds, er_span_dir, er_span_dir_number, er_span_dir_table_holds, gre_io_flags, gre_encap_flags}
+use Rattle.linkinfo_numbers.specs.Gre.{
+  gre_encap_type,
+  gre_encap_type_number,
+  gre_encap_type_table_holds,
+  er_span_dir,
+  er_span_dir_number,
+  er_span_dir_table_holds,
+  gre_io_flags,
+  gre_encap_flags,
+}
 use Rattle.linkinfo_table.specs.Labels.{each_keeps}
 use Rattle.linkinfo_tunnels.specs.declared.gre6.InfoGre6.{InfoGre6}
-use Rattle.linkinfo_tunnels.specs.declared.gre6.InfoGre6.TheVariants.{Link, IFlags, OFlags, IKey, OKey, Local, Remote, Ttl, Tos, EncapLimit, FlowLabel, EncapType, EncapFlags, SourcePort, DestinationPort, CollectMetadata, FwMask, ErSpanIndex, ErSpanVer, ErSpanDir, ErSpanHwId, Other}
+use Rattle.linkinfo_tunnels.specs.declared.gre6.InfoGre6.TheVariants.{
+  Link,
+  IFlags,
+  OFlags,
+  IKey,
+  OKey,
+  Local,
+  Remote,
+  Ttl,
+  Tos,
+  EncapLimit,
+  FlowLabel,
+  EncapType,
+  EncapFlags,
+  SourcePort,
+  DestinationPort,
+  CollectMetadata,
+  FwMask,
+  ErSpanIndex,
+  ErSpanVer,
+  ErSpanDir,
+  ErSpanHwId,
+  Other,
+}
 
 abbrev pub gre6_rows : List (PlainRow InfoGre6)
 gre6_rows =
@@ -65,8 +114,30 @@ gre6_attribute (Other nla) = attribute_of nla
 
 pub gre6_keeps : EachKeeps gre6_attribute gre6_rows
 gre6_keeps = each_keeps gre6_attribute gre6_rows refl
-    (λ n. refl, (λ n. refl, (λ n. refl, (λ n. refl, (λ n. refl, (λ a. refl, (λ a. refl, (λ n. refl, (λ n. refl, (λ n. refl, (λ n. refl, (λ n. ap (typed 14 Le16) (key-value_of gre_encap_type_table_holds n), (λ n. refl, (λ n. refl, (λ n. refl, (λ _. refl, (λ n. refl, (λ n. refl, (λ n. refl, (λ n. ap (typed 23 U8) (key-value_of er_span_dir_table_holds n), (λ n. refl, tt)))))))))))))))))))))
+    ((λ n. refl)
+    & (λ n. refl)
+    & (λ n. refl)
+    & (λ n. refl)
+    & (λ n. refl)
+    & (λ a. refl)
+    & (λ a. refl)
+    & (λ n. refl)
+    & (λ n. refl)
+    & (λ n. refl)
+    & (λ n. refl)
+    & (λ n. ap (typed 14 Le16) (key-value_of gre_encap_type_table_holds n))
+    & (λ n. refl)
+    & (λ n. refl)
+    & (λ n. refl)
+    & (λ _. refl)
+    & (λ n. refl)
+    & (λ n. refl)
+    & (λ n. refl)
+    & (λ n. ap (typed 23 U8) (key-value_of er_span_dir_table_holds n))
+    & (λ n. refl)
+    & tt)
 
 -- these are the rows of the table of all families
-pub gre6_lookup : (number : ℕ) → lookup_of (table_row gre6_rows number) ≡ lookup_in (shape_of family.Gre6 number)
+pub gre6_lookup : (number : ℕ) →
+    lookup_of (table_row gre6_rows number) ≡ lookup_in (shape_of family.Gre6 number)
 gre6_lookup number = table_lookup gre6_rows number

@@ -4,7 +4,16 @@ use Rattle.std.proofs.Common.{ap}
 use Rattle.nla_frame.specs.Attribute.{Attribute}
 use Rattle.nla_frame.specs.Kept.{attribute_of}
 use Rattle.nla_frame.specs.declared.error.Family.TheVariants as family
-use Rattle.linkinfo_table.specs.FamilyRows.{PlainRow, row, typed, table_row, lookup_of, lookup_in, EachKeeps}
+use Rattle.nla_frame.specs.Pairs.{◌&◌}
+use Rattle.linkinfo_table.specs.FamilyRows.{
+  PlainRow,
+  row,
+  typed,
+  table_row,
+  lookup_of,
+  lookup_in,
+  EachKeeps,
+}
 use Rattle.linkinfo_table.specs.FamilyRowLaws.{table_lookup}
 use Rattle.linkinfo_shapes.specs.Table.{shape_of}
 use Rattle.linkinfo_shapes.specs.declared.shape.Shape.TheVariants.{Le32, Truth, U8, V4, V6}
@@ -12,7 +21,17 @@ use Rattle.linkinfo_numbers.specs.Table.{key-value_of}
 use Rattle.linkinfo_numbers.specs.Gtp.{gtp_role, gtp_role_number, gtp_role_table_holds}
 use Rattle.linkinfo_table.specs.Labels.{each_keeps}
 use Rattle.linkinfo_tunnels.specs.declared.gtp.InfoGtp.{InfoGtp}
-use Rattle.linkinfo_tunnels.specs.declared.gtp.InfoGtp.TheVariants.{Fd0, Fd1, PdpHashsize, Role, CreateSockets, RestartCount, Local, Local6, Other}
+use Rattle.linkinfo_tunnels.specs.declared.gtp.InfoGtp.TheVariants.{
+  Fd0,
+  Fd1,
+  PdpHashsize,
+  Role,
+  CreateSockets,
+  RestartCount,
+  Local,
+  Local6,
+  Other,
+}
 
 abbrev pub gtp_rows : List (PlainRow InfoGtp)
 gtp_rows =
@@ -39,8 +58,17 @@ gtp_attribute (Other nla) = attribute_of nla
 
 pub gtp_keeps : EachKeeps gtp_attribute gtp_rows
 gtp_keeps = each_keeps gtp_attribute gtp_rows refl
-    (λ n. refl, (λ n. refl, (λ n. refl, (λ n. ap (typed 4 Le32) (key-value_of gtp_role_table_holds n), (λ b. refl, (λ n. refl, (λ a. refl, (λ a. refl, tt))))))))
+    ((λ n. refl)
+    & (λ n. refl)
+    & (λ n. refl)
+    & (λ n. ap (typed 4 Le32) (key-value_of gtp_role_table_holds n))
+    & (λ b. refl)
+    & (λ n. refl)
+    & (λ a. refl)
+    & (λ a. refl)
+    & tt)
 
 -- these are the rows of the table of all families
-pub gtp_lookup : (number : ℕ) → lookup_of (table_row gtp_rows number) ≡ lookup_in (shape_of family.Gtp number)
+pub gtp_lookup : (number : ℕ) →
+    lookup_of (table_row gtp_rows number) ≡ lookup_in (shape_of family.Gtp number)
 gtp_lookup number = table_lookup gtp_rows number

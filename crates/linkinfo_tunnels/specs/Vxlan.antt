@@ -4,17 +4,75 @@ use Rattle.std.proofs.Common.{ap}
 use Rattle.nla_frame.specs.Attribute.{Attribute}
 use Rattle.nla_frame.specs.Kept.{attribute_of}
 use Rattle.nla_frame.specs.declared.error.Family.TheVariants as family
-use Rattle.linkinfo_table.specs.FamilyRows.{PlainRow, row, typed, table_row, lookup_of, lookup_in, EachKeeps}
+use Rattle.nla_frame.specs.Pairs.{◌&◌}
+use Rattle.linkinfo_table.specs.FamilyRows.{
+  PlainRow,
+  row,
+  typed,
+  table_row,
+  lookup_of,
+  lookup_in,
+  EachKeeps,
+}
 use Rattle.linkinfo_table.specs.FamilyRowLaws.{table_lookup}
 use Rattle.linkinfo_shapes.specs.Table.{shape_of}
-use Rattle.linkinfo_shapes.specs.declared.shape.Shape.TheVariants.{Le32, V4, U8, Truth, BePair, Be16, V6, Mark, Be32, EmptyOrByte, Be64}
+use Rattle.linkinfo_shapes.specs.declared.shape.Shape.TheVariants.{
+  Le32,
+  V4,
+  U8,
+  Truth,
+  BePair,
+  Be16,
+  V6,
+  Mark,
+  Be32,
+  EmptyOrByte,
+  Be64,
+}
 use Rattle.linkinfo_numbers.specs.Table.{key-value_of}
 use Rattle.linkinfo_numbers.specs.Vxlan.{vxlan_df, vxlan_df_number, vxlan_df_table_holds}
 use Rattle.linkinfo_table.specs.Labels.{each_keeps}
 use Rattle.linkinfo_tunnels.specs.declared.vxlan.InfoVxlan.{InfoVxlan}
-use Rattle.linkinfo_tunnels.specs.declared.vxlan.InfoVxlan.TheVariants.{Id, Group, Link, Local, Ttl, Tos, Learning, Ageing, Limit, PortRange, Proxy, Rsc, L2Miss, L3Miss, Port, Group6, Local6, UDPCsum, UDPZeroCsumTX, UDPZeroCsumRX, RemCsumTX, RemCsumRX, Gbp, RemCsumNoPartial, CollectMetadata, Label, Gpe, TtlInheritFlag, TtlInherit, Df, Vnifilter, Localbypass, LabelPolicy, ReservedBits, McRoute, Other}
+use Rattle.linkinfo_tunnels.specs.declared.vxlan.InfoVxlan.TheVariants.{
+  Id,
+  Group,
+  Link,
+  Local,
+  Ttl,
+  Tos,
+  Learning,
+  Ageing,
+  Limit,
+  PortRange,
+  Proxy,
+  Rsc,
+  L2Miss,
+  L3Miss,
+  Port,
+  Group6,
+  Local6,
+  UDPCsum,
+  UDPZeroCsumTX,
+  UDPZeroCsumRX,
+  RemCsumTX,
+  RemCsumRX,
+  Gbp,
+  RemCsumNoPartial,
+  CollectMetadata,
+  Label,
+  Gpe,
+  TtlInheritFlag,
+  TtlInherit,
+  Df,
+  Vnifilter,
+  Localbypass,
+  LabelPolicy,
+  ReservedBits,
+  McRoute,
+  Other,
+}
 
--- no byte, or the byte
+-- the variant without a byte, or the one with the byte
 abbrev pub ttl_inherit : Option ℕ → InfoVxlan
 ttl_inherit None = TtlInheritFlag
 ttl_inherit (Some n) = TtlInherit n
@@ -101,8 +159,43 @@ ttl_inherit_keeps (Some n) = refl
 
 pub vxlan_keeps : EachKeeps vxlan_attribute vxlan_rows
 vxlan_keeps = each_keeps vxlan_attribute vxlan_rows refl
-    (λ n. refl, (λ a. refl, (λ n. refl, (λ a. refl, (λ n. refl, (λ n. refl, (λ b. refl, (λ n. refl, (λ n. refl, (λ x. refl, (λ b. refl, (λ b. refl, (λ b. refl, (λ b. refl, (λ n. refl, (λ a. refl, (λ a. refl, (λ b. refl, (λ b. refl, (λ b. refl, (λ b. refl, (λ b. refl, (λ _. refl, (λ _. refl, (λ b. refl, (λ n. refl, (λ _. refl, (ttl_inherit_keeps, (λ n. ap (typed 29 U8) (key-value_of vxlan_df_table_holds n), (λ b. refl, (λ b. refl, (λ n. refl, (λ n. refl, (λ b. refl, tt))))))))))))))))))))))))))))))))))
+    ((λ n. refl)
+    & (λ a. refl)
+    & (λ n. refl)
+    & (λ a. refl)
+    & (λ n. refl)
+    & (λ n. refl)
+    & (λ b. refl)
+    & (λ n. refl)
+    & (λ n. refl)
+    & (λ x. refl)
+    & (λ b. refl)
+    & (λ b. refl)
+    & (λ b. refl)
+    & (λ b. refl)
+    & (λ n. refl)
+    & (λ a. refl)
+    & (λ a. refl)
+    & (λ b. refl)
+    & (λ b. refl)
+    & (λ b. refl)
+    & (λ b. refl)
+    & (λ b. refl)
+    & (λ _. refl)
+    & (λ _. refl)
+    & (λ b. refl)
+    & (λ n. refl)
+    & (λ _. refl)
+    & ttl_inherit_keeps
+    & (λ n. ap (typed 29 U8) (key-value_of vxlan_df_table_holds n))
+    & (λ b. refl)
+    & (λ b. refl)
+    & (λ n. refl)
+    & (λ n. refl)
+    & (λ b. refl)
+    & tt)
 
 -- these are the rows of the table of all families
-pub vxlan_lookup : (number : ℕ) → lookup_of (table_row vxlan_rows number) ≡ lookup_in (shape_of family.Vxlan number)
+pub vxlan_lookup : (number : ℕ) →
+    lookup_of (table_row vxlan_rows number) ≡ lookup_in (shape_of family.Vxlan number)
 vxlan_lookup number = table_lookup vxlan_rows number

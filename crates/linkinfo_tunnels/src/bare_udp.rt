@@ -1,7 +1,12 @@
 //! Bare UDP tunnels.
 
 ghost use Rattle.linkinfo_tunnels.specs.declared.bare_udp.InfoBareUdp.TheVariants.{Other};
-ghost use Rattle.linkinfo_tunnels.specs.BareUdp.{bare_udp_attribute, bare_udp_keeps, bare_udp_lookup, bare_udp_rows};
+ghost use Rattle.linkinfo_tunnels.specs.BareUdp.{
+  bare_udp_attribute,
+  bare_udp_keeps,
+  bare_udp_lookup,
+  bare_udp_rows,
+};
 ghost use Rattle.linkinfo_table.specs.FamilyRows.{row_of, table_row};
 ghost use Rattle.linkinfo_table.specs.Rows.{meaning_in, memory_in};
 ghost use Rattle.nla_frame.specs.declared.error.Family.TheVariants as family;
@@ -9,24 +14,26 @@ ghost use Rattle.std.specs.Prelude.{◌≡◌, refl};
 
 use linkinfo_numbers::EthernetProtocol;
 use linkinfo_table::{
-    Found, Part, Place, TableFamily, WrittenByTable, clone_by_rows, part_by_rows, put_by_rows,
+    Decoded, Encodable, Slot, TableFamily, WrittenByTable, clone_by_rows, encodable_by_rows,
     row_emit_payload, row_emit_value, row_fit_len, row_kind, row_read, row_value_len,
+    store_by_rows,
 };
 use nla_frame::{DecodeError, DefaultNla, ExactEq, Family, Nla, NlaBuffer, Parseable};
 use std::alloc::{AllocError, Global};
 
-/// An attribute of a bare UDP tunnel: of a link of the kind `bareudp` (include/uapi/linux/if_link.h).
+/// An attribute in the data of a `bareudp` link, a bare UDP tunnel (include/uapi/linux/if_link.h).
 #[derive(Debug, PartialEq, Eq, Drop)]
 pub enum InfoBareUdp {
-    /// The UDP destination port (`IFLA_BAREUDP_PORT`), network byte order.
+    /// UDP destination port (`IFLA_BAREUDP_PORT`), big-endian.
     Port(u16),
-    /// The protocol inside the tunnel (`IFLA_BAREUDP_ETHERTYPE`), network byte order.
+    /// EtherType of the tunneled packets (`IFLA_BAREUDP_ETHERTYPE`), big-endian.
     Ethertype(EthernetProtocol),
-    /// The lowest UDP source port (`IFLA_BAREUDP_SRCPORT_MIN`), native byte order.
+    /// Lowest UDP source port (`IFLA_BAREUDP_SRCPORT_MIN`), little-endian.
     SrcPortMin(u16),
-    /// Protocols beside the one of `Ethertype` are tunnelled too (`IFLA_BAREUDP_MULTIPROTO_MODE`), a presence flag.
+    /// Multiprotocol mode: protocols related to `Ethertype` are tunneled too
+    /// (`IFLA_BAREUDP_MULTIPROTO_MODE`), a presence flag.
     MultiprotoMode,
-    /// An attribute of another type, kept as it came.
+    /// An opaque attribute, of a type that has no variant here, kept verbatim.
     Other(DefaultNla),
 }
 
@@ -41,7 +48,7 @@ macro_rules! rows {
     };
 }
 
-/// A clone equals its source.
+/// A clone is equal to its source.
 impl Clone for InfoBareUdp {
     ghost is_clone = { λ source copy. copy ≡ source };
 
@@ -68,17 +75,17 @@ impl TableFamily for InfoBareUdp {
     ghost in_table = { bare_udp_lookup };
 
     #[inline(always)]
-    fn put_found<P: Place<InfoBareUdp>>(
-        place: &mut P,
+    fn store_decoded<P: Slot<InfoBareUdp>>(
+        slot: &mut P,
         alloc: Global,
-        found: Found<'_>,
+        decoded: Decoded<'_>,
     ) -> Result<(), AllocError> {
-        rows!(put_by_rows(place, alloc, found))
+        rows!(store_by_rows(slot, alloc, decoded))
     }
 
     #[inline(always)]
-    fn to_part(&self) -> Part<'_> {
-        rows!(part_by_rows self)
+    fn to_encodable(&self) -> Encodable<'_> {
+        rows!(encodable_by_rows self)
     }
 }
 
@@ -110,9 +117,10 @@ impl WrittenByTable for InfoBareUdp {
     ghost written = { λ _. refl };
 }
 
-/// Reads the attribute. A payload of another length than its row's is (BareUdp, type, Length).
+/// Reads the attribute. A payload of invalid length is rejected as `(BareUdp, type, Length)`.
 impl<'a> Parseable<NlaBuffer<'a>> for InfoBareUdp {
-    ghost meaning = { λ nla. meaning_in family.BareUdp (λ d. Other d) (λ n. row_of (table_row bare_udp_rows n)) nla };
+    ghost meaning = { λ nla.
+        meaning_in family.BareUdp (λ d. Other d) (λ n. row_of (table_row bare_udp_rows n)) nla };
 
     ghost needs_memory = { λ nla. memory_in (λ n. row_of (table_row bare_udp_rows n)) nla };
 

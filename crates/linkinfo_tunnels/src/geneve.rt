@@ -1,7 +1,12 @@
 //! Geneve tunnels.
 
 ghost use Rattle.linkinfo_tunnels.specs.declared.geneve.InfoGeneve.TheVariants.{Other};
-ghost use Rattle.linkinfo_tunnels.specs.Geneve.{geneve_attribute, geneve_keeps, geneve_lookup, geneve_rows};
+ghost use Rattle.linkinfo_tunnels.specs.Geneve.{
+  geneve_attribute,
+  geneve_keeps,
+  geneve_lookup,
+  geneve_rows,
+};
 ghost use Rattle.linkinfo_table.specs.FamilyRows.{row_of, table_row};
 ghost use Rattle.linkinfo_table.specs.Rows.{meaning_in, memory_in};
 ghost use Rattle.nla_frame.specs.declared.error.Family.TheVariants as family;
@@ -9,49 +14,54 @@ ghost use Rattle.std.specs.Prelude.{◌≡◌, refl};
 
 use linkinfo_numbers::GeneveDf;
 use linkinfo_table::{
-    Found, Part, Place, TableFamily, WrittenByTable, clone_by_rows, part_by_rows, put_by_rows,
+    Decoded, Encodable, Slot, TableFamily, WrittenByTable, clone_by_rows, encodable_by_rows,
     row_emit_payload, row_emit_value, row_fit_len, row_kind, row_read, row_value_len,
+    store_by_rows,
 };
 use nla_frame::{DecodeError, DefaultNla, ExactEq, Family, Nla, NlaBuffer, Parseable};
 use std::alloc::{AllocError, Global};
 use std::net::{Ipv4Addr, Ipv6Addr};
 
-/// An attribute of a Geneve tunnel: of a link of the kind `geneve` (include/uapi/linux/if_link.h).
+/// An attribute in the data of a `geneve` link, a Geneve tunnel (include/uapi/linux/if_link.h).
 #[derive(Debug, PartialEq, Eq, Drop)]
 pub enum InfoGeneve {
-    /// The identifier of the network, 24 bits (`IFLA_GENEVE_ID`), native byte order.
+    /// VNI, 24 bits (`IFLA_GENEVE_ID`), little-endian.
     Id(u32),
-    /// The IPv4 address of the other end (`IFLA_GENEVE_REMOTE`), network byte order.
+    /// Remote IPv4 address (`IFLA_GENEVE_REMOTE`), network byte order.
     Remote(Ipv4Addr),
-    /// The time to live of what is sent, 0 for the default (`IFLA_GENEVE_TTL`), one byte.
+    /// TTL of outgoing packets, 0 for the default (`IFLA_GENEVE_TTL`), one byte.
     Ttl(u8),
-    /// The type of service of what is sent, 1 for that of the inner packet (`IFLA_GENEVE_TOS`), one byte.
+    /// TOS of outgoing packets, 1 to inherit it from the inner packet (`IFLA_GENEVE_TOS`), one
+    /// byte.
     Tos(u8),
-    /// The UDP destination port (`IFLA_GENEVE_PORT`), network byte order.
+    /// UDP destination port (`IFLA_GENEVE_PORT`), big-endian.
     Port(u16),
-    /// The metadata of each packet is collected (`IFLA_GENEVE_COLLECT_METADATA`), a presence flag.
+    /// Collect metadata mode, `external` in ip-link(8) (`IFLA_GENEVE_COLLECT_METADATA`), a presence
+    /// flag.
     CollectMetadata,
-    /// The IPv6 address of the other end (`IFLA_GENEVE_REMOTE6`), network byte order.
+    /// Remote IPv6 address (`IFLA_GENEVE_REMOTE6`), network byte order.
     Remote6(Ipv6Addr),
     /// Whether UDP checksums are sent over IPv4 (`IFLA_GENEVE_UDP_CSUM`), one byte.
     UdpCsum(bool),
-    /// Whether UDP is sent without a checksum over IPv6 (`IFLA_GENEVE_UDP_ZERO_CSUM6_TX`), one byte.
+    /// Whether zero UDP checksums are sent over IPv6 (`IFLA_GENEVE_UDP_ZERO_CSUM6_TX`), one byte.
     UdpZeroCsum6Tx(bool),
-    /// Whether UDP without a checksum is taken over IPv6 (`IFLA_GENEVE_UDP_ZERO_CSUM6_RX`), one byte.
+    /// Whether zero UDP checksums are accepted over IPv6 (`IFLA_GENEVE_UDP_ZERO_CSUM6_RX`), one
+    /// byte.
     UdpZeroCsum6Rx(bool),
-    /// The IPv6 flow label (`IFLA_GENEVE_LABEL`), network byte order.
+    /// IPv6 flow label (`IFLA_GENEVE_LABEL`), big-endian.
     Label(u32),
-    /// Whether the time to live is that of the inner packet (`IFLA_GENEVE_TTL_INHERIT`), one byte.
+    /// Whether the TTL is inherited from the inner packet (`IFLA_GENEVE_TTL_INHERIT`), one byte.
     TtlInherit(bool),
-    /// What is done with the do-not-fragment bit (`IFLA_GENEVE_DF`), one byte.
+    /// Setting of the DF bit (`IFLA_GENEVE_DF`), one byte.
     Df(GeneveDf),
-    /// The protocol inside the tunnel is that of the inner packet (`IFLA_GENEVE_INNER_PROTO_INHERIT`), a presence flag.
+    /// The inner protocol is that of the inner packet, and not Ethernet
+    /// (`IFLA_GENEVE_INNER_PROTO_INHERIT`), a presence flag.
     InnerProtoInherit,
-    /// The IPv4 address of this end (`IFLA_GENEVE_LOCAL`), network byte order.
+    /// Local IPv4 address (`IFLA_GENEVE_LOCAL`), network byte order.
     Local(Ipv4Addr),
-    /// The IPv6 address of this end (`IFLA_GENEVE_LOCAL6`), network byte order.
+    /// Local IPv6 address (`IFLA_GENEVE_LOCAL6`), network byte order.
     Local6(Ipv6Addr),
-    /// An attribute of another type, kept as it came.
+    /// An opaque attribute, of a type that has no variant here, kept verbatim.
     Other(DefaultNla),
 }
 
@@ -78,7 +88,7 @@ macro_rules! rows {
     };
 }
 
-/// A clone equals its source.
+/// A clone is equal to its source.
 impl Clone for InfoGeneve {
     ghost is_clone = { λ source copy. copy ≡ source };
 
@@ -105,17 +115,17 @@ impl TableFamily for InfoGeneve {
     ghost in_table = { geneve_lookup };
 
     #[inline(always)]
-    fn put_found<P: Place<InfoGeneve>>(
-        place: &mut P,
+    fn store_decoded<P: Slot<InfoGeneve>>(
+        slot: &mut P,
         alloc: Global,
-        found: Found<'_>,
+        decoded: Decoded<'_>,
     ) -> Result<(), AllocError> {
-        rows!(put_by_rows(place, alloc, found))
+        rows!(store_by_rows(slot, alloc, decoded))
     }
 
     #[inline(always)]
-    fn to_part(&self) -> Part<'_> {
-        rows!(part_by_rows self)
+    fn to_encodable(&self) -> Encodable<'_> {
+        rows!(encodable_by_rows self)
     }
 }
 
@@ -147,10 +157,11 @@ impl WrittenByTable for InfoGeneve {
     ghost written = { λ _. refl };
 }
 
-/// Reads the attribute. An address of the other version is (Geneve, type, AddressKind), any other payload of another length than its
-/// row's (Geneve, type, Length).
+/// Reads the attribute. An address of the other IP version is rejected as `(Geneve, type,
+/// AddressKind)`, any other payload of invalid length as `(Geneve, type, Length)`.
 impl<'a> Parseable<NlaBuffer<'a>> for InfoGeneve {
-    ghost meaning = { λ nla. meaning_in family.Geneve (λ d. Other d) (λ n. row_of (table_row geneve_rows n)) nla };
+    ghost meaning = { λ nla.
+        meaning_in family.Geneve (λ d. Other d) (λ n. row_of (table_row geneve_rows n)) nla };
 
     ghost needs_memory = { λ nla. memory_in (λ n. row_of (table_row geneve_rows n)) nla };
 
@@ -163,10 +174,19 @@ impl ExactEq for InfoGeneve {
     ghost use Rattle.std.specs.Cmp.{booleans_Decides};
     ghost use Rattle.std.proofs.lemmas.Bool.Decides.{Decides-eqb};
     ghost use Rattle.nla_frame.specs.Derived.{derived_decides, no_field, one_field};
-    ghost use Rattle.nla_frame.specs.contracts.exact_eq.Ipv4AddrExactEq.TheImpl.Laws.{exact-law as ipv4_exact};
-    ghost use Rattle.nla_frame.specs.contracts.exact_eq.Ipv6AddrExactEq.TheImpl.Laws.{exact-law as ipv6_exact};
-    ghost use Rattle.linkinfo_numbers.specs.contracts.geneve.GeneveDfExactEq.TheImpl.Laws.{exact-law as df_exact};
-    ghost use Rattle.nla_frame.specs.contracts.default_nla.DefaultNlaExactEq.TheImpl.Laws.{exact-law as kept_exact};
+    ghost use Rattle.nla_frame.specs.Pairs.{◌&◌};
+    ghost use Rattle.nla_frame.specs.contracts.exact_eq.Ipv4AddrExactEq.TheImpl.Laws.{
+      exact-law as ipv4_exact,
+    };
+    ghost use Rattle.nla_frame.specs.contracts.exact_eq.Ipv6AddrExactEq.TheImpl.Laws.{
+      exact-law as ipv6_exact,
+    };
+    ghost use Rattle.linkinfo_numbers.specs.contracts.geneve.GeneveDfExactEq.TheImpl.Laws.{
+      exact-law as df_exact,
+    };
+    ghost use Rattle.nla_frame.specs.contracts.default_nla.DefaultNlaExactEq.TheImpl.Laws.{
+      exact-law as kept_exact,
+    };
     ghost use Rattle.linkinfo_tunnels.specs.contracts.geneve.InfoGeneve.{enum};
 
     ghost exact = { let number = one_field Decides-eqb in
@@ -175,5 +195,23 @@ impl ExactEq for InfoGeneve {
         let truth = one_field booleans_Decides in
         let df = one_field df_exact in
         let kept = one_field kept_exact in
-        derived_decides enum _ (number, (ipv4, (number, (number, (number, (no_field, (ipv6, (truth, (truth, (truth, (number, (truth, (df, (no_field, (ipv4, (ipv6, (kept, tt))))))))))))))))) };
+        derived_decides enum _
+        (number
+        & ipv4
+        & number
+        & number
+        & number
+        & no_field
+        & ipv6
+        & truth
+        & truth
+        & truth
+        & number
+        & truth
+        & df
+        & no_field
+        & ipv4
+        & ipv6
+        & kept
+        & tt) };
 }

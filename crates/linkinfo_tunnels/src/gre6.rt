@@ -10,59 +10,62 @@ ghost use Rattle.std.specs.Prelude.{◌≡◌, refl};
 use bitflags::Flags;
 use linkinfo_numbers::{ErSpanDir, GreEncapFlags, GreEncapType, GreIOFlags};
 use linkinfo_table::{
-    Found, Part, Place, TableFamily, WrittenByTable, clone_by_rows, part_by_rows, put_by_rows,
+    Decoded, Encodable, Slot, TableFamily, WrittenByTable, clone_by_rows, encodable_by_rows,
     row_emit_payload, row_emit_value, row_fit_len, row_kind, row_read, row_value_len,
+    store_by_rows,
 };
 use nla_frame::{DecodeError, DefaultNla, ExactEq, Family, Nla, NlaBuffer, Parseable};
 use std::alloc::{AllocError, Global};
 use std::net::Ipv6Addr;
 
-/// An attribute of a GRE tunnel over IPv6: of a link of the kind `ip6gre`, `ip6gretap` or `ip6erspan` (include/uapi/linux/if_tunnel.h).
+/// An attribute in the data of an `ip6gre`, `ip6gretap` or `ip6erspan` link, a GRE tunnel over IPv6
+/// (include/uapi/linux/if_tunnel.h).
 #[derive(Debug, PartialEq, Eq, Drop)]
 pub enum InfoGre6 {
-    /// The index of the underlying interface (`IFLA_GRE_LINK`), native byte order.
+    /// Interface index of the underlying device (`IFLA_GRE_LINK`), little-endian.
     Link(u32),
-    /// What the header of what comes in has (`IFLA_GRE_IFLAGS`), network byte order.
+    /// GRE header flags of incoming packets (`IFLA_GRE_IFLAGS`), big-endian.
     IFlags(GreIOFlags),
-    /// What the header of what goes out has (`IFLA_GRE_OFLAGS`), network byte order.
+    /// GRE header flags of outgoing packets (`IFLA_GRE_OFLAGS`), big-endian.
     OFlags(GreIOFlags),
-    /// The key of what comes in (`IFLA_GRE_IKEY`), network byte order.
+    /// Key of incoming packets (`IFLA_GRE_IKEY`), big-endian.
     IKey(u32),
-    /// The key of what goes out (`IFLA_GRE_OKEY`), network byte order.
+    /// Key of outgoing packets (`IFLA_GRE_OKEY`), big-endian.
     OKey(u32),
-    /// The IPv6 address of this end (`IFLA_GRE_LOCAL`), network byte order.
+    /// Local IPv6 address (`IFLA_GRE_LOCAL`), network byte order.
     Local(Ipv6Addr),
-    /// The IPv6 address of the other end (`IFLA_GRE_REMOTE`), network byte order.
+    /// Remote IPv6 address (`IFLA_GRE_REMOTE`), network byte order.
     Remote(Ipv6Addr),
-    /// The hop limit of what is sent (`IFLA_GRE_TTL`), one byte.
+    /// Hop limit of outgoing packets (`IFLA_GRE_TTL`), one byte.
     Ttl(u8),
-    /// The traffic class of what is sent (`IFLA_GRE_TOS`), one byte.
+    /// Traffic class of outgoing packets (`IFLA_GRE_TOS`), one byte.
     Tos(u8),
-    /// How often what is sent may be wrapped again (`IFLA_GRE_ENCAP_LIMIT`), one byte.
+    /// Tunnel encapsulation limit (`IFLA_GRE_ENCAP_LIMIT`), one byte.
     EncapLimit(u8),
-    /// The IPv6 flow label, with the traffic class (`IFLA_GRE_FLOWINFO`), network byte order.
+    /// IPv6 flow label with the traffic class (`IFLA_GRE_FLOWINFO`), big-endian.
     FlowLabel(u32),
-    /// What the tunnel is wrapped in (`IFLA_GRE_ENCAP_TYPE`), native byte order.
+    /// Secondary encapsulation (`IFLA_GRE_ENCAP_TYPE`), little-endian.
     EncapType(GreEncapType),
-    /// How the tunnel is wrapped (`IFLA_GRE_ENCAP_FLAGS`), native byte order.
+    /// Flags of the secondary encapsulation (`IFLA_GRE_ENCAP_FLAGS`), little-endian.
     EncapFlags(GreEncapFlags),
-    /// The source port that the tunnel is wrapped with (`IFLA_GRE_ENCAP_SPORT`), network byte order.
+    /// UDP source port of the secondary encapsulation (`IFLA_GRE_ENCAP_SPORT`), big-endian.
     SourcePort(u16),
-    /// The destination port that the tunnel is wrapped with (`IFLA_GRE_ENCAP_DPORT`), network byte order.
+    /// UDP destination port of the secondary encapsulation (`IFLA_GRE_ENCAP_DPORT`), big-endian.
     DestinationPort(u16),
-    /// The metadata of each packet is collected (`IFLA_GRE_COLLECT_METADATA`), a presence flag.
+    /// Collect metadata mode, `external` in ip-link(8) (`IFLA_GRE_COLLECT_METADATA`), a presence
+    /// flag.
     CollectMetadata,
-    /// The firewall mark that routes are looked up by (`IFLA_GRE_FWMARK`), native byte order.
+    /// Firewall mark for route lookups (`IFLA_GRE_FWMARK`), little-endian.
     FwMask(u32),
-    /// The index of the port that ERSPAN version 1 mirrors (`IFLA_GRE_ERSPAN_INDEX`), native byte order.
+    /// Index of the mirrored port, ERSPAN version 1 (`IFLA_GRE_ERSPAN_INDEX`), little-endian.
     ErSpanIndex(u32),
-    /// The version of ERSPAN (`IFLA_GRE_ERSPAN_VER`), one byte.
+    /// ERSPAN version (`IFLA_GRE_ERSPAN_VER`), one byte.
     ErSpanVer(u8),
-    /// Which traffic ERSPAN version 2 mirrors (`IFLA_GRE_ERSPAN_DIR`), one byte.
+    /// Direction of the mirrored traffic, ERSPAN version 2 (`IFLA_GRE_ERSPAN_DIR`), one byte.
     ErSpanDir(ErSpanDir),
-    /// The hardware identifier of ERSPAN version 2 (`IFLA_GRE_ERSPAN_HWID`), native byte order.
+    /// Hardware ID, ERSPAN version 2 (`IFLA_GRE_ERSPAN_HWID`), little-endian.
     ErSpanHwId(u16),
-    /// An attribute of another type, kept as it came.
+    /// An opaque attribute, of a type that has no variant here, kept verbatim.
     Other(DefaultNla),
 }
 
@@ -94,7 +97,7 @@ macro_rules! rows {
     };
 }
 
-/// A clone equals its source.
+/// A clone is equal to its source.
 impl Clone for InfoGre6 {
     ghost is_clone = { λ source copy. copy ≡ source };
 
@@ -121,17 +124,17 @@ impl TableFamily for InfoGre6 {
     ghost in_table = { gre6_lookup };
 
     #[inline(always)]
-    fn put_found<P: Place<InfoGre6>>(
-        place: &mut P,
+    fn store_decoded<P: Slot<InfoGre6>>(
+        slot: &mut P,
         alloc: Global,
-        found: Found<'_>,
+        decoded: Decoded<'_>,
     ) -> Result<(), AllocError> {
-        rows!(put_by_rows(place, alloc, found))
+        rows!(store_by_rows(slot, alloc, decoded))
     }
 
     #[inline(always)]
-    fn to_part(&self) -> Part<'_> {
-        rows!(part_by_rows self)
+    fn to_encodable(&self) -> Encodable<'_> {
+        rows!(encodable_by_rows self)
     }
 }
 
@@ -163,9 +166,10 @@ impl WrittenByTable for InfoGre6 {
     ghost written = { λ _. refl };
 }
 
-/// Reads the attribute. A payload of another length than its row's is (Gre6, type, Length).
+/// Reads the attribute. A payload of invalid length is rejected as `(Gre6, type, Length)`.
 impl<'a> Parseable<NlaBuffer<'a>> for InfoGre6 {
-    ghost meaning = { λ nla. meaning_in family.Gre6 (λ d. Other d) (λ n. row_of (table_row gre6_rows n)) nla };
+    ghost meaning = { λ nla.
+        meaning_in family.Gre6 (λ d. Other d) (λ n. row_of (table_row gre6_rows n)) nla };
 
     ghost needs_memory = { λ nla. memory_in (λ n. row_of (table_row gre6_rows n)) nla };
 
@@ -177,12 +181,25 @@ impl<'a> Parseable<NlaBuffer<'a>> for InfoGre6 {
 impl ExactEq for InfoGre6 {
     ghost use Rattle.std.proofs.lemmas.Bool.Decides.{Decides-eqb};
     ghost use Rattle.nla_frame.specs.Derived.{derived_decides, no_field, one_field};
-    ghost use Rattle.linkinfo_numbers.specs.contracts.gre.GreIOFlagsExactEq.TheImpl.Laws.{exact-law as header_exact};
-    ghost use Rattle.nla_frame.specs.contracts.exact_eq.Ipv6AddrExactEq.TheImpl.Laws.{exact-law as ipv6_exact};
-    ghost use Rattle.linkinfo_numbers.specs.contracts.gre.GreEncapTypeExactEq.TheImpl.Laws.{exact-law as encapsulation_exact};
-    ghost use Rattle.linkinfo_numbers.specs.contracts.gre.GreEncapFlagsExactEq.TheImpl.Laws.{exact-law as wrapping_exact};
-    ghost use Rattle.linkinfo_numbers.specs.contracts.gre.ErSpanDirExactEq.TheImpl.Laws.{exact-law as direction_exact};
-    ghost use Rattle.nla_frame.specs.contracts.default_nla.DefaultNlaExactEq.TheImpl.Laws.{exact-law as kept_exact};
+    ghost use Rattle.nla_frame.specs.Pairs.{◌&◌};
+    ghost use Rattle.linkinfo_numbers.specs.contracts.gre.GreIOFlagsExactEq.TheImpl.Laws.{
+      exact-law as header_exact,
+    };
+    ghost use Rattle.nla_frame.specs.contracts.exact_eq.Ipv6AddrExactEq.TheImpl.Laws.{
+      exact-law as ipv6_exact,
+    };
+    ghost use Rattle.linkinfo_numbers.specs.contracts.gre.GreEncapTypeExactEq.TheImpl.Laws.{
+      exact-law as encapsulation_exact,
+    };
+    ghost use Rattle.linkinfo_numbers.specs.contracts.gre.GreEncapFlagsExactEq.TheImpl.Laws.{
+      exact-law as wrapping_exact,
+    };
+    ghost use Rattle.linkinfo_numbers.specs.contracts.gre.ErSpanDirExactEq.TheImpl.Laws.{
+      exact-law as direction_exact,
+    };
+    ghost use Rattle.nla_frame.specs.contracts.default_nla.DefaultNlaExactEq.TheImpl.Laws.{
+      exact-law as kept_exact,
+    };
     ghost use Rattle.linkinfo_tunnels.specs.contracts.gre6.InfoGre6.{enum};
 
     ghost exact = { let number = one_field Decides-eqb in
@@ -192,5 +209,28 @@ impl ExactEq for InfoGre6 {
         let wrapping = one_field wrapping_exact in
         let direction = one_field direction_exact in
         let kept = one_field kept_exact in
-        derived_decides enum _ (number, (header, (header, (number, (number, (ipv6, (ipv6, (number, (number, (number, (number, (encapsulation, (wrapping, (number, (number, (no_field, (number, (number, (number, (direction, (number, (kept, tt)))))))))))))))))))))) };
+        derived_decides enum _
+        (number
+        & header
+        & header
+        & number
+        & number
+        & ipv6
+        & ipv6
+        & number
+        & number
+        & number
+        & number
+        & encapsulation
+        & wrapping
+        & number
+        & number
+        & no_field
+        & number
+        & number
+        & number
+        & direction
+        & number
+        & kept
+        & tt) };
 }

@@ -9,33 +9,34 @@ ghost use Rattle.std.specs.Prelude.{◌≡◌, refl};
 
 use linkinfo_numbers::GtpRole;
 use linkinfo_table::{
-    Found, Part, Place, TableFamily, WrittenByTable, clone_by_rows, part_by_rows, put_by_rows,
+    Decoded, Encodable, Slot, TableFamily, WrittenByTable, clone_by_rows, encodable_by_rows,
     row_emit_payload, row_emit_value, row_fit_len, row_kind, row_read, row_value_len,
+    store_by_rows,
 };
 use nla_frame::{DecodeError, DefaultNla, ExactEq, Family, Nla, NlaBuffer, Parseable};
 use std::alloc::{AllocError, Global};
 use std::net::{Ipv4Addr, Ipv6Addr};
 
-/// An attribute of a GTP tunnel: of a link of the kind `gtp` (include/uapi/linux/if_link.h).
+/// An attribute in the data of a `gtp` link, a GTP device (include/uapi/linux/if_link.h).
 #[derive(Debug, PartialEq, Eq, Drop)]
 pub enum InfoGtp {
-    /// The file descriptor of the socket for version 0 (`IFLA_GTP_FD0`), native byte order.
+    /// File descriptor of the GTPv0 socket (`IFLA_GTP_FD0`), little-endian.
     Fd0(u32),
-    /// The file descriptor of the socket for version 1 (`IFLA_GTP_FD1`), native byte order.
+    /// File descriptor of the GTPv1-U socket (`IFLA_GTP_FD1`), little-endian.
     Fd1(u32),
-    /// The size of the hash table of contexts (`IFLA_GTP_PDP_HASHSIZE`), native byte order.
+    /// PDP context hash size (`IFLA_GTP_PDP_HASHSIZE`), little-endian.
     PdpHashsize(u32),
-    /// The role of this end (`IFLA_GTP_ROLE`), native byte order.
+    /// Role, GGSN or SGSN (`IFLA_GTP_ROLE`), little-endian.
     Role(GtpRole),
-    /// Whether the kernel makes the sockets (`IFLA_GTP_CREATE_SOCKETS`), one byte.
+    /// Whether the kernel creates the sockets (`IFLA_GTP_CREATE_SOCKETS`), one byte.
     CreateSockets(bool),
-    /// The restart counter (`IFLA_GTP_RESTART_COUNT`), one byte.
+    /// Restart counter (`IFLA_GTP_RESTART_COUNT`), one byte.
     RestartCount(u8),
-    /// The IPv4 address that the sockets are bound to (`IFLA_GTP_LOCAL`), network byte order.
+    /// Local IPv4 address of the sockets (`IFLA_GTP_LOCAL`), network byte order.
     Local(Ipv4Addr),
-    /// The IPv6 address that the sockets are bound to (`IFLA_GTP_LOCAL6`), network byte order.
+    /// Local IPv6 address of the sockets (`IFLA_GTP_LOCAL6`), network byte order.
     Local6(Ipv6Addr),
-    /// An attribute of another type, kept as it came.
+    /// An opaque attribute, of a type that has no variant here, kept verbatim.
     Other(DefaultNla),
 }
 
@@ -54,7 +55,7 @@ macro_rules! rows {
     };
 }
 
-/// A clone equals its source.
+/// A clone is equal to its source.
 impl Clone for InfoGtp {
     ghost is_clone = { λ source copy. copy ≡ source };
 
@@ -81,17 +82,17 @@ impl TableFamily for InfoGtp {
     ghost in_table = { gtp_lookup };
 
     #[inline(always)]
-    fn put_found<P: Place<InfoGtp>>(
-        place: &mut P,
+    fn store_decoded<P: Slot<InfoGtp>>(
+        slot: &mut P,
         alloc: Global,
-        found: Found<'_>,
+        decoded: Decoded<'_>,
     ) -> Result<(), AllocError> {
-        rows!(put_by_rows(place, alloc, found))
+        rows!(store_by_rows(slot, alloc, decoded))
     }
 
     #[inline(always)]
-    fn to_part(&self) -> Part<'_> {
-        rows!(part_by_rows self)
+    fn to_encodable(&self) -> Encodable<'_> {
+        rows!(encodable_by_rows self)
     }
 }
 
@@ -123,9 +124,10 @@ impl WrittenByTable for InfoGtp {
     ghost written = { λ _. refl };
 }
 
-/// Reads the attribute. A payload of another length than its row's is (Gtp, type, Length).
+/// Reads the attribute. A payload of invalid length is rejected as `(Gtp, type, Length)`.
 impl<'a> Parseable<NlaBuffer<'a>> for InfoGtp {
-    ghost meaning = { λ nla. meaning_in family.Gtp (λ d. Other d) (λ n. row_of (table_row gtp_rows n)) nla };
+    ghost meaning = { λ nla.
+        meaning_in family.Gtp (λ d. Other d) (λ n. row_of (table_row gtp_rows n)) nla };
 
     ghost needs_memory = { λ nla. memory_in (λ n. row_of (table_row gtp_rows n)) nla };
 

@@ -1,7 +1,13 @@
 //! IP tunnels.
 
 ghost use Rattle.linkinfo_tunnels.specs.declared.ip_tunnel.InfoIpTunnel.TheVariants.{Other};
-ghost use Rattle.linkinfo_tunnels.specs.IpTunnel.{flags_row, ip_tunnel_attribute, ip_tunnel_flat, ip_tunnel_owes, ip_tunnel_row};
+ghost use Rattle.linkinfo_tunnels.specs.IpTunnel.{
+  flags_row,
+  ip_tunnel_attribute,
+  ip_tunnel_flat,
+  ip_tunnel_owes,
+  ip_tunnel_row,
+};
 ghost use Rattle.linkinfo_table.specs.FamilyRows.{IsLabelled, SuitsRow, lookup_of, row_of};
 ghost use Rattle.linkinfo_shapes.specs.Data.{value_of};
 ghost use Rattle.linkinfo_table.specs.Rows.{meaning_in, memory_in};
@@ -14,9 +20,9 @@ use linkinfo_numbers::{
     InfoKind, Ip6TunnelFlags, IpProtocol, KindTag, TunnelEncapFlags, TunnelEncapType,
 };
 use linkinfo_table::{
-    Datum, FlatFamily, Found, Lookup, Part, Place, RowFamily, Shape, clone_by_rows, part_by_rows,
-    parts, put_by_rows, row_emit_payload, row_emit_value, row_fit_len, row_kind, row_read,
-    row_value_len, table_lookup,
+    Datum, Decoded, Encodable, FlatFamily, Lookup, RowFamily, Shape, Slot, clone_by_rows,
+    encodable_by_rows, encodables, row_emit_payload, row_emit_value, row_fit_len, row_kind,
+    row_read, row_value_len, store_by_rows, table_lookup,
 };
 use nla_frame::{
     Cause, DecodeError, DefaultNla, ExactEq, Family, Nla, NlaBuffer, ParseableParametrized,
@@ -26,54 +32,56 @@ use std::net::{IpAddr, Ipv4Addr, Ipv6Addr};
 
 const IFLA_IPTUN_FLAGS: u16 = 8;
 
-/// An attribute of an IP tunnel: of a link of the kind `ipip`, `sit` or `ip6tnl` (include/uapi/linux/if_tunnel.h).
+/// An attribute in the data of an `ipip`, `sit` or `ip6tnl` link, an IP tunnel
+/// (include/uapi/linux/if_tunnel.h).
 #[derive(Debug, PartialEq, Eq, Drop)]
 pub enum InfoIpTunnel {
-    /// The index of the underlying interface (`IFLA_IPTUN_LINK`), native byte order.
+    /// Interface index of the underlying device (`IFLA_IPTUN_LINK`), little-endian.
     Link(u32),
-    /// The address of this end (`IFLA_IPTUN_LOCAL`), network byte order.
+    /// Local address (`IFLA_IPTUN_LOCAL`), network byte order.
     Local(IpAddr),
-    /// The address of the other end (`IFLA_IPTUN_REMOTE`), network byte order.
+    /// Remote address (`IFLA_IPTUN_REMOTE`), network byte order.
     Remote(IpAddr),
-    /// The time to live of what is sent, 0 for that of the inner packet (`IFLA_IPTUN_TTL`), one byte.
+    /// TTL of outgoing packets, 0 to inherit it from the inner packet (`IFLA_IPTUN_TTL`), one byte.
     Ttl(u8),
-    /// The type of service of what is sent, 1 for that of the inner packet (`IFLA_IPTUN_TOS`), one byte.
+    /// TOS of outgoing packets, 1 to inherit it from the inner packet (`IFLA_IPTUN_TOS`), one byte.
     Tos(u8),
-    /// How often what is sent may be wrapped again (`IFLA_IPTUN_ENCAP_LIMIT`), one byte.
+    /// Tunnel encapsulation limit (`IFLA_IPTUN_ENCAP_LIMIT`), one byte.
     EncapLimit(u8),
-    /// The IPv6 traffic class and flow label (`IFLA_IPTUN_FLOWINFO`), network byte order.
+    /// IPv6 traffic class and flow label (`IFLA_IPTUN_FLOWINFO`), big-endian.
     FlowInfo(u32),
-    /// The flags under the kind `ipip` (`IFLA_IPTUN_FLAGS`), network byte order.
+    /// Flags of the kind `ipip` (`IFLA_IPTUN_FLAGS`), 16 bits, big-endian.
     Ipv4Flags(u16),
-    /// The flags under the kind `sit` (`IFLA_IPTUN_FLAGS`), network byte order.
+    /// Flags of the kind `sit` (`IFLA_IPTUN_FLAGS`), 16 bits, big-endian.
     Ipv6SitFlags(u16),
-    /// The flags under the kind `ip6tnl` (`IFLA_IPTUN_FLAGS`), native byte order.
+    /// Flags of the kind `ip6tnl` (`IFLA_IPTUN_FLAGS`), 32 bits, little-endian.
     Ipv6Flags(Ip6TunnelFlags),
-    /// The protocol inside the tunnel (`IFLA_IPTUN_PROTO`), one byte.
+    /// Inner protocol (`IFLA_IPTUN_PROTO`), one byte.
     Protocol(IpProtocol),
-    /// Whether the path MTU is discovered (`IFLA_IPTUN_PMTUDISC`), one byte.
+    /// Whether Path MTU Discovery is enabled (`IFLA_IPTUN_PMTUDISC`), one byte.
     PMtuDisc(bool),
-    /// The IPv6 prefix of 6rd (`IFLA_IPTUN_6RD_PREFIX`), network byte order.
+    /// 6rd IPv6 prefix (`IFLA_IPTUN_6RD_PREFIX`), network byte order.
     Ipv6RdPrefix(Ipv6Addr),
-    /// The IPv4 prefix of the relays of 6rd (`IFLA_IPTUN_6RD_RELAY_PREFIX`), network byte order.
+    /// 6rd IPv4 relay prefix (`IFLA_IPTUN_6RD_RELAY_PREFIX`), network byte order.
     Ipv6RdRelayPrefix(Ipv4Addr),
-    /// The length of the IPv6 prefix in bits (`IFLA_IPTUN_6RD_PREFIXLEN`), native byte order.
+    /// Length of the 6rd prefix in bits (`IFLA_IPTUN_6RD_PREFIXLEN`), little-endian.
     Ipv6RdPrefixLen(u16),
-    /// The length of the IPv4 prefix in bits (`IFLA_IPTUN_6RD_RELAY_PREFIXLEN`), native byte order.
+    /// Length of the 6rd relay prefix in bits (`IFLA_IPTUN_6RD_RELAY_PREFIXLEN`), little-endian.
     Ipv6RdRelayPrefixLen(u16),
-    /// What the tunnel is wrapped in (`IFLA_IPTUN_ENCAP_TYPE`), native byte order.
+    /// Secondary encapsulation (`IFLA_IPTUN_ENCAP_TYPE`), little-endian.
     EncapType(TunnelEncapType),
-    /// How the tunnel is wrapped (`IFLA_IPTUN_ENCAP_FLAGS`), native byte order.
+    /// Flags of the secondary encapsulation (`IFLA_IPTUN_ENCAP_FLAGS`), little-endian.
     EncapFlags(TunnelEncapFlags),
-    /// The source port that the tunnel is wrapped with (`IFLA_IPTUN_ENCAP_SPORT`), network byte order.
+    /// UDP source port of the secondary encapsulation (`IFLA_IPTUN_ENCAP_SPORT`), big-endian.
     EncapSPort(u16),
-    /// The destination port that the tunnel is wrapped with (`IFLA_IPTUN_ENCAP_DPORT`), network byte order.
+    /// UDP destination port of the secondary encapsulation (`IFLA_IPTUN_ENCAP_DPORT`), big-endian.
     EncapDPort(u16),
-    /// The metadata of each packet is collected (`IFLA_IPTUN_COLLECT_METADATA`), a presence flag.
+    /// Collect metadata mode, `external` in ip-link(8) (`IFLA_IPTUN_COLLECT_METADATA`), a presence
+    /// flag.
     CollectMetadata,
-    /// The firewall mark that routes are looked up by (`IFLA_IPTUN_FWMARK`), native byte order.
+    /// Firewall mark for route lookups (`IFLA_IPTUN_FWMARK`), little-endian.
     FwMark(u32),
-    /// An attribute of another type, kept as it came.
+    /// An opaque attribute, of a type that has no variant here, kept verbatim.
     Other(DefaultNla),
 }
 
@@ -104,7 +112,7 @@ macro_rules! rows {
     };
 }
 
-/// A clone equals its source.
+/// A clone is equal to its source.
 impl Clone for InfoIpTunnel {
     ghost is_clone = { λ source copy. copy ≡ source };
 
@@ -141,30 +149,30 @@ impl RowFamily for InfoIpTunnel {
     }
 
     #[inline(always)]
-    fn put_found<P: Place<InfoIpTunnel>>(
-        place: &mut P,
+    fn store_decoded<P: Slot<InfoIpTunnel>>(
+        slot: &mut P,
         alloc: Global,
         ctx: KindTag,
-        found: Found<'_>,
+        decoded: Decoded<'_>,
     ) -> Result<(), AllocError> {
-        match found {
-            Found::Typed(IFLA_IPTUN_FLAGS, datum) => place.put(flags(ctx, datum)),
-            found => rows!(put_by_rows(place, alloc, found)),
+        match decoded {
+            Decoded::Typed(IFLA_IPTUN_FLAGS, datum) => slot.store(flags(ctx, datum)),
+            decoded => rows!(store_by_rows(slot, alloc, decoded)),
         }
     }
 
     #[inline(always)]
-    fn to_part(&self) -> Part<'_> {
+    fn to_encodable(&self) -> Encodable<'_> {
         match self {
-            InfoIpTunnel::Ipv4Flags(flags) => parts::be16(IFLA_IPTUN_FLAGS, *flags),
-            InfoIpTunnel::Ipv6SitFlags(flags) => parts::be16(IFLA_IPTUN_FLAGS, *flags),
-            InfoIpTunnel::Ipv6Flags(flags) => parts::le32(IFLA_IPTUN_FLAGS, flags.bits()),
-            _ => rows!(part_by_rows self),
+            InfoIpTunnel::Ipv4Flags(flags) => encodables::be16(IFLA_IPTUN_FLAGS, *flags),
+            InfoIpTunnel::Ipv6SitFlags(flags) => encodables::be16(IFLA_IPTUN_FLAGS, *flags),
+            InfoIpTunnel::Ipv6Flags(flags) => encodables::le32(IFLA_IPTUN_FLAGS, flags.bits()),
+            _ => rows!(encodable_by_rows self),
         }
     }
 }
 
-/// What the kind of the link says of `IFLA_IPTUN_FLAGS`.
+/// How `IFLA_IPTUN_FLAGS` is read under a link kind.
 fn flags_lookup(tag: KindTag) -> Lookup
     ensures { result ≡ lookup_of (flags_row tag) }
 {
@@ -175,7 +183,7 @@ fn flags_lookup(tag: KindTag) -> Lookup
     }
 }
 
-/// The flags of a link of the kind. Asks for a kind under which they are accepted.
+/// The flags under a link kind. Requires a kind under which they are accepted.
 fn flags(tag: KindTag, datum: Datum<'_>) -> InfoIpTunnel
     requires { SuitsRow (flags_row tag) (value_of datum) }
     ensures { IsLabelled (flags_row tag) (value_of datum.entry) result }
@@ -222,13 +230,19 @@ impl FlatFamily for InfoIpTunnel {
     ghost written = { λ _. refl };
 }
 
-/// Reads the attribute of a link of the kind. A payload of another length than its row's is (IpTunnel, type, Length). Under the kinds
-/// `ipip` and `sit` `IFLA_IPTUN_FLAGS` is a big-endian number of two bytes, under `ip6tnl` a little-endian one of four, and under every
-/// other kind it is (IpTunnel, 8, Kind).
+/// Reads the attribute of a link of this kind. A payload of invalid length is rejected as
+/// `(IpTunnel, type, Length)`.
+///
+/// `IFLA_IPTUN_FLAGS` depends on the kind: two bytes, big-endian, under `ipip` and `sit`; four
+/// bytes, little-endian, under `ip6tnl`. Under every other kind it is rejected as `(IpTunnel, 8,
+/// Kind)`.
 impl<'a, 'k> ParseableParametrized<NlaBuffer<'a>, &'k InfoKind> for InfoIpTunnel {
-    ghost meaning = { λ nla kind. meaning_in family.IpTunnel (λ d. Other d) (λ n. row_of (ip_tunnel_row (tag_of_kind kind.now) n)) nla };
+    ghost meaning = { λ nla kind.
+        meaning_in family.IpTunnel (λ d. Other d)
+        (λ n. row_of (ip_tunnel_row (tag_of_kind kind.now) n)) nla };
 
-    ghost needs_memory = { λ nla kind. memory_in (λ n. row_of (ip_tunnel_row (tag_of_kind kind.now) n)) nla };
+    ghost needs_memory = { λ nla kind.
+        memory_in (λ n. row_of (ip_tunnel_row (tag_of_kind kind.now) n)) nla };
 
     fn parse_with_param(
         alloc: Global,
@@ -243,14 +257,31 @@ impl ExactEq for InfoIpTunnel {
     ghost use Rattle.std.specs.Cmp.{booleans_Decides};
     ghost use Rattle.std.proofs.lemmas.Bool.Decides.{Decides-eqb};
     ghost use Rattle.nla_frame.specs.Derived.{derived_decides, no_field, one_field};
-    ghost use Rattle.nla_frame.specs.contracts.exact_eq.IpAddrExactEq.TheImpl.Laws.{exact-law as ip_exact};
-    ghost use Rattle.linkinfo_numbers.specs.contracts.tunnel.Ip6TunnelFlagsExactEq.TheImpl.Laws.{exact-law as flags_exact};
-    ghost use Rattle.linkinfo_numbers.specs.contracts.ip.IpProtocolExactEq.TheImpl.Laws.{exact-law as protocol_exact};
-    ghost use Rattle.nla_frame.specs.contracts.exact_eq.Ipv6AddrExactEq.TheImpl.Laws.{exact-law as ipv6_exact};
-    ghost use Rattle.nla_frame.specs.contracts.exact_eq.Ipv4AddrExactEq.TheImpl.Laws.{exact-law as ipv4_exact};
-    ghost use Rattle.linkinfo_numbers.specs.contracts.tunnel.TunnelEncapTypeExactEq.TheImpl.Laws.{exact-law as encapsulation_exact};
-    ghost use Rattle.linkinfo_numbers.specs.contracts.tunnel.TunnelEncapFlagsExactEq.TheImpl.Laws.{exact-law as wrapping_exact};
-    ghost use Rattle.nla_frame.specs.contracts.default_nla.DefaultNlaExactEq.TheImpl.Laws.{exact-law as kept_exact};
+    ghost use Rattle.nla_frame.specs.Pairs.{◌&◌};
+    ghost use Rattle.nla_frame.specs.contracts.exact_eq.IpAddrExactEq.TheImpl.Laws.{
+      exact-law as ip_exact,
+    };
+    ghost use Rattle.linkinfo_numbers.specs.contracts.tunnel.Ip6TunnelFlagsExactEq.TheImpl.Laws.{
+      exact-law as flags_exact,
+    };
+    ghost use Rattle.linkinfo_numbers.specs.contracts.ip.IpProtocolExactEq.TheImpl.Laws.{
+      exact-law as protocol_exact,
+    };
+    ghost use Rattle.nla_frame.specs.contracts.exact_eq.Ipv6AddrExactEq.TheImpl.Laws.{
+      exact-law as ipv6_exact,
+    };
+    ghost use Rattle.nla_frame.specs.contracts.exact_eq.Ipv4AddrExactEq.TheImpl.Laws.{
+      exact-law as ipv4_exact,
+    };
+    ghost use Rattle.linkinfo_numbers.specs.contracts.tunnel.TunnelEncapTypeExactEq.TheImpl.Laws.{
+      exact-law as encapsulation_exact,
+    };
+    ghost use Rattle.linkinfo_numbers.specs.contracts.tunnel.TunnelEncapFlagsExactEq.TheImpl.Laws.{
+      exact-law as wrapping_exact,
+    };
+    ghost use Rattle.nla_frame.specs.contracts.default_nla.DefaultNlaExactEq.TheImpl.Laws.{
+      exact-law as kept_exact,
+    };
     ghost use Rattle.linkinfo_tunnels.specs.contracts.ip_tunnel.InfoIpTunnel.{enum};
 
     ghost exact = { let number = one_field Decides-eqb in
@@ -263,5 +294,29 @@ impl ExactEq for InfoIpTunnel {
         let encapsulation = one_field encapsulation_exact in
         let wrapping = one_field wrapping_exact in
         let kept = one_field kept_exact in
-        derived_decides enum _ (number, (ip, (ip, (number, (number, (number, (number, (number, (number, (flags, (protocol, (truth, (ipv6, (ipv4, (number, (number, (encapsulation, (wrapping, (number, (number, (no_field, (number, (kept, tt))))))))))))))))))))))) };
+        derived_decides enum _
+        (number
+        & ip
+        & ip
+        & number
+        & number
+        & number
+        & number
+        & number
+        & number
+        & flags
+        & protocol
+        & truth
+        & ipv6
+        & ipv4
+        & number
+        & number
+        & encapsulation
+        & wrapping
+        & number
+        & number
+        & no_field
+        & number
+        & kept
+        & tt) };
 }

@@ -1,7 +1,17 @@
-//! Laws of families of tunnels, each the contract of a function without code.
+//! Laws of the families of tunnels, each the contract of a function without code.
 
 ghost use Rattle.std.specs.Prelude.{◌≡◌, ◌↔◌};
-ghost use Rattle.linkinfo_tunnels.specs.Conditions.{amt_conditions, bare_udp_conditions, geneve_conditions, gre6_conditions, gre_conditions, gtp_conditions, ip_tunnel_conditions, vti_conditions, vxlan_conditions};
+ghost use Rattle.linkinfo_tunnels.specs.Conditions.{
+  amt_conditions,
+  bare_udp_conditions,
+  geneve_conditions,
+  gre6_conditions,
+  gre_conditions,
+  gtp_conditions,
+  ip_tunnel_conditions,
+  vti_conditions,
+  vxlan_conditions,
+};
 ghost use Rattle.linkinfo_numbers.specs.declared.tags.KindTag.{KindTag};
 ghost use Rattle.nla_frame.specs.declared.error.Family.TheVariants as family;
 
@@ -16,7 +26,7 @@ use crate::vti::InfoVti;
 use crate::vxlan::InfoVxlan;
 use linkinfo_table::LinkFamily;
 
-/// Each name is of the family that it is named after, and so are its errors.
+/// Each name is that of the family it is named after, and so is the family of its errors.
 pub fn named()
     ensures amt { ⟦<InfoAmt as LinkFamily>⟧.FAMILY ≡ family.Amt }
     ensures bare_udp { ⟦<InfoBareUdp as LinkFamily>⟧.FAMILY ≡ family.BareUdp }
@@ -29,18 +39,21 @@ pub fn named()
     ensures vxlan { ⟦<InfoVxlan as LinkFamily>⟧.FAMILY ≡ family.Vxlan }
 {}
 
-/// Which attributes of each family are well formed, stated by the variant of the attribute. No number
-/// is `Other` of a named number. No attribute is `Other` of a type that has a row, or that is rejected
-/// under the current kind. Type 8 of `InfoIpTunnel` has the variant of the current kind. Each number
-/// and each address is one that its type can hold.
+/// Which attributes of each family are well formed, by the variant of the attribute. No number is
+/// `Other` of a named number. No attribute is `Other` of a type that has a row, or that is rejected
+/// under the current kind. Type 8 of `InfoIpTunnel` has the variant of the current kind. Each
+/// number and each address is in the range of its type.
 pub fn well_formed()
     ensures amt { (x : InfoAmt) → ⟦<InfoAmt as LinkFamily>⟧.well tt x ↔ amt_conditions x }
-    ensures bare_udp { (x : InfoBareUdp) → ⟦<InfoBareUdp as LinkFamily>⟧.well tt x ↔ bare_udp_conditions x }
-    ensures geneve { (x : InfoGeneve) → ⟦<InfoGeneve as LinkFamily>⟧.well tt x ↔ geneve_conditions x }
+    ensures bare_udp { (x : InfoBareUdp) →
+        ⟦<InfoBareUdp as LinkFamily>⟧.well tt x ↔ bare_udp_conditions x }
+    ensures geneve { (x : InfoGeneve) →
+        ⟦<InfoGeneve as LinkFamily>⟧.well tt x ↔ geneve_conditions x }
     ensures gre { (x : InfoGre) → ⟦<InfoGre as LinkFamily>⟧.well tt x ↔ gre_conditions x }
     ensures gre6 { (x : InfoGre6) → ⟦<InfoGre6 as LinkFamily>⟧.well tt x ↔ gre6_conditions x }
     ensures gtp { (x : InfoGtp) → ⟦<InfoGtp as LinkFamily>⟧.well tt x ↔ gtp_conditions x }
-    ensures ip_tunnel { (tag : KindTag) (x : InfoIpTunnel) → ⟦<InfoIpTunnel as LinkFamily>⟧.well tag x ↔ ip_tunnel_conditions tag x }
+    ensures ip_tunnel { (tag : KindTag) (x : InfoIpTunnel) →
+        ⟦<InfoIpTunnel as LinkFamily>⟧.well tag x ↔ ip_tunnel_conditions tag x }
     ensures vti { (x : InfoVti) → ⟦<InfoVti as LinkFamily>⟧.well tt x ↔ vti_conditions x }
     ensures vxlan { (x : InfoVxlan) → ⟦<InfoVxlan as LinkFamily>⟧.well tt x ↔ vxlan_conditions x }
 {}

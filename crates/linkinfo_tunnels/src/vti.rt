@@ -8,29 +8,31 @@ ghost use Rattle.nla_frame.specs.declared.error.Family.TheVariants as family;
 ghost use Rattle.std.specs.Prelude.{◌≡◌, refl};
 
 use linkinfo_table::{
-    Found, Part, Place, TableFamily, WrittenByTable, clone_by_rows, part_by_rows, put_by_rows,
+    Decoded, Encodable, Slot, TableFamily, WrittenByTable, clone_by_rows, encodable_by_rows,
     row_emit_payload, row_emit_value, row_fit_len, row_kind, row_read, row_value_len,
+    store_by_rows,
 };
 use nla_frame::{DecodeError, DefaultNla, ExactEq, Family, Nla, NlaBuffer, Parseable};
 use std::alloc::{AllocError, Global};
 use std::net::IpAddr;
 
-/// An attribute of a VTI tunnel: of a link of the kind `vti` or `vti6` (include/uapi/linux/if_tunnel.h).
+/// An attribute in the data of a `vti` or `vti6` link, a VTI tunnel
+/// (include/uapi/linux/if_tunnel.h).
 #[derive(Debug, PartialEq, Eq, Drop)]
 pub enum InfoVti {
-    /// The index of the underlying interface (`IFLA_VTI_LINK`), native byte order.
+    /// Interface index of the underlying device (`IFLA_VTI_LINK`), little-endian.
     Link(u32),
-    /// The key of what comes in (`IFLA_VTI_IKEY`), network byte order.
+    /// Key of incoming packets (`IFLA_VTI_IKEY`), big-endian.
     IKey(u32),
-    /// The key of what goes out (`IFLA_VTI_OKEY`), network byte order.
+    /// Key of outgoing packets (`IFLA_VTI_OKEY`), big-endian.
     OKey(u32),
-    /// The address of this end (`IFLA_VTI_LOCAL`), network byte order.
+    /// Local address (`IFLA_VTI_LOCAL`), network byte order.
     Local(IpAddr),
-    /// The address of the other end (`IFLA_VTI_REMOTE`), network byte order.
+    /// Remote address (`IFLA_VTI_REMOTE`), network byte order.
     Remote(IpAddr),
-    /// The firewall mark that routes are looked up by (`IFLA_VTI_FWMARK`), native byte order.
+    /// Firewall mark for route lookups (`IFLA_VTI_FWMARK`), little-endian.
     FwMark(u32),
-    /// An attribute of another type, kept as it came.
+    /// An opaque attribute, of a type that has no variant here, kept verbatim.
     Other(DefaultNla),
 }
 
@@ -47,7 +49,7 @@ macro_rules! rows {
     };
 }
 
-/// A clone equals its source.
+/// A clone is equal to its source.
 impl Clone for InfoVti {
     ghost is_clone = { λ source copy. copy ≡ source };
 
@@ -74,17 +76,17 @@ impl TableFamily for InfoVti {
     ghost in_table = { vti_lookup };
 
     #[inline(always)]
-    fn put_found<P: Place<InfoVti>>(
-        place: &mut P,
+    fn store_decoded<P: Slot<InfoVti>>(
+        slot: &mut P,
         alloc: Global,
-        found: Found<'_>,
+        decoded: Decoded<'_>,
     ) -> Result<(), AllocError> {
-        rows!(put_by_rows(place, alloc, found))
+        rows!(store_by_rows(slot, alloc, decoded))
     }
 
     #[inline(always)]
-    fn to_part(&self) -> Part<'_> {
-        rows!(part_by_rows self)
+    fn to_encodable(&self) -> Encodable<'_> {
+        rows!(encodable_by_rows self)
     }
 }
 
@@ -116,9 +118,10 @@ impl WrittenByTable for InfoVti {
     ghost written = { λ _. refl };
 }
 
-/// Reads the attribute. A payload of another length than its row's is (Vti, type, Length).
+/// Reads the attribute. A payload of invalid length is rejected as `(Vti, type, Length)`.
 impl<'a> Parseable<NlaBuffer<'a>> for InfoVti {
-    ghost meaning = { λ nla. meaning_in family.Vti (λ d. Other d) (λ n. row_of (table_row vti_rows n)) nla };
+    ghost meaning = { λ nla.
+        meaning_in family.Vti (λ d. Other d) (λ n. row_of (table_row vti_rows n)) nla };
 
     ghost needs_memory = { λ nla. memory_in (λ n. row_of (table_row vti_rows n)) nla };
 

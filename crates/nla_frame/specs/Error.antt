@@ -9,7 +9,7 @@ use Rattle.nla_frame.specs.declared.error.DecodeError.{DecodeError}
 use Rattle.nla_frame.specs.declared.to_vec.ToVecError.{ToVecError}
 use Rattle.nla_frame.specs.declared.to_vec.ToVecError.TheVariants as to_vec
 
--- a family's name in lower case
+-- the name of a family in lower case
 abbrev pub family_name : Family → List ℕ
 family_name family.Frame = codes "frame"
 family_name family.LinkInfo = codes "linkinfo"
@@ -49,7 +49,7 @@ family_name family.Wireguard = codes "wireguard"
 family_name family.Wwan = codes "wwan"
 family_name family.Xfrm = codes "xfrm"
 
--- a cause's name in lower case
+-- the name of a cause in lower case
 abbrev pub cause_name : Cause → List ℕ
 cause_name cause.Header = codes "header"
 cause_name cause.Length = codes "length"
@@ -63,7 +63,7 @@ cause_name cause.Depth = codes "depth"
 cause_name cause.Memory = codes "memory"
 cause_name cause.Peer = codes "peer"
 
--- a cause's number
+-- the number of a cause
 abbrev pub cause_number : Cause → ℕ
 cause_number cause.Header = 1
 cause_number cause.Length = 2
@@ -79,17 +79,19 @@ cause_number cause.Peer = 11
 
 -- family, type in decimal, cause
 abbrev pub error_text : DecodeError → List ℕ
-error_text error = family_name error.family ++ codes " " ++ decimal error.kind ++ codes " " ++ cause_name error.cause
+error_text error =
+    family_name error.family ++ codes " " ++ decimal error.kind ++ codes " "
+    ++ cause_name error.cause
 
--- no attribute begins here
-abbrev pub header_fault : DecodeError
-header_fault = record { family = family.Frame; kind = 0; cause = cause.Header }
+-- no header is accepted here
+abbrev pub header_error : DecodeError
+header_error = record { family = family.Frame; kind = 0; cause = cause.Header }
 
--- an allocation was refused
-abbrev pub memory_fault : DecodeError
-memory_fault = record { family = family.Frame; kind = 0; cause = cause.Memory }
+-- an allocation failed
+abbrev pub memory_error : DecodeError
+memory_error = record { family = family.Frame; kind = 0; cause = cause.Memory }
 
--- why a list was not written, in lower case
+-- why a list is not written, in lower case
 abbrev pub to_vec_error_name : ToVecError → List ℕ
 to_vec_error_name to_vec.Unfit = codes "unfit"
 to_vec_error_name to_vec.Memory = codes "memory"

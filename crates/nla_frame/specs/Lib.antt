@@ -3,10 +3,11 @@ pub mod Attribute
 pub mod Canonical
 pub mod Derived
 pub mod Error
+pub mod formers
 pub mod Framing
 pub mod Kept
+pub mod NlaItems
+pub mod Pairs
 pub mod Payload
-pub mod Pieces
 pub mod Same
 pub mod Walk
-pub mod formers

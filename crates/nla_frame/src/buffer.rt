@@ -2,8 +2,8 @@
 
 ghost use Rattle.std.specs.Prelude.{⊤, ◌≡◌, ◌+◌, ◌<◌, ◌≤◌, ◌^◌, length, drop, IfOk};
 ghost use Rattle.nla_frame.specs.Attribute.{IsAttribute, aligned, masked};
-ghost use Rattle.nla_frame.specs.Error.{header_fault};
-ghost use Rattle.nla_frame.specs.Pieces.{Advances, attribute_at, seen};
+ghost use Rattle.nla_frame.specs.Error.{header_error};
+ghost use Rattle.nla_frame.specs.NlaItems.{Advances, attribute_at, seen};
 
 use crate::error::{Cause, DecodeError, Family};
 use crate::exact_eq::ExactEq;
@@ -11,13 +11,14 @@ use crate::header_count::HeaderCount;
 use std::alloc::AllocError;
 use std::marker::Model;
 
-/// The bytes of a header: a 16-bit length and a 16-bit type, both little-endian (`struct nlattr`, include/uapi/linux/netlink.h).
+/// The length of an attribute header in bytes: a 16-bit length, then a 16-bit type, both
+/// little-endian (`struct nlattr`, include/uapi/linux/netlink.h).
 const HEADER_LEN: usize = 4;
 
-/// The type's bits without its flags (`NLA_TYPE_MASK`).
+/// The bits of the type without its two flags (`NLA_TYPE_MASK`).
 const TYPE_MASK: u16 = 0x3fff;
 
-/// An attribute whose header was accepted, in the bytes that hold it.
+/// An attribute with an accepted header, borrowed from the bytes that hold it.
 #[derive(Debug, Drop)]
 pub struct NlaBuffer<'a> {
     kind: u16,
@@ -35,7 +36,7 @@ impl<'a> Model for NlaBuffer<'a> {
 }
 
 fn header_error() -> DecodeError
-    ensures { result ≡ header_fault }
+    ensures { result ≡ header_error }
 {
     DecodeError {
         family: Family::Frame,
@@ -51,7 +52,7 @@ fn headers_seen(bytes: &[u8]) -> usize
     if bytes.len() < HEADER_LEN { 0 } else { 1 }
 }
 
-#[tactic(auto, unfolding(crate::specs::Pieces::attribute_at))]
+#[tactic(auto, unfolding(crate::specs::NlaItems::attribute_at))]
 #[inline(always)]
 fn first_of<'a>(bytes: &'a [u8]) -> Result<NlaBuffer<'a>, DecodeError>
     ensures { result ≡ attribute_at bytes.now }
@@ -70,9 +71,9 @@ fn first_of<'a>(bytes: &'a [u8]) -> Result<NlaBuffer<'a>, DecodeError>
     })
 }
 
-/// The bytes behind an attribute of this length and its padding.
+/// The bytes after an attribute of this length and its padding.
 #[inline(always)]
-fn behind<'a>(bytes: &'a [u8], length: u16) -> &'a [u8]
+fn rest_after<'a>(bytes: &'a [u8], length: u16) -> &'a [u8]
     ensures { result.now ≡ drop (aligned length) bytes.now }
 {
     let step = (length as usize).next_multiple_of(4);
@@ -84,10 +85,10 @@ fn behind<'a>(bytes: &'a [u8], length: u16) -> &'a [u8]
 }
 
 impl<'a> NlaBuffer<'a> {
-    /// The attribute at the front of the bytes.
+    /// Reads the attribute at the front of the bytes.
     ///
-    /// Refused as (Frame, 0, Header) where fewer than four bytes are there, where the length field is below four, and where it is
-    /// above the number of bytes that are there.
+    /// Returns the error `(Frame, 0, Header)` if there are fewer than four bytes, if the length
+    /// field is below four, or if it exceeds the number of bytes.
     #[inline(always)]
     pub fn new_checked(bytes: &'a [u8]) -> Result<NlaBuffer<'a>, DecodeError>
         ensures answer { result ≡ attribute_at bytes.now }
@@ -96,7 +97,9 @@ impl<'a> NlaBuffer<'a> {
         first_of(bytes)
     }
 
-    /// The same, and one is added to the count where four bytes are there. Asks that the sum is a `usize`.
+    /// Reads the attribute at the front of the bytes as `new_checked` does, and counts its header
+    /// as examined if there are at least four bytes. Requires that the new count fits into a
+    /// `usize`.
     #[inline(always)]
     pub fn new_counted(
         bytes: &'a [u8],
@@ -111,7 +114,7 @@ impl<'a> NlaBuffer<'a> {
         NlaBuffer::new_checked(bytes)
     }
 
-    /// The type without its flags "nested" (0x8000) and "network byte order" (0x4000).
+    /// The type without its flags `NLA_F_NESTED` (0x8000) and `NLA_F_NET_BYTEORDER` (0x4000).
     #[inline(always)]
     pub fn kind(&self) -> u16
         ensures { result ≡ masked self.now.kind }
@@ -119,7 +122,7 @@ impl<'a> NlaBuffer<'a> {
         self.kind & TYPE_MASK
     }
 
-    /// The whole 16-bit type.
+    /// The whole 16-bit type, flag bits included.
     #[inline(always)]
     pub fn raw_kind(&self) -> u16
         ensures { result ≡ self.now.kind }
@@ -127,7 +130,7 @@ impl<'a> NlaBuffer<'a> {
         self.kind
     }
 
-    /// The length field: the header's four bytes and the value, not the padding.
+    /// The length field (`nla_len`): the four header bytes and the payload, without the padding.
     #[inline(always)]
     pub fn length(&self) -> u16
         ensures { result ≡ 4 + length self.now.value }
@@ -135,7 +138,7 @@ impl<'a> NlaBuffer<'a> {
         (HEADER_LEN + self.value.len()) as u16
     }
 
-    /// The bytes of the value, those of the source itself.
+    /// The payload, borrowed from the source.
     #[inline(always)]
     pub fn value(&self) -> &'a [u8]
         ensures value { result.now ≡ self.now.value }
@@ -145,11 +148,13 @@ impl<'a> NlaBuffer<'a> {
     }
 }
 
-/// One step over the attributes of a byte string: the attribute at the front with the bytes behind it and its padding, or the
-/// fault (Frame, 0, Header), or `None` at the end. Each header with four present bytes that is looked at is counted. Asks that the
-/// count stays a `usize`.
+/// One step over the attributes of a byte string.
+///
+/// Returns the attribute at the front together with the bytes after it and its padding, or the
+/// error `(Frame, 0, Header)`, or `None` at the end. The header is counted as examined if there are
+/// at least four bytes. Requires that the new count fits into a `usize`.
 #[inline(always)]
-pub fn next_piece<'a>(
+pub fn next_attribute<'a>(
     bytes: &'a [u8],
     count: &mut HeaderCount,
 ) -> Option<Result<(NlaBuffer<'a>, &'a [u8]), DecodeError>>
@@ -161,10 +166,10 @@ pub fn next_piece<'a>(
     }
     match NlaBuffer::new_counted(bytes, count) {
         Ok(nla) => {
-            let rest = behind(bytes, nla.length());
+            let rest = rest_after(bytes, nla.length());
             Some(Ok((nla, rest)))
         }
-        Err(fault) => Some(Err(fault)),
+        Err(error) => Some(Err(error)),
     }
 }
 
@@ -194,7 +199,7 @@ impl ExactEq for NlaBuffer<'_> {
     ghost exact = { same_attribute_decides };
 }
 
-/// A clone is equal, and takes no memory.
+/// A clone is equal to its source, and cloning needs no memory.
 impl Clone for NlaBuffer<'_> {
     ghost is_clone = { λ source copy. copy ≡ source };
 

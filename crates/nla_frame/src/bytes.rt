@@ -1,4 +1,4 @@
-//! Bytes that a value owns.
+//! Byte strings that a value owns.
 
 ghost use Rattle.std.specs.Prelude.{◌≡◌, ◌↔◌, [], IfOk, IsTrue, length};
 
@@ -6,7 +6,7 @@ use crate::exact_eq::ExactEq;
 use std::alloc::{AllocError, Global};
 use std::marker::Model;
 
-/// A payload, as the list of its bytes.
+/// An owned payload, seen as the list of its bytes.
 #[derive(Debug, Drop)]
 pub struct Bytes {
     bytes: Vec<u8>,
@@ -21,14 +21,14 @@ impl Model for Bytes {
 }
 
 impl Bytes {
-    /// The bytes of a `Vec`, which is taken over as it is.
+    /// Wraps a `Vec` without copying it.
     pub fn new(bytes: Vec<u8>) -> Bytes
         ensures { result ≡ bytes.items }
     {
         Bytes { bytes }
     }
 
-    /// A copy of the bytes, which fails only where memory runs out.
+    /// Copies the bytes; fails only if memory runs out.
     pub fn copy_of(alloc: Global, bytes: &[u8]) -> Result<Bytes, AllocError>
         ensures { IfOk result (λ copy. copy ≡ bytes.now) }
     {
@@ -37,28 +37,28 @@ impl Bytes {
         })
     }
 
-    /// The `Vec` that holds the bytes.
+    /// Unwraps the `Vec` that holds the bytes.
     pub fn into_vec(self) -> Vec<u8>
         ensures { result.items ≡ self }
     {
         self.bytes
     }
 
-    /// The bytes.
+    /// The bytes as a slice.
     pub fn as_slice(&self) -> &[u8]
         ensures { result.now ≡ self.now }
     {
         self.bytes.as_slice()
     }
 
-    /// How many bytes there are.
+    /// The number of bytes.
     pub fn len(&self) -> usize
         ensures { result ≡ length self.now }
     {
         self.bytes.len()
     }
 
-    /// Whether there are none.
+    /// Whether there are no bytes.
     pub fn is_empty(&self) -> bool
         ensures { IsTrue result ↔ (self.now ≡ []) }
     {
@@ -102,7 +102,7 @@ impl ExactEq for Bytes {
     ghost exact = { bytes_decides };
 }
 
-/// A clone is equal; it fails only where memory runs out.
+/// A clone is equal to its source; cloning fails only if memory runs out.
 impl Clone for Bytes {
     ghost is_clone = { λ source copy. copy ≡ source };
 

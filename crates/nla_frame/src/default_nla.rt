@@ -1,4 +1,4 @@
-//! Attributes that are kept as they came.
+//! Opaque attributes: type and payload kept verbatim.
 
 ghost use Rattle.std.specs.Prelude.{◌≡◌, Ok, false, true};
 ghost use Rattle.nla_frame.specs.Kept.{kept};
@@ -11,17 +11,18 @@ use crate::exact_eq::ExactEq;
 use crate::traits::{Nla, Parseable};
 use std::alloc::Global;
 
-/// An attribute of a type that no family names, with its whole 16-bit type, flag bits included, and its payload.
+/// An opaque attribute, of a type that its family does not define: the whole 16-bit type, flag bits
+/// included, and the payload verbatim.
 #[derive(Debug, PartialEq, Eq, Clone, Drop)]
 pub struct DefaultNla {
-    /// `nla_type` whole, with its two flag bits.
+    /// The whole `nla_type`, with its two flag bits.
     pub kind: u16,
     /// The payload, without padding.
     pub value: Bytes,
 }
 
 impl DefaultNla {
-    /// An attribute of this type and payload. It fits where the payload has at most 65531 bytes.
+    /// Makes an attribute of this type and payload. It fits if the payload has at most 65531 bytes.
     pub fn new(kind: u16, value: Vec<u8>) -> DefaultNla
         ensures { result ≡ record { kind = kind; value = value.items } }
     {
@@ -52,7 +53,7 @@ impl Nla for DefaultNla {
     }
 }
 
-/// Copies type and payload. Only want of memory refuses it.
+/// Copies type and payload. Reading fails only if memory runs out.
 impl<'a> Parseable<NlaBuffer<'a>> for DefaultNla {
     ghost meaning = { λ nla. Ok (kept nla) };
 

@@ -1,93 +1,101 @@
-//! Why bytes were not read: a family, an attribute type and a cause.
+//! Decoding errors: a family, an attribute type and a cause.
 
 ghost use Rattle.std.specs.Prelude.{◌≡◌};
-ghost use Rattle.nla_frame.specs.Error.{family_name, cause_name, cause_number, error_text, memory_fault};
+ghost use Rattle.nla_frame.specs.Error.{
+  family_name,
+  cause_name,
+  cause_number,
+  error_text,
+  memory_error,
+};
 
 use std::alloc::{AllocError, AllocFailed};
 use std::error::Error;
 use std::fmt;
 
-/// Whose rules the bytes break: the framing, the link info list, or the attributes of one family.
+/// Whose rules the bytes break: those of attribute headers, of `IFLA_LINKINFO`, or of the
+/// attributes of one family.
 #[derive(Clone, Copy, Debug, PartialEq, Eq)]
 pub enum Family {
-    /// The framing of attributes itself.
+    /// Attribute headers (`struct nlattr`).
     Frame,
-    /// The list that stands inside `IFLA_LINKINFO`.
+    /// The contents of `IFLA_LINKINFO`.
     LinkInfo,
-    /// The data of `amt` links.
+    /// The data (`IFLA_INFO_DATA`) of `amt` links.
     Amt,
-    /// The data of `bareudp` links.
+    /// The data (`IFLA_INFO_DATA`) of `bareudp` links.
     BareUdp,
-    /// The data of `batadv` links.
+    /// The data (`IFLA_INFO_DATA`) of `batadv` links.
     BatAdv,
-    /// The data of `bond` links.
+    /// The data (`IFLA_INFO_DATA`) of `bond` links.
     Bond,
-    /// The port data under `bond`.
+    /// The port data (`IFLA_INFO_SLAVE_DATA`) of a `bond`.
     BondPort,
-    /// The data of `bridge` links.
+    /// The data (`IFLA_INFO_DATA`) of `bridge` links.
     Bridge,
-    /// The port data under `bridge`.
+    /// The port data (`IFLA_INFO_SLAVE_DATA`) of a `bridge`.
     BridgePort,
-    /// The data of `can` links.
+    /// The data (`IFLA_INFO_DATA`) of `can` links.
     Can,
-    /// The data of `dsa` links.
+    /// The data (`IFLA_INFO_DATA`) of `dsa` links.
     Dsa,
-    /// The data of `geneve` links.
+    /// The data (`IFLA_INFO_DATA`) of `geneve` links.
     Geneve,
-    /// The data of `gre`, `gretap` and `erspan` links.
+    /// The data (`IFLA_INFO_DATA`) of `gre`, `gretap` and `erspan` links.
     Gre,
-    /// The data of `ip6gre`, `ip6gretap` and `ip6erspan` links.
+    /// The data (`IFLA_INFO_DATA`) of `ip6gre`, `ip6gretap` and `ip6erspan` links.
     Gre6,
-    /// The data of `gtp` links.
+    /// The data (`IFLA_INFO_DATA`) of `gtp` links.
     Gtp,
-    /// The data of `hsr` links.
+    /// The data (`IFLA_INFO_DATA`) of `hsr` links.
     Hsr,
-    /// The data of `ipip`, `ip6tnl` and `sit` links.
+    /// The data (`IFLA_INFO_DATA`) of `ipip`, `ip6tnl` and `sit` links.
     IpTunnel,
-    /// The data of `ipvlan` links.
+    /// The data (`IFLA_INFO_DATA`) of `ipvlan` links.
     IpVlan,
-    /// The data of `ipvtap` links.
+    /// The data (`IFLA_INFO_DATA`) of `ipvtap` links.
     IpVtap,
-    /// The data of `ipoib` links.
+    /// The data (`IFLA_INFO_DATA`) of `ipoib` links.
     Ipoib,
-    /// The data of `macsec` links.
+    /// The data (`IFLA_INFO_DATA`) of `macsec` links.
     MacSec,
-    /// The data of `macvlan` links.
+    /// The data (`IFLA_INFO_DATA`) of `macvlan` links.
     MacVlan,
-    /// The data of `macvtap` links.
+    /// The data (`IFLA_INFO_DATA`) of `macvtap` links.
     MacVtap,
-    /// The data of `netkit` links.
+    /// The data (`IFLA_INFO_DATA`) of `netkit` links.
     Netkit,
-    /// The data of `pfcp` links.
+    /// The data (`IFLA_INFO_DATA`) of `pfcp` links.
     Pfcp,
-    /// The data of `rmnet` links.
+    /// The data (`IFLA_INFO_DATA`) of `rmnet` links.
     RmNet,
-    /// The port data under `team`.
+    /// The port data (`IFLA_INFO_SLAVE_DATA`) of a `team`.
     TeamPort,
-    /// The data of `tun` links.
+    /// The data (`IFLA_INFO_DATA`) of `tun` links.
     Tun,
-    /// The data of `veth` links.
+    /// The data (`IFLA_INFO_DATA`) of `veth` links.
     Veth,
-    /// The data of `vlan` links.
+    /// The data (`IFLA_INFO_DATA`) of `vlan` links.
     Vlan,
-    /// The data of `vrf` links, and the port data under `vrf`.
+    /// The data (`IFLA_INFO_DATA`) of `vrf` links, and the port data (`IFLA_INFO_SLAVE_DATA`) of a
+    /// `vrf`.
     Vrf,
-    /// The data of `vti` and `vti6` links.
+    /// The data (`IFLA_INFO_DATA`) of `vti` and `vti6` links.
     Vti,
-    /// The data of `vxcan` links.
+    /// The data (`IFLA_INFO_DATA`) of `vxcan` links.
     Vxcan,
-    /// The data of `vxlan` links.
+    /// The data (`IFLA_INFO_DATA`) of `vxlan` links.
     Vxlan,
-    /// The data of `wireguard` links.
+    /// The data (`IFLA_INFO_DATA`) of `wireguard` links.
     Wireguard,
-    /// The data of `wwan` links.
+    /// The data (`IFLA_INFO_DATA`) of `wwan` links.
     Wwan,
-    /// The data of `xfrm` links.
+    /// The data (`IFLA_INFO_DATA`) of `xfrm` links.
     Xfrm,
 }
 
 impl Family {
-    /// Its name in lower case, as `linkinfo` or `bareudp`.
+    /// The name of the family in lower case, such as `linkinfo` or `bareudp`.
     pub fn name(self) -> &'static str
         ensures { result.now ≡ family_name self }
     {
@@ -133,7 +141,7 @@ impl Family {
     }
 }
 
-/// Writes the name in lower case, as `linkinfo` or `bareudp`.
+/// Writes the name of the family in lower case, such as `linkinfo` or `bareudp`.
 impl fmt::Display for Family {
     ghost use Rattle.std.specs.Prelude.{Some};
 
@@ -147,39 +155,40 @@ impl fmt::Display for Family {
 /// What is wrong with the bytes, or that memory ran out. Each cause has a number (`Cause::number`).
 #[derive(Clone, Copy, Debug, PartialEq, Eq)]
 pub enum Cause {
-    /// No attribute begins here: fewer than four bytes, a length field below four, or one above the bytes that are there.
+    /// No header is accepted here: fewer than four bytes, or a length field below four or above the
+    /// number of bytes.
     Header = 1,
-    /// The payload has a length that its type does not take.
+    /// The payload has a length that is invalid for its type.
     Length = 2,
     /// A name is not UTF-8.
     Utf8 = 3,
-    /// Data or statistics before a kind, or port data without a port kind.
+    /// Data or statistics before a kind, or port data before a port kind.
     Order = 4,
-    /// An address of the other version.
+    /// An IP address of the wrong version.
     AddressKind = 5,
-    /// A text that names no value.
+    /// A text that names no value of a number type.
     Word = 6,
-    /// An attribute of another type than the one that is read.
+    /// An attribute of another type than the one to be read.
     WrongType = 7,
     /// An attribute that the kind of the link does not have.
     Kind = 8,
-    /// An address list inside 128 others.
+    /// An address list nested in 128 others.
     Depth = 9,
-    /// An allocation was refused.
+    /// An allocation failed.
     Memory = 10,
-    /// A peer's payload that the type of peer refuses.
+    /// A peer's payload that the type of the peer rejects.
     Peer = 11,
 }
 
 impl Cause {
-    /// Its number, from 1 to 11, as `cause as u8` gives it.
+    /// The number of the cause, from 1 to 11; equal to `cause as u8`.
     pub fn number(self) -> u8
         ensures { result ≡ cause_number self }
     {
         self as u8
     }
 
-    /// Its name in lower case, as `header` or `addresskind`.
+    /// The name of the cause in lower case, such as `header` or `addresskind`.
     pub fn name(self) -> &'static str
         ensures { result.now ≡ cause_name self }
     {
@@ -199,7 +208,7 @@ impl Cause {
     }
 }
 
-/// Writes the name in lower case, as `header` or `addresskind`.
+/// Writes the name of the cause in lower case, such as `header` or `addresskind`.
 impl fmt::Display for Cause {
     ghost use Rattle.std.specs.Prelude.{Some};
 
@@ -210,21 +219,22 @@ impl fmt::Display for Cause {
     }
 }
 
-/// A fault of bytes, or want of memory.
+/// Why bytes are rejected, or that an allocation failed.
 ///
-/// The causes `Header` and `Memory` come with `Family::Frame` and type 0. Every other fault of bytes names the family and the
-/// type (its two flag bits cleared) of the attribute at fault; the cause `Word` comes with type 0.
+/// The causes `Header` and `Memory` have `Family::Frame` and type 0. Every other error has the
+/// family and the type of the rejected attribute, the type without its two flag bits. The cause
+/// `Word` has type 0.
 #[derive(Clone, Copy, Debug, PartialEq, Eq)]
 pub struct DecodeError {
-    /// The list in which the attribute at fault stands.
+    /// The family whose rules the rejected attribute breaks.
     pub family: Family,
-    /// The type of the attribute at fault without its flag bits, or 0.
+    /// The type of the rejected attribute without its two flag bits, or 0.
     pub kind: u16,
-    /// What is wrong with it.
+    /// What is wrong with the attribute.
     pub cause: Cause,
 }
 
-/// Writes family, type and cause with a space between them, the type in decimal: `linkinfo 2 order`.
+/// Writes family, type and cause, separated by spaces, the type in decimal: `linkinfo 2 order`.
 impl fmt::Display for DecodeError {
     ghost use Rattle.std.specs.Prelude.{Some};
 
@@ -240,9 +250,9 @@ impl fmt::Display for DecodeError {
 
 impl Error for DecodeError {}
 
-/// Want of memory: (Frame, 0, Memory).
+/// A failed allocation is the error `(Frame, 0, Memory)`.
 impl From<AllocError> for DecodeError {
-    ghost from_gives = { λ _ error. error ≡ memory_fault };
+    ghost from_gives = { λ _ error. error ≡ memory_error };
 
     fn from(_refused: AllocError) -> DecodeError {
         DecodeError {
@@ -253,9 +263,9 @@ impl From<AllocError> for DecodeError {
     }
 }
 
-/// Want of memory: (Frame, 0, Memory). The value that was not stored is dropped.
+/// A failed allocation is the error `(Frame, 0, Memory)`. The value that was not stored is dropped.
 impl<T: Drop> From<AllocFailed<T>> for DecodeError {
-    ghost from_gives = { λ _ error. error ≡ memory_fault };
+    ghost from_gives = { λ _ error. error ≡ memory_error };
 
     fn from(refused: AllocFailed<T>) -> DecodeError {
         DecodeError::from(AllocError::from(refused))

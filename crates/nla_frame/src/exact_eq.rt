@@ -1,11 +1,11 @@
-//! Types whose `==` is equality.
+//! Types whose `==` is equality of values.
 
 ghost use Rattle.std.specs.Prelude.{◌≡◌, ◌↔◌, IsTrue};
 
 use crate::error::{Cause, DecodeError, Family};
 use std::net::{IpAddr, Ipv4Addr, Ipv6Addr};
 
-/// A type whose `==` answers true exactly where the two values are equal.
+/// A type whose `==` returns true if and only if the two values are equal.
 pub trait ExactEq: PartialEq {
     ghost use Rattle.std.specs.Bool.{Decides};
 
@@ -73,7 +73,7 @@ impl ExactEq for IpAddr {
     ghost exact = { Prim.search rules };
 }
 
-/// A hardware address.
+/// Hardware addresses of six bytes.
 impl ExactEq for [u8; 6] {
     ghost use Rattle.std.proofs.Common.{rules};
 
@@ -102,8 +102,14 @@ impl ExactEq for DecodeError {
     ghost use Rattle.std.specs.Prelude.{refl};
     ghost use Rattle.std.proofs.lemmas.Bool.Decides.{Decides-eqb};
     ghost use Rattle.nla_frame.specs.Derived.{two_fields, fields_decide};
-    ghost use Rattle.nla_frame.specs.contracts.exact_eq.FamilyExactEq.TheImpl.Laws.{exact-law as family_exact};
-    ghost use Rattle.nla_frame.specs.contracts.exact_eq.CauseExactEq.TheImpl.Laws.{exact-law as cause_exact};
+    ghost use Rattle.nla_frame.specs.contracts.exact_eq.FamilyExactEq.TheImpl.Laws.{
+      exact-law as family_exact,
+    };
+    ghost use Rattle.nla_frame.specs.contracts.exact_eq.CauseExactEq.TheImpl.Laws.{
+      exact-law as cause_exact,
+    };
 
-    ghost exact = { fields_decide (λ e. (e.family, (e.kind, e.cause))) (λ z. record { family = z.0; kind = z.1.0; cause = z.1.1 }) (λ e. refl) (two_fields family_exact (two_fields Decides-eqb cause_exact)) };
+    ghost exact = { fields_decide (λ e. (e.family, (e.kind, e.cause)))
+        (λ z. record { family = z.0; kind = z.1.0; cause = z.1.1 }) (λ e. refl)
+        (two_fields family_exact (two_fields Decides-eqb cause_exact)) };
 }

@@ -1,11 +1,11 @@
-//! How many headers were looked at.
+//! The count of headers examined.
 
 ghost use Rattle.std.specs.Prelude.{◌≡◌, ◌+◌, ◌<◌, ◌^◌};
 
 use crate::exact_eq::ExactEq;
 use std::marker::Model;
 
-/// How often a header with four present bytes was looked at.
+/// A count of headers examined: those of which all four bytes are there.
 #[derive(Debug, PartialEq, Eq, Clone, Drop)]
 pub struct HeaderCount {
     headers: usize,
@@ -30,7 +30,7 @@ impl HeaderCount {
         HeaderCount { headers: 0 }
     }
 
-    /// How many headers were counted.
+    /// The number of headers counted.
     #[inline(always)]
     pub const fn get(&self) -> usize
         ensures { result ≡ self.now }
@@ -38,7 +38,7 @@ impl HeaderCount {
         self.headers
     }
 
-    /// Counts `headers` more. Asks that the sum is a `usize`.
+    /// Adds `headers` to the count. Requires that the sum fits into a `usize`.
     #[inline(always)]
     pub fn add(&mut self, headers: usize)
         requires { self.old + headers < 2 ^ 64 }

@@ -1,20 +1,22 @@
-//! The attributes of a byte string, one after another.
+//! An iterator over the attributes of a byte string.
 
 ghost use Rattle.std.specs.Prelude.{⊤, ◌≡◌, ◌+◌, ◌*◌, ◌/◌, ◌≤◌, false, length};
 ghost use Rattle.std.specs.Iterator.{item_count};
 ghost use Rattle.nla_frame.specs.Walk.{Moves, items_left};
 
-use crate::buffer::{NlaBuffer, next_piece};
+use crate::buffer::{NlaBuffer, next_attribute};
 use crate::error::DecodeError;
 use crate::exact_eq::ExactEq;
 use crate::header_count::HeaderCount;
 use std::alloc::AllocError;
 use std::marker::Model;
 
-/// Goes over the attributes of a byte string in order. Where a header is not accepted it gives (Frame, 0, Header) once, and ends.
+/// Iterates over the attributes of a byte string in order. If a header is not accepted, it yields
+/// the error `(Frame, 0, Header)` once, and ends.
 ///
-/// After an attribute the place rises by its length rounded up to a multiple of four. So the padding of the last attribute may be
-/// absent or cut short, one to three stray bytes after an aligned attribute are a fault, and padding bytes may hold anything.
+/// Each attribute advances the offset by its length, rounded up to a multiple of four. So the
+/// padding of the last attribute may be absent or cut short, and padding bytes may have any value.
+/// One to three stray bytes after an aligned attribute are an error.
 #[derive(Debug, Drop)]
 pub struct NlasIterator<'a> {
     bytes: &'a [u8],
@@ -29,16 +31,25 @@ impl<'a> Model for NlasIterator<'a> {
 
     ghost Value = { Walk };
 
-    ghost view = { λ w. record { source = w.bytes.now; place = w.place; examined = w.examined; failed = w.failed } };
+    ghost view = { λ w. record {
+      source = w.bytes.now;
+      place = w.place;
+      examined = w.examined;
+      failed = w.failed;
+    } };
 
-    ghost invariant = { λ w. (w.place ≤ length w.bytes.now) × (4 * w.examined ≤ length w.bytes.now) × (w.failed ≡ false → 4 * w.examined ≤ w.place) };
+    ghost invariant = { λ w. (w.place ≤ length w.bytes.now)
+        × (4 * w.examined ≤ length w.bytes.now)
+        × (w.failed ≡ false → 4 * w.examined ≤ w.place) };
 }
 
 impl<'a> NlasIterator<'a> {
-    /// Begins at place 0 of the bytes. At most a quarter as many items as there are bytes will come, and one more.
+    /// An iterator that starts at offset 0 of the bytes. It yields at most one item per four bytes,
+    /// and one more.
     #[inline(always)]
     pub fn new(bytes: &'a [u8]) -> NlasIterator<'a>
-        ensures start { result ≡ record { source = bytes.now; place = 0; examined = 0; failed = false } }
+        ensures start { result
+            ≡ record { source = bytes.now; place = 0; examined = 0; failed = false } }
         ensures item_bound { length (items_left result) ≤ length bytes.now / 4 + 1 }
     {
         NlasIterator {
@@ -49,7 +60,8 @@ impl<'a> NlasIterator<'a> {
         }
     }
 
-    /// How many headers with four present bytes were looked at so far: never more than a quarter of the bytes.
+    /// The number of headers examined so far, those of which all four bytes are there. It is at
+    /// most a quarter of the number of bytes.
     #[inline(always)]
     pub fn examined(&self) -> usize
         ensures count { result ≡ self.now.examined }
@@ -58,8 +70,8 @@ impl<'a> NlasIterator<'a> {
         self.examined.get()
     }
 
-    /// Where the next header is looked for; the number of bytes after the last attribute; after a fault the place of the header at
-    /// fault.
+    /// The offset of the next header: after the last attribute, the number of bytes; after an
+    /// error, the offset of the rejected header.
     #[inline(always)]
     pub fn place(&self) -> usize
         ensures place { result ≡ self.now.place }
@@ -82,14 +94,14 @@ impl<'a> Iterator for NlasIterator<'a> {
             return None;
         }
         let unread = &self.bytes[self.place..];
-        match next_piece(unread, &mut self.examined)? {
+        match next_attribute(unread, &mut self.examined)? {
             Ok((nla, rest)) => {
                 self.place = self.bytes.len() - rest.len();
                 Some(Ok(nla))
             }
-            Err(fault) => {
+            Err(error) => {
                 self.failed = true;
-                Some(Err(fault))
+                Some(Err(error))
             }
         }
     }
@@ -124,7 +136,7 @@ impl ExactEq for NlasIterator<'_> {
     ghost exact = { same_walk_decides };
 }
 
-/// A clone is equal, and takes no memory.
+/// A clone is equal to its source, and cloning needs no memory.
 impl Clone for NlasIterator<'_> {
     ghost is_clone = { λ source copy. copy ≡ source };
 

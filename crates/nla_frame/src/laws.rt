@@ -4,21 +4,26 @@ ghost use Rattle.std.specs.Prelude.{◌≡◌, ℕ, ◌+◌, ◌%◌, List, [], 
 ghost use Rattle.std.specs.List.{AllByRecursion};
 ghost use Rattle.nla_frame.specs.Attribute.{Attribute, IsAttribute, list_string};
 ghost use Rattle.nla_frame.specs.Framing.{Frames, Splits};
-ghost use Rattle.nla_frame.specs.Pieces.{pieces, pieces_of, split};
+ghost use Rattle.nla_frame.specs.NlaItems.{nla_items, nla_items_of, split};
 
 use crate::buffer::NlaBuffer;
 
-/// A string frames one list of attributes, or is broken in one way; its pieces are that one. The string of a list frames that list.
-/// Where a string's length is a multiple of four, a string behind it adds its own attributes.
+/// A byte string either frames one list of attributes, or is broken in one way, and `nla_items`
+/// computes which. The byte string of a list frames that list. If the length of one string is a
+/// multiple of four, a string appended to it adds its own attributes.
 pub fn framing(bytes: &[u8])
-    ensures computed { pieces bytes.now ≡ pieces_of (split bytes.now).front (split bytes.now).left }
+    ensures computed { nla_items bytes.now
+        ≡ nla_items_of (split bytes.now).front (split bytes.now).left }
     ensures splits { Splits bytes.now (split bytes.now).front (split bytes.now).left }
-    ensures only { (front : List Attribute) (left : List ℕ) → Splits bytes.now front left → split bytes.now ≡ record { front = front; left = left } }
-    ensures canonical { (attributes : List Attribute) → AllByRecursion IsAttribute attributes → bytes.now ≡ list_string attributes → Frames bytes.now attributes }
-    ensures appended { (a b : List ℕ) (first second : List Attribute) → bytes.now ≡ a ++ b → length a % 4 ≡ 0 → Frames a first → Frames b second → Frames bytes.now (first ++ second) }
+    ensures only { (front : List Attribute) (left : List ℕ) → Splits bytes.now front left →
+        split bytes.now ≡ record { front = front; left = left } }
+    ensures canonical { (attributes : List Attribute) → AllByRecursion IsAttribute attributes →
+        bytes.now ≡ list_string attributes → Frames bytes.now attributes }
+    ensures appended { (a b : List ℕ) (first second : List Attribute) → bytes.now ≡ a ++ b →
+        length a % 4 ≡ 0 → Frames a first → Frames b second → Frames bytes.now (first ++ second) }
 {}
 
-/// A borrowed attribute has a type of 16 bits, and a payload of bytes that a 16-bit length field counts.
+/// A borrowed attribute has a 16-bit type, and a payload of bytes that fits a 16-bit length field.
 pub fn borrowed(nla: &NlaBuffer<'_>)
     ensures { IsAttribute nla.now }
 {

@@ -1,4 +1,4 @@
-//! Netlink attributes: how byte strings frame them, and how values are written as them.
+//! Netlink attributes: how byte strings frame them, and how values are written as attributes.
 #![tactic(auto)]
 
 mod buffer;
@@ -17,12 +17,12 @@ mod text;
 mod to_vec;
 mod traits;
 
-pub use buffer::{NlaBuffer, next_piece};
+pub use buffer::{NlaBuffer, next_attribute};
 pub use bytes::Bytes;
 pub use default_nla::DefaultNla;
 pub use emission::{
-    emit_nlas, fitting, nlas_buffer_len, nlas_fit_len, put_attribute, put_attributes, put_bytes,
-    put_bytes_attribute, put_frame,
+    emit_nlas, fitting, nlas_buffer_len, nlas_fit_len, write_attribute, write_attributes,
+    write_bytes, write_bytes_attribute, write_frame,
 };
 pub use emitters::{emit_i32, emit_u16, emit_u16_be, emit_u32, emit_u32_be, emit_u64, emit_u64_be};
 pub use error::{Cause, DecodeError, Family};

@@ -9,7 +9,7 @@ use std::alloc::AllocError;
 use std::marker::Model;
 use std::{slice, vec};
 
-/// Attributes one after another, as the list of them. A type may hold a list of itself.
+/// An owned list of attributes, in order. A type may contain a list of itself.
 #[derive(Debug, Drop)]
 pub struct Nlas<T> {
     items: Vec<T>,
@@ -27,28 +27,28 @@ impl<T> Model for Nlas<T> {
 }
 
 impl<T> Nlas<T> {
-    /// The items of a `Vec`, which is taken over as it is.
+    /// Wraps a `Vec` without copying it.
     pub fn new(items: Vec<T>) -> Nlas<T>
         ensures { result ≡ items.items }
     {
         Nlas { items }
     }
 
-    /// The `Vec` that holds the items.
+    /// Unwraps the `Vec` that holds the items.
     pub fn into_vec(self) -> Vec<T>
         ensures { result.items ≡ self }
     {
         self.items
     }
 
-    /// The items.
+    /// The items as a slice.
     pub fn as_slice(&self) -> &[T]
         ensures { result.now ≡ self.now }
     {
         self.items.as_slice()
     }
 
-    /// Goes over the items in order, borrowed.
+    /// Iterates over references to the items, in order.
     ///
     /// ```text
     /// for nla in list.iter() {
@@ -64,14 +64,14 @@ impl<T> Nlas<T> {
         self.as_slice().iter()
     }
 
-    /// How many items there are.
+    /// The number of items.
     pub fn len(&self) -> usize
         ensures { result ≡ length self.now }
     {
         self.items.len()
     }
 
-    /// Whether there are none.
+    /// Whether there are no items.
     pub fn is_empty(&self) -> bool
         ensures { IsTrue result ↔ (self.now ≡ []) }
     {
@@ -87,7 +87,7 @@ impl<T> From<Vec<T>> for Nlas<T> {
     }
 }
 
-/// Goes over the items in order, and gives each away.
+/// Iterates over the items by value, in order.
 impl<T: Drop> IntoIterator for Nlas<T> {
     ghost use Rattle.std.specs.Prelude.{◌≡◌, ◌^◌, ◌<◌, length};
     ghost use Rattle.std.specs.Iterator.Runs.{EveryRun, ItemsAre};
@@ -98,14 +98,18 @@ impl<T: Drop> IntoIterator for Nlas<T> {
 
     type IntoIter = vec::IntoIter<T>;
 
-    ghost into_iter_gives = { λ list it. (into_iter_items it ≡ list) × (into_iter_len it ≡ length list) × (into_iter_len it < 2 ^ 64) × EveryRun (into_iter_steps {X = T} {Z = Global}) (λ p. ItemsAre p (into_iter_items p.from)) };
+    ghost into_iter_gives = { λ list it. (into_iter_items it ≡ list)
+        × (into_iter_len it ≡ length list)
+        × (into_iter_len it < 2 ^ 64)
+        × EveryRun (into_iter_steps {X = T} {Z = Global})
+        (λ p. ItemsAre p (into_iter_items p.from)) };
 
     fn into_iter(self) -> vec::IntoIter<T> {
         self.into_vec().into_iter()
     }
 }
 
-/// Goes over the items in order, borrowed, as `iter` does.
+/// Iterates over references to the items, in order, as `iter` does.
 impl<'a, T> IntoIterator for &'a Nlas<T> {
     ghost use Rattle.std.specs.Prelude.{◌≡◌, ◌^◌, ◌<◌, length};
     ghost use Rattle.std.specs.Iterator.Adapters.{IterYieldsInOrder};
@@ -115,7 +119,9 @@ impl<'a, T> IntoIterator for &'a Nlas<T> {
 
     type IntoIter = slice::Iter<'a, T>;
 
-    ghost into_iter_gives = { λ list it. (iter_rest it ≡ list.now) × (length (iter_rest it) < 2 ^ 64) × IterYieldsInOrder T };
+    ghost into_iter_gives = { λ list it. (iter_rest it ≡ list.now)
+        × (length (iter_rest it) < 2 ^ 64)
+        × IterYieldsInOrder T };
 
     fn into_iter(self) -> slice::Iter<'a, T> {
         self.iter()
@@ -149,12 +155,13 @@ impl<T: ExactEq> ExactEq for Nlas<T> {
     ghost exact = { pointwise_decides T.exact };
 }
 
-/// A clone holds a clone of each item; it fails only where memory runs out.
+/// A clone holds a clone of each item; cloning fails only if memory runs out.
 impl<T: Clone + Drop> Clone for Nlas<T> {
     ghost use Rattle.std.specs.Prelude.{◌≡◌};
     ghost use Rattle.std.specs.List.{AllZip};
 
-    ghost is_clone = { λ source copy. AllZip T.is_clone source copy × (((x y : T) → T.is_clone x y → y ≡ x) → copy ≡ source) };
+    ghost is_clone = { λ source copy. AllZip T.is_clone source copy
+        × (((x y : T) → T.is_clone x y → y ≡ x) → copy ≡ source) };
 
     fn clone(&self) -> Result<Nlas<T>, AllocError> {
         Ok(Nlas {

@@ -1,4 +1,4 @@
-//! Numbers, addresses and names read from payloads.
+//! Reads numbers, addresses and names from payloads.
 
 ghost use Rattle.std.specs.Prelude.{◌≡◌, slice_index};
 ghost use Rattle.std.specs.Int.{w16, w32, w64, cast_signed, from_be_bytes, from_le_bytes};
@@ -7,7 +7,7 @@ ghost use Rattle.nla_frame.specs.Payload.{of_length, ip_of, ipv4_of, ipv6_of, st
 use crate::error::Cause;
 use std::net::{IpAddr, Ipv4Addr, Ipv6Addr};
 
-/// The payload as an array, refused with the cause Length where it has another length.
+/// Reads the payload as an array. Any other length is rejected with the cause `Length`.
 #[inline(always)]
 fn array_of<const N: usize>(payload: &[u8]) -> Result<[u8; N], Cause>
     ensures { result ≡ of_length N payload.now payload.now }
@@ -18,7 +18,7 @@ fn array_of<const N: usize>(payload: &[u8]) -> Result<[u8; N], Cause>
     }
 }
 
-/// The number of one byte. Any other length is refused with the cause Length.
+/// Reads a one-byte number. Any other length is rejected with the cause `Length`.
 #[inline(always)]
 pub fn parse_u8(payload: &[u8]) -> Result<u8, Cause>
     ensures { result ≡ of_length 1 payload.now (slice_index payload.now 0) }
@@ -27,7 +27,7 @@ pub fn parse_u8(payload: &[u8]) -> Result<u8, Cause>
     Ok(byte)
 }
 
-/// The little-endian number of two bytes. Any other length is refused with the cause Length.
+/// Reads a two-byte little-endian number. Any other length is rejected with the cause `Length`.
 #[inline(always)]
 pub fn parse_u16(payload: &[u8]) -> Result<u16, Cause>
     ensures { result ≡ of_length 2 payload.now (from_le_bytes w16 payload.now) }
@@ -35,7 +35,7 @@ pub fn parse_u16(payload: &[u8]) -> Result<u16, Cause>
     Ok(u16::from_le_bytes(array_of(payload)?))
 }
 
-/// The little-endian number of four bytes. Any other length is refused with the cause Length.
+/// Reads a four-byte little-endian number. Any other length is rejected with the cause `Length`.
 #[inline(always)]
 pub fn parse_u32(payload: &[u8]) -> Result<u32, Cause>
     ensures { result ≡ of_length 4 payload.now (from_le_bytes w32 payload.now) }
@@ -43,7 +43,7 @@ pub fn parse_u32(payload: &[u8]) -> Result<u32, Cause>
     Ok(u32::from_le_bytes(array_of(payload)?))
 }
 
-/// The little-endian number of eight bytes. Any other length is refused with the cause Length.
+/// Reads an eight-byte little-endian number. Any other length is rejected with the cause `Length`.
 #[inline(always)]
 pub fn parse_u64(payload: &[u8]) -> Result<u64, Cause>
     ensures { result ≡ of_length 8 payload.now (from_le_bytes w64 payload.now) }
@@ -51,7 +51,8 @@ pub fn parse_u64(payload: &[u8]) -> Result<u64, Cause>
     Ok(u64::from_le_bytes(array_of(payload)?))
 }
 
-/// The little-endian two's complement number of four bytes. Any other length is refused with the cause Length.
+/// Reads a four-byte little-endian number in two's complement. Any other length is rejected with
+/// the cause `Length`.
 #[inline(always)]
 pub fn parse_i32(payload: &[u8]) -> Result<i32, Cause>
     ensures { result ≡ of_length 4 payload.now (cast_signed w32 (from_le_bytes w32 payload.now)) }
@@ -59,7 +60,7 @@ pub fn parse_i32(payload: &[u8]) -> Result<i32, Cause>
     Ok(i32::from_le_bytes(array_of(payload)?))
 }
 
-/// The big-endian number of two bytes. Any other length is refused with the cause Length.
+/// Reads a two-byte big-endian number. Any other length is rejected with the cause `Length`.
 #[inline(always)]
 pub fn parse_u16_be(payload: &[u8]) -> Result<u16, Cause>
     ensures { result ≡ of_length 2 payload.now (from_be_bytes w16 payload.now) }
@@ -67,7 +68,7 @@ pub fn parse_u16_be(payload: &[u8]) -> Result<u16, Cause>
     Ok(u16::from_be_bytes(array_of(payload)?))
 }
 
-/// The big-endian number of four bytes. Any other length is refused with the cause Length.
+/// Reads a four-byte big-endian number. Any other length is rejected with the cause `Length`.
 #[inline(always)]
 pub fn parse_u32_be(payload: &[u8]) -> Result<u32, Cause>
     ensures { result ≡ of_length 4 payload.now (from_be_bytes w32 payload.now) }
@@ -75,7 +76,7 @@ pub fn parse_u32_be(payload: &[u8]) -> Result<u32, Cause>
     Ok(u32::from_be_bytes(array_of(payload)?))
 }
 
-/// The big-endian number of eight bytes. Any other length is refused with the cause Length.
+/// Reads an eight-byte big-endian number. Any other length is rejected with the cause `Length`.
 #[inline(always)]
 pub fn parse_u64_be(payload: &[u8]) -> Result<u64, Cause>
     ensures { result ≡ of_length 8 payload.now (from_be_bytes w64 payload.now) }
@@ -83,7 +84,7 @@ pub fn parse_u64_be(payload: &[u8]) -> Result<u64, Cause>
     Ok(u64::from_be_bytes(array_of(payload)?))
 }
 
-/// The hardware address of six bytes. Any other length is refused with the cause Length.
+/// Reads a hardware address of six bytes. Any other length is rejected with the cause `Length`.
 #[inline(always)]
 pub fn parse_mac(payload: &[u8]) -> Result<[u8; 6], Cause>
     ensures { result ≡ of_length 6 payload.now payload.now }
@@ -91,7 +92,8 @@ pub fn parse_mac(payload: &[u8]) -> Result<[u8; 6], Cause>
     array_of(payload)
 }
 
-/// The IPv4 address of four bytes, its octets in network byte order. Any other length is refused with the cause Length.
+/// Reads an IPv4 address of four bytes in network byte order. Any other length is rejected with the
+/// cause `Length`.
 #[inline(always)]
 pub fn parse_ipv4_addr(payload: &[u8]) -> Result<Ipv4Addr, Cause>
     ensures { result ≡ of_length 4 payload.now (ipv4_of payload.now) }
@@ -99,7 +101,8 @@ pub fn parse_ipv4_addr(payload: &[u8]) -> Result<Ipv4Addr, Cause>
     Ok(Ipv4Addr::from_octets(array_of(payload)?))
 }
 
-/// The IPv6 address of sixteen bytes, its octets in network byte order. Any other length is refused with the cause Length.
+/// Reads an IPv6 address of sixteen bytes in network byte order. Any other length is rejected with
+/// the cause `Length`.
 #[inline(always)]
 pub fn parse_ipv6_addr(payload: &[u8]) -> Result<Ipv6Addr, Cause>
     ensures { result ≡ of_length 16 payload.now (ipv6_of payload.now) }
@@ -107,7 +110,8 @@ pub fn parse_ipv6_addr(payload: &[u8]) -> Result<Ipv6Addr, Cause>
     Ok(Ipv6Addr::from_octets(array_of(payload)?))
 }
 
-/// The IPv4 address of four bytes, or the IPv6 address of sixteen. Any other length is refused with the cause Length.
+/// Reads an IPv4 address of four bytes or an IPv6 address of sixteen, in network byte order. Any
+/// other length is rejected with the cause `Length`.
 #[inline(always)]
 pub fn parse_ip(payload: &[u8]) -> Result<IpAddr, Cause>
     ensures { result ≡ ip_of payload.now }
@@ -118,7 +122,7 @@ pub fn parse_ip(payload: &[u8]) -> Result<IpAddr, Cause>
     }
 }
 
-/// The bytes of a name: the payload without one closing NUL, where there is one.
+/// The bytes of a name: the payload without one closing NUL, if there is one.
 #[tactic(auto, unfolding(crate::specs::Payload::stripped))]
 #[inline(always)]
 pub fn without_nul(payload: &[u8]) -> &[u8]

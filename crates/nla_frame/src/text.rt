@@ -7,7 +7,7 @@ use std::alloc::{AllocError, Global};
 use std::fmt;
 use std::marker::Model;
 
-/// A name, as the list of the bytes of its UTF-8 form.
+/// An owned name, seen as the list of its UTF-8 bytes.
 #[derive(Debug, Drop)]
 pub struct Text {
     text: String,
@@ -22,14 +22,14 @@ impl Model for Text {
 }
 
 impl Text {
-    /// The text of a `String`, which is taken over as it is.
+    /// Wraps a `String` without copying it.
     pub fn new(text: String) -> Text
         ensures { result ≡ string_bytes text }
     {
         Text { text }
     }
 
-    /// A copy of the text, which fails only where memory runs out.
+    /// Copies the text; fails only if memory runs out.
     pub fn copy_of(alloc: Global, text: &str) -> Result<Text, AllocError>
         ensures { IfOk result (λ copy. copy ≡ text.now) }
     {
@@ -38,28 +38,28 @@ impl Text {
         })
     }
 
-    /// The `String` that holds the text.
+    /// Unwraps the `String` that holds the text.
     pub fn into_string(self) -> String
         ensures { string_bytes result ≡ self }
     {
         self.text
     }
 
-    /// The text.
+    /// The text as a string slice.
     pub fn as_str(&self) -> &str
         ensures { result.now ≡ self.now }
     {
         self.text.as_str()
     }
 
-    /// The bytes of the text.
+    /// The UTF-8 bytes of the text.
     pub fn as_bytes(&self) -> &[u8]
         ensures { result.now ≡ self.now }
     {
         self.text.as_bytes()
     }
 
-    /// How many bytes the text has.
+    /// The length of the text in bytes.
     pub fn len(&self) -> usize
         ensures { result ≡ length self.now }
     {
@@ -118,7 +118,7 @@ impl ExactEq for Text {
     ghost exact = { bytes_decides };
 }
 
-/// A clone is equal; it fails only where memory runs out.
+/// A clone is equal to its source; cloning fails only if memory runs out.
 impl Clone for Text {
     ghost is_clone = { λ source copy. copy ≡ source };
 

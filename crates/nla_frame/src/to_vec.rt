@@ -1,4 +1,4 @@
-//! The canonical string of a list, in one call.
+//! Writes the byte string of a list into a new `Vec`.
 
 ghost use Rattle.std.specs.Prelude.{◌≡◌, ◌↔◌, [], Err, IfOk, IsOk, OnOk, map};
 ghost use Rattle.nla_frame.specs.Attribute.{ListFits, list_string};
@@ -12,12 +12,13 @@ use std::alloc::{AllocError, Global};
 use std::error::Error;
 use std::fmt;
 
-/// Why a list was not written.
+/// Why a list is not written.
 #[derive(Clone, Copy, Debug, PartialEq, Eq)]
 pub enum ToVecError {
-    /// A value has more than 65531 bytes, or the string has more than a `usize` counts.
+    /// A payload has more than 65531 bytes, or the length of the byte string does not fit into a
+    /// `usize`.
     Unfit,
-    /// An allocation was refused.
+    /// An allocation failed.
     Memory,
 }
 
@@ -37,7 +38,7 @@ impl fmt::Display for ToVecError {
 
 impl Error for ToVecError {}
 
-/// Want of memory.
+/// A failed allocation is `Memory`.
 impl From<AllocError> for ToVecError {
     ghost from_gives = { λ _ error. error ≡ refused.Memory };
 
@@ -52,10 +53,10 @@ impl ExactEq for ToVecError {
     ghost exact = { Prim.search rules };
 }
 
-/// The list's string, that of each item after the other, as `emit_nlas` writes it.
+/// Writes the list's byte string into a new `Vec`, the items in order, as `emit_nlas` writes it.
 ///
-/// Refused as `Unfit` exactly where the list does not fit, before any memory is asked for, and as `Memory` where an allocation was refused. The
-/// empty list takes no memory.
+/// Returns the error `Unfit` if and only if the list does not fit, before it allocates, and
+/// `Memory` if an allocation failed. The empty list needs no memory.
 ///
 /// ```text
 /// let bytes = nlas_to_vec(alloc, &items)?;

@@ -59,7 +59,7 @@ class Edits(unittest.TestCase):
         edit = Edit("one", name, self.top.name)
         return edit.applied(lambda path: SOURCE)["src/count.rt"], edit
 
-    def refused(self, text):
+    def is_bad(self, text):
         with self.assertRaises(BadEdit):
             self.applied(text)
 
@@ -97,23 +97,23 @@ class Edits(unittest.TestCase):
         self.assertTrue(edit.is_outside)
 
     def test_text_of_another_body(self):
-        self.refused(f"fn: {NEXT}\nfile: src/count.rt\nold: n.min(MOST)\nnew: n\n")
+        self.is_bad(f"fn: {NEXT}\nfile: src/count.rt\nold: n.min(MOST)\nnew: n\n")
 
     def test_text_that_is_there_twice_or_never(self):
-        self.refused(f"fn: {NEXT}\nfile: src/count.rt\nold: fn\nnew: n\n")
-        self.refused(f"fn: {NEXT}\nfile: src/count.rt\nold: no such text\nnew: n\n")
+        self.is_bad(f"fn: {NEXT}\nfile: src/count.rt\nold: fn\nnew: n\n")
+        self.is_bad(f"fn: {NEXT}\nfile: src/count.rt\nold: no such text\nnew: n\n")
 
     def test_lines_that_no_edit_has(self):
-        self.refused(f"file: src/count.rt\nold: n + 1\nnew: n\n")
-        self.refused(f"fn: {NEXT}\nfile: src/count.rt\nold: n + 1\n")
-        self.refused(f"fn: {NEXT}\nfile: specs/X.antt\nold: n + 1\nnew: n\n")
-        self.refused(f"fn: {NEXT}\nfile: src/count.rt\nold: n + 1\nnew: n\nmore\n")
+        self.is_bad(f"file: src/count.rt\nold: n + 1\nnew: n\n")
+        self.is_bad(f"fn: {NEXT}\nfile: src/count.rt\nold: n + 1\n")
+        self.is_bad(f"fn: {NEXT}\nfile: specs/X.antt\nold: n + 1\nnew: n\n")
+        self.is_bad(f"fn: {NEXT}\nfile: src/count.rt\nold: n + 1\nnew: n\nmore\n")
 
     def test_control(self):
         text = f"fn: {FROM}\nin: {NEXT}\nfile: src/count.rt\nold: n + 1\nnew: n + 1 + 0\n"
         _, edit = self.applied(text, "wrong/control/it.edit")
         self.assertTrue(edit.is_control)
-        self.assertEqual((edit.function, edit.turned), (FROM, NEXT))
+        self.assertEqual((edit.function, edit.mutated), (FROM, NEXT))
 
     def test_what_others_see(self):
         seen = visible("one", "src/count.rt", SOURCE)

@@ -15,7 +15,7 @@ def report(name, status=1):
 
 def edit(function, **flags):
     """An edit of which the judging knows the function, and these things."""
-    known = {"moves_steps": False, "is_in_ring": False, "has_loop": False}
+    known = {"moves_steps": False, "is_recursive": False, "has_loop": False}
     known |= {"is_constant": False, "is_outside": False}
     return types.SimpleNamespace(function=function, **(known | flags))
 
@@ -28,24 +28,24 @@ class Judging(unittest.TestCase):
     def test_result_that_is_not_promised(self):
         told = report("refused_by_search")
         self.assertTrue(told.is_judged and not told.is_proved)
-        self.assertIn("`returns`", told.refuses(self.length))
+        self.assertIn("`returns`", told.rejects(self.length))
 
     def test_answer_that_fails_at_a_promise(self):
         told = report("refused_by_answers")
         function = edit("nla_frame::iterator::NlasIteratorIterator::next")
-        self.assertRegex(told.refuses(function), r"error: `returns")
+        self.assertRegex(told.rejects(function), r"error: `returns")
 
     def test_right_body(self):
         told = report("right", 0)
         self.assertTrue(told.is_judged and told.is_proved)
-        self.assertEqual(told.refuses(self.length), "")
+        self.assertEqual(told.rejects(self.length), "")
         self.assertEqual(told.kinds_of(self.length), {"still proved"})
 
     def test_index_out_of_range_is_no_refusal(self):
         told = report("only_a_panic")
         self.assertTrue(told.is_judged and not told.is_proved)
         self.assertIn("no proof", told.line_of(self.length.function))
-        self.assertEqual(told.refuses(self.length), "")
+        self.assertEqual(told.rejects(self.length), "")
 
     def test_body_that_does_not_compile(self):
         told = report("not_compiled")
@@ -55,36 +55,36 @@ class Judging(unittest.TestCase):
     def test_names_that_answers_have_lost(self):
         told, check = report("names_lost"), edit("linkinfo_table::list::list_check", has_loop=True)
         self.assertTrue(told.is_judged and not told.is_proved)
-        self.assertEqual(told.refuses(check), "")
+        self.assertEqual(told.rejects(check), "")
         self.assertLessEqual({"names lost", "loop"}, told.kinds_of(check))
 
     def test_steps_that_moved(self):
-        told, put = report("steps_moved"), edit("linkinfo_table::rows::row_put", moves_steps=True)
+        told, put = report("steps_moved"), edit("linkinfo_table::rows::row_store", moves_steps=True)
         self.assertTrue(told.is_judged and not told.is_proved)
-        self.assertEqual(told.refuses(put), "")
+        self.assertEqual(told.rejects(put), "")
         self.assertIn("steps moved", told.kinds_of(put))
 
     def test_law_that_does_not_hold(self):
         told = report("law_refused")
         equal = edit("linkinfo_shapes::laws::equal_data", is_outside=True)
-        self.assertIn("`returns`", told.refuses(equal))
-        self.assertEqual(report("law_proved", 0).refuses(equal), "")
+        self.assertIn("`returns`", told.rejects(equal))
+        self.assertEqual(report("law_proved", 0).rejects(equal), "")
         self.assertEqual(report("law_proved", 0).kinds_of(equal), {"outside"})
 
     def test_impl_whose_law_has_no_proof(self):
         told = report("impl_refused")
         equal = edit("linkinfo_table::peer::PeerFaultExactEq", is_outside=True)
-        self.assertIn("error: `exact-value`", told.refuses(equal))
+        self.assertIn("error: `exact-value`", told.rejects(equal))
         told = report("impl_refused_from_nothing")
         run = edit("linkinfo_lines::streams::RunErrorExactEq", is_outside=True)
-        self.assertIn("error: `exact-value`", told.refuses(run))
-        self.assertEqual(told.refuses(equal), "")
+        self.assertIn("error: `exact-value`", told.rejects(run))
+        self.assertEqual(told.rejects(equal), "")
         other = edit("linkinfo_table::peer::OtherExactEq", is_outside=True)
-        self.assertEqual(told.refuses(other), "")
+        self.assertEqual(told.rejects(other), "")
 
     def test_line_of_another_function(self):
         told = report("refused_by_search")
-        self.assertEqual(told.refuses(edit("nla_frame::bytes::Bytes::is_empty")), "")
+        self.assertEqual(told.rejects(edit("nla_frame::bytes::Bytes::is_empty")), "")
 
     def test_check_that_was_stopped(self):
         self.assertFalse(report("refused_by_search", -9).is_judged)

@@ -93,7 +93,7 @@ class Seen(unittest.TestCase):
 
     def test_nothing_changed(self):
         self.assertEqual(self.tried(), [])
-        self.assertIn("were last seen refused at commit", self.said)
+        self.assertIn("were last seen rejected at commit", self.said)
 
     def test_draw(self):
         self.assertEqual(len(self.tried(drawn=2)), 2)

@@ -9,10 +9,13 @@
 
 use crate::calls::attributes::{self, LinkinfoAttribute};
 use crate::calls::canon::{self, LinkinfoCanon};
-use crate::calls::check::{self, LinkinfoCount, LinkinfoPlacedFault, LinkinfoSame};
-use crate::calls::fault::LinkinfoFault;
-use crate::calls::items::{self, LinkinfoFound, LinkinfoItem};
+use crate::calls::check::{self, LinkinfoCount, LinkinfoErrorAt, LinkinfoInnerError, LinkinfoSame};
+use crate::calls::difference::{self, LinkinfoDifference};
+use crate::calls::error::LinkinfoError;
+use crate::calls::items::{self, LinkinfoItem, LinkinfoListResult};
 use crate::calls::texts;
+use crate::calls::unmet::{self, LinkinfoUnmet};
+use crate::calls::values::{self, LinkinfoValuedAttribute};
 use core::alloc::{GlobalAlloc, Layout};
 use core::ptr::null_mut;
 
@@ -37,13 +40,18 @@ unsafe fn slice_mut<'a, T>(pointer: *mut T, length: usize) -> &'a mut [T] {
 }
 
 #[unsafe(no_mangle)]
-unsafe extern "C" fn linkinfo_check(bytes: *const u8, length: usize) -> LinkinfoFault {
+unsafe extern "C" fn linkinfo_check(bytes: *const u8, length: usize) -> LinkinfoError {
     check::linkinfo_check(unsafe { slice(bytes, length) })
 }
 
 #[unsafe(no_mangle)]
-unsafe extern "C" fn linkinfo_check_placed(bytes: *const u8, length: usize) -> LinkinfoPlacedFault {
-    check::linkinfo_check_placed(unsafe { slice(bytes, length) })
+unsafe extern "C" fn linkinfo_check_at(bytes: *const u8, length: usize) -> LinkinfoErrorAt {
+    check::linkinfo_check_at(unsafe { slice(bytes, length) })
+}
+
+#[unsafe(no_mangle)]
+unsafe extern "C" fn linkinfo_check_inner(bytes: *const u8, length: usize) -> LinkinfoInnerError {
+    check::linkinfo_check_inner(unsafe { slice(bytes, length) })
 }
 
 #[unsafe(no_mangle)]
@@ -54,6 +62,30 @@ unsafe extern "C" fn linkinfo_same(
     b_length: usize,
 ) -> LinkinfoSame {
     check::linkinfo_same(unsafe { slice(a, a_length) }, unsafe { slice(b, b_length) })
+}
+
+#[unsafe(no_mangle)]
+unsafe extern "C" fn linkinfo_first_difference(
+    a: *const u8,
+    a_length: usize,
+    b: *const u8,
+    b_length: usize,
+) -> LinkinfoDifference {
+    difference::linkinfo_first_difference(unsafe { slice(a, a_length) }, unsafe {
+        slice(b, b_length)
+    })
+}
+
+#[unsafe(no_mangle)]
+unsafe extern "C" fn linkinfo_first_unmet(
+    have: *const u8,
+    have_length: usize,
+    want: *const u8,
+    want_length: usize,
+) -> LinkinfoUnmet {
+    unmet::linkinfo_first_unmet(unsafe { slice(have, have_length) }, unsafe {
+        slice(want, want_length)
+    })
 }
 
 #[unsafe(no_mangle)]
@@ -79,7 +111,7 @@ unsafe extern "C" fn linkinfo_items(
     length: usize,
     items: *mut LinkinfoItem,
     items_length: usize,
-) -> LinkinfoFound {
+) -> LinkinfoListResult {
     items::linkinfo_items(unsafe { slice(bytes, length) }, unsafe {
         slice_mut(items, items_length)
     })
@@ -92,8 +124,21 @@ unsafe extern "C" fn linkinfo_attributes(
     kind: u16,
     attributes: *mut LinkinfoAttribute,
     attributes_length: usize,
-) -> LinkinfoFound {
+) -> LinkinfoListResult {
     attributes::linkinfo_attributes(unsafe { slice(bytes, length) }, kind, unsafe {
+        slice_mut(attributes, attributes_length)
+    })
+}
+
+#[unsafe(no_mangle)]
+unsafe extern "C" fn linkinfo_values(
+    bytes: *const u8,
+    length: usize,
+    kind: u16,
+    attributes: *mut LinkinfoValuedAttribute,
+    attributes_length: usize,
+) -> LinkinfoListResult {
+    values::linkinfo_values(unsafe { slice(bytes, length) }, kind, unsafe {
         slice_mut(attributes, attributes_length)
     })
 }
@@ -119,12 +164,12 @@ unsafe extern "C" fn linkinfo_port_kind_name(kind: u16, buffer: *mut u8, length:
 }
 
 #[unsafe(no_mangle)]
-unsafe extern "C" fn linkinfo_fault_text(
-    fault: LinkinfoFault,
+unsafe extern "C" fn linkinfo_error_text(
+    error: LinkinfoError,
     buffer: *mut u8,
     length: usize,
 ) -> usize {
-    texts::linkinfo_fault_text(fault, unsafe { slice_mut(buffer, length) })
+    texts::linkinfo_error_text(error, unsafe { slice_mut(buffer, length) })
 }
 
 #[unsafe(no_mangle)]

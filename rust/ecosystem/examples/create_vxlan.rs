@@ -1,5 +1,5 @@
 //! Builds the RTM_NEWLINK that creates a vxlan link, with a list of `linkinfo` in a message of
-//! `netlink-packet-route`, and reads it back from the message's bytes.
+//! `netlink-packet-route`, and parses it from the bytes of the message.
 
 use linkinfo::{InfoData, InfoKind, InfoVxlan, LinkInfo, VecLinkInfo};
 use linkinfo_ecosystem::link_info;
@@ -25,7 +25,7 @@ pub fn create_vxlan(name: &str, list: &VecLinkInfo) -> Result<Vec<u8>, Box<dyn E
     Ok(bytes)
 }
 
-/// What `netlink-packet-route` reads: the kind, and the identifier of the network.
+/// The attributes that `netlink-packet-route` parses: the kind and the VNI are among them.
 pub fn read_by_route(bytes: &[u8]) -> Result<Vec<LinkAttribute>, Box<dyn Error>> {
     match NetlinkMessage::<RouteNetlinkMessage>::deserialize(bytes)?.payload {
         NetlinkPayload::InnerMessage(RouteNetlinkMessage::NewLink(link)) => Ok(link.attributes),

@@ -1,17 +1,15 @@
-//! Validates the link info of a received RTM_NEWLINK, and says whether the link is as wanted,
-//! without allocating memory for either.
+//! Validates the link info of a received RTM_NEWLINK, and finds the first wanted attribute that the
+//! link does not meet, without allocating memory for either.
 
-use linkinfo::{InfoData, InfoKind, InfoXfrm, LinkInfo, VecLinkInfo, check, same};
+use linkinfo::{InfoData, InfoKind, InfoXfrm, LinkInfo, Unmet, VecLinkInfo, first_unmet};
 use linkinfo_ecosystem::link_info;
 use std::error::Error;
 
-/// Whether the link of the message has the wanted link info; an error where the message's is
-/// rejected, or is not there.
-pub fn is_as_wanted(message: &[u8], wanted: &[u8]) -> Result<bool, Box<dyn Error>> {
+/// The first wanted attribute that the link of the message does not meet; an error where the link
+/// info of the message is rejected or missing.
+pub fn first_missing(message: &[u8], wanted: &[u8]) -> Result<Option<Unmet>, Box<dyn Error>> {
     let attribute = link_info(message)?.ok_or("no IFLA_LINKINFO")?;
-    let received = attribute.value();
-    check(received)?;
-    Ok(same(received, wanted)?)
+    Ok(first_unmet(attribute.value(), wanted)?)
 }
 
 /// An xfrm interface as a kernel sends it: `struct nlmsghdr`, `struct ifinfomsg`, the name, and
@@ -28,17 +26,15 @@ pub const MESSAGE: [u8; 76] = [
 ];
 
 pub fn main() -> Result<(), Box<dyn Error>> {
-    let wanted = |id| {
-        VecLinkInfo::from([
-            LinkInfo::Kind(InfoKind::Xfrm),
-            LinkInfo::Data(InfoData::Xfrm(
-                [InfoXfrm::Link(2), InfoXfrm::IfId(id)].into(),
-            )),
-        ])
-    };
     for id in [10, 11] {
-        let is_as_wanted = is_as_wanted(&MESSAGE, &wanted(id).to_vec()?)?;
-        println!("IFLA_XFRM_IF_ID {id} is wanted: {is_as_wanted}");
+        let wanted = VecLinkInfo::from([
+            LinkInfo::Kind(InfoKind::Xfrm),
+            LinkInfo::Data(InfoData::Xfrm([InfoXfrm::IfId(id)].into())),
+        ]);
+        match first_missing(&MESSAGE, &wanted.to_vec()?)? {
+            None => println!("the link has IFLA_XFRM_IF_ID {id}"),
+            Some(unmet) => println!("the link has another IFLA_XFRM_IF_ID than {id}: {unmet:?}"),
+        }
     }
     Ok(())
 }

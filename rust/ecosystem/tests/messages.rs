@@ -7,7 +7,8 @@ mod create_vxlan;
 mod received;
 
 use linkinfo::{
-    DefaultNla as Opaque, InfoData, InfoKind, InfoVxlan, LinkInfo, ToVecError, VecLinkInfo,
+    DefaultNla as Opaque, Family, InfoData, InfoKind, InfoVxlan, LinkInfo, ToVecError, Unmet,
+    VecLinkInfo,
 };
 use linkinfo_ecosystem::link_info;
 use netlink_packet_core::{DefaultNla, Emitable, Nla, NlaBuffer, Parseable};
@@ -81,7 +82,7 @@ fn an_error_says_family_type_and_cause() {
     assert_eq!(error.to_string(), "linkinfo 2 order");
 }
 
-/// A list that is longer than an attribute, though each of its own attributes fits.
+/// A list that is longer than an attribute, though each of its attributes fits.
 fn too_long() -> VecLinkInfo {
     let opaque = || LinkInfo::Other(Opaque::new(99, vec![0; 40_000]));
     VecLinkInfo::from([opaque(), opaque()])
@@ -120,13 +121,24 @@ fn netlink_packet_route_reads_what_is_sent() {
 #[test]
 fn received_link_info_is_checked_and_compared() {
     let wanted = &received::MESSAGE[44..];
-    assert!(received::is_as_wanted(&received::MESSAGE, wanted).unwrap());
+    let missing = received::first_missing(&received::MESSAGE, wanted).unwrap();
+    assert_eq!(missing, None);
     let mut other = received::MESSAGE;
     other[72] = 11;
-    assert!(!received::is_as_wanted(&other, wanted).unwrap());
+    // IFLA_XFRM_IF_ID, after the kind, the header of the data, and IFLA_XFRM_LINK.
+    let missing = received::first_missing(&other, wanted).unwrap();
+    assert_eq!(
+        missing,
+        Some(Unmet {
+            family: Family::Xfrm,
+            kind: 2,
+            want: 24,
+            have: Some(24),
+        })
+    );
     // IFLA_XFRM_IF_ID of three bytes.
     other[68] = 7;
-    let error = received::is_as_wanted(&other, wanted).unwrap_err();
+    let error = received::first_missing(&other, wanted).unwrap_err();
     assert_eq!(error.to_string(), "xfrm 2 length");
 }
 

@@ -1,5 +1,6 @@
-//! Answers lines of standard input on standard output: whether a link info list is accepted, its
-//! canonical string, and whether two lists mean the same.
+//! Reads lines of standard input, and writes a result line for each to standard output: whether a
+//! list of link info attributes is accepted, its canonical encoding, and whether two lists are
+//! equivalent.
 
 #[allow(dead_code, unused_imports, unused_macros)]
 mod linkinfo_lines;
@@ -7,8 +8,7 @@ mod linkinfo_lines;
 use crate::linkinfo_lines::run;
 use std::process::ExitCode;
 
-/// Ends with status 0 where the whole answer was written, and else with status 1. Arguments are not
-/// looked at.
+/// Returns status 0 where all output was written, and else status 1. Arguments are ignored.
 fn main() -> ExitCode {
     match run(&mut std::io::stdin(), &mut std::io::stdout()) {
         Ok(()) => ExitCode::SUCCESS,

@@ -1,26 +1,37 @@
-//! The calls of the crate for C beside those of the library that the toolchain built of the same
-//! sources: every result, and every byte and item that a call writes.
+//! Compares the calls of the crate for C with those of the library that the toolchain built from
+//! the same sources: every result, and every byte and item that a call writes.
 
 use crate::random::Random;
 use linkinfo_c::calls::attributes::{LinkinfoAttribute, linkinfo_attributes};
 use linkinfo_c::calls::canon::{LinkinfoCanon, linkinfo_canon};
 use linkinfo_c::calls::check::{
-    LinkinfoCount, LinkinfoPlacedFault, LinkinfoSame, linkinfo_check, linkinfo_check_placed,
-    linkinfo_count, linkinfo_same,
+    LinkinfoCount, LinkinfoErrorAt, LinkinfoInnerError, LinkinfoSame, linkinfo_check,
+    linkinfo_check_at, linkinfo_check_inner, linkinfo_count, linkinfo_same,
 };
-use linkinfo_c::calls::fault::LinkinfoFault;
-use linkinfo_c::calls::items::{LinkinfoFound, LinkinfoItem, linkinfo_items};
-use linkinfo_c::calls::texts::linkinfo_fault_text;
+use linkinfo_c::calls::difference::{LinkinfoDifference, linkinfo_first_difference};
+use linkinfo_c::calls::error::LinkinfoError;
+use linkinfo_c::calls::items::{LinkinfoItem, LinkinfoListResult, linkinfo_items};
+use linkinfo_c::calls::texts::linkinfo_error_text;
+use linkinfo_c::calls::unmet::{LinkinfoUnmet, linkinfo_first_unmet};
+use linkinfo_c::calls::values::{LinkinfoValue, LinkinfoValuedAttribute, linkinfo_values};
 
 mod c {
     use super::{
-        LinkinfoAttribute, LinkinfoCanon, LinkinfoCount, LinkinfoFault, LinkinfoFound,
-        LinkinfoItem, LinkinfoPlacedFault, LinkinfoSame,
+        LinkinfoAttribute, LinkinfoCanon, LinkinfoCount, LinkinfoDifference, LinkinfoError,
+        LinkinfoErrorAt, LinkinfoInnerError, LinkinfoItem, LinkinfoListResult, LinkinfoSame,
+        LinkinfoUnmet, LinkinfoValuedAttribute,
     };
 
     unsafe extern "C" {
-        pub fn linkinfo_check(bytes: *const u8, length: usize) -> LinkinfoFault;
-        pub fn linkinfo_check_placed(bytes: *const u8, length: usize) -> LinkinfoPlacedFault;
+        pub fn linkinfo_check(bytes: *const u8, length: usize) -> LinkinfoError;
+        pub fn linkinfo_check_at(bytes: *const u8, length: usize) -> LinkinfoErrorAt;
+        pub fn linkinfo_check_inner(bytes: *const u8, length: usize) -> LinkinfoInnerError;
+        pub fn linkinfo_first_difference(
+            a: *const u8,
+            a_length: usize,
+            b: *const u8,
+            b_length: usize,
+        ) -> LinkinfoDifference;
         pub fn linkinfo_same(
             a: *const u8,
             a_length: usize,
@@ -39,15 +50,28 @@ mod c {
             length: usize,
             items: *mut LinkinfoItem,
             items_length: usize,
-        ) -> LinkinfoFound;
+        ) -> LinkinfoListResult;
         pub fn linkinfo_attributes(
             bytes: *const u8,
             length: usize,
             kind: u16,
             attributes: *mut LinkinfoAttribute,
             attributes_length: usize,
-        ) -> LinkinfoFound;
-        pub fn linkinfo_fault_text(fault: LinkinfoFault, buffer: *mut u8, length: usize) -> usize;
+        ) -> LinkinfoListResult;
+        pub fn linkinfo_first_unmet(
+            have: *const u8,
+            have_length: usize,
+            want: *const u8,
+            want_length: usize,
+        ) -> LinkinfoUnmet;
+        pub fn linkinfo_values(
+            bytes: *const u8,
+            length: usize,
+            kind: u16,
+            values: *mut LinkinfoValuedAttribute,
+            values_length: usize,
+        ) -> LinkinfoListResult;
+        pub fn linkinfo_error_text(error: LinkinfoError, buffer: *mut u8, length: usize) -> usize;
     }
 }
 
@@ -67,14 +91,36 @@ const NO_ATTRIBUTE: LinkinfoAttribute = LinkinfoAttribute {
     shape: 4,
     is_number: true,
 };
+const NO_VALUE: LinkinfoValuedAttribute = LinkinfoValuedAttribute {
+    place: usize::MAX,
+    len: 1,
+    value: LinkinfoValue {
+        number: 2,
+        signed_number: 3,
+        len: 4,
+        octets: [5; 16],
+        first: 6,
+        second: 7,
+        value_type: 8,
+        truth: true,
+    },
+    raw_kind: 9,
+    shape: 10,
+};
 
-/// (Of every call: the pointers are those of slices, with their lengths.)
+/// (For every call: the pointers are those of slices, with their lengths.)
 pub fn compare(random: &mut Random, bytes: &[u8], second: &[u8]) {
     let (start, length) = (bytes.as_ptr(), bytes.len());
-    let fault = linkinfo_check(bytes);
-    assert_eq!(fault, unsafe { c::linkinfo_check(start, length) });
-    assert_eq!(linkinfo_check_placed(bytes), unsafe {
-        c::linkinfo_check_placed(start, length)
+    let error = linkinfo_check(bytes);
+    assert_eq!(error, unsafe { c::linkinfo_check(start, length) });
+    assert_eq!(linkinfo_check_at(bytes), unsafe {
+        c::linkinfo_check_at(start, length)
+    });
+    assert_eq!(linkinfo_check_inner(bytes), unsafe {
+        c::linkinfo_check_inner(start, length)
+    });
+    assert_eq!(linkinfo_first_difference(bytes, second), unsafe {
+        c::linkinfo_first_difference(start, length, second.as_ptr(), second.len())
     });
     assert_eq!(linkinfo_count(bytes), unsafe {
         c::linkinfo_count(start, length)
@@ -82,8 +128,11 @@ pub fn compare(random: &mut Random, bytes: &[u8], second: &[u8]) {
     assert_eq!(linkinfo_same(bytes, second), unsafe {
         c::linkinfo_same(start, length, second.as_ptr(), second.len())
     });
+    assert_eq!(linkinfo_first_unmet(bytes, second), unsafe {
+        c::linkinfo_first_unmet(start, length, second.as_ptr(), second.len())
+    });
     canonical(random, bytes);
-    texts(random, fault);
+    texts(random, error);
     items(random, bytes);
 }
 
@@ -102,19 +151,19 @@ fn canonical(random: &mut Random, bytes: &[u8]) {
     assert_eq!(ours, theirs);
 }
 
-fn texts(random: &mut Random, fault: LinkinfoFault) {
+fn texts(random: &mut Random, error: LinkinfoError) {
     let mut ours = [0xa5; 40];
     let mut theirs = ours;
     let room = random.below(41);
-    let length = linkinfo_fault_text(fault, &mut ours[..room]);
+    let length = linkinfo_error_text(error, &mut ours[..room]);
     assert_eq!(length, unsafe {
-        c::linkinfo_fault_text(fault, theirs.as_mut_ptr(), room)
+        c::linkinfo_error_text(error, theirs.as_mut_ptr(), room)
     });
     assert_eq!(ours, theirs);
 }
 
 /// The attributes of the list, and those inside the payload of each, as data of every kind that is
-/// current there, and now and then of another.
+/// current there, and sometimes of another kind.
 fn items(random: &mut Random, bytes: &[u8]) {
     let room = if random.once_in(4) {
         random.below(6)
@@ -154,6 +203,14 @@ fn attributes(random: &mut Random, payload: &[u8], kind: u16) {
             theirs.as_mut_ptr(),
             room,
         )
+    });
+    assert_eq!(ours, theirs);
+    let mut ours = vec![NO_VALUE; room];
+    let mut theirs = ours.clone();
+    let found = linkinfo_values(payload, kind, &mut ours);
+    let (start, length) = (payload.as_ptr(), payload.len());
+    assert_eq!(found, unsafe {
+        c::linkinfo_values(start, length, kind, theirs.as_mut_ptr(), room)
     });
     assert_eq!(ours, theirs);
 }

@@ -1,4 +1,4 @@
-//! Each call of the crate beside its other calls for the same result.
+//! Compares each call of the crate with the other calls that have the same result.
 
 use crate::random::Random;
 use linkinfo::layers::link::{
@@ -6,16 +6,16 @@ use linkinfo::layers::link::{
     nlas_fit_len, same_counted,
 };
 use linkinfo::{
-    CanonError, CanonIntoError, DecodeError, FaultIn, InfoData, InfoKind, InfoPortData,
-    InfoPortKind, LinkInfo, LinkInfoWalk, VecLinkInfo, canon, canon_into, check, check_placed,
-    same, same_placed,
+    CanonError, CanonIntoError, DecodeError, ErrorIn, InfoData, InfoKind, InfoPortData,
+    InfoPortKind, LinkInfo, LinkInfoWalk, VecLinkInfo, canon, canon_into, check, check_at, same,
+    same_at,
 };
 use std::fmt::Debug;
 
 const ROOM: usize = 16384;
 const UNTOUCHED: u8 = 0xa5;
 
-/// What was seen of a list.
+/// Whether a list is accepted, and equivalent to the second one.
 #[derive(Default)]
 pub struct Seen {
     pub is_accepted: bool,
@@ -54,8 +54,8 @@ pub fn compare(random: &mut Random, bytes: &[u8], second: &[u8]) -> Seen {
 
 /// The calls that validate.
 fn verdicts(bytes: &[u8], verdict: Result<(), DecodeError>) {
-    let placed = check_placed(bytes);
-    assert_eq!(placed.map_err(|at| at.fault), verdict);
+    let placed = check_at(bytes);
+    assert_eq!(placed.map_err(|at| at.error), verdict);
     assert!(placed.err().is_none_or(|at| at.place <= bytes.len()));
     let mut headers = HeaderCount::new();
     assert_eq!(check_counted(bytes, &mut headers), verdict);
@@ -107,15 +107,15 @@ fn parsed_alone(list: &VecLinkInfo, bytes: &[u8]) {
 /// The calls that compare: the error of the first list, else of the second, is that of `check`.
 fn comparisons(bytes: &[u8], second: &[u8]) -> Result<bool, DecodeError> {
     let compared = same(bytes, second);
-    match same_placed(bytes, second) {
+    match same_at(bytes, second) {
         Ok(is_same) => {
             assert_eq!((check(bytes), check(second)), (Ok(()), Ok(())));
             assert_eq!(compared, Ok(is_same));
         }
-        Err(FaultIn::First(error)) => {
+        Err(ErrorIn::First(error)) => {
             assert_eq!((check(bytes), compared), (Err(error), Err(error)));
         }
-        Err(FaultIn::Second(error)) => {
+        Err(ErrorIn::Second(error)) => {
             assert_eq!((check(bytes), check(second)), (Ok(()), Err(error)));
             assert_eq!(compared, Err(error));
         }
@@ -156,8 +156,8 @@ fn encodings(random: &mut Random, bytes: &[u8]) -> Option<Vec<u8>> {
     encoding.ok()
 }
 
-/// Each value of a list is written as it is in the encoding, by every call of `Nla`: into a buffer
-/// of its length, and into a longer one, whose rest stays as it was.
+/// Every call of `Nla` writes each value of a list as in the encoding: into a buffer of its length,
+/// and into a longer one, of which the rest is unchanged.
 fn written_each<T: Nla + PartialEq + Clone + Debug>(items: &[T], encoding: &[u8]) {
     let mut at = 0;
     for item in items {
@@ -185,7 +185,8 @@ fn written_each<T: Nla + PartialEq + Clone + Debug>(items: &[T], encoding: &[u8]
     assert_eq!(nlas_buffer_len(items), at);
 }
 
-/// The same of a list, and of the lists in its data.
+/// Every call of `Nla` writes the values of a list, and of the lists in its data, as in the
+/// encoding.
 fn written_inside(list: &VecLinkInfo, encoding: &[u8]) {
     written_each(list.as_slice(), encoding);
     let mut at = 0;

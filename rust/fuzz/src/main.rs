@@ -1,6 +1,6 @@
-//! `linkinfo_fuzz SECONDS SEED FILE..`: mutated lists of the files, each given to every call of the
-//! crate, whose results must agree; with the feature `archive` with those of the C library too.
-//! `run` says more.
+//! `linkinfo_fuzz SECONDS SEED FILE..`: mutates the lists of the files, and gives each to every
+//! call of the crate. The results must agree with one another and, with the feature `archive`, with
+//! those of the C library. The script `rust/fuzz/run` builds and runs it.
 
 #[cfg(feature = "archive")]
 mod archive;
@@ -26,7 +26,7 @@ struct Totals {
     equivalent: u64,
 }
 
-/// Tries lists until the time is over; the two lists of the first difference.
+/// Tries lists until the time is over, and returns the two lists of the first difference.
 fn run(time: Duration, seed: u64, seeds: &[Vec<u8>]) -> (Totals, Option<[Vec<u8>; 2]>) {
     let start = Instant::now();
     let mut random = Random::new(seed);

@@ -24,7 +24,7 @@ impl Random {
         self.number() as u8
     }
 
-    /// True once in so many times.
+    /// True with the probability one divided by this number.
     pub fn once_in(&mut self, times: usize) -> bool {
         self.below(times) == 0
     }

@@ -85,7 +85,7 @@ pub fn to_hex(bytes: &[u8]) -> String {
     bytes.iter().map(|byte| format!("{byte:02x}")).collect()
 }
 
-fn put_attribute(list: &mut Vec<u8>, raw_kind: u16, payload: &[u8]) {
+fn write_attribute(list: &mut Vec<u8>, raw_kind: u16, payload: &[u8]) {
     list.extend_from_slice(&(4 + payload.len() as u16).to_le_bytes());
     list.extend_from_slice(&raw_kind.to_le_bytes());
     list.extend_from_slice(payload);
@@ -96,7 +96,7 @@ fn put_attribute(list: &mut Vec<u8>, raw_kind: u16, payload: &[u8]) {
 fn payload(random: &mut Random) -> Vec<u8> {
     if random.once_in(20) {
         let mut inner = Vec::new();
-        put_attribute(&mut inner, 4, &[1, 2, 3, 4, 5, 6]);
+        write_attribute(&mut inner, 4, &[1, 2, 3, 4, 5, 6]);
         return inner;
     }
     let length = *random.one(&[0, 1, 2, 4, 4, 4, 6, 8, 8, 16, 3, 5, 12]);
@@ -125,10 +125,10 @@ fn made(random: &mut Random) -> Vec<u8> {
         let flag = if random.once_in(12) { 0x8000 } else { 0 };
         let raw_kind = random.below(40) as u16 | flag;
         let payload = payload(random);
-        put_attribute(&mut data, raw_kind, &payload);
+        write_attribute(&mut data, raw_kind, &payload);
     }
     let mut list = Vec::new();
-    put_attribute(
+    write_attribute(
         &mut list,
         if is_port {
             IFLA_INFO_SLAVE_KIND
@@ -137,7 +137,7 @@ fn made(random: &mut Random) -> Vec<u8> {
         },
         &name,
     );
-    put_attribute(
+    write_attribute(
         &mut list,
         if is_port {
             IFLA_INFO_SLAVE_DATA
@@ -149,7 +149,7 @@ fn made(random: &mut Random) -> Vec<u8> {
     list
 }
 
-/// The offsets of what looks like headers, of the list and inside payloads.
+/// The offsets of possible headers, of the list and inside payloads.
 fn headers(bytes: &[u8], start: usize, end: usize, depth: usize, found: &mut Vec<usize>) {
     let mut at = start;
     while at + 4 <= end && found.len() < 400 {
@@ -165,10 +165,10 @@ fn headers(bytes: &[u8], start: usize, end: usize, depth: usize, found: &mut Vec
     }
 }
 
-/// Wraps a part of the list in headers of itself, up to more lists than are read in one another.
+/// Replaces the list by one with nested lists in its data, up to more levels than are accepted.
 fn nest(random: &mut Random, bytes: &mut Vec<u8>) {
     let mut list = Vec::new();
-    put_attribute(
+    write_attribute(
         &mut list,
         IFLA_INFO_KIND,
         *random.one(&[b"macvlan", b"macvtap"]),
@@ -176,10 +176,10 @@ fn nest(random: &mut Random, bytes: &mut Vec<u8>) {
     let mut data = payload(random);
     for _ in 0..*random.one(&[1, 2, 3, 126, 127, 128, 129, 130]) {
         let mut outer = Vec::new();
-        put_attribute(&mut outer, *random.one(&[5, 5, 5, 5, 5, 4, 7]), &data);
+        write_attribute(&mut outer, *random.one(&[5, 5, 5, 5, 5, 4, 7]), &data);
         data = outer;
     }
-    put_attribute(&mut list, IFLA_INFO_DATA, &data);
+    write_attribute(&mut list, IFLA_INFO_DATA, &data);
     *bytes = list;
 }
 
@@ -213,7 +213,7 @@ fn mutate(random: &mut Random, bytes: &mut Vec<u8>, seeds: &[Vec<u8>]) {
     bytes.truncate(LONGEST);
 }
 
-/// A list to try: one of the seeds or a made one, mutated up to three times.
+/// A list to try: a seed or a made one, mutated up to three times.
 pub fn any(random: &mut Random, seeds: &[Vec<u8>]) -> Vec<u8> {
     let mut bytes = if random.once_in(3) {
         made(random)

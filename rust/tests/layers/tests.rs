@@ -1,5 +1,5 @@
-//! Tests over worked strings, values and payloads: what the format says of values, lengths, texts,
-//! numbers and rows.
+//! Tests over worked byte strings, values and payloads: what the format specifies of values,
+//! lengths, texts, numbers and rows.
 
 mod assertions;
 mod data;

@@ -1,8 +1,9 @@
-//! A peer of one's own, by `linkinfo` alone.
+//! A custom peer that needs `linkinfo` alone.
 
 use linkinfo::layers::link::{ExactEq, LinkPeer, PeerFault};
 
-/// A peer that is not looked at: every payload means it, and it is written as none.
+/// A peer without contents: every payload is accepted and parses as it, and it is written as an
+/// empty payload.
 #[derive(Clone, Copy, Debug, PartialEq, Eq)]
 pub struct AnyPeer;
 
@@ -29,7 +30,7 @@ impl LinkPeer for AnyPeer {
         Some(0)
     }
 
-    fn put_canonical(_payload: &[u8], _buffer: &mut [u8]) -> usize {
+    fn write_canonical(_payload: &[u8], _buffer: &mut [u8]) -> usize {
         0
     }
 }

@@ -1,5 +1,5 @@
-//! Tests over worked strings, over what a Linux kernel answered, of lines that are read and
-//! answered, and of refused memory.
+//! Tests with worked examples, with replies of a Linux kernel, of the lines of the program, and of
+//! failed allocations.
 
 mod assertions;
 mod attributes;
@@ -8,12 +8,13 @@ mod canonical;
 mod comparing;
 mod counts;
 mod dumps;
+mod errors;
 mod families;
-mod faults;
 mod fronts;
 mod kinds;
 mod laws;
 mod lines;
+mod links_difference;
 mod links_unmet;
 mod lists;
 mod longest;
@@ -25,8 +26,10 @@ mod pfcp;
 mod placed;
 mod readme;
 mod refused_memory;
+mod removed;
 mod streams;
 mod unmet;
+mod unmet_laws;
 mod values;
 mod walks;
 mod worked;

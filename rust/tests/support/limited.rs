@@ -1,15 +1,16 @@
-//! An allocator under which each thread may hold one GiB: a test that takes all the memory there is
-//! takes it from its own thread alone.
+//! An allocator with a limit of one GiB for each thread: a test that exhausts the memory exhausts
+//! that of its thread alone.
 
 use std::alloc::{GlobalAlloc, Layout, System};
 use std::cell::Cell;
 use std::ptr::null_mut;
 
-/// The most bytes that one thread holds.
+/// The maximum of bytes for one thread.
 const LIMIT: isize = 1 << 30;
 
 thread_local! {
-    /// What the thread has allocated less what it has freed, which another may have allocated.
+    /// The bytes that the thread has allocated, minus those that it has freed, which another thread
+    /// may have allocated.
     static HELD: Cell<isize> = const { Cell::new(0) };
 }
 

@@ -1,6 +1,5 @@
-//! What the tests call that Rust's library has not: calls that report an allocation failure, and
-//! the error of a test. In Rust none of these calls fails; the names are those of the sources'
-//! calls.
+//! Calls of the tests that Rust's library does not have: those that report an allocation failure,
+//! and the error of a test. In Rust none of these calls fails; the names are those of the sources.
 
 mod limited;
 

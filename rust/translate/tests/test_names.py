@@ -27,8 +27,8 @@ class Paths(RuleTest):
         self.assertEqual(self.written_in("linkinfo_table", text), words(wanted))
 
     def test_macros(self):
-        text = "$crate::Found::Typed; $crate::put_row!(a)"
-        wanted = "$crate::layers::table::Found::Typed; $crate::put_row!(a)"
+        text = "$crate::Decoded::Typed; $crate::store_row!(a)"
+        wanted = "$crate::layers::table::Decoded::Typed; $crate::store_row!(a)"
         self.assertEqual(self.written_in("linkinfo_table", text), words(wanted))
 
     def test_std(self):

@@ -1,7 +1,7 @@
 """Deletes the allocator and, in tests and programs, the runtime.
 
-`Global` is a value without a size that stands for the one allocator of the process, so no call
-depends on which `Global` it is given. `HostRuntime` and `impl Abort` are the same for the process.
+`Global` is a value without a size that represents the one allocator of the process, so no call
+depends on which `Global` it gets. So do `HostRuntime` and `impl Abort` represent the process.
 """
 
 from .source import CLOSING

@@ -1,7 +1,7 @@
-"""Derives `Clone` where the source writes a fallible one by hand, and deletes derives of `Drop`.
+"""Derives `Clone` where the source has an explicit fallible one, and deletes derives of `Drop`.
 
-`Clone::clone` of Rust returns the value itself, so a hand-written clone that reports an allocation
-failure has no place in it. The derived one clones each field, and aborts where memory runs out.
+`Clone::clone` of Rust returns the value itself, so it cannot replace an explicit clone that reports
+an allocation failure. The derived one clones each field, and aborts where memory runs out.
 """
 
 from .items import begins_item, impl_head
@@ -9,7 +9,7 @@ from .source import Unknown
 
 
 def delete_clone_impls(source):
-    """The hand-written impls go; returns the types that now derive `Clone`."""
+    """Deletes the explicit impls; returns the types that now derive `Clone`."""
     types = set()
     for index in range(len(source.kept)):
         if source.is_word(index, "impl") and begins_item(source, index):

@@ -60,7 +60,7 @@ def delete_entry(source, start, end, index):
 
 
 def called_methods(source):
-    """The names behind a `.` or a `::`: what a trait may have been imported for."""
+    """The names after a `.` or a `::`: those for which a trait may have been imported."""
     return {
         source.at(k)
         for k in source.words()

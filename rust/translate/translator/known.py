@@ -1,8 +1,9 @@
-"""Rejects what no rule knows: after the rules, every word left must mean the same in Rust.
+"""Rejects what no rule knows: after the rules, every word left must have the same meaning in Rust.
 
-The names that are left are those which the translated crates define, those of the modules by hand,
-and those of `vocabulary.txt`: names of Rust's library that Rattle's library has with the same
-meaning. A new name of the library is an error until somebody has compared the two.
+The names that are left are those which the translated crates define, those of the modules that are
+not generated, and those of `vocabulary.txt`. The last ones are names of Rust's library that
+Rattle's library has with the same meaning. A new name of the library is an error until somebody has
+compared the two.
 """
 
 import pathlib
@@ -55,7 +56,7 @@ def defined(source):
 
 
 def called_names(source):
-    """The indices of methods that are called, of macros, and of names behind `::`."""
+    """The indices of methods that are called, of macros, and of names after `::`."""
     for index in source.words():
         method = source.at(index - 1) == "." and (
             source.at(index + 1) == "(" or source.is_path(index + 1)

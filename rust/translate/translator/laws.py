@@ -1,7 +1,7 @@
 """Which functions are laws: those that do nothing, and are there for their contracts alone.
 
-A law is a function outside `impl` and `trait`, without a result and without a `&mut` parameter,
-whose body is empty or has only calls of laws, or of a getter of a shared reference that it was
+A law is a function outside `impl` and `trait`, without a result and without a `&mut` parameter.
+Its body is empty, or has only calls of laws, or of a getter of a shared reference that it was
 given. So a call of it changes nothing, and what it computes is dropped. The arguments of a call
 only name values, which is checked.
 """

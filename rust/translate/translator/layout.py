@@ -85,7 +85,7 @@ def layers_text(libraries):
 
 
 def library_files(libraries):
-    """The generated part of `src`."""
+    """The generated files of `src`."""
     files = {"src/layers.rs": layers_text(libraries)}
     for crate in libraries:
         folder = f"src/layers/{module_of(crate.name)}"

@@ -19,8 +19,8 @@ HOMES = {
 class Place:
     """Where a crate's text goes: `own` is written for `crate`, `crates` maps the others' names.
 
-    `compat` is the module by hand that stands for `std::alloc`; `support`, of tests, the one that
-    stands for `std::test`. `hosted` says that Rust's `std` is there for everything else.
+    `compat` is the module that replaces `std::alloc`; `support`, of tests, the one that replaces
+    `std::test`. With `hosted`, everything else is Rust's `std`.
     """
 
     def __init__(self, own, crates, compat, hosted=False, support=None):

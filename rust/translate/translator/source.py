@@ -103,7 +103,7 @@ class Source:
         self.deleted[kind] += 1
 
     def comments_before(self, index):
-        """The index of the first of the comments on lines of their own right before the token."""
+        """The index of the first comment right before the token; each is alone on its line."""
         at = index
         while at > 1 and "\n" in self.tokens[at - 1].text and self.tokens[at - 1].kind == "space":
             if self.tokens[at - 1].text.count("\n") > 1 or self.tokens[at - 2].kind != "comment":

@@ -29,7 +29,7 @@ def delete_laws(crate, file, laws):
 
 
 def is_empty(source):
-    """Whether a file has nothing but docs and imports of its own."""
+    """Whether a file has nothing but docs and private imports."""
     covered = {k for start, end in imports.use_items(source) for k in range(start, end + 1)}
     rest = [k for k in range(len(source.kept)) if k not in covered]
     return all(source.kind(k) == "doc" for k in rest)

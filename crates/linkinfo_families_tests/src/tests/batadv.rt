@@ -1,4 +1,4 @@
-//! Rows of B.A.T.M.A.N. links.
+//! Rows of `batadv` links.
 
 use super::rows::{
     UNLISTED, are_same, assert_is, has_shapes, is_list, is_parsed, is_read, is_refused, is_row,
@@ -10,22 +10,22 @@ use nla_frame::{Cause, Text, is_equal};
 use std::alloc::Global;
 use std::process::Abort;
 
-/// The name of the fourth version of the algorithm.
+/// The name of version IV of the algorithm.
 const BATMAN_IV: [u8; 16] = [
     14, 0, 1, 0, b'B', b'A', b'T', b'M', b'A', b'N', b'_', b'I', b'V', 0, 0, 0,
 ];
 
-/// The same with a second zero byte.
+/// `BATMAN_IV` with a second zero byte.
 const TWO_ZEROS: [u8; 16] = [
     15, 0, 1, 0, b'B', b'A', b'T', b'M', b'A', b'N', b'_', b'I', b'V', 0, 0, 0,
 ];
 
-/// The same without a closing zero byte.
+/// `BATMAN_IV` without a closing zero byte.
 const NO_ZERO: [u8; 16] = [
     13, 0, 1, 0, b'B', b'A', b'T', b'M', b'A', b'N', b'_', b'I', b'V', 0, 0, 0,
 ];
 
-/// The attribute is read as the name, and is its canonical one or is rewritten as that.
+/// Asserts that the attribute is read as the name, and is rewritten as the canonical one.
 fn has_name(rt: &impl Abort, alloc: Global, bytes: &[u8], name: &str, canonical: &[u8]) {
     let value = InfoBatAdv::AlgoName(Text::copy_of(alloc, name).expect(rt, "memory"));
     is_parsed(rt, alloc, bytes, &value);
@@ -45,7 +45,7 @@ fn rows_of_batadv(rt: HostRuntime) {
     let alloc = rt.alloc();
     has_shapes::<InfoBatAdv>(&rt, (), &[(1, Shape::Name)]);
     has_name(&rt, alloc, &BATMAN_IV, "BATMAN_IV", &BATMAN_IV);
-    // One closing zero byte is taken off, and no more; without one the name is the same.
+    // One closing zero byte is stripped, and no more; without one the name is equal.
     has_name(&rt, alloc, &TWO_ZEROS, "BATMAN_IV\0", &TWO_ZEROS);
     has_name(&rt, alloc, &NO_ZERO, "BATMAN_IV", &BATMAN_IV);
     has_name(&rt, alloc, &[4, 0, 1, 0], "", &[5, 0, 1, 0, 0, 0, 0, 0]);

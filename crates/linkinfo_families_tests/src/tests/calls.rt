@@ -1,4 +1,5 @@
-//! The calls that a family by rows is made of, each at xfrm: reading, checking, comparing and writing by the row of a type, and the places of values.
+//! The calls that a family defined by rows is made of, each with the family `xfrm`: reading,
+//! checking, comparing and writing by the row of a type, and the slots for values.
 
 ghost use Rattle.std.specs.Prelude.{IsOk};
 ghost use Rattle.linkinfo_table.specs.FamilyRows.{row_of};
@@ -7,27 +8,27 @@ ghost use Rattle.linkinfo_table.specs.Rows.{meaning_in};
 use super::rows::{assert_is, attribute, error, kept};
 use linkinfo_devices::InfoXfrm;
 use linkinfo_table::{
-    Datum, FlatFamily, Found, Lookup, Part, Place, RowFamily, Shape, UnnestedFamily, row_check,
-    row_emit_payload, row_emit_value, row_fit_len, row_kind, row_put, row_read, row_same,
-    row_value_len, table_lookup,
+    Datum, Decoded, Encodable, FlatFamily, Lookup, RowFamily, Shape, Slot, UnnestedFamily,
+    row_check, row_emit_payload, row_emit_value, row_fit_len, row_kind, row_read, row_same,
+    row_store, row_value_len, table_lookup,
 };
 use nla_frame::{Cause, ExactEq, Family, NlaBuffer, is_equal};
 use std::alloc::Global;
 use std::process::Abort;
 
-/// The interface 0x01020304.
+/// The interface index 0x01020304.
 const LINK: [u8; 8] = [8, 0, 1, 0, 4, 3, 2, 1];
 
-/// The same with a flag bit in its type.
+/// `LINK` with a flag bit in its type.
 const MARKED: [u8; 8] = [8, 0, 1, 0x80, 4, 3, 2, 1];
 
-/// Another interface.
+/// Another interface index.
 const OTHER_LINK: [u8; 8] = [8, 0, 1, 0, 5, 3, 2, 1];
 
-/// An interface of one byte.
+/// An interface index of one byte.
 const SHORT: [u8; 5] = [5, 0, 1, 0, 4];
 
-/// What was read, alone and behind a list, is the value.
+/// Whether the value read alone, and the one pushed to a list, are equal to the value.
 fn are_equal<F: ExactEq>(alone: &F, list: &[F], value: &F) -> [bool; 2] {
     let last = match list {
         [only] => is_equal(only, value),
@@ -36,7 +37,7 @@ fn are_equal<F: ExactEq>(alone: &F, list: &[F], value: &F) -> [bool; 2] {
     [is_equal(alone, value), last]
 }
 
-/// The attribute is read as the value by its row, alone and behind a list.
+/// Asserts that the attribute is read as the value by its row, alone and into a list.
 fn is_read_by_row<F: FlatFamily + ExactEq>(
     rt: &impl Abort,
     alloc: Global,
@@ -46,10 +47,10 @@ fn is_read_by_row<F: FlatFamily + ExactEq>(
 ) {
     let read = row_read::<F>(alloc, nla, ctx).expect(rt, "a value");
     let mut list = Vec::new(alloc);
-    row_put::<F, Vec<F>>(&mut list, alloc, nla, ctx).expect(rt, "a value");
+    row_store::<F, Vec<F>>(&mut list, alloc, nla, ctx).expect(rt, "a value");
     assert_is(
         rt,
-        "row_read, row_put",
+        "row_read, row_store",
         are_equal(&read, &list, value),
         [true; 2],
     );
@@ -74,7 +75,7 @@ fn reads_by_rows(rt: HostRuntime) {
     let nla = [5, 0, 3, 0x80, 7];
     is_read_by_row(&rt, alloc, &attribute(&rt, &nla), (), &other);
     let short = attribute(&rt, &SHORT);
-    let fault = Some(error(Family::Xfrm, 1, Cause::Length));
+    let expected = Some(error(Family::Xfrm, 1, Cause::Length));
     assert_is(
         &rt,
         "a short number",
@@ -83,7 +84,7 @@ fn reads_by_rows(rt: HostRuntime) {
             row_check::<InfoXfrm>(&short, ()).err(),
             InfoXfrm::check_by_row(&short, ()).err(),
         ],
-        [fault; 3],
+        [expected; 3],
     );
 }
 
@@ -101,7 +102,7 @@ fn accepted<'a, F: FlatFamily>(
     nla
 }
 
-/// Whether two accepted attributes mean the same by their row.
+/// Whether two accepted attributes are equivalent by their row.
 fn same_by_row<F: FlatFamily>(
     rt: &impl Abort,
     ctx: <F as RowFamily>::Context,
@@ -125,7 +126,7 @@ fn compares_by_rows(rt: HostRuntime) {
     }
 }
 
-/// The value is written with this type and this payload by its row.
+/// Asserts that the value is written with this type and this payload by its row.
 fn is_written_by_row<F: FlatFamily>(rt: &impl Abort, value: &F, kind: u16, payload: [u8; 4]) {
     assert!(rt; row_fit_len(value) == Some(4));
     assert_is(
@@ -154,7 +155,7 @@ fn writes_by_rows(rt: HostRuntime) {
 }
 
 #[test]
-fn tables_say_shapes(rt: HostRuntime) {
+fn tables_give_shapes(rt: HostRuntime) {
     for (family, kind, answer) in [
         (Family::Xfrm, 1, Lookup::Is(Shape::Le32)),
         (Family::Xfrm, 3, Lookup::Unknown),
@@ -168,12 +169,12 @@ fn tables_say_shapes(rt: HostRuntime) {
 
 #[test]
 #[tactic(auto, unfolding(linkinfo_shapes::specs::Data::Suits))]
-fn values_are_put_in_places(rt: HostRuntime) {
+fn values_are_stored_in_slots(rt: HostRuntime) {
     let alloc = rt.alloc();
     let mut list = vec![in alloc; 1u8].expect(&rt, "memory");
-    list.put(2).expect(&rt, "memory");
+    list.store(2).expect(&rt, "memory");
     let mut alone = Some(1u8);
-    alone.put(2).expect(&rt, "no memory");
+    alone.store(2).expect(&rt, "no memory");
     assert_is(
         &rt,
         "a list, an option",
@@ -181,15 +182,15 @@ fn values_are_put_in_places(rt: HostRuntime) {
         ([1, 2].as_slice(), Some(2)),
     );
 
-    let mut place = None;
-    let found = Found::Typed(2, Datum::Number(7));
-    <InfoXfrm as RowFamily>::put_found(&mut place, alloc, (), found).expect(&rt, "no memory");
-    let value = place.expect(&rt, "a value");
+    let mut slot = None;
+    let decoded = Decoded::Typed(2, Datum::Number(7));
+    <InfoXfrm as RowFamily>::store_decoded(&mut slot, alloc, (), decoded).expect(&rt, "no memory");
+    let value = slot.expect(&rt, "a value");
     assert!(rt; is_equal(&value, &InfoXfrm::IfId(7)));
     assert_is(
         &rt,
-        "to_part",
-        <InfoXfrm as RowFamily>::to_part(&value),
-        Part::Typed(2, Shape::Le32, Datum::Number(7)),
+        "to_encodable",
+        <InfoXfrm as RowFamily>::to_encodable(&value),
+        Encodable::Typed(2, Shape::Le32, Datum::Number(7)),
     );
 }

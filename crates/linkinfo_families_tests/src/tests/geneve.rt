@@ -22,7 +22,7 @@ const ROWS: [(&[u8], InfoGeneve); 10] = [
     (&[5, 0, 13, 0, 1, 0, 0, 0], InfoGeneve::Df(GeneveDf::Set)),
 ];
 
-/// Canonical attributes of 10.0.0.1 and fe80::2, remote and local.
+/// Canonical attributes of 10.0.0.1 and fe80::2: remote and local address.
 const ADDRESSES: &[&[u8]] = &[
     &[8, 0, 2, 0, 10, 0, 0, 1],
     &[

@@ -53,7 +53,7 @@ const ROWS: [(&[u8], InfoGre6); 18] = [
 /// Canonical attributes of presence flags, and what they mean.
 const MARKS: [(&[u8], InfoGre6); 1] = [(&[4, 0, 18, 0], InfoGre6::CollectMetadata)];
 
-/// Canonical attributes of fe80::2, local and remote.
+/// Canonical attributes of fe80::2: local and remote address.
 const ADDRESSES: &[&[u8]] = &[
     &[
         20, 0, 6, 0, 0xfe, 0x80, 0, 0, 0, 0, 0, 0, 0, 0, 0, 0, 0, 0, 0, 2,
@@ -71,7 +71,7 @@ fn rows_of_gre6(rt: HostRuntime) {
     let v6 = Ipv6Addr::new(0xfe80, 0, 0, 0, 0, 0, 0, 2);
     let addresses = [InfoGre6::Local(v6), InfoGre6::Remote(v6)];
     has_rows_of(&rt, alloc, ADDRESSES, addresses);
-    // Path MTU discovery has no row over IPv6.
+    // Path MTU Discovery has no row over IPv6.
     let discovery = [5, 0, 10, 0, 1, 0, 0, 0];
     parses(
         &rt,

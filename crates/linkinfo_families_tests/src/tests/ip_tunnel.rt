@@ -22,13 +22,14 @@ fn parsed(
     InfoIpTunnel::parse_with_param(alloc, &attribute(rt, bytes), kind)
 }
 
-/// The attribute is read as the value inside a link of this kind.
+/// Asserts that the attribute is read as the value in a link of this kind.
 fn is_parsed(rt: &impl Abort, alloc: Global, kind: &InfoKind, bytes: &[u8], value: &InfoIpTunnel) {
     let read = parsed(rt, alloc, bytes, kind).expect(rt, "a value");
     assert_eq!(rt; (bytes, read == *value), (bytes, true));
 }
 
-/// The attribute is the canonical one of the value, whatever the kind, and takes payloads of its length alone.
+/// Asserts that the attribute is the canonical one of the value under every kind, and that payloads
+/// of other lengths are rejected.
 fn has_row(rt: &impl Abort, alloc: Global, bytes: &[u8], value: &InfoIpTunnel) {
     is_parsed(rt, alloc, &InfoKind::Ip6Tnl, bytes, value);
     is_row(rt, alloc, KindTag::IpIp, bytes, value);
@@ -90,7 +91,7 @@ const ADDRESSES: &[&[u8]] = &[
     &[8, 0, 12, 0, 10, 0, 0, 1],
 ];
 
-/// Each attribute is the row's of the value at its place.
+/// Asserts that each attribute is the canonical one of the value with the same index.
 fn has_rows_of<const N: usize>(
     rt: &impl Abort,
     alloc: Global,
@@ -122,12 +123,12 @@ fn rows_of_ip_tunnel(rt: HostRuntime) {
     has_rows_of(&rt, alloc, ADDRESSES, addresses);
 }
 
-/// The value is a presence flag.
+/// Asserts that the value is a presence flag.
 fn has_mark(rt: &impl Abort, alloc: Global, value: InfoIpTunnel) {
     is_mark(rt, alloc, KindTag::SitTun, &[4, 0, 19, 0], &value);
 }
 
-/// `UNLISTED` is parsed and kept as the value.
+/// Asserts that `UNLISTED` is parsed as the value, an opaque attribute.
 fn keeps_unlisted(rt: &impl Abort, alloc: Global, value: InfoIpTunnel) {
     is_parsed(rt, alloc, &InfoKind::SitTun, &UNLISTED, &value);
     is_kept(rt, alloc, KindTag::Ip6Tnl, &value);
@@ -146,7 +147,8 @@ const TWO: [u8; 8] = [6, 0, 8, 0, 0, 16, 0, 0];
 /// Flags of four bytes.
 const FOUR: [u8; 8] = [8, 0, 8, 0, 1, 0, 1, 0];
 
-/// Inside a link of this kind the flags are the value, and take payloads of its length alone.
+/// Asserts that the flags are the value in a link of this kind, and that payloads of other lengths
+/// are rejected.
 fn has_flags(rt: &impl Abort, alloc: Global, kind: InfoKind, bytes: &[u8], value: InfoIpTunnel) {
     is_parsed(rt, alloc, &kind, bytes, &value);
     is_row(rt, alloc, kind.tag(), bytes, &value);
@@ -164,15 +166,15 @@ fn flags_by_kind(rt: HostRuntime) {
     has_flags(&rt, alloc, InfoKind::Ip6Tnl, &FOUR, v6);
 }
 
-/// Inside a link of this kind the flags are refused.
+/// Asserts that the flags are rejected in a link of this kind.
 fn refuses_flags(rt: &impl Abort, alloc: Global, kind: InfoKind, bytes: &[u8], cause: Cause) {
-    let fault = error(Family::IpTunnel, 8, cause);
-    assert_eq!(rt; parsed(rt, alloc, bytes, &kind).err(), Some(fault));
+    let expected = error(Family::IpTunnel, 8, cause);
+    assert_eq!(rt; parsed(rt, alloc, bytes, &kind).err(), Some(expected));
     is_refused::<InfoIpTunnel>(rt, alloc, kind.tag(), bytes, cause);
 }
 
 #[test]
-fn flags_refused_by_kind(rt: HostRuntime) {
+fn flags_rejected_by_kind(rt: HostRuntime) {
     let alloc = rt.alloc();
     refuses_flags(&rt, alloc, InfoKind::IpIp, &FOUR, Cause::Length);
     refuses_flags(&rt, alloc, InfoKind::SitTun, &FOUR, Cause::Length);
@@ -181,7 +183,7 @@ fn flags_refused_by_kind(rt: HostRuntime) {
     refuses_flags(&rt, alloc, InfoKind::Vti6, &FOUR, Cause::Kind);
 }
 
-/// The attribute is read as the value inside a link of this kind.
+/// Asserts that the attribute is parsed as the value in a link of this kind.
 fn parses(rt: &impl Abort, alloc: Global, kind: InfoKind, bytes: &[u8], value: InfoIpTunnel) {
     is_parsed(rt, alloc, &kind, bytes, &value);
 }

@@ -1,4 +1,4 @@
-//! Rows of MACsec links.
+//! Rows of `macsec` links.
 
 use super::rows::{UNLISTED, has_rows, is_list, keeps_unlisted, parses, unlisted};
 use linkinfo_devices::InfoMacSec;

@@ -1,4 +1,4 @@
-//! Rows of macvlan and macvtap links.
+//! Rows of `macvlan` and `macvtap` links.
 
 use super::rows::{UNLISTED, has_one_length, is_parsed, is_row, keeps_unlisted, unlisted};
 use bitflags::Flags;
@@ -9,7 +9,8 @@ use nla_frame::{ExactEq, NlaBuffer, Parseable};
 use std::alloc::Global;
 use std::process::Abort;
 
-/// The attribute is the canonical one of the value, inside no list, the most and more, and takes payloads of its length alone.
+/// Asserts that the attribute is the canonical one of the value at depth 0, at the maximum depth
+/// and below it, and that payloads of other lengths are rejected.
 fn is_row_everywhere<'a, F>(rt: &impl Abort, alloc: Global, bytes: &'a [u8], value: &F)
 where
     F: LinkFamily<Context = u8> + Parseable<NlaBuffer<'a>> + ExactEq,
@@ -21,7 +22,7 @@ where
     }
 }
 
-/// Each attribute is the canonical one of its value, inside any number of lists.
+/// Asserts that each attribute is the canonical one of its value, at any depth.
 fn has_rows_everywhere<'a, F>(rt: &impl Abort, alloc: Global, rows: &[(&'a [u8], F)])
 where
     F: LinkFamily<Context = u8> + Parseable<NlaBuffer<'a>> + ExactEq,
@@ -31,10 +32,10 @@ where
     }
 }
 
-/// The canonical attribute of every flag.
+/// The canonical attribute of all flags.
 const EVERY_FLAG: &[u8] = &[6, 0, 2, 0, 3, 0x80, 0, 0];
 
-/// The attribute is the canonical one of the value, inside any number of lists.
+/// Asserts that the attribute is the canonical one of the value, at any depth.
 fn has_row_everywhere<'a, F>(rt: &impl Abort, alloc: Global, bytes: &'a [u8], value: F)
 where
     F: LinkFamily<Context = u8> + Parseable<NlaBuffer<'a>> + ExactEq,

@@ -1,4 +1,4 @@
-//! Rows of netkit links.
+//! Rows of `netkit` links.
 
 use super::rows::{
     UNLISTED, error, has_row_of, has_shapes, is_list, is_not_parsed, is_parsed, is_read,
@@ -23,7 +23,8 @@ const ROWS: [(u16, Shape); 9] = [
     (9, Shape::Le16),
 ];
 
-/// Each row beside the peer's, and what is kept of a type without one, whatever the peer is.
+/// Asserts each row except the peer's, and an opaque attribute of a type without a row, for any
+/// type of peer.
 fn has_rows_beside_peer<P: LinkPeer + Clone>(rt: &impl Abort, alloc: Global) {
     has_shapes::<InfoNetkitOf<P>>(rt, (), &ROWS);
     let value = InfoNetkitOf::<P>::Primary(true);
@@ -47,7 +48,7 @@ fn has_rows_beside_peer<P: LinkPeer + Clone>(rt: &impl Abort, alloc: Global) {
     keeps_unlisted(rt, alloc, (), &UNLISTED, kept);
 }
 
-/// Scrubbing, of the link and of its peer.
+/// Asserts the scrubbing, of the link and of its peer.
 fn has_scrubs<P: LinkPeer>(rt: &impl Abort, alloc: Global) {
     let value = InfoNetkitOf::<P>::Scrub(NetkitScrub::Default);
     has_row_of(rt, alloc, &[8, 0, 6, 0, 1, 0, 0, 0], value);
@@ -65,11 +66,11 @@ fn rows_of_netkit(rt: HostRuntime) {
 }
 
 #[test]
-fn rows_of_netkit_beside_bits(rt: HostRuntime) {
+fn rows_of_netkit_with_peers_of_bits(rt: HostRuntime) {
     has_rows_beside_peer::<BitPeer>(&rt, rt.alloc());
 }
 
-/// The attribute is parsed and read as the value.
+/// Asserts that the attribute is parsed and read as the value.
 fn is_parsed_and_read(rt: &impl Abort, alloc: Global, bytes: &[u8], value: InfoNetkit) {
     is_parsed(rt, alloc, bytes, &value);
     is_read(rt, alloc, (), bytes, &value);
@@ -93,6 +94,6 @@ fn worked_netkit(rt: HostRuntime) {
     is_list(&rt, alloc, (), &list, values);
     let wide = [8, 0, 8, 0, 5, 0, 0, 0];
     is_refused::<InfoNetkit>(&rt, alloc, (), &wide, Cause::Length);
-    let fault = error(Family::Netkit, 8, Cause::Length);
-    is_not_parsed::<InfoNetkit>(&rt, alloc, &wide, fault);
+    let expected = error(Family::Netkit, 8, Cause::Length);
+    is_not_parsed::<InfoNetkit>(&rt, alloc, &wide, expected);
 }

@@ -1,12 +1,12 @@
-//! What tests of families ask of attributes, values and lists.
+//! Assertions on attributes, values and lists for the tests of families.
 
 ghost use Rattle.std.specs.Prelude.{IsOk};
-ghost use Rattle.nla_frame.specs.Pieces.{pieces};
+ghost use Rattle.nla_frame.specs.NlaItems.{nla_items};
 ghost use Rattle.linkinfo_table.specs.Lists.{values};
 
 use linkinfo_table::{
-    LinkFamily, Lookup, Shape, first_canonical_len, first_check, first_put_canonical, laws,
-    list_canonical_len, list_check, list_put_canonical, list_read, list_same,
+    LinkFamily, Lookup, Shape, first_canonical_len, first_check, first_write_canonical, laws,
+    list_canonical_len, list_check, list_read, list_same, list_write_canonical,
 };
 use nla_frame::{
     Cause, DecodeError, DefaultNla, ExactEq, Family, HeaderCount, Nla, NlaBuffer, Parseable,
@@ -16,8 +16,8 @@ use std::alloc::Global;
 use std::fmt::Debug;
 use std::process::Abort;
 
-/// What was found in this case is what is wanted. It is proved once, where an `assert_eq!` is
-/// proved at each place.
+/// Asserts that the actual value of this case is the expected one. It is proved once, while an
+/// `assert_eq!` is proved wherever it is used.
 pub(super) fn assert_is<T: PartialEq + Debug + Drop>(
     rt: &impl Abort,
     case: impl Debug + Drop,
@@ -27,20 +27,20 @@ pub(super) fn assert_is<T: PartialEq + Debug + Drop>(
     assert_eq!(rt; found, wanted, "case {case:?}");
 }
 
-/// An attribute of one byte and a type that no family here has, flag bits included.
+/// An attribute with one byte, of a type that no family here defines, flag bits included.
 pub(super) const UNLISTED: [u8; 8] = [5, 0, 0xff, 0x80, 1, 0, 0, 0];
 
-/// An attribute of a type and a payload, which is kept.
+/// An opaque attribute of a type and a payload.
 pub(super) fn kept(rt: &impl Abort, alloc: Global, kind: u16, payload: &[u8]) -> DefaultNla {
     DefaultNla::new(kind, payload.to_vec(alloc).expect(rt, "memory"))
 }
 
-/// What `UNLISTED` is kept as.
+/// `UNLISTED` as an opaque attribute.
 pub(super) fn unlisted(rt: &impl Abort, alloc: Global) -> DefaultNla {
     kept(rt, alloc, 0x80ff, &[1])
 }
 
-/// The attribute that the bytes begin with.
+/// The first attribute of the bytes.
 pub(super) fn attribute<'a>(rt: &impl Abort, bytes: &'a [u8]) -> NlaBuffer<'a> {
     assert!(rt; bytes.len() < 1000);
     NlaBuffer::new_checked(bytes).expect(rt, "an attribute")
@@ -54,11 +54,11 @@ pub(super) fn error(family: Family, kind: u16, cause: Cause) -> DecodeError {
     }
 }
 
-/// The family has these shapes by masked type, and no other row up to 39.
+/// Asserts that the family has these shapes by type without flag bits, and no other row up to 39.
 pub(super) fn has_shapes<F: LinkFamily>(rt: &impl Abort, ctx: F::Context, rows: &[(u16, Shape)]) {
     laws::looked_up::<F>(ctx);
     laws::errors_named::<F>();
-    laws::faults_certain::<F>();
+    laws::errors_certain::<F>();
     for kind in 0..40 {
         let mut wanted = Lookup::Unknown;
         for row in rows {
@@ -70,7 +70,7 @@ pub(super) fn has_shapes<F: LinkFamily>(rt: &impl Abort, ctx: F::Context, rows: 
     }
 }
 
-/// The fault of the attribute, if any, as it is checked, with the headers inside that were looked at for it.
+/// The error of checking the attribute, if any, and the headers examined inside it.
 fn checked<F: LinkFamily>(
     rt: &impl Abort,
     ctx: F::Context,
@@ -82,7 +82,7 @@ fn checked<F: LinkFamily>(
     (checked.err(), count.get())
 }
 
-/// The attribute is read as the value, with no header inside.
+/// Asserts that the attribute is read as the value, with no header examined inside.
 pub(super) fn is_read<F: LinkFamily + ExactEq>(
     rt: &impl Abort,
     alloc: Global,
@@ -100,7 +100,7 @@ pub(super) fn is_read<F: LinkFamily + ExactEq>(
     );
 }
 
-/// The attribute is read as the value, with no header inside.
+/// Asserts that the attribute is read as the value, with no header examined inside.
 pub(super) fn reads<F: LinkFamily + ExactEq>(
     rt: &impl Abort,
     alloc: Global,
@@ -111,8 +111,8 @@ pub(super) fn reads<F: LinkFamily + ExactEq>(
     is_read(rt, alloc, ctx, bytes, &value);
 }
 
-/// The fault of the attribute, if any, as it is read, with the headers inside that were looked at for it.
-fn read_fault<F: LinkFamily>(
+/// The error of reading the attribute, if any, and the headers examined inside it.
+fn read_error<F: LinkFamily>(
     rt: &impl Abort,
     alloc: Global,
     ctx: F::Context,
@@ -124,7 +124,8 @@ fn read_fault<F: LinkFamily>(
     (read.err(), count.get())
 }
 
-/// The attribute is refused with this cause, under the name of the family and its type, and no header inside is looked at.
+/// Asserts that the attribute is rejected with this cause, under the name of the family and its
+/// type, with no header examined inside.
 pub(super) fn is_refused<F: LinkFamily>(
     rt: &impl Abort,
     alloc: Global,
@@ -132,31 +133,32 @@ pub(super) fn is_refused<F: LinkFamily>(
     bytes: &[u8],
     cause: Cause,
 ) {
-    let fault = Some(error(F::FAMILY, attribute(rt, bytes).kind(), cause));
+    let expected = Some(error(F::FAMILY, attribute(rt, bytes).kind(), cause));
     assert_is(
         rt,
         ("refused", bytes),
         [
             checked::<F>(rt, ctx, bytes),
-            read_fault::<F>(rt, alloc, ctx, bytes),
+            read_error::<F>(rt, alloc, ctx, bytes),
         ],
-        [(fault, 0); 2],
+        [(expected, 0); 2],
     );
 }
 
-/// A buffer of 255s was overwritten by these bytes, and nothing behind them is changed.
+/// Asserts that these bytes are written to a buffer of 255s, and the bytes after them are
+/// unchanged.
 fn begins_with(rt: &impl Abort, buffer: &[u8; 27], bytes: &[u8]) {
     let len = bytes.len();
     assert!(rt; len <= 24);
     assert_is(
         rt,
-        "front, behind",
+        "front, rest",
         (&buffer[..len], &buffer[len..]),
         (bytes, &[255; 27][len..]),
     );
 }
 
-/// The value is emitted as these bytes, and nothing behind them is changed.
+/// Asserts that the value is emitted as these bytes, and the bytes after them are unchanged.
 pub(super) fn is_emitted<F: Nla>(rt: &impl Abort, value: &F, bytes: &[u8]) {
     let nla = attribute(rt, bytes);
     let payload = nla.value().len();
@@ -188,7 +190,8 @@ fn accepted<'a, F: LinkFamily>(rt: &impl Abort, ctx: F::Context, bytes: &'a [u8]
     nla
 }
 
-/// What is written for the accepted attribute, which has at most 24 bytes, and how many they are.
+/// Writes the canonical encoding of the accepted attribute, at most 24 bytes, and returns its
+/// length.
 fn rewritten<F: LinkFamily>(
     rt: &impl Abort,
     ctx: F::Context,
@@ -198,10 +201,11 @@ fn rewritten<F: LinkFamily>(
     let nla = accepted::<F>(rt, ctx, bytes);
     let len = F::canonical_len(&nla, ctx).expect(rt, "an attribute that fits");
     assert!(rt; len <= 20);
-    F::put_canonical(&nla, ctx, buffer)
+    F::write_canonical(&nla, ctx, buffer)
 }
 
-/// The accepted attribute is written as these bytes, without its value, and nothing behind them is changed.
+/// Asserts that the accepted attribute is re-encoded as these bytes, and the bytes after them are
+/// unchanged.
 pub(super) fn is_written_as<F: LinkFamily>(
     rt: &impl Abort,
     ctx: F::Context,
@@ -218,7 +222,7 @@ pub(super) fn is_written_as<F: LinkFamily>(
     begins_with(rt, &buffer, canonical);
 }
 
-/// Whether two accepted attributes are the same. Asks that they are accepted.
+/// Whether two accepted attributes are equivalent. Requires that they are accepted.
 pub(super) fn are_same<F: LinkFamily>(
     rt: &impl Abort,
     ctx: F::Context,
@@ -230,7 +234,7 @@ pub(super) fn are_same<F: LinkFamily>(
     F::same_value(&a, &b, ctx, &mut HeaderCount::new())
 }
 
-/// Each two accepted attributes are the same or not, as stands behind them.
+/// Asserts of each pair of accepted attributes whether they are equivalent.
 pub(super) fn compare<F: LinkFamily>(
     rt: &impl Abort,
     ctx: F::Context,
@@ -242,7 +246,8 @@ pub(super) fn compare<F: LinkFamily>(
     }
 }
 
-/// Whether the attribute is the same with other flag bits in its type. Asks for one that is accepted.
+/// Whether the attribute is equivalent to itself with other flag bits in its type. Requires that it
+/// is accepted.
 pub(super) fn same_with_flags<F: LinkFamily>(
     rt: &impl Abort,
     ctx: F::Context,
@@ -256,7 +261,7 @@ pub(super) fn same_with_flags<F: LinkFamily>(
     are_same::<F>(rt, ctx, bytes, &marked)
 }
 
-/// The canonical attribute of a row's datum: its flag bits do not count.
+/// Asserts that the attribute is the canonical one of a row's datum, whose flag bits do not matter.
 pub(super) fn is_row<F: LinkFamily + ExactEq>(
     rt: &impl Abort,
     alloc: Global,
@@ -270,7 +275,8 @@ pub(super) fn is_row<F: LinkFamily + ExactEq>(
     is_written_as::<F>(rt, ctx, bytes, bytes);
 }
 
-/// The attribute with a payload of one byte more, and of one byte less, is refused with the cause Length.
+/// Asserts that the attribute with one payload byte more, and with one less, is rejected with the
+/// cause Length.
 pub(super) fn has_one_length<F: LinkFamily>(
     rt: &impl Abort,
     alloc: Global,
@@ -289,7 +295,7 @@ pub(super) fn has_one_length<F: LinkFamily>(
     is_refused::<F>(rt, alloc, ctx, &attribute, Cause::Length);
 }
 
-/// A presence flag: its canonical attribute is empty, and any payload means the same.
+/// Asserts a presence flag: its canonical attribute is empty, and any payload is equivalent.
 pub(super) fn is_mark<F: LinkFamily + ExactEq>(
     rt: &impl Abort,
     alloc: Global,
@@ -303,7 +309,8 @@ pub(super) fn is_mark<F: LinkFamily + ExactEq>(
     is_written_as::<F>(rt, ctx, &[5, 0, bytes[2], 0, 7, 0, 0, 0], bytes);
 }
 
-/// `UNLISTED` is kept as the value: its flag bits count. A clone is equal.
+/// Asserts that `UNLISTED` is the value, an opaque attribute whose flag bits matter, and that a
+/// clone is equal.
 pub(super) fn is_kept<F: LinkFamily + ExactEq + Clone>(
     rt: &impl Abort,
     alloc: Global,
@@ -321,7 +328,7 @@ pub(super) fn is_kept<F: LinkFamily + ExactEq + Clone>(
     is_emitted(rt, value, &UNLISTED);
 }
 
-/// `parse` reads the attribute as the value.
+/// Asserts that `parse` reads the attribute as the value.
 pub(super) fn is_parsed<'a, F: Parseable<NlaBuffer<'a>> + ExactEq + Drop>(
     rt: &impl Abort,
     alloc: Global,
@@ -332,7 +339,8 @@ pub(super) fn is_parsed<'a, F: Parseable<NlaBuffer<'a>> + ExactEq + Drop>(
     assert_is(rt, ("parsed", bytes), is_equal(&read, value), true);
 }
 
-/// The attribute is the canonical one of the value, is parsed as it, and takes payloads of its length alone.
+/// Asserts that the attribute is the canonical one of the value and is parsed as it, and that
+/// payloads of other lengths are rejected.
 pub(super) fn has_row<'a, F>(rt: &impl Abort, alloc: Global, bytes: &'a [u8], value: &F)
 where
     F: LinkFamily<Context = ()> + Parseable<NlaBuffer<'a>> + ExactEq,
@@ -342,7 +350,7 @@ where
     has_one_length::<F>(rt, alloc, (), bytes);
 }
 
-/// Each attribute is the row's of its value.
+/// Asserts that each attribute is the canonical one of its value.
 pub(super) fn has_rows<'a, F>(rt: &impl Abort, alloc: Global, rows: &[(&'a [u8], F)])
 where
     F: LinkFamily<Context = ()> + Parseable<NlaBuffer<'a>> + ExactEq,
@@ -352,7 +360,7 @@ where
     }
 }
 
-/// The attribute is the row's of the value.
+/// Asserts that the attribute is the canonical one of the value.
 pub(super) fn has_row_of<'a, F>(rt: &impl Abort, alloc: Global, bytes: &'a [u8], value: F)
 where
     F: LinkFamily<Context = ()> + Parseable<NlaBuffer<'a>> + ExactEq,
@@ -360,7 +368,7 @@ where
     has_row(rt, alloc, bytes, &value);
 }
 
-/// Each attribute is the row's of the value at its place.
+/// Asserts that each attribute is the canonical one of the value with the same index.
 pub(super) fn has_rows_of<'a, F, const N: usize>(
     rt: &impl Abort,
     alloc: Global,
@@ -388,7 +396,7 @@ where
     }
 }
 
-/// Each attribute is the canonical one of a presence flag, and is parsed as its value.
+/// Asserts that each attribute is the canonical one of a presence flag, and is parsed as its value.
 pub(super) fn has_marks<'a, F>(rt: &impl Abort, alloc: Global, rows: &[(&'a [u8], F)])
 where
     F: LinkFamily<Context = ()> + Parseable<NlaBuffer<'a>> + ExactEq,
@@ -399,7 +407,7 @@ where
     }
 }
 
-/// The attribute, which is `UNLISTED`, is parsed and kept as the value.
+/// Asserts that the attribute `UNLISTED` is parsed as the value, an opaque attribute.
 pub(super) fn keeps_unlisted<'a, F>(
     rt: &impl Abort,
     alloc: Global,
@@ -415,7 +423,7 @@ where
     is_kept(rt, alloc, ctx, &value);
 }
 
-/// The attribute is parsed as the value.
+/// Asserts that the attribute is parsed as the value.
 pub(super) fn parses<'a, F: Parseable<NlaBuffer<'a>> + ExactEq + Drop>(
     rt: &impl Abort,
     alloc: Global,
@@ -425,7 +433,7 @@ pub(super) fn parses<'a, F: Parseable<NlaBuffer<'a>> + ExactEq + Drop>(
     is_parsed(rt, alloc, bytes, &value);
 }
 
-/// The attribute is parsed as the value, which is emitted as the canonical one.
+/// Asserts that the attribute is parsed as the value, which is emitted as the canonical one.
 pub(super) fn is_rewritten<'a, F: Parseable<NlaBuffer<'a>> + Nla + ExactEq + Drop>(
     rt: &impl Abort,
     alloc: Global,
@@ -437,18 +445,18 @@ pub(super) fn is_rewritten<'a, F: Parseable<NlaBuffer<'a>> + Nla + ExactEq + Dro
     is_emitted(rt, &value, canonical);
 }
 
-/// `parse` refuses the attribute with this fault.
+/// Asserts that `parse` rejects the attribute with this error.
 pub(super) fn is_not_parsed<'a, F: Parseable<NlaBuffer<'a>> + Drop>(
     rt: &impl Abort,
     alloc: Global,
     bytes: &'a [u8],
-    fault: DecodeError,
+    expected: DecodeError,
 ) {
     let read = F::parse(alloc, &attribute(rt, bytes));
-    assert_is(rt, ("not parsed", bytes), read.err(), Some(fault));
+    assert_is(rt, ("not parsed", bytes), read.err(), Some(expected));
 }
 
-/// What `list_check` answers, with the headers that were looked at for it.
+/// The result of `list_check`, and the headers examined.
 pub(super) fn list_checked<F: LinkFamily>(
     rt: &impl Abort,
     ctx: F::Context,
@@ -460,8 +468,8 @@ pub(super) fn list_checked<F: LinkFamily>(
     (checked, count.get())
 }
 
-/// The fault that `list_read` answers, if any, with the headers that were looked at for it.
-pub(super) fn list_fault<F: LinkFamily>(
+/// The error of `list_read`, if any, and the headers examined.
+pub(super) fn list_error<F: LinkFamily>(
     rt: &impl Abort,
     alloc: Global,
     ctx: F::Context,
@@ -473,7 +481,7 @@ pub(super) fn list_fault<F: LinkFamily>(
     (read.err(), count.get())
 }
 
-/// What `first_check` answers, with the headers that were looked at for it.
+/// The result of `first_check`, and the headers examined.
 pub(super) fn first_checked<F: LinkFamily>(
     rt: &impl Abort,
     ctx: F::Context,
@@ -485,16 +493,17 @@ pub(super) fn first_checked<F: LinkFamily>(
     (checked, count.get())
 }
 
-/// The list is accepted.
+/// Asserts that the list is accepted.
 fn is_accepted<F: LinkFamily>(rt: &impl Abort, ctx: F::Context, bytes: &[u8])
-    ensures { IsOk (values (F.meaning ctx) (pieces bytes.now)) }
+    ensures { IsOk (values (F.meaning ctx) (nla_items bytes.now)) }
 {
     assert!(rt; bytes.len() < 1000);
     let checked = list_check::<F>(bytes, ctx, &mut HeaderCount::new());
     assert!(rt; checked.is_ok());
 }
 
-/// The accepted list, which has at most 24 bytes, is written as these bytes, without its values, and nothing behind them is changed.
+/// Asserts that the accepted list, of at most 24 bytes, is re-encoded as these bytes, and the bytes
+/// after them are unchanged.
 pub(super) fn list_is_written_as<F: LinkFamily>(
     rt: &impl Abort,
     ctx: F::Context,
@@ -508,13 +517,14 @@ pub(super) fn list_is_written_as<F: LinkFamily>(
     assert_is(
         rt,
         ("length written for list", bytes),
-        list_put_canonical::<F>(bytes, ctx, &mut buffer),
+        list_write_canonical::<F>(bytes, ctx, &mut buffer),
         len,
     );
     begins_with(rt, &buffer, canonical);
 }
 
-/// The first attribute alone is written as these bytes, of which there are at most 24, without its value, and nothing behind them is changed.
+/// Asserts that the first attribute alone is re-encoded as these bytes, at most 24, and the bytes
+/// after them are unchanged.
 pub(super) fn first_is_written_as<F: LinkFamily>(
     rt: &impl Abort,
     ctx: F::Context,
@@ -530,13 +540,13 @@ pub(super) fn first_is_written_as<F: LinkFamily>(
     assert_is(
         rt,
         ("length written for first", bytes),
-        first_put_canonical::<F>(bytes, ctx, &mut buffer),
+        first_write_canonical::<F>(bytes, ctx, &mut buffer),
         len,
     );
     begins_with(rt, &buffer, canonical);
 }
 
-/// Whether two accepted lists are the same, with the headers that were looked at for the answer.
+/// Whether two accepted lists are equivalent, and the headers examined.
 fn lists_same<F: LinkFamily>(
     rt: &impl Abort,
     ctx: F::Context,
@@ -550,7 +560,8 @@ fn lists_same<F: LinkFamily>(
     (same, count.get())
 }
 
-/// Each two accepted lists are the same, with so many headers looked at for the answer, or are not.
+/// Asserts of each pair of accepted lists that they are equivalent, with this number of headers
+/// examined, or are not.
 pub(super) fn compare_lists<F: LinkFamily>(
     rt: &impl Abort,
     ctx: F::Context,
@@ -567,7 +578,7 @@ pub(super) fn compare_lists<F: LinkFamily>(
     }
 }
 
-/// The list is read as the values, and is what is emitted for them.
+/// Asserts that the list is read as the values, which are emitted as the list.
 pub(super) fn is_list<F: LinkFamily + ExactEq, const N: usize>(
     rt: &impl Abort,
     alloc: Global,
@@ -578,7 +589,7 @@ pub(super) fn is_list<F: LinkFamily + ExactEq, const N: usize>(
     is_list_of(rt, alloc, ctx, bytes, values.as_slice());
 }
 
-/// The list is read as the values at these places, and is what is emitted for them.
+/// Asserts that the list is read as the values with these indices, which are emitted as the list.
 fn is_list_of<F: LinkFamily + ExactEq>(
     rt: &impl Abort,
     alloc: Global,

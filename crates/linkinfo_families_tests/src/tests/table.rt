@@ -1,12 +1,12 @@
-//! Peers of plain bytes, and what was read of attributes and what values show.
+//! Peers of bytes; the decoded contents of attributes, and the parts of values.
 
 use super::rows::{assert_is, kept};
-use linkinfo_table::{Datum, Found, LinkPeer, Part, PeerFault, Shape, laws};
+use linkinfo_table::{Datum, Decoded, Encodable, LinkPeer, PeerFault, Shape, laws};
 use nla_frame::{Bytes, DefaultNla};
 use std::alloc::Global;
 use std::process::Abort;
 
-/// The payload is read as a peer that is emitted as it.
+/// Asserts that the payload is read as a peer that is emitted as the payload.
 fn is_peer(rt: &impl Abort, alloc: Global, payload: &[u8; 2]) {
     let Ok(peer) = <Bytes as LinkPeer>::read(alloc, payload) else {
         panic!(rt; "the payload is a peer");
@@ -22,7 +22,7 @@ fn is_peer(rt: &impl Abort, alloc: Global, payload: &[u8; 2]) {
     );
 }
 
-/// How long a peer of this many bytes is, if it fits.
+/// The length of a peer of `count` bytes, if it fits.
 fn len_of_bytes(rt: &impl Abort, alloc: Global, count: usize) -> Option<usize> {
     let zeros = vec![in alloc; 0u8; count].expect(rt, "memory");
     LinkPeer::fit_len(&Bytes::new(zeros))
@@ -56,46 +56,46 @@ fn bytes_are_peers(rt: HostRuntime) {
     );
 }
 
-/// What was read with a row compares by its type and its datum.
-fn typed_compare(rt: &impl Abort, found: &Found<'_>, same: &[u8; 2]) {
-    let clone = found.clone().expect(rt, "memory");
+/// Asserts that decoded contents of a type with a row compare by type and datum.
+fn typed_compare(rt: &impl Abort, decoded: &Decoded<'_>, same: &[u8; 2]) {
+    let clone = decoded.clone().expect(rt, "memory");
     assert_is(
         rt,
         "what was read",
         [
-            *found == Found::Typed(1, Datum::Bytes(same)),
-            *found != Found::Typed(2, Datum::Bytes(same)),
-            *found != Found::Typed(1, Datum::Bytes(&same[..1])),
-            clone == *found,
+            *decoded == Decoded::Typed(1, Datum::Bytes(same)),
+            *decoded != Decoded::Typed(2, Datum::Bytes(same)),
+            *decoded != Decoded::Typed(1, Datum::Bytes(&same[..1])),
+            clone == *decoded,
         ],
         [true; 4],
     );
 }
 
-/// Whether parts and values that keep these two attributes are equal.
+/// Whether the parts and decoded contents of these two opaque attributes are equal.
 fn kept_compare(first: DefaultNla, second: DefaultNla) -> [bool; 2] {
-    let parts = Part::Kept(&first) == Part::Kept(&second);
-    [parts, Found::Kept(first) == Found::Kept(second)]
+    let encodables = Encodable::Kept(&first) == Encodable::Kept(&second);
+    [encodables, Decoded::Kept(first) == Decoded::Kept(second)]
 }
 
 #[test]
-fn parts_compare_by_what_they_hold(rt: HostRuntime) {
-    laws::equal_parts();
-    laws::equal_faults();
+fn parts_compare_by_value(rt: HostRuntime) {
+    laws::equal_encodables();
+    laws::equal_peer_faults();
     let alloc = rt.alloc();
     let text = [b'a', b'b'];
     let same = [b'a', b'b'];
-    typed_compare(&rt, &Found::Typed(1, Datum::Bytes(&text)), &same);
+    typed_compare(&rt, &Decoded::Typed(1, Datum::Bytes(&text)), &same);
     let kept = kept_compare(kept(&rt, alloc, 7, &[1]), kept(&rt, alloc, 7, &[1]));
     assert_is(&rt, "kept attributes", kept, [true; 2]);
-    let part = Part::Typed(1, Shape::Raw, Datum::Bytes(&text));
-    let equal = Part::Typed(1, Shape::Raw, Datum::Bytes(&same));
-    let of_other_shape = Part::Typed(1, Shape::Name, Datum::Bytes(&same));
+    let part = Encodable::Typed(1, Shape::Raw, Datum::Bytes(&text));
+    let equal = Encodable::Typed(1, Shape::Raw, Datum::Bytes(&same));
+    let of_other_shape = Encodable::Typed(1, Shape::Name, Datum::Bytes(&same));
     let compared = [
-        Part::Custom == Part::Custom,
+        Encodable::Custom == Encodable::Custom,
         part == equal,
         part != of_other_shape,
-        part != Part::Custom,
+        part != Encodable::Custom,
     ];
     assert_is(&rt, "parts", compared, [true; 4]);
 }

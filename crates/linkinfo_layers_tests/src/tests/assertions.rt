@@ -1,5 +1,5 @@
-//! What the tests ask of values, and the values that they make. Each helper is proved once, where
-//! an `assert_eq!` is proved at each place.
+//! Assertions and values for the tests. Each helper is proved once, while an `assert_eq!` is proved
+//! wherever it is used.
 
 use nla_frame::{
     Bytes, Cause, DecodeError, DefaultNla, ExactEq, Family, NlaBuffer, Text, is_equal,
@@ -8,7 +8,7 @@ use std::alloc::Global;
 use std::fmt::{Debug, Display};
 use std::process::Abort;
 
-/// What was found in this case is what is wanted.
+/// Asserts that the actual value of this case is the expected one.
 pub(super) fn assert_is<T: PartialEq + Debug + Drop>(
     rt: &impl Abort,
     case: impl Debug + Drop,
@@ -18,7 +18,7 @@ pub(super) fn assert_is<T: PartialEq + Debug + Drop>(
     assert_eq!(rt; found, wanted, "case {case:?}");
 }
 
-/// The value is displayed as the text.
+/// Asserts that the value is displayed as the text.
 pub(super) fn assert_displayed(
     rt: &impl Abort,
     alloc: Global,
@@ -29,8 +29,8 @@ pub(super) fn assert_displayed(
     assert_is(rt, value, displayed.as_str(), text);
 }
 
-/// The value and a clone of it are equal to `same`, and the value is not to `other`, by `==` and by
-/// `is_equal`.
+/// Asserts that the value and its clone are equal to `same`, and the value is not equal to `other`,
+/// by `==` and by `is_equal`.
 pub(super) fn assert_equality<T: ExactEq + Clone + Drop>(
     rt: &impl Abort,
     value: &T,
@@ -48,8 +48,8 @@ pub(super) fn assert_equality<T: ExactEq + Clone + Drop>(
     assert_is(rt, "by is_equal", by_function, [true, true, false]);
 }
 
-/// A fault of a family's attribute.
-pub(super) fn fault(family: Family, kind: u16, cause: Cause) -> DecodeError {
+/// The error of a family's attribute.
+pub(super) fn decode_error(family: Family, kind: u16, cause: Cause) -> DecodeError {
     DecodeError {
         family,
         kind,
@@ -57,17 +57,17 @@ pub(super) fn fault(family: Family, kind: u16, cause: Cause) -> DecodeError {
     }
 }
 
-/// The attribute that the bytes begin with.
+/// The first attribute of the bytes.
 pub(super) fn attribute<'a>(rt: &impl Abort, bytes: &'a [u8]) -> NlaBuffer<'a> {
     NlaBuffer::new_checked(bytes).expect(rt, "an attribute")
 }
 
-/// An attribute of a type and a payload, which is kept.
+/// An opaque attribute of a type and a payload.
 pub(super) fn kept(rt: &impl Abort, alloc: Global, kind: u16, payload: &[u8]) -> DefaultNla {
     DefaultNla::new(kind, copied(rt, alloc, payload).into_vec())
 }
 
-/// Attributes of these types and payloads.
+/// Opaque attributes of these types and payloads.
 pub(super) fn kept_list(
     rt: &impl Abort,
     alloc: Global,
@@ -91,7 +91,7 @@ pub(super) fn text_of(rt: &impl Abort, alloc: Global, text: &str) -> Text {
     Text::copy_of(alloc, text).expect(rt, "memory")
 }
 
-/// The byte this many times.
+/// The byte, repeated `count` times.
 pub(super) fn repeated(rt: &impl Abort, alloc: Global, byte: u8, count: usize) -> Vec<u8> {
     vec![in alloc; byte; count].expect(rt, "memory")
 }

@@ -1,4 +1,4 @@
-//! What a family takes out of data.
+//! How a family reads data.
 
 use super::assertions::assert_is;
 use linkinfo_shapes::{Datum, Shape, laws};
@@ -6,7 +6,7 @@ use nla_frame::is_equal;
 use std::net::{IpAddr, Ipv4Addr, Ipv6Addr};
 
 #[test]
-fn takes_numbers_apart(rt: HostRuntime) {
+fn reads_numbers_of_data(rt: HostRuntime) {
     let numbers = [
         u64::from(Datum::Number(255).u8_or_zero()),
         u64::from(Datum::Number(65535).u16_or_zero()),
@@ -46,7 +46,7 @@ fn takes_numbers_apart(rt: HostRuntime) {
 }
 
 #[test]
-fn takes_addresses_and_bytes_apart(rt: HostRuntime) {
+fn reads_addresses_and_bytes_of_data(rt: HostRuntime) {
     let v4 = Ipv4Addr::new(10, 0, 0, 1);
     let v6 = Ipv6Addr::new(0x2001, 0x0db8, 0, 0, 0, 0, 0, 1);
     assert_is(
@@ -96,7 +96,7 @@ fn shapes_are_compared(rt: HostRuntime) {
     laws::equal_data();
 }
 
-/// The numbers that a family takes out of a datum: of 8, 16, 32 bits, and signed.
+/// The numbers that a family reads from a datum: of 8, 16 and 32 bits, and signed.
 fn numbers_of(datum: Datum<'_>) -> [i64; 4] {
     [
         i64::from(datum.u8_or_zero()),
@@ -106,11 +106,11 @@ fn numbers_of(datum: Datum<'_>) -> [i64; 4] {
     ]
 }
 
-/// Data of which none is a number, a pair, an address or bytes that fit.
+/// Data that hold no number, pair, address or bytes of the expected shape.
 const OTHER_DATA: &[Datum<'_>] = &[Datum::Empty, Datum::Number(1 << 40), Datum::Truth(false)];
 
 #[test]
-fn takes_nothing_from_other_data(rt: HostRuntime) {
+fn reads_defaults_of_other_data(rt: HostRuntime) {
     for datum in OTHER_DATA {
         let datum = *datum;
         assert_is(

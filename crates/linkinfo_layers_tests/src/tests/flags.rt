@@ -110,7 +110,7 @@ fn named_bits_of_devices(rt: HostRuntime) {
     );
 }
 
-/// How many flags of a set have names, and the first name.
+/// The number of named flags of a set, and the first name.
 fn names<F: Flags>() -> (usize, Option<&'static str>) {
     let flags = F::flags();
     let named = flags.iter().filter(|flag| flag.is_named()).count();
@@ -143,10 +143,10 @@ fn flags_have_names(rt: HostRuntime) {
     );
 }
 
-/// Bits of sets of 16: named ones, others, and none.
+/// Bits of 16-bit sets: named ones, others, and none.
 const SHORT_SETS: &[u16] = &[0, 1, 0x0006, 0x0007, 0x0008, 0xa000, 0x7fff, u16::MAX];
 
-/// Bits of sets of 32.
+/// Bits of 32-bit sets.
 const LONG_SETS: &[u32] = &[0, 1, 0x3f, 0x40, 0x0007_0000, 0x0008_0000, u32::MAX];
 
 #[test]

@@ -1,6 +1,6 @@
-//! Kinds of links and ports: names, tags, attributes.
+//! Link kinds and port kinds: names, tags, attributes.
 
-use super::assertions::{assert_displayed, assert_is, attribute, fault, repeated, text_of};
+use super::assertions::{assert_displayed, assert_is, attribute, decode_error, repeated, text_of};
 use linkinfo_numbers::{
     InfoKind, InfoPortKind, KindTag, PortTag, laws, port_tag_of_name, tag_of_name,
 };
@@ -8,7 +8,7 @@ use nla_frame::{Cause, ExactEq, Family, Nla, Parseable, is_equal};
 use std::alloc::Global;
 use std::process::Abort;
 
-/// The kinds by their names.
+/// The kinds and their names.
 const KINDS: &[(&str, KindTag)] = &[
     ("dummy", KindTag::Dummy),
     ("ifb", KindTag::Ifb),
@@ -58,7 +58,7 @@ const KINDS: &[(&str, KindTag)] = &[
     ("rmnet", KindTag::RmNet),
 ];
 
-/// Names of no kind, each beside one of a kind.
+/// Names of no kind, each similar to the name of one.
 const OTHERS: &[&str] = &[
     "",
     "a",
@@ -99,7 +99,7 @@ fn port_kind_of(rt: &impl Abort, alloc: Global, name: &str) -> InfoPortKind {
     InfoPortKind::from_text(alloc, name).expect(rt, "memory")
 }
 
-/// The kind has this name and tag, and `tag_of_name` gives the tag too.
+/// Asserts that the kind has this name and tag, and `tag_of_name` returns the tag too.
 fn is_named(rt: &impl Abort, alloc: Global, kind: &InfoKind, name: &str, tag: KindTag) {
     assert_displayed(rt, alloc, kind, name);
     let tags = [kind.tag(), tag_of_name(name.as_bytes())];
@@ -112,7 +112,7 @@ fn is_named(rt: &impl Abort, alloc: Global, kind: &InfoKind, name: &str, tag: Ki
     );
 }
 
-/// The value and its clone are equal to the other value.
+/// Asserts that the value and its clone are equal to the other value.
 fn is_same<T: ExactEq + Clone + Drop>(rt: &impl Abort, value: &T, same: &T) {
     assert!(rt; is_equal(value, same));
     assert!(rt; value.clone().expect(rt, "memory") == *same);
@@ -137,13 +137,13 @@ fn other_kinds(rt: HostRuntime) {
         is_named(&rt, alloc, &kind, name, KindTag::Other);
         is_same(&rt, &kind, &InfoKind::Other(text_of(&rt, alloc, name)));
     }
-    // The tag goes by the variant.
+    // The tag depends on the variant.
     let other = InfoKind::Other(text_of(&rt, alloc, "xfrm"));
     assert_is(&rt, "Other of xfrm", other.tag(), KindTag::Other);
     assert!(rt; other != InfoKind::Xfrm);
 }
 
-/// The port kind of the name has this tag, and `port_tag_of_name` gives the tag too.
+/// Asserts that the port kind of the name has this tag, and `port_tag_of_name` returns the tag too.
 fn is_port_named(rt: &impl Abort, alloc: Global, name: &str, tag: PortTag) {
     let kind = port_kind_of(rt, alloc, name);
     assert_displayed(rt, alloc, &kind, name);
@@ -194,7 +194,7 @@ const KINDS_READ: &[(&[u8], &str)] = &[
     (&[9, 0, 1, 0, b'v', b'r', b'f', 0, 0], "vrf\0"),
 ];
 
-/// Attributes that are no kinds, and their faults.
+/// Attributes that are no kinds, and their errors.
 const KINDS_REFUSED: &[(&[u8], u16, Cause)] = &[
     (&[4, 0, 2, 0], 2, Cause::WrongType),
     (&[6, 0, 4, 0x80, b'x', 0], 4, Cause::WrongType),
@@ -210,7 +210,7 @@ fn kinds_in_attributes(rt: HostRuntime) {
     }
     for (bytes, kind, cause) in KINDS_REFUSED {
         let read = InfoKind::parse(alloc, &attribute(&rt, bytes));
-        let refused = fault(Family::LinkInfo, *kind, *cause);
+        let refused = decode_error(Family::LinkInfo, *kind, *cause);
         assert_is(&rt, bytes, read.err(), Some(refused));
     }
 }
@@ -221,7 +221,7 @@ const PORT_KINDS_READ: &[(&[u8], &str)] = &[
     (&[5, 0, 4, 0, b'x'], "x"),
 ];
 
-/// Attributes that are no port kinds, and their faults.
+/// Attributes that are no port kinds, and their errors.
 const PORT_KINDS_REFUSED: &[(&[u8], u16, Cause)] = &[
     (&[4, 0, 1, 0], 1, Cause::WrongType),
     (&[6, 0, 4, 0, 0xc3, 0x28], 4, Cause::Utf8),
@@ -232,7 +232,7 @@ fn port_kinds_in_attributes(rt: HostRuntime) {
     let alloc = rt.alloc();
     for (bytes, kind, cause) in PORT_KINDS_REFUSED {
         let read = InfoPortKind::parse(alloc, &attribute(&rt, bytes));
-        let refused = fault(Family::LinkInfo, *kind, *cause);
+        let refused = decode_error(Family::LinkInfo, *kind, *cause);
         assert_is(&rt, bytes, read.err(), Some(refused));
     }
     for (bytes, text) in PORT_KINDS_READ {
@@ -284,7 +284,7 @@ fn port_kinds_as_attributes(rt: HostRuntime) {
     assert_is(&rt, "emit", buffer, [6, 0, 4, 0, b'x', 0, 0, 0, 255]);
 }
 
-/// A name of this many letters.
+/// A name of `count` letters.
 fn letters(rt: &impl Abort, alloc: Global, count: usize) -> String {
     String::from_utf8(repeated(rt, alloc, b'a', count)).expect(rt, "letters")
 }

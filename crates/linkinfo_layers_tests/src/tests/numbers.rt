@@ -1,4 +1,4 @@
-//! Each number type, both ways.
+//! Each number type, converted both ways.
 
 use super::assertions::assert_is;
 use linkinfo_numbers::{
@@ -9,7 +9,7 @@ use linkinfo_numbers::{
 use std::fmt::Debug;
 use std::process::Abort;
 
-/// Each number gives its value, and each value its number.
+/// Asserts that each number gives its value, and each value its number.
 fn check_both_ways<N, T>(rt: &impl Abort, rows: &[(N, T)])
 where
     N: From<T> + Copy + PartialEq + Debug + Drop,
@@ -21,7 +21,7 @@ where
     }
 }
 
-// The named numbers of each type, the numbers beside them, and the largest.
+// The named numbers of each type, the numbers next to them, and the largest.
 
 const AMT_MODES: &[(u32, AmtMode)] = &[
     (0, AmtMode::Gateway),
@@ -211,7 +211,7 @@ fn device_numbers(rt: HostRuntime) {
     check_both_ways(&rt, NETKIT_POLICIES);
 }
 
-/// Numbers of types that are turned into them by reference.
+/// Numbers of types with a conversion from a reference.
 const GRE_ENCAP_TYPES: &[(u16, GreEncapType)] = &[
     (0, GreEncapType::None),
     (1, GreEncapType::Fou),
@@ -247,7 +247,7 @@ fn numbers_of_references(rt: HostRuntime) {
     }
 }
 
-/// Numbers, their values, and the numbers of these.
+/// Numbers, their values, and the numbers of these values.
 const SCRUBS: &[(u32, NetkitScrub, u32)] = &[
     (0, NetkitScrub::None, 0),
     (1, NetkitScrub::Default, 1),
@@ -269,7 +269,7 @@ fn numbers_of_scrubs(rt: HostRuntime) {
 }
 
 #[test]
-fn values_by_default(rt: HostRuntime) {
+fn default_values(rt: HostRuntime) {
     assert_is(
         &rt,
         "GtpRole, GreEncapType, ErSpanDir",

@@ -42,7 +42,8 @@ fn parses_addresses(rt: HostRuntime) {
     );
 }
 
-/// Whether the payload is read as u8, u16, u32, u64, i32, big-endian u16, u32 and u64, hardware, IP, IPv4 and IPv6 address.
+/// Whether the payload is accepted as u8, u16, u32, u64, i32, big-endian u16, u32 and u64, hardware
+/// address, IP, IPv4 and IPv6 address.
 fn accepted(payload: &[u8]) -> [bool; 12] {
     [
         parse_u8(payload).is_ok(),
@@ -61,7 +62,7 @@ fn accepted(payload: &[u8]) -> [bool; 12] {
 }
 
 #[test]
-fn refuses_other_lengths(rt: HostRuntime) {
+fn rejects_other_lengths(rt: HostRuntime) {
     let bytes = [0; 17];
     for len in 0..=17 {
         let (two, four, eight, sixteen) = (len == 2, len == 4, len == 8, len == 16);
@@ -108,7 +109,7 @@ fn emits_numbers(rt: HostRuntime) {
 }
 
 #[test]
-fn takes_one_nul_off_a_name(rt: HostRuntime) {
+fn strips_one_nul_from_a_name(rt: HostRuntime) {
     let names: [&[u8]; 4] = [
         without_nul(b"vrf\0"),
         without_nul(b"vrf\0\0"),

@@ -2,8 +2,8 @@
 
 use super::assertions::{assert_is, repeated};
 use linkinfo_shapes::{
-    Datum, Shape, datum_len, read_datum, shape_canonical_len, shape_check, shape_put_attribute,
-    shape_put_canonical, shape_same, write_datum,
+    Datum, Shape, datum_len, read_datum, shape_canonical_len, shape_check, shape_same,
+    shape_write_attribute, shape_write_canonical, write_datum,
 };
 use nla_frame::Cause;
 use std::net::{Ipv4Addr, Ipv6Addr};
@@ -35,7 +35,8 @@ const PLAIN: &[Shape] = &[
     Shape::Raw,
 ];
 
-/// What is wrong with zeros of this length, by the table of shapes: each shape's lengths, and the two of the other address version.
+/// The cause that rejects zeros of this length, by the table of shapes: the lengths of each shape,
+/// and the two of the other IP version.
 fn cause_of_zeros(shape: Shape, len: usize) -> Option<Cause> {
     let accepted = match shape {
         Shape::U8 | Shape::Truth | Shape::TruthOne => len == 1,
@@ -56,7 +57,7 @@ fn cause_of_zeros(shape: Shape, len: usize) -> Option<Cause> {
     if accepted { None } else { Some(Cause::Length) }
 }
 
-/// What is wrong with a payload under a plain shape, as `shape_check` and `read_datum` say.
+/// The causes that reject a payload under a plain shape, by `shape_check` and `read_datum`.
 fn causes(shape: Shape, payload: &[u8]) -> Option<[Option<Cause>; 2]> {
     if !shape.is_plain() {
         return None;
@@ -81,7 +82,7 @@ fn accepts_the_lengths_of_a_shape(rt: HostRuntime) {
     assert_is(&rt, "SelfList, Peer", plain, [false; 2]);
 }
 
-/// The datum that a payload of a plain shape means, and the length of what is written for it.
+/// The datum that a payload of a plain shape means, and the length of the payload written for it.
 #[tactic(auto, unfolding(linkinfo_shapes::specs::Data::ReadsAs))]
 fn rewrite<'a>(
     shape: Shape,
@@ -102,7 +103,8 @@ fn rewrite<'a>(
     Some((datum, len))
 }
 
-/// The length of the canonical payload of a payload that is accepted under a plain shape, which is written alone and as an attribute of type 7.
+/// Writes the canonical payload of an accepted payload under a plain shape, alone and as an
+/// attribute of type 7. Returns its length, measured and as each call returns it.
 #[tactic(auto, using(linkinfo_shapes::specs::ShapeLaws::checked))]
 fn canonicalize(
     shape: Shape,
@@ -120,11 +122,15 @@ fn canonicalize(
     if len > 16 {
         return None;
     }
-    let written = shape_put_canonical(shape, payload, alone);
-    Some([len, written, shape_put_attribute(shape, 7, payload, framed)])
+    let written = shape_write_canonical(shape, payload, alone);
+    Some([
+        len,
+        written,
+        shape_write_attribute(shape, 7, payload, framed),
+    ])
 }
 
-/// The canonical payload of an accepted payload, without a datum.
+/// Asserts the canonical payload of an accepted payload, written without a datum.
 fn check_canonical(rt: &impl Abort, shape: Shape, payload: &[u8], written: &[u8]) {
     let len = written.len();
     assert!(rt; len <= 16);
@@ -137,11 +143,11 @@ fn check_canonical(rt: &impl Abort, shape: Shape, payload: &[u8], written: &[u8]
     assert_is(rt, ("values", shape, payload), values, (written, written));
     let header = [4 + len as u8, 0, 7, 0];
     assert_is(rt, ("header", shape, payload), &framed[..4], &header);
-    let behind = [alone[16], framed[24]];
-    assert_is(rt, ("behind", shape, payload), behind, [0xee; 2]);
+    let after = [alone[16], framed[24]];
+    assert_is(rt, ("rest", shape, payload), after, [0xee; 2]);
 }
 
-/// What an accepted payload holds, and what is written for it.
+/// Asserts the datum of an accepted payload, and the payload written for it.
 fn check_payload(rt: &impl Abort, shape: Shape, payload: &[u8], datum: Datum<'_>, written: &[u8]) {
     let len = written.len();
     assert!(rt; len <= 16);
@@ -196,7 +202,7 @@ const EXACT: &[(Shape, &[u8], Datum<'_>)] = &[
     (Shape::Raw, &[0, 0xff, 0], Datum::Bytes(&[0, 0xff, 0])),
 ];
 
-/// Payloads beside others that mean the same: one of them is written.
+/// Payloads that are equivalent to others, and the canonical payload.
 const LOOSE: &[(Shape, &[u8], Datum<'_>, &[u8])] = &[
     (Shape::Truth, &[0], Datum::Truth(false), &[0]),
     (Shape::Truth, &[1], Datum::Truth(true), &[1]),
@@ -238,7 +244,7 @@ const LOOSE: &[(Shape, &[u8], Datum<'_>, &[u8])] = &[
     ),
 ];
 
-/// Names that are no texts.
+/// Names that are not UTF-8.
 const NO_TEXTS: &[&[u8]] = &[&[0xff, 0], b"\xc3\0", b"a\0\xc3"];
 
 #[test]
@@ -273,7 +279,7 @@ fn reads_and_writes_addresses(rt: HostRuntime) {
     }
 }
 
-/// Payloads of a shape, and whether they mean the same.
+/// Payloads of a shape, and whether they are equivalent.
 const PAIRS: &[(Shape, &[u8], &[u8], bool)] = &[
     (Shape::Name, b"a\0", b"a", true),
     (Shape::Name, b"a\0\0", b"a", false),
@@ -306,7 +312,7 @@ fn compares_payloads(rt: HostRuntime) {
     }
 }
 
-/// Whether two payloads that a plain shape accepts mean the same.
+/// Whether two payloads are equivalent, if a plain shape accepts both.
 #[tactic(auto, using(linkinfo_shapes::specs::ShapeLaws::checked))]
 fn alike(shape: Shape, a: &[u8], b: &[u8]) -> Option<bool> {
     if !shape.is_plain() || shape_check(shape, a).is_err() || shape_check(shape, b).is_err() {
@@ -319,7 +325,7 @@ fn check_alike(rt: &impl Abort, shape: Shape, a: &[u8], b: &[u8], same: bool) {
     assert_is(rt, (shape, a, b), alike(shape, a, b), Some(same));
 }
 
-/// The length of the payload that is written for a name, and of the one for plain bytes.
+/// The length of the payload written for a name, and of the one for opaque bytes.
 #[tactic(auto, unfolding(linkinfo_shapes::specs::Data::ReadsAs, linkinfo_shapes::specs::Data::Suits))]
 fn lengths(rt: &impl Abort, bytes: &[u8]) -> (Option<usize>, Option<usize>) {
     let Ok(name) = read_datum(Shape::Name, bytes) else {
@@ -337,8 +343,7 @@ fn write_name(rt: &impl Abort, text: &str, buffer: &mut [u8]) {
     write_datum(Shape::Name, &Datum::Text(text), buffer);
 }
 
-/// Lengths of names of letters, with what is written for the name and for plain bytes, if that
-/// fits.
+/// Lengths of names, with the lengths written for the name and for opaque bytes, if these fit.
 const LONG: &[(usize, (Option<usize>, Option<usize>))] = &[
     (65530, (Some(65531), Some(65530))),
     (65531, (None, Some(65531))),

@@ -4,7 +4,7 @@ use super::assertions::assert_is;
 use linkinfo_shapes::{Shape, table_shape};
 use nla_frame::Family;
 
-/// The names of the shapes of types 1, 2, 3 and so on; `-` stands for no row.
+/// The names of the shapes of types 1, 2, 3 and so on, and `-` for no row.
 const ROWS: &[(Family, &str)] = &[
     (Family::Frame, "-"),
     (Family::LinkInfo, "-"),
@@ -72,7 +72,7 @@ const ROWS: &[(Family, &str)] = &[
     (Family::Xfrm, "Le32 Le32"),
 ];
 
-/// The shapes by their names.
+/// The shapes and their names.
 const NAMES: &[(&str, Shape)] = &[
     ("U8", Shape::U8),
     ("Le16", Shape::Le16),
@@ -101,7 +101,7 @@ const NAMES: &[(&str, Shape)] = &[
     ("Peer", Shape::Peer),
 ];
 
-/// The shape of a name.
+/// The shape with this name.
 fn shape_named(name: &str) -> Option<Shape> {
     for (known, shape) in NAMES {
         if *known == name {

@@ -1,13 +1,13 @@
 //! Errors, and values that own memory.
 
 use super::assertions::{
-    assert_displayed, assert_equality, assert_is, attribute, copied, fault, kept, text_of,
+    assert_displayed, assert_equality, assert_is, attribute, copied, decode_error, kept, text_of,
 };
 use nla_frame::{Bytes, Cause, DecodeError, DefaultNla, Family, Nlas, Parseable, Text, ToVecError};
 use std::alloc::{AllocError, AllocFailed, Global};
 use std::process::Abort;
 
-/// A value that holds a list of itself.
+/// A value that contains a list of itself.
 #[derive(Debug, PartialEq, Eq, Clone, Drop)]
 enum Nested {
     Number(u32),
@@ -17,7 +17,7 @@ enum Nested {
 #[test]
 fn displays_errors(rt: HostRuntime) {
     let alloc = rt.alloc();
-    let order = fault(Family::LinkInfo, 2, Cause::Order);
+    let order = decode_error(Family::LinkInfo, 2, Cause::Order);
     assert_displayed(&rt, alloc, &order, "linkinfo 2 order");
     assert_displayed(&rt, alloc, &Family::BareUdp, "bareudp");
     assert_displayed(&rt, alloc, &Cause::AddressKind, "addresskind");
@@ -42,8 +42,8 @@ fn numbers_causes(rt: HostRuntime) {
 }
 
 #[test]
-fn want_of_memory_is_a_fault(rt: HostRuntime) {
-    let memory = fault(Family::Frame, 0, Cause::Memory);
+fn failed_allocation_is_an_error(rt: HostRuntime) {
+    let memory = decode_error(Family::Frame, 0, Cause::Memory);
     let refused = AllocFailed { value: 7u8 };
     assert_is(
         &rt,
@@ -88,7 +88,7 @@ fn keeps_text(rt: HostRuntime) {
 }
 
 #[test]
-fn keeps_attributes_whole(rt: HostRuntime) {
+fn keeps_attributes_verbatim(rt: HostRuntime) {
     let alloc = rt.alloc();
     let nla = DefaultNla::parse(alloc, &attribute(&rt, &[5, 0, 9, 0x80, 7])).expect(&rt, "memory");
     let same = kept(&rt, alloc, 0x8009, &[7]);
@@ -96,7 +96,7 @@ fn keeps_attributes_whole(rt: HostRuntime) {
     assert_equality(&rt, &nla, &same, &other);
 }
 
-/// These numbers.
+/// A `Vec` of these numbers.
 fn numbers_of<const N: usize>(rt: &impl Abort, alloc: Global, numbers: [u32; N]) -> Vec<u32> {
     Vec::from_array(alloc, numbers).expect(rt, "memory")
 }
@@ -118,7 +118,7 @@ fn keeps_lists(rt: HostRuntime) {
 }
 
 #[test]
-fn goes_over_lists(rt: HostRuntime) {
+fn iterates_over_lists(rt: HostRuntime) {
     let alloc = rt.alloc();
     let numbers = Nlas::new(numbers_of(&rt, alloc, [3, 1, 2]));
     assert_is(&rt, "the last", numbers.iter().rev().next(), Some(&2));

@@ -1,4 +1,4 @@
-//! What the tests ask of one string or one value.
+//! Assertions on one byte string or one value.
 
 use linkinfo::{
     Bytes, CanonError, CanonIntoError, Cause, DecodeError, DefaultNla, Family, HeaderCount,
@@ -9,9 +9,10 @@ use std::alloc::Global;
 use std::fmt::Debug;
 use std::process::Abort;
 
-/// Both values are equal: else prints the case, and both of them.
+/// Asserts that two values are equal; if they are not, prints the case and both values.
 ///
-/// `assert_eq!` is proved wherever it is written, with all that prints its values; this once.
+/// `assert_eq!` is proved wherever it is written, with all that prints its values; this is proved
+/// once.
 pub fn assert_equal<C: Debug, T: Debug + PartialEq>(
     rt: &impl Abort,
     case: &C,
@@ -21,20 +22,20 @@ pub fn assert_equal<C: Debug, T: Debug + PartialEq>(
     assert_eq!(rt; found, wanted, "{case:?}");
 }
 
-/// The condition holds: else prints the case.
+/// Asserts that a condition holds; if it does not, prints the case.
 pub fn assert_holds<C: Debug>(rt: &impl Abort, case: &C, holds: bool) {
     assert!(rt; holds, "{case:?}");
 }
 
-/// The fault of a header that is not accepted.
-pub const HEADER_FAULT: DecodeError = DecodeError {
+/// The error of a header that is not accepted.
+pub const HEADER_ERROR: DecodeError = DecodeError {
     family: Family::Frame,
     kind: 0,
     cause: Cause::Header,
 };
 
-/// A fault of an attribute of the list itself.
-pub fn link_fault(kind: u16, cause: Cause) -> DecodeError {
+/// An error of an attribute of the list itself.
+pub fn link_error(kind: u16, cause: Cause) -> DecodeError {
     DecodeError {
         family: Family::LinkInfo,
         kind,
@@ -42,7 +43,7 @@ pub fn link_fault(kind: u16, cause: Cause) -> DecodeError {
     }
 }
 
-/// The bytes of a text in hexadecimal digits, between which spaces may stand.
+/// The bytes of a text in hex digits, with or without spaces between them.
 pub fn bytes_of(rt: &impl Abort, alloc: Global, text: &str) -> Vec<u8> {
     let mut bytes = Vec::new(alloc);
     let mut high = None;
@@ -65,7 +66,7 @@ pub fn bytes_of(rt: &impl Abort, alloc: Global, text: &str) -> Vec<u8> {
     bytes
 }
 
-/// Attributes of a family.
+/// A list of attributes of a family.
 pub fn nlas<T: Drop, const N: usize>(rt: &impl Abort, alloc: Global, items: [T; N]) -> Nlas<T> {
     Nlas::new(Vec::from_array(alloc, items).expect(rt, "memory"))
 }
@@ -80,7 +81,7 @@ pub fn text_of(rt: &impl Abort, alloc: Global, text: &str) -> Text {
     Text::copy_of(alloc, text).expect(rt, "memory")
 }
 
-/// An attribute of a type and a payload, which is kept.
+/// An attribute of a type and a payload, kept verbatim.
 pub fn default_nla(rt: &impl Abort, alloc: Global, kind: u16, payload: &[u8]) -> DefaultNla {
     DefaultNla::new(kind, payload.to_vec(alloc).expect(rt, "memory"))
 }
@@ -90,7 +91,7 @@ pub fn repeated(rt: &impl Abort, alloc: Global, byte: u8, count: usize) -> Vec<u
     vec![in alloc; byte; count].expect(rt, "memory")
 }
 
-/// The list that the string is read as.
+/// The list that a byte string parses as.
 pub fn parsed(rt: &impl Abort, alloc: Global, bytes: &[u8]) -> VecLinkInfo {
     VecLinkInfo::parse(alloc, bytes).expect(rt, "a list")
 }
@@ -109,14 +110,16 @@ pub fn list_of<const N: usize>(
     VecLinkInfoOf(nlas(rt, alloc, items))
 }
 
-/// The buffer begins with the string, and the three bytes behind it are 255, as they were.
+/// Asserts that the buffer begins with the encoding, and that the three bytes after it are 255, as
+/// before.
 fn assert_written(rt: &impl Abort, buffer: &[u8], string: &[u8]) {
     let len = string.len();
     assert_equal(rt, &string, &buffer.get(..len), &Some(string));
     assert_equal(rt, &string, &buffer.get(len..), &Some([255; 3].as_slice()));
 }
 
-/// The list is emitted as the string into a longer buffer, whose last three bytes stay.
+/// Asserts that the list is written as the encoding into a longer buffer, whose last three bytes
+/// are unchanged.
 pub fn assert_emitted<T: Nla>(rt: &impl Abort, alloc: Global, items: &[T], string: &[u8]) {
     let fit = nlas_fit_len(items).expect(rt, "a list that fits");
     let len = nlas_buffer_len(items);
@@ -128,7 +131,7 @@ pub fn assert_emitted<T: Nla>(rt: &impl Abort, alloc: Global, items: &[T], strin
     assert_written(rt, &buffer, string);
 }
 
-/// The list of these attributes is emitted as the string.
+/// Asserts that the list of these attributes is written as the encoding.
 pub fn assert_built<const N: usize>(
     rt: &impl Abort,
     alloc: Global,
@@ -138,14 +141,14 @@ pub fn assert_built<const N: usize>(
     assert_emitted(rt, alloc, items.as_slice(), string);
 }
 
-/// Whether the strings are read as equal lists.
+/// Returns whether two byte strings parse as equal lists.
 pub fn reads_equal(rt: &impl Abort, alloc: Global, a: &[u8], b: &[u8]) -> bool {
     let first = parsed(rt, alloc, a);
     let second = parsed(rt, alloc, b);
     first == second
 }
 
-/// The string is read as the list of these attributes.
+/// Asserts that a byte string parses as the list of these attributes.
 pub fn assert_read_as<const N: usize>(
     rt: &impl Abort,
     alloc: Global,
@@ -155,7 +158,8 @@ pub fn assert_read_as<const N: usize>(
     assert_read(rt, alloc, bytes, &list_of(rt, alloc, items));
 }
 
-/// The canonical string of the bytes is refused to a buffer of this many bytes, which stays as it was.
+/// Asserts that the canonical encoding of the bytes is not written into a buffer of this many
+/// bytes, which is unchanged.
 pub fn assert_not_written(
     rt: &impl Abort,
     alloc: Global,
@@ -169,8 +173,8 @@ pub fn assert_not_written(
     assert_equal(rt, &case, &buffer, &repeated(rt, alloc, 255, room));
 }
 
-/// The bytes are written as the canonical string into every buffer that has room for it, which keeps what stands behind, and into none that is
-/// shorter.
+/// Asserts that the canonical encoding of the bytes is written into each buffer that has room for
+/// it, whose rest is unchanged, and into no shorter one.
 pub fn assert_canon_into(rt: &impl Abort, alloc: Global, bytes: &[u8], canonical: &[u8]) {
     let len = canonical.len();
     for room in 0..len {
@@ -185,7 +189,8 @@ pub fn assert_canon_into(rt: &impl Abort, alloc: Global, bytes: &[u8], canonical
     assert_written(rt, &longer, canonical);
 }
 
-/// The bytes are accepted, are the same as the canonical string in either order, and are made that string in one call.
+/// Asserts that the bytes are accepted, that they are equivalent to the canonical encoding in
+/// either order, and that `canon` returns this encoding.
 fn assert_accepted(rt: &impl Abort, alloc: Global, bytes: &[u8], canonical: &[u8]) {
     let string = canon(alloc, bytes).expect(rt, "a canonical string");
     assert_equal(rt, &bytes, &check(bytes), &Ok(()));
@@ -194,13 +199,14 @@ fn assert_accepted(rt: &impl Abort, alloc: Global, bytes: &[u8], canonical: &[u8
     assert_equal(rt, &bytes, &string.as_slice(), &canonical);
 }
 
-/// The list that the string is read as, where headers are counted.
+/// The list that a byte string parses as, with headers counted.
 fn parsed_counted(rt: &impl Abort, alloc: Global, bytes: &[u8]) -> VecLinkInfo {
     let mut count = HeaderCount::new();
     VecLinkInfo::parse_counted(alloc, bytes, &mut count).expect(rt, "a list")
 }
 
-/// A walk gives each attribute of the list in order, at its place, and ends where the bytes do.
+/// Asserts that a walk returns each attribute of the list in order, at its offset, and ends at the
+/// end of the bytes.
 fn assert_walked(rt: &impl Abort, bytes: &[u8], list: &VecLinkInfo) {
     let mut walk = LinkInfoWalk::new(bytes);
     for item in list.iter() {
@@ -213,22 +219,23 @@ fn assert_walked(rt: &impl Abort, bytes: &[u8], list: &VecLinkInfo) {
             &(found.raw_kind & 0x3fff),
             &(item.kind() & 0x3fff),
         );
-        let behind = bytes.get(found.place..).unwrap_or_default();
-        let payload = behind.get(4..4 + found.value.len());
+        let after = bytes.get(found.place..).unwrap_or_default();
+        let payload = after.get(4..4 + found.value.len());
         assert_equal(rt, &bytes, &payload, &Some(found.value));
     }
     assert_holds(rt, &bytes, walk.next().is_none());
     assert_equal(rt, &bytes, &walk.place(), &bytes.len());
 }
 
-/// The bytes are read as the list, whether headers are counted or not.
+/// Asserts that the bytes parse as the list, whether headers are counted or not.
 fn assert_read(rt: &impl Abort, alloc: Global, bytes: &[u8], wanted: &VecLinkInfo) {
     assert_holds(rt, &bytes, parsed(rt, alloc, bytes) == *wanted);
     assert_holds(rt, &bytes, parsed_counted(rt, alloc, bytes) == *wanted);
     assert_walked(rt, bytes, wanted);
 }
 
-/// The string is read as the list, and the list is emitted as its canonical string, which reads as the same list.
+/// Asserts that the bytes of the text parse as the list, and that the list is written as its
+/// canonical encoding, which parses as the same list.
 fn assert_list(rt: &impl Abort, alloc: Global, text: &str, list: &VecLinkInfo, canonical: &str) {
     let string = bytes_of(rt, alloc, canonical);
     let bytes = bytes_of(rt, alloc, text);
@@ -241,7 +248,8 @@ fn assert_list(rt: &impl Abort, alloc: Global, text: &str, list: &VecLinkInfo, c
     assert_canon_into(rt, alloc, &string, &string);
 }
 
-/// The string is read as the list of these attributes, which is emitted as its canonical string.
+/// Asserts that the bytes of the text parse as the list of these attributes, which is written as
+/// its canonical encoding.
 pub fn assert_reads<const N: usize>(
     rt: &impl Abort,
     alloc: Global,
@@ -252,7 +260,8 @@ pub fn assert_reads<const N: usize>(
     assert_list(rt, alloc, text, &list_of(rt, alloc, items), canonical);
 }
 
-/// The string is read as the value, written as `Debug` writes it, which is emitted as the canonical string.
+/// Asserts that the bytes of the text parse as the value, which is given as `Debug` writes it, and
+/// which is written as the canonical encoding.
 pub fn assert_value(rt: &impl Abort, alloc: Global, text: &str, canonical: &str, value: &str) {
     let read = parsed(rt, alloc, &bytes_of(rt, alloc, text));
     let written = format!(in alloc; "{:?}", read.as_slice()).expect(rt, "memory");
@@ -260,38 +269,40 @@ pub fn assert_value(rt: &impl Abort, alloc: Global, text: &str, canonical: &str,
     assert_list(rt, alloc, text, &read, canonical);
 }
 
-/// The string is refused with this fault by every call.
-pub fn assert_refused(rt: &impl Abort, alloc: Global, bytes: &[u8], fault: DecodeError) {
+/// Asserts that each call rejects the bytes with this error.
+pub fn assert_refused(rt: &impl Abort, alloc: Global, bytes: &[u8], error: DecodeError) {
     let read = VecLinkInfo::parse(alloc, bytes).err();
     let rewritten = canon(alloc, bytes).err();
-    assert_equal(rt, &bytes, &check(bytes), &Err(fault));
-    assert_equal(rt, &bytes, &read, &Some(fault));
-    assert_equal(rt, &bytes, &same(bytes, &[]), &Err(fault));
-    assert_equal(rt, &bytes, &same(&[], bytes), &Err(fault));
-    assert_equal(rt, &bytes, &rewritten, &Some(CanonError::Refused(fault)));
-    assert_not_written(rt, alloc, bytes, 0, CanonIntoError::Refused(fault));
-    assert_not_written(rt, alloc, bytes, 100, CanonIntoError::Refused(fault));
+    assert_equal(rt, &bytes, &check(bytes), &Err(error));
+    assert_equal(rt, &bytes, &read, &Some(error));
+    assert_equal(rt, &bytes, &same(bytes, &[]), &Err(error));
+    assert_equal(rt, &bytes, &same(&[], bytes), &Err(error));
+    assert_equal(rt, &bytes, &rewritten, &Some(CanonError::Refused(error)));
+    assert_not_written(rt, alloc, bytes, 0, CanonIntoError::Refused(error));
+    assert_not_written(rt, alloc, bytes, 100, CanonIntoError::Refused(error));
 }
 
-/// Checking and reading the string each look at this many headers, and answer this fault or none.
+/// Asserts that validating and parsing the bytes each examine this many headers, and return this
+/// error or none.
 pub fn assert_headers(
     rt: &impl Abort,
     alloc: Global,
     bytes: &[u8],
-    fault: Option<DecodeError>,
+    error: Option<DecodeError>,
     headers: usize,
 ) {
     let mut checking = HeaderCount::new();
     let checked = check_counted(bytes, &mut checking);
     let mut reading = HeaderCount::new();
     let read = VecLinkInfo::parse_counted(alloc, bytes, &mut reading);
-    assert_equal(rt, &bytes, &checked.err(), &fault);
-    assert_equal(rt, &bytes, &read.err(), &fault);
+    assert_equal(rt, &bytes, &checked.err(), &error);
+    assert_equal(rt, &bytes, &read.err(), &error);
     assert_equal(rt, &bytes, &checking.get(), &headers);
     assert_equal(rt, &bytes, &reading.get(), &headers);
 }
 
-/// The payload of the attribute is emitted by itself as what stands behind the header of the string.
+/// Asserts that the payload of the attribute, written by itself, is what follows the header in the
+/// encoding.
 fn assert_payload<T: Nla>(rt: &impl Abort, alloc: Global, value: &T, string: &[u8]) {
     let len = value.fit_len().expect(rt, "a value that fits");
     assert!(rt; len <= 65_531);
@@ -311,7 +322,7 @@ fn assert_payload<T: Nla>(rt: &impl Abort, alloc: Global, value: &T, string: &[u
     assert_written(rt, &longer, &buffer);
 }
 
-/// The attribute is emitted as the string, with its type, and its payload by itself.
+/// Asserts that the attribute is written as the encoding, with its type, and its payload by itself.
 pub fn assert_attribute<T: Nla>(rt: &impl Abort, alloc: Global, value: &T, string: &[u8]) {
     assert_payload(rt, alloc, value, string);
     assert!(rt; value.fit_len().is_some());

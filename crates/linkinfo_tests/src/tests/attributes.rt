@@ -1,4 +1,4 @@
-//! Each value written as an attribute.
+//! Values written as attributes.
 
 use super::assertions::{
     assert_attribute, assert_equal, assert_holds, bytes_of, copied, default_nla, nlas, repeated,
@@ -10,12 +10,12 @@ use linkinfo::{
 use std::alloc::Global;
 use std::process::Abort;
 
-/// The attribute is emitted as this string.
+/// Asserts that the attribute is written as this encoding.
 fn assert_written<T: Nla + Drop>(rt: &impl Abort, alloc: Global, value: T, string: &str) {
     assert_attribute(rt, alloc, &value, &bytes_of(rt, alloc, string));
 }
 
-/// The attribute is emitted as this string, and is equal to its clone.
+/// Asserts that the attribute is written as this encoding, and is equal to its clone.
 fn assert_clones<T: Nla + Drop + Clone + PartialEq>(
     rt: &impl Abort,
     alloc: Global,
@@ -38,17 +38,17 @@ fn data_is_written(rt: HostRuntime) {
     assert_written(&rt, alloc, veth, "0c000200 06000100 aabb0000");
     let bit = InfoDataOf::Veth(InfoVethOf::Peer(BitPeer(true)));
     assert_written(&rt, alloc, bit, "0c000200 05000100 01000000");
-    // Without a family.
+    // Data without a family.
     let other = InfoData::Other(copied(&rt, alloc, &[7]));
     assert_clones(&rt, alloc, other, "05000200 07000000");
 }
 
-/// How long the value is written, where it fits.
+/// The number of bytes that the value is written as, if it fits.
 fn len_of<T: Nla + Drop>(value: T) -> Option<usize> {
     value.fit_len()
 }
 
-/// How long data of this many bytes is written, where it fits.
+/// The number of bytes that data of this many bytes is written as, if it fits.
 fn len_of_bytes(rt: &impl Abort, alloc: Global, count: usize) -> Option<usize> {
     len_of(InfoData::Other(Bytes::new(repeated(rt, alloc, 0, count))))
 }

@@ -1,4 +1,5 @@
-//! Values that are built, written as strings, and read from them: a value or more of each group of families, and of each shape of data.
+//! Values that are built, written and parsed back: at least one of each group of families, and of
+//! each shape of data.
 
 use super::assertions::{assert_reads, copied, default_nla, link, nlas, text_of};
 use super::worked::{
@@ -16,7 +17,8 @@ use linkinfo::{
 use std::alloc::Global;
 use std::process::Abort;
 
-/// The string is read as a link of a kind with its data, which is emitted as its canonical string.
+/// Asserts that the bytes of the text parse as a link of a kind with its data, which is written as
+/// its canonical encoding.
 fn assert_link(
     rt: &impl Abort,
     alloc: Global,
@@ -57,7 +59,8 @@ fn builds_tunnels(rt: HostRuntime) {
     assert_link(&rt, alloc, VTI6, InfoKind::Vti6, data, VTI6);
 }
 
-/// A link of one of the kinds of `InfoIpTunnel` with these flags is read and emitted as the string.
+/// Asserts that a link of one of the kinds of `InfoIpTunnel` with these flags is written as the
+/// bytes of the text, and that these parse as it.
 fn assert_flags(rt: &impl Abort, alloc: Global, kind: InfoKind, flags: InfoIpTunnel, string: &str) {
     let data = InfoData::IpTunnel(nlas(rt, alloc, [flags]));
     assert_link(rt, alloc, string, kind, data, string);
@@ -136,7 +139,8 @@ fn builds_peers(rt: HostRuntime) {
     );
 }
 
-/// The string is read as a port of a kind with its data, which is emitted as its canonical string.
+/// Asserts that the bytes of the text parse as a port of a kind with its data, which is written as
+/// its canonical encoding.
 fn assert_port(
     rt: &impl Abort,
     alloc: Global,
@@ -165,13 +169,13 @@ fn builds_ports(rt: HostRuntime) {
         data,
         BRIDGE_PORT,
     );
-    // Its type is marked as nested.
+    // An attribute with the flag `NLA_F_NESTED` in its type.
     let kept_by_team = InfoTeamPort::Other(default_nla(&rt, alloc, 0x8001, &[7]));
     let data = InfoPortData::TeamPort(nlas(&rt, alloc, [kept_by_team]));
     assert_port(&rt, alloc, TEAM_PORT, InfoPortKind::Team, data, TEAM_PORT);
     let data = InfoPortData::VrfPort(nlas(&rt, alloc, []));
     assert_port(&rt, alloc, PORT_DATA, InfoPortKind::Vrf, data, PORT_DATA);
-    // The kind `x` is none with a family.
+    // The kind `x` has no family.
     let kind = InfoPortKind::Other(text_of(&rt, alloc, "x"));
     let data = InfoPortData::Other(copied(&rt, alloc, &[7]));
     let canonical = "06000400 78000000 05000500 07000000";
@@ -190,12 +194,12 @@ fn builds_kinds(rt: HostRuntime) {
     assert_reads(&rt, alloc, marked, xfrm, "09000100 7866726d 00000000");
 }
 
-/// Data of an xfrm link.
+/// The data of an xfrm link.
 fn xfrm_data(items: Nlas<InfoXfrm>) -> LinkInfo {
     LinkInfo::Data(InfoData::Xfrm(items))
 }
 
-/// An xfrm link with data twice.
+/// An xfrm link with two data attributes.
 fn data_twice(none: Nlas<InfoXfrm>, identifier: Nlas<InfoXfrm>) -> [LinkInfo; 3] {
     [
         LinkInfo::Kind(InfoKind::Xfrm),

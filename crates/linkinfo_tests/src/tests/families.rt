@@ -1,4 +1,4 @@
-//! Which family the data of a kind has, and payloads read, checked and compared by it.
+//! The family of a kind's data, and payloads parsed, validated and compared by family.
 
 ghost use Rattle.std.specs.Prelude.{IsOk};
 
@@ -11,7 +11,7 @@ use linkinfo::{
 use std::alloc::Global;
 use std::process::Abort;
 
-/// Kinds, with the families of their data.
+/// Kinds, and the families of their data.
 const FAMILIES: &[(KindTag, DataFamily)] = &[
     (KindTag::Bond, DataFamily::Lower(LowerFamily::Bond)),
     (KindTag::Vrf, DataFamily::Device(DeviceFamily::Vrf)),
@@ -25,7 +25,7 @@ const FAMILIES: &[(KindTag, DataFamily)] = &[
     (KindTag::Other, DataFamily::Raw),
 ];
 
-/// Port kinds, with the families of their data.
+/// Port kinds, and the families of their data.
 const PORT_FAMILIES: &[(PortTag, PortFamily)] = &[
     (PortTag::Bond, PortFamily::Bond),
     (PortTag::Bridge, PortFamily::Bridge),
@@ -44,19 +44,19 @@ fn kinds_have_families(rt: HostRuntime) {
     }
 }
 
-/// The table 5 of a vrf.
+/// The data of a vrf link with the table 5.
 const TABLE: [u8; 8] = [8, 0, 1, 0, 5, 0, 0, 0];
 
-/// The same with a flag bit in its type.
+/// The data of a vrf link with the table 5, with a flag bit in the type of the attribute.
 const MARKED: [u8; 8] = [8, 0, 1, 0x80, 5, 0, 0, 0];
 
-/// Another table.
+/// The data of a vrf link with the table 6.
 const OTHER_TABLE: [u8; 8] = [8, 0, 1, 0, 6, 0, 0, 0];
 
-/// A table of one byte.
+/// The data of a vrf link with a table of one byte, which is rejected.
 const SHORT: [u8; 5] = [5, 0, 1, 0, 5];
 
-/// The payload is accepted by the family.
+/// Asserts that the family accepts the payload.
 fn accepts<D: Drop, F: PayloadFamily<D>>(rt: &impl Abort, family: F, payload: &[u8])
     ensures { IsOk ((F.data_of family).means payload.now) }
 {
@@ -66,7 +66,8 @@ fn accepts<D: Drop, F: PayloadFamily<D>>(rt: &impl Abort, family: F, payload: &[
     assert!(rt; checked.is_ok());
 }
 
-/// Whether two accepted payloads mean the same by the family, with the headers that were looked at for the answer.
+/// Returns whether two accepted payloads are equivalent in the family, and the number of headers
+/// examined.
 fn are_same<D: Drop, F: PayloadFamily<D>>(
     rt: &impl Abort,
     family: F,
@@ -80,7 +81,8 @@ fn are_same<D: Drop, F: PayloadFamily<D>>(
     (same, count.get())
 }
 
-/// `TABLE` is read as the data by the family of vrf, the same as `MARKED` and no other, and a table of one byte is refused.
+/// Asserts that the family of vrf parses `TABLE` as the data, that `TABLE` is equivalent to
+/// `MARKED` and to no other, and that a table of one byte is rejected.
 fn has_tables<D: Drop + PartialEq, F: PayloadFamily<D>>(
     rt: &impl Abort,
     alloc: Global,
@@ -96,14 +98,14 @@ fn has_tables<D: Drop + PartialEq, F: PayloadFamily<D>>(
     assert_equal(rt, &MARKED, &headers, &2);
     let (same, _) = are_same::<D, F>(rt, family, &TABLE, &OTHER_TABLE);
     assert_holds(rt, &OTHER_TABLE, !same);
-    let fault = DecodeError {
+    let error = DecodeError {
         family: Family::Vrf,
         kind: 1,
         cause: Cause::Length,
     };
     let mut count = HeaderCount::new();
     let checked = PayloadFamily::<D>::check(family, &SHORT, &mut count);
-    assert_equal(rt, &SHORT, &checked, &Err(fault));
+    assert_equal(rt, &SHORT, &checked, &Err(error));
     assert_equal(rt, &SHORT, &count.get(), &1);
 }
 
@@ -111,7 +113,7 @@ fn has_tables<D: Drop + PartialEq, F: PayloadFamily<D>>(
 fn payloads_of_families(rt: HostRuntime) {
     let alloc = rt.alloc();
     data_laws::families_lawful::<Bytes>();
-    data_laws::faults_named::<Bytes>();
+    data_laws::errors_named::<Bytes>();
     let data = InfoData::Vrf(nlas(&rt, alloc, [InfoVrf::TableId(5)]));
     has_tables(&rt, alloc, family_of(KindTag::Vrf), data);
     let data = InfoPortData::VrfPort(nlas(&rt, alloc, [InfoVrf::TableId(5)]));

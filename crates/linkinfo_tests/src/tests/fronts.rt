@@ -1,8 +1,9 @@
-//! Every front of every worked string: `check` and `parse` agree, and an accepted front is the same as itself.
+//! Every prefix of every worked example: `check` and `parse` agree, and an accepted prefix is
+//! equivalent to itself.
 
-use super::assertions::{HEADER_FAULT, assert_equal, assert_holds, bytes_of};
+use super::assertions::{HEADER_ERROR, assert_equal, assert_holds, bytes_of};
 use super::worked::{
-    BAREUDP, BATADV, BOND_PORT, DATA_TWICE, EMPTY_NAME, FIRST_FAULT, GTP, IP6TNL_SHORT_FLAGS,
+    BAREUDP, BATADV, BOND_PORT, DATA_TWICE, EMPTY_NAME, FIRST_ERROR, GTP, IP6TNL_SHORT_FLAGS,
     IPIP_FLAGS, IPOIB, IPVLAN, IPVLAN_NO_FLAGS, IPVTAP, LATER_KIND, MACVLAN_LIST,
     MACVLAN_SHORT_LIST, NETKIT_SCRUB, NETKIT_SCRUB_DEFAULT, OTHER_PORT, PFCP, PFCP_ATTRIBUTE,
     PFCP_EMPTY, PFCP_MARKED, PFCP_NO_NUL, PFCP_NOT_FRAMED, PFCP_SHORT, SECOND_PORT_DATA, SIT_FLAGS,
@@ -48,7 +49,7 @@ const STRINGS: &[&str] = &[
     "09000100 7866726d",
     "04000900 00",
     "06000100 c328",
-    FIRST_FAULT,
+    FIRST_ERROR,
     "05000300 07000000",
     "08000300 07000000",
     "06000800 05000000",
@@ -87,29 +88,30 @@ const STRINGS: &[&str] = &[
     PFCP_EMPTY,
 ];
 
-/// `check` and `parse` agree on each front, and so does `same` of the front with itself.
+/// Asserts that `check` and `parse` agree on each prefix, and `same` of the prefix with itself too.
 pub fn assert_fronts(rt: &impl Abort, alloc: Global, bytes: &[u8]) {
     for end in 0..=bytes.len() {
         let front = &bytes[..end];
-        let fault = VecLinkInfo::parse(alloc, front).err();
-        let wanted = match fault {
+        let error = VecLinkInfo::parse(alloc, front).err();
+        let wanted = match error {
             None => Ok(true),
-            Some(fault) => Err(fault),
+            Some(error) => Err(error),
         };
-        assert_equal(rt, &front, &check(front).err(), &fault);
+        assert_equal(rt, &front, &check(front).err(), &error);
         assert_equal(rt, &front, &same(front, front), &wanted);
     }
 }
 
 #[test]
-fn every_front(rt: HostRuntime) {
+fn every_prefix(rt: HostRuntime) {
     for text in STRINGS {
         let bytes = bytes_of(&rt, rt.alloc(), text);
         assert_fronts(&rt, rt.alloc(), &bytes);
     }
 }
 
-/// Links with peers, each of a kind and data: the string, the length of the kind without its padding, and the fault where peers are bits.
+/// Links with peers, each a kind and data: the encoding, the length of the kind without its
+/// padding, and the error with bits as peers.
 const PEERS: &[(&str, usize, Option<DecodeError>)] = &[
     ("09000100 76657468 00000000 09000200 05000100 07", 9, None),
     ("0a000100 76786361 6e000000 09000200 05000100 07", 10, None),
@@ -129,30 +131,30 @@ const PEERS: &[(&str, usize, Option<DecodeError>)] = &[
     ),
 ];
 
-/// The front is refused with this fault, or accepted, by each call whose peers are bits.
-fn assert_front_of_bits(rt: &impl Abort, alloc: Global, front: &[u8], fault: Option<DecodeError>) {
+/// Asserts that each call whose peers are bits rejects the prefix with this error, or accepts it.
+fn assert_front_of_bits(rt: &impl Abort, alloc: Global, front: &[u8], error: Option<DecodeError>) {
     let mut count = HeaderCount::new();
     let read = VecLinkInfoOf::<BitPeer>::parse_counted(alloc, front, &mut count).err();
     let compared = same_of::<BitPeer>(front, front);
-    assert_equal(rt, &front, &check_of::<BitPeer>(front).err(), &fault);
-    assert_equal(rt, &front, &read, &fault);
-    assert_equal(rt, &front, &compared.err(), &fault);
+    assert_equal(rt, &front, &check_of::<BitPeer>(front).err(), &error);
+    assert_equal(rt, &front, &read, &error);
+    assert_equal(rt, &front, &compared.err(), &error);
     assert_holds(rt, &front, compared != Ok(false));
 }
 
 #[test]
-fn every_front_of_bits(rt: HostRuntime) {
+fn every_prefix_of_bits(rt: HostRuntime) {
     let alloc = rt.alloc();
-    for (text, kind_len, fault) in PEERS {
+    for (text, kind_len, error) in PEERS {
         let bytes = bytes_of(&rt, alloc, text);
         for end in 0..=bytes.len() {
-            // A whole attribute may lack the padding behind it.
+            // The padding after the last attribute may be absent.
             let wanted = if end == bytes.len() {
-                *fault
+                *error
             } else if end == 0 || (*kind_len..=12).contains(&end) {
                 None
             } else {
-                Some(HEADER_FAULT)
+                Some(HEADER_ERROR)
             };
             assert_front_of_bits(&rt, alloc, &bytes[..end], wanted);
         }

@@ -1,5 +1,5 @@
-//! A list of each kind and of each port kind. The strings are what a kernel, `ip` or pyroute2 wrote, or are made by the rows of the tables. Values are
-//! written as `Debug` writes them.
+//! A list of each kind and of each port kind. The byte strings were written by a kernel, `ip` or
+//! pyroute2, or are made from the rows of the tables. Values are given as `Debug` writes them.
 
 use super::assertions::{assert_equal, assert_holds, assert_value, bytes_of, reads_equal};
 use super::fronts::assert_fronts;
@@ -7,13 +7,15 @@ use linkinfo::same;
 use std::alloc::Global;
 use std::process::Abort;
 
-/// A canonical string, one that differs from it in one value, and what the first is read as.
+/// A canonical encoding, one that differs from it in one value, and the value that the first parses
+/// as.
 type Canonical = (&'static str, &'static str, &'static str);
 
-/// A string, the canonical one of the same list, one that differs from it in one value, and what the first is read as.
+/// An encoding, the canonical encoding of the same list, one that differs from it in one value, and
+/// the value that the first parses as.
 type Rewritten = (&'static str, &'static str, &'static str, &'static str);
 
-/// Tunnels, by their canonical strings.
+/// Tunnels, by their canonical encodings.
 const TUNNELS: &[Canonical] = &[
     (
         "0a000100 76786c61 6e000000 24000200 05001900 01000000 05001e00 01000000 05000700 00000000 06000f00 12b50000",
@@ -82,7 +84,7 @@ const TUNNELS: &[Canonical] = &[
     ),
 ];
 
-/// Devices, by their canonical strings.
+/// Devices, by their canonical encodings.
 const DEVICES: &[Canonical] = &[
     (
         "08000100 76726600 0c000200 08000100 0a000000",
@@ -111,7 +113,7 @@ const DEVICES: &[Canonical] = &[
     ),
 ];
 
-/// Links with a peer and their like, by their canonical strings.
+/// Links with a peer, and tun, wireguard and pfcp links, by their canonical encodings.
 const PEERS: &[Canonical] = &[
     (
         "0b000100 6e65746b 69740000 24000200 08000500 01000000 08000300 07000000 06000800 05000000 05000100 aa000000",
@@ -140,7 +142,7 @@ const PEERS: &[Canonical] = &[
     ),
 ];
 
-/// Links whose attributes are those of the layer below, by their canonical strings.
+/// Links of opaque families, by their canonical encodings.
 const LOWER: &[Canonical] = &[
     (
         "0b000100 62726964 67650000 14000200 08000100 dc050000 08000200 c8000000",
@@ -174,7 +176,7 @@ const LOWER: &[Canonical] = &[
     ),
 ];
 
-/// Links whose data is bytes, by their canonical strings.
+/// Links whose data is bytes, by their canonical encodings.
 const BYTES: &[Canonical] = &[
     (
         "0a000100 64756d6d 79000000 05000200 07000000",
@@ -213,7 +215,7 @@ const BYTES: &[Canonical] = &[
     ),
 ];
 
-/// Ports, by their canonical strings.
+/// Ports, by their canonical encodings.
 const PORTS: &[Canonical] = &[
     (
         "09000400 626f6e64 00000000 14000500 06000500 03000000 08000900 05000000",
@@ -242,7 +244,7 @@ const PORTS: &[Canonical] = &[
     ),
 ];
 
-/// Further attributes, by their canonical strings.
+/// Further attributes, by their canonical encodings.
 const ATTRIBUTES: &[Canonical] = &[
     (
         "0b000100 69703667 72650000 14000200 05000a00 01000000 06000e00 02000000",
@@ -291,7 +293,8 @@ const ATTRIBUTES: &[Canonical] = &[
     ),
 ];
 
-/// Links and ports, by strings that are not canonical: some names are not closed, and the last padding is absent.
+/// Links and ports, by encodings that are not canonical: some names have no closing NUL, and the
+/// last padding is absent.
 const REWRITTEN: &[Rewritten] = &[
     (
         "07000100 76746900 24000200 08000200 01000001 08000300 00000008 08000400 0a000001 08000600 00000000",
@@ -367,7 +370,8 @@ const REWRITTEN: &[Rewritten] = &[
     ),
 ];
 
-/// Further attributes, by strings that are not canonical: numbers are read as truths, and payloads as flags.
+/// Further attributes, by encodings that are not canonical: bytes other than 0 and 1 as truth
+/// values, and flags with a payload.
 const REWRITTEN_ATTRIBUTES: &[Rewritten] = &[
     (
         "0a000100 76786c61 6e000000 44000200 04001c00 05001c00 00000000 05000700 02000000 08000a00 00020001 06000f00 12b50000 05001900 07000000 05001700 07000000 0c002100 00000000 00000001",
@@ -401,7 +405,8 @@ const REWRITTEN_ATTRIBUTES: &[Rewritten] = &[
     ),
 ];
 
-/// The strings are read as two values. Each front of the first is read as it is checked.
+/// Asserts that the two byte strings parse as different values, and that each prefix of the first
+/// parses as it is validated.
 fn assert_changed(rt: &impl Abort, alloc: Global, text: &str, changed: &str) {
     let a = bytes_of(rt, alloc, text);
     let b = bytes_of(rt, alloc, changed);
@@ -411,7 +416,7 @@ fn assert_changed(rt: &impl Abort, alloc: Global, text: &str, changed: &str) {
     assert_fronts(rt, alloc, &a);
 }
 
-/// Each row is read, emitted and compared as `Canonical` says.
+/// Asserts that each row is parsed, written and compared as `Canonical` says.
 fn assert_canonical(rt: &impl Abort, alloc: Global, rows: &[Canonical]) {
     for (string, changed, value) in rows {
         assert_value(rt, alloc, string, string, value);
@@ -419,7 +424,7 @@ fn assert_canonical(rt: &impl Abort, alloc: Global, rows: &[Canonical]) {
     }
 }
 
-/// Each row is read, emitted and compared as `Rewritten` says.
+/// Asserts that each row is parsed, written and compared as `Rewritten` says.
 fn assert_rewritten(rt: &impl Abort, alloc: Global, rows: &[Rewritten]) {
     for (string, canonical, changed, value) in rows {
         assert_value(rt, alloc, string, canonical, value);

@@ -1,4 +1,4 @@
-//! Lines that are read and answered over memory.
+//! The lines of the program, with input and output in memory.
 
 ghost use Rattle.std.specs.Prelude.{◌≡◌, IfOk};
 ghost use Rattle.linkinfo_lines.specs.Answers.{answer_of};
@@ -8,7 +8,7 @@ use linkinfo_lines::{RunError, laws, run};
 use std::alloc::Global;
 use std::process::Abort;
 
-/// Lines of each command, and such as are none.
+/// Lines of each command, and lines that are none.
 pub const INPUT: &[u8] = b"check 090001007866726d00000000140002000800010002000000080002000a000000
 canon 090001007866726d00000000140002000800010002000000080002000a000000
 canon 0800010070666370
@@ -17,7 +17,7 @@ canon -
 check 0
 ";
 
-/// What is written for them.
+/// The output for these lines.
 pub const ANSWER: &[u8] = b"ok
 090001007866726d00000000140002000800010002000000080002000a000000
 090001007066637000000000
@@ -26,7 +26,7 @@ err linkinfo 2 order
 bad line
 ";
 
-/// A run over memory.
+/// A run with input and output in memory.
 fn answer_in_memory(alloc: Global, input: &[u8]) -> Result<Vec<u8>, RunError>
     ensures { IfOk result (λ output. output.items ≡ answer_of input.now) }
 {
@@ -36,14 +36,14 @@ fn answer_in_memory(alloc: Global, input: &[u8]) -> Result<Vec<u8>, RunError>
     Ok(output)
 }
 
-/// A run over the input writes these bytes.
+/// Asserts that a run over the input writes these bytes.
 fn assert_answered(rt: &impl Abort, alloc: Global, input: &[u8], wanted: &[u8]) {
     let output = answer_in_memory(alloc, input).expect(rt, "an answer");
     assert_equal(rt, &input, &output.as_slice(), &wanted);
 }
 
 #[test]
-fn answers_over_memory(rt: HostRuntime) {
+fn lines_in_memory(rt: HostRuntime) {
     laws::line_by_line();
     laws::commands();
     laws::hex_words();
@@ -59,10 +59,10 @@ fn answers_over_memory(rt: HostRuntime) {
     assert_answered(&rt, rt.alloc(), b"", b"");
 }
 
-/// A kind whose name has 65531 letters is accepted, and too long to be written with its closing
-/// zero byte.
+/// A kind whose name has 65531 letters is accepted, and is too long to be written with its closing
+/// NUL.
 #[test]
-fn answers_a_list_that_does_not_fit(rt: HostRuntime) {
+fn a_list_that_does_not_fit(rt: HostRuntime) {
     let alloc = rt.alloc();
     let letters = "61".repeat(alloc, 65_531).expect(&rt, "memory");
     let input = format!(in alloc; "check ffff0100{letters}\ncanon ffff0100{letters}\ncanon -");
@@ -70,7 +70,7 @@ fn answers_a_list_that_does_not_fit(rt: HostRuntime) {
     assert_answered(&rt, alloc, input.as_bytes(), b"ok\nunfit\n-\n");
 }
 
-/// The error is displayed as this text, and is equal to its clone.
+/// Asserts that the error is displayed as this text, and is equal to its clone.
 fn assert_displays(rt: &impl Abort, alloc: Global, error: RunError, wanted: &str) {
     let text = error.to_string(alloc).expect(rt, "memory");
     assert_equal(rt, &wanted, &text.as_str(), &wanted);

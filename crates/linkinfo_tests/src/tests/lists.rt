@@ -1,4 +1,4 @@
-//! Lists that are read and emitted.
+//! Lists that are parsed and written.
 
 use super::assertions::{
     assert_built, assert_equal, assert_holds, assert_reads, bytes_of, link, list_of, nlas, parsed,
@@ -26,13 +26,13 @@ fn emits_what_is_not_well_formed(rt: HostRuntime) {
     assert_reads(&rt, alloc, text, own, text);
 }
 
-/// A clone of what the string is read as is equal to it.
+/// Asserts that a clone of the list that the bytes of the text parse as is equal to it.
 fn assert_clones(rt: &impl Abort, alloc: Global, text: &str) {
     let list = parsed(rt, alloc, &bytes_of(rt, alloc, text));
     assert_holds(rt, &text, list.clone().expect(rt, "memory") == list);
 }
 
-/// A string of each sort of attribute.
+/// An encoding of each sort of attribute.
 const CLONED: &[&str] = &[
     XFRM, VETH, XSTATS, OTHER_PORT, PORT_DATA, EMPTY_NAME, "04000980",
 ];
@@ -44,7 +44,7 @@ fn clones_are_equal(rt: HostRuntime) {
     }
 }
 
-/// The list is written for debugging as this text.
+/// Asserts that `Debug` writes the list as this text.
 fn assert_displays(rt: &impl Abort, alloc: Global, list: VecLinkInfo, wanted: &str) {
     let text = format!(in alloc; "{list:?}").expect(rt, "memory");
     assert_equal(rt, &"as text", &text.as_str(), &wanted);
@@ -58,7 +58,7 @@ fn lists_display_for_debugging(rt: HostRuntime) {
     assert_displays(&rt, alloc, list, wanted);
 }
 
-/// The list is written in one call as these bytes.
+/// Asserts that `to_vec` returns the bytes of the text for the list.
 fn assert_written(rt: &impl Abort, alloc: Global, list: VecLinkInfo, text: &str) {
     let written = list.to_vec(alloc).expect(rt, "a string");
     let wanted = bytes_of(rt, alloc, text);
@@ -74,7 +74,7 @@ fn writes_a_list_in_one_call(rt: HostRuntime) {
     assert_written(&rt, alloc, VecLinkInfo::from(Vec::new(alloc)), "");
 }
 
-/// The types of the attributes of the list, in order.
+/// Asserts the types of the attributes of the list, in order.
 fn assert_types(rt: &impl Abort, alloc: Global, list: &VecLinkInfo, wanted: &[u16]) {
     let mut types = Vec::new(alloc);
     for item in list {
@@ -87,7 +87,7 @@ fn assert_types(rt: &impl Abort, alloc: Global, list: &VecLinkInfo, wanted: &[u1
     assert_holds(rt, &wanted, ends);
 }
 
-/// The list of the attributes that a list gives.
+/// The list of the attributes of a list, iterated over by value.
 fn collected(rt: &impl Abort, alloc: Global, list: VecLinkInfo) -> VecLinkInfo {
     let mut items = Vec::new(alloc);
     for item in list {
@@ -96,8 +96,8 @@ fn collected(rt: &impl Abort, alloc: Global, list: VecLinkInfo) -> VecLinkInfo {
     VecLinkInfo::from(items)
 }
 
-/// The attributes that the list of the string gives by reference and by value, and their number.
-fn assert_gone_over(rt: &impl Abort, alloc: Global, text: &str, types: &[u16]) {
+/// Asserts the attributes of the list by reference and by value, and their number.
+fn assert_iterated(rt: &impl Abort, alloc: Global, text: &str, types: &[u16]) {
     let list = parsed(rt, alloc, &bytes_of(rt, alloc, text));
     assert_types(rt, alloc, &list, types);
     let items = collected(rt, alloc, list.clone().expect(rt, "memory"));
@@ -106,8 +106,8 @@ fn assert_gone_over(rt: &impl Abort, alloc: Global, text: &str, types: &[u16]) {
 }
 
 #[test]
-fn goes_over_a_list(rt: HostRuntime) {
+fn iterates_over_a_list(rt: HostRuntime) {
     let alloc = rt.alloc();
-    assert_gone_over(&rt, alloc, LATER_KIND, &[1, 1, 2]);
-    assert_gone_over(&rt, alloc, "", &[]);
+    assert_iterated(&rt, alloc, LATER_KIND, &[1, 1, 2]);
+    assert_iterated(&rt, alloc, "", &[]);
 }

@@ -1,7 +1,7 @@
-//! Values as long as one attribute holds, and longer ones.
+//! Values that just fit into one attribute, and longer ones.
 
 use super::assertions::{
-    HEADER_FAULT, assert_attribute, assert_built, assert_equal, assert_not_written, assert_read_as,
+    HEADER_ERROR, assert_attribute, assert_built, assert_equal, assert_not_written, assert_read_as,
     assert_refused, parsed, repeated,
 };
 use super::fronts::assert_fronts;
@@ -13,7 +13,7 @@ use std::alloc::Global;
 use std::process::Abort;
 
 /// A header of four bytes, and this many letters `a`.
-fn letters_behind(rt: &impl Abort, alloc: Global, header: [u8; 4], count: usize) -> Vec<u8> {
+fn letters_after(rt: &impl Abort, alloc: Global, header: [u8; 4], count: usize) -> Vec<u8> {
     let mut bytes = Vec::from_array(alloc, header).expect(rt, "memory");
     let letters = repeated(rt, alloc, b'a', count);
     bytes.extend_from_slice(&letters).expect(rt, "memory");
@@ -37,8 +37,8 @@ fn list_of_letters(rt: &impl Abort, alloc: Global, count: usize) -> [LinkInfo; 1
 #[test]
 fn longest_name(rt: HostRuntime) {
     let alloc = rt.alloc();
-    let mut string = letters_behind(&rt, alloc, [255, 255, 1, 0], 65530);
-    let unclosed = letters_behind(&rt, alloc, [254, 255, 1, 0], 65530);
+    let mut string = letters_after(&rt, alloc, [255, 255, 1, 0], 65530);
+    let unclosed = letters_after(&rt, alloc, [254, 255, 1, 0], 65530);
     string.push(0).expect(&rt, "memory");
     assert_equal(&rt, &"the longest", &string.len(), &65535);
     assert_equal(&rt, &"without NUL", &same(&string, &unclosed), &Ok(true));
@@ -50,18 +50,18 @@ fn longest_name(rt: HostRuntime) {
     assert_built(&rt, alloc, list_of_letters(&rt, alloc, 65530), &string);
 }
 
-/// The kind has 65531 bytes, and is emitted as the string.
+/// Asserts that the kind has 65531 bytes, and is written as the encoding.
 fn assert_kind(rt: &impl Abort, alloc: Global, kind: InfoKind, string: &[u8]) {
     assert_equal(rt, &"the kind", &kind.fit_len(), &Some(65531));
     assert_attribute(rt, alloc, &kind, string);
 }
 
-/// How long a kind whose name is this many letters is written, where it fits.
+/// The number of bytes that a kind whose name is this many letters is written as, if it fits.
 fn len_of_letters(rt: &impl Abort, alloc: Global, count: usize) -> Option<usize> {
     kind_of_letters(rt, alloc, count).fit_len()
 }
 
-/// The list of the string does not fit.
+/// Asserts that the list that the bytes parse as does not fit.
 fn assert_unfit(rt: &impl Abort, alloc: Global, string: &[u8]) {
     let read = parsed(rt, alloc, string);
     let case = "a list that does not fit";
@@ -87,7 +87,7 @@ fn name_that_does_not_fit(rt: HostRuntime) {
     let alloc = rt.alloc();
     let case = "65531 letters";
     assert_equal(&rt, &case, &len_of_letters(&rt, alloc, 65531), &None);
-    let string = letters_behind(&rt, alloc, [255, 255, 1, 0], 65531);
+    let string = letters_after(&rt, alloc, [255, 255, 1, 0], 65531);
     assert_equal(&rt, &case, &check(&string), &Ok(()));
     assert_equal(&rt, &case, &same(&string, &string), &Ok(true));
     assert_unfit(&rt, alloc, &string);
@@ -104,8 +104,8 @@ fn unknown_of_letters(rt: &impl Abort, alloc: Global, count: usize) -> [LinkInfo
 #[test]
 fn longest_unknown_attribute(rt: HostRuntime) {
     let alloc = rt.alloc();
-    let mut string = letters_behind(&rt, alloc, [255, 255, 9, 0], 65530);
-    assert_refused(&rt, alloc, &string, HEADER_FAULT);
+    let mut string = letters_after(&rt, alloc, [255, 255, 9, 0], 65530);
+    assert_refused(&rt, alloc, &string, HEADER_ERROR);
     string.push(b'a').expect(&rt, "memory");
     assert_read_as(&rt, alloc, &string, unknown_of_letters(&rt, alloc, 65531));
     string.push(0).expect(&rt, "memory");

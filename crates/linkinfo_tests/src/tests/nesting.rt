@@ -6,15 +6,15 @@ use linkinfo::{Cause, DecodeError, Family, InfoData, InfoMacVlan, LinkInfo, same
 use std::alloc::Global;
 use std::process::Abort;
 
-/// The fault of a list inside 128 others.
+/// The error of a list inside 128 others.
 const TOO_DEEP: DecodeError = DecodeError {
     family: Family::MacVlan,
     kind: 5,
     cause: Cause::Depth,
 };
 
-/// How deep a chain is, the headers of its data and of its first list, a quarter of its bytes, how many headers are looked at, and the
-/// fault.
+/// The depth of a chain, the headers of its data and of its first list, a quarter of its bytes, the
+/// number of headers examined, and the error.
 const CHAINS: &[(u16, [u8; 8], usize, usize, Option<DecodeError>)] = &[
     (100, [0x94, 1, 2, 0, 0x90, 1, 5, 0], 104, 102, None),
     (128, [4, 2, 2, 0, 0, 2, 5, 0], 132, 130, None),
@@ -28,21 +28,22 @@ const CHAINS: &[(u16, [u8; 8], usize, usize, Option<DecodeError>)] = &[
     ),
 ];
 
-/// Puts the header of an attribute of this length and type behind the bytes.
-fn put_header(rt: &impl Abort, bytes: &mut Vec<u8>, len: u16, kind: u8) {
+/// Appends the header of an attribute of this length and type.
+fn write_header(rt: &impl Abort, bytes: &mut Vec<u8>, len: u16, kind: u8) {
     let [low, high] = len.to_le_bytes();
     let header = [low, high, kind, 0];
     bytes.extend_from_slice(&header).expect(rt, "memory");
 }
 
-/// A macvlan link whose data is a chain of address lists, this many levels deep, of which the last one is empty.
+/// A macvlan link whose data is a chain of address lists, this many levels deep, of which the last
+/// one is empty.
 fn chain(rt: &impl Abort, alloc: Global, depth: u16) -> Vec<u8> {
     assert!(rt; depth <= 16382);
     let kind = [12, 0, 1, 0, b'm', b'a', b'c', b'v', b'l', b'a', b'n', 0];
     let mut bytes = Vec::from_array(alloc, kind).expect(rt, "memory");
-    put_header(rt, &mut bytes, 4 + 4 * depth, 2);
+    write_header(rt, &mut bytes, 4 + 4 * depth, 2);
     for below in 0..depth {
-        put_header(rt, &mut bytes, 4 * (depth - below), 5);
+        write_header(rt, &mut bytes, 4 * (depth - below), 5);
     }
     bytes
 }
@@ -50,23 +51,23 @@ fn chain(rt: &impl Abort, alloc: Global, depth: u16) -> Vec<u8> {
 #[test]
 fn counts_of_chains(rt: HostRuntime) {
     let alloc = rt.alloc();
-    for (depth, begin, quarter, headers, fault) in CHAINS {
+    for (depth, begin, quarter, headers, error) in CHAINS {
         let bytes = chain(&rt, alloc, *depth);
         assert_equal(&rt, depth, &bytes.get(12..20), &Some(begin.as_slice()));
         assert_equal(&rt, depth, &(bytes.len() / 4), quarter);
-        assert_headers(&rt, alloc, &bytes, *fault, *headers);
+        assert_headers(&rt, alloc, &bytes, *error, *headers);
     }
 }
 
 #[test]
-fn every_front_of_a_chain(rt: HostRuntime) {
+fn every_prefix_of_a_chain(rt: HostRuntime) {
     let alloc = rt.alloc();
     for (depth, ..) in CHAINS {
         assert_fronts(&rt, alloc, &chain(&rt, alloc, *depth));
     }
 }
 
-/// How many lists are in one another, each alone.
+/// The depth of lists that are inside one another, one at each level.
 fn depth_of(items: &[InfoMacVlan]) -> usize {
     let mut items = items;
     for depth in 0..1000 {
@@ -78,7 +79,7 @@ fn depth_of(items: &[InfoMacVlan]) -> usize {
     1000
 }
 
-/// The string is read as lists this deep, and is what is emitted for them.
+/// Asserts that the bytes parse as lists of this depth, which are written as these bytes.
 fn assert_chain(rt: &impl Abort, alloc: Global, bytes: &[u8], depth: u16) {
     let read = parsed(rt, alloc, bytes);
     let [LinkInfo::Kind(_), LinkInfo::Data(InfoData::MacVlan(items))] = read.as_slice() else {

@@ -1,7 +1,7 @@
-//! Data, port data and statistics read by themselves.
+//! Data, port data and statistics that are parsed by themselves.
 
 use super::assertions::{
-    HEADER_FAULT, assert_equal, assert_holds, copied, default_nla, nlas, text_of,
+    HEADER_ERROR, assert_equal, assert_holds, copied, default_nla, nlas, text_of,
 };
 use linkinfo::{
     BitPeer, Bytes, Cause, DecodeError, Emitable, Family, InfoData, InfoDataOf, InfoKind,
@@ -14,8 +14,8 @@ use std::process::Abort;
 /// An attribute of type 1 of four bytes, and one of type 2.
 const TWO: [u8; 16] = [8, 0, 1, 0, 2, 0, 0, 0, 8, 0, 2, 0, 10, 0, 0, 0];
 
-/// The fault of a payload of another length.
-fn length_fault(family: Family) -> DecodeError {
+/// The error of a payload of another length than its type has.
+fn length_error(family: Family) -> DecodeError {
     DecodeError {
         family,
         kind: 1,
@@ -23,12 +23,12 @@ fn length_fault(family: Family) -> DecodeError {
     }
 }
 
-/// A payload read as data of a kind.
+/// Parses a payload as data of a kind.
 fn read_data(alloc: Global, payload: &[u8], kind: &InfoKind) -> Result<InfoData, DecodeError> {
     InfoData::parse_with_param(alloc, payload, kind)
 }
 
-/// A payload read as data of a port kind.
+/// Parses a payload as data of a port kind.
 fn read_port_data(
     alloc: Global,
     payload: &[u8],
@@ -37,7 +37,7 @@ fn read_port_data(
     InfoPortData::parse_with_param(alloc, payload, kind)
 }
 
-/// A payload is read as this data of a link of the kind.
+/// Asserts that a payload parses as this data of a link of the kind.
 fn assert_data(rt: &impl Abort, alloc: Global, payload: &[u8], kind: InfoKind, data: InfoData) {
     let read = read_data(alloc, payload, &kind).expect(rt, "data");
     assert_holds(rt, &payload, read == data);
@@ -48,7 +48,7 @@ fn data_of_families(rt: HostRuntime) {
     let alloc = rt.alloc();
     let xfrm = InfoData::Xfrm(nlas(&rt, alloc, [InfoXfrm::Link(2), InfoXfrm::IfId(10)]));
     assert_data(&rt, alloc, &TWO, InfoKind::Xfrm, xfrm);
-    // The second attribute is kept.
+    // The second attribute is of an unknown type, and kept verbatim.
     let kept = InfoVrf::Other(default_nla(&rt, alloc, 2, &[10, 0, 0, 0]));
     let vrf = InfoData::Vrf(nlas(&rt, alloc, [InfoVrf::TableId(2), kept]));
     assert_data(&rt, alloc, &TWO, InfoKind::Vrf, vrf);
@@ -66,7 +66,7 @@ fn data_of_bits(rt: HostRuntime) {
     assert_holds(&rt, &bit, read.expect(&rt, "data") == wanted);
 }
 
-/// A payload of five bytes read under a kind without a family is kept as bytes.
+/// Asserts that a payload of five bytes is kept as bytes under a kind without a family.
 fn assert_bytes(rt: &impl Abort, alloc: Global, kind: InfoKind) {
     let bytes = copied(rt, alloc, &TWO[..5]);
     assert_data(rt, alloc, &TWO[..5], kind, InfoData::Other(bytes));
@@ -77,34 +77,34 @@ fn data_without_a_family(rt: HostRuntime) {
     let alloc = rt.alloc();
     assert_bytes(&rt, alloc, InfoKind::Dummy);
 
-    // A kind of an unknown name has no family, whatever the text.
+    // A kind of an unknown name has no family, even if the name is that of a kind.
     assert_bytes(&rt, alloc, InfoKind::Other(text_of(&rt, alloc, "xfrm")));
 }
 
-/// A payload is refused with this fault as data of a kind.
-fn assert_fault(
+/// Asserts that a payload is rejected with this error as data of a kind.
+fn assert_error(
     rt: &impl Abort,
     alloc: Global,
     payload: &[u8],
     kind: &InfoKind,
-    fault: DecodeError,
+    error: DecodeError,
 ) {
     let found = read_data(alloc, payload, kind).err();
-    assert_equal(rt, &payload, &found, &Some(fault));
+    assert_equal(rt, &payload, &found, &Some(error));
 }
 
 #[test]
-fn faults_of_data(rt: HostRuntime) {
+fn errors_of_data(rt: HostRuntime) {
     let alloc = rt.alloc();
     let short = [5, 0, 1, 0, 7];
-    let (xfrm, vrf) = (length_fault(Family::Xfrm), length_fault(Family::Vrf));
-    assert_fault(&rt, alloc, &short, &InfoKind::Xfrm, xfrm);
-    assert_fault(&rt, alloc, &short, &InfoKind::Vrf, vrf);
-    assert_fault(&rt, alloc, &[], &InfoKind::Veth, HEADER_FAULT);
-    assert_fault(&rt, alloc, &[7], &InfoKind::Xfrm, HEADER_FAULT);
+    let (xfrm, vrf) = (length_error(Family::Xfrm), length_error(Family::Vrf));
+    assert_error(&rt, alloc, &short, &InfoKind::Xfrm, xfrm);
+    assert_error(&rt, alloc, &short, &InfoKind::Vrf, vrf);
+    assert_error(&rt, alloc, &[], &InfoKind::Veth, HEADER_ERROR);
+    assert_error(&rt, alloc, &[7], &InfoKind::Xfrm, HEADER_ERROR);
 }
 
-/// A payload is read as this data of a port of the kind.
+/// Asserts that a payload parses as this data of a port of the kind.
 fn assert_port_data(
     rt: &impl Abort,
     alloc: Global,
@@ -117,7 +117,7 @@ fn assert_port_data(
     assert_holds(rt, &payload, read == data);
 }
 
-/// A payload of one byte read under a port kind of an unknown name is kept as bytes.
+/// Asserts that a payload of one byte is kept as bytes under a port kind of an unknown name.
 fn assert_port_bytes(rt: &impl Abort, alloc: Global, name: &str) {
     let bytes = copied(rt, alloc, &[7]);
     let kind = InfoPortKind::Other(text_of(rt, alloc, name));
@@ -137,11 +137,11 @@ fn port_data_by_kind(rt: HostRuntime) {
         &rt,
         &"a short table",
         &short,
-        &Some(length_fault(Family::Vrf)),
+        &Some(length_error(Family::Vrf)),
     );
 }
 
-/// The statistics are read under this kind as these bytes.
+/// Asserts that the statistics parse under this kind as these bytes.
 fn assert_statistics(rt: &impl Abort, alloc: Global, kind: InfoKind, xstats: &LinkXstats) {
     let nla = NlaBuffer::new_checked(&[6, 0, 3, 0, 1, 2]).expect(rt, "an attribute");
     let read = LinkXstats::parse_with_param(alloc, &nla, &kind).expect(rt, "statistics");

@@ -1,4 +1,4 @@
-//! Lists with peers of another type.
+//! Lists with peers of another type than bytes.
 
 use super::assertions::{assert_emitted, assert_equal, assert_holds, bytes_of, nlas, repeated};
 use super::worked::VETH_TAIL;
@@ -10,20 +10,20 @@ use linkinfo::{
 use std::alloc::Global;
 use std::process::Abort;
 
-/// A veth link whose peer is one byte.
+/// A veth link whose peer is the byte 7.
 const PEER_OF_SEVEN: &str = "09000100 76657468 00000000 09000200 05000100 07";
 
-/// The same with another byte.
+/// A veth link whose peer is the byte 9.
 const PEER_OF_NINE: &str = "09000100 76657468 00000000 09000200 05000100 09";
 
-/// The fault of a peer that is refused.
+/// The error of a peer that is rejected.
 const PEER_REFUSED: DecodeError = DecodeError {
     family: Family::Veth,
     kind: 1,
     cause: Cause::Peer,
 };
 
-/// The bytes are read as the list, which looks at this many headers.
+/// Asserts that the bytes parse as the list, and that this many headers are examined.
 fn assert_read(
     rt: &impl Abort,
     alloc: Global,
@@ -39,7 +39,8 @@ fn assert_read(
     assert_equal(rt, &bytes, &count.get(), &headers);
 }
 
-/// The list is equal to its clone, and is written as the canonical string into a buffer and in one call.
+/// Asserts that the list is equal to its clone, and is written as the canonical encoding, into a
+/// buffer and by `to_vec`.
 fn assert_written(rt: &impl Abort, alloc: Global, list: &VecLinkInfoOf<BitPeer>, canonical: &[u8]) {
     assert_holds(rt, &canonical, list.clone().expect(rt, "memory") == *list);
     assert_emitted(rt, alloc, list.as_slice(), canonical);
@@ -47,7 +48,7 @@ fn assert_written(rt: &impl Abort, alloc: Global, list: &VecLinkInfoOf<BitPeer>,
     assert_equal(rt, &canonical, &written.as_slice(), &canonical);
 }
 
-/// The bytes are made the canonical string in one call.
+/// Asserts that `canon` returns the canonical encoding of the bytes.
 fn assert_canonical(rt: &impl Abort, alloc: Global, bytes: &[u8], canonical: &[u8]) {
     let string = canon_of::<BitPeer>(alloc, bytes).expect(rt, "a canonical string");
     assert_equal(rt, &bytes, &string.as_slice(), &canonical);
@@ -60,7 +61,8 @@ fn assert_canonical(rt: &impl Abort, alloc: Global, bytes: &[u8], canonical: &[u
     assert_equal(rt, &bytes, &written, &Err(CanonIntoError::Short(len)));
 }
 
-/// The list is that of the string and of the canonical one, by this many headers, and is written as the canonical one.
+/// Asserts that the bytes of the text, and the canonical encoding, parse as the list, with this
+/// many headers examined, and that the list is written as the canonical encoding.
 fn assert_list(
     rt: &impl Abort,
     alloc: Global,
@@ -73,8 +75,9 @@ fn assert_list(
     assert_written(rt, alloc, &list, canonical);
 }
 
-/// The string is read as a link of the kind with the data, by this many headers, and the link is written as the canonical string. The other
-/// string has a peer that is the same as a bit, and not as a byte.
+/// Asserts that the bytes of the text parse as a link of the kind with the data, with this many
+/// headers examined, and that the link is written as the canonical encoding. The other text has a
+/// peer that is equivalent as a bit, and not as bytes.
 fn assert_bits(
     rt: &impl Abort,
     alloc: Global,
@@ -93,7 +96,7 @@ fn assert_bits(
     assert_canonical(rt, alloc, &other, &canonical);
 }
 
-/// A link whose peer is a bit.
+/// A link with data whose peer is a bit.
 fn link(kind: InfoKind, data: InfoDataOf<BitPeer>) -> [LinkInfoOf<BitPeer>; 2] {
     [LinkInfoOf::Kind(kind), LinkInfoOf::Data(data)]
 }
@@ -115,7 +118,7 @@ fn bits_of_links(rt: HostRuntime) {
         "0a000100 76786361 6e000000 0c000200 05000100 01000000",
     );
     assert_bits(&rt, alloc, strings, link(InfoKind::Vxcan, data), 3);
-    // Peers of both bits.
+    // Both values of a bit as peers.
     let items = [
         InfoNetkitOf::Peer(BitPeer(true)),
         InfoNetkitOf::Primary(false),
@@ -144,27 +147,27 @@ fn checks_and_compares_bits(rt: HostRuntime) {
     assert_equal(&rt, &case, &checked, &Ok(()));
     assert_equal(&rt, &case, &checking.get(), &3);
 
-    // Each string is looked at to be checked, and again to be compared.
+    // Each list is examined once to be validated, and again to be compared.
     let mut comparing = HeaderCount::new();
     let answer = same_counted_of::<BitPeer>(&seven, &nine, &mut comparing);
     assert_equal(&rt, &case, &answer, &Ok(true));
     assert_equal(&rt, &case, &comparing.get(), &12);
 }
 
-/// The fault of a string, where peers are bits.
-fn fault_of(alloc: Global, bytes: &[u8]) -> Option<DecodeError> {
+/// The error of a byte string, with bits as peers.
+fn error_of(alloc: Global, bytes: &[u8]) -> Option<DecodeError> {
     VecLinkInfoOf::<BitPeer>::parse(alloc, bytes).err()
 }
 
 #[test]
-fn refuses_other_peers(rt: HostRuntime) {
+fn rejects_other_peers(rt: HostRuntime) {
     let alloc = rt.alloc();
     let bytes = bytes_of(&rt, alloc, VETH_TAIL);
     let rewritten = canon_of::<BitPeer>(alloc, &bytes).err();
     let written = canon_into_of::<BitPeer>(&bytes, &mut []);
     let case = VETH_TAIL;
     assert_equal(&rt, &case, &check_of::<BitPeer>(&bytes), &Err(PEER_REFUSED));
-    assert_equal(&rt, &case, &fault_of(alloc, &bytes), &Some(PEER_REFUSED));
+    assert_equal(&rt, &case, &error_of(alloc, &bytes), &Some(PEER_REFUSED));
     assert_equal(
         &rt,
         &case,
@@ -191,7 +194,7 @@ fn refuses_other_peers(rt: HostRuntime) {
     );
 }
 
-/// Links with a peer of two bytes, and the families that their faults name.
+/// Links with a peer of two bytes, and the families that their errors name.
 const PEERS_OF_TWO_BYTES: &[(&str, Family)] = &[
     (
         "09000100 76657468 00000000 0a000200 06000100 aabb",
@@ -212,12 +215,12 @@ fn peers_that_are_no_bits(rt: HostRuntime) {
     let alloc = rt.alloc();
     for (text, family) in PEERS_OF_TWO_BYTES {
         let bytes = bytes_of(&rt, alloc, text);
-        let fault = DecodeError {
+        let error = DecodeError {
             family: *family,
             ..PEER_REFUSED
         };
-        assert_equal(&rt, text, &check_of::<BitPeer>(&bytes), &Err(fault));
-        assert_equal(&rt, text, &fault_of(alloc, &bytes), &Some(fault));
+        assert_equal(&rt, text, &check_of::<BitPeer>(&bytes), &Err(error));
+        assert_equal(&rt, text, &error_of(alloc, &bytes), &Some(error));
         assert_equal(&rt, text, &same(&bytes, &bytes), &Ok(true));
     }
 }

@@ -1,7 +1,7 @@
 //! Links of the kind pfcp, whose data is attributes of a family without rows.
 
 use super::assertions::{
-    HEADER_FAULT, assert_built, assert_equal, assert_holds, assert_reads, assert_refused, bytes_of,
+    HEADER_ERROR, assert_built, assert_equal, assert_holds, assert_reads, assert_refused, bytes_of,
     copied, default_nla, link, nlas, parsed,
 };
 use super::worked::{PFCP_ATTRIBUTE, PFCP_EMPTY, PFCP_MARKED, PFCP_NOT_FRAMED, PFCP_SHORT};
@@ -14,7 +14,7 @@ fn pfcp(data: InfoData) -> [LinkInfo; 2] {
     link(InfoKind::Pfcp, data)
 }
 
-/// Data of one attribute, which is kept.
+/// Data of one attribute, which is kept verbatim.
 fn kept(rt: &impl Abort, alloc: Global, kind: u16, payload: &[u8]) -> InfoData {
     let item = default_nla(rt, alloc, kind, payload);
     InfoData::Pfcp(nlas(rt, alloc, [InfoPfcp::Other(item)]))
@@ -32,10 +32,10 @@ fn keeps_attributes_of_pfcp(rt: HostRuntime) {
 }
 
 #[test]
-fn refuses_data_of_pfcp_that_is_not_framed(rt: HostRuntime) {
+fn rejects_data_of_pfcp_that_is_not_framed(rt: HostRuntime) {
     let alloc = rt.alloc();
     let bytes = bytes_of(&rt, alloc, PFCP_NOT_FRAMED);
-    assert_refused(&rt, alloc, &bytes, HEADER_FAULT);
+    assert_refused(&rt, alloc, &bytes, HEADER_ERROR);
 }
 
 /// A pfcp link whose data is bytes, which is not well formed.
@@ -43,15 +43,16 @@ fn pfcp_of_bytes(rt: &impl Abort, alloc: Global, payload: &[u8]) -> [LinkInfo; 2
     pfcp(InfoData::Other(copied(rt, alloc, payload)))
 }
 
-/// The string is read as another list than that of these attributes.
+/// Asserts that the bytes parse as another list than that of these attributes.
 fn assert_read_otherwise(rt: &impl Abort, alloc: Global, string: &[u8], items: [LinkInfo; 2]) {
     let equal = parsed(rt, alloc, string).as_slice() == items.as_slice();
     assert_holds(rt, &string, !equal);
 }
 
-/// Bytes as data of pfcp are not well formed: they are emitted, and their string is refused or reads as attributes.
+/// Bytes as data of pfcp are not well formed: they are written, and their encoding is rejected or
+/// parses as attributes.
 #[test]
-fn emits_bytes_under_pfcp(rt: HostRuntime) {
+fn writes_bytes_under_pfcp(rt: HostRuntime) {
     let alloc = rt.alloc();
     let string = bytes_of(&rt, alloc, PFCP_NOT_FRAMED);
     assert_built(&rt, alloc, pfcp_of_bytes(&rt, alloc, &[1, 2, 3]), &string);
@@ -61,22 +62,22 @@ fn emits_bytes_under_pfcp(rt: HostRuntime) {
     assert_read_otherwise(&rt, alloc, &string, pfcp_of_bytes(&rt, alloc, &payload));
 }
 
-/// Bytes that were kept as data of pfcp, read anew.
+/// Data that bytes, once kept as the data of pfcp, parse as now.
 fn moved(alloc: Global, payload: &[u8]) -> Result<InfoData, DecodeError> {
     InfoData::parse_with_param(alloc, payload, &InfoKind::Pfcp)
 }
 
-/// Bytes that were kept are moved to one attribute.
+/// Asserts that bytes, once kept, parse as one attribute now.
 fn assert_moved(rt: &impl Abort, alloc: Global, payload: &[u8], attribute: InfoData) {
     let read = moved(alloc, payload).expect(rt, "data");
     assert_holds(rt, &payload, read == attribute);
 }
 
 #[test]
-fn moves_bytes_under_pfcp(rt: HostRuntime) {
+fn parses_kept_bytes_under_pfcp(rt: HostRuntime) {
     let alloc = rt.alloc();
     let attribute = kept(&rt, alloc, 0x8001, &[1, 0, 0, 0]);
     assert_moved(&rt, alloc, &[8, 0, 1, 0x80, 1, 0, 0, 0], attribute);
-    let fault = moved(alloc, &[1, 2, 3]).err();
-    assert_equal(&rt, &"three bytes", &fault, &Some(HEADER_FAULT));
+    let error = moved(alloc, &[1, 2, 3]).err();
+    assert_equal(&rt, &"three bytes", &error, &Some(HEADER_ERROR));
 }

@@ -1,4 +1,5 @@
-//! The README's example, word for word: a vxlan link built, written, read back, compared and gone over.
+//! The README's example, word for word: a vxlan link is built, written, parsed, compared and
+//! iterated over.
 
 use linkinfo::{
     InfoData, InfoKind, InfoVxlan, LinkInfo, LinkInfoWalk, Nlas, VecLinkInfo, check, same,
@@ -13,14 +14,14 @@ fn vxlan_link(rt: HostRuntime) -> Result<(), Fail> {
         LinkInfo::Kind(InfoKind::Vxlan),
         LinkInfo::Data(InfoData::Vxlan(Nlas::new(data))),
     ]?);
-    // The canonical string; `Unfit` where the list does not fit.
+    // The canonical encoding, or the error `Unfit` where an attribute is too long.
     let bytes = list.to_vec(alloc)?;
-    // Without memory: `Ok`, or the first fault, a family, a type and a cause.
+    // Validating allocates nothing. An error has a family, a type and a cause.
     assert_eq!(rt; check(&bytes), Ok(()));
     assert!(rt; VecLinkInfo::parse(alloc, &bytes)? == list);
-    // Without memory: whether both mean the same list.
+    // Comparing for equal meaning allocates nothing.
     assert_eq!(rt; same(&bytes, &[]), Ok(false));
-    // Borrowed, one after the other: place, type, bytes, and the kinds in force.
+    // Each attribute is borrowed: its offset, type, payload, and the current kinds.
     let mut walk = LinkInfoWalk::new(&bytes);
     let Some(Ok(kind)) = walk.next() else {
         panic!(rt; "an attribute");

@@ -1,15 +1,15 @@
-//! Calls of which one request for memory is refused.
+//! Calls during which one allocation fails.
 //!
-//! `rt test` runs these tests with all memory that they want. The script `gate/refused_memory` runs
-//! each of them again and again: with its first request refused, with its second, and so on to its
-//! last. A call may then report that memory was refused, after which the same call succeeds, since
-//! one request alone is refused. The tests of `without_memory` make no request, and each other test
-//! makes one at least: the script tries that too.
+//! `rt test` runs these tests with all the memory that they request. The script
+//! `gate/refused_memory` runs each of them again and again: with its first allocation failing, with
+//! its second, and so on to its last. A call may then report the failure, after which the same call
+//! succeeds, since only one allocation fails. The tests of `without_memory` do not allocate, and
+//! each other test allocates at least once: the script checks that too.
 
 mod answers;
 mod attributes;
 mod control;
-mod faults;
+mod errors;
 mod lists;
 mod names;
 mod payloads;

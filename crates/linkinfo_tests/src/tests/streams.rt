@@ -1,4 +1,4 @@
-//! Runs over readers and writers that cut what they give and take, and that fail.
+//! Runs with readers and writers that transfer few bytes at a time, and that fail.
 
 ghost use Rattle.std.specs.Prelude.{◌≤◌};
 
@@ -10,40 +10,40 @@ use std::io;
 use std::io::{ErrorKind, Read, Write};
 use std::process::Abort;
 
-/// Gives its bytes in pieces, and fails at one of its reads.
+/// A reader that returns its bytes in chunks, and fails at one of its reads.
 #[derive(Drop)]
-struct PieceReader<'a> {
+struct ChunkReader<'a> {
     left: &'a [u8],
-    piece: usize,
+    chunk: usize,
     reads: u32,
     fails_at: u32,
 }
 
-impl PieceReader<'static> {
-    fn new(piece: usize, fails_at: u32) -> PieceReader<'static> {
-        PieceReader {
+impl ChunkReader<'static> {
+    fn new(chunk: usize, fails_at: u32) -> ChunkReader<'static> {
+        ChunkReader {
             left: INPUT,
-            piece,
+            chunk,
             reads: 0,
             fails_at,
         }
     }
 }
 
-impl Read for PieceReader<'_> {
+impl Read for ChunkReader<'_> {
     fn read(&mut self, buf: &mut [u8]) -> io::Result<usize> {
         self.reads = self.reads.saturating_add(1);
         if self.reads == self.fails_at {
             return Err(io::Error::from(ErrorKind::Interrupted));
         }
-        let n = self.left.len().min(self.piece).min(buf.len());
+        let n = self.left.len().min(self.chunk).min(buf.len());
         buf[..n].copy_from_slice(&self.left[..n]);
         self.left = &self.left[n..];
         Ok(n)
     }
 }
 
-/// Gives one byte at each read, without end.
+/// A reader that returns one byte at each read, without end.
 #[derive(Drop)]
 struct EndlessReader {
     reads: u32,
@@ -60,8 +60,8 @@ impl Read for EndlessReader {
     }
 }
 
-/// Keeps what it takes in an array, at most seven bytes a write and up to a limit; from then on it
-/// fails or takes nothing.
+/// A writer that keeps what it takes in an array, at most seven bytes a write and up to a limit;
+/// from then on it fails or takes nothing.
 #[derive(Drop)]
 pub struct ArrayWriter {
     held: [u8; 128],
@@ -82,7 +82,7 @@ impl ArrayWriter {
         }
     }
 
-    /// What it has taken.
+    /// The bytes that the writer has taken.
     pub fn as_slice(&self) -> &[u8] {
         &self.held[..self.len]
     }
@@ -109,8 +109,8 @@ impl Write for ArrayWriter {
     }
 }
 
-/// A run over the reader ends so, and the writer has taken these bytes. The number of the case is
-/// printed where that does not hold.
+/// Asserts the result of a run with the reader, and the bytes that the writer has taken. If they
+/// differ, prints the number of the case.
 fn assert_ended<R: Read>(
     rt: &impl Abort,
     alloc: Global,
@@ -126,7 +126,7 @@ fn assert_ended<R: Read>(
 fn ends_at_a_failed_read(rt: HostRuntime) {
     let reads = INPUT.len() as u32 + 1;
     for k in 1..reads + 2 {
-        let mut reader = PieceReader::new(1, k);
+        let mut reader = ChunkReader::new(1, k);
         let writer = ArrayWriter::new(128, true);
         let wanted = if k <= reads {
             (Err(RunError::Read), b"".as_slice())
@@ -137,9 +137,9 @@ fn ends_at_a_failed_read(rt: HostRuntime) {
     }
 }
 
-/// A writer that fails after this many bytes, or takes no more, ends the run.
+/// Asserts that a writer that fails after this many bytes, or takes no more, ends the run.
 fn assert_cut(rt: &impl Abort, alloc: Global, limit: usize, fails: bool) {
-    let mut reader = PieceReader::new(9, 0);
+    let mut reader = ChunkReader::new(9, 0);
     let writer = ArrayWriter::new(limit, fails);
     let wanted = (Err(RunError::Write), ANSWER.get(..limit).unwrap_or(ANSWER));
     assert_ended(rt, alloc, limit, (&mut reader, writer), wanted);
@@ -163,7 +163,7 @@ fn ends_after_the_most_reads(rt: HostRuntime) {
     assert_equal(&rt, &"the most", &MOST_READS, &16_777_216);
 }
 
-/// Takes all address space there is, in smaller and smaller blocks that are never touched.
+/// Allocates all address space that is left, in smaller and smaller blocks that are never touched.
 fn take_all_memory(alloc: Global) -> Result<Vec<Vec<u8>>, AllocError> {
     let mut held = Vec::with_capacity(alloc, 200_000)?;
     let mut size = 1usize << 40;
@@ -181,10 +181,10 @@ fn take_all_memory(alloc: Global) -> Result<Vec<Vec<u8>>, AllocError> {
     Ok(held)
 }
 
-/// Gives its bytes in pieces, and takes all memory at one of its reads.
+/// A reader that returns its bytes in chunks, and allocates all memory at one of its reads.
 #[derive(Drop)]
 struct MemoryTaker<'a> {
-    reader: PieceReader<'a>,
+    reader: ChunkReader<'a>,
     alloc: Global,
     takes_at: u32,
     held: Vec<Vec<u8>>,
@@ -200,11 +200,11 @@ impl Read for MemoryTaker<'_> {
     }
 }
 
-/// Once no memory is left after this read, a run that needs more ends with `Memory` and has written
-/// nothing.
+/// Asserts that a run that needs memory after this read, when none is left, ends with `Memory` and
+/// has written nothing.
 fn assert_starved(rt: &impl Abort, alloc: Global, takes_at: u32) {
     let mut reader = MemoryTaker {
-        reader: PieceReader::new(9, 0),
+        reader: ChunkReader::new(9, 0),
         alloc,
         takes_at,
         held: Vec::new(alloc),
@@ -222,16 +222,16 @@ fn ends_where_no_memory_is_left(rt: HostRuntime) {
     assert_starved(&rt, rt.alloc(), 15);
 }
 
-/// Wherever reads cut the input, the same output is written.
+/// The same output is written wherever reads split the input.
 #[test]
-fn answers_input_in_pieces(rt: HostRuntime) {
-    for piece in 1..INPUT.len() + 2 {
-        let mut reader = PieceReader::new(piece, 0);
+fn input_in_chunks(rt: HostRuntime) {
+    for chunk in 1..INPUT.len() + 2 {
+        let mut reader = ChunkReader::new(chunk, 0);
         let writer = ArrayWriter::new(128, true);
         assert_ended(
             &rt,
             rt.alloc(),
-            piece,
+            chunk,
             (&mut reader, writer),
             (Ok(()), ANSWER),
         );

@@ -7,8 +7,8 @@ use linkinfo::{
 };
 use std::process::Abort;
 
-/// Data that is there, a request, and what of it is not met: the type, the offset in the request, and
-/// the offset in the data.
+/// Data that is there, a request, and what of it is not met: the type, the offset in the request,
+/// and the offset in the data.
 type Case = (
     &'static str,
     &'static str,
@@ -60,6 +60,14 @@ const ROWS: &[Case] = &[
         "08000100 2a000000",
         Some((1, 0, Some(8))),
     ),
+    // Equivalent attributes with other payloads: true as 1 and 2, and a presence flag with a byte.
+    ("05000700 01000000", "05000700 02000000", None),
+    (
+        "05000700 01000000",
+        "05000700 00000000",
+        Some((7, 0, Some(0))),
+    ),
+    ("04001700", "05001700 aa000000", None),
     // A type without a row: of equal payload, whatever its flags.
     ("05003f80 01000000", "05003f00 01000000", None),
     (
@@ -69,7 +77,7 @@ const ROWS: &[Case] = &[
     ),
 ];
 
-/// Of `bond`, whose attributes have no rows, and of types that an index of 64 does not have.
+/// Of `bond`, whose attributes have no rows, also of types that an index from 0 on does not have.
 const NO_ROWS: &[Case] = &[
     ("05000180 01000000", "05000100 01000000", None),
     (
@@ -91,6 +99,38 @@ const NO_ROWS: &[Case] = &[
         "05004000 01000000 05004000 02000000",
         "05004000 01000000 05004000 02000000 05004100 00000000",
         Some((65, 16, None)),
+    ),
+    // The first in byte order, whichever type is smaller.
+    (
+        "05004000 01000000 05000100 01000000",
+        "05004000 02000000 05000100 02000000",
+        Some((64, 0, Some(0))),
+    ),
+    (
+        "05004000 01000000 05000100 01000000",
+        "05000100 02000000 05004000 02000000",
+        Some((1, 0, Some(8))),
+    ),
+    (
+        "05003f00 01000000 05004000 01000000",
+        "05004000 01000000 05003f00 02000000",
+        Some((63, 8, Some(0))),
+    ),
+    ("", "0400ff3f", Some((0x3fff, 0, None))),
+];
+
+/// Of `macvlan`, whose nested lists are compared as a whole: one with an address, whose type has a
+/// flag or not, and one with another address.
+const NESTED: &[Case] = &[
+    (
+        "10000500 0a000400 02000000 00010000",
+        "10000580 0a000480 02000000 00010000",
+        None,
+    ),
+    (
+        "10000500 0a000400 02000000 00010000",
+        "10000500 0a000400 02000000 00020000",
+        Some((5, 0, Some(0))),
     ),
 ];
 
@@ -128,6 +168,7 @@ fn data_is_met(rt: HostRuntime) {
     for (cases, tag, name) in [
         (ROWS, KindTag::Vxlan, Family::Vxlan),
         (NO_ROWS, KindTag::Bond, Family::Bond),
+        (NESTED, KindTag::MacVlan, Family::MacVlan),
     ] {
         for (have, want, at) in cases {
             let (had, wanted) = (bytes_of(&rt, alloc, have), bytes_of(&rt, alloc, want));

@@ -1,16 +1,16 @@
-//! The borrowed walk.
+//! The iterator over borrowed attributes, `LinkInfoWalk`.
 
 use super::assertions::{
-    HEADER_FAULT, assert_built, assert_equal, assert_holds, bytes_of, link, link_fault, nlas,
+    HEADER_ERROR, assert_built, assert_equal, assert_holds, bytes_of, link, link_error, nlas,
 };
-use super::worked::{DATA_TWICE, FIRST_FAULT, SECOND_PORT_DATA};
+use super::worked::{DATA_TWICE, FIRST_ERROR, SECOND_PORT_DATA};
 use linkinfo::{
     Cause, DecodeError, InfoData, InfoKind, InfoVxlan, KindTag, LinkInfoItem, LinkInfoWalk,
     PortTag, same,
 };
 use std::process::Abort;
 
-/// The walk gives these items, each at its place.
+/// Asserts that the walk returns these items, each at its offset.
 fn assert_items(rt: &impl Abort, walk: &mut LinkInfoWalk<'_>, items: &[LinkInfoItem<'_>]) {
     for wanted in items {
         assert_equal(rt, wanted, &walk.place(), &wanted.place);
@@ -21,21 +21,22 @@ fn assert_items(rt: &impl Abort, walk: &mut LinkInfoWalk<'_>, items: &[LinkInfoI
     }
 }
 
-/// The fault that a walk without further items gives next, if it has not ended.
-fn next_fault(rt: &impl Abort, walk: &mut LinkInfoWalk<'_>) -> Option<DecodeError> {
+/// The error that a walk without further items returns next, if it has not ended.
+fn next_error(rt: &impl Abort, walk: &mut LinkInfoWalk<'_>) -> Option<DecodeError> {
     match walk.next() {
         None => None,
-        Some(Err(fault)) => Some(fault),
+        Some(Err(error)) => Some(error),
         Some(Ok(item)) => panic!(rt; "a further item {item:?}"),
     }
 }
 
-/// The items that a walk gives, the fault that it ends with, the place where it ends, and how many headers it looks at.
+/// Asserts the items that a walk returns, the error that it ends with, the offset at which it ends,
+/// and the number of headers examined.
 fn assert_walk(
     rt: &impl Abort,
     bytes: &[u8],
     items: &[LinkInfoItem<'_>],
-    fault: Option<DecodeError>,
+    error: Option<DecodeError>,
     end: usize,
     examined: usize,
 ) {
@@ -43,13 +44,13 @@ fn assert_walk(
     assert_equal(rt, &bytes, &walk.examined(), &0);
     assert_items(rt, &mut walk, items);
     assert_equal(rt, &bytes, &walk.place(), &end);
-    assert_equal(rt, &bytes, &next_fault(rt, &mut walk), &fault);
-    assert_equal(rt, &bytes, &next_fault(rt, &mut walk), &None);
+    assert_equal(rt, &bytes, &next_error(rt, &mut walk), &error);
+    assert_equal(rt, &bytes, &next_error(rt, &mut walk), &None);
     assert_equal(rt, &bytes, &walk.place(), &end);
     assert_equal(rt, &bytes, &walk.examined(), &examined);
 }
 
-/// An item with no kind in force.
+/// An item without a current kind.
 fn item<'a>(place: usize, raw_kind: u16, value: &'a [u8]) -> LinkInfoItem<'a> {
     LinkInfoItem {
         place,
@@ -87,23 +88,23 @@ fn walks_over_kinds_and_data(rt: HostRuntime) {
     ];
     assert_walk(&rt, &bytes_of(&rt, alloc, DATA_TWICE), &items, None, 28, 3);
 
-    // A payload is not looked at, so the fault is that of the stray byte.
+    // A payload is not examined, so the error is that of the stray byte.
     let items = [
         item(0, 1, b"vrf\0"),
         under(KindTag::Vrf, item(8, 2, &[5, 0, 1, 0, 7])),
     ];
-    let bytes = bytes_of(&rt, alloc, FIRST_FAULT);
-    assert_walk(&rt, &bytes, &items, Some(HEADER_FAULT), 20, 2);
+    let bytes = bytes_of(&rt, alloc, FIRST_ERROR);
+    assert_walk(&rt, &bytes, &items, Some(HEADER_ERROR), 20, 2);
 }
 
-/// A vxlan link with its identifier and its port.
+/// A vxlan link with its VNI and its port.
 const VXLAN: [u8; 32] = [
     10, 0, 1, 0, b'v', b'x', b'l', b'a', b'n', 0, 0, 0, 20, 0, 2, 0, 8, 0, 1, 0, 42, 0, 0, 0, 6, 0,
     15, 0, 0x12, 0xb5, 0, 0,
 ];
 
 #[test]
-fn walks_over_what_was_built(rt: HostRuntime) {
+fn walks_over_built_lists(rt: HostRuntime) {
     let alloc = rt.alloc();
     let data = nlas(&rt, alloc, [InfoVxlan::Id(42), InfoVxlan::Port(4789)]);
     let items = link(InfoKind::Vxlan, InfoData::Vxlan(data));
@@ -124,12 +125,12 @@ fn walks_over_ports(rt: HostRuntime) {
         under_port(PortTag::Vrf, item(8, 5, &[])),
     ];
     let bytes = bytes_of(&rt, alloc, SECOND_PORT_DATA);
-    let order = link_fault(5, Cause::Order);
+    let order = link_error(5, Cause::Order);
     assert_walk(&rt, &bytes, &items, Some(order), 12, 3);
 }
 
 #[test]
-fn walks_with_both_kinds_in_force(rt: HostRuntime) {
+fn walks_with_both_current_kinds(rt: HostRuntime) {
     let bytes = [
         8, 0, 1, 0, b'v', b'r', b'f', 0, 8, 0, 4, 0, b'v', b'r', b'f', 0, 4, 0, 5, 0, 4, 0, 2, 0,
     ];
@@ -144,15 +145,15 @@ fn walks_with_both_kinds_in_force(rt: HostRuntime) {
 }
 
 #[test]
-fn walks_end_at_faults(rt: HostRuntime) {
-    // Types keep their flag bits, in items and not in faults.
+fn walks_end_at_errors(rt: HostRuntime) {
+    // Types keep their flag bits, in items and not in errors.
     let marked = item(0, 0x8009, &[7]);
     let bytes = [5, 0, 9, 0x80, 7, 0, 0, 0, 6, 0, 1, 0x80, 0xc3, 0x28];
-    let utf8 = link_fault(1, Cause::Utf8);
+    let utf8 = link_error(1, Cause::Utf8);
     assert_walk(&rt, &bytes, &[marked], Some(utf8), 8, 2);
-    let order = link_fault(3, Cause::Order);
+    let order = link_error(3, Cause::Order);
     assert_walk(&rt, &[4, 0, 3, 0, 4, 0, 9, 0], &[], Some(order), 0, 1);
-    assert_walk(&rt, &[8, 0, 1], &[], Some(HEADER_FAULT), 0, 0);
+    assert_walk(&rt, &[8, 0, 1], &[], Some(HEADER_ERROR), 0, 0);
 }
 
 #[test]
@@ -164,7 +165,7 @@ fn compares_and_clones_walks(rt: HostRuntime) {
     assert_holds(&rt, &"equal to its clone", copy == walk);
     assert_holds(&rt, &"unlike a new one", copy != LinkInfoWalk::new(&bytes));
     walk.next();
-    assert_holds(&rt, &"unlike the one behind", copy != walk);
+    assert_holds(&rt, &"unlike the one after it", copy != walk);
     copy.next();
     assert_holds(&rt, &"equal again", copy == walk);
 }

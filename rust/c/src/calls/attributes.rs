@@ -1,8 +1,8 @@
-//! The attributes inside data, written into an array of the caller's.
+//! The attributes in data, written into an array of the caller.
 
 use crate::calls::codes::{kind_of_code, port_kind_of_code, shape_code};
-use crate::calls::fault::{NO_FAULT, fault_record};
-use crate::calls::items::{LinkinfoFound, put_at};
+use crate::calls::error::{NO_ERROR, error_record};
+use crate::calls::items::{LinkinfoListResult, write_at};
 use linkinfo::layers::link::{
     DataFamily, Datum, DeviceFamily, Family, KindTag, LowerFamily, NlaBuffer, NlasIterator,
     PeeredFamily, PortFamily, Shape, TunnelFamily, family_of, port_family_of, read_datum,
@@ -11,26 +11,26 @@ use linkinfo::layers::link::{
 
 const IFLA_IPTUN_FLAGS: u16 = 8;
 
-/// `struct linkinfo_attribute`: an attribute inside data.
+/// `struct linkinfo_attribute`: an attribute in data.
 #[repr(C)]
 #[derive(Clone, Copy, Debug, PartialEq, Eq)]
 pub struct LinkinfoAttribute {
-    /// Where its header stands in the data; its payload stands four bytes behind.
+    /// The offset of its header in the data, in bytes; its payload is four bytes after that.
     pub place: usize,
-    /// The length of its payload.
+    /// The length of its payload, in bytes.
     pub len: usize,
-    /// The number that its payload means, and else 0.
+    /// The number that its payload means if `is_number`, otherwise 0.
     pub number: u64,
-    /// Its whole 16-bit type.
+    /// Its whole 16-bit type, flag bits included.
     pub raw_kind: u16,
-    /// The code of its shape, 0 where its type has none.
+    /// The shape of its payload, `enum linkinfo_shape`; 0 if its type has none.
     pub shape: u16,
-    /// Whether its payload means a number without a sign.
+    /// Whether its payload means an unsigned number.
     pub is_number: bool,
 }
 
-/// The family of the attributes inside data of a kind, or inside port data of a port kind, by its
-/// code; `None` where the data is bytes.
+/// The family of the attributes in data of a kind, or in port data of a port kind, by the kind's
+/// code. It is `None` if the data is opaque bytes.
 fn family_inside(kind: u16) -> Option<Family> {
     match kind_of_code(kind) {
         Some(tag) => data_name(family_of(tag)),
@@ -66,8 +66,8 @@ fn device_name(family: DeviceFamily) -> Family {
     match family {
         DeviceFamily::IpVlan => Family::IpVlan,
         DeviceFamily::IpVtap => Family::IpVtap,
-        DeviceFamily::MacVlan => Family::MacVlan,
-        DeviceFamily::MacVtap => Family::MacVtap,
+        DeviceFamily::MacVlan(_) => Family::MacVlan,
+        DeviceFamily::MacVtap(_) => Family::MacVtap,
         DeviceFamily::Vrf => Family::Vrf,
         DeviceFamily::Ipoib => Family::Ipoib,
         DeviceFamily::Xfrm => Family::Xfrm,
@@ -113,7 +113,7 @@ fn port_data_name(family: PortFamily) -> Option<Family> {
     }
 }
 
-/// The shape of the tunnel flags, by the kind.
+/// The shape of the tunnel flags (`IFLA_IPTUN_FLAGS`) under a kind.
 fn flags_shape(kind: Option<KindTag>) -> Option<Shape> {
     match kind {
         Some(KindTag::IpIp) | Some(KindTag::SitTun) => Some(Shape::Be16),
@@ -122,7 +122,7 @@ fn flags_shape(kind: Option<KindTag>) -> Option<Shape> {
     }
 }
 
-/// The shape of a masked type in a family, under a kind.
+/// The shape of a type without flag bits, in a family and under a kind.
 fn shape_in(family: Family, kind: Option<KindTag>, masked: u16) -> Option<Shape> {
     match family {
         Family::IpTunnel if masked == IFLA_IPTUN_FLAGS => flags_shape(kind),
@@ -130,47 +130,52 @@ fn shape_in(family: Family, kind: Option<KindTag>, masked: u16) -> Option<Shape>
     }
 }
 
-/// The number that a datum is, where it is one without a sign.
-fn number_of(datum: Datum<'_>) -> Option<u64> {
-    match datum {
-        Datum::Number(number) => Some(number),
-        _ => None,
-    }
+/// A record that C has of an attribute in data.
+pub(crate) trait AttributeRecord: Copy {
+    /// The record of an attribute at this offset in the data, whose payload has this shape or none.
+    fn of_attribute(place: usize, shape: Option<Shape>, nla: &NlaBuffer<'_>) -> Self;
 }
 
-/// The number that a payload means under a shape.
-fn number_in(shape: Option<Shape>, payload: &[u8]) -> Option<u64> {
+/// What a payload means, if its type has a shape that accepts the payload. Lists of attributes and
+/// peers have no datum: the family itself parses them.
+pub(crate) fn datum_in(shape: Option<Shape>, payload: &[u8]) -> Option<Datum<'_>> {
     let shape = shape?;
     if !shape.is_plain() {
         return None;
     }
-    match read_datum(shape, payload) {
-        Ok(datum) => number_of(datum),
-        Err(_) => None,
+    read_datum(shape, payload).ok()
+}
+
+/// The number that a payload means, if it is an unsigned number.
+fn number_in(shape: Option<Shape>, payload: &[u8]) -> Option<u64> {
+    match datum_in(shape, payload) {
+        Some(Datum::Number(number)) => Some(number),
+        _ => None,
     }
 }
 
-/// An attribute as C sees it.
-fn attribute_record(place: usize, shape: Option<Shape>, nla: &NlaBuffer<'_>) -> LinkinfoAttribute {
-    let number = number_in(shape, nla.value());
-    LinkinfoAttribute {
-        place,
-        len: nla.value().len(),
-        number: number.unwrap_or(0),
-        raw_kind: nla.raw_kind(),
-        shape: shape.map_or(0, shape_code),
-        is_number: number.is_some(),
+impl AttributeRecord for LinkinfoAttribute {
+    fn of_attribute(place: usize, shape: Option<Shape>, nla: &NlaBuffer<'_>) -> LinkinfoAttribute {
+        let number = number_in(shape, nla.value());
+        LinkinfoAttribute {
+            place,
+            len: nla.value().len(),
+            number: number.unwrap_or(0),
+            raw_kind: nla.raw_kind(),
+            shape: shape.map_or(0, shape_code),
+            is_number: number.is_some(),
+        }
     }
 }
 
-/// The attributes that a payload frames, as many as the array holds, as those of a family under a
-/// kind.
-fn put_attributes(
+/// Writes the attributes of a payload, as those of a family under a kind, into the array: as many
+/// as it has room for.
+fn write_attributes<R: AttributeRecord>(
     bytes: &[u8],
     family: Family,
     kind: Option<KindTag>,
-    attributes: &mut [LinkinfoAttribute],
-) -> LinkinfoFound {
+    records: &mut [R],
+) -> LinkinfoListResult {
     let mut nlas = NlasIterator::new(bytes);
     let mut count = 0;
     let mut place = 0;
@@ -178,40 +183,51 @@ fn put_attributes(
         match next {
             Ok(nla) => {
                 let shape = shape_in(family, kind, nla.kind());
-                put_at(attributes, count, attribute_record(place, shape, &nla));
+                write_at(records, count, R::of_attribute(place, shape, &nla));
                 count = nlas.examined();
                 place = nlas.place();
             }
             Err(error) => {
-                return LinkinfoFound {
-                    fault: fault_record(error),
+                return LinkinfoListResult {
+                    error: error_record(error),
                     place,
                     count,
                 };
             }
         }
     }
-    LinkinfoFound {
-        fault: NO_FAULT,
+    LinkinfoListResult {
+        error: NO_ERROR,
         place,
         count,
     }
 }
 
-/// The attributes inside data of a kind, or inside port data of a port kind, as many as the array
-/// holds, up to the first that has no header. Where such data is bytes, and under a code that is
-/// none, there are none.
-pub fn linkinfo_attributes(
+/// Writes the attributes in data of a kind, or in port data of a port kind, into the array: as many
+/// as it has room for, up to the first without an accepted header. There are none if such data is
+/// opaque bytes, and none for a number that is no kind and no port kind.
+pub(crate) fn write_inside<R: AttributeRecord>(
     bytes: &[u8],
     kind: u16,
-    attributes: &mut [LinkinfoAttribute],
-) -> LinkinfoFound {
+    records: &mut [R],
+) -> LinkinfoListResult {
     match family_inside(kind) {
-        Some(family) => put_attributes(bytes, family, kind_of_code(kind), attributes),
-        None => LinkinfoFound {
-            fault: NO_FAULT,
+        Some(family) => write_attributes(bytes, family, kind_of_code(kind), records),
+        None => LinkinfoListResult {
+            error: NO_ERROR,
             place: 0,
             count: 0,
         },
     }
+}
+
+/// Writes the attributes in data of a kind, or in port data of a port kind, into the array: as many
+/// as it has room for, up to the first without an accepted header. There are none if such data is
+/// opaque bytes, and none for a number that is no kind and no port kind.
+pub fn linkinfo_attributes(
+    bytes: &[u8],
+    kind: u16,
+    attributes: &mut [LinkinfoAttribute],
+) -> LinkinfoListResult {
+    write_inside(bytes, kind, attributes)
 }

@@ -1,89 +1,121 @@
-//! Lists accepted or refused, compared, and counted.
+//! Lists validated, compared, and their headers counted.
 
-use crate::calls::fault::{LinkinfoFault, NO_FAULT, fault_in, fault_record};
-use linkinfo::layers::link::{
-    FaultIn, HeaderCount, check, check_counted, check_placed, same_placed,
-};
+use crate::calls::error::{LinkinfoError, NO_ERROR, error_or_none, error_record};
+use linkinfo::layers::link::{ErrorIn, HeaderCount, check, check_at, check_counted, same_at};
 
-/// `struct linkinfo_same`: whether two lists mean the same.
+/// `struct linkinfo_same`: whether two lists are equivalent.
 #[repr(C)]
 #[derive(Clone, Copy, Debug, PartialEq, Eq)]
 pub struct LinkinfoSame {
-    /// The fault of the first list, or else that of the second.
-    pub fault: LinkinfoFault,
-    /// Which list has the fault: 1 the first, 2 the second, and 0 where neither has one.
-    pub faulty: u32,
-    /// Whether they mean the same; false where one has a fault.
+    /// The error of the first list, otherwise that of the second.
+    pub error: LinkinfoError,
+    /// Which list has the error: 1 the first, 2 the second, and 0 if neither has one.
+    pub rejected: u32,
+    /// Whether the lists are equivalent; false with an error.
     pub same: bool,
 }
 
-/// `struct linkinfo_count`: how many headers are looked at.
+/// `struct linkinfo_count`: the number of headers examined.
 #[repr(C)]
 #[derive(Clone, Copy, Debug, PartialEq, Eq)]
 pub struct LinkinfoCount {
-    /// The fault of the list.
-    pub fault: LinkinfoFault,
-    /// The headers with four present bytes, at all depths, up to the fault.
+    /// The error of the list.
+    pub error: LinkinfoError,
+    /// The number of headers examined, at all levels, up to the error.
     pub count: usize,
 }
 
-/// `struct linkinfo_placed_fault`: a fault, and where it stands.
+/// `struct linkinfo_error_at`: an error and its offset.
 #[repr(C)]
 #[derive(Clone, Copy, Debug, PartialEq, Eq)]
-pub struct LinkinfoPlacedFault {
-    /// The fault of the list.
-    pub fault: LinkinfoFault,
-    /// Where the attribute of the list begins that has it, itself or in what stands inside it, or
-    /// where no header is accepted; 0 without a fault.
+pub struct LinkinfoErrorAt {
+    /// The error of the list.
+    pub error: LinkinfoError,
+    /// The offset, in bytes, of the attribute of the list that has the error, itself or in its
+    /// contents, or the offset at which no header is accepted; 0 without an error.
     pub place: usize,
 }
 
-/// Whether the list is in the grammar, or its fault.
-pub fn linkinfo_check(bytes: &[u8]) -> LinkinfoFault {
-    fault_in(check(bytes))
+/// `struct linkinfo_inner_error`: an error, its offset, and that of the innermost attribute that
+/// has it.
+#[repr(C)]
+#[derive(Clone, Copy, Debug, PartialEq, Eq)]
+pub struct LinkinfoInnerError {
+    /// The error of the list.
+    pub error: LinkinfoError,
+    /// The offset, in bytes, of the attribute of the list that has the error, itself or in its
+    /// contents, or the offset at which no header is accepted; 0 without an error.
+    pub place: usize,
+    /// The offset in the list, in bytes, of the innermost attribute that has the error, in data or
+    /// in a list in data. It is `place` if the attribute of the list has the error itself, and 0
+    /// without an error.
+    pub inner: usize,
 }
 
-/// The same, and where the fault stands.
-pub fn linkinfo_check_placed(bytes: &[u8]) -> LinkinfoPlacedFault {
-    match check_placed(bytes) {
-        Ok(()) => LinkinfoPlacedFault {
-            fault: NO_FAULT,
+/// Validates a list: returns its first error in byte order, or none.
+pub fn linkinfo_check(bytes: &[u8]) -> LinkinfoError {
+    error_or_none(check(bytes))
+}
+
+/// Validates a list, and returns the offset of its error too.
+pub fn linkinfo_check_at(bytes: &[u8]) -> LinkinfoErrorAt {
+    match check_at(bytes) {
+        Ok(()) => LinkinfoErrorAt {
+            error: NO_ERROR,
             place: 0,
         },
-        Err(at) => LinkinfoPlacedFault {
-            fault: fault_record(at.fault),
+        Err(at) => LinkinfoErrorAt {
+            error: error_record(at.error),
             place: at.place,
         },
     }
 }
 
-/// Whether two lists mean the same, or the fault of the first, or else that of the second.
+/// Validates a list, and returns the offset of the innermost attribute with the error too.
+pub fn linkinfo_check_inner(bytes: &[u8]) -> LinkinfoInnerError {
+    match check_at(bytes) {
+        Ok(()) => LinkinfoInnerError {
+            error: NO_ERROR,
+            place: 0,
+            inner: 0,
+        },
+        Err(at) => LinkinfoInnerError {
+            error: error_record(at.error),
+            place: at.place,
+            inner: at.inner,
+        },
+    }
+}
+
+/// Returns whether two lists are equivalent. The error is that of the first list, otherwise that of
+/// the second.
 pub fn linkinfo_same(a: &[u8], b: &[u8]) -> LinkinfoSame {
-    match same_placed(a, b) {
+    match same_at(a, b) {
         Ok(same) => LinkinfoSame {
-            fault: NO_FAULT,
-            faulty: 0,
+            error: NO_ERROR,
+            rejected: 0,
             same,
         },
-        Err(FaultIn::First(error)) => LinkinfoSame {
-            fault: fault_record(error),
-            faulty: 1,
+        Err(ErrorIn::First(error)) => LinkinfoSame {
+            error: error_record(error),
+            rejected: 1,
             same: false,
         },
-        Err(FaultIn::Second(error)) => LinkinfoSame {
-            fault: fault_record(error),
-            faulty: 2,
+        Err(ErrorIn::Second(error)) => LinkinfoSame {
+            error: error_record(error),
+            rejected: 2,
             same: false,
         },
     }
 }
 
-/// How many headers of the list are looked at, up to its fault: at most a quarter of its bytes.
+/// Validates a list, and counts the headers examined up to its error: at most a quarter of its
+/// bytes.
 pub fn linkinfo_count(bytes: &[u8]) -> LinkinfoCount {
     let mut count = HeaderCount::new();
-    let fault = fault_in(check_counted(bytes, &mut count));
+    let error = error_or_none(check_counted(bytes, &mut count));
     LinkinfoCount {
-        fault,
+        error,
         count: count.get(),
     }
 }

@@ -1,9 +1,9 @@
-//! The numbers by which C knows families, causes, kinds and port kinds.
+//! The numbers by which C knows families, causes, kinds, port kinds and shapes.
 
 use linkinfo::layers::link::{Cause, Family, KindTag, PortTag, Shape};
 
-/// The variants of an enum and their codes: `codes! { Family family to; .. }` is the code of a
-/// value, and with `from` the value of a code.
+/// Maps the variants of an enum to codes. `by_codes! { Family family code_of; .. }` gives the code
+/// of a value, and with `of_code` the value of a code, or `None`.
 macro_rules! by_codes {
     ($enum:ident $given:ident code_of; $($variant:ident = $code:literal),* $(,)?) => {
         match $given {
@@ -18,7 +18,7 @@ macro_rules! by_codes {
     };
 }
 
-/// Families.
+/// Families and their codes.
 macro_rules! families {
     ($given:ident $way:ident) => {
         by_codes! { Family $given $way;
@@ -63,7 +63,7 @@ macro_rules! families {
     };
 }
 
-/// Kinds.
+/// Kinds and their codes.
 macro_rules! kinds {
     ($given:ident $way:ident) => {
         by_codes! { KindTag $given $way;
@@ -118,7 +118,7 @@ macro_rules! kinds {
     };
 }
 
-/// Port kinds, whose numbers no kind has.
+/// Port kinds and their codes, none of which is that of a kind.
 macro_rules! port_kinds {
     ($given:ident $way:ident) => {
         by_codes! { PortTag $given $way;
@@ -136,7 +136,7 @@ pub(crate) fn family_code(family: Family) -> u16 {
     families!(family code_of)
 }
 
-/// The family of a code.
+/// The family of a code, or `None` if no family has it.
 pub(crate) fn family_of_code(code: u16) -> Option<Family> {
     families!(code of_code)
 }
@@ -146,7 +146,7 @@ pub(crate) fn kind_code(kind: KindTag) -> u16 {
     kinds!(kind code_of)
 }
 
-/// The kind of a code.
+/// The kind of a code, or `None` if no kind has it.
 pub(crate) fn kind_of_code(code: u16) -> Option<KindTag> {
     kinds!(code of_code)
 }
@@ -156,12 +156,12 @@ pub(crate) fn port_kind_code(kind: PortTag) -> u16 {
     port_kinds!(kind code_of)
 }
 
-/// The port kind of a code.
+/// The port kind of a code, or `None` if no port kind has it.
 pub(crate) fn port_kind_of_code(code: u16) -> Option<PortTag> {
     port_kinds!(code of_code)
 }
 
-/// The cause of a number, as `Cause::number` gives it.
+/// The cause of a number, as `Cause::number` gives it, or `None` if no cause has it.
 pub(crate) fn cause_of_code(code: u32) -> Option<Cause> {
     match code {
         1 => Some(Cause::Header),

@@ -1,10 +1,13 @@
-//! The calls of `linkinfo` for C, as c/linkinfo.h declares them: answers by value, and no memory
-//! taken. A pointer and a length are a slice.
+//! The calls of `linkinfo` for C, as c/linkinfo.h declares them. Results are returned by value, and
+//! no call allocates. A pointer and a length are a slice.
 
 pub mod attributes;
 pub mod canon;
 pub mod check;
 mod codes;
-pub mod fault;
+pub mod difference;
+pub mod error;
 pub mod items;
 pub mod texts;
+pub mod unmet;
+pub mod values;

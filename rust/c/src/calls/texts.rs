@@ -1,17 +1,19 @@
-//! Names and texts, written into a buffer of the caller's.
+//! Names and texts, written into a buffer of the caller.
 //!
-//! Each call writes the text and a NUL behind it, the text cut where the buffer has no room for
-//! both, and answers the length of the whole text. The text of a code that is none is empty.
+//! Each call writes the text and a NUL after it, and returns the length of the whole text in bytes.
+//! The text is truncated if the buffer has no room for both. A number that is no code has the empty
+//! text.
 
 use crate::calls::codes::{
     cause_of_code, family_of_code, kind_code, kind_of_code, port_kind_code, port_kind_of_code,
 };
-use crate::calls::fault::LinkinfoFault;
+use crate::calls::error::LinkinfoError;
 use arrayvec::ArrayString;
 use linkinfo::layers::link::{DecodeError, InfoKind, InfoPortKind, port_tag_of_name, tag_of_name};
 
-/// Writes a text.
-fn put_text(text: &str, buffer: &mut [u8]) -> usize {
+/// Writes a text and a NUL after it, truncated to the buffer, and returns the length of the whole
+/// text.
+fn write_text(text: &str, buffer: &mut [u8]) -> usize {
     if let Some(room) = buffer.len().checked_sub(1) {
         let shown = text.len().min(room);
         buffer[..shown].copy_from_slice(&text.as_bytes()[..shown]);
@@ -20,71 +22,78 @@ fn put_text(text: &str, buffer: &mut [u8]) -> usize {
     text.len()
 }
 
-/// The name of a family, as `linkinfo` or `vxlan`.
+/// Writes the name of a family, as `linkinfo` or `vxlan`, and returns its length in bytes. The name
+/// is empty for a number that is no family.
 pub fn linkinfo_family_name(family: u16, buffer: &mut [u8]) -> usize {
     match family_of_code(family) {
-        Some(family) => put_text(family.name(), buffer),
-        None => put_text("", buffer),
+        Some(family) => write_text(family.name(), buffer),
+        None => write_text("", buffer),
     }
 }
 
-/// The name of a cause, as `header` or `length`.
+/// Writes the name of a cause, as `header` or `length`, and returns its length in bytes. The name
+/// is empty for a number that is no cause.
 pub fn linkinfo_cause_name(cause: u32, buffer: &mut [u8]) -> usize {
     match cause_of_code(cause) {
-        Some(cause) => put_text(cause.name(), buffer),
-        None => put_text("", buffer),
+        Some(cause) => write_text(cause.name(), buffer),
+        None => write_text("", buffer),
     }
 }
 
-/// The name of a kind, as `vxlan`; that of every other kind is empty.
+/// Writes the name of a kind, as `vxlan`, and returns its length in bytes. The name is empty for
+/// `LINKINFO_KIND_OTHER`, and for a number that is no kind.
 pub fn linkinfo_kind_name(kind: u16, buffer: &mut [u8]) -> usize {
     match kind_of_code(kind) {
         Some(tag) => match InfoKind::from_tag(tag) {
-            Some(kind) => put_text(kind.name(), buffer),
-            None => put_text("", buffer),
+            Some(kind) => write_text(kind.name(), buffer),
+            None => write_text("", buffer),
         },
-        None => put_text("", buffer),
+        None => write_text("", buffer),
     }
 }
 
-/// The name of a port kind, as `bridge`; that of every other port kind is empty.
+/// Writes the name of a port kind, as `bridge`, and returns its length in bytes. The name is empty
+/// for `LINKINFO_PORT_KIND_OTHER`, and for a number that is no port kind.
 pub fn linkinfo_port_kind_name(kind: u16, buffer: &mut [u8]) -> usize {
     match port_kind_of_code(kind) {
         Some(tag) => match InfoPortKind::from_tag(tag) {
-            Some(kind) => put_text(kind.name(), buffer),
-            None => put_text("", buffer),
+            Some(kind) => write_text(kind.name(), buffer),
+            None => write_text("", buffer),
         },
-        None => put_text("", buffer),
+        None => write_text("", buffer),
     }
 }
 
-/// The kind of a name, given without a closing NUL.
+/// Returns the kind of a name, or `LINKINFO_KIND_OTHER` if no kind has it. The name is given
+/// without a closing NUL.
 pub fn linkinfo_kind_of_name(name: &[u8]) -> u16 {
     kind_code(tag_of_name(name))
 }
 
-/// The port kind of a name, given without a closing NUL.
+/// Returns the port kind of a name, or `LINKINFO_PORT_KIND_OTHER` if no port kind has it. The name
+/// is given without a closing NUL.
 pub fn linkinfo_port_kind_of_name(name: &[u8]) -> u16 {
     port_kind_code(port_tag_of_name(name))
 }
 
-/// Family, type in decimal and cause of a fault, as `linkinfo 2 order`, at most 28 bytes; that of
-/// no fault is empty.
-pub fn linkinfo_fault_text(fault: LinkinfoFault, buffer: &mut [u8]) -> usize {
-    match (family_of_code(fault.family), cause_of_code(fault.cause)) {
+/// Writes family, type in decimal and cause of an error, as `linkinfo 2 order`, and returns the
+/// length of this text: at most 28 bytes. The text is empty without an error, and if a number is no
+/// family or no cause.
+pub fn linkinfo_error_text(error: LinkinfoError, buffer: &mut [u8]) -> usize {
+    match (family_of_code(error.family), cause_of_code(error.cause)) {
         (Some(family), Some(cause)) => {
             let text = error_line(DecodeError {
                 family,
-                kind: fault.kind,
+                kind: error.kind,
                 cause,
             });
-            put_text(text.as_str(), buffer)
+            write_text(text.as_str(), buffer)
         }
-        _ => put_text("", buffer),
+        _ => write_text("", buffer),
     }
 }
 
-/// The text of a fault: at most 10, 5 and 11 bytes with a space between them.
+/// The text of an error: at most 10, 5 and 11 bytes, with a space between them.
 fn error_line(error: DecodeError) -> ArrayString<28> {
     let mut text = ArrayString::new();
     let mut decimal = itoa::Buffer::new();

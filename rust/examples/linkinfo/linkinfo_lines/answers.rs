@@ -1,4 +1,4 @@
-//! The answers to the lines of an input.
+//! The result lines for the lines of an input.
 
 use crate::linkinfo_lines::lines::{cut, first_line};
 use linkinfo::compat::AllocError;
@@ -6,16 +6,16 @@ use linkinfo::compat::TryVec;
 use linkinfo::layers::link::{CanonError, Cause, DecodeError};
 use std::io::Write;
 
-/// The answers to an input that comes in parts. A line is answered once it has ended; of the input
-/// only the last line is kept, where it has not ended.
+/// The result lines for an input that comes in chunks. A line is processed once it has ended. Of
+/// the input only the last line is kept, while it has not ended.
 pub struct InputAnswers {
     answers: Answers,
-    /// The line that has not ended yet.
+    /// The last line of the input, which has not ended yet.
     line: Vec<u8>,
 }
 
 impl InputAnswers {
-    /// Before the first part.
+    /// Starts an input, before its first chunk.
     pub fn new() -> InputAnswers {
         InputAnswers {
             answers: Answers::new(),
@@ -23,7 +23,7 @@ impl InputAnswers {
         }
     }
 
-    /// Takes the next part of the input. It fails only where memory runs out.
+    /// Takes the next chunk of the input. The only error is a failed allocation.
     pub fn push(&mut self, part: &[u8]) -> Result<(), AllocError> {
         let Some(end) = memchr::memrchr(b'\n', part) else {
             return self.line.try_extend_from_slice(part);
@@ -34,20 +34,20 @@ impl InputAnswers {
         self.line.try_extend_from_slice(&part[end + 1..])
     }
 
-    /// The answers to all of the input. It fails only where memory runs out.
+    /// Returns the result lines for the whole input. The only error is a failed allocation.
     pub fn finish(mut self) -> Result<Vec<u8>, AllocError> {
         self.answers.push_lines(&self.line)?;
         Ok(self.answers.text)
     }
 }
 
-/// The answers so far, and buffers that each line uses again.
+/// The result lines so far, and buffers that are reused for each line.
 struct Answers {
-    /// The answers.
+    /// The result lines.
     text: Vec<u8>,
-    /// What a word names.
+    /// The bytes of the first operand.
     bytes: Vec<u8>,
-    /// What the second word of a comparison names.
+    /// The bytes of the second operand of `same`.
     second: Vec<u8>,
 }
 
@@ -60,7 +60,7 @@ impl Answers {
         }
     }
 
-    /// Adds the answers to all lines of a text, each with its line feed.
+    /// Appends the result lines for all lines of a text, each with its line feed.
     fn push_lines(&mut self, text: &[u8]) -> Result<(), AllocError> {
         let mut rest = text;
         while !rest.is_empty() {
@@ -71,7 +71,7 @@ impl Answers {
         Ok(())
     }
 
-    /// Adds the answer to a line, with its line feed.
+    /// Appends the result line for a line, with its line feed.
     fn push_line(&mut self, line: &[u8]) -> Result<(), AllocError> {
         self.push_answer(line)?;
         self.text.try_extend_from_slice(b"\n")
@@ -85,8 +85,8 @@ impl Answers {
         self.push_command(verb, operands)
     }
 
-    /// Adds the answer to a verb and what follows its space. An operand with a space in it names no
-    /// bytes, so the last operand is read without looking for more spaces.
+    /// Appends the result of a command, given its verb and its operands. An operand with a space in
+    /// it is invalid, so the last operand is not searched for more spaces.
     fn push_command(&mut self, verb: &[u8], operands: &[u8]) -> Result<(), AllocError> {
         if verb == b"check".as_slice() {
             self.push_check(operands)
@@ -99,18 +99,18 @@ impl Answers {
         }
     }
 
-    /// `check HEX`: whether the list is accepted.
+    /// Appends the result of `check HEX`: whether the list is accepted.
     fn push_check(&mut self, word: &[u8]) -> Result<(), AllocError> {
         if !read_hex(word, &mut self.bytes)? {
             return self.push_bad_line();
         }
         match linkinfo::layers::link::check(&self.bytes) {
             Ok(()) => self.text.try_extend_from_slice(b"ok"),
-            Err(fault) => self.push_fault(fault),
+            Err(error) => self.push_error(error),
         }
     }
 
-    /// `canon HEX`: the canonical string of the list, if it fits.
+    /// Appends the result of `canon HEX`: the canonical encoding of the list, if it fits.
     fn push_canon(&mut self, word: &[u8]) -> Result<(), AllocError> {
         if !read_hex(word, &mut self.bytes)? {
             return self.push_bad_line();
@@ -119,12 +119,12 @@ impl Answers {
             Ok(bytes) if bytes.is_empty() => self.text.try_extend_from_slice(b"-"),
             Ok(bytes) => push_hex(&bytes, &mut self.text),
             Err(CanonError::Unfit) => self.text.try_extend_from_slice(b"unfit"),
-            Err(CanonError::Refused(fault)) if fault.cause == Cause::Memory => Err(AllocError),
-            Err(CanonError::Refused(fault)) => self.push_fault(fault),
+            Err(CanonError::Refused(error)) if error.cause == Cause::Memory => Err(AllocError),
+            Err(CanonError::Refused(error)) => self.push_error(error),
         }
     }
 
-    /// `same HEX HEX`: whether the two lists mean the same.
+    /// Appends the result of `same HEX HEX`: whether the two lists are equivalent.
     fn push_same(&mut self, operands: &[u8]) -> Result<(), AllocError> {
         let (first, second) = cut(operands, b' ');
         let Some(second) = second else {
@@ -133,7 +133,7 @@ impl Answers {
         self.push_comparison(first, second)
     }
 
-    /// Adds the answer to a comparison of what two words name.
+    /// Appends the result of comparing the lists of two operands.
     fn push_comparison(&mut self, first: &[u8], second: &[u8]) -> Result<(), AllocError> {
         if !read_hex(first, &mut self.bytes)? || !read_hex(second, &mut self.second)? {
             return self.push_bad_line();
@@ -141,13 +141,14 @@ impl Answers {
         match linkinfo::layers::link::same(&self.bytes, &self.second) {
             Ok(true) => self.text.try_extend_from_slice(b"true"),
             Ok(false) => self.text.try_extend_from_slice(b"false"),
-            Err(fault) => self.push_fault(fault),
+            Err(error) => self.push_error(error),
         }
     }
 
-    /// Adds a fault of the input: want of memory is none, and is never written.
-    fn push_fault(&mut self, fault: DecodeError) -> Result<(), AllocError> {
-        write!(self.text, "err {fault}").map_err(|_| AllocError)
+    /// Appends an error of the input. A failed allocation is not an error of the input, and is
+    /// never written.
+    fn push_error(&mut self, error: DecodeError) -> Result<(), AllocError> {
+        write!(self.text, "err {error}").map_err(|_| AllocError)
     }
 
     fn push_bad_line(&mut self) -> Result<(), AllocError> {
@@ -155,7 +156,8 @@ impl Answers {
     }
 }
 
-/// Reads the bytes that a word names into the buffer, and answers whether it names some.
+/// Decodes an operand into the buffer, and returns whether it is valid: `-` or hex digits. The only
+/// error is a failed allocation.
 fn read_hex(word: &[u8], bytes: &mut Vec<u8>) -> Result<bool, AllocError> {
     if word == b"-".as_slice() {
         bytes.clear();
@@ -168,7 +170,7 @@ fn read_hex(word: &[u8], bytes: &mut Vec<u8>) -> Result<bool, AllocError> {
     Ok(hex::decode_to_slice(word, bytes.as_mut_slice()).is_ok())
 }
 
-/// Adds the bytes in lower case hex.
+/// Appends bytes in lower case hex.
 fn push_hex(bytes: &[u8], text: &mut Vec<u8>) -> Result<(), AllocError> {
     let start = text.len();
     let digits = bytes.len().checked_mul(2).ok_or(AllocError)?;

@@ -1,6 +1,7 @@
-//! Lines and words, cut off a text one after another.
+//! Lines and words, split off a text one after another.
 
-/// The first line, and what follows its line feed. Asks for a text that is not empty.
+/// Returns the first line of a text, and what follows its line feed. Requires a text that is not
+/// empty.
 ///
 /// # Panics
 ///
@@ -14,7 +15,8 @@ pub fn first_line(text: &[u8]) -> (&[u8], &[u8]) {
     }
 }
 
-/// What stands before the first separator, and what follows it, if there is one.
+/// Splits a text at the first separator: returns what precedes it and what follows it, or the whole
+/// text and `None` if there is no separator.
 pub fn cut(text: &[u8], separator: u8) -> (&[u8], Option<&[u8]>) {
     match place_of(text, separator) {
         Some(end) => (&text[..end], Some(&text[end + 1..])),
@@ -22,7 +24,7 @@ pub fn cut(text: &[u8], separator: u8) -> (&[u8], Option<&[u8]>) {
     }
 }
 
-/// The place of the first such byte.
+/// The index of the first byte with this value.
 fn place_of(text: &[u8], byte: u8) -> Option<usize> {
     memchr::memchr(byte, text)
 }

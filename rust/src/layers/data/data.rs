@@ -1,4 +1,4 @@
-//! Which family the data of a kind has, and data read, checked and compared by it.
+//! The family of a kind's data, and data parsed, validated, compared and written by family.
 
 use crate::layers::data::devices::DeviceFamily;
 use crate::layers::data::info_data::InfoDataOf;
@@ -7,29 +7,29 @@ use crate::layers::data::payload_family::PayloadFamily;
 use crate::layers::data::peers::PeeredFamily;
 use crate::layers::data::tunnels::TunnelFamily;
 use crate::layers::nla_frame::{
-    Bytes, DecodeError, ExactEq, Family, HeaderCount, fitting, put_bytes,
+    Bytes, DecodeError, ExactEq, Family, HeaderCount, fitting, write_bytes,
 };
 use crate::layers::numbers::KindTag;
 use crate::layers::table::LinkPeer;
 
-/// The family of the attributes in a kind's data.
+/// The family of the attributes in `IFLA_INFO_DATA`, which the kind of the link chooses.
 #[derive(Clone, Copy, Debug, PartialEq, Eq)]
 pub enum DataFamily {
-    /// One that is kept verbatim (`layers::table::lower`).
+    /// An opaque family (`layers::table::lower`), whose attributes are kept verbatim.
     Lower(LowerFamily),
-    /// One of `layers::devices`.
+    /// A family of `layers::devices`.
     Device(DeviceFamily),
-    /// One of `layers::tunnels`.
+    /// A family of `layers::tunnels`.
     Tunnel(TunnelFamily),
-    /// One of `layers::peers`.
+    /// A family of `layers::peers`.
     Peered(PeeredFamily),
-    /// None: the data is bytes.
+    /// No family: the data is kept as bytes.
     Raw,
 }
 
 impl ExactEq for DataFamily {}
 
-/// The family of the data of a kind.
+/// The family of the data of links of a kind, by the kind's tag.
 pub fn family_of(tag: KindTag) -> DataFamily {
     match tag {
         KindTag::Bridge => DataFamily::Lower(LowerFamily::Bridge),
@@ -40,8 +40,8 @@ pub fn family_of(tag: KindTag) -> DataFamily {
         KindTag::Bond => DataFamily::Lower(LowerFamily::Bond),
         KindTag::IpVlan => DataFamily::Device(DeviceFamily::IpVlan),
         KindTag::IpVtap => DataFamily::Device(DeviceFamily::IpVtap),
-        KindTag::MacVlan => DataFamily::Device(DeviceFamily::MacVlan),
-        KindTag::MacVtap => DataFamily::Device(DeviceFamily::MacVtap),
+        KindTag::MacVlan => DataFamily::Device(DeviceFamily::MacVlan(0)),
+        KindTag::MacVtap => DataFamily::Device(DeviceFamily::MacVtap(0)),
         KindTag::GreTap => DataFamily::Tunnel(TunnelFamily::GreTap),
         KindTag::GreTap6 => DataFamily::Tunnel(TunnelFamily::GreTap6),
         KindTag::IpIp | KindTag::Ip6Tnl | KindTag::SitTun => {
@@ -83,6 +83,14 @@ impl<P: LinkPeer> PayloadFamily<InfoDataOf<P>> for DataFamily {
             DataFamily::Peered(family) => PayloadFamily::<InfoDataOf<P>>::listing(family),
             DataFamily::Raw => None,
         }
+    }
+
+    fn nested(self) -> Option<(u16, Self)> {
+        let DataFamily::Device(family) = self else {
+            return None;
+        };
+        let (kind, inner) = PayloadFamily::<InfoDataOf<P>>::nested(family)?;
+        Some((kind, DataFamily::Device(inner)))
     }
 
     fn read(self, payload: &[u8], count: &mut HeaderCount) -> Result<InfoDataOf<P>, DecodeError> {
@@ -142,21 +150,21 @@ impl<P: LinkPeer> PayloadFamily<InfoDataOf<P>> for DataFamily {
         }
     }
 
-    fn put_canonical(self, payload: &[u8], buffer: &mut [u8]) -> usize {
+    fn write_canonical(self, payload: &[u8], buffer: &mut [u8]) -> usize {
         match self {
             DataFamily::Lower(family) => {
-                PayloadFamily::<InfoDataOf<P>>::put_canonical(family, payload, buffer)
+                PayloadFamily::<InfoDataOf<P>>::write_canonical(family, payload, buffer)
             }
             DataFamily::Device(family) => {
-                PayloadFamily::<InfoDataOf<P>>::put_canonical(family, payload, buffer)
+                PayloadFamily::<InfoDataOf<P>>::write_canonical(family, payload, buffer)
             }
             DataFamily::Tunnel(family) => {
-                PayloadFamily::<InfoDataOf<P>>::put_canonical(family, payload, buffer)
+                PayloadFamily::<InfoDataOf<P>>::write_canonical(family, payload, buffer)
             }
             DataFamily::Peered(family) => {
-                PayloadFamily::<InfoDataOf<P>>::put_canonical(family, payload, buffer)
+                PayloadFamily::<InfoDataOf<P>>::write_canonical(family, payload, buffer)
             }
-            DataFamily::Raw => put_bytes(payload, buffer),
+            DataFamily::Raw => write_bytes(payload, buffer),
         }
     }
 }

@@ -1,18 +1,19 @@
-//! What the families of data and of port data say of their attributes: a line each.
+//! Specifications of the attributes of each family of data and of port data, a line a family.
 
 use crate::layers::table::LinkPeer;
 
-/// What each family without a peer says of its attributes; of `ipip`, `ip6tnl` and `sit` by the tag
-/// of the kind.
+/// The specification of the attributes of each family without a peer. For `ipip`, `ip6tnl` and
+/// `sit` links it depends on the tag of the kind.
 pub trait PlainFamilies {}
 
-/// Stands for the families without a peer in what is said of them.
+/// The type that implements `PlainFamilies`. Only specifications name it: no call takes or returns
+/// it.
 pub struct Plain;
 
 impl PlainFamilies for Plain {}
 
-/// What each family with a peer says of its attributes, with peers of this type. Every peer has
-/// them, and no other type.
+/// The specification of the attributes of each family with a peer, for one type of peer. Every type
+/// of peer implements it, and no other type does.
 pub trait DataFamilies: LinkPeer {}
 
 impl<P: LinkPeer> DataFamilies for P {}

@@ -2,13 +2,13 @@
 
 use crate::layers::data::data::family_of;
 use crate::layers::data::payload_family::PayloadFamily;
-use crate::layers::data::written::{list_fit_len, one_fit_len, put_list, put_one};
+use crate::layers::data::written::{list_fit_len, one_fit_len, write_list, write_one};
 use crate::layers::devices::{
     InfoIpVlan, InfoIpVtap, InfoIpoib, InfoMacSec, InfoMacVlan, InfoMacVtap, InfoRmNet, InfoVrf,
     InfoXfrm,
 };
 use crate::layers::nla_frame::{
-    Bytes, DecodeError, ExactEq, HeaderCount, Nla, Nlas, fitting, put_bytes,
+    Bytes, DecodeError, ExactEq, HeaderCount, Nla, Nlas, fitting, write_bytes,
 };
 use crate::layers::numbers::{IFLA_INFO_DATA, InfoKind};
 use crate::layers::peers::{
@@ -20,103 +20,107 @@ use crate::layers::tunnels::{
     InfoAmt, InfoBareUdp, InfoGeneve, InfoGre, InfoGre6, InfoGtp, InfoIpTunnel, InfoVti, InfoVxlan,
 };
 
-/// The data of a link: attributes of the family of its kind, or the bytes.
+/// The data of a link (`IFLA_INFO_DATA`): the attributes of its kind's family, or bytes if the kind
+/// has no family. Peers have the type `P`.
 #[derive(Debug, PartialEq, Eq, Clone)]
 pub enum InfoDataOf<P> {
-    /// Of `bridge`.
+    /// Attributes of a `bridge` link (`IFLA_BR_*`), kept verbatim.
     Bridge(Nlas<InfoBridge>),
-    /// Of `tun`.
+    /// Attributes of a `tun` link (`IFLA_TUN_*`), kept verbatim.
     Tun(Nlas<InfoTun>),
-    /// Of `vlan`.
+    /// Attributes of a `vlan` link (`IFLA_VLAN_*`), kept verbatim.
     Vlan(Nlas<InfoVlan>),
-    /// Of `veth`: the first attribute alone.
+    /// The attribute of a `veth` link (`VETH_INFO_*`): the first one of its data.
     Veth(InfoVethOf<P>),
-    /// Of `vxlan`.
+    /// Attributes of a `vxlan` link (`IFLA_VXLAN_*`).
     Vxlan(Nlas<InfoVxlan>),
-    /// Of `bond`.
+    /// Attributes of a `bond` link (`IFLA_BOND_*`), kept verbatim.
     Bond(Nlas<InfoBond>),
-    /// Of `ipvlan`.
+    /// Attributes of an `ipvlan` link (`IFLA_IPVLAN_*`).
     IpVlan(Nlas<InfoIpVlan>),
-    /// Of `ipvtap`.
+    /// Attributes of an `ipvtap` link (`IFLA_IPVLAN_*`).
     IpVtap(Nlas<InfoIpVtap>),
-    /// Of `macvlan`.
+    /// Attributes of a `macvlan` link (`IFLA_MACVLAN_*`).
     MacVlan(Nlas<InfoMacVlan>),
-    /// Of `macvtap`.
+    /// Attributes of a `macvtap` link (`IFLA_MACVLAN_*`).
     MacVtap(Nlas<InfoMacVtap>),
-    /// Of `gretap`.
+    /// Attributes of a `gretap` link (`IFLA_GRE_*`).
     GreTap(Nlas<InfoGre>),
-    /// Of `ip6gretap`.
+    /// Attributes of an `ip6gretap` link (`IFLA_GRE_*`).
     GreTap6(Nlas<InfoGre6>),
-    /// Of `ipip`, `ip6tnl` and `sit`.
+    /// Attributes of an `ipip`, `ip6tnl` or `sit` link (`IFLA_IPTUN_*`).
     IpTunnel(Nlas<InfoIpTunnel>),
-    /// Of `gre`.
+    /// Attributes of a `gre` link (`IFLA_GRE_*`).
     GreTun(Nlas<InfoGre>),
-    /// Of `ip6gre`.
+    /// Attributes of an `ip6gre` link (`IFLA_GRE_*`).
     GreTun6(Nlas<InfoGre6>),
-    /// Of `vti` and `vti6`.
+    /// Attributes of a `vti` or `vti6` link (`IFLA_VTI_*`).
     Vti(Nlas<InfoVti>),
-    /// Of `vrf`.
+    /// Attributes of a `vrf` link (`IFLA_VRF_*`).
     Vrf(Nlas<InfoVrf>),
-    /// Of `gtp`.
+    /// Attributes of a `gtp` link (`IFLA_GTP_*`).
     Gtp(Nlas<InfoGtp>),
-    /// Of `ipoib`.
+    /// Attributes of an `ipoib` link (`IFLA_IPOIB_*`).
     Ipoib(Nlas<InfoIpoib>),
-    /// Of `wireguard`.
+    /// Attributes of a `wireguard` link, kept verbatim.
     Wireguard(Nlas<InfoWireguard>),
-    /// Of `xfrm`.
+    /// Attributes of an `xfrm` link (`IFLA_XFRM_*`).
     Xfrm(Nlas<InfoXfrm>),
-    /// Of `macsec`.
+    /// Attributes of a `macsec` link (`IFLA_MACSEC_*`).
     MacSec(Nlas<InfoMacSec>),
-    /// Of `hsr`.
+    /// Attributes of an `hsr` link (`IFLA_HSR_*`), kept verbatim.
     Hsr(Nlas<InfoHsr>),
-    /// Of `geneve`.
+    /// Attributes of a `geneve` link (`IFLA_GENEVE_*`).
     Geneve(Nlas<InfoGeneve>),
-    /// Of `netkit`.
+    /// Attributes of a `netkit` link (`IFLA_NETKIT_*`).
     Netkit(Nlas<InfoNetkitOf<P>>),
-    /// Of `vxcan`: the first attribute alone.
+    /// The attribute of a `vxcan` link (`VXCAN_INFO_*`): the first one of its data.
     Vxcan(InfoVxcanOf<P>),
-    /// Of `amt`.
+    /// Attributes of an `amt` link (`IFLA_AMT_*`).
     Amt(Nlas<InfoAmt>),
-    /// Of `batadv`.
+    /// Attributes of a `batadv` link (`IFLA_BATADV_*`).
     BatAdv(Nlas<InfoBatAdv>),
-    /// Of `bareudp`.
+    /// Attributes of a `bareudp` link (`IFLA_BAREUDP_*`).
     BareUdp(Nlas<InfoBareUdp>),
-    /// Of `wwan`.
+    /// Attributes of a `wwan` link (`IFLA_WWAN_*`).
     Wwan(Nlas<InfoWwan>),
-    /// Of `can`.
+    /// Attributes of a `can` link (`IFLA_CAN_*`), kept verbatim.
     Can(Nlas<InfoCan>),
-    /// Of `dsa`.
+    /// Attributes of a `dsa` link (`IFLA_DSA_*`), kept verbatim.
     Dsa(Nlas<InfoDsa>),
-    /// Of `erspan`.
+    /// Attributes of an `erspan` link (`IFLA_GRE_*`).
     ErSpan(Nlas<InfoGre>),
-    /// Of `ip6erspan`.
+    /// Attributes of an `ip6erspan` link (`IFLA_GRE_*`).
     Ip6ErSpan(Nlas<InfoGre6>),
-    /// Of `pfcp`.
+    /// Attributes of a `pfcp` link, kept verbatim.
     Pfcp(Nlas<InfoPfcp>),
-    /// Of `rmnet`.
+    /// Attributes of an `rmnet` link (`IFLA_RMNET_*`).
     RmNet(Nlas<InfoRmNet>),
-    /// Of a kind without a family.
+    /// The bytes of the data of a link whose kind has no family.
     Other(Bytes),
 }
 
-/// The data of a link, with peers kept as bytes.
+/// The data of a link (`IFLA_INFO_DATA`), with peers kept as bytes.
 pub type InfoData = InfoDataOf<Bytes>;
 
 impl<P: LinkPeer> InfoDataOf<P> {
-    /// Reads a payload as data of a kind: as the attributes of its family, or as bytes where it has
-    /// none, as under `InfoKind::Other` whatever its text. Of the data of veth and vxcan the first
-    /// attribute alone is read.
+    /// Parses the payload of `IFLA_INFO_DATA` of a link of this kind.
     ///
-    /// The fault is that of the first attribute in byte order that has no header or no meaning. An
-    /// answer other than (Frame, 0, Memory) is what the payload means.
+    /// The result holds the attributes of the kind's family, or the bytes if the kind has none.
+    /// `InfoKind::Other` has no family, whatever its name. Of the data of veth and vxcan links, the
+    /// first attribute alone is parsed.
+    ///
+    /// The error is that of the first attribute in byte order whose header or value is rejected, or
+    /// `(Frame, 0, Memory)` if an allocation fails first. Every other result depends on the payload
+    /// and the kind alone.
     pub fn parse_with_param(payload: &[u8], kind: &InfoKind) -> Result<InfoDataOf<P>, DecodeError> {
         let mut count = HeaderCount::new();
         family_of(kind.tag()).read(payload, &mut count)
     }
 }
 
-/// Matches data, each variant once: by `$list` where it holds a list of attributes, by `$first`
-/// where it holds one, and by `$bytes`.
+/// Matches data, and names each variant once: by `$list` if it holds a list of attributes, by
+/// `$first` if it holds one attribute, and by `$bytes` if it holds bytes.
 macro_rules! of_data {
     ($data:expr, $it:ident => $list:expr, $first:expr, $bytes:expr) => {
         match $data {
@@ -161,7 +165,8 @@ macro_rules! of_data {
     };
 }
 
-/// Written with the type 2. Data of a family is its attributes' strings, one after another.
+/// Written as an attribute of type 2 (`IFLA_INFO_DATA`). The payload is the encodings of the
+/// attributes, one after another.
 impl<P: LinkPeer> Nla for InfoDataOf<P> {
     fn value_len(&self) -> usize {
         self.fit_len().unwrap_or(0)
@@ -172,7 +177,10 @@ impl<P: LinkPeer> Nla for InfoDataOf<P> {
     }
 
     fn emit_payload(&self, buffer: &mut [u8]) -> usize {
-        of_data!(self, it => put_list(it, buffer), put_one(it, buffer), put_bytes(it.as_slice(), buffer))
+        of_data!(
+            self, it =>
+            write_list(it, buffer), write_one(it, buffer), write_bytes(it.as_slice(), buffer)
+        )
     }
 
     fn emit_value(&self, buffer: &mut [u8]) {

@@ -6,23 +6,24 @@ use crate::layers::data::written::read_nlas;
 use crate::layers::nla_frame::{DecodeError, ExactEq, Family, HeaderCount};
 use crate::layers::table::lower::{InfoBond, InfoBridge, InfoCan, InfoDsa, InfoHsr, InfoVlan};
 use crate::layers::table::{
-    LinkPeer, list_canonical_len, list_check, list_put_canonical, list_same,
+    LinkPeer, list_canonical_len, list_check, list_same, list_write_canonical,
 };
 
-/// The families of bridge, vlan, bond, hsr, can and dsa links.
+/// The families of data of bridge, vlan, bond, hsr, can and dsa links, whose attributes are kept
+/// verbatim.
 #[derive(Clone, Copy, Debug, PartialEq, Eq)]
 pub enum LowerFamily {
-    /// That of `bridge`.
+    /// Attributes of `bridge` links (`IFLA_BR_*`).
     Bridge,
-    /// That of `vlan`.
+    /// Attributes of `vlan` links (`IFLA_VLAN_*`).
     Vlan,
-    /// That of `bond`.
+    /// Attributes of `bond` links (`IFLA_BOND_*`).
     Bond,
-    /// That of `hsr`.
+    /// Attributes of `hsr` links (`IFLA_HSR_*`).
     Hsr,
-    /// That of `can`.
+    /// Attributes of `can` links (`IFLA_CAN_*`).
     Can,
-    /// That of `dsa`.
+    /// Attributes of `dsa` links (`IFLA_DSA_*`).
     Dsa,
 }
 
@@ -38,6 +39,10 @@ impl<P: LinkPeer> PayloadFamily<InfoDataOf<P>> for LowerFamily {
             LowerFamily::Can => Some(Family::Can),
             LowerFamily::Dsa => Some(Family::Dsa),
         }
+    }
+
+    fn nested(self) -> Option<(u16, Self)> {
+        None
     }
 
     fn read(self, payload: &[u8], count: &mut HeaderCount) -> Result<InfoDataOf<P>, DecodeError> {
@@ -85,14 +90,14 @@ impl<P: LinkPeer> PayloadFamily<InfoDataOf<P>> for LowerFamily {
         }
     }
 
-    fn put_canonical(self, payload: &[u8], buffer: &mut [u8]) -> usize {
+    fn write_canonical(self, payload: &[u8], buffer: &mut [u8]) -> usize {
         match self {
-            LowerFamily::Bridge => list_put_canonical::<InfoBridge>(payload, (), buffer),
-            LowerFamily::Vlan => list_put_canonical::<InfoVlan>(payload, (), buffer),
-            LowerFamily::Bond => list_put_canonical::<InfoBond>(payload, (), buffer),
-            LowerFamily::Hsr => list_put_canonical::<InfoHsr>(payload, (), buffer),
-            LowerFamily::Can => list_put_canonical::<InfoCan>(payload, (), buffer),
-            LowerFamily::Dsa => list_put_canonical::<InfoDsa>(payload, (), buffer),
+            LowerFamily::Bridge => list_write_canonical::<InfoBridge>(payload, (), buffer),
+            LowerFamily::Vlan => list_write_canonical::<InfoVlan>(payload, (), buffer),
+            LowerFamily::Bond => list_write_canonical::<InfoBond>(payload, (), buffer),
+            LowerFamily::Hsr => list_write_canonical::<InfoHsr>(payload, (), buffer),
+            LowerFamily::Can => list_write_canonical::<InfoCan>(payload, (), buffer),
+            LowerFamily::Dsa => list_write_canonical::<InfoDsa>(payload, (), buffer),
         }
     }
 }

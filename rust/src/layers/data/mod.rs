@@ -1,8 +1,9 @@
-//! Data of links and of ports: what stands in `IFLA_INFO_DATA` and `IFLA_INFO_SLAVE_DATA`, by the
-//! family that the kind chooses.
+//! Data of links (`IFLA_INFO_DATA`) and of ports (`IFLA_INFO_SLAVE_DATA`), by the family that the
+//! kind chooses.
 
 mod data;
 mod devices;
+mod difference;
 mod families;
 mod info_data;
 mod lower;
@@ -15,6 +16,7 @@ mod written;
 
 pub use data::{DataFamily, family_of};
 pub use devices::DeviceFamily;
+pub use difference::{Difference, list_difference, list_error};
 pub use families::{DataFamilies, Plain, PlainFamilies};
 pub use info_data::{InfoData, InfoDataOf};
 pub use lower::LowerFamily;
@@ -22,4 +24,4 @@ pub use payload_family::PayloadFamily;
 pub use peers::PeeredFamily;
 pub use port_data::{InfoPortData, PortFamily, port_family_of};
 pub use tunnels::TunnelFamily;
-pub use unmet::{Unmet, list_unmet};
+pub use unmet::{Unmet, UnmetAt, earlier, list_unmet};

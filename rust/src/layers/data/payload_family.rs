@@ -1,13 +1,23 @@
-//! Payloads that are read, checked, compared and written by a family chosen among several.
+//! Payloads that are parsed, validated, compared and written by a family chosen among several.
 
 use crate::layers::nla_frame::{DecodeError, Family, HeaderCount};
 
-/// A choice of a family: what a payload means as data of the family chosen.
+/// A choice of a family: payloads are parsed, validated, compared and written as data of the family
+/// chosen.
 pub trait PayloadFamily<D>: Copy {
-    /// The family of the attributes, where payloads are lists of them, and else `None`.
+    /// The name of the family of the attributes in a payload, or `None` if payloads are not lists
+    /// of attributes.
     fn listing(self) -> Option<Family>;
 
-    /// Reads a payload. An answer other than (Frame, 0, Memory) is what it means.
+    /// The type of the attributes that hold lists of attributes in turn, and the family of these
+    /// lists, or `None` if no attribute holds one.
+    fn nested(self) -> Option<(u16, Self)>;
+
+    /// Parses a payload.
+    ///
+    /// The error is that of the first attribute in byte order whose header or value is rejected, or
+    /// `(Frame, 0, Memory)` if an allocation fails first. The count rises by the headers examined,
+    /// at most a quarter of the payload's bytes. Requires that a `usize` can count them.
     ///
     /// # Panics
     ///
@@ -15,7 +25,10 @@ pub trait PayloadFamily<D>: Copy {
     /// not panic then, the result has no meaning.
     fn read(self, payload: &[u8], count: &mut HeaderCount) -> Result<D, DecodeError>;
 
-    /// Whether `read` would succeed, or the payload's fault. Takes no memory.
+    /// Validates a payload: returns `Ok` if `read` accepts it, otherwise the error of the payload.
+    ///
+    /// The count rises by the headers examined, at most a quarter of the payload's bytes. Requires
+    /// that a `usize` can count them. Does not allocate.
     ///
     /// # Panics
     ///
@@ -23,7 +36,11 @@ pub trait PayloadFamily<D>: Copy {
     /// not panic then, the result has no meaning.
     fn check(self, payload: &[u8], count: &mut HeaderCount) -> Result<(), DecodeError>;
 
-    /// Whether two payloads mean the same data. Asks that each means some, and takes no memory.
+    /// Returns whether two payloads are equivalent: whether they parse as equal data.
+    ///
+    /// The count rises by the headers examined, at most a quarter of the bytes of both payloads.
+    /// Requires that both payloads are accepted, and that a `usize` can count the headers. Does not
+    /// allocate.
     ///
     /// # Panics
     ///
@@ -31,8 +48,8 @@ pub trait PayloadFamily<D>: Copy {
     /// not panic then, the result has no meaning.
     fn same(self, a: &[u8], b: &[u8], count: &mut HeaderCount) -> bool;
 
-    /// The length of the canonical payload of the data that a payload means, or `None` above 65531.
-    /// Asks that it means some, and takes no memory.
+    /// The length, in bytes, of the canonical payload of the data that a payload parses as, or
+    /// `None` if it is above 65531. Requires that the payload is accepted. Does not allocate.
     ///
     /// # Panics
     ///
@@ -40,14 +57,15 @@ pub trait PayloadFamily<D>: Copy {
     /// not panic then, the result has no meaning.
     fn canonical_len(self, payload: &[u8]) -> Option<usize>;
 
-    /// Writes the canonical payload of the data that a payload means at the front of the buffer,
-    /// leaves the bytes behind it, and answers its length. Asks that the payload means some, of
-    /// which the canonical payload has at most 65531 bytes, and for a buffer of at least as many;
-    /// takes no memory.
+    /// Writes the canonical payload of the data that a payload parses as to the front of the
+    /// buffer, and returns its length in bytes. The rest of the buffer is unchanged.
+    ///
+    /// Requires that the payload is accepted, that its canonical payload has at most 65531 bytes,
+    /// and that the buffer has room for it. Does not allocate.
     ///
     /// # Panics
     ///
     /// May panic where a condition of the caller that is named here does not hold. Where it does
     /// not panic then, the result has no meaning.
-    fn put_canonical(self, payload: &[u8], buffer: &mut [u8]) -> usize;
+    fn write_canonical(self, payload: &[u8], buffer: &mut [u8]) -> usize;
 }

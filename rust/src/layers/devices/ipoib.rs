@@ -6,22 +6,22 @@ use crate::layers::nla_frame::{
 };
 use crate::layers::numbers::IpoibMode;
 use crate::layers::table::{
-    Found, Part, Place, TableFamily, WrittenByTable, part_by_rows, put_by_rows, row_emit_payload,
-    row_emit_value, row_fit_len, row_kind, row_read, row_value_len,
+    Decoded, Encodable, Slot, TableFamily, WrittenByTable, encodable_by_rows, row_emit_payload,
+    row_emit_value, row_fit_len, row_kind, row_read, row_value_len, store_by_rows,
 };
 
-/// An attribute of IP over InfiniBand: of a link of the kind `ipoib`
+/// An attribute in the data of an `ipoib` link, an IP over InfiniBand interface
 /// (include/uapi/linux/if_link.h).
 #[derive(Debug, PartialEq, Eq, Clone)]
 pub enum InfoIpoib {
-    /// The partition key (`IFLA_IPOIB_PKEY`), native byte order.
+    /// Partition key (`IFLA_IPOIB_PKEY`), little-endian.
     Pkey(u16),
-    /// How IP goes over InfiniBand (`IFLA_IPOIB_MODE`), native byte order.
+    /// Mode, datagram or connected (`IFLA_IPOIB_MODE`), little-endian.
     Mode(IpoibMode),
-    /// Whether user space joins multicast groups, not 0 where it does (`IFLA_IPOIB_UMCAST`), native
-    /// byte order.
+    /// Whether user space manages the multicast groups (`IFLA_IPOIB_UMCAST`), not 0 if it does,
+    /// little-endian.
     UmCast(u16),
-    /// An attribute of another type, kept as it came.
+    /// An opaque attribute, of a type that has no variant here, kept verbatim.
     Other(DefaultNla),
 }
 
@@ -39,13 +39,16 @@ impl TableFamily for InfoIpoib {
     const FAMILY: Family = Family::Ipoib;
 
     #[inline(always)]
-    fn put_found<P: Place<InfoIpoib>>(place: &mut P, found: Found<'_>) -> Result<(), AllocError> {
-        rows!(put_by_rows(place, found))
+    fn store_decoded<P: Slot<InfoIpoib>>(
+        slot: &mut P,
+        decoded: Decoded<'_>,
+    ) -> Result<(), AllocError> {
+        rows!(store_by_rows(slot, decoded))
     }
 
     #[inline(always)]
-    fn to_part(&self) -> Part<'_> {
-        rows!(part_by_rows self)
+    fn to_encodable(&self) -> Encodable<'_> {
+        rows!(encodable_by_rows self)
     }
 }
 
@@ -73,7 +76,7 @@ impl Nla for InfoIpoib {
 
 impl WrittenByTable for InfoIpoib {}
 
-/// Reads the attribute. A payload of another length than its row's is (Ipoib, type, Length).
+/// Reads the attribute. A payload of invalid length is rejected as `(Ipoib, type, Length)`.
 impl<'a> Parseable<NlaBuffer<'a>> for InfoIpoib {
     fn parse(buffer: &NlaBuffer<'a>) -> Result<InfoIpoib, DecodeError> {
         row_read(buffer, ())

@@ -1,4 +1,4 @@
-//! ipvlan links.
+//! Links of kind `ipvlan`.
 
 use crate::compat::AllocError;
 use crate::layers::nla_frame::{
@@ -6,19 +6,20 @@ use crate::layers::nla_frame::{
 };
 use crate::layers::numbers::{IpVlanFlags, IpVlanMode};
 use crate::layers::table::{
-    Found, Part, Place, TableFamily, WrittenByTable, part_by_rows, put_by_rows, row_emit_payload,
-    row_emit_value, row_fit_len, row_kind, row_read, row_value_len,
+    Decoded, Encodable, Slot, TableFamily, WrittenByTable, encodable_by_rows, row_emit_payload,
+    row_emit_value, row_fit_len, row_kind, row_read, row_value_len, store_by_rows,
 };
 use bitflags::Flags;
 
-/// An attribute of an ipvlan link: of a link of the kind `ipvlan` (include/uapi/linux/if_link.h).
+/// An attribute in the data of an `ipvlan` link, an IPVLAN interface
+/// (include/uapi/linux/if_link.h).
 #[derive(Debug, PartialEq, Eq, Clone)]
 pub enum InfoIpVlan {
-    /// The mode (`IFLA_IPVLAN_MODE`), native byte order.
+    /// Mode: `l2`, `l3` or `l3s` (`IFLA_IPVLAN_MODE`), little-endian.
     Mode(IpVlanMode),
-    /// What is kept apart (`IFLA_IPVLAN_FLAGS`), native byte order.
+    /// Flags `private` and `vepa` (`IFLA_IPVLAN_FLAGS`), little-endian.
     Flags(IpVlanFlags),
-    /// An attribute of another type, kept as it came.
+    /// An opaque attribute, of a type that has no variant here, kept verbatim.
     Other(DefaultNla),
 }
 
@@ -35,13 +36,16 @@ impl TableFamily for InfoIpVlan {
     const FAMILY: Family = Family::IpVlan;
 
     #[inline(always)]
-    fn put_found<P: Place<InfoIpVlan>>(place: &mut P, found: Found<'_>) -> Result<(), AllocError> {
-        rows!(put_by_rows(place, found))
+    fn store_decoded<P: Slot<InfoIpVlan>>(
+        slot: &mut P,
+        decoded: Decoded<'_>,
+    ) -> Result<(), AllocError> {
+        rows!(store_by_rows(slot, decoded))
     }
 
     #[inline(always)]
-    fn to_part(&self) -> Part<'_> {
-        rows!(part_by_rows self)
+    fn to_encodable(&self) -> Encodable<'_> {
+        rows!(encodable_by_rows self)
     }
 }
 
@@ -69,7 +73,7 @@ impl Nla for InfoIpVlan {
 
 impl WrittenByTable for InfoIpVlan {}
 
-/// Reads the attribute. A payload of another length than its row's is (IpVlan, type, Length).
+/// Reads the attribute. A payload of invalid length is rejected as `(IpVlan, type, Length)`.
 impl<'a> Parseable<NlaBuffer<'a>> for InfoIpVlan {
     fn parse(buffer: &NlaBuffer<'a>) -> Result<InfoIpVlan, DecodeError> {
         row_read(buffer, ())

@@ -1,4 +1,4 @@
-//! ipvtap links.
+//! Links of kind `ipvtap`.
 
 use crate::compat::AllocError;
 use crate::layers::nla_frame::{
@@ -6,19 +6,20 @@ use crate::layers::nla_frame::{
 };
 use crate::layers::numbers::{IpVtapFlags, IpVtapMode};
 use crate::layers::table::{
-    Found, Part, Place, TableFamily, WrittenByTable, part_by_rows, put_by_rows, row_emit_payload,
-    row_emit_value, row_fit_len, row_kind, row_read, row_value_len,
+    Decoded, Encodable, Slot, TableFamily, WrittenByTable, encodable_by_rows, row_emit_payload,
+    row_emit_value, row_fit_len, row_kind, row_read, row_value_len, store_by_rows,
 };
 use bitflags::Flags;
 
-/// An attribute of an ipvtap link: of a link of the kind `ipvtap` (include/uapi/linux/if_link.h).
+/// An attribute in the data of an `ipvtap` link, a TAP device on an IPVLAN interface
+/// (include/uapi/linux/if_link.h).
 #[derive(Debug, PartialEq, Eq, Clone)]
 pub enum InfoIpVtap {
-    /// The mode (`IFLA_IPVLAN_MODE`), native byte order.
+    /// Mode: `l2`, `l3` or `l3s` (`IFLA_IPVLAN_MODE`), little-endian.
     Mode(IpVtapMode),
-    /// What is kept apart (`IFLA_IPVLAN_FLAGS`), native byte order.
+    /// Flags `private` and `vepa` (`IFLA_IPVLAN_FLAGS`), little-endian.
     Flags(IpVtapFlags),
-    /// An attribute of another type, kept as it came.
+    /// An opaque attribute, of a type that has no variant here, kept verbatim.
     Other(DefaultNla),
 }
 
@@ -35,13 +36,16 @@ impl TableFamily for InfoIpVtap {
     const FAMILY: Family = Family::IpVtap;
 
     #[inline(always)]
-    fn put_found<P: Place<InfoIpVtap>>(place: &mut P, found: Found<'_>) -> Result<(), AllocError> {
-        rows!(put_by_rows(place, found))
+    fn store_decoded<P: Slot<InfoIpVtap>>(
+        slot: &mut P,
+        decoded: Decoded<'_>,
+    ) -> Result<(), AllocError> {
+        rows!(store_by_rows(slot, decoded))
     }
 
     #[inline(always)]
-    fn to_part(&self) -> Part<'_> {
-        rows!(part_by_rows self)
+    fn to_encodable(&self) -> Encodable<'_> {
+        rows!(encodable_by_rows self)
     }
 }
 
@@ -69,7 +73,7 @@ impl Nla for InfoIpVtap {
 
 impl WrittenByTable for InfoIpVtap {}
 
-/// Reads the attribute. A payload of another length than its row's is (IpVtap, type, Length).
+/// Reads the attribute. A payload of invalid length is rejected as `(IpVtap, type, Length)`.
 impl<'a> Parseable<NlaBuffer<'a>> for InfoIpVtap {
     fn parse(buffer: &NlaBuffer<'a>) -> Result<InfoIpVtap, DecodeError> {
         row_read(buffer, ())

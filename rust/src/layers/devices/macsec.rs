@@ -1,4 +1,4 @@
-//! MACsec links.
+//! MACsec interfaces.
 
 use crate::compat::AllocError;
 use crate::layers::nla_frame::{
@@ -6,45 +6,44 @@ use crate::layers::nla_frame::{
 };
 use crate::layers::numbers::{MacSecCipherId, MacSecOffload, MacSecValidate};
 use crate::layers::table::{
-    Found, Part, Place, TableFamily, WrittenByTable, part_by_rows, put_by_rows, row_emit_payload,
-    row_emit_value, row_fit_len, row_kind, row_read, row_value_len,
+    Decoded, Encodable, Slot, TableFamily, WrittenByTable, encodable_by_rows, row_emit_payload,
+    row_emit_value, row_fit_len, row_kind, row_read, row_value_len, store_by_rows,
 };
 
-/// An attribute of a MACsec link: of a link of the kind `macsec` (include/uapi/linux/if_link.h).
+/// An attribute in the data of a `macsec` link, an IEEE 802.1AE MACsec interface
+/// (include/uapi/linux/if_link.h).
 #[derive(Debug, PartialEq, Eq, Clone)]
 pub enum InfoMacSec {
-    /// The identifier of the secure channel (`IFLA_MACSEC_SCI`), read as little-endian; the kernel
-    /// holds its bytes in network byte order.
+    /// SCI, the secure channel identifier (`IFLA_MACSEC_SCI`), 64 bits, read as little-endian
+    /// although the kernel writes it in network byte order.
     Sci(u64),
-    /// The port number that ends the identifier of the secure channel (`IFLA_MACSEC_PORT`), network
-    /// byte order.
+    /// Port component of the SCI (`IFLA_MACSEC_PORT`), big-endian.
     Port(u16),
-    /// How many bytes the integrity check value has (`IFLA_MACSEC_ICV_LEN`), one byte.
+    /// Length of the integrity check value (ICV) in bytes (`IFLA_MACSEC_ICV_LEN`), one byte.
     IcvLen(u8),
-    /// The cipher suite (`IFLA_MACSEC_CIPHER_SUITE`), native byte order.
+    /// Cipher suite (`IFLA_MACSEC_CIPHER_SUITE`), little-endian.
     CipherSuite(MacSecCipherId),
-    /// How many frames late a frame may come (`IFLA_MACSEC_WINDOW`), native byte order.
+    /// Replay window in frames (`IFLA_MACSEC_WINDOW`), little-endian.
     Window(u32),
-    /// The number of the secure association that is sent by (`IFLA_MACSEC_ENCODING_SA`), one byte.
+    /// Secure association used for transmission (`IFLA_MACSEC_ENCODING_SA`), one byte.
     EncodingSa(u8),
     /// Whether frames are encrypted (`IFLA_MACSEC_ENCRYPT`), one byte.
     Encrypt(u8),
     /// Whether frames are protected (`IFLA_MACSEC_PROTECT`), one byte.
     Protect(u8),
-    /// Whether each frame has the identifier of the secure channel (`IFLA_MACSEC_INC_SCI`), one
-    /// byte.
+    /// Whether the SCI is sent in every frame (`IFLA_MACSEC_INC_SCI`), one byte.
     IncSci(u8),
-    /// Whether this is an end station (`IFLA_MACSEC_ES`), one byte.
+    /// Whether the end station bit is set (`IFLA_MACSEC_ES`), one byte.
     Es(u8),
-    /// Whether single copy broadcast is used (`IFLA_MACSEC_SCB`), one byte.
+    /// Whether the single copy broadcast bit is set (`IFLA_MACSEC_SCB`), one byte.
     Scb(u8),
-    /// Whether frames that come again are dropped (`IFLA_MACSEC_REPLAY_PROTECT`), one byte.
+    /// Whether replay protection is enabled (`IFLA_MACSEC_REPLAY_PROTECT`), one byte.
     ReplayProtect(u8),
-    /// How frames that come in are validated (`IFLA_MACSEC_VALIDATION`), one byte.
+    /// Validation of incoming frames (`IFLA_MACSEC_VALIDATION`), one byte.
     Validation(MacSecValidate),
-    /// What the work is offloaded to (`IFLA_MACSEC_OFFLOAD`), one byte.
+    /// Hardware offload (`IFLA_MACSEC_OFFLOAD`), one byte.
     Offload(MacSecOffload),
-    /// An attribute of another type, kept as it came.
+    /// An opaque attribute, of a type that has no variant here, kept verbatim.
     Other(DefaultNla),
 }
 
@@ -73,13 +72,16 @@ impl TableFamily for InfoMacSec {
     const FAMILY: Family = Family::MacSec;
 
     #[inline(always)]
-    fn put_found<P: Place<InfoMacSec>>(place: &mut P, found: Found<'_>) -> Result<(), AllocError> {
-        rows!(put_by_rows(place, found))
+    fn store_decoded<P: Slot<InfoMacSec>>(
+        slot: &mut P,
+        decoded: Decoded<'_>,
+    ) -> Result<(), AllocError> {
+        rows!(store_by_rows(slot, decoded))
     }
 
     #[inline(always)]
-    fn to_part(&self) -> Part<'_> {
-        rows!(part_by_rows self)
+    fn to_encodable(&self) -> Encodable<'_> {
+        rows!(encodable_by_rows self)
     }
 }
 
@@ -107,7 +109,7 @@ impl Nla for InfoMacSec {
 
 impl WrittenByTable for InfoMacSec {}
 
-/// Reads the attribute. A payload of another length than its row's is (MacSec, type, Length).
+/// Reads the attribute. A payload of invalid length is rejected as `(MacSec, type, Length)`.
 impl<'a> Parseable<NlaBuffer<'a>> for InfoMacSec {
     fn parse(buffer: &NlaBuffer<'a>) -> Result<InfoMacSec, DecodeError> {
         row_read(buffer, ())

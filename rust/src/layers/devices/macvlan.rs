@@ -1,11 +1,11 @@
-//! Macvlan links.
+//! Links of kind `macvlan`.
 
 use crate::compat::AllocError;
 use crate::layers::devices::mac_rows::mac_rows;
 use crate::layers::devices::nested_calls::{
     nested_check, nested_parse, nested_push, nested_read, nested_same,
 };
-use crate::layers::devices::nested_canonical::{nested_canonical_len, nested_put_canonical};
+use crate::layers::devices::nested_canonical::{nested_canonical_len, nested_write_canonical};
 use crate::layers::devices::nested_emission::{
     nested_emit_payload, nested_emit_value, nested_fit_len, nested_kind, nested_value_len,
 };
@@ -15,44 +15,45 @@ use crate::layers::nla_frame::{
 };
 use crate::layers::numbers::{MacVlanFlags, MacVlanMacAddressMode, MacVlanMode};
 use crate::layers::table::{
-    Found, LinkFamily, Lookup, Part, Place, RowFamily, part_by_rows, put_by_rows,
+    Decoded, Encodable, LinkFamily, Lookup, RowFamily, Slot, encodable_by_rows, store_by_rows,
 };
 use alloc::vec::Vec;
 use bitflags::Flags;
 
-/// An attribute of a macvlan link (include/uapi/linux/if_link.h).
+/// An attribute in the data of a `macvlan` link, a virtual interface with a MAC address of its own
+/// (include/uapi/linux/if_link.h).
 #[derive(Debug, PartialEq, Eq, Clone)]
 pub enum InfoMacVlan {
-    /// The mode (`IFLA_MACVLAN_MODE`), native byte order.
+    /// Mode (`IFLA_MACVLAN_MODE`), little-endian.
     Mode(MacVlanMode),
-    /// What the link leaves out (`IFLA_MACVLAN_FLAGS`), native byte order.
+    /// Flags (`IFLA_MACVLAN_FLAGS`), little-endian.
     Flags(MacVlanFlags),
-    /// What is done with source addresses (`IFLA_MACVLAN_MACADDR_MODE`), native byte order.
+    /// Change to the source MAC addresses (`IFLA_MACVLAN_MACADDR_MODE`), little-endian.
     MacAddrMode(MacVlanMacAddressMode),
-    /// A source address (`IFLA_MACVLAN_MACADDR`).
+    /// A source MAC address (`IFLA_MACVLAN_MACADDR`), six bytes.
     MacAddr([u8; 6]),
-    /// A list of attributes of a macvlan link, as a rule its source addresses
-    /// (`IFLA_MACVLAN_MACADDR_DATA`). A list inside 128 others is refused.
+    /// A nested list of `macvlan` attributes, usually the source MAC addresses
+    /// (`IFLA_MACVLAN_MACADDR_DATA`). A list nested in 128 others is rejected.
     MacAddrData(Nlas<InfoMacVlan>),
-    /// How many source addresses there are (`IFLA_MACVLAN_MACADDR_COUNT`), native byte order.
+    /// Number of source MAC addresses (`IFLA_MACVLAN_MACADDR_COUNT`), little-endian.
     MacAddrCount(u32),
-    /// The length of the queue for broadcasts that is asked for (`IFLA_MACVLAN_BC_QUEUE_LEN`),
-    /// native byte order.
+    /// Requested length of the broadcast queue in packets (`IFLA_MACVLAN_BC_QUEUE_LEN`),
+    /// little-endian.
     BcQueueLen(u32),
-    /// The length of the queue for broadcasts that is in use (`IFLA_MACVLAN_BC_QUEUE_LEN_USED`),
-    /// native byte order.
+    /// Length of the broadcast queue in use, in packets (`IFLA_MACVLAN_BC_QUEUE_LEN_USED`),
+    /// little-endian.
     BcQueueLenUsed(u32),
-    /// From how many receivers on a broadcast goes by the queue (`IFLA_MACVLAN_BC_CUTOFF`), native
-    /// byte order; -1 stands for never.
+    /// Broadcast queueing threshold in devices, -1 to disable the queue (`IFLA_MACVLAN_BC_CUTOFF`),
+    /// little-endian.
     BcCutoff(i32),
-    /// An attribute of another type, kept as it came.
+    /// An opaque attribute, of a type that has no variant here, kept verbatim.
     Other(DefaultNla),
 }
 
-/// Puts the value of what was read of an attribute that holds no list in a place.
+/// Stores the decoded value of an attribute that contains no list.
 #[inline(always)]
-fn put_plain<P: Place<InfoMacVlan>>(place: &mut P, found: Found<'_>) -> Result<(), AllocError> {
-    mac_rows!(InfoMacVlan put_by_rows (place, found))
+fn store_plain<P: Slot<InfoMacVlan>>(slot: &mut P, decoded: Decoded<'_>) -> Result<(), AllocError> {
+    mac_rows!(InfoMacVlan store_by_rows (slot, decoded))
 }
 
 impl RowFamily for InfoMacVlan {
@@ -66,17 +67,17 @@ impl RowFamily for InfoMacVlan {
     }
 
     #[inline(always)]
-    fn put_found<P: Place<InfoMacVlan>>(
-        place: &mut P,
+    fn store_decoded<P: Slot<InfoMacVlan>>(
+        slot: &mut P,
         _lists: u8,
-        found: Found<'_>,
+        decoded: Decoded<'_>,
     ) -> Result<(), AllocError> {
-        put_plain(place, found)
+        store_plain(slot, decoded)
     }
 
     #[inline(always)]
-    fn to_part(&self) -> Part<'_> {
-        mac_rows!(InfoMacVlan part_by_rows self)
+    fn to_encodable(&self) -> Encodable<'_> {
+        mac_rows!(InfoMacVlan encodable_by_rows self)
     }
 }
 
@@ -115,7 +116,7 @@ impl Nla for InfoMacVlan {
     }
 }
 
-/// An attribute inside as many lists as the context says.
+/// The context is the number of lists around the attribute.
 impl LinkFamily for InfoMacVlan {
     type Context = u8;
 
@@ -164,14 +165,14 @@ impl LinkFamily for InfoMacVlan {
         nested_canonical_len::<InfoMacVlan>(nla, lists)
     }
 
-    fn put_canonical(nla: &NlaBuffer<'_>, lists: u8, buffer: &mut [u8]) -> usize {
-        nested_put_canonical::<InfoMacVlan>(nla, lists, buffer)
+    fn write_canonical(nla: &NlaBuffer<'_>, lists: u8, buffer: &mut [u8]) -> usize {
+        nested_write_canonical::<InfoMacVlan>(nla, lists, buffer)
     }
 }
 
-/// Reads the attribute, inside no list. A payload of another length than its row's is (MacVlan,
-/// type, Length), a list inside 128 others is (MacVlan, 5, Depth), and what a list does not frame
-/// (Frame, 0, Header).
+/// Reads an attribute that is in no list. A payload of invalid length is rejected as `(MacVlan,
+/// type, Length)`, and a list nested in 128 others as `(MacVlan, 5, Depth)`. A nested list with a
+/// bad header is rejected as `(Frame, 0, Header)`.
 impl<'a> Parseable<NlaBuffer<'a>> for InfoMacVlan {
     fn parse(buffer: &NlaBuffer<'a>) -> Result<InfoMacVlan, DecodeError> {
         nested_parse(buffer)

@@ -1,4 +1,5 @@
-//! Attributes of macvlan, macvtap, ipvlan, ipvtap, ipoib, macsec, rmnet, xfrm and vrf links.
+//! Attributes of `macvlan`, `macvtap`, `ipvlan`, `ipvtap`, `ipoib`, `macsec`, `rmnet`, `xfrm` and
+//! `vrf` links.
 
 mod ipoib;
 mod ipvlan;
@@ -21,6 +22,7 @@ pub use ipvtap::InfoIpVtap;
 pub use macsec::InfoMacSec;
 pub use macvlan::InfoMacVlan;
 pub use macvtap::InfoMacVtap;
+pub use nested_family::{LIST_TYPE, MOST_LISTS};
 pub use rmnet::InfoRmNet;
 pub use vrf::{InfoVrf, InfoVrfPort};
 pub use xfrm::InfoXfrm;

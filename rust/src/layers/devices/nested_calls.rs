@@ -1,10 +1,10 @@
-//! Reading, checking and comparing attributes of a family that holds lists of its own, and such
-//! lists, by calls that lead to each other.
+//! Reads, checks and compares attributes of a family with nested lists, and such lists, by mutually
+//! recursive calls.
 
 use crate::compat::TryVec;
 use crate::layers::devices::nested_family::{LIST_TYPE, MOST_LISTS, NestedFamily};
-use crate::layers::nla_frame::{DecodeError, HeaderCount, NlaBuffer, Nlas, next_piece};
-use crate::layers::table::{row_check, row_put, row_read, row_same};
+use crate::layers::nla_frame::{DecodeError, HeaderCount, NlaBuffer, Nlas, next_attribute};
+use crate::layers::table::{row_check, row_read, row_same, row_store};
 use alloc::vec::Vec;
 
 /// Reads an attribute inside `lists` lists.
@@ -25,8 +25,8 @@ pub fn nested_read<F: NestedFamily>(
     }
 }
 
-/// Reads an attribute inside `lists` lists, and puts its value behind others, which stay as they
-/// are on an error.
+/// Reads an attribute inside `lists` lists, and pushes its value to the end of a list, which an
+/// error leaves unchanged.
 ///
 /// # Panics
 ///
@@ -42,11 +42,11 @@ pub fn nested_push<F: NestedFamily>(
         items.try_push(nested_read(nla, lists, count)?)?;
         Ok(())
     } else {
-        row_put::<F, Vec<F>>(items, nla, lists)
+        row_store::<F, Vec<F>>(items, nla, lists)
     }
 }
 
-/// Reads a list whose attributes stand inside `lists` lists.
+/// Reads a list whose attributes are inside `lists` lists.
 fn nested_list_read<F: NestedFamily>(
     bytes: &[u8],
     lists: u8,
@@ -54,7 +54,7 @@ fn nested_list_read<F: NestedFamily>(
 ) -> Result<Vec<F>, DecodeError> {
     let mut items = Vec::new();
     let mut rest = bytes;
-    while let Some(next) = next_piece(rest, count) {
+    while let Some(next) = next_attribute(rest, count) {
         let (nla, after) = next?;
         nested_push(&mut items, &nla, lists, count)?;
         rest = after;
@@ -62,17 +62,17 @@ fn nested_list_read<F: NestedFamily>(
     Ok(items)
 }
 
-/// The value that holds a list which was read.
+/// The value that contains a decoded list.
 fn value_of_list<F: NestedFamily>(items: Result<Vec<F>, DecodeError>) -> Result<F, DecodeError> {
     Ok(F::from_list(Nlas::new(items?)))
 }
 
-/// Reads an attribute that stands in no list.
+/// Reads an attribute that is in no list.
 pub fn nested_parse<F: NestedFamily>(nla: &NlaBuffer<'_>) -> Result<F, DecodeError> {
     nested_read(nla, 0, &mut HeaderCount::new())
 }
 
-/// Whether `nested_read` would succeed, or the attribute's fault. Takes no memory.
+/// Checks whether `nested_read` would succeed, and returns the error if not. Does not allocate.
 ///
 /// # Panics
 ///
@@ -91,14 +91,14 @@ pub fn nested_check<F: NestedFamily>(
     }
 }
 
-/// Whether `nested_list_read` would succeed, or the list's fault.
+/// Checks whether `nested_list_read` would succeed, and returns the error if not.
 fn nested_list_check<F: NestedFamily>(
     bytes: &[u8],
     lists: u8,
     count: &mut HeaderCount,
 ) -> Result<(), DecodeError> {
     let mut rest = bytes;
-    while let Some(next) = next_piece(rest, count) {
+    while let Some(next) = next_attribute(rest, count) {
         let (nla, after) = next?;
         nested_check::<F>(&nla, lists, count)?;
         rest = after;
@@ -106,7 +106,8 @@ fn nested_list_check<F: NestedFamily>(
     Ok(())
 }
 
-/// Whether two attributes mean the same value. Asks that both are accepted, and takes no memory.
+/// Whether two attributes are equivalent: they mean equal values. Requires that both are accepted.
+/// Does not allocate.
 ///
 /// # Panics
 ///
@@ -126,7 +127,7 @@ pub fn nested_same<F: NestedFamily>(
     }
 }
 
-/// Whether two lists mean the same values.
+/// Whether two lists are equivalent: they mean equal values.
 fn nested_list_same<F: NestedFamily>(
     a: &[u8],
     b: &[u8],
@@ -135,8 +136,8 @@ fn nested_list_same<F: NestedFamily>(
 ) -> bool {
     let mut x = a;
     let mut y = b;
-    while let Some(next) = next_piece(x, count) {
-        let Some(other) = next_piece(y, count) else {
+    while let Some(next) = next_attribute(x, count) {
+        let Some(other) = next_attribute(y, count) else {
             return false;
         };
         let (p, after_p) = next.unwrap();
@@ -147,5 +148,5 @@ fn nested_list_same<F: NestedFamily>(
         x = after_p;
         y = after_q;
     }
-    next_piece(y, count).is_none()
+    next_attribute(y, count).is_none()
 }

@@ -1,11 +1,11 @@
-//! Measuring and writing values of a family that holds lists of its own: each is one walk over the
-//! value, in proportion to its bytes, however deep the lists stand.
+//! Measures and writes values of a family with nested lists: each call is one walk over the value,
+//! linear in its size at any depth.
 
 use crate::layers::devices::nested_family::{LIST_TYPE, NestedFamily};
-use crate::layers::nla_frame::{fitting, put_frame};
+use crate::layers::nla_frame::{fitting, write_frame};
 use crate::layers::table::{row_emit_payload, row_fit_len, row_kind};
 
-/// The length of a value's payload where it fits, and else `None`.
+/// Returns the length of a value's payload if the value fits, and `None` otherwise.
 pub fn nested_fit_len<F: NestedFamily>(value: &F) -> Option<usize> {
     match value.list() {
         Some(list) => nested_list_fit_len(list.as_slice()),
@@ -13,7 +13,7 @@ pub fn nested_fit_len<F: NestedFamily>(value: &F) -> Option<usize> {
     }
 }
 
-/// The length of a list's string where a length field counts it, and else `None`.
+/// Returns the length of a list's byte string if a length field can count it, and `None` otherwise.
 fn nested_list_fit_len<F: NestedFamily>(items: &[F]) -> Option<usize> {
     let mut total: usize = 0;
     for item in items {
@@ -23,7 +23,7 @@ fn nested_list_fit_len<F: NestedFamily>(items: &[F]) -> Option<usize> {
     Some(total)
 }
 
-/// The length of a value's payload. Asks that the value fits.
+/// The length of a value's payload. Requires that the value fits.
 ///
 /// # Panics
 ///
@@ -36,7 +36,7 @@ pub fn nested_value_len<F: NestedFamily>(value: &F) -> usize {
     }
 }
 
-/// The type number of a value.
+/// The type that a value is written with.
 pub fn nested_kind<F: NestedFamily>(value: &F) -> u16 {
     match value.list() {
         Some(_) => LIST_TYPE,
@@ -44,8 +44,8 @@ pub fn nested_kind<F: NestedFamily>(value: &F) -> u16 {
     }
 }
 
-/// Writes a value's payload. Asks that the value fits, and for a buffer of exactly the payload's
-/// length.
+/// Writes a value's payload. Requires that the value fits, and that the buffer has exactly the
+/// length of the payload.
 ///
 /// # Panics
 ///
@@ -55,8 +55,8 @@ pub fn nested_emit_value<F: NestedFamily>(value: &F, buffer: &mut [u8]) {
     nested_emit_payload(value, buffer);
 }
 
-/// Writes a value's payload at the front of the buffer, leaves the bytes behind it, and answers how
-/// many it wrote.
+/// Writes a value's payload at the front of the buffer, and returns its length. The bytes after it
+/// stay unchanged. Requires that the value fits, and that the buffer has at least that length.
 ///
 /// # Panics
 ///
@@ -69,7 +69,8 @@ pub fn nested_emit_payload<F: NestedFamily>(value: &F, buffer: &mut [u8]) -> usi
     }
 }
 
-/// Writes a list's string in the same way. Asks that a length field counts it.
+/// Writes a list's byte string at the front of the buffer, and returns its length. Requires that a
+/// length field can count it, and that the buffer has at least that length.
 fn emit_list<F: NestedFamily>(items: &[F], buffer: &mut [u8]) -> usize {
     let mut place: usize = 0;
     for item in items {
@@ -78,9 +79,11 @@ fn emit_list<F: NestedFamily>(items: &[F], buffer: &mut [u8]) -> usize {
     place
 }
 
-/// Writes a value's attribute in the same way: its payload, and then header and padding round it.
+/// Writes a value's attribute at the front of the buffer, and returns its length: first the
+/// payload, then header and padding. Requires that the value fits, and that the buffer has at least
+/// that length.
 fn emit_attribute<F: NestedFamily>(value: &F, buffer: &mut [u8]) -> usize {
     let len = nested_emit_payload(value, &mut buffer[4..]);
-    put_frame(buffer, nested_kind(value), len);
+    write_frame(buffer, nested_kind(value), len);
     4 + len.next_multiple_of(4)
 }

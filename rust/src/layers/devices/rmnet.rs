@@ -1,4 +1,4 @@
-//! Links to Qualcomm modems.
+//! Links of kind `rmnet`.
 
 use crate::compat::AllocError;
 use crate::layers::nla_frame::{
@@ -6,21 +6,21 @@ use crate::layers::nla_frame::{
 };
 use crate::layers::numbers::{InfoRmNetFlags, RmNetFlags};
 use crate::layers::table::{
-    Found, Part, Place, TableFamily, WrittenByTable, part_by_rows, put_by_rows, row_emit_payload,
-    row_emit_value, row_fit_len, row_kind, row_read, row_value_len,
+    Decoded, Encodable, Slot, TableFamily, WrittenByTable, encodable_by_rows, row_emit_payload,
+    row_emit_value, row_fit_len, row_kind, row_read, row_value_len, store_by_rows,
 };
 use bitflags::Flags;
 
-/// An attribute of a link to a Qualcomm modem: of a link of the kind `rmnet`
+/// An attribute in the data of an `rmnet` link, a device on a Qualcomm modem
 /// (include/uapi/linux/if_link.h).
 #[derive(Debug, PartialEq, Eq, Clone)]
 pub enum InfoRmNet {
-    /// The number of the channel among those of the modem (`IFLA_RMNET_MUX_ID`), native byte order.
+    /// Mux ID of the channel of the modem (`IFLA_RMNET_MUX_ID`), little-endian.
     MuxId(u16),
-    /// What is done with the frames of the modem, and which of it is meant (`IFLA_RMNET_FLAGS`),
-    /// each in native byte order.
+    /// Flags, and the mask of the flags to change (`IFLA_RMNET_FLAGS`, `struct ifla_rmnet_flags`),
+    /// each little-endian.
     Flags(InfoRmNetFlags),
-    /// An attribute of another type, kept as it came.
+    /// An opaque attribute, of a type that has no variant here, kept verbatim.
     Other(DefaultNla),
 }
 
@@ -37,17 +37,20 @@ impl TableFamily for InfoRmNet {
     const FAMILY: Family = Family::RmNet;
 
     #[inline(always)]
-    fn put_found<P: Place<InfoRmNet>>(place: &mut P, found: Found<'_>) -> Result<(), AllocError> {
-        rows!(put_by_rows(place, found))
+    fn store_decoded<P: Slot<InfoRmNet>>(
+        slot: &mut P,
+        decoded: Decoded<'_>,
+    ) -> Result<(), AllocError> {
+        rows!(store_by_rows(slot, decoded))
     }
 
     #[inline(always)]
-    fn to_part(&self) -> Part<'_> {
-        rows!(part_by_rows self)
+    fn to_encodable(&self) -> Encodable<'_> {
+        rows!(encodable_by_rows self)
     }
 }
 
-/// The flags and their mask of two numbers.
+/// Makes flags and their mask from two numbers.
 fn flags_of(pair: (u32, u32)) -> InfoRmNetFlags {
     let (flags, mask) = pair;
     InfoRmNetFlags::new(
@@ -56,7 +59,7 @@ fn flags_of(pair: (u32, u32)) -> InfoRmNetFlags {
     )
 }
 
-/// The numbers of flags and their mask.
+/// The two numbers of flags and their mask.
 fn pair_of(under: InfoRmNetFlags) -> (u32, u32) {
     (under.flags.bits(), under.mask.bits())
 }
@@ -85,7 +88,7 @@ impl Nla for InfoRmNet {
 
 impl WrittenByTable for InfoRmNet {}
 
-/// Reads the attribute. A payload of another length than its row's is (RmNet, type, Length).
+/// Reads the attribute. A payload of invalid length is rejected as `(RmNet, type, Length)`.
 impl<'a> Parseable<NlaBuffer<'a>> for InfoRmNet {
     fn parse(buffer: &NlaBuffer<'a>) -> Result<InfoRmNet, DecodeError> {
         row_read(buffer, ())

@@ -1,26 +1,25 @@
-//! Virtual routing and forwarding: `IFLA_VRF_UNSPEC` and on, and the same of its ports,
-//! include/uapi/linux/if_link.h.
+//! Virtual routing and forwarding: `IFLA_VRF_*`, and `IFLA_VRF_PORT_*` of its ports
+//! (include/uapi/linux/if_link.h).
 
 use crate::compat::AllocError;
 use crate::layers::nla_frame::{
     DecodeError, DefaultNla, ExactEq, Family, Nla, NlaBuffer, Parseable,
 };
 use crate::layers::table::{
-    Found, Part, Place, TableFamily, WrittenByTable, part_by_rows, put_by_rows, row_emit_payload,
-    row_emit_value, row_fit_len, row_kind, row_read, row_value_len,
+    Decoded, Encodable, Slot, TableFamily, WrittenByTable, encodable_by_rows, row_emit_payload,
+    row_emit_value, row_fit_len, row_kind, row_read, row_value_len, store_by_rows,
 };
 
-/// An attribute of a vrf, or of a port of one.
+/// An attribute in the data of a `vrf` link, or in the data of its ports.
 #[derive(Debug, PartialEq, Eq, Clone)]
 pub enum InfoVrf {
-    /// The number of its routing table (`IFLA_VRF_TABLE`, and of a port `IFLA_VRF_PORT_TABLE`),
-    /// native byte order.
+    /// Routing table ID (`IFLA_VRF_TABLE`, and `IFLA_VRF_PORT_TABLE` of a port), little-endian.
     TableId(u32),
-    /// An attribute of another type, kept as it came.
+    /// An opaque attribute, of a type that has no variant here, kept verbatim.
     Other(DefaultNla),
 }
 
-/// An attribute of a port of a vrf.
+/// An attribute in the data of a port of a `vrf`.
 pub type InfoVrfPort = InfoVrf;
 
 macro_rules! rows {
@@ -35,13 +34,16 @@ impl TableFamily for InfoVrf {
     const FAMILY: Family = Family::Vrf;
 
     #[inline(always)]
-    fn put_found<P: Place<InfoVrf>>(place: &mut P, found: Found<'_>) -> Result<(), AllocError> {
-        rows!(put_by_rows(place, found))
+    fn store_decoded<P: Slot<InfoVrf>>(
+        slot: &mut P,
+        decoded: Decoded<'_>,
+    ) -> Result<(), AllocError> {
+        rows!(store_by_rows(slot, decoded))
     }
 
     #[inline(always)]
-    fn to_part(&self) -> Part<'_> {
-        rows!(part_by_rows self)
+    fn to_encodable(&self) -> Encodable<'_> {
+        rows!(encodable_by_rows self)
     }
 }
 
@@ -69,7 +71,7 @@ impl Nla for InfoVrf {
 
 impl WrittenByTable for InfoVrf {}
 
-/// Reads the attribute. A payload of another length than its row's is (Vrf, type, Length).
+/// Reads the attribute. A payload of invalid length is rejected as `(Vrf, type, Length)`.
 impl<'a> Parseable<NlaBuffer<'a>> for InfoVrf {
     fn parse(buffer: &NlaBuffer<'a>) -> Result<InfoVrf, DecodeError> {
         row_read(buffer, ())

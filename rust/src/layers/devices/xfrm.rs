@@ -1,22 +1,22 @@
-//! Xfrm interfaces: `IFLA_XFRM_UNSPEC` and on, include/uapi/linux/if_link.h.
+//! XFRM interfaces: `IFLA_XFRM_*` (include/uapi/linux/if_link.h).
 
 use crate::compat::AllocError;
 use crate::layers::nla_frame::{
     DecodeError, DefaultNla, ExactEq, Family, Nla, NlaBuffer, Parseable,
 };
 use crate::layers::table::{
-    Found, Part, Place, TableFamily, WrittenByTable, part_by_rows, put_by_rows, row_emit_payload,
-    row_emit_value, row_fit_len, row_kind, row_read, row_value_len,
+    Decoded, Encodable, Slot, TableFamily, WrittenByTable, encodable_by_rows, row_emit_payload,
+    row_emit_value, row_fit_len, row_kind, row_read, row_value_len, store_by_rows,
 };
 
-/// An attribute of an xfrm interface.
+/// An attribute in the data of an `xfrm` link, an XFRM (IPsec) interface.
 #[derive(Debug, PartialEq, Eq, Clone)]
 pub enum InfoXfrm {
-    /// The index of the underlying interface (`IFLA_XFRM_LINK`), native byte order.
+    /// Interface index of the underlying device (`IFLA_XFRM_LINK`), little-endian.
     Link(u32),
-    /// The identifier that policies and states go by (`IFLA_XFRM_IF_ID`), native byte order.
+    /// Interface ID, which policies and states refer to (`IFLA_XFRM_IF_ID`), little-endian.
     IfId(u32),
-    /// An attribute of another type, kept as it came.
+    /// An opaque attribute, of a type that has no variant here, kept verbatim.
     Other(DefaultNla),
 }
 
@@ -33,13 +33,16 @@ impl TableFamily for InfoXfrm {
     const FAMILY: Family = Family::Xfrm;
 
     #[inline(always)]
-    fn put_found<P: Place<InfoXfrm>>(place: &mut P, found: Found<'_>) -> Result<(), AllocError> {
-        rows!(put_by_rows(place, found))
+    fn store_decoded<P: Slot<InfoXfrm>>(
+        slot: &mut P,
+        decoded: Decoded<'_>,
+    ) -> Result<(), AllocError> {
+        rows!(store_by_rows(slot, decoded))
     }
 
     #[inline(always)]
-    fn to_part(&self) -> Part<'_> {
-        rows!(part_by_rows self)
+    fn to_encodable(&self) -> Encodable<'_> {
+        rows!(encodable_by_rows self)
     }
 }
 
@@ -67,7 +70,7 @@ impl Nla for InfoXfrm {
 
 impl WrittenByTable for InfoXfrm {}
 
-/// Reads the attribute. A payload of another length than its row's is (Xfrm, type, Length).
+/// Reads the attribute. A payload of invalid length is rejected as `(Xfrm, type, Length)`.
 impl<'a> Parseable<NlaBuffer<'a>> for InfoXfrm {
     fn parse(buffer: &NlaBuffer<'a>) -> Result<InfoXfrm, DecodeError> {
         row_read(buffer, ())

@@ -1,30 +1,30 @@
-//! The canonical string of what a string means.
+//! The canonical encoding of a list, from another encoding of it.
 
 use crate::compat::AllocError;
 use crate::compat::TryVec;
-use crate::layers::link::canonicalize::{canonical_len_of, put_canonical_of};
+use crate::layers::link::canonicalize::{canonical_len_of, write_canonical_of};
 use crate::layers::nla_frame::{Bytes, DecodeError, ExactEq};
 use crate::layers::table::LinkPeer;
 use alloc::vec::Vec;
 use core::error::Error;
 use core::fmt;
 
-/// Why a string has no canonical string.
+/// Why a byte string has no canonical encoding.
 #[derive(Clone, Copy, Debug, PartialEq, Eq)]
 pub enum CanonError {
-    /// The string is refused, with the fault of `VecLinkInfoOf::parse`; or an allocation was:
-    /// (Frame, 0, Memory).
+    /// The byte string is rejected, with the error of `VecLinkInfoOf::parse`, or an allocation
+    /// failed: `(Frame, 0, Memory)`.
     Refused(DecodeError),
-    /// The list does not fit: a value has more than 65531 bytes, or the string has more than a
-    /// `usize` counts.
+    /// The list does not fit: the payload of an attribute has more than 65531 bytes, or the
+    /// encoding more than a `usize` can count.
     Unfit,
 }
 
-/// Writes the fault, or `unfit`.
+/// Writes the error, or `unfit`.
 impl fmt::Display for CanonError {
     fn fmt(&self, f: &mut fmt::Formatter<'_>) -> fmt::Result {
         match self {
-            CanonError::Refused(fault) => write!(f, "{fault}"),
+            CanonError::Refused(inner) => write!(f, "{inner}"),
             CanonError::Unfit => f.write_str("unfit"),
         }
     }
@@ -33,12 +33,12 @@ impl fmt::Display for CanonError {
 impl Error for CanonError {}
 
 impl From<DecodeError> for CanonError {
-    fn from(fault: DecodeError) -> CanonError {
-        CanonError::Refused(fault)
+    fn from(inner: DecodeError) -> CanonError {
+        CanonError::Refused(inner)
     }
 }
 
-/// Want of memory.
+/// The error of a failed allocation: `(Frame, 0, Memory)`.
 impl From<AllocError> for CanonError {
     fn from(refused: AllocError) -> CanonError {
         CanonError::Refused(DecodeError::from(refused))
@@ -47,20 +47,22 @@ impl From<AllocError> for CanonError {
 
 impl ExactEq for CanonError {}
 
-/// The canonical string of the list that the bytes frame, with peers of type `P`: that of `parse`
-/// and `to_vec`, without values.
+/// Returns the canonical encoding of the list that `bytes` encodes, with peers of type `P`.
 ///
-/// Refused with the fault of `parse`, as `Unfit` where the list does not fit, and with (Frame, 0,
-/// Memory) where an allocation was refused. A refusal and the empty string take no memory.
+/// It is the result of `VecLinkInfoOf::parse` and `to_vec`, without building values. The error is
+/// that of `parse` if the bytes are rejected, `Unfit` if the list does not fit, and `(Frame, 0,
+/// Memory)` if the allocation fails. An error in the bytes, `Unfit` and an empty result need no
+/// memory.
 pub fn canon_of<P: LinkPeer>(bytes: &[u8]) -> Result<Vec<u8>, CanonError> {
     let len = canonical_len_of::<P>(bytes)?;
     let mut string = Vec::new();
     string.try_resize(len, 0)?;
-    put_canonical_of::<P>(bytes, &mut string);
+    write_canonical_of::<P>(bytes, &mut string);
     Ok(string)
 }
 
-/// `canon_of`, with peers kept as bytes.
+/// Returns the canonical encoding of the list that `bytes` encodes, with peers kept as bytes;
+/// `canon_of` takes other types of peer.
 ///
 /// ```text
 /// let bytes = canon(&received)?;

@@ -1,8 +1,8 @@
-//! The canonical string of what a string means, written into a buffer without values and without
-//! memory.
+//! The canonical encoding of a list, from another encoding of it, in a buffer of the caller and
+//! without allocating.
 
 use crate::layers::link::canonical::CanonError;
-use crate::layers::link::item::{item_canonical_len, put_item};
+use crate::layers::link::item::{item_canonical_len, write_item};
 use crate::layers::link::list::check_of;
 use crate::layers::link::walk::LinkInfoWalk;
 use crate::layers::nla_frame::{Bytes, DecodeError, ExactEq};
@@ -10,23 +10,23 @@ use crate::layers::table::LinkPeer;
 use core::error::Error;
 use core::fmt;
 
-/// Why no canonical string was written.
+/// Why no canonical encoding was written into the buffer.
 #[derive(Clone, Copy, Debug, PartialEq, Eq)]
 pub enum CanonIntoError {
-    /// The string is refused, with the fault of `check`.
+    /// The byte string is rejected, with the error of `check`.
     Refused(DecodeError),
-    /// The list does not fit: a value has more than 65531 bytes, or the string has more than a
-    /// `usize` counts.
+    /// The list does not fit: the payload of an attribute has more than 65531 bytes, or the
+    /// encoding more than a `usize` can count.
     Unfit,
-    /// The buffer is shorter than the canonical string, which has this many bytes.
+    /// The buffer is shorter than the canonical encoding, which has this many bytes.
     Short(usize),
 }
 
-/// Writes the fault, `unfit`, or `short` and the number of bytes that are needed.
+/// Writes the error, `unfit`, or `short` and the number of bytes that the canonical encoding has.
 impl fmt::Display for CanonIntoError {
     fn fmt(&self, f: &mut fmt::Formatter<'_>) -> fmt::Result {
         match self {
-            CanonIntoError::Refused(fault) => write!(f, "{fault}"),
+            CanonIntoError::Refused(error) => write!(f, "{error}"),
             CanonIntoError::Unfit => f.write_str("unfit"),
             CanonIntoError::Short(needed) => write!(f, "short {needed}"),
         }
@@ -35,11 +35,11 @@ impl fmt::Display for CanonIntoError {
 
 impl Error for CanonIntoError {}
 
-/// Why there is no canonical string.
+/// The error of a byte string without a canonical encoding.
 impl From<CanonError> for CanonIntoError {
     fn from(cause: CanonError) -> CanonIntoError {
         match cause {
-            CanonError::Refused(fault) => CanonIntoError::Refused(fault),
+            CanonError::Refused(error) => CanonIntoError::Refused(error),
             CanonError::Unfit => CanonIntoError::Unfit,
         }
     }
@@ -47,8 +47,8 @@ impl From<CanonError> for CanonIntoError {
 
 impl ExactEq for CanonIntoError {}
 
-/// The length of the canonical string of what a walk has not gone over, where it fits, and else
-/// `None`. Each attribute is measured once.
+/// The length, in bytes, of the canonical encoding of the attributes that a walk has not visited,
+/// or `None` if they do not fit. Each attribute is measured once.
 fn rest_canonical_len<P: LinkPeer>(walk: &mut LinkInfoWalk<'_>) -> Option<usize> {
     let mut total: usize = 0;
     while let Some(next) = walk.advance() {
@@ -59,17 +59,18 @@ fn rest_canonical_len<P: LinkPeer>(walk: &mut LinkInfoWalk<'_>) -> Option<usize>
     Some(total)
 }
 
-/// Writes the canonical string of what a walk has not gone over at the front of the buffer, and
-/// leaves the bytes behind it.
-fn put_rest<P: LinkPeer>(walk: &mut LinkInfoWalk<'_>, buffer: &mut [u8]) {
+/// Writes the canonical encoding of the attributes that a walk has not visited to the front of the
+/// buffer. The rest of the buffer is unchanged.
+fn write_rest<P: LinkPeer>(walk: &mut LinkInfoWalk<'_>, buffer: &mut [u8]) {
     let mut place: usize = 0;
     while let Some(next) = walk.advance() {
         let (nla, role) = next.unwrap();
-        place += put_item::<P>(&nla, role, &mut buffer[place..]);
+        place += write_item::<P>(&nla, role, &mut buffer[place..]);
     }
 }
 
-/// The length of the canonical string of the list that the bytes frame, or why there is none.
+/// The length, in bytes, of the canonical encoding of the list that `bytes` encodes, or why there
+/// is none.
 pub(crate) fn canonical_len_of<P: LinkPeer>(bytes: &[u8]) -> Result<usize, CanonError> {
     check_of::<P>(bytes)?;
     match rest_canonical_len::<P>(&mut LinkInfoWalk::new(bytes)) {
@@ -78,19 +79,20 @@ pub(crate) fn canonical_len_of<P: LinkPeer>(bytes: &[u8]) -> Result<usize, Canon
     }
 }
 
-/// Writes the canonical string of the list that the bytes frame at the front of the buffer, and
-/// leaves what stands behind it. Asks for a string that is accepted, a list that fits, and a buffer
-/// of at least that length.
-pub(crate) fn put_canonical_of<P: LinkPeer>(bytes: &[u8], buffer: &mut [u8]) {
-    put_rest::<P>(&mut LinkInfoWalk::new(bytes), buffer);
+/// Writes the canonical encoding of the list that `bytes` encodes to the front of the buffer. The
+/// rest of the buffer is unchanged. Requires that the bytes are accepted, that the list fits, and
+/// that the buffer has room for the encoding.
+pub(crate) fn write_canonical_of<P: LinkPeer>(bytes: &[u8], buffer: &mut [u8]) {
+    write_rest::<P>(&mut LinkInfoWalk::new(bytes), buffer);
 }
 
-/// Writes the canonical string of the list that the bytes frame, with peers of type `P`, at the
-/// front of the buffer, and answers its length. It makes no values and takes no memory.
+/// Writes the canonical encoding of the list that `bytes` encodes, with peers of type `P`, to the
+/// front of the buffer, and returns its length in bytes.
 ///
-/// Refused with the fault of `check_of`, as `Unfit` where the list does not fit, and as `Short`,
-/// with the length that is needed, where the buffer is shorter than the string. A refusal leaves
-/// the buffer as it was, and so does success behind the string.
+/// It builds no values and does not allocate. The error is `Refused` if `check_of` rejects the
+/// bytes. It is `Unfit` if the list does not fit, and `Short`, with the length that is needed, if
+/// the buffer is too short. An error leaves the whole buffer unchanged, and success the rest after
+/// the encoding.
 pub fn canon_into_of<P: LinkPeer>(
     bytes: &[u8],
     buffer: &mut [u8],
@@ -99,11 +101,12 @@ pub fn canon_into_of<P: LinkPeer>(
     if needed > buffer.len() {
         return Err(CanonIntoError::Short(needed));
     }
-    put_canonical_of::<P>(bytes, buffer);
+    write_canonical_of::<P>(bytes, buffer);
     Ok(needed)
 }
 
-/// `canon_into_of`, with peers kept as bytes.
+/// Writes the canonical encoding of the list that `bytes` encodes to the front of the buffer, and
+/// returns its length in bytes. Peers are kept as bytes; `canon_into_of` takes other types of peer.
 ///
 /// ```text
 /// let mut buffer = [0; 4096];

@@ -1,4 +1,4 @@
-//! The list as a collection of its attributes: made of them, and gone over.
+//! The list as a collection of its attributes: built from them, and iterated over.
 
 use crate::layers::link::link_info::LinkInfoOf;
 use crate::layers::link::list::VecLinkInfoOf;
@@ -7,14 +7,14 @@ use alloc::vec;
 use alloc::vec::Vec;
 use core::slice;
 
-/// The list of the attributes, which are taken over as they are.
+/// The list of these attributes, in order. The `Vec` is moved, not copied.
 impl<P> From<Vec<LinkInfoOf<P>>> for VecLinkInfoOf<P> {
     fn from(items: Vec<LinkInfoOf<P>>) -> VecLinkInfoOf<P> {
         VecLinkInfoOf(Nlas::new(items))
     }
 }
 
-/// Goes over the attributes in order, and gives each away.
+/// Iterates over the attributes in order, by value.
 impl<P> IntoIterator for VecLinkInfoOf<P> {
     type Item = LinkInfoOf<P>;
 
@@ -25,7 +25,7 @@ impl<P> IntoIterator for VecLinkInfoOf<P> {
     }
 }
 
-/// Goes over the attributes in order, borrowed, as `iter` does.
+/// Iterates over the attributes in order, by reference, as `iter` does.
 impl<'a, P> IntoIterator for &'a VecLinkInfoOf<P> {
     type Item = &'a LinkInfoOf<P>;
 

@@ -1,31 +1,33 @@
-//! Reading, checking, comparing and writing one attribute of the list.
+//! One attribute of the list: parsed, validated, compared and written.
 
 use crate::layers::data::{
     DataFamily, InfoDataOf, InfoPortData, PayloadFamily, PortFamily, family_of, port_family_of,
 };
 use crate::layers::link::link_info::LinkInfoOf;
-use crate::layers::link::role::{InForce, Role, fault, name_in};
+use crate::layers::link::role::{CurrentKinds, Role, error, name_in};
 use crate::layers::link::xstats::LinkXstats;
 use crate::layers::nla_frame::{
     Bytes, Cause, DecodeError, DefaultNla, HeaderCount, Nla, NlaBuffer, Parseable, Text, fitting,
-    put_bytes_attribute, put_frame,
+    write_bytes_attribute, write_frame,
 };
 use crate::layers::numbers::{
     IFLA_INFO_DATA, IFLA_INFO_KIND, IFLA_INFO_SLAVE_DATA, IFLA_INFO_SLAVE_KIND, IFLA_INFO_XSTATS,
     InfoKind, InfoPortKind, KindTag, PortTag,
 };
-use crate::layers::table::{LinkPeer, Shape, shape_canonical_len, shape_put_attribute, shape_same};
+use crate::layers::table::{
+    LinkPeer, Shape, shape_canonical_len, shape_same, shape_write_attribute,
+};
 
-/// Reads an attribute by its role. Asks for the kinds in force behind it, as a walk leaves them:
-/// those of a name are the kinds that it gives.
+/// Parses an attribute by its role. Requires the current kinds after the attribute, as a walk has
+/// them: if the attribute names a kind, the current kind is that name's.
 pub(crate) fn read_item<P: LinkPeer>(
     nla: &NlaBuffer<'_>,
     role: Role,
-    behind: InForce,
+    kinds_after: CurrentKinds,
     count: &mut HeaderCount,
 ) -> Result<LinkInfoOf<P>, DecodeError> {
     match role {
-        Role::Kind => Ok(LinkInfoOf::Kind(read_kind(nla, behind.kind)?)),
+        Role::Kind => Ok(LinkInfoOf::Kind(read_kind(nla, kinds_after.kind)?)),
         Role::Data(tag) => {
             let data = family_of(tag).read(nla.value(), count)?;
             Ok(LinkInfoOf::Data(data))
@@ -34,18 +36,18 @@ pub(crate) fn read_item<P: LinkPeer>(
             let bytes = Bytes::copy_of(nla.value())?;
             Ok(LinkInfoOf::Xstats(LinkXstats::Other(bytes)))
         }
-        Role::PortKind => Ok(LinkInfoOf::PortKind(read_port_kind(nla, behind.port)?)),
+        Role::PortKind => Ok(LinkInfoOf::PortKind(read_port_kind(nla, kinds_after.port)?)),
         Role::PortData(tag) => {
             let data = port_family_of(tag).read(nla.value(), count)?;
             Ok(LinkInfoOf::PortData(data))
         }
-        Role::Misplaced => Err(fault(nla, Cause::Order)),
+        Role::Misplaced => Err(error(nla, Cause::Order)),
         Role::Unknown => Ok(LinkInfoOf::Other(DefaultNla::parse(nla)?)),
     }
 }
 
-/// The kind that an attribute names, by the tag of its name. A known name takes no memory; only
-/// every other is copied.
+/// The kind that an attribute names, by the tag of its name. A known name needs no memory; only an
+/// unknown one is copied.
 fn read_kind(nla: &NlaBuffer<'_>, tag: Option<KindTag>) -> Result<InfoKind, DecodeError> {
     let Some(tag) = tag else { unreachable!() };
     match InfoKind::from_tag(tag) {
@@ -54,7 +56,8 @@ fn read_kind(nla: &NlaBuffer<'_>, tag: Option<KindTag>) -> Result<InfoKind, Deco
     }
 }
 
-/// The same of the port kind that an attribute names.
+/// The port kind that an attribute names, by the tag of its name. A known name needs no memory;
+/// only an unknown one is copied.
 fn read_port_kind(nla: &NlaBuffer<'_>, tag: Option<PortTag>) -> Result<InfoPortKind, DecodeError> {
     let Some(tag) = tag else { unreachable!() };
     match InfoPortKind::from_tag(tag) {
@@ -63,8 +66,8 @@ fn read_port_kind(nla: &NlaBuffer<'_>, tag: Option<PortTag>) -> Result<InfoPortK
     }
 }
 
-/// Whether `read_item` would succeed, or its fault. Asks for an attribute without a fault of its
-/// own, as a walk gives it, and takes no memory.
+/// Validates an attribute by its role: returns `Ok` if `read_item` accepts it, otherwise the error
+/// of the attribute. Requires an attribute that a walk has returned. Does not allocate.
 #[inline(always)]
 pub(crate) fn check_item<P: LinkPeer>(
     nla: &NlaBuffer<'_>,
@@ -79,13 +82,13 @@ pub(crate) fn check_item<P: LinkPeer>(
         Role::Xstats => Ok(()),
         Role::PortKind => Ok(()),
         Role::PortData(tag) => port_family_of(tag).check(nla.value(), count),
-        Role::Misplaced => Err(fault(nla, Cause::Order)),
+        Role::Misplaced => Err(error(nla, Cause::Order)),
         Role::Unknown => Ok(()),
     }
 }
 
-/// Whether two attributes mean the same by the role of the first. Asks that each has a meaning, and
-/// takes no memory.
+/// Returns whether two attributes are equivalent by the role of the first. Requires that both are
+/// accepted. Does not allocate.
 pub(crate) fn same_item<P: LinkPeer>(
     a: &NlaBuffer<'_>,
     b: &NlaBuffer<'_>,
@@ -107,8 +110,8 @@ pub(crate) fn same_item<P: LinkPeer>(
     }
 }
 
-/// The length of the canonical payload of what an attribute means by its role, where it fits, and
-/// else `None`. Asks that it means something, and takes no memory.
+/// The length, in bytes, of the canonical payload of an attribute by its role, or `None` if it is
+/// above 65531. Requires that the attribute is accepted. Does not allocate.
 pub(crate) fn item_canonical_len<P: LinkPeer>(nla: &NlaBuffer<'_>, role: Role) -> Option<usize> {
     let value = nla.value();
     match role {
@@ -122,38 +125,43 @@ pub(crate) fn item_canonical_len<P: LinkPeer>(nla: &NlaBuffer<'_>, role: Role) -
     }
 }
 
-/// Writes the canonical attribute of what an attribute means by its role at the front of the
-/// buffer, leaves the bytes behind it, and answers its length. Asks that it means something, which
-/// fits, and for a buffer of at least that length; takes no memory.
-pub(crate) fn put_item<P: LinkPeer>(nla: &NlaBuffer<'_>, role: Role, buffer: &mut [u8]) -> usize {
+/// Writes the canonical encoding of an attribute by its role to the front of the buffer, and
+/// returns its length in bytes. The rest of the buffer is unchanged. Requires that the attribute is
+/// accepted, that its canonical payload has at most 65531 bytes, and that the buffer has room. Does
+/// not allocate.
+pub(crate) fn write_item<P: LinkPeer>(nla: &NlaBuffer<'_>, role: Role, buffer: &mut [u8]) -> usize {
     let value = nla.value();
     match role {
-        Role::Kind => shape_put_attribute(Shape::Name, IFLA_INFO_KIND, value, buffer),
-        Role::Data(tag) => {
-            put_payload::<InfoDataOf<P>, DataFamily>(family_of(tag), IFLA_INFO_DATA, value, buffer)
-        }
-        Role::Xstats => put_bytes_attribute(IFLA_INFO_XSTATS, value, buffer),
-        Role::PortKind => shape_put_attribute(Shape::Name, IFLA_INFO_SLAVE_KIND, value, buffer),
-        Role::PortData(tag) => put_payload::<InfoPortData, PortFamily>(
+        Role::Kind => shape_write_attribute(Shape::Name, IFLA_INFO_KIND, value, buffer),
+        Role::Data(tag) => write_payload::<InfoDataOf<P>, DataFamily>(
+            family_of(tag),
+            IFLA_INFO_DATA,
+            value,
+            buffer,
+        ),
+        Role::Xstats => write_bytes_attribute(IFLA_INFO_XSTATS, value, buffer),
+        Role::PortKind => shape_write_attribute(Shape::Name, IFLA_INFO_SLAVE_KIND, value, buffer),
+        Role::PortData(tag) => write_payload::<InfoPortData, PortFamily>(
             port_family_of(tag),
             IFLA_INFO_SLAVE_DATA,
             value,
             buffer,
         ),
         Role::Misplaced => unreachable!(),
-        Role::Unknown => put_bytes_attribute(nla.raw_kind(), value, buffer),
+        Role::Unknown => write_bytes_attribute(nla.raw_kind(), value, buffer),
     }
 }
 
-/// Writes the attribute of a type and the canonical payload of the data that a payload means in the
-/// same way: the payload behind the room of its header, and then header and padding.
-fn put_payload<D, F: PayloadFamily<D>>(
+/// Writes the canonical encoding of an attribute with data to the front of the buffer, and returns
+/// its length in bytes. The payload is written first, after room for its header; then the header
+/// and the padding.
+fn write_payload<D, F: PayloadFamily<D>>(
     family: F,
     kind: u16,
     payload: &[u8],
     buffer: &mut [u8],
 ) -> usize {
-    let len = family.put_canonical(payload, &mut buffer[4..]);
-    put_frame(buffer, kind, len);
+    let len = family.write_canonical(payload, &mut buffer[4..]);
+    write_frame(buffer, kind, len);
     4 + len.next_multiple_of(4)
 }

@@ -6,24 +6,25 @@ use crate::layers::nla_frame::{Bytes, DefaultNla, Emitable, ExactEq, Nla, fittin
 use crate::layers::numbers::{IFLA_INFO_XSTATS, InfoKind, InfoPortKind};
 use crate::layers::table::LinkPeer;
 
-/// An attribute of the list, with peers of type `P`.
+/// An attribute in `IFLA_LINKINFO`, with peers of type `P`.
 #[derive(Debug, PartialEq, Eq, Clone)]
 pub enum LinkInfoOf<P> {
-    /// Statistics of the link (`IFLA_INFO_XSTATS`).
+    /// The statistics of the link (`IFLA_INFO_XSTATS`).
     Xstats(LinkXstats),
     /// The kind of the link (`IFLA_INFO_KIND`).
     Kind(InfoKind),
-    /// Data of the link (`IFLA_INFO_DATA`).
+    /// The data of the link (`IFLA_INFO_DATA`).
     Data(InfoDataOf<P>),
-    /// The kind of the link that the port belongs to (`IFLA_INFO_SLAVE_KIND`).
+    /// The kind of the port, which is the kind of the link that the port belongs to
+    /// (`IFLA_INFO_SLAVE_KIND`).
     PortKind(InfoPortKind),
-    /// Data of the port (`IFLA_INFO_SLAVE_DATA`).
+    /// The data of the port (`IFLA_INFO_SLAVE_DATA`).
     PortData(InfoPortData),
-    /// An attribute of another type, kept as it came.
+    /// An attribute of any other type, kept verbatim.
     Other(DefaultNla),
 }
 
-/// An attribute of the list, with peers kept as bytes.
+/// An attribute in `IFLA_LINKINFO`, with peers kept as bytes.
 pub type LinkInfo = LinkInfoOf<Bytes>;
 
 impl<P: LinkPeer> Nla for LinkInfoOf<P> {

@@ -1,20 +1,20 @@
-//! The list inside `IFLA_LINKINFO`: read, checked, compared and written.
+//! The list in `IFLA_LINKINFO`: parsed, validated, compared and serialized.
 
 use crate::compat::TryVec;
 use crate::layers::link::item::{check_item, read_item, same_item};
 use crate::layers::link::link_info::LinkInfoOf;
-use crate::layers::link::placed::FaultIn;
-use crate::layers::link::role::{InForce, behind, role_of};
+use crate::layers::link::placed::ErrorIn;
+use crate::layers::link::role::{CurrentKinds, kinds_after, role_of};
 use crate::layers::link::walk::LinkInfoWalk;
 use crate::layers::nla_frame::{
-    Bytes, DecodeError, ExactEq, HeaderCount, Nlas, ToVecError, next_piece, nlas_to_vec,
+    Bytes, DecodeError, ExactEq, HeaderCount, Nlas, ToVecError, next_attribute, nlas_to_vec,
 };
 use crate::layers::table::LinkPeer;
 use alloc::vec::Vec;
 use core::slice;
 
-/// Reads the attributes that a walk has not gone over. The headers that the walk looks at are not
-/// counted here.
+/// Parses the attributes that a walk has not visited. The headers that the walk itself examines are
+/// not counted here.
 fn read_rest<P: LinkPeer>(
     walk: &mut LinkInfoWalk<'_>,
     count: &mut HeaderCount,
@@ -22,15 +22,16 @@ fn read_rest<P: LinkPeer>(
     let mut items = Vec::new();
     while let Some(next) = walk.advance() {
         let (nla, role) = next?;
-        match read_item(&nla, role, walk.in_force(), count) {
+        match read_item(&nla, role, walk.current_kinds(), count) {
             Ok(item) => items.try_push(item)?,
-            Err(fault) => return Err(fault),
+            Err(error) => return Err(error),
         }
     }
     Ok(items)
 }
 
-/// Checks the attributes that a walk has not gone over, as `read_rest` reads them. Takes no memory.
+/// Validates the attributes that a walk has not visited, as `read_rest` parses them. Does not
+/// allocate.
 #[inline(always)]
 fn check_rest<P: LinkPeer>(
     walk: &mut LinkInfoWalk<'_>,
@@ -43,30 +44,30 @@ fn check_rest<P: LinkPeer>(
     Ok(())
 }
 
-/// Whether two accepted strings mean the same list, attribute by attribute, each pair under the
-/// kinds in force in the first. Takes no memory.
+/// Returns whether two accepted byte strings are equivalent, attribute by attribute, each pair
+/// under the current kinds in the first. Does not allocate.
 fn same_strings<P: LinkPeer>(a: &[u8], b: &[u8], count: &mut HeaderCount) -> bool {
     let mut x = a;
     let mut y = b;
-    let mut force = InForce::none();
-    while let Some(next) = next_piece(x, count) {
-        let Some(other) = next_piece(y, count) else {
+    let mut kinds = CurrentKinds::none();
+    while let Some(next) = next_attribute(x, count) {
+        let Some(other) = next_attribute(y, count) else {
             return false;
         };
         let (p, after_p) = next.unwrap();
         let (q, after_q) = other.unwrap();
-        let role = role_of(force, p.kind());
+        let role = role_of(kinds, p.kind());
         if !same_item::<P>(&p, &q, role, count) {
             return false;
         }
-        force = behind(role, force, &p).unwrap();
+        kinds = kinds_after(role, kinds, &p).unwrap();
         x = after_p;
         y = after_q;
     }
-    next_piece(y, count).is_none()
+    next_attribute(y, count).is_none()
 }
 
-/// Checks a whole string, and counts each header once.
+/// Validates a whole byte string, and counts each header once.
 #[inline(always)]
 fn check_string<P: LinkPeer>(bytes: &[u8], count: &mut HeaderCount) -> Result<(), DecodeError> {
     let mut walk = LinkInfoWalk::new(bytes);
@@ -75,49 +76,50 @@ fn check_string<P: LinkPeer>(bytes: &[u8], count: &mut HeaderCount) -> Result<()
     answer
 }
 
-/// The attributes inside `IFLA_LINKINFO`, include/uapi/linux/if_link.h, with peers of type `P`.
+/// The contents of `IFLA_LINKINFO` (include/uapi/linux/if_link.h): a list of attributes, with peers
+/// of type `P`.
 ///
-/// It is made of a `Vec` by `From`, gone over by `iter` or a `for`, and written by `to_vec`; into a
-/// buffer that is there already, by `nlas_fit_len`, `nlas_buffer_len` and `emit_nlas` of
+/// It is built from a `Vec` by `From`, iterated over by `iter` or a `for` loop, and serialized by
+/// `to_vec`. To serialize it into an existing buffer, call `nlas_fit_len` and `emit_nlas` on
 /// `as_slice`.
 #[derive(Debug, PartialEq, Eq, Clone)]
 pub struct VecLinkInfoOf<P>(pub Nlas<LinkInfoOf<P>>);
 
-/// The list with peers kept as bytes.
+/// The contents of `IFLA_LINKINFO`: a list of attributes, with peers kept as bytes.
 pub type VecLinkInfo = VecLinkInfoOf<Bytes>;
 
 impl<P: ExactEq> ExactEq for VecLinkInfoOf<P> {}
 
 impl<P> VecLinkInfoOf<P> {
-    /// The `Vec` that holds the attributes.
+    /// Returns the `Vec` of the attributes.
     pub fn into_vec(self) -> Vec<LinkInfoOf<P>> {
         self.0.into_vec()
     }
 
-    /// The attributes.
+    /// Returns the attributes as a slice.
     pub fn as_slice(&self) -> &[LinkInfoOf<P>] {
         self.0.as_slice()
     }
 
-    /// Goes over the attributes in order, borrowed.
+    /// Iterates over the attributes in order, by reference.
     pub fn iter(&self) -> slice::Iter<'_, LinkInfoOf<P>> {
         self.0.iter()
     }
 
-    /// How many attributes there are.
+    /// Returns the number of attributes.
     pub fn len(&self) -> usize {
         self.0.len()
     }
 
-    /// Whether there are none.
+    /// Returns whether the list is empty.
     pub fn is_empty(&self) -> bool {
         self.0.is_empty()
     }
 }
 
 impl<P: LinkPeer> VecLinkInfoOf<P> {
-    /// Reads the list that the bytes frame, and counts each header with four present bytes that is
-    /// looked at, at all depths. Asks for a counter at zero. It answers as `parse` does.
+    /// Parses the contents of `IFLA_LINKINFO` as `parse` does, and counts the headers examined at
+    /// all levels: at most a quarter of the bytes. Requires a counter at zero.
     ///
     /// # Panics
     ///
@@ -132,25 +134,26 @@ impl<P: LinkPeer> VecLinkInfoOf<P> {
         count.add(walk.examined());
         match answer {
             Ok(items) => Ok(VecLinkInfoOf(Nlas::new(items))),
-            Err(fault) => Err(fault),
+            Err(error) => Err(error),
         }
     }
 
-    /// Reads the list that the bytes frame.
+    /// Parses the contents of `IFLA_LINKINFO`.
     ///
-    /// The fault is that of the first attribute in byte order that has no header or no meaning, the
-    /// outer one before those inside it. An answer other than (Frame, 0, Memory) is what the string
-    /// means; the empty string takes no memory, and a first attribute's own fault never gives way
-    /// to Memory.
+    /// The error is that of the first attribute in byte order whose header or value is rejected, an
+    /// outer attribute before those inside it. It is `(Frame, 0, Memory)` if an allocation fails
+    /// first; every other result depends on the bytes alone. The empty string is parsed without
+    /// allocating. If the first attribute is rejected by its own header, name or order, that error
+    /// is returned even if memory is short.
     pub fn parse(bytes: &[u8]) -> Result<VecLinkInfoOf<P>, DecodeError> {
         let mut count = HeaderCount::new();
         VecLinkInfoOf::parse_counted(bytes, &mut count)
     }
 
-    /// The canonical string of the list.
+    /// Serializes the list: returns its canonical encoding.
     ///
-    /// Refused as `Unfit` exactly where the list does not fit, before any memory is asked for, and
-    /// as `Memory` where an allocation was refused. The empty list takes no memory.
+    /// The error is `Unfit` if and only if the list does not fit, before any allocation, and
+    /// `Memory` if the allocation fails. The empty list is serialized without allocating.
     ///
     /// ```text
     /// let list = VecLinkInfo::from(vec![LinkInfo::Kind(InfoKind::Xfrm)]);
@@ -161,15 +164,16 @@ impl<P: LinkPeer> VecLinkInfoOf<P> {
     }
 }
 
-/// Whether the bytes are in the grammar, with peers of type `P`: the verdict of
-/// `VecLinkInfoOf::parse`, or the fault. Takes no memory.
+/// Validates the contents of `IFLA_LINKINFO`, with peers of type `P`: returns `Ok` if
+/// `VecLinkInfoOf::parse` accepts them, otherwise the error of the bytes. Each header is examined
+/// once. Does not allocate.
 pub fn check_of<P: LinkPeer>(bytes: &[u8]) -> Result<(), DecodeError> {
     let mut count = HeaderCount::new();
     check_string::<P>(bytes, &mut count)
 }
 
-/// The same, and each header with four present bytes that is looked at is counted. Asks for a
-/// counter at zero.
+/// Validates the contents of `IFLA_LINKINFO` as `check_of` does, and counts the headers examined at
+/// all levels: at most a quarter of the bytes. Requires a counter at zero. Does not allocate.
 ///
 /// # Panics
 ///
@@ -182,9 +186,9 @@ pub fn check_counted_of<P: LinkPeer>(
     check_string::<P>(bytes, count)
 }
 
-/// Whether two strings mean the same list, with peers of type `P`: the first string's fault, else
-/// the second's, else whether they are alike. Each header is counted. Asks for a counter at zero,
-/// and takes no memory.
+/// Returns whether two lists are equivalent, as `same_of` does, and counts the headers examined at
+/// all levels: at most half as many as both have bytes. Requires a counter at zero. Does not
+/// allocate.
 ///
 /// # Panics
 ///
@@ -200,44 +204,54 @@ pub fn same_counted_of<P: LinkPeer>(
     Ok(same_strings::<P>(a, b, count))
 }
 
-/// `same_of`, and which of the two strings has the fault. Takes no memory.
-pub fn same_placed_of<P: LinkPeer>(a: &[u8], b: &[u8]) -> Result<bool, FaultIn> {
+/// Returns whether two lists are equivalent, with peers of type `P`. The error is that of the first
+/// list, otherwise that of the second, and says which of the two has it. Does not allocate.
+pub fn same_at_of<P: LinkPeer>(a: &[u8], b: &[u8]) -> Result<bool, ErrorIn> {
     match check_of::<P>(a) {
         Ok(()) => {}
-        Err(fault) => return Err(FaultIn::First(fault)),
+        Err(error) => return Err(ErrorIn::First(error)),
     }
-    // Equal strings mean the same list where the first means one.
+    // Equal byte strings are equivalent if the first is accepted.
     if a == b {
         return Ok(true);
     }
-    if let Err(fault) = check_of::<P>(b) {
-        return Err(FaultIn::Second(fault));
+    if let Err(error) = check_of::<P>(b) {
+        return Err(ErrorIn::Second(error));
     }
     let mut count = HeaderCount::new();
     Ok(same_strings::<P>(a, b, &mut count))
 }
 
-/// The answer of `same_counted_of` where nothing is counted.
+/// The result of `same_counted_of`, without counting.
 fn same_uncounted<P: LinkPeer>(a: &[u8], b: &[u8]) -> Result<bool, DecodeError> {
-    match same_placed_of::<P>(a, b) {
+    match same_at_of::<P>(a, b) {
         Ok(same) => Ok(same),
-        Err(FaultIn::First(fault) | FaultIn::Second(fault)) => Err(fault),
+        Err(ErrorIn::First(error) | ErrorIn::Second(error)) => Err(error),
     }
 }
 
-/// Whether two strings mean the same list, with peers of type `P`: the first string's fault, else
-/// the second's, else whether they are alike. No value is made, so it also answers of lists that do
-/// not fit. Takes no memory.
+/// Returns whether two lists are equivalent, with peers of type `P`: whether they parse as equal
+/// values.
+///
+/// The error is that of the first list, otherwise that of the second. No values are built, so lists
+/// that do not fit are compared too. Does not allocate.
+///
+/// It compares two requests, or two canonical encodings. A request and the link that the kernel
+/// made for it are rarely equivalent, since the kernel adds attributes: compare these by
+/// `first_unmet_of`.
 pub fn same_of<P: LinkPeer>(a: &[u8], b: &[u8]) -> Result<bool, DecodeError> {
     same_uncounted::<P>(a, b)
 }
 
-/// `check_of`, with peers kept as bytes.
+/// Validates the contents of `IFLA_LINKINFO`: returns `Ok` if `VecLinkInfo::parse` accepts them,
+/// otherwise the error of the bytes. Peers are kept as bytes; `check_of` takes other types of peer.
+/// Does not allocate.
 pub fn check(bytes: &[u8]) -> Result<(), DecodeError> {
     check_of::<Bytes>(bytes)
 }
 
-/// `check_counted_of`, with peers kept as bytes.
+/// Validates the contents of `IFLA_LINKINFO` as `check` does, and counts the headers examined at
+/// all levels: at most a quarter of the bytes. Requires a counter at zero. Does not allocate.
 ///
 /// # Panics
 ///
@@ -247,12 +261,15 @@ pub fn check_counted(bytes: &[u8], count: &mut HeaderCount) -> Result<(), Decode
     check_counted_of::<Bytes>(bytes, count)
 }
 
-/// `same_of`, with peers kept as bytes.
+/// Returns whether two lists are equivalent: whether they parse as equal values. The error is that
+/// of the first list, otherwise that of the second. Peers are kept as bytes; `same_of` takes other
+/// types of peer. Does not allocate.
 pub fn same(a: &[u8], b: &[u8]) -> Result<bool, DecodeError> {
     same_of::<Bytes>(a, b)
 }
 
-/// `same_counted_of`, with peers kept as bytes.
+/// Returns whether two lists are equivalent, as `same` does, and counts the headers examined at all
+/// levels: at most half as many as both have bytes. Requires a counter at zero. Does not allocate.
 ///
 /// # Panics
 ///
@@ -262,15 +279,17 @@ pub fn same_counted(a: &[u8], b: &[u8], count: &mut HeaderCount) -> Result<bool,
     same_counted_of::<Bytes>(a, b, count)
 }
 
-/// `same_placed_of`, with peers kept as bytes.
+/// Returns whether two lists are equivalent. The error is that of the first list, otherwise that of
+/// the second, and says which of the two has it. Peers are kept as bytes; `same_at_of` takes other
+/// types of peer. Does not allocate.
 ///
 /// ```text
-/// match same_placed(&wanted, &received) {
+/// match same_at(&wanted, &received) {
 ///     Ok(same) => ..,
-///     Err(FaultIn::First(fault)) => .., // what is wanted is at fault
-///     Err(FaultIn::Second(fault)) => ..,
+///     Err(ErrorIn::First(error)) => .., // `wanted` is rejected
+///     Err(ErrorIn::Second(error)) => .., // `received` is rejected
 /// }
 /// ```
-pub fn same_placed(a: &[u8], b: &[u8]) -> Result<bool, FaultIn> {
-    same_placed_of::<Bytes>(a, b)
+pub fn same_at(a: &[u8], b: &[u8]) -> Result<bool, ErrorIn> {
+    same_at_of::<Bytes>(a, b)
 }

@@ -1,47 +1,85 @@
-//! The first fault of a list, and where it stands.
+//! The first error of a list, with its offsets.
 
+use crate::layers::data::{
+    DataFamily, InfoDataOf, InfoPortData, PayloadFamily, PortFamily, family_of, list_error,
+    port_family_of,
+};
 use crate::layers::link::item::check_item;
+use crate::layers::link::role::Role;
 use crate::layers::link::walk::LinkInfoWalk;
-use crate::layers::nla_frame::{Bytes, DecodeError, ExactEq, HeaderCount};
+use crate::layers::nla_frame::{Bytes, DecodeError, ExactEq, HeaderCount, NlaBuffer};
 use crate::layers::table::LinkPeer;
 
-/// A fault, and where it stands.
+/// The first error of a list, with its offsets.
 #[derive(Clone, Copy, Debug, PartialEq, Eq)]
-pub struct PlacedFault {
-    /// Family, type and cause.
-    pub fault: DecodeError,
-    /// Where, in bytes from the front of the list, the attribute of the list begins that has the
-    /// fault, itself or in what stands inside it; or where no header is accepted.
+pub struct ErrorAt {
+    /// The error: family, type and cause.
+    pub error: DecodeError,
+    /// The offset, in bytes from the beginning of the list, of the header of the attribute of the
+    /// list that has the error, itself or in its data. If no header is accepted, it is the offset
+    /// of the rejected bytes.
     pub place: usize,
+    /// The offset, in bytes from the beginning of the list, of the header of the innermost
+    /// attribute that has the error: an attribute of data, or of a list in it. Otherwise it is
+    /// `place`.
+    pub inner: usize,
 }
 
-impl ExactEq for PlacedFault {}
+impl ExactEq for ErrorAt {}
 
-/// Which of two strings is refused, and its fault.
+/// The error of one of two byte strings, and which of them has it.
 #[derive(Clone, Copy, Debug, PartialEq, Eq)]
-pub enum FaultIn {
-    /// The first string's fault.
+pub enum ErrorIn {
+    /// The first byte string is rejected with this error.
     First(DecodeError),
-    /// The second string's fault, where the first has none.
+    /// The second byte string is rejected with this error, and the first one is accepted.
     Second(DecodeError),
 }
 
-impl FaultIn {
-    /// The fault, whichever string has it.
-    pub fn fault(self) -> DecodeError {
+impl ErrorIn {
+    /// Returns the error, whichever byte string has it.
+    pub fn error(self) -> DecodeError {
         match self {
-            FaultIn::First(fault) | FaultIn::Second(fault) => fault,
+            ErrorIn::First(error) | ErrorIn::Second(error) => error,
         }
     }
 }
 
-impl ExactEq for FaultIn {}
+impl ExactEq for ErrorIn {}
 
-/// `check_of`, and where the fault stands. Takes no memory, and looks at each header once.
+/// The offset of the error of rejected data, in bytes from the header of the attribute that holds
+/// the data. It is that of the innermost attribute if the data is a list, otherwise that of the
+/// data's first attribute.
+fn error_in_payload<D, F: PayloadFamily<D>>(family: F, payload: &[u8]) -> usize {
+    if family.listing().is_none() {
+        return 4;
+    }
+    match list_error::<D, F>(family, payload) {
+        Some(offset) => 4 + offset,
+        None => 4,
+    }
+}
+
+/// The offset of the error of a rejected attribute of the list, in bytes from its header.
+fn error_in<P: LinkPeer>(nla: &NlaBuffer<'_>, role: Role) -> usize {
+    match role {
+        Role::Data(tag) => {
+            error_in_payload::<InfoDataOf<P>, DataFamily>(family_of(tag), nla.value())
+        }
+        Role::PortData(tag) => {
+            error_in_payload::<InfoPortData, PortFamily>(port_family_of(tag), nla.value())
+        }
+        _ => 0,
+    }
+}
+
+/// Validates the contents of `IFLA_LINKINFO`, with peers of type `P`, as `check_of` does, and
+/// returns the offsets of the error beside it.
 ///
-/// The place is that of an attribute of the list: of a fault inside data, port data or a list in
-/// them, that of the data's own header.
-pub fn check_placed_of<P: LinkPeer>(bytes: &[u8]) -> Result<(), PlacedFault> {
+/// The offset `place` is that of an attribute of the list: for an error inside data, port data or a
+/// list in them, it is that of the data's own header. Each header is examined once, those of
+/// rejected data up to three times. Does not allocate.
+pub fn check_at_of<P: LinkPeer>(bytes: &[u8]) -> Result<(), ErrorAt> {
     let mut walk = LinkInfoWalk::new(bytes);
     let mut count = HeaderCount::new();
     let mut place = 0;
@@ -49,21 +87,35 @@ pub fn check_placed_of<P: LinkPeer>(bytes: &[u8]) -> Result<(), PlacedFault> {
         match next {
             Ok((nla, role)) => match check_item::<P>(&nla, role, &mut count) {
                 Ok(()) => place = walk.place(),
-                Err(fault) => return Err(PlacedFault { fault, place }),
+                Err(error) => {
+                    let inner = place + error_in::<P>(&nla, role);
+                    return Err(ErrorAt {
+                        error,
+                        place,
+                        inner,
+                    });
+                }
             },
-            Err(fault) => return Err(PlacedFault { fault, place }),
+            Err(error) => {
+                return Err(ErrorAt {
+                    error,
+                    place,
+                    inner: place,
+                });
+            }
         }
     }
     Ok(())
 }
 
-/// `check_placed_of`, with peers kept as bytes.
+/// Validates the contents of `IFLA_LINKINFO` as `check` does, and returns the offsets of the error
+/// beside it. Peers are kept as bytes; `check_at_of` takes other types of peer. Does not allocate.
 ///
 /// ```text
-/// if let Err(at) = check_placed(&received) {
-///     println!("{} at byte {}", at.fault, at.place);
+/// if let Err(at) = check_at(&received) {
+///     println!("{} at byte {}", at.error, at.place);
 /// }
 /// ```
-pub fn check_placed(bytes: &[u8]) -> Result<(), PlacedFault> {
-    check_placed_of::<Bytes>(bytes)
+pub fn check_at(bytes: &[u8]) -> Result<(), ErrorAt> {
+    check_at_of::<Bytes>(bytes)
 }

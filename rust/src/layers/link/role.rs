@@ -1,4 +1,4 @@
-//! What an attribute of the list is, by its type and the kinds in force before it.
+//! The role of an attribute of the list, by its type and the current kinds before it.
 
 use crate::layers::nla_frame::{Cause, DecodeError, ExactEq, Family, NlaBuffer, without_nul};
 use crate::layers::numbers::{
@@ -7,60 +7,60 @@ use crate::layers::numbers::{
 };
 use crate::layers::table::{Shape, read_datum};
 
-/// The kinds in force: that of the link is the last one named, that of the port the last one named
-/// that no port data used up.
+/// The current kinds: the kind of the link is the last one named, and the kind of the port the last
+/// one named that no port data has used up.
 #[derive(Clone, Copy, Debug, PartialEq, Eq)]
-pub struct InForce {
+pub struct CurrentKinds {
     pub(crate) kind: Option<KindTag>,
     pub(crate) port: Option<PortTag>,
 }
 
-impl ExactEq for InForce {}
+impl ExactEq for CurrentKinds {}
 
-impl InForce {
-    /// Before the first attribute.
-    pub(crate) fn none() -> InForce {
-        InForce {
+impl CurrentKinds {
+    /// The current kinds before the first attribute: none.
+    pub(crate) fn none() -> CurrentKinds {
+        CurrentKinds {
             kind: None,
             port: None,
         }
     }
 }
 
-/// What an attribute of the list holds.
+/// The role of an attribute of the list: what it holds.
 #[derive(Clone, Copy, Debug, PartialEq, Eq)]
 pub enum Role {
     /// The name of a kind.
     Kind,
-    /// Data of the kind in force.
+    /// Data of the current kind.
     Data(KindTag),
-    /// Statistics of the kind in force.
+    /// Statistics of the current kind.
     Xstats,
     /// The name of a port kind.
     PortKind,
-    /// Data of the port kind in force.
+    /// Data of the current port kind.
     PortData(PortTag),
-    /// Data or statistics with no kind in force.
+    /// Data, port data or statistics without a current kind to belong to.
     Misplaced,
     /// An attribute of an unknown type.
     Unknown,
 }
 
-/// The role of an attribute of this masked type.
+/// The role of an attribute with this type, without flag bits.
 #[inline(always)]
-pub(crate) fn role_of(force: InForce, kind: u16) -> Role {
+pub(crate) fn role_of(kinds: CurrentKinds, kind: u16) -> Role {
     match kind {
         IFLA_INFO_KIND => Role::Kind,
-        IFLA_INFO_DATA => match force.kind {
+        IFLA_INFO_DATA => match kinds.kind {
             Some(tag) => Role::Data(tag),
             None => Role::Misplaced,
         },
-        IFLA_INFO_XSTATS => match force.kind {
+        IFLA_INFO_XSTATS => match kinds.kind {
             Some(_) => Role::Xstats,
             None => Role::Misplaced,
         },
         IFLA_INFO_SLAVE_KIND => Role::PortKind,
-        IFLA_INFO_SLAVE_DATA => match force.port {
+        IFLA_INFO_SLAVE_DATA => match kinds.port {
             Some(tag) => Role::PortData(tag),
             None => Role::Misplaced,
         },
@@ -68,9 +68,9 @@ pub(crate) fn role_of(force: InForce, kind: u16) -> Role {
     }
 }
 
-/// The fault of an attribute of the list itself.
+/// The error of an attribute of the list itself.
 #[inline(always)]
-pub(crate) fn fault(nla: &NlaBuffer<'_>, cause: Cause) -> DecodeError {
+pub(crate) fn error(nla: &NlaBuffer<'_>, cause: Cause) -> DecodeError {
     DecodeError {
         family: Family::LinkInfo,
         kind: nla.kind(),
@@ -78,17 +78,17 @@ pub(crate) fn fault(nla: &NlaBuffer<'_>, cause: Cause) -> DecodeError {
     }
 }
 
-/// The name that an attribute holds: its payload without one closing NUL. Refused as (LinkInfo,
-/// type, Utf8) where it is not UTF-8.
+/// The name that an attribute holds: its payload without one closing NUL. The error is `(LinkInfo,
+/// type, Utf8)` if it is not UTF-8.
 pub(crate) fn name_in<'a>(nla: &NlaBuffer<'a>) -> Result<&'a str, DecodeError> {
     match read_datum(Shape::Name, nla.value()) {
         Ok(datum) => Ok(datum.text_or_empty()),
-        Err(cause) => Err(fault(nla, cause)),
+        Err(cause) => Err(error(nla, cause)),
     }
 }
 
-/// The tag of the kind that an attribute names, or the fault of `name_in`. A known name is known by
-/// its bytes; only every other is tested for UTF-8.
+/// The tag of the kind that an attribute names, or the error of `name_in`. A known name is
+/// recognized by its bytes; only another name is tested for UTF-8.
 #[inline(always)]
 fn kind_tag_in(nla: &NlaBuffer<'_>) -> Result<KindTag, DecodeError> {
     match tag_of_name(without_nul(nla.value())) {
@@ -100,7 +100,8 @@ fn kind_tag_in(nla: &NlaBuffer<'_>) -> Result<KindTag, DecodeError> {
     }
 }
 
-/// The same of the port kind that an attribute names.
+/// The tag of the port kind that an attribute names, or the error of `name_in`. A known name is
+/// recognized by its bytes; only another name is tested for UTF-8.
 #[inline(always)]
 fn port_tag_in(nla: &NlaBuffer<'_>) -> Result<PortTag, DecodeError> {
     match port_tag_of_name(without_nul(nla.value())) {
@@ -112,29 +113,29 @@ fn port_tag_in(nla: &NlaBuffer<'_>) -> Result<PortTag, DecodeError> {
     }
 }
 
-/// The kinds in force behind an attribute of this role, or the attribute's own fault: (LinkInfo,
-/// type, Order) for data or statistics without their kind, (LinkInfo, type, Utf8) for a name that
-/// is not UTF-8.
+/// The current kinds after an attribute of this role, or the error of the attribute itself. The
+/// error is `(LinkInfo, type, Order)` for data or statistics without their kind, and `(LinkInfo,
+/// type, Utf8)` for a name that is not UTF-8.
 #[inline(always)]
-pub(crate) fn behind(
+pub(crate) fn kinds_after(
     role: Role,
-    force: InForce,
+    kinds: CurrentKinds,
     nla: &NlaBuffer<'_>,
-) -> Result<InForce, DecodeError> {
+) -> Result<CurrentKinds, DecodeError> {
     match role {
-        Role::Kind => Ok(InForce {
+        Role::Kind => Ok(CurrentKinds {
             kind: Some(kind_tag_in(nla)?),
-            port: force.port,
+            port: kinds.port,
         }),
-        Role::PortKind => Ok(InForce {
-            kind: force.kind,
+        Role::PortKind => Ok(CurrentKinds {
+            kind: kinds.kind,
             port: Some(port_tag_in(nla)?),
         }),
-        Role::PortData(_) => Ok(InForce {
-            kind: force.kind,
+        Role::PortData(_) => Ok(CurrentKinds {
+            kind: kinds.kind,
             port: None,
         }),
-        Role::Misplaced => Err(fault(nla, Cause::Order)),
-        Role::Data(_) | Role::Xstats | Role::Unknown => Ok(force),
+        Role::Misplaced => Err(error(nla, Cause::Order)),
+        Role::Data(_) | Role::Xstats | Role::Unknown => Ok(kinds),
     }
 }

@@ -1,18 +1,21 @@
 //! Whether a link has all attributes of a request, and which one it lacks.
 
 use crate::layers::data::{
-    DataFamily, InfoDataOf, InfoPortData, PayloadFamily, PortFamily, Unmet, family_of, list_unmet,
-    port_family_of,
+    DataFamily, InfoDataOf, InfoPortData, PayloadFamily, PortFamily, Unmet, UnmetAt, earlier,
+    family_of, list_unmet, port_family_of,
 };
 use crate::layers::link::item::same_item;
 use crate::layers::link::list::check_of;
-use crate::layers::link::placed::FaultIn;
-use crate::layers::link::role::{InForce, Role, role_of};
-use crate::layers::nla_frame::{Bytes, Family, HeaderCount, NlaBuffer, next_piece, without_nul};
-use crate::layers::numbers::{
-    IFLA_INFO_KIND, IFLA_INFO_SLAVE_DATA, IFLA_INFO_SLAVE_KIND, port_tag_of_name, tag_of_name,
+use crate::layers::link::placed::ErrorIn;
+use crate::layers::link::role::{CurrentKinds, Role, role_of};
+use crate::layers::nla_frame::{
+    Bytes, Family, HeaderCount, NlaBuffer, next_attribute, without_nul,
 };
-use crate::layers::table::{LastOfType, LinkPeer, PlacedNla};
+use crate::layers::numbers::{
+    IFLA_INFO_DATA, IFLA_INFO_KIND, IFLA_INFO_SLAVE_DATA, IFLA_INFO_SLAVE_KIND, IFLA_INFO_XSTATS,
+    port_tag_of_name, tag_of_name,
+};
+use crate::layers::table::{INDEXED, LastOfType, LinkPeer, PlacedNla, types_end};
 
 /// The names of the current kinds.
 #[derive(Clone, Copy)]
@@ -23,8 +26,8 @@ struct Names<'a> {
 
 impl<'a> Names<'a> {
     /// The kinds that they name.
-    fn kinds(self) -> InForce {
-        InForce {
+    fn kinds(self) -> CurrentKinds {
+        CurrentKinds {
             kind: match self.kind {
                 Some(name) => Some(tag_of_name(name)),
                 None => None,
@@ -73,7 +76,7 @@ fn names_before<'a>(bytes: &'a [u8], offset: usize) -> Names<'a> {
     let mut port = None;
     let mut count = HeaderCount::new();
     let mut rest = bytes;
-    while let Some(Ok((nla, after))) = next_piece(rest, &mut count) {
+    while let Some(Ok((nla, after))) = next_attribute(rest, &mut count) {
         let place = bytes.len() - rest.len();
         let is_before = place < offset;
         kind = kind_after(is_before, nla.kind(), place, kind);
@@ -113,6 +116,9 @@ fn data_unmet<D, F: PayloadFamily<D>>(
     want: &PlacedNla<'_>,
 ) -> Option<Unmet> {
     let (had, wanted) = (have.nla.value(), want.nla.value());
+    if had == wanted {
+        return None;
+    }
     match family.listing() {
         Some(name) => {
             let inner = list_unmet::<D, F>(family, name, had, wanted)?;
@@ -126,9 +132,18 @@ fn data_unmet<D, F: PayloadFamily<D>>(
                 },
             })
         }
-        None if had == wanted || family.same(had, wanted, &mut HeaderCount::new()) => None,
+        None if family.same(had, wanted, &mut HeaderCount::new()) => None,
         None => Some(whole(want, Some(have.offset))),
     }
+}
+
+/// Whether what an attribute of this type means depends on a kind: that of data, statistics or port
+/// data does.
+fn belongs_to_a_kind(kind: u16) -> bool {
+    matches!(
+        kind,
+        IFLA_INFO_DATA | IFLA_INFO_XSTATS | IFLA_INFO_SLAVE_DATA
+    )
 }
 
 /// What of an attribute of `want` the last one of its type in `have` does not meet.
@@ -141,9 +156,13 @@ fn placed_unmet<P: LinkPeer>(
     let Some(found) = found else {
         return Some(whole(placed, None));
     };
+    let kind = placed.nla.kind();
+    if !belongs_to_a_kind(kind) {
+        return item_unmet::<P>(role_of(CurrentKinds::none(), kind), found, placed);
+    }
     let had = names_before(have, found.offset);
     let wanted = names_before(want, placed.offset);
-    let role = role_of(wanted.kinds(), placed.nla.kind());
+    let role = role_of(wanted.kinds(), kind);
     if !is_same_kind(role, had, wanted) {
         return Some(whole(placed, Some(found.offset)));
     }
@@ -174,19 +193,31 @@ fn item_unmet<P: LinkPeer>(
 
 /// The first attribute of an accepted list that another one does not meet.
 fn first_unmet_in<P: LinkPeer>(have: &[u8], want: &[u8]) -> Option<Unmet> {
-    let found = LastOfType::new(have);
-    let wanted = LastOfType::new(want);
+    let end = types_end(want);
+    let mut first = None;
+    let mut block = 0;
+    while block < end {
+        first = earlier(first, unmet_from::<P>(have, want, block));
+        block += INDEXED;
+    }
+    Some(first?.unmet)
+}
+
+/// The first attribute of an accepted list that another one does not meet, among those of `INDEXED`
+/// types from `start` on.
+fn unmet_from<P: LinkPeer>(have: &[u8], want: &[u8], start: u16) -> Option<UnmetAt> {
+    let found = LastOfType::new(have, start);
+    let wanted = LastOfType::new(want, start);
     let mut count = HeaderCount::new();
     let mut rest = want;
-    while let Some(Ok((nla, after))) = next_piece(rest, &mut count) {
+    while let Some(Ok((nla, after))) = next_attribute(rest, &mut count) {
         let offset = want.len() - rest.len();
         let placed = PlacedNla { offset, nla };
         let kind = placed.nla.kind();
         if wanted.offset(kind) == Some(offset) {
             let last = found.find(kind);
-            let unmet = placed_unmet::<P>(have, &last, want, &placed);
-            if unmet.is_some() {
-                return unmet;
+            if let Some(unmet) = placed_unmet::<P>(have, &last, want, &placed) {
+                return Some(UnmetAt { offset, unmet });
             }
         }
         rest = after;
@@ -195,30 +226,37 @@ fn first_unmet_in<P: LinkPeer>(have: &[u8], want: &[u8]) -> Option<Unmet> {
 }
 
 /// The first attribute of the list `want` that the list `have` does not meet, with peers of type
-/// `P`, or `None` where `have` meets every attribute of `want`, in any order. `have` may have more.
+/// `P`, or `None` where `have` meets every attribute of `want`. Attributes of different types may
+/// be in any order, and `have` may have more.
 ///
 /// Of several attributes of a type the last one counts, as in the kernel. It is met where the last
 /// attribute of its type in `have`, of the same kind or port kind, has an equal payload or is
-/// equivalent. Data that is a list is compared attribute by attribute (`list_unmet`); names, other
-/// data and statistics as a whole. Flags of a type do not matter.
+/// equivalent. Data that is a list is compared attribute by attribute (`list_unmet`). Names, other
+/// data, statistics, and lists inside data are compared as a whole, with their order and the flags
+/// inside. Flags of an attribute's own type do not matter. Empty data is met by data alone.
 ///
 /// Of what is not met, `family` is that of the attribute inside data, or `Family::LinkInfo` of one
 /// of the list; offsets count from the beginning of each list. The error is that of `have`, else
-/// that of `want`. It takes a pass over both lists for each attribute of `want` outside data. Takes
-/// no memory.
-pub fn first_unmet_of<P: LinkPeer>(have: &[u8], want: &[u8]) -> Result<Option<Unmet>, FaultIn> {
+/// that of `want`. Does not allocate. Equal lists are validated once. Otherwise the passes over the
+/// lists are as many as in `list_unmet`, and one more over both for data, statistics and port data.
+pub fn first_unmet_of<P: LinkPeer>(have: &[u8], want: &[u8]) -> Result<Option<Unmet>, ErrorIn> {
     match check_of::<P>(have) {
         Ok(()) => {}
-        Err(fault) => return Err(FaultIn::First(fault)),
+        Err(error) => return Err(ErrorIn::First(error)),
+    }
+    if have == want {
+        return Ok(None);
     }
     match check_of::<P>(want) {
         Ok(()) => {}
-        Err(fault) => return Err(FaultIn::Second(fault)),
+        Err(error) => return Err(ErrorIn::Second(error)),
     }
     Ok(first_unmet_in::<P>(have, want))
 }
 
-/// `first_unmet_of`, with peers kept as bytes.
+/// Returns the first attribute of the list `want` that the list `have` does not meet, or `None`
+/// where it meets all of them. The error is that of `have`, else that of `want`. Peers are kept as
+/// bytes; `first_unmet_of` takes other types of peer, and says what is met. Does not allocate.
 ///
 /// ```text
 /// match first_unmet(&received, &wanted)? {
@@ -226,6 +264,6 @@ pub fn first_unmet_of<P: LinkPeer>(have: &[u8], want: &[u8]) -> Result<Option<Un
 ///     Some(unmet) => .., // an attribute at offset `unmet.want` of what is wanted
 /// }
 /// ```
-pub fn first_unmet(have: &[u8], want: &[u8]) -> Result<Option<Unmet>, FaultIn> {
+pub fn first_unmet(have: &[u8], want: &[u8]) -> Result<Option<Unmet>, ErrorIn> {
     first_unmet_of::<Bytes>(have, want)
 }

@@ -1,94 +1,94 @@
-//! The attributes of a list, one after another, borrowed, with the kinds in force before each.
+//! An iterator over the attributes of a list, borrowed, with the current kinds before each.
 
-use crate::layers::link::role::{InForce, Role, behind, role_of};
+use crate::layers::link::role::{CurrentKinds, Role, kinds_after, role_of};
 use crate::layers::nla_frame::{DecodeError, ExactEq, NlaBuffer, NlasIterator};
 use crate::layers::numbers::{KindTag, PortTag};
 
-/// An attribute of the list, borrowed from its bytes.
+/// An attribute of a list, borrowed from the bytes of the list.
 #[derive(Clone, Copy, Debug, PartialEq, Eq)]
 pub struct LinkInfoItem<'a> {
-    /// Where its header stands in the list.
+    /// The offset of the attribute's header, in bytes from the beginning of the list.
     pub place: usize,
-    /// Its whole 16-bit type.
+    /// The attribute's whole 16-bit type, flag bits included.
     pub raw_kind: u16,
-    /// The bytes of its value, those of the source itself.
+    /// The attribute's payload, a slice of the bytes of the list.
     pub value: &'a [u8],
-    /// The kind of the link in force before it: that of the last `IFLA_INFO_KIND`.
+    /// The kind of the link before the attribute: that of the last `IFLA_INFO_KIND`, or `None`.
     pub kind_tag: Option<KindTag>,
-    /// The kind of the port in force before it: that of the last `IFLA_INFO_SLAVE_KIND` that no
-    /// `IFLA_INFO_SLAVE_DATA` used up.
+    /// The kind of the port before the attribute: that of the last `IFLA_INFO_SLAVE_KIND` that no
+    /// `IFLA_INFO_SLAVE_DATA` has used up, or `None`.
     pub port_tag: Option<PortTag>,
 }
 
-/// Goes over the attributes of a list in order, and looks at no payload but those of names.
+/// An iterator over the attributes of a list, in order. Of payloads it looks only at those of
+/// names.
 ///
-/// It ends after its first fault: (Frame, 0, Header) where a header is not accepted, (LinkInfo,
-/// type, Order) where data, statistics or port data have no kind in force, and (LinkInfo, type,
-/// Utf8) where a name is not UTF-8.
+/// It ends after its first error. The error is `(Frame, 0, Header)` if a header is not accepted,
+/// and `(LinkInfo, type, Order)` if data, statistics or port data have no kind before them. It is
+/// `(LinkInfo, type, Utf8)` if a name is not UTF-8.
 #[derive(Debug, PartialEq, Eq, Clone)]
 pub struct LinkInfoWalk<'a> {
     attributes: NlasIterator<'a>,
-    force: InForce,
-    /// Where the attribute at fault stands, once a fault was met.
-    fault: Option<usize>,
+    kinds: CurrentKinds,
+    /// The offset of the attribute that has the error, once the walk has met one.
+    error: Option<usize>,
 }
 
 impl<'a> LinkInfoWalk<'a> {
-    /// Begins at place 0 of the bytes, with no kind in force.
+    /// Returns a walk over the attributes in `bytes`, from offset 0 and with no current kind.
     pub fn new(bytes: &'a [u8]) -> LinkInfoWalk<'a> {
         LinkInfoWalk {
             attributes: NlasIterator::new(bytes),
-            force: InForce::none(),
-            fault: None,
+            kinds: CurrentKinds::none(),
+            error: None,
         }
     }
 
-    /// How many headers with four present bytes were looked at so far: never more than a quarter of
-    /// the bytes.
+    /// Returns the number of headers examined so far: at most a quarter of the number of bytes.
     pub fn examined(&self) -> usize {
         self.attributes.examined()
     }
 
-    /// Where the walk stands, in bytes from the front of the list: where the next header is looked
-    /// for; the number of bytes after the last attribute; after a fault where the attribute at
-    /// fault begins.
+    /// Returns the walk's offset, in bytes from the beginning of the list: that of the next header.
+    /// After the last attribute it is the length of the list, and after an error the offset of the
+    /// attribute that has it.
     pub fn place(&self) -> usize {
-        match self.fault {
+        match self.error {
             Some(place) => place,
             None => self.attributes.place(),
         }
     }
 
-    /// The kinds in force where the walk stands.
+    /// The current kinds at the walk's offset.
     #[inline(always)]
-    pub(crate) fn in_force(&self) -> InForce {
-        self.force
+    pub(crate) fn current_kinds(&self) -> CurrentKinds {
+        self.kinds
     }
 
-    /// The next attribute, with its role under the kinds in force before it.
+    /// Returns the next attribute, with its role under the current kinds before it.
     #[inline(always)]
     pub(crate) fn advance(&mut self) -> Option<Result<(NlaBuffer<'a>, Role), DecodeError>> {
-        if self.fault.is_some() {
+        if self.error.is_some() {
             return None;
         }
         let place = self.attributes.place();
         match self.attributes.next()? {
             Ok(nla) => {
-                let role = role_of(self.force, nla.kind());
-                match behind(role, self.force, &nla) {
-                    Ok(force) => {
-                        self.force = force;
+                let role = role_of(self.kinds, nla.kind());
+                match kinds_after(role, self.kinds, &nla) {
+                    Ok(kinds) => {
+                        self.kinds = kinds;
                         Some(Ok((nla, role)))
                     }
-                    Err(fault) => {
-                        self.fault = Some(place);
-                        Some(Err(fault))
+                    Err(error) => {
+                        self.error = Some(place);
+                        Some(Err(error))
                     }
                 }
             }
-            Err(fault) => {
-                self.fault = Some(place);
-                Some(Err(fault))
+            Err(error) => {
+                self.error = Some(place);
+                Some(Err(error))
             }
         }
     }
@@ -99,7 +99,7 @@ impl<'a> Iterator for LinkInfoWalk<'a> {
 
     fn next(&mut self) -> Option<Result<LinkInfoItem<'a>, DecodeError>> {
         let place = self.place();
-        let before = self.force;
+        let before = self.kinds;
         match self.advance()? {
             Ok((nla, _)) => Some(Ok(LinkInfoItem {
                 place,
@@ -108,7 +108,7 @@ impl<'a> Iterator for LinkInfoWalk<'a> {
                 kind_tag: before.kind,
                 port_tag: before.port,
             })),
-            Err(fault) => Some(Err(fault)),
+            Err(error) => Some(Err(error)),
         }
     }
 }

@@ -5,14 +5,14 @@ use crate::layers::nla_frame::{
 };
 use crate::layers::numbers::InfoKind;
 
-/// The statistics of a link, as its driver lays them out.
+/// The statistics of a link (`IFLA_INFO_XSTATS`), in the layout of its driver.
 #[derive(Debug, PartialEq, Eq, Clone)]
 pub enum LinkXstats {
-    /// Those of every kind: the bytes.
+    /// The bytes of the statistics, for every kind of link.
     Other(Bytes),
 }
 
-/// Written as the bytes.
+/// Written as the bytes of the statistics.
 impl Emitable for LinkXstats {
     fn buffer_len(&self) -> usize {
         match self {
@@ -27,7 +27,8 @@ impl Emitable for LinkXstats {
     }
 }
 
-/// Keeps the attribute's payload, whatever its type and the kind. It takes memory.
+/// Parsed from the attribute's payload, which is copied, whatever its type and the kind. The error
+/// is `(Frame, 0, Memory)` if the allocation fails.
 impl<'a, 'b> ParseableParametrized<NlaBuffer<'a>, &'b InfoKind> for LinkXstats {
     fn parse_with_param(
         buffer: &NlaBuffer<'a>,

@@ -4,14 +4,14 @@ use crate::layers::nla_frame::error::{Cause, DecodeError, Family};
 use crate::layers::nla_frame::exact_eq::ExactEq;
 use crate::layers::nla_frame::header_count::HeaderCount;
 
-/// The bytes of a header: a 16-bit length and a 16-bit type, both little-endian (`struct nlattr`,
-/// include/uapi/linux/netlink.h).
+/// The length of an attribute header in bytes: a 16-bit length, then a 16-bit type, both
+/// little-endian (`struct nlattr`, include/uapi/linux/netlink.h).
 const HEADER_LEN: usize = 4;
 
-/// The type's bits without its flags (`NLA_TYPE_MASK`).
+/// The bits of the type without its two flags (`NLA_TYPE_MASK`).
 const TYPE_MASK: u16 = 0x3fff;
 
-/// An attribute whose header was accepted, in the bytes that hold it.
+/// An attribute with an accepted header, borrowed from the bytes that hold it.
 #[derive(Debug, Clone)]
 pub struct NlaBuffer<'a> {
     kind: u16,
@@ -47,9 +47,9 @@ fn first_of<'a>(bytes: &'a [u8]) -> Result<NlaBuffer<'a>, DecodeError> {
     })
 }
 
-/// The bytes behind an attribute of this length and its padding.
+/// The bytes after an attribute of this length and its padding.
 #[inline(always)]
-fn behind<'a>(bytes: &'a [u8], length: u16) -> &'a [u8] {
+fn rest_after<'a>(bytes: &'a [u8], length: u16) -> &'a [u8] {
     let step = (length as usize).next_multiple_of(4);
     if step < bytes.len() {
         &bytes[step..]
@@ -59,16 +59,17 @@ fn behind<'a>(bytes: &'a [u8], length: u16) -> &'a [u8] {
 }
 
 impl<'a> NlaBuffer<'a> {
-    /// The attribute at the front of the bytes.
+    /// Reads the attribute at the front of the bytes.
     ///
-    /// Refused as (Frame, 0, Header) where fewer than four bytes are there, where the length field
-    /// is below four, and where it is above the number of bytes that are there.
+    /// Returns the error `(Frame, 0, Header)` if there are fewer than four bytes, if the length
+    /// field is below four, or if it exceeds the number of bytes.
     #[inline(always)]
     pub fn new_checked(bytes: &'a [u8]) -> Result<NlaBuffer<'a>, DecodeError> {
         first_of(bytes)
     }
 
-    /// The same, and one is added to the count where four bytes are there. Asks that the sum is a
+    /// Reads the attribute at the front of the bytes as `new_checked` does, and counts its header
+    /// as examined if there are at least four bytes. Requires that the new count fits into a
     /// `usize`.
     ///
     /// # Panics
@@ -84,41 +85,43 @@ impl<'a> NlaBuffer<'a> {
         NlaBuffer::new_checked(bytes)
     }
 
-    /// The type without its flags "nested" (0x8000) and "network byte order" (0x4000).
+    /// The type without its flags `NLA_F_NESTED` (0x8000) and `NLA_F_NET_BYTEORDER` (0x4000).
     #[inline(always)]
     pub fn kind(&self) -> u16 {
         self.kind & TYPE_MASK
     }
 
-    /// The whole 16-bit type.
+    /// The whole 16-bit type, flag bits included.
     #[inline(always)]
     pub fn raw_kind(&self) -> u16 {
         self.kind
     }
 
-    /// The length field: the header's four bytes and the value, not the padding.
+    /// The length field (`nla_len`): the four header bytes and the payload, without the padding.
     #[inline(always)]
     pub fn length(&self) -> u16 {
         crate::compat::narrow_u16(HEADER_LEN + self.value.len())
     }
 
-    /// The bytes of the value, those of the source itself.
+    /// The payload, borrowed from the source.
     #[inline(always)]
     pub fn value(&self) -> &'a [u8] {
         self.value
     }
 }
 
-/// One step over the attributes of a byte string: the attribute at the front with the bytes behind
-/// it and its padding, or the fault (Frame, 0, Header), or `None` at the end. Each header with four
-/// present bytes that is looked at is counted. Asks that the count stays a `usize`.
+/// One step over the attributes of a byte string.
+///
+/// Returns the attribute at the front together with the bytes after it and its padding, or the
+/// error `(Frame, 0, Header)`, or `None` at the end. The header is counted as examined if there are
+/// at least four bytes. Requires that the new count fits into a `usize`.
 ///
 /// # Panics
 ///
 /// May panic where a condition of the caller that is named here does not hold. Where it does
 /// not panic then, the result has no meaning.
 #[inline(always)]
-pub fn next_piece<'a>(
+pub fn next_attribute<'a>(
     bytes: &'a [u8],
     count: &mut HeaderCount,
 ) -> Option<Result<(NlaBuffer<'a>, &'a [u8]), DecodeError>> {
@@ -127,10 +130,10 @@ pub fn next_piece<'a>(
     }
     match NlaBuffer::new_counted(bytes, count) {
         Ok(nla) => {
-            let rest = behind(bytes, nla.length());
+            let rest = rest_after(bytes, nla.length());
             Some(Ok((nla, rest)))
         }
-        Err(fault) => Some(Err(fault)),
+        Err(error) => Some(Err(error)),
     }
 }
 

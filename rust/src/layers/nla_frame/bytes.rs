@@ -1,45 +1,45 @@
-//! Bytes that a value owns.
+//! Byte strings that a value owns.
 
 use crate::compat::AllocError;
 use crate::compat::TryToVec;
 use crate::layers::nla_frame::exact_eq::ExactEq;
 use alloc::vec::Vec;
 
-/// A payload, as the list of its bytes.
+/// An owned payload, seen as the list of its bytes.
 #[derive(Debug, Clone)]
 pub struct Bytes {
     bytes: Vec<u8>,
 }
 
 impl Bytes {
-    /// The bytes of a `Vec`, which is taken over as it is.
+    /// Wraps a `Vec` without copying it.
     pub fn new(bytes: Vec<u8>) -> Bytes {
         Bytes { bytes }
     }
 
-    /// A copy of the bytes, which fails only where memory runs out.
+    /// Copies the bytes; fails only if memory runs out.
     pub fn copy_of(bytes: &[u8]) -> Result<Bytes, AllocError> {
         Ok(Bytes {
             bytes: bytes.try_to_vec()?,
         })
     }
 
-    /// The `Vec` that holds the bytes.
+    /// Unwraps the `Vec` that holds the bytes.
     pub fn into_vec(self) -> Vec<u8> {
         self.bytes
     }
 
-    /// The bytes.
+    /// The bytes as a slice.
     pub fn as_slice(&self) -> &[u8] {
         self.bytes.as_slice()
     }
 
-    /// How many bytes there are.
+    /// The number of bytes.
     pub fn len(&self) -> usize {
         self.bytes.len()
     }
 
-    /// Whether there are none.
+    /// Whether there are no bytes.
     pub fn is_empty(&self) -> bool {
         self.bytes.is_empty()
     }

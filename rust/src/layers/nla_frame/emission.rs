@@ -1,13 +1,13 @@
-//! Attributes and lists of them, measured and written.
+//! Measures and writes attributes and lists of attributes.
 
 use crate::compat::FillZeros;
 use crate::layers::nla_frame::traits::Nla;
 
-/// The most bytes of a payload: those that a 16-bit length field counts beside the four header
+/// The maximum length of a payload: what a 16-bit length field can count, less the four header
 /// bytes.
 const VALUE_LEN_MAX: usize = 65531;
 
-/// The length of a payload where it fits, which is where it is at most 65531, and else `None`.
+/// Returns the length of a payload if it fits, which means at most 65531, and `None` otherwise.
 #[inline(always)]
 pub fn fitting(len: usize) -> Option<usize> {
     if len <= VALUE_LEN_MAX {
@@ -17,74 +17,80 @@ pub fn fitting(len: usize) -> Option<usize> {
     }
 }
 
-/// Writes an attribute, its header, payload and zero padding, at the front of the buffer, whatever
-/// stood there, leaves the bytes behind it, and answers its length. Asks that the value fits and
-/// the buffer has at least `buffer_len` bytes.
+/// Writes an attribute at the front of the buffer, and returns its length: header, payload and zero
+/// padding.
+///
+/// Earlier contents of the buffer do not matter, and the bytes after the attribute stay unchanged.
+/// Requires that the value fits and that the buffer has at least `buffer_len` bytes.
 ///
 /// # Panics
 ///
 /// May panic where a condition of the caller that is named here does not hold. Where it does
 /// not panic then, the result has no meaning.
 #[inline(always)]
-pub fn put_attribute<T: Nla>(item: &T, buffer: &mut [u8]) -> usize {
+pub fn write_attribute<T: Nla>(item: &T, buffer: &mut [u8]) -> usize {
     let len = item.emit_payload(&mut buffer[4..]);
-    put_frame(buffer, item.kind(), len);
+    write_frame(buffer, item.kind(), len);
     4 + len.next_multiple_of(4)
 }
 
-/// Writes header and zero padding round a payload of `len` bytes that stands in its place already,
-/// from the fifth byte on, and leaves the bytes behind them. Asks that a length field can count the
-/// payload, and for a buffer of at least the attribute's length.
+/// Completes an attribute whose payload of `len` bytes is at offset 4 of the buffer already: writes
+/// the header before it and zero padding after it.
+///
+/// The bytes after the padding stay unchanged. Requires that `len` is at most 65531, and that the
+/// buffer has at least as many bytes as the attribute.
 ///
 /// # Panics
 ///
 /// May panic where a condition of the caller that is named here does not hold. Where it does
 /// not panic then, the result has no meaning.
 #[inline(always)]
-pub fn put_frame(buffer: &mut [u8], kind: u16, len: usize) {
+pub fn write_frame(buffer: &mut [u8], kind: u16, len: usize) {
     let end = 4 + len;
-    put_header(buffer, crate::compat::narrow_u16(end), kind);
+    write_header(buffer, crate::compat::narrow_u16(end), kind);
     buffer[end..end.next_multiple_of(4)].fill_zeros();
 }
 
-/// Writes bytes at the front of the buffer, leaves what stands behind them, and answers how many
-/// there are. Asks for a buffer of at least as many.
+/// Writes bytes at the front of the buffer, and returns how many there are. The bytes after them
+/// stay unchanged. Requires that the buffer has at least as many bytes.
 ///
 /// # Panics
 ///
 /// May panic where a condition of the caller that is named here does not hold. Where it does
 /// not panic then, the result has no meaning.
 #[inline(always)]
-pub fn put_bytes(bytes: &[u8], buffer: &mut [u8]) -> usize {
+pub fn write_bytes(bytes: &[u8], buffer: &mut [u8]) -> usize {
     let len = bytes.len();
     buffer[..len].copy_from_slice(bytes);
     len
 }
 
-/// Writes the attribute of a 16-bit type and a payload, its header, payload and zero padding, at
-/// the front of the buffer, leaves the bytes behind it, and answers its length. Asks that a length
-/// field can count the payload, and for a buffer of at least the attribute's length.
+/// Writes the attribute of a 16-bit type and a payload at the front of the buffer, and returns its
+/// length: header, payload and zero padding.
+///
+/// The bytes after the attribute stay unchanged. Requires that the payload has at most 65531 bytes,
+/// and that the buffer has at least as many bytes as the attribute.
 ///
 /// # Panics
 ///
 /// May panic where a condition of the caller that is named here does not hold. Where it does
 /// not panic then, the result has no meaning.
 #[inline(always)]
-pub fn put_bytes_attribute(kind: u16, value: &[u8], buffer: &mut [u8]) -> usize {
-    let len = put_bytes(value, &mut buffer[4..]);
-    put_frame(buffer, kind, len);
+pub fn write_bytes_attribute(kind: u16, value: &[u8], buffer: &mut [u8]) -> usize {
+    let len = write_bytes(value, &mut buffer[4..]);
+    write_frame(buffer, kind, len);
     4 + len.next_multiple_of(4)
 }
 
-/// Writes length and type at the front, each as a little-endian u16.
+/// Writes length and type at the front of the buffer, each as a little-endian u16.
 #[inline(always)]
-fn put_header(buffer: &mut [u8], length: u16, kind: u16) {
+fn write_header(buffer: &mut [u8], length: u16, kind: u16) {
     buffer[..2].copy_from_slice(&length.to_le_bytes());
     buffer[2..4].copy_from_slice(&kind.to_le_bytes());
 }
 
-/// The length of the list's string where each item fits and the length is a `usize`, and else
-/// `None`.
+/// Returns the length of the list's byte string if each item fits and that length fits into a
+/// `usize`, and `None` otherwise.
 pub fn nlas_fit_len<T: Nla>(items: &[T]) -> Option<usize> {
     let mut total: usize = 0;
     for item in items {
@@ -94,7 +100,7 @@ pub fn nlas_fit_len<T: Nla>(items: &[T]) -> Option<usize> {
     Some(total)
 }
 
-/// The length of the list's string. Asks that the list fits.
+/// The length of the list's byte string. Requires that the list fits.
 ///
 /// # Panics
 ///
@@ -108,30 +114,33 @@ pub fn nlas_buffer_len<T: Nla>(items: &[T]) -> usize {
     total
 }
 
-/// Writes the list's string, that of each item after the other, at the front of the buffer,
-/// whatever stood there, leaves the bytes behind it, and answers its length. Asks that the list
-/// fits and the buffer has at least `nlas_buffer_len` bytes.
+/// Writes the list's byte string at the front of the buffer, the items in order, and returns its
+/// length.
+///
+/// Earlier contents of the buffer do not matter, and the bytes after the list stay unchanged.
+/// Requires that the list fits and that the buffer has at least `nlas_buffer_len` bytes.
 ///
 /// # Panics
 ///
 /// May panic where a condition of the caller that is named here does not hold. Where it does
 /// not panic then, the result has no meaning.
-pub fn put_attributes<T: Nla>(items: &[T], buffer: &mut [u8]) -> usize {
+pub fn write_attributes<T: Nla>(items: &[T], buffer: &mut [u8]) -> usize {
     let mut place: usize = 0;
     for item in items {
-        place += put_attribute(item, &mut buffer[place..]);
+        place += write_attribute(item, &mut buffer[place..]);
     }
     place
 }
 
-/// Writes the list's string, that of each item after the other, at the front of the buffer,
-/// whatever stood there, and leaves the bytes behind it. Asks that the list fits and the buffer has
-/// at least `nlas_buffer_len` bytes.
+/// Writes the list's byte string at the front of the buffer, the items in order.
+///
+/// Earlier contents of the buffer do not matter, and the bytes after the list stay unchanged.
+/// Requires that the list fits and that the buffer has at least `nlas_buffer_len` bytes.
 ///
 /// # Panics
 ///
 /// May panic where a condition of the caller that is named here does not hold. Where it does
 /// not panic then, the result has no meaning.
 pub fn emit_nlas<T: Nla>(items: &[T], buffer: &mut [u8]) {
-    put_attributes(items, buffer);
+    write_attributes(items, buffer);
 }

@@ -1,8 +1,8 @@
-//! Numbers written to the front of a buffer. What stands behind a number stays.
+//! Writes numbers at the front of a buffer. The bytes after a number stay unchanged.
 
 use crate::compat::ToUnsigned;
 
-/// Writes the number as two bytes, little-endian. Asks for a buffer of at least two bytes.
+/// Writes the number as two bytes, little-endian. Requires that the buffer has at least two bytes.
 ///
 /// # Panics
 ///
@@ -13,7 +13,8 @@ pub fn emit_u16(buffer: &mut [u8], value: u16) {
     buffer[..2].copy_from_slice(&value.to_le_bytes());
 }
 
-/// Writes the number as four bytes, little-endian. Asks for a buffer of at least four bytes.
+/// Writes the number as four bytes, little-endian. Requires that the buffer has at least four
+/// bytes.
 ///
 /// # Panics
 ///
@@ -24,7 +25,8 @@ pub fn emit_u32(buffer: &mut [u8], value: u32) {
     buffer[..4].copy_from_slice(&value.to_le_bytes());
 }
 
-/// Writes the number as eight bytes, little-endian. Asks for a buffer of at least eight bytes.
+/// Writes the number as eight bytes, little-endian. Requires that the buffer has at least eight
+/// bytes.
 ///
 /// # Panics
 ///
@@ -35,8 +37,8 @@ pub fn emit_u64(buffer: &mut [u8], value: u64) {
     buffer[..8].copy_from_slice(&value.to_le_bytes());
 }
 
-/// Writes the number as four bytes, two's complement and little-endian. Asks for a buffer of at
-/// least four bytes.
+/// Writes the number as four bytes, two's complement and little-endian. Requires that the buffer
+/// has at least four bytes.
 ///
 /// # Panics
 ///
@@ -47,7 +49,7 @@ pub fn emit_i32(buffer: &mut [u8], value: i32) {
     emit_u32(buffer, value.to_unsigned());
 }
 
-/// Writes the number as two bytes, big-endian. Asks for a buffer of at least two bytes.
+/// Writes the number as two bytes, big-endian. Requires that the buffer has at least two bytes.
 ///
 /// # Panics
 ///
@@ -58,7 +60,7 @@ pub fn emit_u16_be(buffer: &mut [u8], value: u16) {
     buffer[..2].copy_from_slice(&value.to_be_bytes());
 }
 
-/// Writes the number as four bytes, big-endian. Asks for a buffer of at least four bytes.
+/// Writes the number as four bytes, big-endian. Requires that the buffer has at least four bytes.
 ///
 /// # Panics
 ///
@@ -69,7 +71,7 @@ pub fn emit_u32_be(buffer: &mut [u8], value: u32) {
     buffer[..4].copy_from_slice(&value.to_be_bytes());
 }
 
-/// Writes the number as eight bytes, big-endian. Asks for a buffer of at least eight bytes.
+/// Writes the number as eight bytes, big-endian. Requires that the buffer has at least eight bytes.
 ///
 /// # Panics
 ///

@@ -1,9 +1,9 @@
-//! Types whose `==` is equality.
+//! Types whose `==` is equality of values.
 
 use crate::layers::nla_frame::error::{Cause, DecodeError, Family};
 use core::net::{IpAddr, Ipv4Addr, Ipv6Addr};
 
-/// A type whose `==` answers true exactly where the two values are equal.
+/// A type whose `==` returns true if and only if the two values are equal.
 pub trait ExactEq: PartialEq {}
 
 /// Whether the two values are equal.
@@ -29,7 +29,7 @@ impl ExactEq for Ipv6Addr {}
 
 impl ExactEq for IpAddr {}
 
-/// A hardware address.
+/// Hardware addresses of six bytes.
 impl ExactEq for [u8; 6] {}
 
 impl<A: ExactEq, B: ExactEq> ExactEq for (A, B) {}

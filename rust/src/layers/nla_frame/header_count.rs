@@ -1,8 +1,8 @@
-//! How many headers were looked at.
+//! The count of headers examined.
 
 use crate::layers::nla_frame::exact_eq::ExactEq;
 
-/// How often a header with four present bytes was looked at.
+/// A count of headers examined: those of which all four bytes are there.
 #[derive(Debug, PartialEq, Eq, Clone)]
 pub struct HeaderCount {
     headers: usize,
@@ -15,13 +15,13 @@ impl HeaderCount {
         HeaderCount { headers: 0 }
     }
 
-    /// How many headers were counted.
+    /// The number of headers counted.
     #[inline(always)]
     pub const fn get(&self) -> usize {
         self.headers
     }
 
-    /// Counts `headers` more. Asks that the sum is a `usize`.
+    /// Adds `headers` to the count. Requires that the sum fits into a `usize`.
     ///
     /// # Panics
     ///

@@ -1,16 +1,16 @@
-//! The attributes of a byte string, one after another.
+//! An iterator over the attributes of a byte string.
 
-use crate::layers::nla_frame::buffer::{NlaBuffer, next_piece};
+use crate::layers::nla_frame::buffer::{NlaBuffer, next_attribute};
 use crate::layers::nla_frame::error::DecodeError;
 use crate::layers::nla_frame::exact_eq::ExactEq;
 use crate::layers::nla_frame::header_count::HeaderCount;
 
-/// Goes over the attributes of a byte string in order. Where a header is not accepted it gives
-/// (Frame, 0, Header) once, and ends.
+/// Iterates over the attributes of a byte string in order. If a header is not accepted, it yields
+/// the error `(Frame, 0, Header)` once, and ends.
 ///
-/// After an attribute the place rises by its length rounded up to a multiple of four. So the
-/// padding of the last attribute may be absent or cut short, one to three stray bytes after an
-/// aligned attribute are a fault, and padding bytes may hold anything.
+/// Each attribute advances the offset by its length, rounded up to a multiple of four. So the
+/// padding of the last attribute may be absent or cut short, and padding bytes may have any value.
+/// One to three stray bytes after an aligned attribute are an error.
 #[derive(Debug, Clone)]
 pub struct NlasIterator<'a> {
     bytes: &'a [u8],
@@ -20,8 +20,8 @@ pub struct NlasIterator<'a> {
 }
 
 impl<'a> NlasIterator<'a> {
-    /// Begins at place 0 of the bytes. At most a quarter as many items as there are bytes will
-    /// come, and one more.
+    /// An iterator that starts at offset 0 of the bytes. It yields at most one item per four bytes,
+    /// and one more.
     #[inline(always)]
     pub fn new(bytes: &'a [u8]) -> NlasIterator<'a> {
         NlasIterator {
@@ -32,15 +32,15 @@ impl<'a> NlasIterator<'a> {
         }
     }
 
-    /// How many headers with four present bytes were looked at so far: never more than a quarter of
-    /// the bytes.
+    /// The number of headers examined so far, those of which all four bytes are there. It is at
+    /// most a quarter of the number of bytes.
     #[inline(always)]
     pub fn examined(&self) -> usize {
         self.examined.get()
     }
 
-    /// Where the next header is looked for; the number of bytes after the last attribute; after a
-    /// fault the place of the header at fault.
+    /// The offset of the next header: after the last attribute, the number of bytes; after an
+    /// error, the offset of the rejected header.
     #[inline(always)]
     pub fn place(&self) -> usize {
         self.place
@@ -56,14 +56,14 @@ impl<'a> Iterator for NlasIterator<'a> {
             return None;
         }
         let unread = &self.bytes[self.place..];
-        match next_piece(unread, &mut self.examined)? {
+        match next_attribute(unread, &mut self.examined)? {
             Ok((nla, rest)) => {
                 self.place = self.bytes.len() - rest.len();
                 Some(Ok(nla))
             }
-            Err(fault) => {
+            Err(error) => {
                 self.failed = true;
-                Some(Err(fault))
+                Some(Err(error))
             }
         }
     }

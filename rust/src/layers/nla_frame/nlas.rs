@@ -5,29 +5,29 @@ use alloc::vec;
 use alloc::vec::Vec;
 use core::slice;
 
-/// Attributes one after another, as the list of them. A type may hold a list of itself.
+/// An owned list of attributes, in order. A type may contain a list of itself.
 #[derive(Debug, Clone)]
 pub struct Nlas<T> {
     items: Vec<T>,
 }
 
 impl<T> Nlas<T> {
-    /// The items of a `Vec`, which is taken over as it is.
+    /// Wraps a `Vec` without copying it.
     pub fn new(items: Vec<T>) -> Nlas<T> {
         Nlas { items }
     }
 
-    /// The `Vec` that holds the items.
+    /// Unwraps the `Vec` that holds the items.
     pub fn into_vec(self) -> Vec<T> {
         self.items
     }
 
-    /// The items.
+    /// The items as a slice.
     pub fn as_slice(&self) -> &[T] {
         self.items.as_slice()
     }
 
-    /// Goes over the items in order, borrowed.
+    /// Iterates over references to the items, in order.
     ///
     /// ```text
     /// for nla in list.iter() {
@@ -38,12 +38,12 @@ impl<T> Nlas<T> {
         self.as_slice().iter()
     }
 
-    /// How many items there are.
+    /// The number of items.
     pub fn len(&self) -> usize {
         self.items.len()
     }
 
-    /// Whether there are none.
+    /// Whether there are no items.
     pub fn is_empty(&self) -> bool {
         self.items.is_empty()
     }
@@ -55,7 +55,7 @@ impl<T> From<Vec<T>> for Nlas<T> {
     }
 }
 
-/// Goes over the items in order, and gives each away.
+/// Iterates over the items by value, in order.
 impl<T> IntoIterator for Nlas<T> {
     type Item = T;
 
@@ -66,7 +66,7 @@ impl<T> IntoIterator for Nlas<T> {
     }
 }
 
-/// Goes over the items in order, borrowed, as `iter` does.
+/// Iterates over references to the items, in order, as `iter` does.
 impl<'a, T> IntoIterator for &'a Nlas<T> {
     type Item = &'a T;
 

@@ -6,41 +6,41 @@ use crate::layers::nla_frame::exact_eq::ExactEq;
 use alloc::string::String;
 use core::fmt;
 
-/// A name, as the list of the bytes of its UTF-8 form.
+/// An owned name, seen as the list of its UTF-8 bytes.
 #[derive(Debug, Clone)]
 pub struct Text {
     text: String,
 }
 
 impl Text {
-    /// The text of a `String`, which is taken over as it is.
+    /// Wraps a `String` without copying it.
     pub fn new(text: String) -> Text {
         Text { text }
     }
 
-    /// A copy of the text, which fails only where memory runs out.
+    /// Copies the text; fails only if memory runs out.
     pub fn copy_of(text: &str) -> Result<Text, AllocError> {
         Ok(Text {
             text: String::try_from_text(text)?,
         })
     }
 
-    /// The `String` that holds the text.
+    /// Unwraps the `String` that holds the text.
     pub fn into_string(self) -> String {
         self.text
     }
 
-    /// The text.
+    /// The text as a string slice.
     pub fn as_str(&self) -> &str {
         self.text.as_str()
     }
 
-    /// The bytes of the text.
+    /// The UTF-8 bytes of the text.
     pub fn as_bytes(&self) -> &[u8] {
         self.text.as_bytes()
     }
 
-    /// How many bytes the text has.
+    /// The length of the text in bytes.
     pub fn len(&self) -> usize {
         self.text.len()
     }

@@ -1,4 +1,4 @@
-//! The canonical string of a list, in one call.
+//! Writes the byte string of a list into a new `Vec`.
 
 use crate::compat::AllocError;
 use crate::compat::TryVec;
@@ -9,12 +9,13 @@ use alloc::vec::Vec;
 use core::error::Error;
 use core::fmt;
 
-/// Why a list was not written.
+/// Why a list is not written.
 #[derive(Clone, Copy, Debug, PartialEq, Eq)]
 pub enum ToVecError {
-    /// A value has more than 65531 bytes, or the string has more than a `usize` counts.
+    /// A payload has more than 65531 bytes, or the length of the byte string does not fit into a
+    /// `usize`.
     Unfit,
-    /// An allocation was refused.
+    /// An allocation failed.
     Memory,
 }
 
@@ -30,7 +31,7 @@ impl fmt::Display for ToVecError {
 
 impl Error for ToVecError {}
 
-/// Want of memory.
+/// A failed allocation is `Memory`.
 impl From<AllocError> for ToVecError {
     fn from(_refused: AllocError) -> ToVecError {
         ToVecError::Memory
@@ -39,10 +40,10 @@ impl From<AllocError> for ToVecError {
 
 impl ExactEq for ToVecError {}
 
-/// The list's string, that of each item after the other, as `emit_nlas` writes it.
+/// Writes the list's byte string into a new `Vec`, the items in order, as `emit_nlas` writes it.
 ///
-/// Refused as `Unfit` exactly where the list does not fit, before any memory is asked for, and as
-/// `Memory` where an allocation was refused. The empty list takes no memory.
+/// Returns the error `Unfit` if and only if the list does not fit, before it allocates, and
+/// `Memory` if an allocation failed. The empty list needs no memory.
 ///
 /// ```text
 /// let bytes = nlas_to_vec(&items)?;

@@ -1,19 +1,19 @@
 //! AMT tunnels.
 
 use crate::layers::nla_frame::{DecodeError, ExactEq, Family};
-use crate::layers::numbers::word::word_fault;
+use crate::layers::numbers::word::word_error;
 use core::fmt;
 use core::str::FromStr;
 
-/// The role of one end of an AMT tunnel: `IFLA_AMT_MODE`, a native 32-bit number
+/// The mode of an AMT interface: `IFLA_AMT_MODE`, a little-endian 32-bit number
 /// (include/uapi/linux/amt.h).
 #[derive(Clone, Copy, Debug, PartialEq, Eq)]
 pub enum AmtMode {
-    /// `AMT_MODE_GATEWAY`.
+    /// `AMT_MODE_GATEWAY`: the interface is an AMT gateway.
     Gateway,
-    /// `AMT_MODE_RELAY`.
+    /// `AMT_MODE_RELAY`: the interface is an AMT relay.
     Relay,
-    /// Any other number.
+    /// Any number without a name.
     Other(u32),
 }
 
@@ -47,7 +47,7 @@ impl fmt::Display for AmtMode {
     }
 }
 
-/// Every text but the words of `Display` is refused as (Amt, 0, Word).
+/// Every text that `Display` does not write is rejected as `(Amt, 0, Word)`.
 impl FromStr for AmtMode {
     type Err = DecodeError;
 
@@ -55,7 +55,7 @@ impl FromStr for AmtMode {
         match word {
             "gateway" => Ok(AmtMode::Gateway),
             "relay" => Ok(AmtMode::Relay),
-            _ => Err(word_fault(Family::Amt)),
+            _ => Err(word_error(Family::Amt)),
         }
     }
 }

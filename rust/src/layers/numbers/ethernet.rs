@@ -1,13 +1,13 @@
-//! Protocols inside Ethernet.
+//! Protocols carried in Ethernet frames.
 
 use crate::layers::nla_frame::ExactEq;
 
-/// The protocol inside an Ethernet frame, a 16-bit number (include/uapi/linux/if_ether.h).
+/// The EtherType of a frame, a 16-bit number (include/uapi/linux/if_ether.h).
 #[derive(Clone, Copy, Debug, PartialEq, Eq)]
 pub enum EthernetProtocol {
-    /// `ETH_P_MPLS_UC`, MPLS unicast.
+    /// `ETH_P_MPLS_UC` (0x8847): MPLS unicast.
     MplsUc,
-    /// Any other number.
+    /// Any number without a name.
     Other(u16),
 }
 

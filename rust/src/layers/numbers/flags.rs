@@ -1,13 +1,13 @@
-//! Sets of flags of which every bit is known.
+//! Flag sets that keep every bit.
 
 use bitflags::Flags;
 
-/// A set of flags of which every bit is known: each number of its width is a set, and stays whole
-/// in it.
+/// A flag set that keeps every bit: each number of its width is a valid set, and converting it back
+/// gives that number.
 pub trait KeepsEveryBit: Flags {}
 
-/// The bits of the set of a number, by `from_bits`, which is never `None`, and by
-/// `from_bits_retain`: both are that number.
+/// The bits of the set made from a number by `from_bits`, which never returns `None`, and by
+/// `from_bits_retain`. Both are that number.
 ///
 /// # Panics
 ///

@@ -5,17 +5,17 @@ use crate::layers::numbers::flags::KeepsEveryBit;
 use bitflags::{Flag, Flags};
 use core::fmt;
 
-/// What a GRE tunnel is wrapped in: `IFLA_GRE_ENCAP_TYPE`, a native 16-bit number
-/// (include/uapi/linux/if_tunnel.h).
+/// The secondary encapsulation of a GRE tunnel: `IFLA_GRE_ENCAP_TYPE`, a little-endian 16-bit
+/// number (include/uapi/linux/if_tunnel.h).
 #[derive(Clone, Copy, Debug, PartialEq, Eq)]
 pub enum GreEncapType {
-    /// `TUNNEL_ENCAP_NONE`.
+    /// `TUNNEL_ENCAP_NONE`: no secondary encapsulation.
     None,
-    /// `TUNNEL_ENCAP_FOU`.
+    /// `TUNNEL_ENCAP_FOU`: Foo over UDP.
     Fou,
-    /// `TUNNEL_ENCAP_GUE`.
+    /// `TUNNEL_ENCAP_GUE`: Generic UDP Encapsulation.
     Gue,
-    /// Any other number.
+    /// Any number without a name.
     Other(u16),
 }
 
@@ -60,15 +60,15 @@ impl Default for GreEncapType {
 
 impl ExactEq for GreEncapType {}
 
-/// Which traffic an ERSPAN tunnel mirrors: `IFLA_GRE_ERSPAN_DIR`, one byte
-/// (include/uapi/linux/if_tunnel.h).
+/// The direction of the traffic that an ERSPAN version 2 tunnel mirrors: `IFLA_GRE_ERSPAN_DIR`, one
+/// byte (include/uapi/linux/if_tunnel.h).
 #[derive(Clone, Copy, Debug, PartialEq, Eq)]
 pub enum ErSpanDir {
-    /// What comes in.
+    /// Ingress traffic (0).
     Ingress,
-    /// What goes out.
+    /// Egress traffic (1).
     Egress,
-    /// Any other number.
+    /// Any number without a name.
     Other(u8),
 }
 
@@ -110,37 +110,37 @@ impl Default for ErSpanDir {
 
 impl ExactEq for ErSpanDir {}
 
-/// What a GRE header holds: `IFLA_GRE_IFLAGS` and `IFLA_GRE_OFLAGS`, a big-endian 16-bit number
-/// (include/uapi/linux/if_tunnel.h). Every number of that width is a set.
+/// The flags of a GRE header: `IFLA_GRE_IFLAGS` and `IFLA_GRE_OFLAGS`, a big-endian 16-bit number
+/// (include/uapi/linux/if_tunnel.h). Every 16-bit number is a valid set.
 #[derive(Clone, Copy, Debug, PartialEq, Eq)]
 pub struct GreIOFlags(u16);
 
 impl GreIOFlags {
-    /// `GRE_CSUM`.
+    /// `GRE_CSUM`: a checksum is present.
     pub const Checksum: GreIOFlags = GreIOFlags(0x8000);
 
-    /// `GRE_ROUTING`.
+    /// `GRE_ROUTING`: routing information is present.
     pub const Routing: GreIOFlags = GreIOFlags(0x4000);
 
-    /// `GRE_KEY`.
+    /// `GRE_KEY`: a key is present.
     pub const Key: GreIOFlags = GreIOFlags(0x2000);
 
-    /// `GRE_SEQ`.
+    /// `GRE_SEQ`: a sequence number is present.
     pub const Seq: GreIOFlags = GreIOFlags(0x1000);
 
-    /// `GRE_STRICT`.
+    /// `GRE_STRICT`: strict source route.
     pub const Strict0: GreIOFlags = GreIOFlags(0x0800);
 
-    /// `GRE_REC`, three bits.
+    /// `GRE_REC`: recursion control, three bits.
     pub const Rec: GreIOFlags = GreIOFlags(0x0700);
 
-    /// `GRE_ACK`.
+    /// `GRE_ACK`: an acknowledgment number is present.
     pub const Ack: GreIOFlags = GreIOFlags(0x0080);
 
-    /// `GRE_FLAGS`, four bits.
+    /// `GRE_FLAGS`: reserved flags, four bits.
     pub const Flags: GreIOFlags = GreIOFlags(0x0078);
 
-    /// `GRE_VERSION`, three bits.
+    /// `GRE_VERSION`: the GRE version, three bits.
     pub const Version: GreIOFlags = GreIOFlags(0x0007);
 
     const TABLE: &'static [Flag<GreIOFlags>] = &[
@@ -173,7 +173,7 @@ impl Flags for GreIOFlags {
 
 impl KeepsEveryBit for GreIOFlags {}
 
-/// No flag.
+/// The default is the empty set.
 impl Default for GreIOFlags {
     fn default() -> GreIOFlags {
         GreIOFlags(0)
@@ -182,19 +182,20 @@ impl Default for GreIOFlags {
 
 impl ExactEq for GreIOFlags {}
 
-/// How a GRE tunnel is wrapped: `IFLA_GRE_ENCAP_FLAGS`, a native 16-bit number
-/// (include/uapi/linux/if_tunnel.h). Every number of that width is a set.
+/// The flags of the secondary encapsulation of a GRE tunnel: `IFLA_GRE_ENCAP_FLAGS`, a
+/// little-endian 16-bit number (include/uapi/linux/if_tunnel.h). Every 16-bit number is a valid
+/// set.
 #[derive(Clone, Copy, Debug, PartialEq, Eq)]
 pub struct GreEncapFlags(u16);
 
 impl GreEncapFlags {
-    /// `TUNNEL_ENCAP_FLAG_CSUM`.
+    /// `TUNNEL_ENCAP_FLAG_CSUM`: UDP checksums over IPv4.
     pub const Checksum: GreEncapFlags = GreEncapFlags(1);
 
-    /// `TUNNEL_ENCAP_FLAG_CSUM6`.
+    /// `TUNNEL_ENCAP_FLAG_CSUM6`: UDP checksums over IPv6.
     pub const Checksum6: GreEncapFlags = GreEncapFlags(2);
 
-    /// `TUNNEL_ENCAP_FLAG_REMCSUM`.
+    /// `TUNNEL_ENCAP_FLAG_REMCSUM`: remote checksum offload.
     pub const RemoteChecksum: GreEncapFlags = GreEncapFlags(4);
 
     const TABLE: &'static [Flag<GreEncapFlags>] = &[
@@ -221,7 +222,7 @@ impl Flags for GreEncapFlags {
 
 impl KeepsEveryBit for GreEncapFlags {}
 
-/// No flag.
+/// The default is the empty set.
 impl Default for GreEncapFlags {
     fn default() -> GreEncapFlags {
         GreEncapFlags(0)

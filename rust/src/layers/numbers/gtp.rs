@@ -3,15 +3,15 @@
 use crate::layers::nla_frame::ExactEq;
 use core::fmt;
 
-/// The role of one end of a GTP tunnel: `IFLA_GTP_ROLE`, a native 32-bit number
+/// The role of a GTP device: `IFLA_GTP_ROLE`, a little-endian 32-bit number
 /// (include/uapi/linux/if_link.h).
 #[derive(Clone, Copy, Debug, PartialEq, Eq)]
 pub enum GtpRole {
-    /// `GTP_ROLE_GGSN`.
+    /// `GTP_ROLE_GGSN`: Gateway GPRS Support Node.
     Ggsn,
-    /// `GTP_ROLE_SGSN`.
+    /// `GTP_ROLE_SGSN`: Serving GPRS Support Node.
     Sgsn,
-    /// Any other number.
+    /// Any number without a name.
     Other(u32),
 }
 

@@ -1,17 +1,17 @@
-//! Protocols inside IP.
+//! Protocols carried in IP packets.
 
 use crate::layers::nla_frame::ExactEq;
 
-/// The protocol inside an IP packet, one byte (include/uapi/linux/in.h).
+/// The protocol number of an IP packet, one byte (include/uapi/linux/in.h).
 #[derive(Clone, Copy, Debug, PartialEq, Eq)]
 pub enum IpProtocol {
-    /// `IPPROTO_IPIP`, IPv4 inside IP.
+    /// `IPPROTO_IPIP` (4): IPv4 in IP.
     Ipip,
-    /// `IPPROTO_IPV6`, IPv6 inside IP.
+    /// `IPPROTO_IPV6` (41): IPv6 in IP.
     Ipv6,
-    /// `IPPROTO_MPLS`, MPLS inside IP.
+    /// `IPPROTO_MPLS` (137): MPLS in IP.
     Mpls,
-    /// Any other number.
+    /// Any number without a name.
     Other(u8),
 }
 

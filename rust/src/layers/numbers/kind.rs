@@ -1,4 +1,4 @@
-//! Kinds of links.
+//! Link kinds.
 
 use crate::compat::AllocError;
 use crate::layers::nla_frame::{DecodeError, ExactEq, Nla, NlaBuffer, Parseable, Text};
@@ -10,103 +10,103 @@ use core::fmt;
 /// The kind of a link: `IFLA_INFO_KIND`, the name of its driver (include/uapi/linux/if_link.h).
 #[derive(Debug, PartialEq, Eq, Clone)]
 pub enum InfoKind {
-    /// `dummy`
+    /// `dummy`: a dummy interface.
     Dummy,
-    /// `ifb`
+    /// `ifb`: an Intermediate Functional Block device.
     Ifb,
-    /// `bridge`
+    /// `bridge`: an Ethernet bridge.
     Bridge,
-    /// `tun`
+    /// `tun`: a TUN or TAP device.
     Tun,
-    /// `nlmon`
+    /// `nlmon`: a netlink monitoring device.
     Nlmon,
-    /// `vlan`
+    /// `vlan`: an 802.1Q or 802.1ad VLAN interface.
     Vlan,
-    /// `veth`
+    /// `veth`: one end of a virtual Ethernet pair.
     Veth,
-    /// `vxlan`
+    /// `vxlan`: a VXLAN tunnel.
     Vxlan,
-    /// `bond`
+    /// `bond`: a bonding device.
     Bond,
-    /// `ipvlan`
+    /// `ipvlan`: a virtual interface with the MAC address of its lower device.
     IpVlan,
-    /// `ipvtap`
+    /// `ipvtap`: a TAP device on an IPVLAN interface.
     IpVtap,
-    /// `macvlan`
+    /// `macvlan`: a virtual interface with a MAC address of its own.
     MacVlan,
-    /// `macvtap`
+    /// `macvtap`: a TAP device on a MACVLAN interface.
     MacVtap,
-    /// `gretap`
+    /// `gretap`: an Ethernet over GRE tunnel over IPv4.
     GreTap,
-    /// `ip6gretap`
+    /// `ip6gretap`: an Ethernet over GRE tunnel over IPv6.
     GreTap6,
-    /// `ipip`
+    /// `ipip`: a tunnel of IPv4 or MPLS over IPv4.
     IpIp,
-    /// `ip6tnl`
+    /// `ip6tnl`: a tunnel of IPv4 or IPv6 over IPv6.
     Ip6Tnl,
-    /// `sit`
+    /// `sit`: a tunnel of IPv6, IPv4 or MPLS over IPv4.
     SitTun,
-    /// `gre`
+    /// `gre`: a GRE tunnel over IPv4.
     GreTun,
-    /// `ip6gre`
+    /// `ip6gre`: a GRE tunnel over IPv6.
     GreTun6,
-    /// `vti`
+    /// `vti`: an IPsec virtual tunnel interface over IPv4.
     Vti,
-    /// `vti6`
+    /// `vti6`: an IPsec virtual tunnel interface over IPv6.
     Vti6,
-    /// `vrf`
+    /// `vrf`: a Virtual Routing and Forwarding device.
     Vrf,
-    /// `gtp`
+    /// `gtp`: a GPRS Tunneling Protocol (GTP-U) device.
     Gtp,
-    /// `ipoib`
+    /// `ipoib`: an IP over InfiniBand interface.
     Ipoib,
-    /// `wireguard`
+    /// `wireguard`: a WireGuard tunnel.
     Wireguard,
-    /// `xfrm`
+    /// `xfrm`: an XFRM (IPsec) interface.
     Xfrm,
-    /// `macsec`
+    /// `macsec`: an IEEE 802.1AE MACsec interface.
     MacSec,
-    /// `hsr`
+    /// `hsr`: an HSR or PRP device.
     Hsr,
-    /// `geneve`
+    /// `geneve`: a Geneve tunnel.
     Geneve,
-    /// `netkit`
+    /// `netkit`: one end of a BPF-programmable netkit pair.
     Netkit,
-    /// `vcan`
+    /// `vcan`: a virtual CAN interface.
     Vcan,
-    /// `vxcan`
+    /// `vxcan`: one end of a virtual CAN pair.
     Vxcan,
-    /// `amt`
+    /// `amt`: an Automatic Multicast Tunneling interface.
     Amt,
-    /// `batadv`
+    /// `batadv`: a B.A.T.M.A.N. Advanced mesh interface.
     BatAdv,
-    /// `bareudp`
+    /// `bareudp`: a bare UDP tunnel.
     BareUdp,
-    /// `netdevsim`
+    /// `netdevsim`: a simulated device for tests.
     Netdevsim,
-    /// `virt_wifi`
+    /// `virt_wifi`: a simulated Wi-Fi device.
     VirtWifi,
-    /// `wwan`
+    /// `wwan`: a Wireless Wide Area Network link.
     Wwan,
-    /// `can`
+    /// `can`: a CAN interface.
     Can,
-    /// `dsa`
+    /// `dsa`: a user port of a DSA switch.
     Dsa,
-    /// `team`
+    /// `team`: a team device.
     Team,
-    /// `erspan`
+    /// `erspan`: an ERSPAN tunnel over GRE and IPv4.
     ErSpan,
-    /// `ip6erspan`
+    /// `ip6erspan`: an ERSPAN tunnel over GRE and IPv6.
     Ip6ErSpan,
-    /// `pfcp`
+    /// `pfcp`: a Packet Forwarding Control Protocol device.
     Pfcp,
-    /// `rmnet`
+    /// `rmnet`: an rmnet device on a Qualcomm modem.
     RmNet,
     /// Every other name.
     Other(Text),
 }
 
-/// The kinds with a name that is known: the variant, which is that of the tag too, and the name.
+/// The known kinds: the variant of kind and tag, and the name.
 macro_rules! kinds {
     ($body:ident $given:tt) => {
         $body! { $given;
@@ -160,7 +160,7 @@ macro_rules! kinds {
     };
 }
 
-/// The tag of a kind: `kinds!(tag_by_kinds kind)`.
+/// Maps a kind to its tag: `kinds!(tag_by_kinds kind)`.
 macro_rules! tag_by_kinds {
     ($kind:tt; $(($variant:ident, $name:literal)),* $(,)?) => {
         match $kind {
@@ -170,7 +170,7 @@ macro_rules! tag_by_kinds {
     };
 }
 
-/// The name of a kind.
+/// Maps a kind to its name.
 macro_rules! name_by_kinds {
     ($kind:tt; $(($variant:ident, $name:literal)),* $(,)?) => {
         match $kind {
@@ -180,7 +180,7 @@ macro_rules! name_by_kinds {
     };
 }
 
-/// The kind of a tag.
+/// Maps a tag to its kind.
 macro_rules! kind_by_kinds {
     ($tag:tt; $(($variant:ident, $name:literal)),* $(,)?) => {
         match $tag {
@@ -191,8 +191,7 @@ macro_rules! kind_by_kinds {
 }
 
 impl InfoKind {
-    /// The kind of this name: `Other` of it where the name is not known. A known name takes no
-    /// memory.
+    /// Makes the kind of this name, `Other` if the name is unknown. A known name needs no memory.
     pub fn from_text(text: &str) -> Result<InfoKind, AllocError> {
         match InfoKind::from_tag(tag_of_name(text.as_bytes())) {
             Some(kind) => Ok(kind),
@@ -200,30 +199,31 @@ impl InfoKind {
         }
     }
 
-    /// The tag, by the variant: that of `Other` is `Other`, whatever its text.
+    /// The tag of the kind, by the variant: the tag of `Other` is `Other`, whatever its name.
     pub fn tag(&self) -> KindTag {
         kinds!(tag_by_kinds self)
     }
 
-    /// The name.
+    /// The name of the kind.
     pub fn name(&self) -> &str {
         kinds!(name_by_kinds self)
     }
 
-    /// The kind of this tag; `None` for `Other` alone, whose kind has a text.
+    /// The kind of this tag, or `None` for `Other`, whose name the tag does not tell.
     pub fn from_tag(tag: KindTag) -> Option<InfoKind> {
         kinds!(kind_by_kinds tag)
     }
 }
 
-/// Writes the name.
+/// Writes the name of the kind.
 impl fmt::Display for InfoKind {
     fn fmt(&self, f: &mut fmt::Formatter<'_>) -> fmt::Result {
         f.write_str(self.name())
     }
 }
 
-/// Written as the name and a NUL, with the type 1. It fits where the name has at most 65530 bytes.
+/// An attribute `IFLA_INFO_KIND` (1): the name and one NUL. It fits if the name has at most 65530
+/// bytes.
 impl Nla for InfoKind {
     fn value_len(&self) -> usize {
         self.name().len() + 1
@@ -242,10 +242,10 @@ impl Nla for InfoKind {
     }
 }
 
-/// The kind of the attribute's name.
+/// Reads the kind from an attribute `IFLA_INFO_KIND`.
 ///
-/// Refused as (LinkInfo, the attribute's type, WrongType) where it has another type, and as
-/// (LinkInfo, 1, Utf8) where the name is not UTF-8. A name that is not known takes memory.
+/// An attribute of another type is rejected as `(LinkInfo, type, WrongType)` with that type, and a
+/// name that is not UTF-8 as `(LinkInfo, 1, Utf8)`. Only an unknown name needs memory.
 impl<'a> Parseable<NlaBuffer<'a>> for InfoKind {
     fn parse(buffer: &NlaBuffer<'a>) -> Result<InfoKind, DecodeError> {
         let name = name_of(buffer, IFLA_INFO_KIND)?;

@@ -2,21 +2,21 @@
 
 use crate::layers::nla_frame::ExactEq;
 
-/// The cipher suite of a MACsec link: `IFLA_MACSEC_CIPHER_SUITE`, a native 64-bit number
-/// (include/uapi/linux/if_macsec.h).
+/// The cipher suite of a MACsec interface: `IFLA_MACSEC_CIPHER_SUITE`, a little-endian 64-bit
+/// number (include/uapi/linux/if_macsec.h).
 #[derive(Clone, Copy, Debug, PartialEq, Eq)]
 pub enum MacSecCipherId {
-    /// `MACSEC_DEFAULT_CIPHER_ID`, which stands for GCM-AES-128.
+    /// `MACSEC_DEFAULT_CIPHER_ID`: the default cipher suite, GCM-AES-128.
     DefaultGcmAes128,
-    /// `MACSEC_CIPHER_ID_GCM_AES_128`.
+    /// `MACSEC_CIPHER_ID_GCM_AES_128`: GCM-AES-128.
     GcmAes128,
-    /// `MACSEC_CIPHER_ID_GCM_AES_256`.
+    /// `MACSEC_CIPHER_ID_GCM_AES_256`: GCM-AES-256.
     GcmAes256,
-    /// `MACSEC_CIPHER_ID_GCM_AES_XPN_128`.
+    /// `MACSEC_CIPHER_ID_GCM_AES_XPN_128`: GCM-AES-XPN-128, with extended packet numbers.
     GcmAesXpn128,
-    /// `MACSEC_CIPHER_ID_GCM_AES_XPN_256`.
+    /// `MACSEC_CIPHER_ID_GCM_AES_XPN_256`: GCM-AES-XPN-256, with extended packet numbers.
     GcmAesXpn256,
-    /// Any other number.
+    /// Any number without a name.
     Other(u64),
 }
 
@@ -58,17 +58,17 @@ impl From<MacSecCipherId> for u64 {
 
 impl ExactEq for MacSecCipherId {}
 
-/// How a MACsec link validates frames: `IFLA_MACSEC_VALIDATION`, one byte
+/// How a MACsec interface validates frames: `IFLA_MACSEC_VALIDATION`, one byte
 /// (include/uapi/linux/if_link.h).
 #[derive(Clone, Copy, Debug, PartialEq, Eq)]
 pub enum MacSecValidate {
-    /// `MACSEC_VALIDATE_DISABLED`.
+    /// `MACSEC_VALIDATE_DISABLED`: frames are not validated.
     Disabled,
-    /// `MACSEC_VALIDATE_CHECK`.
+    /// `MACSEC_VALIDATE_CHECK`: invalid frames are counted, and accepted if possible.
     Check,
-    /// `MACSEC_VALIDATE_STRICT`.
+    /// `MACSEC_VALIDATE_STRICT`: invalid frames are dropped.
     Strict,
-    /// Any other number.
+    /// Any number without a name.
     Other(u8),
 }
 
@@ -96,17 +96,17 @@ impl From<MacSecValidate> for u8 {
 
 impl ExactEq for MacSecValidate {}
 
-/// What a MACsec link leaves to the hardware: `IFLA_MACSEC_OFFLOAD`, one byte
+/// What MACsec processing is offloaded to hardware: `IFLA_MACSEC_OFFLOAD`, one byte
 /// (include/uapi/linux/if_link.h).
 #[derive(Clone, Copy, Debug, PartialEq, Eq)]
 pub enum MacSecOffload {
-    /// `MACSEC_OFFLOAD_OFF`.
+    /// `MACSEC_OFFLOAD_OFF`: nothing is offloaded.
     Off,
-    /// `MACSEC_OFFLOAD_PHY`.
+    /// `MACSEC_OFFLOAD_PHY`: offloaded to the PHY.
     Phy,
-    /// `MACSEC_OFFLOAD_MAC`.
+    /// `MACSEC_OFFLOAD_MAC`: offloaded to the MAC.
     Mac,
-    /// Any other number.
+    /// Any number without a name.
     Other(u8),
 }
 

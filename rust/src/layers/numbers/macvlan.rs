@@ -1,27 +1,28 @@
-//! macvlan and macvtap links.
+//! MACVLAN and MACVTAP links.
 
 use crate::layers::nla_frame::{DecodeError, ExactEq, Family};
 use crate::layers::numbers::flags::KeepsEveryBit;
-use crate::layers::numbers::word::word_fault;
+use crate::layers::numbers::word::word_error;
 use bitflags::{Flag, Flags};
 use core::fmt;
 use core::str::FromStr;
 
-/// The mode of a macvlan or macvtap link: `IFLA_MACVLAN_MODE`, a native 32-bit number
+/// The mode of a `macvlan` or `macvtap` link: `IFLA_MACVLAN_MODE`, a little-endian 32-bit number
 /// (include/uapi/linux/if_link.h).
 #[derive(Clone, Copy, Debug, PartialEq, Eq)]
 pub enum MacVlanMode {
-    /// `MACVLAN_MODE_PRIVATE`.
+    /// `MACVLAN_MODE_PRIVATE`: the links of one lower device cannot talk to each other.
     Private,
-    /// `MACVLAN_MODE_VEPA`.
+    /// `MACVLAN_MODE_VEPA`: traffic between the links of one lower device goes through an external
+    /// switch.
     Vepa,
-    /// `MACVLAN_MODE_BRIDGE`.
+    /// `MACVLAN_MODE_BRIDGE`: the links of one lower device talk to each other directly.
     Bridge,
-    /// `MACVLAN_MODE_PASSTHRU`.
+    /// `MACVLAN_MODE_PASSTHRU`: the link takes over its lower device, of which it is the only link.
     Passthrough,
-    /// `MACVLAN_MODE_SOURCE`.
+    /// `MACVLAN_MODE_SOURCE`: the link receives frames from a list of source MAC addresses.
     Source,
-    /// Any other number.
+    /// Any number without a name.
     Other(u32),
 }
 
@@ -64,7 +65,7 @@ impl fmt::Display for MacVlanMode {
     }
 }
 
-/// Every text but the words of `Display` is refused as (MacVlan, 0, Word).
+/// Every text that `Display` does not write is rejected as `(MacVlan, 0, Word)`.
 impl FromStr for MacVlanMode {
     type Err = DecodeError;
 
@@ -75,26 +76,26 @@ impl FromStr for MacVlanMode {
             "bridge" => Ok(MacVlanMode::Bridge),
             "passthru" => Ok(MacVlanMode::Passthrough),
             "source" => Ok(MacVlanMode::Source),
-            _ => Err(word_fault(Family::MacVlan)),
+            _ => Err(word_error(Family::MacVlan)),
         }
     }
 }
 
 impl ExactEq for MacVlanMode {}
 
-/// What to do with the source addresses of a macvlan or macvtap link: `IFLA_MACVLAN_MACADDR_MODE`,
-/// a native 32-bit number (include/uapi/linux/if_link.h).
+/// How a request changes the source MAC addresses of a `macvlan` or `macvtap` link:
+/// `IFLA_MACVLAN_MACADDR_MODE`, a little-endian 32-bit number (include/uapi/linux/if_link.h).
 #[derive(Clone, Copy, Debug, PartialEq, Eq)]
 pub enum MacVlanMacAddressMode {
-    /// `MACVLAN_MACADDR_ADD`.
+    /// `MACVLAN_MACADDR_ADD`: add one address.
     Add,
-    /// `MACVLAN_MACADDR_DEL`.
+    /// `MACVLAN_MACADDR_DEL`: delete one address.
     Del,
-    /// `MACVLAN_MACADDR_FLUSH`.
+    /// `MACVLAN_MACADDR_FLUSH`: delete all addresses.
     Flush,
-    /// `MACVLAN_MACADDR_SET`.
+    /// `MACVLAN_MACADDR_SET`: replace all addresses.
     Set,
-    /// Any other number.
+    /// Any number without a name.
     Other(u32),
 }
 
@@ -124,16 +125,17 @@ impl From<MacVlanMacAddressMode> for u32 {
 
 impl ExactEq for MacVlanMacAddressMode {}
 
-/// What a macvlan or macvtap link leaves out: `IFLA_MACVLAN_FLAGS`, a native 16-bit number
-/// (include/uapi/linux/if_link.h). Every number of that width is a set.
+/// The flags of a `macvlan` or `macvtap` link: `IFLA_MACVLAN_FLAGS`, a little-endian 16-bit number
+/// (include/uapi/linux/if_link.h). Every 16-bit number is a valid set.
 #[derive(Clone, Copy, Debug, PartialEq, Eq)]
 pub struct MacVlanFlags(u16);
 
 impl MacVlanFlags {
-    /// `MACVLAN_FLAG_NOPROMISC`.
+    /// `MACVLAN_FLAG_NOPROMISC`: the lower device is not put into promiscuous mode.
     pub const NoPromisc: MacVlanFlags = MacVlanFlags(1);
 
-    /// `MACVLAN_FLAG_NODST`.
+    /// `MACVLAN_FLAG_NODST`: the link of the destination address is skipped if a link in mode
+    /// `source` accepts the source address.
     pub const NoDst: MacVlanFlags = MacVlanFlags(2);
 
     const TABLE: &'static [Flag<MacVlanFlags>] = &[
@@ -161,12 +163,12 @@ impl KeepsEveryBit for MacVlanFlags {}
 
 impl ExactEq for MacVlanFlags {}
 
-/// The mode of a macvtap link, which is that of a macvlan link.
+/// The mode of a `macvtap` link; it has the values of a `macvlan` link.
 pub type MacVtapMode = MacVlanMode;
 
-/// The flags of a macvtap link, which are those of a macvlan link.
+/// The flags of a `macvtap` link; they are those of a `macvlan` link.
 pub type MacVtapFlags = MacVlanFlags;
 
-/// What to do with the source addresses of a macvtap link, which is what a macvlan link does with
-/// them.
+/// How a request changes the source MAC addresses of a `macvtap` link; the values are those of a
+/// `macvlan` link.
 pub type MacVtapMacAddressMode = MacVlanMacAddressMode;

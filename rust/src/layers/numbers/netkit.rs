@@ -1,19 +1,19 @@
 //! netkit links.
 
 use crate::layers::nla_frame::{DecodeError, ExactEq, Family};
-use crate::layers::numbers::word::word_fault;
+use crate::layers::numbers::word::word_error;
 use core::fmt;
 use core::str::FromStr;
 
-/// The layer of a netkit link: `IFLA_NETKIT_MODE`, a native 32-bit number
+/// The layer at which a netkit pair operates: `IFLA_NETKIT_MODE`, a little-endian 32-bit number
 /// (include/uapi/linux/if_link.h).
 #[derive(Clone, Copy, Debug, PartialEq, Eq)]
 pub enum NetkitMode {
-    /// `NETKIT_L2`.
+    /// `NETKIT_L2`: layer 2.
     L2,
-    /// `NETKIT_L3`.
+    /// `NETKIT_L3`: layer 3.
     L3,
-    /// Any other number.
+    /// Any number without a name.
     Other(u32),
 }
 
@@ -47,7 +47,7 @@ impl fmt::Display for NetkitMode {
     }
 }
 
-/// Every text but the words of `Display` is refused as (Netkit, 0, Word).
+/// Every text that `Display` does not write is rejected as `(Netkit, 0, Word)`.
 impl FromStr for NetkitMode {
     type Err = DecodeError;
 
@@ -55,29 +55,29 @@ impl FromStr for NetkitMode {
         match word {
             "l2" => Ok(NetkitMode::L2),
             "l3" => Ok(NetkitMode::L3),
-            _ => Err(word_fault(Family::Netkit)),
+            _ => Err(word_error(Family::Netkit)),
         }
     }
 }
 
 impl ExactEq for NetkitMode {}
 
-/// What a netkit link does with packets that no program judges: `IFLA_NETKIT_POLICY`, a native
-/// 32-bit number (include/uapi/linux/if_link.h).
+/// What a netkit link does with packets if no BPF program is attached: `IFLA_NETKIT_POLICY` and
+/// `IFLA_NETKIT_PEER_POLICY`, a little-endian 32-bit number (include/uapi/linux/if_link.h).
 #[derive(Clone, Copy, Debug, PartialEq, Eq)]
 pub enum NetkitPolicy {
-    /// `NETKIT_PASS`.
+    /// `NETKIT_PASS`: packets are forwarded.
     Pass,
-    /// `NETKIT_DROP`.
+    /// `NETKIT_DROP`: packets are dropped.
     Drop,
-    /// `NETKIT_REDIRECT`.
+    /// `NETKIT_REDIRECT`: packets are redirected.
     Redirect,
-    /// Any other number.
+    /// Any number without a name.
     Other(u32),
 }
 
 impl NetkitPolicy {
-    /// `NETKIT_PASS` by the word that names it.
+    /// `NETKIT_PASS` by the name that `ip link` and `Display` give it.
     pub const Forward: NetkitPolicy = NetkitPolicy::Pass;
 }
 
@@ -114,7 +114,7 @@ impl fmt::Display for NetkitPolicy {
     }
 }
 
-/// Every text but the words of `Display` is refused as (Netkit, 0, Word).
+/// Every text that `Display` does not write is rejected as `(Netkit, 0, Word)`.
 impl FromStr for NetkitPolicy {
     type Err = DecodeError;
 
@@ -123,20 +123,21 @@ impl FromStr for NetkitPolicy {
             "forward" => Ok(NetkitPolicy::Pass),
             "blackhole" => Ok(NetkitPolicy::Drop),
             "redirect" => Ok(NetkitPolicy::Redirect),
-            _ => Err(word_fault(Family::Netkit)),
+            _ => Err(word_error(Family::Netkit)),
         }
     }
 }
 
 impl ExactEq for NetkitPolicy {}
 
-/// How much a packet keeps of its past when it goes through a netkit link: `IFLA_NETKIT_SCRUB`, a
-/// native 32-bit number (include/uapi/linux/if_link.h). Every number but 0 is `Default`.
+/// Whether a netkit link clears the mark and priority of a packet that changes the network
+/// namespace: `IFLA_NETKIT_SCRUB` and `IFLA_NETKIT_PEER_SCRUB`, a little-endian 32-bit number
+/// (include/uapi/linux/if_link.h). Every number but 0 is `Default`.
 #[derive(Clone, Copy, Debug, PartialEq, Eq)]
 pub enum NetkitScrub {
-    /// `NETKIT_SCRUB_NONE`.
+    /// `NETKIT_SCRUB_NONE`: mark and priority are kept.
     None,
-    /// `NETKIT_SCRUB_DEFAULT`.
+    /// `NETKIT_SCRUB_DEFAULT`: mark and priority are cleared.
     Default,
 }
 
@@ -167,7 +168,7 @@ impl fmt::Display for NetkitScrub {
     }
 }
 
-/// Every text but the words of `Display` is refused as (Netkit, 0, Word).
+/// Every text that `Display` does not write is rejected as `(Netkit, 0, Word)`.
 impl FromStr for NetkitScrub {
     type Err = DecodeError;
 
@@ -175,7 +176,7 @@ impl FromStr for NetkitScrub {
         match word {
             "none" => Ok(NetkitScrub::None),
             "default" => Ok(NetkitScrub::Default),
-            _ => Err(word_fault(Family::Netkit)),
+            _ => Err(word_error(Family::Netkit)),
         }
     }
 }

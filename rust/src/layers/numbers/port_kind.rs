@@ -1,4 +1,4 @@
-//! Kinds of ports.
+//! Port kinds.
 
 use crate::compat::AllocError;
 use crate::layers::nla_frame::{DecodeError, ExactEq, Nla, NlaBuffer, Parseable, Text};
@@ -7,24 +7,24 @@ use crate::layers::numbers::tags::{PortTag, port_tag_of_name};
 use crate::layers::numbers::types::IFLA_INFO_SLAVE_KIND;
 use core::fmt;
 
-/// The kind of the link that a port belongs to: `IFLA_INFO_SLAVE_KIND`, the name of its driver
-/// (include/uapi/linux/if_link.h).
+/// The port kind: `IFLA_INFO_SLAVE_KIND`, the name of the driver of the link that this link is a
+/// port of (include/uapi/linux/if_link.h).
 #[derive(Clone, Debug, PartialEq, Eq)]
 pub enum InfoPortKind {
-    /// `bond`
+    /// `bond`: a port of a bonding device.
     Bond,
-    /// `bridge`
+    /// `bridge`: a port of an Ethernet bridge.
     Bridge,
-    /// `vrf`
+    /// `vrf`: a port of a VRF device.
     Vrf,
-    /// `team`
+    /// `team`: a port of a team device.
     Team,
     /// Every other name.
     Other(Text),
 }
 
 impl InfoPortKind {
-    /// The kind of this name: `Other` of it where the name is not known. A known name takes no
+    /// Makes the port kind of this name, `Other` if the name is unknown. A known name needs no
     /// memory.
     pub fn from_text(text: &str) -> Result<InfoPortKind, AllocError> {
         match InfoPortKind::from_tag(port_tag_of_name(text.as_bytes())) {
@@ -33,7 +33,7 @@ impl InfoPortKind {
         }
     }
 
-    /// The tag, by the variant: that of `Other` is `Other`, whatever its text.
+    /// The tag of the port kind, by the variant: the tag of `Other` is `Other`, whatever its name.
     pub fn tag(&self) -> PortTag {
         match self {
             InfoPortKind::Bond => PortTag::Bond,
@@ -44,7 +44,7 @@ impl InfoPortKind {
         }
     }
 
-    /// The name.
+    /// The name of the port kind.
     pub fn name(&self) -> &str {
         match self {
             InfoPortKind::Bond => "bond",
@@ -55,7 +55,7 @@ impl InfoPortKind {
         }
     }
 
-    /// The kind of this tag; `None` for `Other` alone, whose kind has a text.
+    /// The port kind of this tag, or `None` for `Other`, whose name the tag does not tell.
     pub fn from_tag(tag: PortTag) -> Option<InfoPortKind> {
         match tag {
             PortTag::Bond => Some(InfoPortKind::Bond),
@@ -67,14 +67,15 @@ impl InfoPortKind {
     }
 }
 
-/// Writes the name.
+/// Writes the name of the port kind.
 impl fmt::Display for InfoPortKind {
     fn fmt(&self, f: &mut fmt::Formatter<'_>) -> fmt::Result {
         f.write_str(self.name())
     }
 }
 
-/// Written as the name and a NUL, with the type 4. It fits where the name has at most 65530 bytes.
+/// An attribute `IFLA_INFO_SLAVE_KIND` (4): the name and one NUL. It fits if the name has at most
+/// 65530 bytes.
 impl Nla for InfoPortKind {
     fn value_len(&self) -> usize {
         self.name().len() + 1
@@ -93,10 +94,10 @@ impl Nla for InfoPortKind {
     }
 }
 
-/// The kind of the attribute's name.
+/// Reads the port kind from an attribute `IFLA_INFO_SLAVE_KIND`.
 ///
-/// Refused as (LinkInfo, the attribute's type, WrongType) where it has another type, and as
-/// (LinkInfo, 4, Utf8) where the name is not UTF-8. A name that is not known takes memory.
+/// An attribute of another type is rejected as `(LinkInfo, type, WrongType)` with that type, and a
+/// name that is not UTF-8 as `(LinkInfo, 4, Utf8)`. Only an unknown name needs memory.
 impl<'a> Parseable<NlaBuffer<'a>> for InfoPortKind {
     fn parse(buffer: &NlaBuffer<'a>) -> Result<InfoPortKind, DecodeError> {
         let name = name_of(buffer, IFLA_INFO_SLAVE_KIND)?;

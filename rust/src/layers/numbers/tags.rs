@@ -1,101 +1,101 @@
-//! The names of link kinds and port kinds, and their tags.
+//! Tags: link kinds and port kinds without their text.
 
 use crate::layers::nla_frame::ExactEq;
 
-/// The kind of a link without its text: the kinds that this crate knows by name, and `Other`.
+/// The kind of a link without its text: one of the kinds that this crate knows by name, or `Other`.
 #[derive(Clone, Copy, Debug, PartialEq, Eq)]
 pub enum KindTag {
-    /// `dummy`
+    /// The kind `dummy`.
     Dummy,
-    /// `ifb`
+    /// The kind `ifb`.
     Ifb,
-    /// `bridge`
+    /// The kind `bridge`.
     Bridge,
-    /// `tun`
+    /// The kind `tun`.
     Tun,
-    /// `nlmon`
+    /// The kind `nlmon`.
     Nlmon,
-    /// `vlan`
+    /// The kind `vlan`.
     Vlan,
-    /// `veth`
+    /// The kind `veth`.
     Veth,
-    /// `vxlan`
+    /// The kind `vxlan`.
     Vxlan,
-    /// `bond`
+    /// The kind `bond`.
     Bond,
-    /// `ipvlan`
+    /// The kind `ipvlan`.
     IpVlan,
-    /// `ipvtap`
+    /// The kind `ipvtap`.
     IpVtap,
-    /// `macvlan`
+    /// The kind `macvlan`.
     MacVlan,
-    /// `macvtap`
+    /// The kind `macvtap`.
     MacVtap,
-    /// `gretap`
+    /// The kind `gretap`.
     GreTap,
-    /// `ip6gretap`
+    /// The kind `ip6gretap`.
     GreTap6,
-    /// `ipip`
+    /// The kind `ipip`.
     IpIp,
-    /// `ip6tnl`
+    /// The kind `ip6tnl`.
     Ip6Tnl,
-    /// `sit`
+    /// The kind `sit`.
     SitTun,
-    /// `gre`
+    /// The kind `gre`.
     GreTun,
-    /// `ip6gre`
+    /// The kind `ip6gre`.
     GreTun6,
-    /// `vti`
+    /// The kind `vti`.
     Vti,
-    /// `vti6`
+    /// The kind `vti6`.
     Vti6,
-    /// `vrf`
+    /// The kind `vrf`.
     Vrf,
-    /// `gtp`
+    /// The kind `gtp`.
     Gtp,
-    /// `ipoib`
+    /// The kind `ipoib`.
     Ipoib,
-    /// `wireguard`
+    /// The kind `wireguard`.
     Wireguard,
-    /// `xfrm`
+    /// The kind `xfrm`.
     Xfrm,
-    /// `macsec`
+    /// The kind `macsec`.
     MacSec,
-    /// `hsr`
+    /// The kind `hsr`.
     Hsr,
-    /// `geneve`
+    /// The kind `geneve`.
     Geneve,
-    /// `netkit`
+    /// The kind `netkit`.
     Netkit,
-    /// `vcan`
+    /// The kind `vcan`.
     Vcan,
-    /// `vxcan`
+    /// The kind `vxcan`.
     Vxcan,
-    /// `amt`
+    /// The kind `amt`.
     Amt,
-    /// `batadv`
+    /// The kind `batadv`.
     BatAdv,
-    /// `bareudp`
+    /// The kind `bareudp`.
     BareUdp,
-    /// `netdevsim`
+    /// The kind `netdevsim`.
     Netdevsim,
-    /// `virt_wifi`
+    /// The kind `virt_wifi`.
     VirtWifi,
-    /// `wwan`
+    /// The kind `wwan`.
     Wwan,
-    /// `can`
+    /// The kind `can`.
     Can,
-    /// `dsa`
+    /// The kind `dsa`.
     Dsa,
-    /// `team`
+    /// The kind `team`.
     Team,
-    /// `erspan`
+    /// The kind `erspan`.
     ErSpan,
-    /// `ip6erspan`
+    /// The kind `ip6erspan`.
     Ip6ErSpan,
-    /// `pfcp`
+    /// The kind `pfcp`.
     Pfcp,
-    /// `rmnet`
+    /// The kind `rmnet`.
     RmNet,
     /// Every other name.
     Other,
@@ -103,16 +103,16 @@ pub enum KindTag {
 
 impl ExactEq for KindTag {}
 
-/// The kind of a port without its text: the port kinds that this crate knows by name, and `Other`.
+/// The port kind without its text: one of the port kinds that this crate knows by name, or `Other`.
 #[derive(Clone, Copy, Debug, PartialEq, Eq)]
 pub enum PortTag {
-    /// `bond`
+    /// The port kind `bond`.
     Bond,
-    /// `bridge`
+    /// The port kind `bridge`.
     Bridge,
-    /// `vrf`
+    /// The port kind `vrf`.
     Vrf,
-    /// `team`
+    /// The port kind `team`.
     Team,
     /// Every other name.
     Other,
@@ -120,16 +120,16 @@ pub enum PortTag {
 
 impl ExactEq for PortTag {}
 
-/// The number of the first four bytes of a name, the lowest one first, as `u32::from_le_bytes` has
-/// it. A shorter name ends in zeros.
+/// The first four bytes of a name as a number, as `u32::from_le_bytes` reads them. A shorter name
+/// ends in zeros.
 macro_rules! number_of_four {
     ($name:literal) => {
         $name[0] as u32 | ($name[1] as u32) << 8 | ($name[2] as u32) << 16 | ($name[3] as u32) << 24
     };
 }
 
-/// The number of the first eight bytes of a name, the lowest one first, as `u64::from_le_bytes` has
-/// it. A shorter name ends in zeros.
+/// The first eight bytes of a name as a number, as `u64::from_le_bytes` reads them. A shorter name
+/// ends in zeros.
 macro_rules! number_of_eight {
     ($name:literal) => {
         number_of_four!($name) as u64
@@ -140,10 +140,10 @@ macro_rules! number_of_eight {
     };
 }
 
-/// The tag of the kind of this name, given without a closing NUL; `Other` for every name that is
-/// not known.
+/// The tag of the kind with this name, which is given without a closing NUL. An unknown name gives
+/// `Other`.
 ///
-/// A name is compared as a number, a word at a time.
+/// A name is compared as a number, one word at a time.
 pub fn tag_of_name(name: &[u8]) -> KindTag {
     match *name {
         [a, b, c] => tag_of_three(u32::from_le_bytes([a, b, c, 0])),
@@ -180,7 +180,7 @@ const CAN: u32 = number_of_four!(b"can\0");
 
 const DSA: u32 = number_of_four!(b"dsa\0");
 
-/// The tag of the name of three bytes that has this number.
+/// The tag of the three-byte name with this number.
 fn tag_of_three(number: u32) -> KindTag {
     match number {
         IFB => KindTag::Ifb,
@@ -218,7 +218,7 @@ const TEAM: u32 = number_of_four!(b"team");
 
 const PFCP: u32 = number_of_four!(b"pfcp");
 
-/// The tag of the name of four bytes that has this number.
+/// The tag of the four-byte name with this number.
 fn tag_of_four(number: u32) -> KindTag {
     match number {
         VLAN => KindTag::Vlan,
@@ -247,7 +247,7 @@ const VXCAN: u64 = number_of_eight!(b"vxcan\0\0\0");
 
 const RMNET: u64 = number_of_eight!(b"rmnet\0\0\0");
 
-/// The tag of the name of five bytes that has this number.
+/// The tag of the five-byte name with this number.
 fn tag_of_five(number: u64) -> KindTag {
     match number {
         DUMMY => KindTag::Dummy,
@@ -282,7 +282,7 @@ const BATADV: u64 = number_of_eight!(b"batadv\0\0");
 
 const ERSPAN: u64 = number_of_eight!(b"erspan\0\0");
 
-/// The tag of the name of six bytes that has this number.
+/// The tag of the six-byte name with this number.
 fn tag_of_six(number: u64) -> KindTag {
     match number {
         BRIDGE => KindTag::Bridge,
@@ -306,7 +306,7 @@ const MACVTAP: u64 = number_of_eight!(b"macvtap\0");
 
 const BAREUDP: u64 = number_of_eight!(b"bareudp\0");
 
-/// The tag of the name of seven bytes that has this number.
+/// The tag of the seven-byte name with this number.
 fn tag_of_seven(number: u64) -> KindTag {
     match number {
         MACVLAN => KindTag::MacVlan,
@@ -326,7 +326,7 @@ const VIRT_WIFI: u64 = number_of_eight!(b"virt_wifi");
 
 const IP6ERSPAN: u64 = number_of_eight!(b"ip6erspan");
 
-/// The tag of a name of nine bytes, given by the number of the first eight and the last.
+/// The tag of a nine-byte name, given as the number of the first eight bytes and the last byte.
 fn tag_of_nine(front: u64, last: u8) -> KindTag {
     match (front, last) {
         (IP6GRETAP, b'p') => KindTag::GreTap6,
@@ -338,8 +338,8 @@ fn tag_of_nine(front: u64, last: u8) -> KindTag {
     }
 }
 
-/// The tag of the port kind of this name, given without a closing NUL; `Other` for every name that
-/// is not known.
+/// The tag of the port kind with this name, which is given without a closing NUL. An unknown name
+/// gives `Other`.
 pub fn port_tag_of_name(name: &[u8]) -> PortTag {
     match tag_of_name(name) {
         KindTag::Bond => PortTag::Bond,

@@ -5,19 +5,19 @@ use crate::layers::numbers::flags::KeepsEveryBit;
 use bitflags::{Flag, Flags};
 use core::fmt;
 
-/// What an IP tunnel is wrapped in: `IFLA_IPTUN_ENCAP_TYPE`, a native 16-bit number
-/// (include/uapi/linux/if_tunnel.h).
+/// The secondary encapsulation of an IP tunnel: `IFLA_IPTUN_ENCAP_TYPE`, a little-endian 16-bit
+/// number (include/uapi/linux/if_tunnel.h).
 #[derive(Clone, Copy, Debug, PartialEq, Eq)]
 pub enum TunnelEncapType {
-    /// `TUNNEL_ENCAP_NONE`.
+    /// `TUNNEL_ENCAP_NONE`: no secondary encapsulation.
     None,
-    /// `TUNNEL_ENCAP_FOU`.
+    /// `TUNNEL_ENCAP_FOU`: Foo over UDP.
     Fou,
-    /// `TUNNEL_ENCAP_GUE`.
+    /// `TUNNEL_ENCAP_GUE`: Generic UDP Encapsulation.
     Gue,
-    /// `TUNNEL_ENCAP_MPLS`.
+    /// `TUNNEL_ENCAP_MPLS`: MPLS.
     Mpls,
-    /// Any other number.
+    /// Any number without a name.
     Other(u16),
 }
 
@@ -59,19 +59,20 @@ impl fmt::Display for TunnelEncapType {
 
 impl ExactEq for TunnelEncapType {}
 
-/// How an IP tunnel is wrapped: `IFLA_IPTUN_ENCAP_FLAGS`, a native 16-bit number
-/// (include/uapi/linux/if_tunnel.h). Every number of that width is a set.
+/// The flags of the secondary encapsulation of an IP tunnel: `IFLA_IPTUN_ENCAP_FLAGS`, a
+/// little-endian 16-bit number (include/uapi/linux/if_tunnel.h). Every 16-bit number is a valid
+/// set.
 #[derive(Clone, Copy, Debug, PartialEq, Eq, Hash)]
 pub struct TunnelEncapFlags(u16);
 
 impl TunnelEncapFlags {
-    /// `TUNNEL_ENCAP_FLAG_CSUM`.
+    /// `TUNNEL_ENCAP_FLAG_CSUM`: UDP checksums over IPv4.
     pub const CSum: TunnelEncapFlags = TunnelEncapFlags(1);
 
-    /// `TUNNEL_ENCAP_FLAG_CSUM6`.
+    /// `TUNNEL_ENCAP_FLAG_CSUM6`: UDP checksums over IPv6.
     pub const CSum6: TunnelEncapFlags = TunnelEncapFlags(2);
 
-    /// `TUNNEL_ENCAP_FLAG_REMCSUM`.
+    /// `TUNNEL_ENCAP_FLAG_REMCSUM`: remote checksum offload.
     pub const RemCSum: TunnelEncapFlags = TunnelEncapFlags(4);
 
     const TABLE: &'static [Flag<TunnelEncapFlags>] = &[
@@ -100,41 +101,41 @@ impl KeepsEveryBit for TunnelEncapFlags {}
 
 impl ExactEq for TunnelEncapFlags {}
 
-/// What an IPv6 tunnel does: `IFLA_IPTUN_FLAGS` under the kind ip6tnl, a native 32-bit number
-/// (include/uapi/linux/ip6_tunnel.h; the last three in include/net/ip6_tunnel.h). Every number of
-/// that width is a set.
+/// The flags of an IPv6 tunnel: `IFLA_IPTUN_FLAGS` of the kind `ip6tnl`, a little-endian 32-bit
+/// number (include/uapi/linux/ip6_tunnel.h; the last three in include/net/ip6_tunnel.h). Every
+/// 32-bit number is a valid set.
 #[derive(Clone, Copy, Debug, PartialEq, Eq, Hash)]
 pub struct Ip6TunnelFlags(u32);
 
 impl Ip6TunnelFlags {
-    /// `IP6_TNL_F_IGN_ENCAP_LIMIT`.
+    /// `IP6_TNL_F_IGN_ENCAP_LIMIT`: no encapsulation limit is added.
     pub const IgnEncapLimit: Ip6TunnelFlags = Ip6TunnelFlags(0x1);
 
-    /// `IP6_TNL_F_USE_ORIG_TCLASS`.
+    /// `IP6_TNL_F_USE_ORIG_TCLASS`: the traffic class is copied from the inner packet.
     pub const UseOrigTclass: Ip6TunnelFlags = Ip6TunnelFlags(0x2);
 
-    /// `IP6_TNL_F_USE_ORIG_FLOWLABEL`.
+    /// `IP6_TNL_F_USE_ORIG_FLOWLABEL`: the flow label is copied from the inner packet.
     pub const UseOrigFlowlabel: Ip6TunnelFlags = Ip6TunnelFlags(0x4);
 
-    /// `IP6_TNL_F_MIP6_DEV`.
+    /// `IP6_TNL_F_MIP6_DEV`: the tunnel is used for Mobile IPv6.
     pub const Mip6Dev: Ip6TunnelFlags = Ip6TunnelFlags(0x8);
 
-    /// `IP6_TNL_F_RCV_DSCP_COPY`.
+    /// `IP6_TNL_F_RCV_DSCP_COPY`: the DSCP is copied from the outer packet on receipt.
     pub const RcvDscpCopy: Ip6TunnelFlags = Ip6TunnelFlags(0x10);
 
-    /// `IP6_TNL_F_USE_ORIG_FWMARK`.
+    /// `IP6_TNL_F_USE_ORIG_FWMARK`: the firewall mark is copied from the inner packet.
     pub const UseOrigFwMark: Ip6TunnelFlags = Ip6TunnelFlags(0x20);
 
-    /// `IP6_TNL_F_ALLOW_LOCAL_REMOTE`.
+    /// `IP6_TNL_F_ALLOW_LOCAL_REMOTE`: the remote address may be on the local host.
     pub const AllowLocalRemote: Ip6TunnelFlags = Ip6TunnelFlags(0x40);
 
-    /// `IP6_TNL_F_CAP_XMIT`.
+    /// `IP6_TNL_F_CAP_XMIT`: the tunnel can send; set by the kernel.
     pub const CapXmit: Ip6TunnelFlags = Ip6TunnelFlags(0x10000);
 
-    /// `IP6_TNL_F_CAP_RCV`.
+    /// `IP6_TNL_F_CAP_RCV`: the tunnel can receive; set by the kernel.
     pub const CapRcv: Ip6TunnelFlags = Ip6TunnelFlags(0x20000);
 
-    /// `IP6_TNL_F_CAP_PER_PACKET`.
+    /// `IP6_TNL_F_CAP_PER_PACKET`: both depend on the addresses of each packet; set by the kernel.
     pub const CapPerPacket: Ip6TunnelFlags = Ip6TunnelFlags(0x40000);
 
     const TABLE: &'static [Flag<Ip6TunnelFlags>] = &[

@@ -3,17 +3,17 @@
 use crate::layers::nla_frame::ExactEq;
 use core::fmt;
 
-/// What a VXLAN tunnel does with the do-not-fragment bit: `IFLA_VXLAN_DF`, one byte
-/// (include/uapi/linux/if_link.h).
+/// How a VXLAN tunnel sets the don't-fragment (DF) bit of the outer header: `IFLA_VXLAN_DF`, one
+/// byte (include/uapi/linux/if_link.h).
 #[derive(Clone, Copy, Debug, PartialEq, Eq)]
 pub enum VxlanDf {
-    /// `VXLAN_DF_UNSET`.
+    /// `VXLAN_DF_UNSET`: the DF bit is not set.
     Unset,
-    /// `VXLAN_DF_SET`.
+    /// `VXLAN_DF_SET`: the DF bit is set.
     Set,
-    /// `VXLAN_DF_INHERIT`.
+    /// `VXLAN_DF_INHERIT`: the DF bit is copied from the inner packet.
     Inherit,
-    /// Any other number.
+    /// Any number without a name.
     Other(u8),
 }
 

@@ -1,20 +1,20 @@
-//! B.A.T.M.A.N. links: `IFLA_BATADV_UNSPEC` and on, include/uapi/linux/batman_adv.h.
+//! B.A.T.M.A.N. Advanced links: `IFLA_BATADV_*` (include/uapi/linux/batman_adv.h).
 
 use crate::compat::AllocError;
 use crate::layers::nla_frame::{
     DecodeError, DefaultNla, ExactEq, Family, Nla, NlaBuffer, Parseable, Text,
 };
 use crate::layers::table::{
-    Found, Part, Place, TableFamily, WrittenByTable, part_by_rows, put_by_rows, row_emit_payload,
-    row_emit_value, row_fit_len, row_kind, row_read, row_value_len,
+    Decoded, Encodable, Slot, TableFamily, WrittenByTable, encodable_by_rows, row_emit_payload,
+    row_emit_value, row_fit_len, row_kind, row_read, row_value_len, store_by_rows,
 };
 
-/// An attribute of a B.A.T.M.A.N. link: of a link of the kind `batadv`.
+/// An attribute in the data of a `batadv` link, a B.A.T.M.A.N. Advanced mesh interface.
 #[derive(Debug, PartialEq, Eq, Clone)]
 pub enum InfoBatAdv {
-    /// The name of the routing algorithm (`IFLA_BATADV_ALGO_NAME`), closed by a zero byte.
+    /// Name of the routing algorithm (`IFLA_BATADV_ALGO_NAME`), with one closing zero byte.
     AlgoName(Text),
-    /// An attribute of another type, kept as it came.
+    /// An opaque attribute, of a type that has no variant here, kept verbatim.
     Other(DefaultNla),
 }
 
@@ -30,13 +30,16 @@ impl TableFamily for InfoBatAdv {
     const FAMILY: Family = Family::BatAdv;
 
     #[inline(always)]
-    fn put_found<P: Place<InfoBatAdv>>(place: &mut P, found: Found<'_>) -> Result<(), AllocError> {
-        rows!(put_by_rows(place, found))
+    fn store_decoded<P: Slot<InfoBatAdv>>(
+        slot: &mut P,
+        decoded: Decoded<'_>,
+    ) -> Result<(), AllocError> {
+        rows!(store_by_rows(slot, decoded))
     }
 
     #[inline(always)]
-    fn to_part(&self) -> Part<'_> {
-        rows!(part_by_rows self)
+    fn to_encodable(&self) -> Encodable<'_> {
+        rows!(encodable_by_rows self)
     }
 }
 
@@ -64,7 +67,7 @@ impl Nla for InfoBatAdv {
 
 impl WrittenByTable for InfoBatAdv {}
 
-/// Reads the attribute. A name that is not UTF-8 is (BatAdv, 1, Utf8).
+/// Reads the attribute. A name that is not UTF-8 is rejected as `(BatAdv, 1, Utf8)`.
 impl<'a> Parseable<NlaBuffer<'a>> for InfoBatAdv {
     fn parse(buffer: &NlaBuffer<'a>) -> Result<InfoBatAdv, DecodeError> {
         row_read(buffer, ())

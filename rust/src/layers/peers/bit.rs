@@ -1,16 +1,16 @@
-//! A bit as a peer.
+//! A peer that is a single boolean.
 
 use crate::layers::nla_frame::ExactEq;
 use crate::layers::shapes::{
-    Datum, Shape, read_datum, shape_canonical_len, shape_check, shape_put_canonical, shape_same,
+    Datum, Shape, read_datum, shape_canonical_len, shape_check, shape_same, shape_write_canonical,
     write_datum,
 };
 use crate::layers::table::{LinkPeer, PeerFault};
 
-/// A peer of one byte: true where the byte is not zero, and written as 01 or 00. A payload of
-/// another length is refused.
+/// A peer of one byte: true if the byte is not zero, and written as 01 or 00. A payload of another
+/// length is rejected.
 ///
-/// Every bit is well formed, and no call takes memory.
+/// Every value is well formed, and no call allocates.
 #[derive(Clone, Copy, Debug, PartialEq, Eq)]
 pub struct BitPeer(pub bool);
 
@@ -42,8 +42,8 @@ impl LinkPeer for BitPeer {
         shape_canonical_len(Shape::Truth, payload)
     }
 
-    fn put_canonical(payload: &[u8], buffer: &mut [u8]) -> usize {
-        shape_put_canonical(Shape::Truth, payload, buffer)
+    fn write_canonical(payload: &[u8], buffer: &mut [u8]) -> usize {
+        shape_write_canonical(Shape::Truth, payload, buffer)
     }
 }
 

@@ -1,4 +1,4 @@
-//! Netkit links, which come in pairs: `IFLA_NETKIT_UNSPEC` and on, include/uapi/linux/if_link.h.
+//! Netkit links, which come in pairs: `IFLA_NETKIT_*` (include/uapi/linux/if_link.h).
 
 use crate::compat::AllocError;
 use crate::layers::nla_frame::{
@@ -9,44 +9,39 @@ use crate::layers::peers::peer_calls::{
     peer_check, peer_emit_payload, peer_emit_value, peer_fit_len, peer_kind, peer_read, peer_same,
     peer_value_len,
 };
-use crate::layers::peers::peer_canonical::{peer_canonical_len, peer_put_canonical};
+use crate::layers::peers::peer_canonical::{peer_canonical_len, peer_write_canonical};
 use crate::layers::peers::peer_family::PeerFamily;
 use crate::layers::table::{
-    Found, LinkPeer, Lookup, Part, Place, RowFamily, UnnestedFamily, part_by_rows, put_by_rows,
-    table_lookup,
+    Decoded, Encodable, LinkPeer, Lookup, RowFamily, Slot, UnnestedFamily, encodable_by_rows,
+    store_by_rows, table_lookup,
 };
 
-/// An attribute of a netkit link, with a peer of type `P`.
+/// An attribute in the data of a `netkit` link, with a peer of type `P`.
 #[derive(Debug, PartialEq, Eq, Clone)]
 pub enum InfoNetkitOf<P> {
-    /// The other end of the pair (`IFLA_NETKIT_PEER_INFO`).
+    /// The peer of the pair (`IFLA_NETKIT_PEER_INFO`).
     Peer(P),
-    /// Whether this end is the primary one, which programs are attached to (`IFLA_NETKIT_PRIMARY`),
-    /// one byte.
+    /// Whether this is the primary device of the pair (`IFLA_NETKIT_PRIMARY`), one byte.
     Primary(bool),
-    /// What this end does with packets that no program judges (`IFLA_NETKIT_POLICY`), native byte
-    /// order.
+    /// Policy without a BPF program at the primary device (`IFLA_NETKIT_POLICY`), little-endian.
     Policy(NetkitPolicy),
-    /// What the other end does with packets that no program judges (`IFLA_NETKIT_PEER_POLICY`),
-    /// native byte order.
+    /// Policy without a BPF program at the peer (`IFLA_NETKIT_PEER_POLICY`), little-endian.
     PeerPolicy(NetkitPolicy),
-    /// The layer of the link (`IFLA_NETKIT_MODE`), native byte order.
+    /// Mode, `l2` or `l3` (`IFLA_NETKIT_MODE`), little-endian.
     Mode(NetkitMode),
-    /// Whether mark and priority of a packet are cleared at this end (`IFLA_NETKIT_SCRUB`), native
-    /// byte order.
+    /// Scrubbing of mark and priority at the primary device (`IFLA_NETKIT_SCRUB`), little-endian.
     Scrub(NetkitScrub),
-    /// Whether mark and priority of a packet are cleared at the other end
-    /// (`IFLA_NETKIT_PEER_SCRUB`), native byte order.
+    /// Scrubbing of mark and priority at the peer (`IFLA_NETKIT_PEER_SCRUB`), little-endian.
     PeerScrub(NetkitScrub),
-    /// The bytes kept free before each packet (`IFLA_NETKIT_HEADROOM`), native byte order.
+    /// Headroom before each packet in bytes (`IFLA_NETKIT_HEADROOM`), little-endian.
     Headroom(u16),
-    /// The bytes kept free behind each packet (`IFLA_NETKIT_TAILROOM`), native byte order.
+    /// Tailroom after each packet in bytes (`IFLA_NETKIT_TAILROOM`), little-endian.
     Tailroom(u16),
-    /// An attribute of another type, kept as it came.
+    /// An opaque attribute, of a type that has no variant here, kept verbatim.
     Other(DefaultNla),
 }
 
-/// An attribute of a netkit link, whose peer is the bytes of its payload.
+/// An attribute in the data of a `netkit` link, with the peer as opaque bytes.
 pub type InfoNetkit = InfoNetkitOf<Bytes>;
 
 macro_rules! rows {
@@ -76,21 +71,21 @@ impl<P: LinkPeer> RowFamily for InfoNetkitOf<P> {
     }
 
     #[inline(always)]
-    fn put_found<L: Place<InfoNetkitOf<P>>>(
-        place: &mut L,
+    fn store_decoded<L: Slot<InfoNetkitOf<P>>>(
+        slot: &mut L,
         _ctx: (),
-        found: Found<'_>,
+        decoded: Decoded<'_>,
     ) -> Result<(), AllocError> {
-        rows!(put_by_rows(place, found))
+        rows!(store_by_rows(slot, decoded))
     }
 
     #[inline(always)]
-    fn to_part(&self) -> Part<'_> {
-        rows!(part_by_rows self)
+    fn to_encodable(&self) -> Encodable<'_> {
+        rows!(encodable_by_rows self)
     }
 }
 
-/// What is scrubbed: by default, or nothing.
+/// The scrubbing: default or none.
 fn scrub_of(by_default: bool) -> NetkitScrub {
     NetkitScrub::from(u32::from(by_default))
 }
@@ -136,8 +131,8 @@ impl<P: LinkPeer> Nla for InfoNetkitOf<P> {
     }
 }
 
-/// Reads the attribute. A peer that is refused is (Netkit, 1, Peer), and a payload of another
-/// length than its row's (Netkit, type, Length).
+/// Reads the attribute. A rejected peer gives the error `(Netkit, 1, Peer)`, a payload of invalid
+/// length `(Netkit, type, Length)`.
 impl<'a, P: LinkPeer> Parseable<NlaBuffer<'a>> for InfoNetkitOf<P> {
     fn parse(buffer: &NlaBuffer<'a>) -> Result<InfoNetkitOf<P>, DecodeError> {
         peer_read(buffer, ())
@@ -161,8 +156,8 @@ impl<P: LinkPeer> UnnestedFamily for InfoNetkitOf<P> {
         peer_canonical_len::<InfoNetkitOf<P>>(nla, ctx)
     }
 
-    fn put_canonical_by_row(nla: &NlaBuffer<'_>, ctx: (), buffer: &mut [u8]) -> usize {
-        peer_put_canonical::<InfoNetkitOf<P>>(nla, ctx, buffer)
+    fn write_canonical_by_row(nla: &NlaBuffer<'_>, ctx: (), buffer: &mut [u8]) -> usize {
+        peer_write_canonical::<InfoNetkitOf<P>>(nla, ctx, buffer)
     }
 }
 

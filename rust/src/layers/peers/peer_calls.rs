@@ -1,4 +1,5 @@
-//! What each family with a peer does: the calls of families by rows, but for attributes of type 1.
+//! The calls of families with a peer: those of families defined by rows, except for attributes of
+//! type 1.
 
 use crate::layers::nla_frame::{Cause, DecodeError, Family, NlaBuffer};
 use crate::layers::peers::peer_family::PeerFamily;
@@ -7,7 +8,7 @@ use crate::layers::table::{
     row_read, row_same,
 };
 
-/// The type of a peer: `VETH_INFO_PEER` (include/uapi/linux/veth.h), `VXCAN_INFO_PEER`
+/// The type of the peer attribute: `VETH_INFO_PEER` (include/uapi/linux/veth.h), `VXCAN_INFO_PEER`
 /// (include/uapi/linux/can/vxcan.h) and `IFLA_NETKIT_PEER_INFO` (include/uapi/linux/if_link.h).
 pub(crate) const PEER: u16 = 1;
 
@@ -47,8 +48,8 @@ fn same_as_peer<F: PeerFamily>(a: &NlaBuffer<'_>, b: &NlaBuffer<'_>) -> bool {
     b.kind() == a.kind() && F::Peer::same(a.value(), b.value())
 }
 
-/// Reads an attribute: a peer under type 1, and else by its row. A refused peer is (family, 1,
-/// Peer).
+/// Reads an attribute: type 1 as a peer, any other type by its row. A rejected peer gives the error
+/// `(family, 1, Peer)`.
 pub fn peer_read<F: PeerFamily>(nla: &NlaBuffer<'_>, ctx: F::Context) -> Result<F, DecodeError> {
     if nla.kind() == PEER {
         read_as_peer(nla)
@@ -57,7 +58,7 @@ pub fn peer_read<F: PeerFamily>(nla: &NlaBuffer<'_>, ctx: F::Context) -> Result<
     }
 }
 
-/// Whether `peer_read` would succeed, or the attribute's fault. Takes no memory.
+/// Checks whether `peer_read` would succeed, and returns the error if not. Does not allocate.
 pub fn peer_check<F: PeerFamily>(nla: &NlaBuffer<'_>, ctx: F::Context) -> Result<(), DecodeError> {
     if nla.kind() == PEER {
         check_as_peer::<F>(nla)
@@ -66,7 +67,8 @@ pub fn peer_check<F: PeerFamily>(nla: &NlaBuffer<'_>, ctx: F::Context) -> Result
     }
 }
 
-/// Whether two attributes mean the same value. Asks that both are accepted, and takes no memory.
+/// Whether two attributes are equivalent: they mean equal values. Requires that both are accepted.
+/// Does not allocate.
 ///
 /// # Panics
 ///
@@ -80,7 +82,7 @@ pub fn peer_same<F: PeerFamily>(a: &NlaBuffer<'_>, b: &NlaBuffer<'_>, ctx: F::Co
     }
 }
 
-/// The type number of a value.
+/// The type of a value.
 pub fn peer_kind<F: PeerFamily>(value: &F) -> u16 {
     match value.peer() {
         Some(_) => PEER,
@@ -88,7 +90,7 @@ pub fn peer_kind<F: PeerFamily>(value: &F) -> u16 {
     }
 }
 
-/// The length of a value's payload where it fits, and else `None`.
+/// Returns the length of a value's payload if the value fits, and `None` otherwise.
 pub fn peer_fit_len<F: PeerFamily>(value: &F) -> Option<usize> {
     match value.peer() {
         Some(peer) => peer.fit_len(),
@@ -96,7 +98,7 @@ pub fn peer_fit_len<F: PeerFamily>(value: &F) -> Option<usize> {
     }
 }
 
-/// The length of a value's payload. Asks that the value fits.
+/// The length of a value's payload. Requires that the value fits.
 ///
 /// # Panics
 ///
@@ -109,7 +111,8 @@ pub fn peer_value_len<F: PeerFamily>(value: &F) -> usize {
     }
 }
 
-/// Writes a value's payload. Asks that the value fits, and for a buffer of exactly its length.
+/// Writes a value's payload. Requires that the value fits, and that the buffer has exactly its
+/// length.
 ///
 /// # Panics
 ///
@@ -122,8 +125,8 @@ pub fn peer_emit_value<F: PeerFamily>(value: &F, buffer: &mut [u8]) {
     }
 }
 
-/// Writes a value's payload at the front of the buffer, leaves the bytes behind it, and answers how
-/// many it wrote. Asks that the value fits, and for a buffer of at least the payload's length.
+/// Writes a value's payload at the front of the buffer, and returns its length. The bytes after it
+/// stay unchanged. Requires that the value fits, and that the buffer has at least its length.
 ///
 /// # Panics
 ///

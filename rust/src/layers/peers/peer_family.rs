@@ -2,15 +2,16 @@
 
 use crate::layers::table::{LinkPeer, RowFamily};
 
-/// A family of which the attributes of type 1 hold a peer, and every other type has a row of the
-/// table of shapes, or none.
+/// A family in which attributes of type 1 contain a peer, and every other type has a row of the
+/// table of shapes or none.
 pub trait PeerFamily: RowFamily {
-    /// What the payload of type 1 is read as.
+    /// The type that the payload of type 1 is read as.
     type Peer: LinkPeer;
 
-    /// The value that holds a peer.
+    /// Makes the value that contains a peer.
     fn from_peer(peer: Self::Peer) -> Self;
 
-    /// The peer of a value of type 1. Any other value is written from its `Part`.
+    /// The peer of a value of type 1, and `None` for any other value, which is written from its
+    /// `Encodable`.
     fn peer(&self) -> Option<&Self::Peer>;
 }

@@ -1,4 +1,4 @@
-//! Veth links, which come in pairs: `VETH_INFO_UNSPEC` and on, include/uapi/linux/veth.h.
+//! Veth links, which come in pairs: `VETH_INFO_*` (include/uapi/linux/veth.h).
 
 use crate::compat::AllocError;
 use crate::layers::nla_frame::{
@@ -8,22 +8,22 @@ use crate::layers::peers::peer_calls::{
     peer_check, peer_emit_payload, peer_emit_value, peer_fit_len, peer_kind, peer_read, peer_same,
     peer_value_len,
 };
-use crate::layers::peers::peer_canonical::{peer_canonical_len, peer_put_canonical};
+use crate::layers::peers::peer_canonical::{peer_canonical_len, peer_write_canonical};
 use crate::layers::peers::peer_family::PeerFamily;
 use crate::layers::table::{
-    Found, LinkPeer, Lookup, Part, Place, RowFamily, UnnestedFamily, table_lookup,
+    Decoded, Encodable, LinkPeer, Lookup, RowFamily, Slot, UnnestedFamily, table_lookup,
 };
 
-/// An attribute of a veth link, with a peer of type `P`.
+/// An attribute in the data of a `veth` link, with a peer of type `P`.
 #[derive(Debug, PartialEq, Eq, Clone)]
 pub enum InfoVethOf<P> {
-    /// The other end of the pair (`VETH_INFO_PEER`).
+    /// The peer of the pair (`VETH_INFO_PEER`).
     Peer(P),
-    /// An attribute of another type, kept as it came.
+    /// An opaque attribute, of a type that has no variant here, kept verbatim.
     Other(DefaultNla),
 }
 
-/// An attribute of a veth link, whose peer is the bytes of its payload.
+/// An attribute in the data of a `veth` link, with the peer as opaque bytes.
 pub type InfoVeth = InfoVethOf<Bytes>;
 
 impl<P: LinkPeer> RowFamily for InfoVethOf<P> {
@@ -37,21 +37,21 @@ impl<P: LinkPeer> RowFamily for InfoVethOf<P> {
     }
 
     #[inline(always)]
-    fn put_found<L: Place<InfoVethOf<P>>>(
-        place: &mut L,
+    fn store_decoded<L: Slot<InfoVethOf<P>>>(
+        slot: &mut L,
         _ctx: (),
-        found: Found<'_>,
+        decoded: Decoded<'_>,
     ) -> Result<(), AllocError> {
-        match found {
-            Found::Typed(_, _) => unreachable!(),
-            Found::Kept(nla) => place.put(InfoVethOf::Other(nla)),
+        match decoded {
+            Decoded::Typed(_, _) => unreachable!(),
+            Decoded::Kept(nla) => slot.store(InfoVethOf::Other(nla)),
         }
     }
 
-    fn to_part(&self) -> Part<'_> {
+    fn to_encodable(&self) -> Encodable<'_> {
         match self {
-            InfoVethOf::Peer(_) => Part::Custom,
-            InfoVethOf::Other(nla) => Part::Kept(nla),
+            InfoVethOf::Peer(_) => Encodable::Custom,
+            InfoVethOf::Other(nla) => Encodable::Kept(nla),
         }
     }
 }
@@ -93,7 +93,7 @@ impl<P: LinkPeer> Nla for InfoVethOf<P> {
     }
 }
 
-/// Reads the attribute. A peer that is refused is (Veth, 1, Peer).
+/// Reads the attribute. A rejected peer gives the error `(Veth, 1, Peer)`.
 impl<'a, P: LinkPeer> Parseable<NlaBuffer<'a>> for InfoVethOf<P> {
     fn parse(buffer: &NlaBuffer<'a>) -> Result<InfoVethOf<P>, DecodeError> {
         peer_read(buffer, ())
@@ -117,8 +117,8 @@ impl<P: LinkPeer> UnnestedFamily for InfoVethOf<P> {
         peer_canonical_len::<InfoVethOf<P>>(nla, ctx)
     }
 
-    fn put_canonical_by_row(nla: &NlaBuffer<'_>, ctx: (), buffer: &mut [u8]) -> usize {
-        peer_put_canonical::<InfoVethOf<P>>(nla, ctx, buffer)
+    fn write_canonical_by_row(nla: &NlaBuffer<'_>, ctx: (), buffer: &mut [u8]) -> usize {
+        peer_write_canonical::<InfoVethOf<P>>(nla, ctx, buffer)
     }
 }
 

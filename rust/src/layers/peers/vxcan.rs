@@ -1,4 +1,4 @@
-//! Vxcan links, which come in pairs: `VXCAN_INFO_UNSPEC` and on, include/uapi/linux/can/vxcan.h.
+//! Virtual CAN links that come in pairs: `VXCAN_INFO_*` (include/uapi/linux/can/vxcan.h).
 
 use crate::compat::AllocError;
 use crate::layers::nla_frame::{
@@ -8,22 +8,22 @@ use crate::layers::peers::peer_calls::{
     peer_check, peer_emit_payload, peer_emit_value, peer_fit_len, peer_kind, peer_read, peer_same,
     peer_value_len,
 };
-use crate::layers::peers::peer_canonical::{peer_canonical_len, peer_put_canonical};
+use crate::layers::peers::peer_canonical::{peer_canonical_len, peer_write_canonical};
 use crate::layers::peers::peer_family::PeerFamily;
 use crate::layers::table::{
-    Found, LinkPeer, Lookup, Part, Place, RowFamily, UnnestedFamily, table_lookup,
+    Decoded, Encodable, LinkPeer, Lookup, RowFamily, Slot, UnnestedFamily, table_lookup,
 };
 
-/// An attribute of a vxcan link, with a peer of type `P`.
+/// An attribute in the data of a `vxcan` link, with a peer of type `P`.
 #[derive(Debug, PartialEq, Eq, Clone)]
 pub enum InfoVxcanOf<P> {
-    /// The other end of the pair (`VXCAN_INFO_PEER`).
+    /// The peer of the pair (`VXCAN_INFO_PEER`).
     Peer(P),
-    /// An attribute of another type, kept as it came.
+    /// An opaque attribute, of a type that has no variant here, kept verbatim.
     Other(DefaultNla),
 }
 
-/// An attribute of a vxcan link, whose peer is the bytes of its payload.
+/// An attribute in the data of a `vxcan` link, with the peer as opaque bytes.
 pub type InfoVxcan = InfoVxcanOf<Bytes>;
 
 impl<P: LinkPeer> RowFamily for InfoVxcanOf<P> {
@@ -37,21 +37,21 @@ impl<P: LinkPeer> RowFamily for InfoVxcanOf<P> {
     }
 
     #[inline(always)]
-    fn put_found<L: Place<InfoVxcanOf<P>>>(
-        place: &mut L,
+    fn store_decoded<L: Slot<InfoVxcanOf<P>>>(
+        slot: &mut L,
         _ctx: (),
-        found: Found<'_>,
+        decoded: Decoded<'_>,
     ) -> Result<(), AllocError> {
-        match found {
-            Found::Typed(_, _) => unreachable!(),
-            Found::Kept(nla) => place.put(InfoVxcanOf::Other(nla)),
+        match decoded {
+            Decoded::Typed(_, _) => unreachable!(),
+            Decoded::Kept(nla) => slot.store(InfoVxcanOf::Other(nla)),
         }
     }
 
-    fn to_part(&self) -> Part<'_> {
+    fn to_encodable(&self) -> Encodable<'_> {
         match self {
-            InfoVxcanOf::Peer(_) => Part::Custom,
-            InfoVxcanOf::Other(nla) => Part::Kept(nla),
+            InfoVxcanOf::Peer(_) => Encodable::Custom,
+            InfoVxcanOf::Other(nla) => Encodable::Kept(nla),
         }
     }
 }
@@ -93,7 +93,7 @@ impl<P: LinkPeer> Nla for InfoVxcanOf<P> {
     }
 }
 
-/// Reads the attribute. A peer that is refused is (Vxcan, 1, Peer).
+/// Reads the attribute. A rejected peer gives the error `(Vxcan, 1, Peer)`.
 impl<'a, P: LinkPeer> Parseable<NlaBuffer<'a>> for InfoVxcanOf<P> {
     fn parse(buffer: &NlaBuffer<'a>) -> Result<InfoVxcanOf<P>, DecodeError> {
         peer_read(buffer, ())
@@ -117,8 +117,8 @@ impl<P: LinkPeer> UnnestedFamily for InfoVxcanOf<P> {
         peer_canonical_len::<InfoVxcanOf<P>>(nla, ctx)
     }
 
-    fn put_canonical_by_row(nla: &NlaBuffer<'_>, ctx: (), buffer: &mut [u8]) -> usize {
-        peer_put_canonical::<InfoVxcanOf<P>>(nla, ctx, buffer)
+    fn write_canonical_by_row(nla: &NlaBuffer<'_>, ctx: (), buffer: &mut [u8]) -> usize {
+        peer_write_canonical::<InfoVxcanOf<P>>(nla, ctx, buffer)
     }
 }
 

@@ -1,20 +1,20 @@
-//! WWAN links: `IFLA_WWAN_UNSPEC` and on, include/uapi/linux/wwan.h.
+//! Wireless WAN links: `IFLA_WWAN_*` (include/uapi/linux/wwan.h).
 
 use crate::compat::AllocError;
 use crate::layers::nla_frame::{
     DecodeError, DefaultNla, ExactEq, Family, Nla, NlaBuffer, Parseable,
 };
 use crate::layers::table::{
-    Found, Part, Place, TableFamily, WrittenByTable, part_by_rows, put_by_rows, row_emit_payload,
-    row_emit_value, row_fit_len, row_kind, row_read, row_value_len,
+    Decoded, Encodable, Slot, TableFamily, WrittenByTable, encodable_by_rows, row_emit_payload,
+    row_emit_value, row_fit_len, row_kind, row_read, row_value_len, store_by_rows,
 };
 
-/// An attribute of a WWAN link: of a link of the kind `wwan`.
+/// An attribute in the data of a `wwan` link, a link of a wireless modem.
 #[derive(Debug, PartialEq, Eq, Clone)]
 pub enum InfoWwan {
-    /// The identifier of the link on its modem (`IFLA_WWAN_LINK_ID`), native byte order.
+    /// Link ID (`IFLA_WWAN_LINK_ID`), little-endian.
     LinkId(u32),
-    /// An attribute of another type, kept as it came.
+    /// An opaque attribute, of a type that has no variant here, kept verbatim.
     Other(DefaultNla),
 }
 
@@ -30,13 +30,16 @@ impl TableFamily for InfoWwan {
     const FAMILY: Family = Family::Wwan;
 
     #[inline(always)]
-    fn put_found<P: Place<InfoWwan>>(place: &mut P, found: Found<'_>) -> Result<(), AllocError> {
-        rows!(put_by_rows(place, found))
+    fn store_decoded<P: Slot<InfoWwan>>(
+        slot: &mut P,
+        decoded: Decoded<'_>,
+    ) -> Result<(), AllocError> {
+        rows!(store_by_rows(slot, decoded))
     }
 
     #[inline(always)]
-    fn to_part(&self) -> Part<'_> {
-        rows!(part_by_rows self)
+    fn to_encodable(&self) -> Encodable<'_> {
+        rows!(encodable_by_rows self)
     }
 }
 
@@ -64,7 +67,7 @@ impl Nla for InfoWwan {
 
 impl WrittenByTable for InfoWwan {}
 
-/// Reads the attribute. A payload of another length than four bytes is (Wwan, 1, Length).
+/// Reads the attribute. A payload of invalid length is rejected as `(Wwan, 1, Length)`.
 impl<'a> Parseable<NlaBuffer<'a>> for InfoWwan {
     fn parse(buffer: &NlaBuffer<'a>) -> Result<InfoWwan, DecodeError> {
         row_read(buffer, ())

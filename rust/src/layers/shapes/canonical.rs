@@ -1,6 +1,6 @@
-//! The canonical payload of what an accepted payload means, without a value.
+//! Re-encodes accepted payloads canonically, without building a value.
 
-use crate::layers::nla_frame::put_frame;
+use crate::layers::nla_frame::write_frame;
 use crate::layers::shapes::datum::Datum;
 use crate::layers::shapes::payload::{datum_len, read_datum, write_datum};
 use crate::layers::shapes::shape::Shape;
@@ -14,9 +14,11 @@ fn datum_in(shape: Shape, payload: &[u8]) -> Datum<'_> {
     }
 }
 
-/// The length of the canonical payload of what a payload means, or `None` above 65531. Takes no
-/// memory. Asks for a shape other than `Shape::SelfList` and `Shape::Peer`, and for a payload that
-/// is accepted.
+/// Returns the length of an accepted payload's canonical encoding, or `None` above 65531. Does not
+/// allocate.
+///
+/// Requires a shape other than `Shape::SelfList` and `Shape::Peer`, and a payload that the shape
+/// accepts.
 ///
 /// # Panics
 ///
@@ -27,16 +29,19 @@ pub fn shape_canonical_len(shape: Shape, payload: &[u8]) -> Option<usize> {
     datum_len(shape, &datum_in(shape, payload))
 }
 
-/// Writes the canonical payload of what a payload means at the front of the buffer, leaves the
-/// bytes behind it, and answers its length. Takes no memory. Asks the same, that the canonical
-/// payload has at most 65531 bytes, and for a buffer of at least as many.
+/// Writes the canonical encoding of an accepted payload at the front of the buffer, and returns its
+/// length. The bytes after it stay unchanged. Does not allocate.
+///
+/// Requires a shape other than `Shape::SelfList` and `Shape::Peer`, and a payload that the shape
+/// accepts. Requires that the canonical payload has at most 65531 bytes, and that the buffer has at
+/// least as many.
 ///
 /// # Panics
 ///
 /// May panic where a condition of the caller that is named here does not hold. Where it does
 /// not panic then, the result has no meaning.
 #[inline(always)]
-pub fn shape_put_canonical(shape: Shape, payload: &[u8], buffer: &mut [u8]) -> usize {
+pub fn shape_write_canonical(shape: Shape, payload: &[u8], buffer: &mut [u8]) -> usize {
     let datum = datum_in(shape, payload);
     match datum_len(shape, &datum) {
         Some(len) => {
@@ -47,17 +52,21 @@ pub fn shape_put_canonical(shape: Shape, payload: &[u8], buffer: &mut [u8]) -> u
     }
 }
 
-/// Writes the attribute of a type and the canonical payload of what a payload means, its header,
-/// payload and zero padding, at the front of the buffer, leaves the bytes behind it, and answers
-/// its length. Asks the same, and for a buffer of at least the attribute's length.
+/// Writes an attribute with the canonical encoding of an accepted payload at the front of the
+/// buffer, and returns its length: header, payload and zero padding. The bytes after it stay
+/// unchanged. Does not allocate.
+///
+/// Requires a shape other than `Shape::SelfList` and `Shape::Peer`, and a payload that the shape
+/// accepts. Requires that the canonical payload has at most 65531 bytes, and that the buffer has at
+/// least as many bytes as the attribute.
 ///
 /// # Panics
 ///
 /// May panic where a condition of the caller that is named here does not hold. Where it does
 /// not panic then, the result has no meaning.
 #[inline(always)]
-pub fn shape_put_attribute(shape: Shape, kind: u16, payload: &[u8], buffer: &mut [u8]) -> usize {
-    let len = shape_put_canonical(shape, payload, &mut buffer[4..]);
-    put_frame(buffer, kind, len);
+pub fn shape_write_attribute(shape: Shape, kind: u16, payload: &[u8], buffer: &mut [u8]) -> usize {
+    let len = shape_write_canonical(shape, payload, &mut buffer[4..]);
+    write_frame(buffer, kind, len);
     4 + len.next_multiple_of(4)
 }

@@ -1,4 +1,4 @@
-//! Payloads and data, by shape.
+//! Checks, reads, compares, measures and writes payloads, by shape.
 
 use crate::layers::nla_frame::{Cause, fitting, without_nul};
 use crate::layers::shapes::datum::Datum;
@@ -6,9 +6,11 @@ use crate::layers::shapes::readers::*;
 use crate::layers::shapes::shape::Shape;
 use crate::layers::shapes::writers::*;
 
-/// Whether the payload is accepted under the shape, or why not. Takes no memory; of a payload that
-/// is no name its length alone is looked at. Asks for a shape other than `Shape::SelfList` and
-/// `Shape::Peer`, whose payloads the family reads itself.
+/// Returns whether the shape accepts the payload, and the cause if not. Does not allocate, and
+/// looks at the contents of names only, otherwise at lengths.
+///
+/// Requires a shape other than `Shape::SelfList` and `Shape::Peer`, whose payloads the family reads
+/// itself.
 ///
 /// # Panics
 ///
@@ -22,7 +24,7 @@ pub fn shape_check(shape: Shape, payload: &[u8]) -> Result<(), Cause> {
     }
 }
 
-/// The length of every payload that is accepted under the shape, where they have one length.
+/// The length of every payload that the shape accepts, if they all have one length.
 #[inline(always)]
 fn accepted_len(shape: Shape) -> Option<usize> {
     match shape {
@@ -37,7 +39,7 @@ fn accepted_len(shape: Shape) -> Option<usize> {
     }
 }
 
-/// Refuses a payload of another length.
+/// Rejects a payload of another length.
 #[inline(always)]
 fn check_len(payload: &[u8], len: usize) -> Result<(), Cause> {
     if payload.len() == len {
@@ -47,7 +49,7 @@ fn check_len(payload: &[u8], len: usize) -> Result<(), Cause> {
     }
 }
 
-/// The same of the shapes that accept payloads of more than one length.
+/// Checks a payload of a shape that accepts more than one length.
 #[inline(always)]
 fn check_variable(shape: Shape, payload: &[u8]) -> Result<(), Cause> {
     match shape {
@@ -61,8 +63,8 @@ fn check_variable(shape: Shape, payload: &[u8]) -> Result<(), Cause> {
     }
 }
 
-/// Refuses a payload of another length than `size`, with the cause AddressKind where it has the
-/// length `other`.
+/// Rejects a payload of another length than `size`, with the cause AddressKind if it has the length
+/// `other`.
 #[inline(always)]
 fn check_version(payload: &[u8], size: usize, other: usize) -> Result<(), Cause> {
     if payload.len() == other {
@@ -72,7 +74,7 @@ fn check_version(payload: &[u8], size: usize, other: usize) -> Result<(), Cause>
     }
 }
 
-/// Whether the payload is an address of either version.
+/// Whether the payload is an address of either IP version.
 #[inline(always)]
 fn check_ip(payload: &[u8]) -> Result<(), Cause> {
     match payload.len() {
@@ -98,8 +100,10 @@ fn check_name(payload: &[u8]) -> Result<(), Cause> {
     }
 }
 
-/// What the payload holds under the shape, or why it is refused. Takes no memory: a text or bytes
-/// are the payload's own. Asks for a shape other than `Shape::SelfList` and `Shape::Peer`.
+/// Reads the payload under the shape; returns the datum, or why the payload is rejected. Does not
+/// allocate: text and bytes are borrowed from the payload.
+///
+/// Requires a shape other than `Shape::SelfList` and `Shape::Peer`.
 ///
 /// # Panics
 ///
@@ -135,8 +139,10 @@ pub fn read_datum(shape: Shape, payload: &[u8]) -> Result<Datum<'_>, Cause> {
     }
 }
 
-/// Whether two payloads mean the same under the shape. Takes no memory. Asks for a shape other than
-/// `Shape::SelfList` and `Shape::Peer`, and for two payloads that are accepted.
+/// Whether two payloads are equivalent: they have equal data under the shape. Does not allocate.
+///
+/// Requires a shape other than `Shape::SelfList` and `Shape::Peer`, and two payloads that the shape
+/// accepts.
 ///
 /// # Panics
 ///
@@ -159,7 +165,7 @@ fn is_alike(shape: Shape, a: &[u8], b: &[u8]) -> bool {
     }
 }
 
-/// The first byte, or 0 where there is none.
+/// The first byte, or 0 for no bytes.
 #[inline(always)]
 fn first_byte(payload: &[u8]) -> u8 {
     payload.first().copied().unwrap_or(0)
@@ -171,9 +177,8 @@ fn is_zero(payload: &[u8]) -> bool {
     payload == [0, 0, 0, 0].as_slice()
 }
 
-/// The length of the payload that is written for the datum, or `None` above 65531, the most that
-/// the length field of an attribute can count with its header. Asks for a datum that suits the
-/// shape.
+/// Returns the length of the payload that is written for the datum. It is `None` above 65531, the
+/// maximum length of a payload. Requires a datum of the shape.
 ///
 /// # Panics
 ///
@@ -192,7 +197,7 @@ fn written_len(shape: Shape, datum: &Datum<'_>) -> usize {
     }
 }
 
-/// The length of every payload that is written under the shape, where they have one length.
+/// The length of every payload that is written under the shape, if they all have one length.
 #[inline(always)]
 fn fixed_len(shape: Shape) -> Option<usize> {
     match shape {
@@ -219,8 +224,8 @@ fn variable_len(datum: &Datum<'_>) -> usize {
     }
 }
 
-/// Writes the payload of the datum. Asks for a datum that suits the shape, and for a buffer of
-/// exactly that payload's length, which `datum_len` tells.
+/// Writes the payload of the datum. Requires a datum of the shape, and that the buffer has exactly
+/// the length that `datum_len` returns.
 ///
 /// # Panics
 ///

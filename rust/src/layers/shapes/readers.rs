@@ -1,4 +1,4 @@
-//! One reader for each shape: the datum of a payload, or what is wrong with the payload.
+//! One reader per shape: the datum of a payload, or why the payload is rejected.
 
 use crate::layers::nla_frame::{
     Cause, parse_i32, parse_ip, parse_ipv4_addr, parse_ipv6_addr, parse_mac, parse_u8, parse_u16,

@@ -1,12 +1,14 @@
-//! Which shape an attribute has: one table for all families.
+//! The shape of each attribute: one table for all families.
 
 use crate::layers::nla_frame::Family;
 use crate::layers::shapes::shape::Shape;
 
-/// The shape of a family's attribute, by its masked type, the type without its two flag bits.
-/// `None` where the family has no row for it, for `Family::Frame` and `Family::LinkInfo`, and for
-/// type 8 of `Family::IpTunnel` (`IFLA_IPTUN_FLAGS`), whose shape the kind of the link decides on.
-/// The numbers are those of include/uapi/linux/if_link.h, where no other file is named.
+/// The shape of a family's attribute, by its type without the two flag bits.
+///
+/// `None` if the family has no row for that type, and for `Family::Frame` and `Family::LinkInfo`.
+/// Also `None` for type 8 of `Family::IpTunnel` (`IFLA_IPTUN_FLAGS`), whose shape depends on the
+/// kind of the link. The types are those of include/uapi/linux/if_link.h unless another file is
+/// named.
 #[inline(always)]
 pub fn table_shape(family: Family, kind: u16) -> Option<Shape> {
     match family {
@@ -192,8 +194,8 @@ fn ipoib(kind: u16) -> Option<Shape> {
     }
 }
 
-/// `IFLA_IPTUN_*` (include/uapi/linux/if_tunnel.h). Type 8, `IFLA_IPTUN_FLAGS`, has no row: the
-/// kind of the link decides on its shape.
+/// `IFLA_IPTUN_*` (include/uapi/linux/if_tunnel.h). Type 8, `IFLA_IPTUN_FLAGS`, has no row, since
+/// its shape depends on the kind of the link.
 #[inline(always)]
 fn ip_tunnel(kind: u16) -> Option<Shape> {
     match kind {

@@ -1,4 +1,4 @@
-//! One writer for each shape: the canonical payload of a datum.
+//! One writer per shape: the canonical payload of a datum.
 
 use crate::layers::nla_frame::{
     emit_i32, emit_u16, emit_u16_be, emit_u32, emit_u32_be, emit_u64, emit_u64_be,

@@ -1,6 +1,6 @@
-//! Reading and writing by one list of rows.
+//! Reads and writes values by one list of rows.
 //!
-//! A family gives its list as a macro of its own, a row of the list for each row of its table:
+//! A family defines its list as a macro, with an entry for each row of its table:
 //!
 //! ```text
 //! macro_rules! rows {
@@ -13,76 +13,96 @@
 //! }
 //! ```
 //!
-//! A row has the type number by its name in the kernel, the shape by the name of its function in
-//! `parts`, and the variant. Behind the variant stands how its field differs from the plain datum
-//! of the shape:
+//! A row has the type by its name in the kernel, the shape by the name of its function in
+//! `encodables`, and the variant. After the variant comes how its field differs from the plain
+//! datum of the shape:
 //!
-//! - `as GtpRole`, a number with a type, and `as &GreEncapType` where that type is turned into its
-//!   number by reference;
-//! - `as flags IpVlanFlags`, a set of flags;
+//! - `as GtpRole`, a number type, and `as &GreEncapType` if the number is made from a reference;
+//! - `as flags IpVlanFlags`, a flag set;
 //! - `by scrub_of, is_by_default`, two functions, from the datum and to it;
 //! - `or TtlInheritFlag`, the variant of the empty payload.
 //!
-//! A row whose payload the family reads and writes itself has the word `custom` for its shape.
-//! Behind the rows `; else Ipv4Flags` names variants that the family reads and writes before it
-//! asks the list. Types and functions that the list names are looked up where the family expands
-//! it: there `Flags`, and `Text` for a name, are to be in scope too.
+//! A row with a payload that the family reads and writes itself has the word `custom` as its shape.
+//! After the rows, `; else Ipv4Flags` names variants that the family reads and writes before it
+//! consults the list. Types and functions in the list are resolved where the family expands it:
+//! `Flags`, and `Text` for a name, must be in scope there.
 
-/// Puts the value of what was read of an attribute in a place, by the rows:
-/// `rows!(put_by_rows(place, found))`.
+/// Stores the decoded value of an attribute, by the rows: `rows!(store_by_rows(slot, decoded))`.
 #[doc(hidden)]
 #[macro_export]
-macro_rules! put_by_rows {
-    ($family:ident ($place:ident, $found:ident); $(($name:ident = $number:literal, $shape:ident, $variant:ident $(or $empty:ident)? $(as $($named:tt)+)? $(by $from:ident, $to:ident)?)),* $(,)? $(; else $($elsewhere:ident),+)?) => {{
-        let (kind, datum) = match $found {
-            $crate::layers::table::Found::Typed(kind, datum) => (kind, datum),
-            $crate::layers::table::Found::Kept(nla) => return $place.put($family::Other(nla)),
+macro_rules! store_by_rows {
+    (
+        $family:ident ($slot:ident, $decoded:ident);
+        $((
+            $name:ident = $number:literal, $shape:ident, $variant:ident $(or $empty:ident)?
+            $(as $($named:tt)+)? $(by $from:ident, $to:ident)?
+        )),* $(,)?
+        $(; else $($elsewhere:ident),+)?
+    ) => {{
+        let (kind, datum) = match $decoded {
+            $crate::layers::table::Decoded::Typed(kind, datum) => (kind, datum),
+            $crate::layers::table::Decoded::Kept(nla) => return $slot.store($family::Other(nla)),
         };
         match kind {
-            $($number => $crate::put_row!($place, datum, $shape, $family $variant $(or $empty)? $(as $($named)+)? $(by $from)?),)*
+            $($number => $crate::store_row!(
+                $slot, datum, $shape,
+                $family $variant $(or $empty)? $(as $($named)+)? $(by $from)?
+            ),)*
             _ => unreachable!(),
         }
     }};
 }
 
-/// Puts the value of one row's datum in a place.
+/// Stores the value of one row's datum.
 #[doc(hidden)]
 #[macro_export]
-macro_rules! put_row {
-    ($place:ident, $datum:ident, custom, $family:ident $variant:ident) => {
+macro_rules! store_row {
+    ($slot:ident, $datum:ident, custom, $family:ident $variant:ident) => {
         unreachable!()
     };
-    ($place:ident, $datum:ident, mark, $family:ident $variant:ident) => {
-        $place.put($family::$variant)
+    ($slot:ident, $datum:ident, mark, $family:ident $variant:ident) => {
+        $slot.store($family::$variant)
     };
-    ($place:ident, $datum:ident, name, $family:ident $variant:ident) => {
-        $place.put($family::$variant(Text::copy_of($datum.text_or_empty())?))
+    ($slot:ident, $datum:ident, name, $family:ident $variant:ident) => {
+        $slot.store($family::$variant(Text::copy_of($datum.text_or_empty())?))
     };
-    ($place:ident, $datum:ident, empty_or_byte, $family:ident $variant:ident or $empty:ident) => {
+    (
+        $slot:ident, $datum:ident, empty_or_byte,
+        $family:ident $variant:ident or $empty:ident
+    ) => {
         match $datum.byte_or_none() {
-            Some(byte) => $place.put($family::$variant(byte)),
-            None => $place.put($family::$empty),
+            Some(byte) => $slot.store($family::$variant(byte)),
+            None => $slot.store($family::$empty),
         }
     };
-    ($place:ident, $datum:ident, $shape:ident, $family:ident $variant:ident) => {
-        $place.put($family::$variant($crate::datum_of!($shape, $datum)))
+    ($slot:ident, $datum:ident, $shape:ident, $family:ident $variant:ident) => {
+        $slot.store($family::$variant($crate::datum_of!($shape, $datum)))
     };
-    ($place:ident, $datum:ident, $shape:ident, $family:ident $variant:ident as flags $set:ident) => {
-        $place.put($family::$variant($set::from_bits_retain(
+    (
+        $slot:ident, $datum:ident, $shape:ident,
+        $family:ident $variant:ident as flags $set:ident
+    ) => {
+        $slot.store($family::$variant($set::from_bits_retain(
             $crate::datum_of!($shape, $datum),
         )))
     };
-    ($place:ident, $datum:ident, $shape:ident, $family:ident $variant:ident as $(&)? $named:ident) => {
-        $place.put($family::$variant($named::from($crate::datum_of!(
+    (
+        $slot:ident, $datum:ident, $shape:ident,
+        $family:ident $variant:ident as $(&)? $named:ident
+    ) => {
+        $slot.store($family::$variant($named::from($crate::datum_of!(
             $shape, $datum
         ))))
     };
-    ($place:ident, $datum:ident, $shape:ident, $family:ident $variant:ident by $from:ident) => {
-        $place.put($family::$variant($from($crate::datum_of!($shape, $datum))))
+    (
+        $slot:ident, $datum:ident, $shape:ident,
+        $family:ident $variant:ident by $from:ident
+    ) => {
+        $slot.store($family::$variant($from($crate::datum_of!($shape, $datum))))
     };
 }
 
-/// The datum of a shape.
+/// Builds the datum of a shape.
 #[doc(hidden)]
 #[macro_export]
 macro_rules! datum_of {
@@ -145,17 +165,26 @@ macro_rules! datum_of {
     };
 }
 
-/// The type number, shape and datum of a value, or the attribute that it keeps, by the rows:
-/// `rows!(part_by_rows self)`.
+/// The type, shape and datum of a value, or its opaque attribute, by the rows:
+/// `rows!(encodable_by_rows self)`.
 #[doc(hidden)]
 #[macro_export]
-macro_rules! part_by_rows {
-    ($family:ident $value:tt; $(($name:ident = $number:literal, $shape:ident, $variant:ident $(or $empty:ident)? $(as $($named:tt)+)? $(by $from:ident, $to:ident)?)),* $(,)? $(; else $($elsewhere:ident),+)?) => {
+macro_rules! encodable_by_rows {
+    (
+        $family:ident $value:tt;
+        $((
+            $name:ident = $number:literal, $shape:ident, $variant:ident $(or $empty:ident)?
+            $(as $($named:tt)+)? $(by $from:ident, $to:ident)?
+        )),* $(,)?
+        $(; else $($elsewhere:ident),+)?
+    ) => {
         match $value {
-            $($crate::row_pattern!($shape, $family $variant, x) => $crate::part_row!($number, $shape, x $(or $empty)? $(as $($named)+)? $(by $to)?),
-            $($family::$empty => $crate::layers::table::parts::$shape($number, None),)?)*
+            $($crate::row_pattern!($shape, $family $variant, x) => $crate::encodable_row!(
+                $number, $shape, x $(or $empty)? $(as $($named)+)? $(by $to)?
+            ),
+            $($family::$empty => $crate::layers::table::encodables::$shape($number, None),)?)*
             $($($family::$elsewhere(_) => unreachable!(),)+)?
-            $family::Other(nla) => $crate::layers::table::Part::Kept(nla),
+            $family::Other(nla) => $crate::layers::table::Encodable::Kept(nla),
         }
     };
 }
@@ -175,36 +204,36 @@ macro_rules! row_pattern {
     };
 }
 
-/// The part of one row's value.
+/// The `Encodable` of one row's value.
 #[doc(hidden)]
 #[macro_export]
-macro_rules! part_row {
+macro_rules! encodable_row {
     ($number:literal, custom, $x:ident) => {
-        $crate::layers::table::Part::Custom
+        $crate::layers::table::Encodable::Custom
     };
     ($number:literal, mark, $x:ident) => {
-        $crate::layers::table::parts::mark($number)
+        $crate::layers::table::encodables::mark($number)
     };
     ($number:literal, name, $x:ident) => {
-        $crate::layers::table::parts::name($number, $x.as_str())
+        $crate::layers::table::encodables::name($number, $x.as_str())
     };
     ($number:literal, $shape:ident, $x:ident) => {
-        $crate::layers::table::parts::$shape($number, *$x)
+        $crate::layers::table::encodables::$shape($number, *$x)
     };
     ($number:literal, $shape:ident, $x:ident or $empty:ident) => {
-        $crate::layers::table::parts::$shape($number, Some(*$x))
+        $crate::layers::table::encodables::$shape($number, Some(*$x))
     };
     ($number:literal, $shape:ident, $x:ident as flags $set:ident) => {
-        $crate::layers::table::parts::$shape($number, $x.bits())
+        $crate::layers::table::encodables::$shape($number, $x.bits())
     };
     ($number:literal, $shape:ident, $x:ident as &$named:ident) => {
-        $crate::layers::table::parts::$shape($number, <$crate::number_of!($shape)>::from($x))
+        $crate::layers::table::encodables::$shape($number, <$crate::number_of!($shape)>::from($x))
     };
     ($number:literal, $shape:ident, $x:ident as $named:ident) => {
-        $crate::layers::table::parts::$shape($number, <$crate::number_of!($shape)>::from(*$x))
+        $crate::layers::table::encodables::$shape($number, <$crate::number_of!($shape)>::from(*$x))
     };
     ($number:literal, $shape:ident, $x:ident by $to:ident) => {
-        $crate::layers::table::parts::$shape($number, $to(*$x))
+        $crate::layers::table::encodables::$shape($number, $to(*$x))
     };
 }
 

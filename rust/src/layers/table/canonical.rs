@@ -1,21 +1,21 @@
-//! The canonical attribute of what an accepted attribute means, by its row, without a value.
+//! Re-encodes accepted attributes canonically by their rows, without building a value.
 
-use crate::layers::nla_frame::{NlaBuffer, fitting, put_bytes_attribute};
-use crate::layers::shapes::{Shape, shape_canonical_len, shape_put_attribute};
+use crate::layers::nla_frame::{NlaBuffer, fitting, write_bytes_attribute};
+use crate::layers::shapes::{Shape, shape_canonical_len, shape_write_attribute};
 use crate::layers::table::lookup::Lookup;
 use crate::layers::table::row_family::RowFamily;
 
-/// What the canonical attribute of an accepted attribute is written from.
+/// What the canonical encoding of an accepted attribute is written from.
 #[derive(Clone, Copy)]
 pub(crate) enum Written<'a> {
-    /// A type number, its shape, and a payload that is accepted under it.
+    /// A type, its shape, and a payload that the shape accepts.
     Typed(u16, Shape, &'a [u8]),
-    /// A 16-bit type and a payload, which are kept as they came.
+    /// The 16-bit type and the payload of an opaque attribute.
     Kept(u16, &'a [u8]),
 }
 
-/// What an attribute's canonical attribute is written from, by its row. Asks that the attribute
-/// means a value, and that its row has a shape of the table, or none.
+/// What the canonical encoding of an attribute is written from, by its row. Requires that the
+/// attribute is accepted, and that the family does not read its payload itself.
 #[inline(always)]
 fn written_from<'a, F: RowFamily>(nla: &NlaBuffer<'a>, ctx: F::Context) -> Written<'a> {
     let kind = nla.kind();
@@ -26,8 +26,10 @@ fn written_from<'a, F: RowFamily>(nla: &NlaBuffer<'a>, ctx: F::Context) -> Writt
     }
 }
 
-/// The length of the canonical payload of the value that an attribute means, where it fits, and
-/// else `None`. Takes no memory. Asks the same.
+/// Returns the length of the canonical payload of the value that an attribute means, or `None` if
+/// it does not fit. Does not allocate.
+///
+/// Requires that the attribute is accepted, and that the family does not read its payload itself.
 ///
 /// # Panics
 ///
@@ -41,22 +43,24 @@ pub fn row_canonical_len<F: RowFamily>(nla: &NlaBuffer<'_>, ctx: F::Context) -> 
     }
 }
 
-/// Writes the canonical attribute of the value that an attribute means at the front of the buffer,
-/// leaves the bytes behind it, and answers its length. Takes no memory. Asks the same, that the
-/// canonical attribute fits, and for a buffer of at least its length.
+/// Writes the canonical encoding of the value that an attribute means at the front of the buffer,
+/// and returns its length. The bytes after it stay unchanged. Does not allocate.
+///
+/// Requires that the attribute is accepted, that the family does not read its payload itself, that
+/// the encoding fits, and that the buffer has at least that length.
 ///
 /// # Panics
 ///
 /// May panic where a condition of the caller that is named here does not hold. Where it does
 /// not panic then, the result has no meaning.
 #[inline(always)]
-pub fn row_put_canonical<F: RowFamily>(
+pub fn row_write_canonical<F: RowFamily>(
     nla: &NlaBuffer<'_>,
     ctx: F::Context,
     buffer: &mut [u8],
 ) -> usize {
     match written_from::<F>(nla, ctx) {
-        Written::Typed(kind, shape, payload) => shape_put_attribute(shape, kind, payload, buffer),
-        Written::Kept(kind, payload) => put_bytes_attribute(kind, payload, buffer),
+        Written::Typed(kind, shape, payload) => shape_write_attribute(shape, kind, payload, buffer),
+        Written::Kept(kind, payload) => write_bytes_attribute(kind, payload, buffer),
     }
 }

@@ -1,26 +1,29 @@
-//! Families of attributes: what a family's types are read, checked, compared and written as.
+//! Families of attributes: how the attributes of one kind of data are read, checked, compared and
+//! written.
 
 use crate::compat::TryVec;
 use crate::layers::nla_frame::{DecodeError, Family, HeaderCount, Nla, NlaBuffer};
 use crate::layers::table::lookup::Lookup;
 use alloc::vec::Vec;
 
-/// The attributes that may stand in one kind of data, as `IFLA_VXLAN_ID` and its like in that of a
-/// vxlan.
+/// A family: the attributes of one kind of data, such as `IFLA_VXLAN_*` in the data of a `vxlan`
+/// link.
 ///
-/// A context says what the meaning of an attribute depends on beside its bytes: the kind of the
-/// link, the number of lists round the attribute, or nothing.
+/// The context is what the meaning of an attribute depends on apart from its bytes: the kind of the
+/// link, the number of lists around the attribute, or nothing.
 pub trait LinkFamily: Nla + Sized {
-    /// What the meaning of an attribute depends on beside its bytes.
+    /// What the meaning of an attribute depends on apart from its bytes.
     type Context: Copy;
 
-    /// Its name, which its faults bear.
+    /// The name of the family, which its errors have.
     const FAMILY: Family;
 
-    /// The shape of a masked type, or why it is refused, or that it is unknown and kept.
+    /// How the family reads a type without flag bits: by a shape, by a cause that rejects it, or as
+    /// an opaque attribute.
     fn shape(ctx: Self::Context, kind: u16) -> Lookup;
 
-    /// Reads an attribute. An answer other than (Frame, 0, Memory) is what it means.
+    /// Reads an attribute. Any result but the error `(Frame, 0, Memory)` is what the attribute
+    /// means.
     ///
     /// # Panics
     ///
@@ -32,7 +35,7 @@ pub trait LinkFamily: Nla + Sized {
         count: &mut HeaderCount,
     ) -> Result<Self, DecodeError>;
 
-    /// Reads an attribute, and puts its value behind a list.
+    /// Reads an attribute, and pushes its value to the end of a list.
     ///
     /// # Panics
     ///
@@ -48,7 +51,7 @@ pub trait LinkFamily: Nla + Sized {
         Ok(())
     }
 
-    /// Whether `read` would succeed, or the attribute's fault. Takes no memory.
+    /// Checks whether `read` would succeed, and returns the error if not. Does not allocate.
     ///
     /// # Panics
     ///
@@ -60,7 +63,8 @@ pub trait LinkFamily: Nla + Sized {
         count: &mut HeaderCount,
     ) -> Result<(), DecodeError>;
 
-    /// Whether two attributes mean the same value. Asks that each means one, and takes no memory.
+    /// Whether two attributes are equivalent: they mean equal values. Requires that each is
+    /// accepted. Does not allocate.
     ///
     /// # Panics
     ///
@@ -73,8 +77,8 @@ pub trait LinkFamily: Nla + Sized {
         count: &mut HeaderCount,
     ) -> bool;
 
-    /// The length of the canonical payload of the value that an attribute means, where it fits, and
-    /// else `None`. Asks that it means one, and takes no memory.
+    /// Returns the length of the canonical payload of the value that an attribute means, or `None`
+    /// if it does not fit. Requires that the attribute is accepted. Does not allocate.
     ///
     /// # Panics
     ///
@@ -82,14 +86,15 @@ pub trait LinkFamily: Nla + Sized {
     /// not panic then, the result has no meaning.
     fn canonical_len(nla: &NlaBuffer<'_>, ctx: Self::Context) -> Option<usize>;
 
-    /// Writes the canonical attribute of the value that an attribute means, its header, payload and
-    /// zero padding, at the front of the buffer, leaves the bytes behind it, and answers its
-    /// length. Asks that it means one, which fits, and for a buffer of at least that length; takes
-    /// no memory.
+    /// Writes the canonical encoding of the value that an attribute means at the front of the
+    /// buffer, and returns its length: header, payload and zero padding.
+    ///
+    /// The bytes after it stay unchanged. Requires that the attribute is accepted, that the value
+    /// fits, and that the buffer has at least that length. Does not allocate.
     ///
     /// # Panics
     ///
     /// May panic where a condition of the caller that is named here does not hold. Where it does
     /// not panic then, the result has no meaning.
-    fn put_canonical(nla: &NlaBuffer<'_>, ctx: Self::Context, buffer: &mut [u8]) -> usize;
+    fn write_canonical(nla: &NlaBuffer<'_>, ctx: Self::Context, buffer: &mut [u8]) -> usize;
 }

@@ -1,6 +1,6 @@
-//! The first attribute alone of a byte slice. What follows it is not looked at.
+//! Calls on the first attribute of a byte string alone. They do not examine what follows it.
 
-use crate::layers::nla_frame::{Cause, DecodeError, Family, HeaderCount, fitting, next_piece};
+use crate::layers::nla_frame::{Cause, DecodeError, Family, HeaderCount, fitting, next_attribute};
 use crate::layers::table::family::LinkFamily;
 
 fn no_attribute() -> DecodeError {
@@ -11,8 +11,8 @@ fn no_attribute() -> DecodeError {
     }
 }
 
-/// Reads the first attribute. A slice without one, the empty slice too, is refused as (Frame, 0,
-/// Header).
+/// Reads the first attribute of a byte string. A byte string without one, the empty one too, is
+/// rejected as `(Frame, 0, Header)`.
 ///
 /// # Panics
 ///
@@ -23,14 +23,14 @@ pub fn first_read<F: LinkFamily>(
     ctx: F::Context,
     count: &mut HeaderCount,
 ) -> Result<F, DecodeError> {
-    match next_piece(bytes, count) {
+    match next_attribute(bytes, count) {
         Some(Ok((nla, _))) => F::read(&nla, ctx, count),
-        Some(Err(fault)) => Err(fault),
+        Some(Err(error)) => Err(error),
         None => Err(no_attribute()),
     }
 }
 
-/// Whether `first_read` would succeed, or the fault. Takes no memory.
+/// Checks whether `first_read` would succeed, and returns the error if not. Does not allocate.
 ///
 /// # Panics
 ///
@@ -41,15 +41,15 @@ pub fn first_check<F: LinkFamily>(
     ctx: F::Context,
     count: &mut HeaderCount,
 ) -> Result<(), DecodeError> {
-    match next_piece(bytes, count) {
+    match next_attribute(bytes, count) {
         Some(Ok((nla, _))) => F::check_value(&nla, ctx, count),
-        Some(Err(fault)) => Err(fault),
+        Some(Err(error)) => Err(error),
         None => Err(no_attribute()),
     }
 }
 
-/// Whether the first attributes of two slices mean the same value. Asks that each has one that is
-/// accepted, and takes no memory.
+/// Whether the first attributes of two byte strings are equivalent: they mean equal values.
+/// Requires that each byte string has an accepted first attribute. Does not allocate.
 ///
 /// # Panics
 ///
@@ -61,38 +61,43 @@ pub fn first_same<F: LinkFamily>(
     ctx: F::Context,
     count: &mut HeaderCount,
 ) -> bool {
-    let (p, _) = next_piece(a, count).unwrap().unwrap();
-    let (q, _) = next_piece(b, count).unwrap().unwrap();
+    let (p, _) = next_attribute(a, count).unwrap().unwrap();
+    let (q, _) = next_attribute(b, count).unwrap().unwrap();
     F::same_value(&p, &q, ctx, count)
 }
 
-/// The length of the canonical string of the value that the first attribute means, or `None` above
-/// 65531, the most bytes of a payload. Asks that there is one that is accepted, and takes no
-/// memory.
+/// Returns the length of the canonical encoding of the value that the first attribute means. It is
+/// `None` above 65531, the maximum length of a payload. Requires that there is an accepted first
+/// attribute. Does not allocate.
 ///
 /// # Panics
 ///
 /// May panic where a condition of the caller that is named here does not hold. Where it does
 /// not panic then, the result has no meaning.
 pub fn first_canonical_len<F: LinkFamily>(bytes: &[u8], ctx: F::Context) -> Option<usize> {
-    let (nla, _) = next_piece(bytes, &mut HeaderCount::new()).unwrap().unwrap();
+    let (nla, _) = next_attribute(bytes, &mut HeaderCount::new())
+        .unwrap()
+        .unwrap();
     fitting(4 + F::canonical_len(&nla, ctx)?.next_multiple_of(4))
 }
 
-/// Writes the canonical string of the value that the first attribute means at the front of the
-/// buffer, leaves the bytes behind it, and answers its length. Asks that there is one that is
-/// accepted and its canonical string has at most 65531 bytes, and for a buffer of at least as many;
-/// takes no memory.
+/// Writes the canonical encoding of the value that the first attribute means at the front of the
+/// buffer, and returns its length. The bytes after it stay unchanged.
+///
+/// Requires that there is an accepted first attribute, that the encoding has at most 65531 bytes,
+/// and that the buffer has at least as many. Does not allocate.
 ///
 /// # Panics
 ///
 /// May panic where a condition of the caller that is named here does not hold. Where it does
 /// not panic then, the result has no meaning.
-pub fn first_put_canonical<F: LinkFamily>(
+pub fn first_write_canonical<F: LinkFamily>(
     bytes: &[u8],
     ctx: F::Context,
     buffer: &mut [u8],
 ) -> usize {
-    let (nla, _) = next_piece(bytes, &mut HeaderCount::new()).unwrap().unwrap();
-    F::put_canonical(&nla, ctx, buffer)
+    let (nla, _) = next_attribute(bytes, &mut HeaderCount::new())
+        .unwrap()
+        .unwrap();
+    F::write_canonical(&nla, ctx, buffer)
 }

@@ -1,10 +1,9 @@
-//! A family of which each row has a shape of the table reads, checks and compares by that shape
-//! alone.
+//! Families in which each row has a shape of the table read, check and compare by that shape alone.
 
 use crate::layers::nla_frame::{DecodeError, NlaBuffer};
-use crate::layers::table::canonical::{row_canonical_len, row_put_canonical};
+use crate::layers::table::canonical::{row_canonical_len, row_write_canonical};
 use crate::layers::table::row_family::{FlatFamily, RowFamily};
-use crate::layers::table::rows::{row_check, row_put, row_read, row_same};
+use crate::layers::table::rows::{row_check, row_read, row_same, row_store};
 use crate::layers::table::unnested::UnnestedFamily;
 use alloc::vec::Vec;
 
@@ -20,7 +19,7 @@ impl<F: FlatFamily> UnnestedFamily for F {
         nla: &NlaBuffer<'_>,
         ctx: <F as RowFamily>::Context,
     ) -> Result<(), DecodeError> {
-        row_put::<F, Vec<F>>(items, nla, ctx)
+        row_store::<F, Vec<F>>(items, nla, ctx)
     }
 
     fn check_by_row(
@@ -38,11 +37,11 @@ impl<F: FlatFamily> UnnestedFamily for F {
         row_canonical_len::<F>(nla, ctx)
     }
 
-    fn put_canonical_by_row(
+    fn write_canonical_by_row(
         nla: &NlaBuffer<'_>,
         ctx: <F as RowFamily>::Context,
         buffer: &mut [u8],
     ) -> usize {
-        row_put_canonical::<F>(nla, ctx, buffer)
+        row_write_canonical::<F>(nla, ctx, buffer)
     }
 }

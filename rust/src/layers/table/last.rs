@@ -1,9 +1,9 @@
 //! The last attribute of each type in a list: the one that the kernel reads.
 
-use crate::layers::nla_frame::{ExactEq, HeaderCount, NlaBuffer, next_piece};
+use crate::layers::nla_frame::{ExactEq, HeaderCount, NlaBuffer, next_attribute};
 
-/// The types that have an entry of their own in the index. The largest type of a row is below.
-const INDEXED: usize = 64;
+/// How many types an index has an entry for. The types of all rows are below.
+pub const INDEXED: u16 = 64;
 
 /// An attribute of a byte string, and the offset of its header there.
 #[derive(Debug, PartialEq, Eq)]
@@ -14,59 +14,73 @@ pub struct PlacedNla<'a> {
     pub nla: NlaBuffer<'a>,
 }
 
-/// The last attribute of each type in the attributes of a byte string, up to a damaged header.
+/// The last attribute of each of `INDEXED` types in the attributes of a byte string, up to a
+/// damaged header.
 ///
-/// Types are compared without their flags. A type below 64 is found in constant time, any other in
-/// one pass over the byte string. Takes no memory.
+/// Types are compared without their flags. Each is found in constant time. Does not allocate.
 #[derive(Debug)]
 pub struct LastOfType<'a> {
     source: &'a [u8],
-    offsets: [Option<usize>; INDEXED],
+    first: u16,
+    offsets: [Option<usize>; INDEXED as usize],
 }
 
 impl<'a> LastOfType<'a> {
-    /// The index of a byte string, in one pass over it.
-    pub fn new(source: &'a [u8]) -> LastOfType<'a> {
-        let mut offsets = [None; INDEXED];
+    /// The index of a byte string for `INDEXED` types, `first` and those after it, in one pass.
+    pub fn new(source: &'a [u8], first: u16) -> LastOfType<'a> {
+        let mut offsets = [None; INDEXED as usize];
         let mut count = HeaderCount::new();
         let mut rest = source;
-        while let Some(Ok((nla, after))) = next_piece(rest, &mut count) {
-            let kind = nla.kind() as usize;
-            if kind < INDEXED {
-                offsets[kind] = Some(source.len() - rest.len());
+        while let Some(Ok((nla, after))) = next_attribute(rest, &mut count) {
+            if let Some(entry) = entry_of(first, nla.kind()) {
+                offsets[entry] = Some(source.len() - rest.len());
             }
             rest = after;
         }
-        LastOfType { source, offsets }
-    }
-
-    /// The offset of the last attribute of a type, or `None` where there is none.
-    pub fn offset(&self, kind: u16) -> Option<usize> {
-        match self.offsets.get(kind as usize) {
-            Some(offset) => *offset,
-            None => last_offset(self.source, kind),
+        LastOfType {
+            source,
+            first,
+            offsets,
         }
     }
 
-    /// The last attribute of a type, or `None` where there is none.
+    /// The offset of the last attribute of a type, or `None` where there is none, or where the type
+    /// has no entry.
+    pub fn offset(&self, kind: u16) -> Option<usize> {
+        let entry = entry_of(self.first, kind)?;
+        self.offsets[entry]
+    }
+
+    /// The last attribute of a type, or `None` where there is none, or where the type has no entry.
     pub fn find(&self, kind: u16) -> Option<PlacedNla<'a>> {
         let offset = self.offset(kind)?;
         Some(placed_at(self.source, offset))
     }
 }
 
-/// The offset of the last attribute of a type in a byte string, by one pass over it.
-fn last_offset(source: &[u8], kind: u16) -> Option<usize> {
+/// The entry of a type in an index whose first type this is, or `None` where it has none.
+fn entry_of(first: u16, kind: u16) -> Option<usize> {
+    if kind >= first && kind - first < INDEXED {
+        Some((kind - first) as usize)
+    } else {
+        None
+    }
+}
+
+/// The least number above all types of the attributes of a byte string, without their flags, up to
+/// a damaged header: 0 where there is no attribute, and at most 16,384.
+pub fn types_end(source: &[u8]) -> u16 {
+    let mut end = 0;
     let mut count = HeaderCount::new();
     let mut rest = source;
-    let mut last = None;
-    while let Some(Ok((nla, after))) = next_piece(rest, &mut count) {
-        if nla.kind() == kind {
-            last = Some(source.len() - rest.len());
+    while let Some(Ok((nla, after))) = next_attribute(rest, &mut count) {
+        let kind = nla.kind();
+        if kind >= end {
+            end = kind + 1;
         }
         rest = after;
     }
-    last
+    end
 }
 
 /// The attribute at an offset. Requires that one is there.
@@ -78,7 +92,7 @@ fn placed_at<'a>(source: &'a [u8], offset: usize) -> PlacedNla<'a> {
 }
 
 /// The bytes of an attribute in its byte string: header and payload, without padding. Requires that
-/// the attribute is there.
+/// the attribute is at its offset there.
 ///
 /// # Panics
 ///

@@ -1,20 +1,21 @@
 //! Lists of attributes of one family.
 
 use crate::compat::TryVec;
-use crate::layers::nla_frame::{DecodeError, HeaderCount, fitting, next_piece};
+use crate::layers::nla_frame::{DecodeError, HeaderCount, fitting, next_attribute};
 use crate::layers::table::family::LinkFamily;
 use alloc::vec::Vec;
 
-/// The bytes of the shortest attribute that has a payload, header and padding included.
+/// The length of the shortest attribute with a payload, header and padding included.
 const LEAST_TYPED: usize = 8;
 
-/// The most values that room is reserved for before they are read.
+/// The maximum number of values to reserve memory for before they are read.
 const MOST_RESERVED: usize = 24;
 
-/// Reads the attributes that a byte slice frames. The fault of a list is that of its first
-/// attribute in byte order that has no header or no meaning. The empty slice is the empty list, and
-/// takes no memory. Once the first attribute is read, room is taken for it and for some of the
-/// others.
+/// Reads the attributes that a byte string frames. The error of a list is that of the first
+/// attribute in byte order whose header or value is rejected.
+///
+/// The empty byte string is the empty list, and needs no memory. Once the first attribute is read,
+/// memory is reserved for it and some of the others.
 ///
 /// # Panics
 ///
@@ -25,7 +26,7 @@ pub fn list_read<F: LinkFamily>(
     ctx: F::Context,
     count: &mut HeaderCount,
 ) -> Result<Vec<F>, DecodeError> {
-    let Some(next) = next_piece(bytes, count) else {
+    let Some(next) = next_attribute(bytes, count) else {
         return Ok(Vec::new());
     };
     let (nla, after) = next?;
@@ -34,7 +35,7 @@ pub fn list_read<F: LinkFamily>(
     let mut items = Vec::try_with_room(room + 1)?;
     items.push(first);
     let mut rest = after;
-    while let Some(next) = next_piece(rest, count) {
+    while let Some(next) = next_attribute(rest, count) {
         let (nla, after) = next?;
         F::push(&mut items, &nla, ctx, count)?;
         rest = after;
@@ -42,7 +43,7 @@ pub fn list_read<F: LinkFamily>(
     Ok(items)
 }
 
-/// Whether `list_read` would succeed, or the list's fault. Takes no memory.
+/// Checks whether `list_read` would succeed, and returns the error if not. Does not allocate.
 ///
 /// # Panics
 ///
@@ -54,7 +55,7 @@ pub fn list_check<F: LinkFamily>(
     count: &mut HeaderCount,
 ) -> Result<(), DecodeError> {
     let mut rest = bytes;
-    while let Some(next) = next_piece(rest, count) {
+    while let Some(next) = next_attribute(rest, count) {
         let (nla, after) = next?;
         F::check_value(&nla, ctx, count)?;
         rest = after;
@@ -62,7 +63,8 @@ pub fn list_check<F: LinkFamily>(
     Ok(())
 }
 
-/// Whether two lists mean the same values. Asks that each is accepted, and takes no memory.
+/// Whether two lists are equivalent: they mean equal values. Requires that each is accepted. Does
+/// not allocate.
 ///
 /// # Panics
 ///
@@ -77,12 +79,12 @@ pub fn list_same<F: LinkFamily>(
     pairs_same::<F>(a, b, ctx, count)
 }
 
-/// The same, attribute by attribute.
+/// Compares two lists attribute by attribute.
 fn pairs_same<F: LinkFamily>(a: &[u8], b: &[u8], ctx: F::Context, count: &mut HeaderCount) -> bool {
     let mut x = a;
     let mut y = b;
-    while let Some(next) = next_piece(x, count) {
-        let Some(other) = next_piece(y, count) else {
+    while let Some(next) = next_attribute(x, count) {
+        let Some(other) = next_attribute(y, count) else {
             return false;
         };
         let (p, after_p) = next.unwrap();
@@ -93,12 +95,13 @@ fn pairs_same<F: LinkFamily>(a: &[u8], b: &[u8], ctx: F::Context, count: &mut He
         x = after_p;
         y = after_q;
     }
-    next_piece(y, count).is_none()
+    next_attribute(y, count).is_none()
 }
 
-/// The length of the canonical string of the list that a slice means, or `None` above 65531, the
-/// most bytes of a payload. Each attribute is measured once. Asks that the list is accepted, and
-/// takes no memory.
+/// Returns the length of the canonical encoding of the list that a byte string means. It is `None`
+/// above 65531, the maximum length of a payload.
+///
+/// Each attribute is measured once. Requires that the list is accepted. Does not allocate.
 ///
 /// # Panics
 ///
@@ -108,7 +111,7 @@ pub fn list_canonical_len<F: LinkFamily>(bytes: &[u8], ctx: F::Context) -> Optio
     let mut count = HeaderCount::new();
     let mut rest = bytes;
     let mut total: usize = 0;
-    while let Some(next) = next_piece(rest, &mut count) {
+    while let Some(next) = next_attribute(rest, &mut count) {
         let (nla, after) = next.unwrap();
         let len = F::canonical_len(&nla, ctx)?;
         total = fitting(total + 4 + len.next_multiple_of(4))?;
@@ -117,15 +120,17 @@ pub fn list_canonical_len<F: LinkFamily>(bytes: &[u8], ctx: F::Context) -> Optio
     Some(total)
 }
 
-/// Writes the canonical string of the list that a slice means at the front of the buffer, leaves
-/// the bytes behind it, and answers its length. Asks that the list is accepted and its canonical
-/// string has at most 65531 bytes, and for a buffer of at least as many; takes no memory.
+/// Writes the canonical encoding of the list that a byte string means at the front of the buffer,
+/// and returns its length. The bytes after it stay unchanged.
+///
+/// Requires that the list is accepted, that its encoding has at most 65531 bytes, and that the
+/// buffer has at least as many. Does not allocate.
 ///
 /// # Panics
 ///
 /// May panic where a condition of the caller that is named here does not hold. Where it does
 /// not panic then, the result has no meaning.
-pub fn list_put_canonical<F: LinkFamily>(
+pub fn list_write_canonical<F: LinkFamily>(
     bytes: &[u8],
     ctx: F::Context,
     buffer: &mut [u8],
@@ -133,9 +138,9 @@ pub fn list_put_canonical<F: LinkFamily>(
     let mut count = HeaderCount::new();
     let mut rest = bytes;
     let mut place: usize = 0;
-    while let Some(next) = next_piece(rest, &mut count) {
+    while let Some(next) = next_attribute(rest, &mut count) {
         let (nla, after) = next.unwrap();
-        place += F::put_canonical(&nla, ctx, &mut buffer[place..]);
+        place += F::write_canonical(&nla, ctx, &mut buffer[place..]);
         rest = after;
     }
     place

@@ -1,16 +1,16 @@
-//! What a family says of a masked type.
+//! How a family reads a type without flag bits.
 
 use crate::layers::nla_frame::{Cause, ExactEq};
 use crate::layers::shapes::Shape;
 
-/// The row of a masked type.
+/// The row of a type without flag bits.
 #[derive(Clone, Copy, Debug, PartialEq, Eq)]
 pub enum Lookup {
-    /// Its payload has this shape.
+    /// The payload has this shape.
     Is(Shape),
-    /// It is refused with this cause.
+    /// The type is rejected with this cause.
     Refused(Cause),
-    /// It has no row: the attribute is kept as it came.
+    /// The type has no row: the attribute is opaque and kept verbatim.
     Unknown,
 }
 

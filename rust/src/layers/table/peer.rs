@@ -1,29 +1,31 @@
-//! Peers of a type that the layer above hands in.
+//! Peers, of a type that the layer above supplies.
 
-use crate::layers::nla_frame::{Bytes, ExactEq, fitting, put_bytes};
+use crate::layers::nla_frame::{Bytes, ExactEq, fitting, write_bytes};
 
 /// Why a peer was not read.
 #[derive(Clone, Copy, Debug, PartialEq, Eq)]
 pub enum PeerFault {
-    /// The payload has no meaning.
+    /// The payload is rejected.
     Refused,
-    /// An allocation was refused.
+    /// An allocation failed.
     Memory,
 }
 
 impl ExactEq for PeerFault {}
 
-/// The other end of a link that comes in pairs: what stands in `VETH_INFO_PEER`
+/// The peer of a link that comes in pairs: the contents of `VETH_INFO_PEER`
 /// (include/uapi/linux/veth.h), `VXCAN_INFO_PEER` (include/uapi/linux/can/vxcan.h) and
-/// `IFLA_NETKIT_PEER_INFO`.
+/// `IFLA_NETKIT_PEER_INFO` (include/uapi/linux/if_link.h).
 pub trait LinkPeer: Sized + Eq + ExactEq {
-    /// Reads a payload: the peer that it means, `Refused` only where it means none, or `Memory`.
+    /// Reads a payload. Returns the peer that it means, `Refused` only if it means none, or
+    /// `Memory`.
     fn read(payload: &[u8]) -> Result<Self, PeerFault>;
 
-    /// Whether the payload means a peer. Takes no memory.
+    /// Whether the payload is accepted: it means a peer. Does not allocate.
     fn check(payload: &[u8]) -> bool;
 
-    /// Whether two payloads mean the same peer. Asks that each means one, and takes no memory.
+    /// Whether two payloads are equivalent: they mean equal peers. Requires that each is accepted.
+    /// Does not allocate.
     ///
     /// # Panics
     ///
@@ -31,11 +33,12 @@ pub trait LinkPeer: Sized + Eq + ExactEq {
     /// not panic then, the result has no meaning.
     fn same(a: &[u8], b: &[u8]) -> bool;
 
-    /// The length of the canonical payload where it is at most 65531, and else `None`. Takes no
-    /// memory.
+    /// Returns the length of the canonical payload if it is at most 65531, and `None` otherwise.
+    /// Does not allocate.
     fn fit_len(&self) -> Option<usize>;
 
-    /// Writes the canonical payload. Asks for a buffer of exactly its length, and takes no memory.
+    /// Writes the canonical payload. Requires that the buffer has exactly its length. Does not
+    /// allocate.
     ///
     /// # Panics
     ///
@@ -43,8 +46,8 @@ pub trait LinkPeer: Sized + Eq + ExactEq {
     /// not panic then, the result has no meaning.
     fn emit(&self, buffer: &mut [u8]);
 
-    /// The length of the canonical payload of the peer that a payload means, where it is at most
-    /// 65531, and else `None`. Asks that it means one, and takes no memory.
+    /// Returns the length of the canonical payload of the peer that a payload means if it is at
+    /// most 65531, and `None` otherwise. Requires that the payload is accepted. Does not allocate.
     ///
     /// # Panics
     ///
@@ -53,18 +56,20 @@ pub trait LinkPeer: Sized + Eq + ExactEq {
     fn canonical_len(payload: &[u8]) -> Option<usize>;
 
     /// Writes the canonical payload of the peer that a payload means at the front of the buffer,
-    /// leaves the bytes behind it, and answers its length. Asks that it means one, of which the
-    /// canonical payload has at most 65531 bytes, and for a buffer of at least as many; takes no
-    /// memory.
+    /// and returns its length. The bytes after it stay unchanged.
+    ///
+    /// Requires that the payload is accepted, that the canonical payload has at most 65531 bytes,
+    /// and that the buffer has at least as many. Does not allocate.
     ///
     /// # Panics
     ///
     /// May panic where a condition of the caller that is named here does not hold. Where it does
     /// not panic then, the result has no meaning.
-    fn put_canonical(payload: &[u8], buffer: &mut [u8]) -> usize;
+    fn write_canonical(payload: &[u8], buffer: &mut [u8]) -> usize;
 }
 
-/// Any payload is a peer: its bytes. Every peer is well formed, and the cause `Peer` never comes.
+/// Any payload is a peer: its bytes. Every peer is well formed, and the cause `Peer` does not
+/// occur.
 impl LinkPeer for Bytes {
     fn read(payload: &[u8]) -> Result<Bytes, PeerFault> {
         match Bytes::copy_of(payload) {
@@ -93,7 +98,7 @@ impl LinkPeer for Bytes {
         fitting(payload.len())
     }
 
-    fn put_canonical(payload: &[u8], buffer: &mut [u8]) -> usize {
-        put_bytes(payload, buffer)
+    fn write_canonical(payload: &[u8], buffer: &mut [u8]) -> usize {
+        write_bytes(payload, buffer)
     }
 }

@@ -1,41 +1,44 @@
-//! Families that are given by rows.
+//! Families defined by rows.
 
 use crate::compat::AllocError;
 use crate::layers::nla_frame::{Family, Nla};
-use crate::layers::table::found::Found;
+use crate::layers::table::decoded::Decoded;
+use crate::layers::table::encodable::Encodable;
 use crate::layers::table::lookup::Lookup;
-use crate::layers::table::part::Part;
-use crate::layers::table::place::Place;
+use crate::layers::table::slot::Slot;
 
-/// A family whose types are rows: a number, a shape, and the variant that holds its datum.
+/// A family defined by rows: for each type a shape, and the variant for its datum.
 ///
-/// A family writes its rows, and these small functions between data and variants. Reading,
-/// checking, comparing, measuring and emitting follow.
+/// A family defines its rows, and these small functions between data and variants. Reading,
+/// checking, comparing, measuring and writing follow from them.
 pub trait RowFamily: Sized {
+    /// What the meaning of an attribute depends on apart from its bytes.
     type Context: Copy;
 
+    /// The name of the family, which its errors have.
     const FAMILY: Family;
 
-    /// What the row of a masked type says.
+    /// How the row of a type without flag bits is read.
     fn shape(ctx: Self::Context, kind: u16) -> Lookup;
 
-    /// Puts the value of what was read of an attribute in a place. Asks that a datum belongs to the
-    /// shape of its type's row; only a text or bytes, which are copied, and the place may want
-    /// memory. On an error the place holds what it held.
+    /// Stores the value of an attribute's decoded content. An error leaves the slot unchanged.
+    ///
+    /// Requires that a datum belongs to the shape of its type's row. Allocates only for text and
+    /// bytes, which are copied, and if the slot must grow.
     ///
     /// # Panics
     ///
     /// May panic where a condition of the caller that is named here does not hold. Where it does
     /// not panic then, the result has no meaning.
-    fn put_found<P: Place<Self>>(
-        place: &mut P,
+    fn store_decoded<P: Slot<Self>>(
+        slot: &mut P,
         ctx: Self::Context,
-        found: Found<'_>,
+        decoded: Decoded<'_>,
     ) -> Result<(), AllocError>;
 
-    /// The type number, shape and datum of a value, or the attribute that it keeps.
-    fn to_part(&self) -> Part<'_>;
+    /// The type, shape and datum of a value, or its opaque attribute.
+    fn to_encodable(&self) -> Encodable<'_>;
 }
 
-/// A family of which each row has a shape of the table. It is a `LinkFamily` by its rows.
+/// A family in which each row has a shape of the table. It is a `LinkFamily` by its rows.
 pub trait FlatFamily: RowFamily + Nla {}

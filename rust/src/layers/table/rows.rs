@@ -1,17 +1,17 @@
-//! What each family that is given by rows does.
+//! The calls of families defined by rows.
 
 use crate::layers::nla_frame::{Cause, DecodeError, DefaultNla, Family, Nla, NlaBuffer, Parseable};
 use crate::layers::shapes::{
     Shape, datum_len, read_datum, shape_check, shape_same, table_shape, write_datum,
 };
-use crate::layers::table::found::Found;
+use crate::layers::table::decoded::Decoded;
+use crate::layers::table::encodable::Encodable;
 use crate::layers::table::lookup::Lookup;
-use crate::layers::table::part::Part;
-use crate::layers::table::place::Place;
 use crate::layers::table::row_family::RowFamily;
+use crate::layers::table::slot::Slot;
 
 #[inline(always)]
-fn fault(family: Family, kind: u16, cause: Cause) -> DecodeError {
+fn error(family: Family, kind: u16, cause: Cause) -> DecodeError {
     DecodeError {
         family,
         kind,
@@ -19,7 +19,7 @@ fn fault(family: Family, kind: u16, cause: Cause) -> DecodeError {
     }
 }
 
-/// What the table of all families says of a masked type: its shape, or that it has none.
+/// How the table of all families reads a type without flag bits: by its shape, or as opaque.
 #[inline(always)]
 pub fn table_lookup(family: Family, kind: u16) -> Lookup {
     match table_shape(family, kind) {
@@ -28,49 +28,50 @@ pub fn table_lookup(family: Family, kind: u16) -> Lookup {
     }
 }
 
-/// Reads an attribute by its row, and puts its value in a place. On an error the place holds what
-/// it held. Asks for one whose row has a shape of the table, or none.
+/// Reads an attribute by its row, and stores its value. An error leaves the slot unchanged.
+/// Requires that the family does not read the payload itself.
 ///
 /// # Panics
 ///
 /// May panic where a condition of the caller that is named here does not hold. Where it does
 /// not panic then, the result has no meaning.
 #[inline(always)]
-pub fn row_put<F: RowFamily, P: Place<F>>(
-    place: &mut P,
+pub fn row_store<F: RowFamily, P: Slot<F>>(
+    slot: &mut P,
     nla: &NlaBuffer<'_>,
     ctx: F::Context,
 ) -> Result<(), DecodeError> {
     let kind = nla.kind();
     match F::shape(ctx, kind) {
         Lookup::Is(shape) => match read_datum(shape, nla.value()) {
-            Ok(datum) => Ok(F::put_found(place, ctx, Found::Typed(kind, datum))?),
-            Err(cause) => Err(fault(F::FAMILY, kind, cause)),
+            Ok(datum) => Ok(F::store_decoded(slot, ctx, Decoded::Typed(kind, datum))?),
+            Err(cause) => Err(error(F::FAMILY, kind, cause)),
         },
-        Lookup::Refused(cause) => Err(fault(F::FAMILY, kind, cause)),
+        Lookup::Refused(cause) => Err(error(F::FAMILY, kind, cause)),
         Lookup::Unknown => {
             let kept = DefaultNla::parse(nla)?;
-            Ok(F::put_found(place, ctx, Found::Kept(kept))?)
+            Ok(F::store_decoded(slot, ctx, Decoded::Kept(kept))?)
         }
     }
 }
 
-/// Reads an attribute by its row. Asks the same.
+/// Reads an attribute by its row. Requires that the family does not read the payload itself.
 ///
 /// # Panics
 ///
 /// May panic where a condition of the caller that is named here does not hold. Where it does
 /// not panic then, the result has no meaning.
 pub fn row_read<F: RowFamily>(nla: &NlaBuffer<'_>, ctx: F::Context) -> Result<F, DecodeError> {
-    let mut place = None;
-    row_put::<F, Option<F>>(&mut place, nla, ctx)?;
-    match place {
+    let mut slot = None;
+    row_store::<F, Option<F>>(&mut slot, nla, ctx)?;
+    match slot {
         Some(value) => Ok(value),
         None => unreachable!(),
     }
 }
 
-/// Whether `row_read` would succeed, or the attribute's fault. Takes no memory. Asks the same.
+/// Checks whether `row_read` would succeed, and returns the error if not. Does not allocate.
+/// Requires that the family does not read the payload itself.
 ///
 /// # Panics
 ///
@@ -82,15 +83,17 @@ pub fn row_check<F: RowFamily>(nla: &NlaBuffer<'_>, ctx: F::Context) -> Result<(
     match F::shape(ctx, kind) {
         Lookup::Is(shape) => match shape_check(shape, nla.value()) {
             Ok(()) => Ok(()),
-            Err(cause) => Err(fault(F::FAMILY, kind, cause)),
+            Err(cause) => Err(error(F::FAMILY, kind, cause)),
         },
-        Lookup::Refused(cause) => Err(fault(F::FAMILY, kind, cause)),
+        Lookup::Refused(cause) => Err(error(F::FAMILY, kind, cause)),
         Lookup::Unknown => Ok(()),
     }
 }
 
-/// Whether two attributes mean the same value. Asks the same of the first, and that both are
-/// accepted. Takes no memory.
+/// Whether two attributes are equivalent: they mean equal values. Does not allocate.
+///
+/// Requires that both are accepted, and that the family does not read the payload of the first
+/// itself.
 ///
 /// # Panics
 ///
@@ -115,7 +118,7 @@ fn kept_same(a: &NlaBuffer<'_>, b: &NlaBuffer<'_>) -> bool {
     b.raw_kind() == a.raw_kind() && a.value() == b.value()
 }
 
-/// The type number of a value. Asks for one whose payload the family does not write itself.
+/// The type of a value. Requires that the family does not write the payload itself.
 ///
 /// # Panics
 ///
@@ -123,14 +126,15 @@ fn kept_same(a: &NlaBuffer<'_>, b: &NlaBuffer<'_>) -> bool {
 /// not panic then, the result has no meaning.
 #[inline(always)]
 pub fn row_kind<F: RowFamily>(value: &F) -> u16 {
-    match value.to_part() {
-        Part::Typed(kind, _, _) => kind,
-        Part::Kept(nla) => nla.kind(),
-        Part::Custom => unreachable!(),
+    match value.to_encodable() {
+        Encodable::Typed(kind, _, _) => kind,
+        Encodable::Kept(nla) => nla.kind(),
+        Encodable::Custom => unreachable!(),
     }
 }
 
-/// The length of a value's payload where it fits, and else `None`. Asks the same.
+/// Returns the length of a value's payload if the value fits, and `None` otherwise. Requires that
+/// the family does not write the payload itself.
 ///
 /// # Panics
 ///
@@ -138,14 +142,15 @@ pub fn row_kind<F: RowFamily>(value: &F) -> u16 {
 /// not panic then, the result has no meaning.
 #[inline(always)]
 pub fn row_fit_len<F: RowFamily>(value: &F) -> Option<usize> {
-    match value.to_part() {
-        Part::Typed(_, shape, datum) => datum_len(shape, &datum),
-        Part::Kept(nla) => nla.fit_len(),
-        Part::Custom => unreachable!(),
+    match value.to_encodable() {
+        Encodable::Typed(_, shape, datum) => datum_len(shape, &datum),
+        Encodable::Kept(nla) => nla.fit_len(),
+        Encodable::Custom => unreachable!(),
     }
 }
 
-/// The length of a value's payload. Asks the same, and that the value fits.
+/// The length of a value's payload. Requires that the value fits, and that the family does not
+/// write the payload itself.
 ///
 /// # Panics
 ///
@@ -159,7 +164,8 @@ pub fn row_value_len<F: RowFamily>(value: &F) -> usize {
     }
 }
 
-/// Writes a value's payload. Asks the same, and for a buffer of exactly its length.
+/// Writes a value's payload. Requires that the value fits, that the family does not write the
+/// payload itself, and that the buffer has exactly its length.
 ///
 /// # Panics
 ///
@@ -167,15 +173,18 @@ pub fn row_value_len<F: RowFamily>(value: &F) -> usize {
 /// not panic then, the result has no meaning.
 #[inline(always)]
 pub fn row_emit_value<F: RowFamily>(value: &F, buffer: &mut [u8]) {
-    match value.to_part() {
-        Part::Typed(_, shape, datum) => write_datum(shape, &datum, buffer),
-        Part::Kept(nla) => nla.emit_value(buffer),
-        Part::Custom => unreachable!(),
+    match value.to_encodable() {
+        Encodable::Typed(_, shape, datum) => write_datum(shape, &datum, buffer),
+        Encodable::Kept(nla) => nla.emit_value(buffer),
+        Encodable::Custom => unreachable!(),
     }
 }
 
-/// Writes a value's payload at the front of the buffer, leaves the bytes behind it, and answers how
-/// many it wrote. Asks the same, and for a buffer of at least the payload's length.
+/// Writes a value's payload at the front of the buffer, and returns its length. The bytes after it
+/// stay unchanged.
+///
+/// Requires that the value fits, that the family does not write the payload itself, and that the
+/// buffer has at least its length.
 ///
 /// # Panics
 ///
@@ -183,15 +192,15 @@ pub fn row_emit_value<F: RowFamily>(value: &F, buffer: &mut [u8]) {
 /// not panic then, the result has no meaning.
 #[inline(always)]
 pub fn row_emit_payload<F: RowFamily>(value: &F, buffer: &mut [u8]) -> usize {
-    match value.to_part() {
-        Part::Typed(_, shape, datum) => match datum_len(shape, &datum) {
+    match value.to_encodable() {
+        Encodable::Typed(_, shape, datum) => match datum_len(shape, &datum) {
             Some(len) => {
                 write_datum(shape, &datum, &mut buffer[..len]);
                 len
             }
             None => unreachable!(),
         },
-        Part::Kept(nla) => nla.emit_payload(buffer),
-        Part::Custom => unreachable!(),
+        Encodable::Kept(nla) => nla.emit_payload(buffer),
+        Encodable::Custom => unreachable!(),
     }
 }

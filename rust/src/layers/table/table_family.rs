@@ -1,37 +1,38 @@
-//! Families of plain rows: each row has a shape of the table of all families, and no context
-//! changes it.
+//! Families of plain rows: each row has a shape of the table of all families, in every context.
 
 use crate::compat::AllocError;
 use crate::layers::nla_frame::{Family, Nla};
-use crate::layers::table::found::Found;
+use crate::layers::table::decoded::Decoded;
+use crate::layers::table::encodable::Encodable;
 use crate::layers::table::lookup::Lookup;
-use crate::layers::table::part::Part;
-use crate::layers::table::place::Place;
 use crate::layers::table::row_family::{FlatFamily, RowFamily};
 use crate::layers::table::rows::table_lookup;
+use crate::layers::table::slot::Slot;
 
-/// A family that is given by one table of plain rows. It is a `LinkFamily` by that table.
+/// A family defined by one table of plain rows. It is a `LinkFamily` by that table.
 ///
-/// A family writes its name, its table, and two functions between data and variants, which
-/// `put_by_rows` and `part_by_rows` make of one list of its rows.
+/// A family defines its name, its table, and two functions between data and variants.
+/// `store_by_rows` and `encodable_by_rows` generate both from one list of its rows.
 pub trait TableFamily: Sized {
+    /// The name of the family, which its errors have.
     const FAMILY: Family;
 
-    /// Puts the value of what was read of an attribute in a place. Asks that a datum belongs to the
-    /// shape of its type's row; only a text or bytes, which are copied, and the place may want
-    /// memory. On an error the place holds what it held.
+    /// Stores the value of an attribute's decoded content. An error leaves the slot unchanged.
+    ///
+    /// Requires that a datum belongs to the shape of its type's row. Allocates only for text and
+    /// bytes, which are copied, and if the slot must grow.
     ///
     /// # Panics
     ///
     /// May panic where a condition of the caller that is named here does not hold. Where it does
     /// not panic then, the result has no meaning.
-    fn put_found<P: Place<Self>>(place: &mut P, found: Found<'_>) -> Result<(), AllocError>;
+    fn store_decoded<P: Slot<Self>>(slot: &mut P, decoded: Decoded<'_>) -> Result<(), AllocError>;
 
-    /// The type number, shape and datum of a value, or the attribute that it keeps.
-    fn to_part(&self) -> Part<'_>;
+    /// The type, shape and datum of a value, or its opaque attribute.
+    fn to_encodable(&self) -> Encodable<'_>;
 }
 
-/// What a family of plain rows emits is what its table says.
+/// A family of plain rows that writes its attributes as its table defines them.
 pub trait WrittenByTable: TableFamily + Nla {}
 
 impl<F: TableFamily> RowFamily for F {
@@ -44,13 +45,17 @@ impl<F: TableFamily> RowFamily for F {
     }
 
     #[inline(always)]
-    fn put_found<P: Place<F>>(place: &mut P, _ctx: (), found: Found<'_>) -> Result<(), AllocError> {
-        <F as TableFamily>::put_found(place, found)
+    fn store_decoded<P: Slot<F>>(
+        slot: &mut P,
+        _ctx: (),
+        decoded: Decoded<'_>,
+    ) -> Result<(), AllocError> {
+        <F as TableFamily>::store_decoded(slot, decoded)
     }
 
     #[inline(always)]
-    fn to_part(&self) -> Part<'_> {
-        <F as TableFamily>::to_part(self)
+    fn to_encodable(&self) -> Encodable<'_> {
+        <F as TableFamily>::to_encodable(self)
     }
 }
 

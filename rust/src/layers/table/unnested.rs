@@ -1,4 +1,4 @@
-//! A family by rows of which no attribute holds others is a `LinkFamily`.
+//! A family defined by rows without nested attributes is a `LinkFamily`.
 
 use crate::compat::TryVec;
 use crate::layers::nla_frame::{DecodeError, Family, HeaderCount, Nla, NlaBuffer};
@@ -7,9 +7,8 @@ use crate::layers::table::lookup::Lookup;
 use crate::layers::table::row_family::RowFamily;
 use alloc::vec::Vec;
 
-/// A family by rows of which no attribute holds others, so that none is looked at inside one. It is
-/// a `LinkFamily` by its rows, and by these calls, which read, check and compare an attribute by
-/// its row.
+/// A family defined by rows without nested attributes, so that no header inside an attribute is
+/// examined. It is a `LinkFamily` by its rows, and by these calls, which use an attribute's row.
 pub trait UnnestedFamily: RowFamily + Nla {
     /// Reads an attribute by its row.
     fn read_by_row(
@@ -17,8 +16,8 @@ pub trait UnnestedFamily: RowFamily + Nla {
         ctx: <Self as RowFamily>::Context,
     ) -> Result<Self, DecodeError>;
 
-    /// Reads an attribute by its row, and puts its value behind a list. On an error the list is
-    /// what it was.
+    /// Reads an attribute by its row, and pushes its value to the end of a list. An error leaves
+    /// the list unchanged.
     fn push_by_row(
         items: &mut Vec<Self>,
         nla: &NlaBuffer<'_>,
@@ -28,14 +27,14 @@ pub trait UnnestedFamily: RowFamily + Nla {
         Ok(())
     }
 
-    /// Whether `read_by_row` would succeed, or the attribute's fault. Takes no memory.
+    /// Checks whether `read_by_row` would succeed, and returns the error if not. Does not allocate.
     fn check_by_row(
         nla: &NlaBuffer<'_>,
         ctx: <Self as RowFamily>::Context,
     ) -> Result<(), DecodeError>;
 
-    /// Whether two attributes mean the same value. Asks that both are accepted, and takes no
-    /// memory.
+    /// Whether two attributes are equivalent: they mean equal values. Requires that both are
+    /// accepted. Does not allocate.
     ///
     /// # Panics
     ///
@@ -44,8 +43,8 @@ pub trait UnnestedFamily: RowFamily + Nla {
     fn same_by_row(a: &NlaBuffer<'_>, b: &NlaBuffer<'_>, ctx: <Self as RowFamily>::Context)
     -> bool;
 
-    /// The length of the canonical payload of the value that an attribute means, where it fits, and
-    /// else `None`. Asks that it means one, and takes no memory.
+    /// Returns the length of the canonical payload of the value that an attribute means, or `None`
+    /// if it does not fit. Requires that the attribute is accepted. Does not allocate.
     ///
     /// # Panics
     ///
@@ -56,15 +55,17 @@ pub trait UnnestedFamily: RowFamily + Nla {
         ctx: <Self as RowFamily>::Context,
     ) -> Option<usize>;
 
-    /// Writes the canonical attribute of the value that an attribute means at the front of the
-    /// buffer, leaves the bytes behind it, and answers its length. Asks that it means one, which
-    /// fits, and for a buffer of at least that length; takes no memory.
+    /// Writes the canonical encoding of the value that an attribute means at the front of the
+    /// buffer, and returns its length. The bytes after it stay unchanged.
+    ///
+    /// Requires that the attribute is accepted, that the value fits, and that the buffer has at
+    /// least that length. Does not allocate.
     ///
     /// # Panics
     ///
     /// May panic where a condition of the caller that is named here does not hold. Where it does
     /// not panic then, the result has no meaning.
-    fn put_canonical_by_row(
+    fn write_canonical_by_row(
         nla: &NlaBuffer<'_>,
         ctx: <Self as RowFamily>::Context,
         buffer: &mut [u8],
@@ -120,11 +121,11 @@ impl<F: UnnestedFamily> LinkFamily for F {
         F::canonical_len_by_row(nla, ctx)
     }
 
-    fn put_canonical(
+    fn write_canonical(
         nla: &NlaBuffer<'_>,
         ctx: <F as RowFamily>::Context,
         buffer: &mut [u8],
     ) -> usize {
-        F::put_canonical_by_row(nla, ctx, buffer)
+        F::write_canonical_by_row(nla, ctx, buffer)
     }
 }

@@ -6,32 +6,32 @@ use crate::layers::nla_frame::{
 };
 use crate::layers::numbers::AmtMode;
 use crate::layers::table::{
-    Found, Part, Place, TableFamily, WrittenByTable, part_by_rows, put_by_rows, row_emit_payload,
-    row_emit_value, row_fit_len, row_kind, row_read, row_value_len,
+    Decoded, Encodable, Slot, TableFamily, WrittenByTable, encodable_by_rows, row_emit_payload,
+    row_emit_value, row_fit_len, row_kind, row_read, row_value_len, store_by_rows,
 };
 use core::net::IpAddr;
 
-/// An attribute of an AMT tunnel: of a link of the kind `amt` (include/uapi/linux/amt.h).
+/// An attribute in the data of an `amt` link, an Automatic Multicast Tunneling interface
+/// (include/uapi/linux/amt.h).
 #[derive(Debug, PartialEq, Eq, Clone)]
 pub enum InfoAmt {
-    /// The role of this end (`IFLA_AMT_MODE`), native byte order.
+    /// Mode, gateway or relay (`IFLA_AMT_MODE`), little-endian.
     Mode(AmtMode),
-    /// The UDP port of the relay (`IFLA_AMT_RELAY_PORT`), network byte order.
+    /// UDP port of the relay (`IFLA_AMT_RELAY_PORT`), big-endian.
     RelayPort(u16),
-    /// The UDP port of the gateway (`IFLA_AMT_GATEWAY_PORT`), network byte order.
+    /// UDP port of the gateway (`IFLA_AMT_GATEWAY_PORT`), big-endian.
     GatewayPort(u16),
-    /// The index of the underlying interface (`IFLA_AMT_LINK`), native byte order.
+    /// Interface index of the underlying device (`IFLA_AMT_LINK`), little-endian.
     Link(u32),
-    /// The address of this end (`IFLA_AMT_LOCAL_IP`), network byte order.
+    /// Local address (`IFLA_AMT_LOCAL_IP`), network byte order.
     LocalIp(IpAddr),
-    /// The address of the relay (`IFLA_AMT_REMOTE_IP`), network byte order.
+    /// Address of the relay (`IFLA_AMT_REMOTE_IP`), network byte order.
     RemoteIp(IpAddr),
-    /// The address that a gateway looks for its relay by (`IFLA_AMT_DISCOVERY_IP`), network byte
-    /// order.
+    /// Relay discovery address of a gateway (`IFLA_AMT_DISCOVERY_IP`), network byte order.
     DiscoveryIp(IpAddr),
-    /// The most tunnels that a relay has (`IFLA_AMT_MAX_TUNNELS`), native byte order.
+    /// Maximum number of tunnels of a relay (`IFLA_AMT_MAX_TUNNELS`), little-endian.
     MaxTunnels(u32),
-    /// An attribute of another type, kept as it came.
+    /// An opaque attribute, of a type that has no variant here, kept verbatim.
     Other(DefaultNla),
 }
 
@@ -54,13 +54,16 @@ impl TableFamily for InfoAmt {
     const FAMILY: Family = Family::Amt;
 
     #[inline(always)]
-    fn put_found<P: Place<InfoAmt>>(place: &mut P, found: Found<'_>) -> Result<(), AllocError> {
-        rows!(put_by_rows(place, found))
+    fn store_decoded<P: Slot<InfoAmt>>(
+        slot: &mut P,
+        decoded: Decoded<'_>,
+    ) -> Result<(), AllocError> {
+        rows!(store_by_rows(slot, decoded))
     }
 
     #[inline(always)]
-    fn to_part(&self) -> Part<'_> {
-        rows!(part_by_rows self)
+    fn to_encodable(&self) -> Encodable<'_> {
+        rows!(encodable_by_rows self)
     }
 }
 
@@ -88,7 +91,7 @@ impl Nla for InfoAmt {
 
 impl WrittenByTable for InfoAmt {}
 
-/// Reads the attribute. A payload of another length than its row's is (Amt, type, Length).
+/// Reads the attribute. A payload of invalid length is rejected as `(Amt, type, Length)`.
 impl<'a> Parseable<NlaBuffer<'a>> for InfoAmt {
     fn parse(buffer: &NlaBuffer<'a>) -> Result<InfoAmt, DecodeError> {
         row_read(buffer, ())

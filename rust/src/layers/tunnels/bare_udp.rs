@@ -6,24 +6,23 @@ use crate::layers::nla_frame::{
 };
 use crate::layers::numbers::EthernetProtocol;
 use crate::layers::table::{
-    Found, Part, Place, TableFamily, WrittenByTable, part_by_rows, put_by_rows, row_emit_payload,
-    row_emit_value, row_fit_len, row_kind, row_read, row_value_len,
+    Decoded, Encodable, Slot, TableFamily, WrittenByTable, encodable_by_rows, row_emit_payload,
+    row_emit_value, row_fit_len, row_kind, row_read, row_value_len, store_by_rows,
 };
 
-/// An attribute of a bare UDP tunnel: of a link of the kind `bareudp`
-/// (include/uapi/linux/if_link.h).
+/// An attribute in the data of a `bareudp` link, a bare UDP tunnel (include/uapi/linux/if_link.h).
 #[derive(Debug, PartialEq, Eq, Clone)]
 pub enum InfoBareUdp {
-    /// The UDP destination port (`IFLA_BAREUDP_PORT`), network byte order.
+    /// UDP destination port (`IFLA_BAREUDP_PORT`), big-endian.
     Port(u16),
-    /// The protocol inside the tunnel (`IFLA_BAREUDP_ETHERTYPE`), network byte order.
+    /// EtherType of the tunneled packets (`IFLA_BAREUDP_ETHERTYPE`), big-endian.
     Ethertype(EthernetProtocol),
-    /// The lowest UDP source port (`IFLA_BAREUDP_SRCPORT_MIN`), native byte order.
+    /// Lowest UDP source port (`IFLA_BAREUDP_SRCPORT_MIN`), little-endian.
     SrcPortMin(u16),
-    /// Protocols beside the one of `Ethertype` are tunnelled too (`IFLA_BAREUDP_MULTIPROTO_MODE`),
-    /// a presence flag.
+    /// Multiprotocol mode: protocols related to `Ethertype` are tunneled too
+    /// (`IFLA_BAREUDP_MULTIPROTO_MODE`), a presence flag.
     MultiprotoMode,
-    /// An attribute of another type, kept as it came.
+    /// An opaque attribute, of a type that has no variant here, kept verbatim.
     Other(DefaultNla),
 }
 
@@ -42,13 +41,16 @@ impl TableFamily for InfoBareUdp {
     const FAMILY: Family = Family::BareUdp;
 
     #[inline(always)]
-    fn put_found<P: Place<InfoBareUdp>>(place: &mut P, found: Found<'_>) -> Result<(), AllocError> {
-        rows!(put_by_rows(place, found))
+    fn store_decoded<P: Slot<InfoBareUdp>>(
+        slot: &mut P,
+        decoded: Decoded<'_>,
+    ) -> Result<(), AllocError> {
+        rows!(store_by_rows(slot, decoded))
     }
 
     #[inline(always)]
-    fn to_part(&self) -> Part<'_> {
-        rows!(part_by_rows self)
+    fn to_encodable(&self) -> Encodable<'_> {
+        rows!(encodable_by_rows self)
     }
 }
 
@@ -76,7 +78,7 @@ impl Nla for InfoBareUdp {
 
 impl WrittenByTable for InfoBareUdp {}
 
-/// Reads the attribute. A payload of another length than its row's is (BareUdp, type, Length).
+/// Reads the attribute. A payload of invalid length is rejected as `(BareUdp, type, Length)`.
 impl<'a> Parseable<NlaBuffer<'a>> for InfoBareUdp {
     fn parse(buffer: &NlaBuffer<'a>) -> Result<InfoBareUdp, DecodeError> {
         row_read(buffer, ())

@@ -6,51 +6,51 @@ use crate::layers::nla_frame::{
 };
 use crate::layers::numbers::GeneveDf;
 use crate::layers::table::{
-    Found, Part, Place, TableFamily, WrittenByTable, part_by_rows, put_by_rows, row_emit_payload,
-    row_emit_value, row_fit_len, row_kind, row_read, row_value_len,
+    Decoded, Encodable, Slot, TableFamily, WrittenByTable, encodable_by_rows, row_emit_payload,
+    row_emit_value, row_fit_len, row_kind, row_read, row_value_len, store_by_rows,
 };
 use core::net::{Ipv4Addr, Ipv6Addr};
 
-/// An attribute of a Geneve tunnel: of a link of the kind `geneve` (include/uapi/linux/if_link.h).
+/// An attribute in the data of a `geneve` link, a Geneve tunnel (include/uapi/linux/if_link.h).
 #[derive(Debug, PartialEq, Eq, Clone)]
 pub enum InfoGeneve {
-    /// The identifier of the network, 24 bits (`IFLA_GENEVE_ID`), native byte order.
+    /// VNI, 24 bits (`IFLA_GENEVE_ID`), little-endian.
     Id(u32),
-    /// The IPv4 address of the other end (`IFLA_GENEVE_REMOTE`), network byte order.
+    /// Remote IPv4 address (`IFLA_GENEVE_REMOTE`), network byte order.
     Remote(Ipv4Addr),
-    /// The time to live of what is sent, 0 for the default (`IFLA_GENEVE_TTL`), one byte.
+    /// TTL of outgoing packets, 0 for the default (`IFLA_GENEVE_TTL`), one byte.
     Ttl(u8),
-    /// The type of service of what is sent, 1 for that of the inner packet (`IFLA_GENEVE_TOS`), one
+    /// TOS of outgoing packets, 1 to inherit it from the inner packet (`IFLA_GENEVE_TOS`), one
     /// byte.
     Tos(u8),
-    /// The UDP destination port (`IFLA_GENEVE_PORT`), network byte order.
+    /// UDP destination port (`IFLA_GENEVE_PORT`), big-endian.
     Port(u16),
-    /// The metadata of each packet is collected (`IFLA_GENEVE_COLLECT_METADATA`), a presence flag.
+    /// Collect metadata mode, `external` in ip-link(8) (`IFLA_GENEVE_COLLECT_METADATA`), a presence
+    /// flag.
     CollectMetadata,
-    /// The IPv6 address of the other end (`IFLA_GENEVE_REMOTE6`), network byte order.
+    /// Remote IPv6 address (`IFLA_GENEVE_REMOTE6`), network byte order.
     Remote6(Ipv6Addr),
     /// Whether UDP checksums are sent over IPv4 (`IFLA_GENEVE_UDP_CSUM`), one byte.
     UdpCsum(bool),
-    /// Whether UDP is sent without a checksum over IPv6 (`IFLA_GENEVE_UDP_ZERO_CSUM6_TX`), one
-    /// byte.
+    /// Whether zero UDP checksums are sent over IPv6 (`IFLA_GENEVE_UDP_ZERO_CSUM6_TX`), one byte.
     UdpZeroCsum6Tx(bool),
-    /// Whether UDP without a checksum is taken over IPv6 (`IFLA_GENEVE_UDP_ZERO_CSUM6_RX`), one
+    /// Whether zero UDP checksums are accepted over IPv6 (`IFLA_GENEVE_UDP_ZERO_CSUM6_RX`), one
     /// byte.
     UdpZeroCsum6Rx(bool),
-    /// The IPv6 flow label (`IFLA_GENEVE_LABEL`), network byte order.
+    /// IPv6 flow label (`IFLA_GENEVE_LABEL`), big-endian.
     Label(u32),
-    /// Whether the time to live is that of the inner packet (`IFLA_GENEVE_TTL_INHERIT`), one byte.
+    /// Whether the TTL is inherited from the inner packet (`IFLA_GENEVE_TTL_INHERIT`), one byte.
     TtlInherit(bool),
-    /// What is done with the do-not-fragment bit (`IFLA_GENEVE_DF`), one byte.
+    /// Setting of the DF bit (`IFLA_GENEVE_DF`), one byte.
     Df(GeneveDf),
-    /// The protocol inside the tunnel is that of the inner packet
+    /// The inner protocol is that of the inner packet, and not Ethernet
     /// (`IFLA_GENEVE_INNER_PROTO_INHERIT`), a presence flag.
     InnerProtoInherit,
-    /// The IPv4 address of this end (`IFLA_GENEVE_LOCAL`), network byte order.
+    /// Local IPv4 address (`IFLA_GENEVE_LOCAL`), network byte order.
     Local(Ipv4Addr),
-    /// The IPv6 address of this end (`IFLA_GENEVE_LOCAL6`), network byte order.
+    /// Local IPv6 address (`IFLA_GENEVE_LOCAL6`), network byte order.
     Local6(Ipv6Addr),
-    /// An attribute of another type, kept as it came.
+    /// An opaque attribute, of a type that has no variant here, kept verbatim.
     Other(DefaultNla),
 }
 
@@ -81,13 +81,16 @@ impl TableFamily for InfoGeneve {
     const FAMILY: Family = Family::Geneve;
 
     #[inline(always)]
-    fn put_found<P: Place<InfoGeneve>>(place: &mut P, found: Found<'_>) -> Result<(), AllocError> {
-        rows!(put_by_rows(place, found))
+    fn store_decoded<P: Slot<InfoGeneve>>(
+        slot: &mut P,
+        decoded: Decoded<'_>,
+    ) -> Result<(), AllocError> {
+        rows!(store_by_rows(slot, decoded))
     }
 
     #[inline(always)]
-    fn to_part(&self) -> Part<'_> {
-        rows!(part_by_rows self)
+    fn to_encodable(&self) -> Encodable<'_> {
+        rows!(encodable_by_rows self)
     }
 }
 
@@ -115,8 +118,8 @@ impl Nla for InfoGeneve {
 
 impl WrittenByTable for InfoGeneve {}
 
-/// Reads the attribute. An address of the other version is (Geneve, type, AddressKind), any other
-/// payload of another length than its row's (Geneve, type, Length).
+/// Reads the attribute. An address of the other IP version is rejected as `(Geneve, type,
+/// AddressKind)`, any other payload of invalid length as `(Geneve, type, Length)`.
 impl<'a> Parseable<NlaBuffer<'a>> for InfoGeneve {
     fn parse(buffer: &NlaBuffer<'a>) -> Result<InfoGeneve, DecodeError> {
         row_read(buffer, ())

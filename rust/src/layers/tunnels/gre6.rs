@@ -6,62 +6,60 @@ use crate::layers::nla_frame::{
 };
 use crate::layers::numbers::{ErSpanDir, GreEncapFlags, GreEncapType, GreIOFlags};
 use crate::layers::table::{
-    Found, Part, Place, TableFamily, WrittenByTable, part_by_rows, put_by_rows, row_emit_payload,
-    row_emit_value, row_fit_len, row_kind, row_read, row_value_len,
+    Decoded, Encodable, Slot, TableFamily, WrittenByTable, encodable_by_rows, row_emit_payload,
+    row_emit_value, row_fit_len, row_kind, row_read, row_value_len, store_by_rows,
 };
 use bitflags::Flags;
 use core::net::Ipv6Addr;
 
-/// An attribute of a GRE tunnel over IPv6: of a link of the kind `ip6gre`, `ip6gretap` or
-/// `ip6erspan` (include/uapi/linux/if_tunnel.h).
+/// An attribute in the data of an `ip6gre`, `ip6gretap` or `ip6erspan` link, a GRE tunnel over IPv6
+/// (include/uapi/linux/if_tunnel.h).
 #[derive(Debug, PartialEq, Eq, Clone)]
 pub enum InfoGre6 {
-    /// The index of the underlying interface (`IFLA_GRE_LINK`), native byte order.
+    /// Interface index of the underlying device (`IFLA_GRE_LINK`), little-endian.
     Link(u32),
-    /// What the header of what comes in has (`IFLA_GRE_IFLAGS`), network byte order.
+    /// GRE header flags of incoming packets (`IFLA_GRE_IFLAGS`), big-endian.
     IFlags(GreIOFlags),
-    /// What the header of what goes out has (`IFLA_GRE_OFLAGS`), network byte order.
+    /// GRE header flags of outgoing packets (`IFLA_GRE_OFLAGS`), big-endian.
     OFlags(GreIOFlags),
-    /// The key of what comes in (`IFLA_GRE_IKEY`), network byte order.
+    /// Key of incoming packets (`IFLA_GRE_IKEY`), big-endian.
     IKey(u32),
-    /// The key of what goes out (`IFLA_GRE_OKEY`), network byte order.
+    /// Key of outgoing packets (`IFLA_GRE_OKEY`), big-endian.
     OKey(u32),
-    /// The IPv6 address of this end (`IFLA_GRE_LOCAL`), network byte order.
+    /// Local IPv6 address (`IFLA_GRE_LOCAL`), network byte order.
     Local(Ipv6Addr),
-    /// The IPv6 address of the other end (`IFLA_GRE_REMOTE`), network byte order.
+    /// Remote IPv6 address (`IFLA_GRE_REMOTE`), network byte order.
     Remote(Ipv6Addr),
-    /// The hop limit of what is sent (`IFLA_GRE_TTL`), one byte.
+    /// Hop limit of outgoing packets (`IFLA_GRE_TTL`), one byte.
     Ttl(u8),
-    /// The traffic class of what is sent (`IFLA_GRE_TOS`), one byte.
+    /// Traffic class of outgoing packets (`IFLA_GRE_TOS`), one byte.
     Tos(u8),
-    /// How often what is sent may be wrapped again (`IFLA_GRE_ENCAP_LIMIT`), one byte.
+    /// Tunnel encapsulation limit (`IFLA_GRE_ENCAP_LIMIT`), one byte.
     EncapLimit(u8),
-    /// The IPv6 flow label, with the traffic class (`IFLA_GRE_FLOWINFO`), network byte order.
+    /// IPv6 flow label with the traffic class (`IFLA_GRE_FLOWINFO`), big-endian.
     FlowLabel(u32),
-    /// What the tunnel is wrapped in (`IFLA_GRE_ENCAP_TYPE`), native byte order.
+    /// Secondary encapsulation (`IFLA_GRE_ENCAP_TYPE`), little-endian.
     EncapType(GreEncapType),
-    /// How the tunnel is wrapped (`IFLA_GRE_ENCAP_FLAGS`), native byte order.
+    /// Flags of the secondary encapsulation (`IFLA_GRE_ENCAP_FLAGS`), little-endian.
     EncapFlags(GreEncapFlags),
-    /// The source port that the tunnel is wrapped with (`IFLA_GRE_ENCAP_SPORT`), network byte
-    /// order.
+    /// UDP source port of the secondary encapsulation (`IFLA_GRE_ENCAP_SPORT`), big-endian.
     SourcePort(u16),
-    /// The destination port that the tunnel is wrapped with (`IFLA_GRE_ENCAP_DPORT`), network byte
-    /// order.
+    /// UDP destination port of the secondary encapsulation (`IFLA_GRE_ENCAP_DPORT`), big-endian.
     DestinationPort(u16),
-    /// The metadata of each packet is collected (`IFLA_GRE_COLLECT_METADATA`), a presence flag.
+    /// Collect metadata mode, `external` in ip-link(8) (`IFLA_GRE_COLLECT_METADATA`), a presence
+    /// flag.
     CollectMetadata,
-    /// The firewall mark that routes are looked up by (`IFLA_GRE_FWMARK`), native byte order.
+    /// Firewall mark for route lookups (`IFLA_GRE_FWMARK`), little-endian.
     FwMask(u32),
-    /// The index of the port that ERSPAN version 1 mirrors (`IFLA_GRE_ERSPAN_INDEX`), native byte
-    /// order.
+    /// Index of the mirrored port, ERSPAN version 1 (`IFLA_GRE_ERSPAN_INDEX`), little-endian.
     ErSpanIndex(u32),
-    /// The version of ERSPAN (`IFLA_GRE_ERSPAN_VER`), one byte.
+    /// ERSPAN version (`IFLA_GRE_ERSPAN_VER`), one byte.
     ErSpanVer(u8),
-    /// Which traffic ERSPAN version 2 mirrors (`IFLA_GRE_ERSPAN_DIR`), one byte.
+    /// Direction of the mirrored traffic, ERSPAN version 2 (`IFLA_GRE_ERSPAN_DIR`), one byte.
     ErSpanDir(ErSpanDir),
-    /// The hardware identifier of ERSPAN version 2 (`IFLA_GRE_ERSPAN_HWID`), native byte order.
+    /// Hardware ID, ERSPAN version 2 (`IFLA_GRE_ERSPAN_HWID`), little-endian.
     ErSpanHwId(u16),
-    /// An attribute of another type, kept as it came.
+    /// An opaque attribute, of a type that has no variant here, kept verbatim.
     Other(DefaultNla),
 }
 
@@ -97,13 +95,16 @@ impl TableFamily for InfoGre6 {
     const FAMILY: Family = Family::Gre6;
 
     #[inline(always)]
-    fn put_found<P: Place<InfoGre6>>(place: &mut P, found: Found<'_>) -> Result<(), AllocError> {
-        rows!(put_by_rows(place, found))
+    fn store_decoded<P: Slot<InfoGre6>>(
+        slot: &mut P,
+        decoded: Decoded<'_>,
+    ) -> Result<(), AllocError> {
+        rows!(store_by_rows(slot, decoded))
     }
 
     #[inline(always)]
-    fn to_part(&self) -> Part<'_> {
-        rows!(part_by_rows self)
+    fn to_encodable(&self) -> Encodable<'_> {
+        rows!(encodable_by_rows self)
     }
 }
 
@@ -131,7 +132,7 @@ impl Nla for InfoGre6 {
 
 impl WrittenByTable for InfoGre6 {}
 
-/// Reads the attribute. A payload of another length than its row's is (Gre6, type, Length).
+/// Reads the attribute. A payload of invalid length is rejected as `(Gre6, type, Length)`.
 impl<'a> Parseable<NlaBuffer<'a>> for InfoGre6 {
     fn parse(buffer: &NlaBuffer<'a>) -> Result<InfoGre6, DecodeError> {
         row_read(buffer, ())

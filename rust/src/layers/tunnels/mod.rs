@@ -1,5 +1,5 @@
-//! Attributes of tunnels: vxlan, geneve, gre over IPv4 and IPv6, ipip, sit, ip6tnl, vti, gtp, amt
-//! and bareudp links.
+//! Attributes of tunnels: `vxlan`, `geneve`, `gre`, `gretap`, `erspan`, `ip6gre`, `ip6gretap`,
+//! `ip6erspan`, `ipip`, `sit`, `ip6tnl`, `vti`, `vti6`, `gtp`, `amt` and `bareudp` links.
 
 mod amt;
 mod bare_udp;

@@ -6,96 +6,93 @@ use crate::layers::nla_frame::{
 };
 use crate::layers::numbers::VxlanDf;
 use crate::layers::table::{
-    Found, Part, Place, TableFamily, WrittenByTable, part_by_rows, put_by_rows, row_emit_payload,
-    row_emit_value, row_fit_len, row_kind, row_read, row_value_len,
+    Decoded, Encodable, Slot, TableFamily, WrittenByTable, encodable_by_rows, row_emit_payload,
+    row_emit_value, row_fit_len, row_kind, row_read, row_value_len, store_by_rows,
 };
 use core::net::{Ipv4Addr, Ipv6Addr};
 
-/// An attribute of a VXLAN tunnel: of a link of the kind `vxlan` (include/uapi/linux/if_link.h).
+/// An attribute in the data of a `vxlan` link, a VXLAN tunnel (include/uapi/linux/if_link.h).
 #[derive(Debug, PartialEq, Eq, Clone)]
 pub enum InfoVxlan {
-    /// The identifier of the network, 24 bits (`IFLA_VXLAN_ID`), native byte order.
+    /// VNI, 24 bits (`IFLA_VXLAN_ID`), little-endian.
     Id(u32),
-    /// The IPv4 multicast group, or the address of the other end (`IFLA_VXLAN_GROUP`), network byte
-    /// order.
+    /// Remote IPv4 address, or IPv4 multicast group (`IFLA_VXLAN_GROUP`), network byte order.
     Group(Ipv4Addr),
-    /// The index of the underlying interface (`IFLA_VXLAN_LINK`), native byte order.
+    /// Interface index of the underlying device (`IFLA_VXLAN_LINK`), little-endian.
     Link(u32),
-    /// The IPv4 address of this end (`IFLA_VXLAN_LOCAL`), network byte order.
+    /// Local IPv4 address (`IFLA_VXLAN_LOCAL`), network byte order.
     Local(Ipv4Addr),
-    /// The time to live of what is sent, 0 for the default (`IFLA_VXLAN_TTL`), one byte.
+    /// TTL of outgoing packets, 0 for the default (`IFLA_VXLAN_TTL`), one byte.
     Ttl(u8),
-    /// The type of service of what is sent, 1 for that of the inner packet (`IFLA_VXLAN_TOS`), one
-    /// byte.
+    /// TOS of outgoing packets, 1 to inherit it from the inner packet (`IFLA_VXLAN_TOS`), one byte.
     Tos(u8),
-    /// Whether addresses of senders are learned (`IFLA_VXLAN_LEARNING`), one byte.
+    /// Whether source MAC learning is enabled (`IFLA_VXLAN_LEARNING`), one byte.
     Learning(bool),
-    /// The seconds after which a learned address is forgotten (`IFLA_VXLAN_AGEING`), native byte
-    /// order.
+    /// Lifetime of learned FDB entries in seconds (`IFLA_VXLAN_AGEING`), little-endian.
     Ageing(u32),
-    /// The most learned addresses, 0 for no limit (`IFLA_VXLAN_LIMIT`), native byte order.
+    /// Maximum number of FDB entries, 0 for no limit (`IFLA_VXLAN_LIMIT`), little-endian.
     Limit(u32),
-    /// The lowest and the highest UDP source port (`IFLA_VXLAN_PORT_RANGE`), each in network byte
-    /// order.
+    /// Lowest and highest UDP source port (`IFLA_VXLAN_PORT_RANGE`), each big-endian.
     PortRange((u16, u16)),
-    /// Whether ARP requests are answered here (`IFLA_VXLAN_PROXY`), one byte.
+    /// Whether ARP proxy is enabled (`IFLA_VXLAN_PROXY`), one byte.
     Proxy(bool),
-    /// Whether known routes are taken in place of the gateway (`IFLA_VXLAN_RSC`), one byte.
+    /// Whether route short circuit is enabled (`IFLA_VXLAN_RSC`), one byte.
     Rsc(bool),
-    /// Whether a missing hardware address is told to user space (`IFLA_VXLAN_L2MISS`), one byte.
+    /// Whether link-layer address misses are reported over netlink (`IFLA_VXLAN_L2MISS`), one byte.
     L2Miss(bool),
-    /// Whether a missing IP address is told to user space (`IFLA_VXLAN_L3MISS`), one byte.
+    /// Whether IP address misses are reported over netlink (`IFLA_VXLAN_L3MISS`), one byte.
     L3Miss(bool),
-    /// The UDP destination port (`IFLA_VXLAN_PORT`), network byte order.
+    /// UDP destination port (`IFLA_VXLAN_PORT`), big-endian.
     Port(u16),
-    /// The IPv6 multicast group, or the address of the other end (`IFLA_VXLAN_GROUP6`), network
-    /// byte order.
+    /// Remote IPv6 address, or IPv6 multicast group (`IFLA_VXLAN_GROUP6`), network byte order.
     Group6(Ipv6Addr),
-    /// The IPv6 address of this end (`IFLA_VXLAN_LOCAL6`), network byte order.
+    /// Local IPv6 address (`IFLA_VXLAN_LOCAL6`), network byte order.
     Local6(Ipv6Addr),
     /// Whether UDP checksums are sent over IPv4 (`IFLA_VXLAN_UDP_CSUM`), one byte.
     UDPCsum(bool),
-    /// Whether UDP is sent without a checksum over IPv6 (`IFLA_VXLAN_UDP_ZERO_CSUM6_TX`), one byte.
+    /// Whether zero UDP checksums are sent over IPv6 (`IFLA_VXLAN_UDP_ZERO_CSUM6_TX`), one byte.
     UDPZeroCsumTX(bool),
-    /// Whether UDP without a checksum is taken over IPv6 (`IFLA_VXLAN_UDP_ZERO_CSUM6_RX`), one
+    /// Whether zero UDP checksums are accepted over IPv6 (`IFLA_VXLAN_UDP_ZERO_CSUM6_RX`), one
     /// byte.
     UDPZeroCsumRX(bool),
-    /// Whether remote checksum offload is sent (`IFLA_VXLAN_REMCSUM_TX`), one byte.
+    /// Whether remote checksum offload is used when sending (`IFLA_VXLAN_REMCSUM_TX`), one byte.
     RemCsumTX(bool),
-    /// Whether remote checksum offload is taken (`IFLA_VXLAN_REMCSUM_RX`), one byte.
+    /// Whether remote checksum offload is accepted when receiving (`IFLA_VXLAN_REMCSUM_RX`), one
+    /// byte.
     RemCsumRX(bool),
-    /// Group policy is carried (`IFLA_VXLAN_GBP`), a presence flag.
+    /// Group Policy extension (`IFLA_VXLAN_GBP`), a presence flag.
     Gbp,
-    /// Remote checksum offload makes no partial checksums (`IFLA_VXLAN_REMCSUM_NOPARTIAL`), a
+    /// Remote checksum offload without partial checksums (`IFLA_VXLAN_REMCSUM_NOPARTIAL`), a
     /// presence flag.
     RemCsumNoPartial,
-    /// Whether the metadata of each packet is collected (`IFLA_VXLAN_COLLECT_METADATA`), one byte.
+    /// Whether collect metadata mode, `external` in ip-link(8), is enabled
+    /// (`IFLA_VXLAN_COLLECT_METADATA`), one byte.
     CollectMetadata(bool),
-    /// The IPv6 flow label (`IFLA_VXLAN_LABEL`), network byte order.
+    /// IPv6 flow label (`IFLA_VXLAN_LABEL`), big-endian.
     Label(u32),
-    /// The generic protocol extension is spoken (`IFLA_VXLAN_GPE`), a presence flag.
+    /// Generic Protocol Extension (`IFLA_VXLAN_GPE`), a presence flag.
     Gpe,
-    /// The time to live is that of the inner packet (`IFLA_VXLAN_TTL_INHERIT`), a presence flag.
+    /// The TTL is inherited from the inner packet (`IFLA_VXLAN_TTL_INHERIT`), a presence flag.
     TtlInheritFlag,
-    /// Whether the time to live is that of the inner packet (`IFLA_VXLAN_TTL_INHERIT`), one byte.
+    /// Whether the TTL is inherited from the inner packet (`IFLA_VXLAN_TTL_INHERIT`), one byte.
     TtlInherit(u8),
-    /// What is done with the do-not-fragment bit (`IFLA_VXLAN_DF`), one byte.
+    /// Setting of the DF bit (`IFLA_VXLAN_DF`), one byte.
     Df(VxlanDf),
-    /// Whether identifiers of networks are filtered (`IFLA_VXLAN_VNIFILTER`), one byte.
+    /// Whether VNI filtering is enabled (`IFLA_VXLAN_VNIFILTER`), one byte.
     Vnifilter(bool),
-    /// Whether packets to a tunnel of this host bypass the network (`IFLA_VXLAN_LOCALBYPASS`), one
-    /// byte.
+    /// Whether packets to a local VXLAN endpoint bypass the network stack
+    /// (`IFLA_VXLAN_LOCALBYPASS`), one byte.
     Localbypass(bool),
-    /// How the flow label is chosen (`enum ifla_vxlan_label_policy`) (`IFLA_VXLAN_LABEL_POLICY`),
-    /// native byte order.
+    /// Flow label policy (`IFLA_VXLAN_LABEL_POLICY`, `enum ifla_vxlan_label_policy`),
+    /// little-endian.
     LabelPolicy(u32),
-    /// The bits of the VXLAN header that are taken for reserved (`IFLA_VXLAN_RESERVED_BITS`),
-    /// network byte order.
+    /// Bits of the VXLAN header that are treated as reserved (`IFLA_VXLAN_RESERVED_BITS`),
+    /// big-endian.
     ReservedBits(u64),
-    /// Whether packets to a multicast group go by the multicast routes of the host
+    /// Whether multicast packets of the tunnel are routed by the multicast routes of the host
     /// (`IFLA_VXLAN_MC_ROUTE`), one byte.
     McRoute(bool),
-    /// An attribute of another type, kept as it came.
+    /// An opaque attribute, of a type that has no variant here, kept verbatim.
     Other(DefaultNla),
 }
 
@@ -144,13 +141,16 @@ impl TableFamily for InfoVxlan {
     const FAMILY: Family = Family::Vxlan;
 
     #[inline(always)]
-    fn put_found<P: Place<InfoVxlan>>(place: &mut P, found: Found<'_>) -> Result<(), AllocError> {
-        rows!(put_by_rows(place, found))
+    fn store_decoded<P: Slot<InfoVxlan>>(
+        slot: &mut P,
+        decoded: Decoded<'_>,
+    ) -> Result<(), AllocError> {
+        rows!(store_by_rows(slot, decoded))
     }
 
     #[inline(always)]
-    fn to_part(&self) -> Part<'_> {
-        rows!(part_by_rows self)
+    fn to_encodable(&self) -> Encodable<'_> {
+        rows!(encodable_by_rows self)
     }
 }
 
@@ -178,7 +178,7 @@ impl Nla for InfoVxlan {
 
 impl WrittenByTable for InfoVxlan {}
 
-/// Reads the attribute. A payload of another length than its row's is (Vxlan, type, Length).
+/// Reads the attribute. A payload of invalid length is rejected as `(Vxlan, type, Length)`.
 impl<'a> Parseable<NlaBuffer<'a>> for InfoVxlan {
     fn parse(buffer: &NlaBuffer<'a>) -> Result<InfoVxlan, DecodeError> {
         row_read(buffer, ())

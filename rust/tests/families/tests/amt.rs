@@ -13,11 +13,11 @@ const ROWS: [(&[u8], InfoAmt); 6] = [
     (&[6, 0, 3, 0, 1, 2, 0, 0], InfoAmt::GatewayPort(0x0102)),
     (&[8, 0, 4, 0, 4, 3, 2, 1], InfoAmt::Link(0x0102_0304)),
     (&[8, 0, 8, 0, 4, 3, 2, 1], InfoAmt::MaxTunnels(0x0102_0304)),
-    // A number without a name is kept.
+    // A number without a name is preserved.
     (&[8, 0, 1, 0, 2, 0, 0, 0], InfoAmt::Mode(AmtMode::Other(2))),
 ];
 
-/// Canonical attributes of 10.0.0.1 and fe80::2, local, remote and for discovery.
+/// Canonical attributes of 10.0.0.1 and fe80::2: local, remote and discovery address.
 const ADDRESSES: &[&[u8]] = &[
     &[8, 0, 5, 0, 10, 0, 0, 1],
     &[

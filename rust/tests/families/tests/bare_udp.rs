@@ -1,4 +1,4 @@
-//! Rows of Bare UDP tunnels.
+//! Rows of bare UDP tunnels.
 
 use super::rows::{UNLISTED, has_marks, has_rows, is_list, is_refused, keeps_unlisted, unlisted};
 use linkinfo::layers::nla_frame::Cause;

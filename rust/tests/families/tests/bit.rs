@@ -1,4 +1,4 @@
-//! Peers of one bit; the calls of the families with a peer are tested over both peers beside them.
+//! Peers of one bit. The other tests call the families with a peer with both types of peer.
 
 use super::rows::assert_is;
 use linkinfo::layers::nla_frame::is_equal;
@@ -16,7 +16,7 @@ const PAYLOADS: &[(&[u8], Result<BitPeer, PeerFault>)] = &[
     (&[], Err(PeerFault::Refused)),
 ];
 
-/// The peer is emitted as the byte.
+/// Asserts that the peer is emitted as the byte.
 fn is_emitted(peer: BitPeer, byte: u8) {
     let mut buffer = [255];
     LinkPeer::emit(&peer, &mut buffer);

@@ -1,28 +1,28 @@
-//! The calls that a family by rows is made of, each at xfrm: reading, checking, comparing and
-//! writing by the row of a type, and the places of values.
+//! The calls that a family defined by rows is made of, each with the family `xfrm`: reading,
+//! checking, comparing and writing by the row of a type, and the slots for values.
 
 use super::rows::{assert_is, attribute, error, kept};
 use linkinfo::layers::devices::InfoXfrm;
 use linkinfo::layers::nla_frame::{Cause, ExactEq, Family, NlaBuffer, is_equal};
 use linkinfo::layers::table::{
-    Datum, FlatFamily, Found, Lookup, Part, Place, RowFamily, Shape, UnnestedFamily, row_check,
-    row_emit_payload, row_emit_value, row_fit_len, row_kind, row_put, row_read, row_same,
-    row_value_len, table_lookup,
+    Datum, Decoded, Encodable, FlatFamily, Lookup, RowFamily, Shape, Slot, UnnestedFamily,
+    row_check, row_emit_payload, row_emit_value, row_fit_len, row_kind, row_read, row_same,
+    row_store, row_value_len, table_lookup,
 };
 
-/// The interface 0x01020304.
+/// The interface index 0x01020304.
 const LINK: [u8; 8] = [8, 0, 1, 0, 4, 3, 2, 1];
 
-/// The same with a flag bit in its type.
+/// `LINK` with a flag bit in its type.
 const MARKED: [u8; 8] = [8, 0, 1, 0x80, 4, 3, 2, 1];
 
-/// Another interface.
+/// Another interface index.
 const OTHER_LINK: [u8; 8] = [8, 0, 1, 0, 5, 3, 2, 1];
 
-/// An interface of one byte.
+/// An interface index of one byte.
 const SHORT: [u8; 5] = [5, 0, 1, 0, 4];
 
-/// What was read, alone and behind a list, is the value.
+/// Whether the value read alone, and the one pushed to a list, are equal to the value.
 fn are_equal<F: ExactEq>(alone: &F, list: &[F], value: &F) -> [bool; 2] {
     let last = match list {
         [only] => is_equal(only, value),
@@ -31,7 +31,7 @@ fn are_equal<F: ExactEq>(alone: &F, list: &[F], value: &F) -> [bool; 2] {
     [is_equal(alone, value), last]
 }
 
-/// The attribute is read as the value by its row, alone and behind a list.
+/// Asserts that the attribute is read as the value by its row, alone and into a list.
 fn is_read_by_row<F: FlatFamily + ExactEq>(
     nla: &NlaBuffer<'_>,
     ctx: <F as RowFamily>::Context,
@@ -39,9 +39,9 @@ fn is_read_by_row<F: FlatFamily + ExactEq>(
 ) {
     let read = row_read::<F>(nla, ctx).expect("a value");
     let mut list = Vec::new();
-    row_put::<F, Vec<F>>(&mut list, nla, ctx).expect("a value");
+    row_store::<F, Vec<F>>(&mut list, nla, ctx).expect("a value");
     assert_is(
-        "row_read, row_put",
+        "row_read, row_store",
         are_equal(&read, &list, value),
         [true; 2],
     );
@@ -64,7 +64,7 @@ fn reads_by_rows() {
     let nla = [5, 0, 3, 0x80, 7];
     is_read_by_row(&attribute(&nla), (), &other);
     let short = attribute(&SHORT);
-    let fault = Some(error(Family::Xfrm, 1, Cause::Length));
+    let expected = Some(error(Family::Xfrm, 1, Cause::Length));
     assert_is(
         "a short number",
         [
@@ -72,7 +72,7 @@ fn reads_by_rows() {
             row_check::<InfoXfrm>(&short, ()).err(),
             InfoXfrm::check_by_row(&short, ()).err(),
         ],
-        [fault; 3],
+        [expected; 3],
     );
 }
 
@@ -84,7 +84,7 @@ fn accepted<'a, F: FlatFamily>(ctx: <F as RowFamily>::Context, bytes: &'a [u8]) 
     nla
 }
 
-/// Whether two accepted attributes mean the same by their row.
+/// Whether two accepted attributes are equivalent by their row.
 fn same_by_row<F: FlatFamily>(ctx: <F as RowFamily>::Context, a: &[u8], b: &[u8]) -> [bool; 2] {
     let a = accepted::<F>(ctx, a);
     let b = accepted::<F>(ctx, b);
@@ -102,7 +102,7 @@ fn compares_by_rows() {
     }
 }
 
-/// The value is written with this type and this payload by its row.
+/// Asserts that the value is written with this type and this payload by its row.
 fn is_written_by_row<F: FlatFamily>(value: &F, kind: u16, payload: [u8; 4]) {
     assert!(row_fit_len(value) == Some(4));
     assert_is(
@@ -129,7 +129,7 @@ fn writes_by_rows() {
 }
 
 #[test]
-fn tables_say_shapes() {
+fn tables_give_shapes() {
     for (family, kind, answer) in [
         (Family::Xfrm, 1, Lookup::Is(Shape::Le32)),
         (Family::Xfrm, 3, Lookup::Unknown),
@@ -142,25 +142,25 @@ fn tables_say_shapes() {
 }
 
 #[test]
-fn values_are_put_in_places() {
+fn values_are_stored_in_slots() {
     let mut list = try_vec![1u8].expect("memory");
-    list.put(2).expect("memory");
+    list.store(2).expect("memory");
     let mut alone = Some(1u8);
-    alone.put(2).expect("no memory");
+    alone.store(2).expect("no memory");
     assert_is(
         "a list, an option",
         (list.as_slice(), alone),
         ([1, 2].as_slice(), Some(2)),
     );
 
-    let mut place = None;
-    let found = Found::Typed(2, Datum::Number(7));
-    <InfoXfrm as RowFamily>::put_found(&mut place, (), found).expect("no memory");
-    let value = place.expect("a value");
+    let mut slot = None;
+    let decoded = Decoded::Typed(2, Datum::Number(7));
+    <InfoXfrm as RowFamily>::store_decoded(&mut slot, (), decoded).expect("no memory");
+    let value = slot.expect("a value");
     assert!(is_equal(&value, &InfoXfrm::IfId(7)));
     assert_is(
-        "to_part",
-        <InfoXfrm as RowFamily>::to_part(&value),
-        Part::Typed(2, Shape::Le32, Datum::Number(7)),
+        "to_encodable",
+        <InfoXfrm as RowFamily>::to_encodable(&value),
+        Encodable::Typed(2, Shape::Le32, Datum::Number(7)),
     );
 }

@@ -44,7 +44,7 @@ const ROWS: [(&[u8], InfoGre); 17] = [
 /// Canonical attributes of presence flags, and what they mean.
 const MARKS: [(&[u8], InfoGre); 1] = [(&[4, 0, 18, 0], InfoGre::CollectMetadata)];
 
-/// Canonical attributes of 10.0.0.1, local and remote.
+/// Canonical attributes of 10.0.0.1: local and remote address.
 const ADDRESSES: &[&[u8]] = &[&[8, 0, 6, 0, 10, 0, 0, 1], &[8, 0, 7, 0, 10, 0, 0, 1]];
 
 #[test]
@@ -54,7 +54,7 @@ fn rows_of_gre() {
     let v4 = Ipv4Addr::new(10, 0, 0, 1);
     let addresses = [InfoGre::Local(v4), InfoGre::Remote(v4)];
     has_rows_of(ADDRESSES, addresses);
-    // Path MTU discovery is true for 1 alone.
+    // Path MTU Discovery is true for 1 alone.
     let discovery = InfoGre::PathMTUDiscovery(false);
     let two = [5, 0, 10, 0, 2, 0, 0, 0];
     is_rewritten(&two, discovery, &[5, 0, 10, 0, 0, 0, 0, 0]);

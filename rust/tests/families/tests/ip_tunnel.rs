@@ -15,14 +15,14 @@ fn parsed(bytes: &[u8], kind: &InfoKind) -> Result<InfoIpTunnel, DecodeError> {
     InfoIpTunnel::parse_with_param(&attribute(bytes), kind)
 }
 
-/// The attribute is read as the value inside a link of this kind.
+/// Asserts that the attribute is read as the value in a link of this kind.
 fn is_parsed(kind: &InfoKind, bytes: &[u8], value: &InfoIpTunnel) {
     let read = parsed(bytes, kind).expect("a value");
     assert_eq!((bytes, read == *value), (bytes, true));
 }
 
-/// The attribute is the canonical one of the value, whatever the kind, and takes payloads of its
-/// length alone.
+/// Asserts that the attribute is the canonical one of the value under every kind, and that payloads
+/// of other lengths are rejected.
 fn has_row(bytes: &[u8], value: &InfoIpTunnel) {
     is_parsed(&InfoKind::Ip6Tnl, bytes, value);
     is_row(KindTag::IpIp, bytes, value);
@@ -84,7 +84,7 @@ const ADDRESSES: &[&[u8]] = &[
     &[8, 0, 12, 0, 10, 0, 0, 1],
 ];
 
-/// Each attribute is the row's of the value at its place.
+/// Asserts that each attribute is the canonical one of the value with the same index.
 fn has_rows_of<const N: usize>(attributes: &[&[u8]], values: [InfoIpTunnel; N]) {
     assert!(attributes.len() == N);
     for (bytes, value) in attributes.iter().zip(&values) {
@@ -110,12 +110,12 @@ fn rows_of_ip_tunnel() {
     has_rows_of(ADDRESSES, addresses);
 }
 
-/// The value is a presence flag.
+/// Asserts that the value is a presence flag.
 fn has_mark(value: InfoIpTunnel) {
     is_mark(KindTag::SitTun, &[4, 0, 19, 0], &value);
 }
 
-/// `UNLISTED` is parsed and kept as the value.
+/// Asserts that `UNLISTED` is parsed as the value, an opaque attribute.
 fn keeps_unlisted(value: InfoIpTunnel) {
     is_parsed(&InfoKind::SitTun, &UNLISTED, &value);
     is_kept(KindTag::Ip6Tnl, &value);
@@ -133,7 +133,8 @@ const TWO: [u8; 8] = [6, 0, 8, 0, 0, 16, 0, 0];
 /// Flags of four bytes.
 const FOUR: [u8; 8] = [8, 0, 8, 0, 1, 0, 1, 0];
 
-/// Inside a link of this kind the flags are the value, and take payloads of its length alone.
+/// Asserts that the flags are the value in a link of this kind, and that payloads of other lengths
+/// are rejected.
 fn has_flags(kind: InfoKind, bytes: &[u8], value: InfoIpTunnel) {
     is_parsed(&kind, bytes, &value);
     is_row(kind.tag(), bytes, &value);
@@ -150,15 +151,15 @@ fn flags_by_kind() {
     has_flags(InfoKind::Ip6Tnl, &FOUR, v6);
 }
 
-/// Inside a link of this kind the flags are refused.
+/// Asserts that the flags are rejected in a link of this kind.
 fn refuses_flags(kind: InfoKind, bytes: &[u8], cause: Cause) {
-    let fault = error(Family::IpTunnel, 8, cause);
-    assert_eq!(parsed(bytes, &kind).err(), Some(fault));
+    let expected = error(Family::IpTunnel, 8, cause);
+    assert_eq!(parsed(bytes, &kind).err(), Some(expected));
     is_refused::<InfoIpTunnel>(kind.tag(), bytes, cause);
 }
 
 #[test]
-fn flags_refused_by_kind() {
+fn flags_rejected_by_kind() {
     refuses_flags(InfoKind::IpIp, &FOUR, Cause::Length);
     refuses_flags(InfoKind::SitTun, &FOUR, Cause::Length);
     refuses_flags(InfoKind::Ip6Tnl, &TWO, Cause::Length);
@@ -166,7 +167,7 @@ fn flags_refused_by_kind() {
     refuses_flags(InfoKind::Vti6, &FOUR, Cause::Kind);
 }
 
-/// The attribute is read as the value inside a link of this kind.
+/// Asserts that the attribute is parsed as the value in a link of this kind.
 fn parses(kind: InfoKind, bytes: &[u8], value: InfoIpTunnel) {
     is_parsed(&kind, bytes, &value);
 }

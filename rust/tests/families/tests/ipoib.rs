@@ -1,4 +1,4 @@
-//! Rows of IP over InfiniBand.
+//! Rows of `ipoib` links.
 
 use super::rows::{UNLISTED, has_rows, is_list, keeps_unlisted, unlisted};
 use linkinfo::layers::devices::InfoIpoib;

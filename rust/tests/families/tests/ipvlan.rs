@@ -1,11 +1,11 @@
-//! Rows of ipvlan and ipvtap links.
+//! Rows of `ipvlan` and `ipvtap` links.
 
 use super::rows::{UNLISTED, has_rows, has_rows_of, is_list, keeps_unlisted, unlisted};
 use bitflags::Flags;
 use linkinfo::layers::devices::{InfoIpVlan, InfoIpVtap};
 use linkinfo::layers::numbers::{IpVlanFlags, IpVlanMode};
 
-/// The canonical attribute of every flag.
+/// The canonical attribute of all flags.
 const EVERY_FLAG: &[&[u8]] = &[&[6, 0, 2, 0, 3, 0x80, 0, 0]];
 
 /// A list of the mode L2 and the flag VEPA.

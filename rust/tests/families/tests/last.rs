@@ -2,7 +2,7 @@
 
 use super::rows::assert_is;
 use linkinfo::layers::nla_frame::{NlaBuffer, is_equal};
-use linkinfo::layers::table::{LastOfType, PlacedNla, own_bytes};
+use linkinfo::layers::table::{LastOfType, PlacedNla, own_bytes, types_end};
 
 /// Types 1, 2, 1 with the flag "nested", 64 with four bytes, and 64 with three: the last is without
 /// its padding.
@@ -18,11 +18,11 @@ const TWICE: [u8; 35] = [
 const DAMAGED: [u8; 12] = [4, 0, 1, 0, 4, 0, 63, 0, 3, 0, 1, 0];
 
 /// A type, and where its last attribute is.
-type Place = (u16, Option<usize>);
+type Slot = (u16, Option<usize>);
 
-/// Each type is found at its offset, or nowhere.
-fn finds(source: &[u8], places: &[Place]) {
-    let index = LastOfType::new(source);
+/// Each type is found at its offset, or nowhere, by an index with this first type.
+fn finds(source: &[u8], first: u16, places: &[Slot]) {
+    let index = LastOfType::new(source, first);
     for (kind, offset) in places {
         assert_is(("offset of type", kind), index.offset(*kind), *offset);
         let found = index.find(*kind).map(|placed| placed.offset);
@@ -32,7 +32,7 @@ fn finds(source: &[u8], places: &[Place]) {
 
 /// The last attribute of a type is at this offset, and has these bytes of its own.
 fn is_alone(source: &[u8], kind: u16, offset: usize, own: &[u8]) {
-    let placed = LastOfType::new(source)
+    let placed = LastOfType::new(source, kind)
         .find(kind)
         .expect("an attribute of the type");
     assert_is(("bytes of type", kind), own_bytes(source, &placed), own);
@@ -42,16 +42,20 @@ fn is_alone(source: &[u8], kind: u16, offset: usize, own: &[u8]) {
 
 #[test]
 fn finds_the_last_of_each_type() {
-    let places = [
+    let low = [
         (0, None),
         (1, Some(16)),
         (2, Some(8)),
         (63, None),
-        (64, Some(28)),
-        (65, None),
+        (64, None), // has no entry
         (0x3fff, None),
     ];
-    finds(&TWICE, &places);
+    finds(&TWICE, 0, &low);
+    let from_two = [(1, None), (2, Some(8)), (64, Some(28)), (65, None)];
+    finds(&TWICE, 2, &from_two);
+    let high = [(1, None), (63, None), (64, Some(28)), (65, None)];
+    finds(&TWICE, 64, &high);
+    finds(&TWICE, 0xffff, &[(1, None), (64, None)]);
     is_alone(&TWICE, 1, 16, &[4, 0, 1, 0x80]);
     is_alone(&TWICE, 2, 8, &[5, 0, 2, 0, 9]);
     is_alone(&TWICE, 64, 28, &[7, 0, 64, 0, 5, 6, 7]);
@@ -59,7 +63,22 @@ fn finds_the_last_of_each_type() {
 
 #[test]
 fn stops_at_a_damaged_header() {
-    finds(&DAMAGED, &[(1, Some(0)), (63, Some(4)), (64, None)]);
+    finds(&DAMAGED, 0, &[(1, Some(0)), (63, Some(4))]);
+    finds(&DAMAGED, 64, &[(64, None)]);
     is_alone(&DAMAGED, 63, 4, &[4, 0, 63, 0]);
-    finds(&[], &[(0, None), (64, None)]);
+    finds(&[], 0, &[(0, None)]);
+}
+
+#[test]
+fn ends_above_the_largest_type() {
+    let cases: [(&[u8], u16); 5] = [
+        (&[], 0),
+        (&[4, 0, 0, 0], 1),
+        (&TWICE, 65),
+        (&DAMAGED, 64),
+        (&[4, 0, 0xff, 0xff, 4, 0, 1, 0], 0x4000),
+    ];
+    for (source, end) in cases {
+        assert_is(("end of the types of", source), types_end(source), end);
+    }
 }

@@ -1,4 +1,4 @@
-//! Rows of macvlan and macvtap links.
+//! Rows of `macvlan` and `macvtap` links.
 
 use super::rows::{UNLISTED, has_one_length, is_parsed, is_row, keeps_unlisted, unlisted};
 use bitflags::Flags;
@@ -7,8 +7,8 @@ use linkinfo::layers::nla_frame::{ExactEq, NlaBuffer, Parseable};
 use linkinfo::layers::numbers::{MacVlanFlags, MacVlanMacAddressMode, MacVlanMode};
 use linkinfo::layers::table::LinkFamily;
 
-/// The attribute is the canonical one of the value, inside no list, the most and more, and takes
-/// payloads of its length alone.
+/// Asserts that the attribute is the canonical one of the value at depth 0, at the maximum depth
+/// and below it, and that payloads of other lengths are rejected.
 fn is_row_everywhere<'a, F>(bytes: &'a [u8], value: &F)
 where
     F: LinkFamily<Context = u8> + Parseable<NlaBuffer<'a>> + ExactEq,
@@ -20,7 +20,7 @@ where
     }
 }
 
-/// Each attribute is the canonical one of its value, inside any number of lists.
+/// Asserts that each attribute is the canonical one of its value, at any depth.
 fn has_rows_everywhere<'a, F>(rows: &[(&'a [u8], F)])
 where
     F: LinkFamily<Context = u8> + Parseable<NlaBuffer<'a>> + ExactEq,
@@ -30,10 +30,10 @@ where
     }
 }
 
-/// The canonical attribute of every flag.
+/// The canonical attribute of all flags.
 const EVERY_FLAG: &[u8] = &[6, 0, 2, 0, 3, 0x80, 0, 0];
 
-/// The attribute is the canonical one of the value, inside any number of lists.
+/// Asserts that the attribute is the canonical one of the value, at any depth.
 fn has_row_everywhere<'a, F>(bytes: &'a [u8], value: F)
 where
     F: LinkFamily<Context = u8> + Parseable<NlaBuffer<'a>> + ExactEq,

@@ -1,4 +1,4 @@
-//! Address lists inside address lists.
+//! Nested address lists.
 
 use super::rows::{
     assert_is, attribute, compare_lists, error, is_emitted, is_not_parsed, is_parsed, is_refused,
@@ -12,10 +12,10 @@ use linkinfo::layers::nla_frame::{
 };
 use linkinfo::layers::table::{LinkFamily, Lookup, Shape, list_read};
 
-/// The most lists in a chain whose first list fits.
+/// The maximum number of lists in a chain that fits.
 const LONGEST_CHAIN: u16 = 16383;
 
-/// A family of which a value may hold a list of values.
+/// A family in which a value may contain a list of values.
 trait HoldsLists: Sized {
     fn from_list(items: Nlas<Self>) -> Self;
 }
@@ -32,8 +32,8 @@ impl HoldsLists for InfoMacVtap {
     }
 }
 
-/// The string of a chain of address lists, each of which holds the next alone, and the last one
-/// nothing.
+/// The byte string of a chain of address lists: each contains the next alone, and the last one is
+/// empty.
 fn chain(lists: u16) -> Vec<u8> {
     assert!(lists <= LONGEST_CHAIN);
     let mut bytes = Vec::new();
@@ -45,7 +45,7 @@ fn chain(lists: u16) -> Vec<u8> {
     bytes
 }
 
-/// A list that holds one value alone.
+/// A list of one value.
 fn list_of<F: HoldsLists>(value: F) -> F {
     let mut items = Vec::new();
     items.try_push(value).expect("memory");
@@ -61,7 +61,7 @@ fn chain_value<F: HoldsLists>(lists: u16) -> F {
     value
 }
 
-/// The list is written as these bytes, and the byte behind them stays.
+/// Asserts that the list is written as these bytes, and the byte after them stays unchanged.
 fn is_written<F: Nla>(items: &[F], bytes: &[u8]) {
     let len = bytes.len();
     assert!(len < 1000);
@@ -73,8 +73,8 @@ fn is_written<F: Nla>(items: &[F], bytes: &[u8]) {
     assert!(buffer[len] == 255);
 }
 
-/// The string of at most 128 lists is read as the value of its chain by each call, with a header
-/// for each list, and written as it came.
+/// Asserts that each call reads the byte string of at most 128 lists as the value of its chain,
+/// with a header for each list, and writes it back unchanged.
 fn is_chain<'a, F>(bytes: &'a [u8], lists: u16)
 where
     F: HoldsLists + LinkFamily<Context = u8> + Parseable<NlaBuffer<'a>> + ExactEq,
@@ -107,7 +107,7 @@ fn chains_of_at_most_128_lists() {
     }
 }
 
-/// The string has this length and this header.
+/// Asserts that the byte string has this length and this header.
 fn begins_with(bytes: Vec<u8>, len: usize, header: [u8; 4]) {
     assert_is(
         "length, header",
@@ -132,7 +132,8 @@ fn chain_of_129_lists() {
     is_not_parsed::<InfoMacVtap>(bytes.as_slice(), deep);
 }
 
-/// Inside 127 lists a list may stand, inside 128 it is refused before its payload is looked at.
+/// Asserts that a list nested in 127 others is accepted, and one nested in 128 is rejected before
+/// its payload is examined.
 fn has_most_lists<F>()
 where
     F: HoldsLists + LinkFamily<Context = u8>,
@@ -140,7 +141,7 @@ where
     for lists in [0, 127] {
         assert!(<F as LinkFamily>::shape(lists, 5) == Lookup::Is(Shape::SelfList));
     }
-    // A list that holds a stray byte, with flag bits in its type.
+    // A list with a stray byte, with flag bits in its type.
     let bytes = [5, 0, 5, 0xc0, 1, 0, 0, 0];
     let nla = attribute(&bytes);
     let mut count = HeaderCount::new();
@@ -153,7 +154,7 @@ where
         assert!(<F as LinkFamily>::shape(lists, 5) == Lookup::Refused(Cause::Depth));
         is_refused::<F>(lists, &bytes, Cause::Depth);
     }
-    // Inside 127 lists it may be empty, and may not hold another.
+    // Nested in 127 others it may be empty, and must not contain another.
     let deep = error(<F as LinkFamily>::FAMILY, 5, Cause::Depth);
     assert_is(
         "inside 127 lists",
@@ -166,12 +167,12 @@ where
 }
 
 #[test]
-fn lists_inside_the_most() {
+fn lists_at_the_maximum_depth() {
     has_most_lists::<InfoMacVlan>();
     has_most_lists::<InfoMacVtap>();
 }
 
-/// A list of one address, with its padding and without.
+/// Asserts a list of one address, with its padding and without.
 fn has_worked_list(value: InfoMacVlan) {
     let padded = [16, 0, 5, 0, 10, 0, 4, 0, 2, 0, 0, 0, 0, 1, 0, 0];
     let bare = [14, 0, 5, 0, 10, 0, 4, 0, 2, 0, 0, 0, 0, 1];
@@ -198,17 +199,17 @@ fn worked_strings_of_lists() {
     compare_lists::<InfoMacVlan>(0, &[(&padded, &bare, Some(4))]);
 
     let short = [12, 0, 5, 0, 5, 0, 4, 0, 1, 0, 0, 0];
-    let fault = error(Family::MacVtap, 4, Cause::Length);
-    is_not_parsed::<InfoMacVtap>(&short, fault);
+    let expected = error(Family::MacVtap, 4, Cause::Length);
+    is_not_parsed::<InfoMacVtap>(&short, expected);
     let broken = [8, 0, 5, 0, 5, 0, 4, 0];
-    let fault = error(Family::Frame, 0, Cause::Header);
-    is_not_parsed::<InfoMacVtap>(&broken, fault);
+    let expected = error(Family::Frame, 0, Cause::Header);
+    is_not_parsed::<InfoMacVtap>(&broken, expected);
 }
 
-/// Two lists inside each other, the inner one of a count.
+/// Two nested lists, the inner one of a count.
 const COUNT: &[u8] = &[16, 0, 5, 0, 12, 0, 5, 0, 8, 0, 6, 0, 7, 0, 0, 0];
 
-/// The same and one more attribute.
+/// `COUNT` and one more attribute.
 const MORE: &[u8] = &[20, 0, 5, 0, 16, 0, 5, 0, 8, 0, 6, 0, 7, 0, 0, 0, 4, 0, 5, 0];
 
 /// A list of an attribute of a type without a row.
@@ -217,17 +218,17 @@ const KEPT: &[u8] = &[12, 0, 5, 0, 5, 0, 10, 0, 1, 0, 0, 0];
 /// An attribute of another type.
 const NUMBER: &[u8] = &[8, 0, 6, 0, 7, 0, 0, 0];
 
-/// Lists, and the headers that are looked at to find them the same, if they are.
+/// Pairs of lists, and the headers examined if they are equivalent.
 const PAIRS: &[(&[u8], &[u8], Option<usize>)] = &[
-    // Flag bits of types with a row do not count, at each level.
+    // Flag bits of types with a row do not matter, at any depth.
     (
         COUNT,
         &[16, 0, 5, 0x80, 12, 0, 5, 0x40, 8, 0, 6, 0xc0, 7, 0, 0, 0],
         Some(6),
     ),
-    // Padding does not.
+    // Padding does not matter.
     (KEPT, &[12, 0, 5, 0, 5, 0, 10, 0, 1, 9, 9, 9], Some(4)),
-    // The innermost value does, and how many attributes there are.
+    // The innermost value matters, and so does the number of attributes.
     (
         COUNT,
         &[16, 0, 5, 0, 12, 0, 5, 0, 8, 0, 6, 0, 8, 0, 0, 0],
@@ -235,14 +236,14 @@ const PAIRS: &[(&[u8], &[u8], Option<usize>)] = &[
     ),
     (COUNT, MORE, None),
     (MORE, COUNT, None),
-    // So do flag bits of a type without a row.
+    // Flag bits of a type without a row matter.
     (KEPT, &[12, 0, 5, 0, 5, 0, 10, 0x80, 1, 0, 0, 0], None),
-    // A list is not the same as an attribute of another type.
+    // A list is not equivalent to an attribute of another type.
     (COUNT, NUMBER, None),
     (NUMBER, COUNT, None),
 ];
 
-/// A chain is the same as itself, and not as one of a list less.
+/// Asserts that a chain is equivalent to itself, and not to one with one list less.
 fn compares_chains<F>(lists: u16)
 where
     F: HoldsLists + LinkFamily<Context = u8>,
@@ -265,7 +266,7 @@ where
 }
 
 #[test]
-fn lists_inside_lists_are_compared() {
+fn nested_lists_are_compared() {
     are_compared::<InfoMacVlan>();
     are_compared::<InfoMacVtap>();
 }
@@ -280,7 +281,7 @@ where
     is_equal(&first, &second)
 }
 
-/// A list of one value is equal neither to the value nor to the list of none.
+/// Asserts that a list of one value is equal neither to the value nor to the empty list.
 fn differs_from_list<F>(one: &F)
 where
     F: HoldsLists + Nla + ExactEq + Clone,
@@ -299,7 +300,8 @@ where
     );
 }
 
-/// Values of lists are equal exactly where what they hold is, and so are their clones.
+/// Asserts that values with lists are equal if and only if their items are, and so are their
+/// clones.
 fn are_equal_by_items<F>(values: [F; 2])
 where
     F: HoldsLists + Nla + ExactEq + Clone,
@@ -313,7 +315,7 @@ where
     );
 }
 
-/// A chain is equal to its clone, and not to a deeper one.
+/// Asserts that a chain is equal to its clone, and not to a deeper one.
 fn are_equal_by_depth<F>()
 where
     F: HoldsLists + Nla + ExactEq + Clone,
@@ -331,7 +333,7 @@ where
 }
 
 #[test]
-fn lists_inside_lists_are_equal() {
+fn nested_lists_are_equal() {
     let values = [InfoMacVlan::MacAddrCount(1), InfoMacVlan::BcQueueLen(1)];
     are_equal_by_items(values);
     let values = [
@@ -343,8 +345,8 @@ fn lists_inside_lists_are_equal() {
     are_equal_by_depth::<InfoMacVtap>();
 }
 
-/// A value may be deeper than what is well formed: it is measured and written all the same, and is
-/// not read back.
+/// Asserts that a value deeper than a well-formed one is measured and written too, and is not read
+/// back.
 fn is_written_at_any_depth<F>(lists: u16)
 where
     F: HoldsLists + LinkFamily<Context = u8> + Nla,
@@ -365,14 +367,14 @@ where
     );
 }
 
-/// The value of a chain has this length, if it fits.
+/// Asserts that the value of a chain has this length, if it fits.
 fn has_fit_len(lists: u16, wanted: Option<usize>) {
     let value: InfoMacVlan = chain_value(lists);
     assert_is(("fit_len", lists), value.fit_len(), wanted);
 }
 
 #[test]
-fn values_deeper_than_the_most() {
+fn values_beyond_the_maximum_depth() {
     for lists in [129, 1000, 16000, LONGEST_CHAIN] {
         is_written_at_any_depth::<InfoMacVlan>(lists);
         is_written_at_any_depth::<InfoMacVtap>(lists);

@@ -1,4 +1,4 @@
-//! Rows of netkit links.
+//! Rows of `netkit` links.
 
 use super::rows::{
     UNLISTED, error, has_row_of, has_shapes, is_list, is_not_parsed, is_parsed, is_read,
@@ -21,7 +21,8 @@ const ROWS: [(u16, Shape); 9] = [
     (9, Shape::Le16),
 ];
 
-/// Each row beside the peer's, and what is kept of a type without one, whatever the peer is.
+/// Asserts each row except the peer's, and an opaque attribute of a type without a row, for any
+/// type of peer.
 fn has_rows_beside_peer<P: LinkPeer + Clone>() {
     has_shapes::<InfoNetkitOf<P>>((), &ROWS);
     let value = InfoNetkitOf::<P>::Primary(true);
@@ -45,7 +46,7 @@ fn has_rows_beside_peer<P: LinkPeer + Clone>() {
     keeps_unlisted((), &UNLISTED, kept);
 }
 
-/// Scrubbing, of the link and of its peer.
+/// Asserts the scrubbing, of the link and of its peer.
 fn has_scrubs<P: LinkPeer>() {
     let value = InfoNetkitOf::<P>::Scrub(NetkitScrub::Default);
     has_row_of(&[8, 0, 6, 0, 1, 0, 0, 0], value);
@@ -63,11 +64,11 @@ fn rows_of_netkit() {
 }
 
 #[test]
-fn rows_of_netkit_beside_bits() {
+fn rows_of_netkit_with_peers_of_bits() {
     has_rows_beside_peer::<BitPeer>();
 }
 
-/// The attribute is parsed and read as the value.
+/// Asserts that the attribute is parsed and read as the value.
 fn is_parsed_and_read(bytes: &[u8], value: InfoNetkit) {
     is_parsed(bytes, &value);
     is_read((), bytes, &value);
@@ -90,6 +91,6 @@ fn worked_netkit() {
     is_list((), &list, values);
     let wide = [8, 0, 8, 0, 5, 0, 0, 0];
     is_refused::<InfoNetkit>((), &wide, Cause::Length);
-    let fault = error(Family::Netkit, 8, Cause::Length);
-    is_not_parsed::<InfoNetkit>(&wide, fault);
+    let expected = error(Family::Netkit, 8, Cause::Length);
+    is_not_parsed::<InfoNetkit>(&wide, expected);
 }

@@ -1,4 +1,4 @@
-//! Both peers through each call of the families with a peer.
+//! Both types of peer in each call of the families with a peer.
 
 use super::rows::{
     UNLISTED, are_same, assert_is, compare, compare_lists, error, first_checked,
@@ -17,7 +17,7 @@ use linkinfo::layers::table::{LinkFamily, Shape, first_check, first_read, first_
 /// A peer of the byte 7.
 const SEVEN: &[u8] = &[5, 0, 1, 0, 7];
 
-/// A peer of the byte 9, flag bits in its type.
+/// A peer of the byte 9, with a flag bit in its type.
 const NINE: &[u8] = &[5, 0, 1, 0x40, 9];
 
 /// A peer of the byte 0.
@@ -44,7 +44,7 @@ const LIST_OF_BYTES: &[u8] = &[4, 0, 1, 0, 6, 0, 1, 0, 0xaa, 0xbb, 0, 0];
 /// Peers of the bytes 1 and 0.
 const LIST_OF_BITS: &[u8] = &[5, 0, 1, 0, 1, 0, 0, 0, 5, 0, 1, 0, 0, 0, 0, 0];
 
-/// The fault of a peer that is refused.
+/// The error of a rejected peer.
 fn refused(family: Family) -> DecodeError {
     error(family, 1, Cause::Peer)
 }
@@ -57,7 +57,7 @@ fn two_bytes() -> Bytes {
     Bytes::copy_of(&[0xaa, 0xbb]).expect("memory")
 }
 
-/// The attribute holds this peer, whose canonical attribute is the other one.
+/// Asserts that the attribute contains this peer, whose canonical attribute is the other one.
 fn has_peer<'a, F>(bytes: &'a [u8], value: &F, canonical: &[u8])
 where
     F: LinkFamily<Context = ()> + Parseable<NlaBuffer<'a>> + ExactEq + Clone,
@@ -78,7 +78,8 @@ where
     is_emitted(value, canonical);
 }
 
-/// The family reads peers as bytes: the values are those of these two strings, `EMPTY` and `TWO`.
+/// Asserts that the family reads peers as bytes: the values are those of the byte strings `EMPTY`
+/// and `TWO`.
 fn has_peers_of_bytes<'a, F>((empty_bytes, two_bytes): (&'a [u8], &'a [u8]), empty: &F, two: &F)
 where
     F: LinkFamily<Context = ()> + Parseable<NlaBuffer<'a>> + ExactEq + Clone,
@@ -90,25 +91,25 @@ where
     compares_bytes::<F>();
 }
 
-/// Attributes with a peer of bytes, and whether they are the same.
+/// Attributes with a peer of bytes, and whether they are equivalent.
 const PAIRS_OF_BYTES: &[(&[u8], &[u8], bool)] = &[(SEVEN, NINE, false), (EMPTY, TWO, false)];
 
-/// Lists of peers of bytes, and the headers that are looked at to find them the same, if they are.
-/// Padding does not count.
+/// Pairs of lists of peers of bytes, and the headers examined if they are equivalent. Padding does
+/// not matter.
 const PAIRS_OF_LISTS_OF_BYTES: &[(&[u8], &[u8], Option<usize>)] = &[
     (SEVEN, NINE, None),
     (SEVEN, OTHER, None),
     (SEVEN, &[5, 0, 1, 0x80, 7, 0, 0, 0], Some(2)),
 ];
 
-/// Peers of bytes are the same where all of their bytes are.
+/// Asserts that peers of bytes are equivalent if all of their bytes are equal.
 fn compares_bytes<F: LinkFamily<Context = ()>>() {
     compare::<F>((), PAIRS_OF_BYTES);
     compare_lists::<F>((), PAIRS_OF_LISTS_OF_BYTES);
 }
 
-/// The family reads peers as bits: the values are true of the first two strings and false of the
-/// third, and none of the last.
+/// Asserts that the family reads peers as bits: true for the first two byte strings, false for the
+/// third, and an error for the last.
 fn has_peers_of_bits<'a, F>(
     (seven, nine, zero, two): (&'a [u8], &'a [u8], &'a [u8], &'a [u8]),
     set: &F,
@@ -121,14 +122,14 @@ fn has_peers_of_bits<'a, F>(
     has_peer(zero, clear, ZERO);
     assert!(!is_equal(set, clear));
     is_not_parsed::<F>(two, refused(<F as LinkFamily>::FAMILY));
-    // Of another length, a payload is refused by the peer and not by the family.
+    // The peer, and not the family, rejects a payload of another length.
     is_refused::<F>((), TWO, Cause::Peer);
     is_refused::<F>((), EMPTY, Cause::Peer);
     refuses_two_bytes::<F>();
     compares_bits::<F>();
 }
 
-/// Lists of peers of bits, and the headers that are looked at to find them the same, if they are.
+/// Pairs of lists of peers of bits, and the headers examined if they are equivalent.
 const PAIRS_OF_LISTS_OF_BITS: &[(&[u8], &[u8], Option<usize>)] = &[
     (SEVEN, ZERO, None),
     (SEVEN, OTHER, None),
@@ -136,13 +137,14 @@ const PAIRS_OF_LISTS_OF_BITS: &[(&[u8], &[u8], Option<usize>)] = &[
     (SEVEN, NINE, Some(2)),
 ];
 
-/// Peers of bits are the same where their bits are.
+/// Asserts that peers of bits are equivalent if their bits are equal.
 fn compares_bits<F: LinkFamily<Context = ()>>() {
     compare::<F>((), &[(SEVEN, ZERO, false)]);
     compare_lists::<F>((), PAIRS_OF_LISTS_OF_BITS);
 }
 
-/// The first attribute of `TAIL` alone is read as the value, and what follows it is not looked at.
+/// Asserts that the first attribute of `TAIL` alone is read as the value, and what follows it is
+/// not examined.
 fn has_first<F>(value: &F)
 where
     F: LinkFamily<Context = ()> + ExactEq,
@@ -165,13 +167,14 @@ where
     list_is_written_as::<F>((), LIST_OF_BYTES, LIST_OF_BYTES);
 }
 
-/// A peer of `aa bb` is no bit, so lists and first attributes that begin with one are refused.
+/// Asserts that a peer of `aa bb` is no bit, so lists and first attributes that begin with one are
+/// rejected.
 fn refuses_two_bytes<F: LinkFamily<Context = ()>>() {
-    let fault = refused(F::FAMILY);
+    let expected = refused(F::FAMILY);
     assert_is(
         "first_check, list_check",
         [first_checked::<F>((), TAIL), list_checked::<F>((), TAIL)],
-        [(Err(fault), 1), (Err(fault), 1)],
+        [(Err(expected), 1), (Err(expected), 1)],
     );
 }
 
@@ -251,12 +254,12 @@ fn types_without_a_row() {
     keeps_unlisted((), &UNLISTED, vxcan);
 }
 
-/// The value has this length, if it fits.
+/// Asserts that the value has this length, if it fits.
 fn has_len<F: Nla>(value: F, wanted: Option<usize>) {
     assert_is("fit_len", value.fit_len(), wanted);
 }
 
-/// A peer of this many bytes.
+/// A peer of `len` bytes.
 fn zeros(len: usize) -> Bytes {
     Bytes::new(try_vec![0u8; len].expect("memory"))
 }

@@ -1,4 +1,4 @@
-//! Rows of links to Qualcomm modems.
+//! Rows of `rmnet` links.
 
 use super::rows::{UNLISTED, has_rows_of, is_list, is_refused, keeps_unlisted, unlisted};
 use bitflags::Flags;

@@ -1,4 +1,4 @@
-//! What tests of families ask of attributes, values and lists.
+//! Assertions on attributes, values and lists for the tests of families.
 
 use crate::support::*;
 use linkinfo::layers::nla_frame::{
@@ -6,30 +6,30 @@ use linkinfo::layers::nla_frame::{
     emit_nlas, is_equal, nlas_buffer_len, nlas_fit_len,
 };
 use linkinfo::layers::table::{
-    LinkFamily, Lookup, Shape, first_canonical_len, first_check, first_put_canonical,
-    list_canonical_len, list_check, list_put_canonical, list_read, list_same,
+    LinkFamily, Lookup, Shape, first_canonical_len, first_check, first_write_canonical,
+    list_canonical_len, list_check, list_read, list_same, list_write_canonical,
 };
 use std::fmt::Debug;
 
-/// What was found in this case is what is wanted.
+/// Asserts that the actual value of this case is the expected one.
 pub(super) fn assert_is<T: PartialEq + Debug>(case: impl Debug, found: T, wanted: T) {
     assert_eq!(found, wanted, "case {case:?}");
 }
 
-/// An attribute of one byte and a type that no family here has, flag bits included.
+/// An attribute with one byte, of a type that no family here defines, flag bits included.
 pub(super) const UNLISTED: [u8; 8] = [5, 0, 0xff, 0x80, 1, 0, 0, 0];
 
-/// An attribute of a type and a payload, which is kept.
+/// An opaque attribute of a type and a payload.
 pub(super) fn kept(kind: u16, payload: &[u8]) -> DefaultNla {
     DefaultNla::new(kind, payload.try_to_vec().expect("memory"))
 }
 
-/// What `UNLISTED` is kept as.
+/// `UNLISTED` as an opaque attribute.
 pub(super) fn unlisted() -> DefaultNla {
     kept(0x80ff, &[1])
 }
 
-/// The attribute that the bytes begin with.
+/// The first attribute of the bytes.
 pub(super) fn attribute<'a>(bytes: &'a [u8]) -> NlaBuffer<'a> {
     assert!(bytes.len() < 1000);
     NlaBuffer::new_checked(bytes).expect("an attribute")
@@ -43,7 +43,7 @@ pub(super) fn error(family: Family, kind: u16, cause: Cause) -> DecodeError {
     }
 }
 
-/// The family has these shapes by masked type, and no other row up to 39.
+/// Asserts that the family has these shapes by type without flag bits, and no other row up to 39.
 pub(super) fn has_shapes<F: LinkFamily>(ctx: F::Context, rows: &[(u16, Shape)]) {
     for kind in 0..40 {
         let mut wanted = Lookup::Unknown;
@@ -56,8 +56,7 @@ pub(super) fn has_shapes<F: LinkFamily>(ctx: F::Context, rows: &[(u16, Shape)]) 
     }
 }
 
-/// The fault of the attribute, if any, as it is checked, with the headers inside that were looked
-/// at for it.
+/// The error of checking the attribute, if any, and the headers examined inside it.
 fn checked<F: LinkFamily>(ctx: F::Context, bytes: &[u8]) -> (Option<DecodeError>, usize) {
     let nla = attribute(bytes);
     let mut count = HeaderCount::new();
@@ -65,7 +64,7 @@ fn checked<F: LinkFamily>(ctx: F::Context, bytes: &[u8]) -> (Option<DecodeError>
     (checked.err(), count.get())
 }
 
-/// The attribute is read as the value, with no header inside.
+/// Asserts that the attribute is read as the value, with no header examined inside.
 pub(super) fn is_read<F: LinkFamily + ExactEq>(ctx: F::Context, bytes: &[u8], value: &F) {
     let nla = attribute(bytes);
     let read = F::read(&nla, ctx, &mut HeaderCount::new()).expect("a value");
@@ -76,43 +75,43 @@ pub(super) fn is_read<F: LinkFamily + ExactEq>(ctx: F::Context, bytes: &[u8], va
     );
 }
 
-/// The attribute is read as the value, with no header inside.
+/// Asserts that the attribute is read as the value, with no header examined inside.
 pub(super) fn reads<F: LinkFamily + ExactEq>(ctx: F::Context, bytes: &[u8], value: F) {
     is_read(ctx, bytes, &value);
 }
 
-/// The fault of the attribute, if any, as it is read, with the headers inside that were looked at
-/// for it.
-fn read_fault<F: LinkFamily>(ctx: F::Context, bytes: &[u8]) -> (Option<DecodeError>, usize) {
+/// The error of reading the attribute, if any, and the headers examined inside it.
+fn read_error<F: LinkFamily>(ctx: F::Context, bytes: &[u8]) -> (Option<DecodeError>, usize) {
     let nla = attribute(bytes);
     let mut count = HeaderCount::new();
     let read = F::read(&nla, ctx, &mut count);
     (read.err(), count.get())
 }
 
-/// The attribute is refused with this cause, under the name of the family and its type, and no
-/// header inside is looked at.
+/// Asserts that the attribute is rejected with this cause, under the name of the family and its
+/// type, with no header examined inside.
 pub(super) fn is_refused<F: LinkFamily>(ctx: F::Context, bytes: &[u8], cause: Cause) {
-    let fault = Some(error(F::FAMILY, attribute(bytes).kind(), cause));
+    let expected = Some(error(F::FAMILY, attribute(bytes).kind(), cause));
     assert_is(
         ("refused", bytes),
-        [checked::<F>(ctx, bytes), read_fault::<F>(ctx, bytes)],
-        [(fault, 0); 2],
+        [checked::<F>(ctx, bytes), read_error::<F>(ctx, bytes)],
+        [(expected, 0); 2],
     );
 }
 
-/// A buffer of 255s was overwritten by these bytes, and nothing behind them is changed.
+/// Asserts that these bytes are written to a buffer of 255s, and the bytes after them are
+/// unchanged.
 fn begins_with(buffer: &[u8; 27], bytes: &[u8]) {
     let len = bytes.len();
     assert!(len <= 24);
     assert_is(
-        "front, behind",
+        "front, rest",
         (&buffer[..len], &buffer[len..]),
         (bytes, &[255; 27][len..]),
     );
 }
 
-/// The value is emitted as these bytes, and nothing behind them is changed.
+/// Asserts that the value is emitted as these bytes, and the bytes after them are unchanged.
 pub(super) fn is_emitted<F: Nla>(value: &F, bytes: &[u8]) {
     let nla = attribute(bytes);
     let payload = nla.value().len();
@@ -141,16 +140,17 @@ fn accepted<'a, F: LinkFamily>(ctx: F::Context, bytes: &'a [u8]) -> NlaBuffer<'a
     nla
 }
 
-/// What is written for the accepted attribute, which has at most 24 bytes, and how many they are.
+/// Writes the canonical encoding of the accepted attribute, at most 24 bytes, and returns its
+/// length.
 fn rewritten<F: LinkFamily>(ctx: F::Context, bytes: &[u8], buffer: &mut [u8; 27]) -> usize {
     let nla = accepted::<F>(ctx, bytes);
     let len = F::canonical_len(&nla, ctx).expect("an attribute that fits");
     assert!(len <= 20);
-    F::put_canonical(&nla, ctx, buffer)
+    F::write_canonical(&nla, ctx, buffer)
 }
 
-/// The accepted attribute is written as these bytes, without its value, and nothing behind them is
-/// changed.
+/// Asserts that the accepted attribute is re-encoded as these bytes, and the bytes after them are
+/// unchanged.
 pub(super) fn is_written_as<F: LinkFamily>(ctx: F::Context, bytes: &[u8], canonical: &[u8]) {
     let mut buffer = [255; 27];
     assert_is(
@@ -161,14 +161,14 @@ pub(super) fn is_written_as<F: LinkFamily>(ctx: F::Context, bytes: &[u8], canoni
     begins_with(&buffer, canonical);
 }
 
-/// Whether two accepted attributes are the same. Asks that they are accepted.
+/// Whether two accepted attributes are equivalent. Requires that they are accepted.
 pub(super) fn are_same<F: LinkFamily>(ctx: F::Context, a: &[u8], b: &[u8]) -> bool {
     let a = accepted::<F>(ctx, a);
     let b = accepted::<F>(ctx, b);
     F::same_value(&a, &b, ctx, &mut HeaderCount::new())
 }
 
-/// Each two accepted attributes are the same or not, as stands behind them.
+/// Asserts of each pair of accepted attributes whether they are equivalent.
 pub(super) fn compare<F: LinkFamily>(ctx: F::Context, pairs: &[(&[u8], &[u8], bool)]) {
     for (a, b, wanted) in pairs {
         let same = are_same::<F>(ctx, a, b);
@@ -176,8 +176,8 @@ pub(super) fn compare<F: LinkFamily>(ctx: F::Context, pairs: &[(&[u8], &[u8], bo
     }
 }
 
-/// Whether the attribute is the same with other flag bits in its type. Asks for one that is
-/// accepted.
+/// Whether the attribute is equivalent to itself with other flag bits in its type. Requires that it
+/// is accepted.
 pub(super) fn same_with_flags<F: LinkFamily>(ctx: F::Context, bytes: &[u8]) -> bool {
     let len = bytes.len();
     assert!(4 <= len && len <= 24);
@@ -187,7 +187,7 @@ pub(super) fn same_with_flags<F: LinkFamily>(ctx: F::Context, bytes: &[u8]) -> b
     are_same::<F>(ctx, bytes, &marked)
 }
 
-/// The canonical attribute of a row's datum: its flag bits do not count.
+/// Asserts that the attribute is the canonical one of a row's datum, whose flag bits do not matter.
 pub(super) fn is_row<F: LinkFamily + ExactEq>(ctx: F::Context, bytes: &[u8], value: &F) {
     is_read(ctx, bytes, value);
     assert!(same_with_flags::<F>(ctx, bytes));
@@ -195,8 +195,8 @@ pub(super) fn is_row<F: LinkFamily + ExactEq>(ctx: F::Context, bytes: &[u8], val
     is_written_as::<F>(ctx, bytes, bytes);
 }
 
-/// The attribute with a payload of one byte more, and of one byte less, is refused with the cause
-/// Length.
+/// Asserts that the attribute with one payload byte more, and with one less, is rejected with the
+/// cause Length.
 pub(super) fn has_one_length<F: LinkFamily>(ctx: F::Context, bytes: &[u8]) {
     let len = bytes.len();
     assert!(5 <= len && len <= 24);
@@ -210,7 +210,7 @@ pub(super) fn has_one_length<F: LinkFamily>(ctx: F::Context, bytes: &[u8]) {
     is_refused::<F>(ctx, &attribute, Cause::Length);
 }
 
-/// A presence flag: its canonical attribute is empty, and any payload means the same.
+/// Asserts a presence flag: its canonical attribute is empty, and any payload is equivalent.
 pub(super) fn is_mark<F: LinkFamily + ExactEq>(ctx: F::Context, bytes: &[u8], value: &F) {
     assert!(bytes.len() == 4);
     is_row(ctx, bytes, value);
@@ -218,7 +218,8 @@ pub(super) fn is_mark<F: LinkFamily + ExactEq>(ctx: F::Context, bytes: &[u8], va
     is_written_as::<F>(ctx, &[5, 0, bytes[2], 0, 7, 0, 0, 0], bytes);
 }
 
-/// `UNLISTED` is kept as the value: its flag bits count. A clone is equal.
+/// Asserts that `UNLISTED` is the value, an opaque attribute whose flag bits matter, and that a
+/// clone is equal.
 pub(super) fn is_kept<F: LinkFamily + ExactEq + Clone>(ctx: F::Context, value: &F) {
     is_read(ctx, &UNLISTED, value);
     let same = same_with_flags::<F>(ctx, &UNLISTED);
@@ -230,14 +231,14 @@ pub(super) fn is_kept<F: LinkFamily + ExactEq + Clone>(ctx: F::Context, value: &
     is_emitted(value, &UNLISTED);
 }
 
-/// `parse` reads the attribute as the value.
+/// Asserts that `parse` reads the attribute as the value.
 pub(super) fn is_parsed<'a, F: Parseable<NlaBuffer<'a>> + ExactEq>(bytes: &'a [u8], value: &F) {
     let read = F::parse(&attribute(bytes)).expect("a value");
     assert_is(("parsed", bytes), is_equal(&read, value), true);
 }
 
-/// The attribute is the canonical one of the value, is parsed as it, and takes payloads of its
-/// length alone.
+/// Asserts that the attribute is the canonical one of the value and is parsed as it, and that
+/// payloads of other lengths are rejected.
 pub(super) fn has_row<'a, F>(bytes: &'a [u8], value: &F)
 where
     F: LinkFamily<Context = ()> + Parseable<NlaBuffer<'a>> + ExactEq,
@@ -247,7 +248,7 @@ where
     has_one_length::<F>((), bytes);
 }
 
-/// Each attribute is the row's of its value.
+/// Asserts that each attribute is the canonical one of its value.
 pub(super) fn has_rows<'a, F>(rows: &[(&'a [u8], F)])
 where
     F: LinkFamily<Context = ()> + Parseable<NlaBuffer<'a>> + ExactEq,
@@ -257,7 +258,7 @@ where
     }
 }
 
-/// The attribute is the row's of the value.
+/// Asserts that the attribute is the canonical one of the value.
 pub(super) fn has_row_of<'a, F>(bytes: &'a [u8], value: F)
 where
     F: LinkFamily<Context = ()> + Parseable<NlaBuffer<'a>> + ExactEq,
@@ -265,7 +266,7 @@ where
     has_row(bytes, &value);
 }
 
-/// Each attribute is the row's of the value at its place.
+/// Asserts that each attribute is the canonical one of the value with the same index.
 pub(super) fn has_rows_of<'a, F, const N: usize>(attributes: &[&'a [u8]], values: [F; N])
 where
     F: LinkFamily<Context = ()> + Parseable<NlaBuffer<'a>> + ExactEq,
@@ -283,7 +284,7 @@ where
     }
 }
 
-/// Each attribute is the canonical one of a presence flag, and is parsed as its value.
+/// Asserts that each attribute is the canonical one of a presence flag, and is parsed as its value.
 pub(super) fn has_marks<'a, F>(rows: &[(&'a [u8], F)])
 where
     F: LinkFamily<Context = ()> + Parseable<NlaBuffer<'a>> + ExactEq,
@@ -294,7 +295,7 @@ where
     }
 }
 
-/// The attribute, which is `UNLISTED`, is parsed and kept as the value.
+/// Asserts that the attribute `UNLISTED` is parsed as the value, an opaque attribute.
 pub(super) fn keeps_unlisted<'a, F>(ctx: F::Context, bytes: &'a [u8], value: F)
 where
     F: LinkFamily + Parseable<NlaBuffer<'a>> + ExactEq + Clone,
@@ -304,12 +305,12 @@ where
     is_kept(ctx, &value);
 }
 
-/// The attribute is parsed as the value.
+/// Asserts that the attribute is parsed as the value.
 pub(super) fn parses<'a, F: Parseable<NlaBuffer<'a>> + ExactEq>(bytes: &'a [u8], value: F) {
     is_parsed(bytes, &value);
 }
 
-/// The attribute is parsed as the value, which is emitted as the canonical one.
+/// Asserts that the attribute is parsed as the value, which is emitted as the canonical one.
 pub(super) fn is_rewritten<'a, F: Parseable<NlaBuffer<'a>> + Nla + ExactEq>(
     bytes: &'a [u8],
     value: F,
@@ -319,13 +320,16 @@ pub(super) fn is_rewritten<'a, F: Parseable<NlaBuffer<'a>> + Nla + ExactEq>(
     is_emitted(&value, canonical);
 }
 
-/// `parse` refuses the attribute with this fault.
-pub(super) fn is_not_parsed<'a, F: Parseable<NlaBuffer<'a>>>(bytes: &'a [u8], fault: DecodeError) {
+/// Asserts that `parse` rejects the attribute with this error.
+pub(super) fn is_not_parsed<'a, F: Parseable<NlaBuffer<'a>>>(
+    bytes: &'a [u8],
+    expected: DecodeError,
+) {
     let read = F::parse(&attribute(bytes));
-    assert_is(("not parsed", bytes), read.err(), Some(fault));
+    assert_is(("not parsed", bytes), read.err(), Some(expected));
 }
 
-/// What `list_check` answers, with the headers that were looked at for it.
+/// The result of `list_check`, and the headers examined.
 pub(super) fn list_checked<F: LinkFamily>(
     ctx: F::Context,
     bytes: &[u8],
@@ -336,8 +340,8 @@ pub(super) fn list_checked<F: LinkFamily>(
     (checked, count.get())
 }
 
-/// The fault that `list_read` answers, if any, with the headers that were looked at for it.
-pub(super) fn list_fault<F: LinkFamily>(
+/// The error of `list_read`, if any, and the headers examined.
+pub(super) fn list_error<F: LinkFamily>(
     ctx: F::Context,
     bytes: &[u8],
 ) -> (Option<DecodeError>, usize) {
@@ -347,7 +351,7 @@ pub(super) fn list_fault<F: LinkFamily>(
     (read.err(), count.get())
 }
 
-/// What `first_check` answers, with the headers that were looked at for it.
+/// The result of `first_check`, and the headers examined.
 pub(super) fn first_checked<F: LinkFamily>(
     ctx: F::Context,
     bytes: &[u8],
@@ -358,15 +362,15 @@ pub(super) fn first_checked<F: LinkFamily>(
     (checked, count.get())
 }
 
-/// The list is accepted.
+/// Asserts that the list is accepted.
 fn is_accepted<F: LinkFamily>(ctx: F::Context, bytes: &[u8]) {
     assert!(bytes.len() < 1000);
     let checked = list_check::<F>(bytes, ctx, &mut HeaderCount::new());
     assert!(checked.is_ok());
 }
 
-/// The accepted list, which has at most 24 bytes, is written as these bytes, without its values,
-/// and nothing behind them is changed.
+/// Asserts that the accepted list, of at most 24 bytes, is re-encoded as these bytes, and the bytes
+/// after them are unchanged.
 pub(super) fn list_is_written_as<F: LinkFamily>(ctx: F::Context, bytes: &[u8], canonical: &[u8]) {
     is_accepted::<F>(ctx, bytes);
     let len = list_canonical_len::<F>(bytes, ctx).expect("a list that fits");
@@ -374,14 +378,14 @@ pub(super) fn list_is_written_as<F: LinkFamily>(ctx: F::Context, bytes: &[u8], c
     let mut buffer = [255; 27];
     assert_is(
         ("length written for list", bytes),
-        list_put_canonical::<F>(bytes, ctx, &mut buffer),
+        list_write_canonical::<F>(bytes, ctx, &mut buffer),
         len,
     );
     begins_with(&buffer, canonical);
 }
 
-/// The first attribute alone is written as these bytes, of which there are at most 24, without its
-/// value, and nothing behind them is changed.
+/// Asserts that the first attribute alone is re-encoded as these bytes, at most 24, and the bytes
+/// after them are unchanged.
 pub(super) fn first_is_written_as<F: LinkFamily>(ctx: F::Context, bytes: &[u8], canonical: &[u8]) {
     assert!(bytes.len() < 1000);
     let checked = first_check::<F>(bytes, ctx, &mut HeaderCount::new());
@@ -391,13 +395,13 @@ pub(super) fn first_is_written_as<F: LinkFamily>(ctx: F::Context, bytes: &[u8], 
     let mut buffer = [255; 27];
     assert_is(
         ("length written for first", bytes),
-        first_put_canonical::<F>(bytes, ctx, &mut buffer),
+        first_write_canonical::<F>(bytes, ctx, &mut buffer),
         len,
     );
     begins_with(&buffer, canonical);
 }
 
-/// Whether two accepted lists are the same, with the headers that were looked at for the answer.
+/// Whether two accepted lists are equivalent, and the headers examined.
 fn lists_same<F: LinkFamily>(ctx: F::Context, a: &[u8], b: &[u8]) -> (bool, usize) {
     is_accepted::<F>(ctx, a);
     is_accepted::<F>(ctx, b);
@@ -406,7 +410,8 @@ fn lists_same<F: LinkFamily>(ctx: F::Context, a: &[u8], b: &[u8]) -> (bool, usiz
     (same, count.get())
 }
 
-/// Each two accepted lists are the same, with so many headers looked at for the answer, or are not.
+/// Asserts of each pair of accepted lists that they are equivalent, with this number of headers
+/// examined, or are not.
 pub(super) fn compare_lists<F: LinkFamily>(
     ctx: F::Context,
     pairs: &[(&[u8], &[u8], Option<usize>)],
@@ -417,7 +422,7 @@ pub(super) fn compare_lists<F: LinkFamily>(
     }
 }
 
-/// The list is read as the values, and is what is emitted for them.
+/// Asserts that the list is read as the values, which are emitted as the list.
 pub(super) fn is_list<F: LinkFamily + ExactEq, const N: usize>(
     ctx: F::Context,
     bytes: &[u8],
@@ -426,7 +431,7 @@ pub(super) fn is_list<F: LinkFamily + ExactEq, const N: usize>(
     is_list_of(ctx, bytes, values.as_slice());
 }
 
-/// The list is read as the values at these places, and is what is emitted for them.
+/// Asserts that the list is read as the values with these indices, which are emitted as the list.
 fn is_list_of<F: LinkFamily + ExactEq>(ctx: F::Context, bytes: &[u8], values: &[F]) {
     let len = bytes.len();
     assert!(len <= 24);

@@ -1,11 +1,11 @@
-//! Peers of plain bytes, and what was read of attributes and what values show.
+//! Peers of bytes; the decoded contents of attributes, and the parts of values.
 
 use super::rows::{assert_is, kept};
 use crate::support::*;
 use linkinfo::layers::nla_frame::{Bytes, DefaultNla};
-use linkinfo::layers::table::{Datum, Found, LinkPeer, Part, PeerFault, Shape};
+use linkinfo::layers::table::{Datum, Decoded, Encodable, LinkPeer, PeerFault, Shape};
 
-/// The payload is read as a peer that is emitted as it.
+/// Asserts that the payload is read as a peer that is emitted as the payload.
 fn is_peer(payload: &[u8; 2]) {
     let Ok(peer) = <Bytes as LinkPeer>::read(payload) else {
         panic!("the payload is a peer");
@@ -20,7 +20,7 @@ fn is_peer(payload: &[u8; 2]) {
     );
 }
 
-/// How long a peer of this many bytes is, if it fits.
+/// The length of a peer of `count` bytes, if it fits.
 fn len_of_bytes(count: usize) -> Option<usize> {
     let zeros = try_vec![0u8; count].expect("memory");
     LinkPeer::fit_len(&Bytes::new(zeros))
@@ -48,42 +48,42 @@ fn bytes_are_peers() {
     );
 }
 
-/// What was read with a row compares by its type and its datum.
-fn typed_compare(found: &Found<'_>, same: &[u8; 2]) {
-    let clone = found.try_clone().expect("memory");
+/// Asserts that decoded contents of a type with a row compare by type and datum.
+fn typed_compare(decoded: &Decoded<'_>, same: &[u8; 2]) {
+    let clone = decoded.try_clone().expect("memory");
     assert_is(
         "what was read",
         [
-            *found == Found::Typed(1, Datum::Bytes(same)),
-            *found != Found::Typed(2, Datum::Bytes(same)),
-            *found != Found::Typed(1, Datum::Bytes(&same[..1])),
-            clone == *found,
+            *decoded == Decoded::Typed(1, Datum::Bytes(same)),
+            *decoded != Decoded::Typed(2, Datum::Bytes(same)),
+            *decoded != Decoded::Typed(1, Datum::Bytes(&same[..1])),
+            clone == *decoded,
         ],
         [true; 4],
     );
 }
 
-/// Whether parts and values that keep these two attributes are equal.
+/// Whether the parts and decoded contents of these two opaque attributes are equal.
 fn kept_compare(first: DefaultNla, second: DefaultNla) -> [bool; 2] {
-    let parts = Part::Kept(&first) == Part::Kept(&second);
-    [parts, Found::Kept(first) == Found::Kept(second)]
+    let encodables = Encodable::Kept(&first) == Encodable::Kept(&second);
+    [encodables, Decoded::Kept(first) == Decoded::Kept(second)]
 }
 
 #[test]
-fn parts_compare_by_what_they_hold() {
+fn parts_compare_by_value() {
     let text = [b'a', b'b'];
     let same = [b'a', b'b'];
-    typed_compare(&Found::Typed(1, Datum::Bytes(&text)), &same);
+    typed_compare(&Decoded::Typed(1, Datum::Bytes(&text)), &same);
     let kept = kept_compare(kept(7, &[1]), kept(7, &[1]));
     assert_is("kept attributes", kept, [true; 2]);
-    let part = Part::Typed(1, Shape::Raw, Datum::Bytes(&text));
-    let equal = Part::Typed(1, Shape::Raw, Datum::Bytes(&same));
-    let of_other_shape = Part::Typed(1, Shape::Name, Datum::Bytes(&same));
+    let part = Encodable::Typed(1, Shape::Raw, Datum::Bytes(&text));
+    let equal = Encodable::Typed(1, Shape::Raw, Datum::Bytes(&same));
+    let of_other_shape = Encodable::Typed(1, Shape::Name, Datum::Bytes(&same));
     let compared = [
-        Part::Custom == Part::Custom,
+        Encodable::Custom == Encodable::Custom,
         part == equal,
         part != of_other_shape,
-        part != Part::Custom,
+        part != Encodable::Custom,
     ];
     assert_is("parts", compared, [true; 4]);
 }

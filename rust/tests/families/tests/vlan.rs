@@ -1,4 +1,4 @@
-//! A family of one's own: lists of it read, checked, compared and written.
+//! A custom family: lists of it read, checked, compared and written.
 
 use super::rows::{compare_lists, has_shapes, is_kept, is_list, is_refused, is_row, unlisted};
 use crate::InfoVlanRow;
@@ -15,10 +15,11 @@ const ROWS: [(&[u8], InfoVlanRow); 3] = [
     (&[6, 0, 5, 0, 0x81, 0, 0, 0], InfoVlanRow::Protocol(0x8100)),
 ];
 
-/// The vlan 7 with 802.1Q.
+/// VLAN ID 7 with the protocol 802.1Q.
 const LIST: [u8; 16] = [6, 0, 1, 0, 7, 0, 0, 0, 6, 0, 5, 0, 0x81, 0, 0, 0];
 
-/// `LIST`, and what is the same or not: flag bits of known types and padding do not count.
+/// `LIST`, and lists that are equivalent or not: flag bits of known types and padding do not
+/// matter.
 const PAIRS: &[(&[u8], &[u8], Option<usize>)] = &[
     (
         &LIST,
@@ -29,7 +30,7 @@ const PAIRS: &[(&[u8], &[u8], Option<usize>)] = &[
 ];
 
 #[test]
-fn family_of_ones_own() {
+fn custom_family() {
     let shapes = [(1, Shape::Le16), (2, Shape::FlagPair), (5, Shape::Be16)];
     has_shapes::<InfoVlanRow>((), &shapes);
     for (bytes, value) in &ROWS {

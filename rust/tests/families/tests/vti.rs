@@ -14,7 +14,7 @@ const ROWS: [(&[u8], InfoVti); 6] = [
     (&[8, 0, 1, 0, 1, 0, 0, 0], InfoVti::Link(1)),
 ];
 
-/// Canonical attributes of 10.0.0.1 and fe80::2, local and remote.
+/// Canonical attributes of 10.0.0.1 and fe80::2: local and remote address.
 const ADDRESSES: &[&[u8]] = &[
     &[8, 0, 4, 0, 10, 0, 0, 1],
     &[

@@ -62,7 +62,7 @@ const MARKS: [(&[u8], InfoVxlan); 3] = [
     (&[4, 0, 27, 0], InfoVxlan::Gpe),
 ];
 
-/// Canonical attributes of 10.0.0.1 and fe80::2, of the group and local.
+/// Canonical attributes of 10.0.0.1 and fe80::2: group and local address.
 const ADDRESSES: &[&[u8]] = &[
     &[8, 0, 2, 0, 10, 0, 0, 1],
     &[8, 0, 4, 0, 10, 0, 0, 1],
@@ -90,7 +90,7 @@ fn rows_of_vxlan() {
     keeps_unlisted((), &UNLISTED, InfoVxlan::Other(unlisted()));
 }
 
-/// The attribute is the canonical one of the value, and is parsed as it.
+/// Asserts that the attribute is the canonical one of the value, and is parsed as it.
 fn is_parsed_row(bytes: &[u8], value: InfoVxlan) {
     is_parsed(bytes, &value);
     is_row((), bytes, &value);
@@ -98,7 +98,7 @@ fn is_parsed_row(bytes: &[u8], value: InfoVxlan) {
 
 #[test]
 fn worked_vxlan() {
-    // The only type of which a payload may be empty or a byte.
+    // The only type with a payload that may be empty or one byte.
     let zero = [5, 0, 28, 0, 0, 0, 0, 0];
     is_parsed_row(&zero, InfoVxlan::TtlInherit(0));
     is_parsed_row(&[4, 0, 28, 0], InfoVxlan::TtlInheritFlag);
@@ -111,7 +111,7 @@ fn worked_vxlan() {
     let seven = [5, 0, 25, 0, 7, 0, 0, 0];
     let collect = InfoVxlan::CollectMetadata(true);
     is_rewritten(&seven, collect, &[5, 0, 25, 0, 1, 0, 0, 0]);
-    // A flag stands whatever its payload, and is written without one.
+    // A presence flag is set whatever its payload, and is written without one.
     let seven = [5, 0, 23, 0, 7, 0, 0, 0];
     is_rewritten(&seven, InfoVxlan::Gbp, &[4, 0, 23, 0]);
 }

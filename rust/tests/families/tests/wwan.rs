@@ -1,4 +1,4 @@
-//! Rows of WWAN links.
+//! Rows of `wwan` links.
 
 use super::rows::{UNLISTED, has_rows, has_shapes, is_list, keeps_unlisted, unlisted};
 use linkinfo::layers::peers::InfoWwan;

@@ -1,8 +1,8 @@
-//! Rows of xfrm and vrf links, and lists and first attributes of a family.
+//! Rows of `xfrm` and `vrf` links, and lists and first attributes of a family.
 
 use super::rows::{
     UNLISTED, assert_is, compare_lists, error, first_checked, has_rows, has_shapes, is_list,
-    is_not_parsed, keeps_unlisted, list_checked, list_fault, reads, unlisted,
+    is_not_parsed, keeps_unlisted, list_checked, list_error, reads, unlisted,
 };
 use linkinfo::layers::devices::{InfoVrf, InfoXfrm};
 use linkinfo::layers::nla_frame::{Cause, Family, HeaderCount};
@@ -53,11 +53,11 @@ fn other_lengths() {
     ] {
         bytes[0] = len;
         bytes[2] = kind;
-        let fault = error(Family::Xfrm, u16::from(kind), Cause::Length);
-        is_not_parsed::<InfoXfrm>(&bytes, fault);
+        let expected = error(Family::Xfrm, u16::from(kind), Cause::Length);
+        is_not_parsed::<InfoXfrm>(&bytes, expected);
         if kind == 1 {
-            let fault = error(Family::Vrf, 1, Cause::Length);
-            is_not_parsed::<InfoVrf>(&bytes, fault);
+            let expected = error(Family::Vrf, 1, Cause::Length);
+            is_not_parsed::<InfoVrf>(&bytes, expected);
         }
     }
 }
@@ -66,7 +66,7 @@ fn other_lengths() {
 fn lists_are_checked() {
     let header = error(Family::Frame, 0, Cause::Header);
     let length = error(Family::Vrf, 1, Cause::Length);
-    // The first fault in byte order: a length before a stray byte.
+    // The first error in byte order: a length before a stray byte.
     let late = [5, 0, 1, 0, 7, 0, 0, 0, 1];
     for (bytes, answer) in [
         ([4, 0, 9, 0, 0].as_slice(), (Err(header), 1)),
@@ -78,7 +78,7 @@ fn lists_are_checked() {
         "list_check, list_read",
         (
             list_checked::<InfoVrf>((), &late),
-            list_fault::<InfoVrf>((), &late),
+            list_error::<InfoVrf>((), &late),
         ),
         ((Err(length), 1), (Some(length), 1)),
     );
@@ -87,8 +87,8 @@ fn lists_are_checked() {
 /// An attribute of type 1.
 const PLAIN: &[u8] = &[8, 0, 1, 0, 5, 0, 0, 0];
 
-/// Lists, and the headers that are looked at to find them the same, if they are. Flag bits of a
-/// known type and padding do not count, those of an unknown type do.
+/// Pairs of lists, and the headers examined if they are equivalent. Flag bits of a known type and
+/// padding do not matter, those of an unknown type do.
 const PAIRS: &[(&[u8], &[u8], Option<usize>)] = &[
     (&[8, 0, 1, 0x80, 5, 0, 0, 0], PLAIN, Some(2)),
     (&[5, 0, 3, 0, 7], &[5, 0, 3, 0, 7, 1, 2, 3], Some(2)),
@@ -104,8 +104,7 @@ fn lists_are_compared() {
     compare_lists::<InfoXfrm>((), PAIRS);
 }
 
-/// Whether the first attributes of two strings are the same, with the headers that were looked at
-/// for the answer.
+/// Whether the first attributes of two byte strings are equivalent, and the headers examined.
 fn firsts_same(a: &[u8], b: &[u8]) -> (bool, usize) {
     assert!(a.len() < 1000 && b.len() < 1000);
     let mut count = HeaderCount::new();
@@ -118,7 +117,7 @@ fn firsts_same(a: &[u8], b: &[u8]) -> (bool, usize) {
 }
 
 #[test]
-fn first_attributes_stand_alone() {
+fn first_attributes_are_read_alone() {
     let header = error(Family::Frame, 0, Cause::Header);
     let one = [8, 0, 1, 0x40, 7, 0, 0, 0];
     let two = [8, 0, 1, 0, 7, 0, 0, 0, 9, 9];

@@ -1,4 +1,4 @@
-//! What the tests ask of values, and the values that they make.
+//! Assertions and values for the tests.
 
 use crate::support::*;
 use linkinfo::layers::nla_frame::{
@@ -6,19 +6,19 @@ use linkinfo::layers::nla_frame::{
 };
 use std::fmt::{Debug, Display};
 
-/// What was found in this case is what is wanted.
+/// Asserts that the actual value of this case is the expected one.
 pub(super) fn assert_is<T: PartialEq + Debug>(case: impl Debug, found: T, wanted: T) {
     assert_eq!(found, wanted, "case {case:?}");
 }
 
-/// The value is displayed as the text.
+/// Asserts that the value is displayed as the text.
 pub(super) fn assert_displayed(value: &(impl Display + Debug), text: &str) {
     let displayed = value.try_to_text().expect("memory");
     assert_is(value, displayed.as_str(), text);
 }
 
-/// The value and a clone of it are equal to `same`, and the value is not to `other`, by `==` and by
-/// `is_equal`.
+/// Asserts that the value and its clone are equal to `same`, and the value is not equal to `other`,
+/// by `==` and by `is_equal`.
 pub(super) fn assert_equality<T: ExactEq + Clone>(value: &T, same: &T, other: &T) {
     let clone = value.try_clone().expect("memory");
     let by_operator = [clone == *same, *value == *same, *value == *other];
@@ -31,8 +31,8 @@ pub(super) fn assert_equality<T: ExactEq + Clone>(value: &T, same: &T, other: &T
     assert_is("by is_equal", by_function, [true, true, false]);
 }
 
-/// A fault of a family's attribute.
-pub(super) fn fault(family: Family, kind: u16, cause: Cause) -> DecodeError {
+/// The error of a family's attribute.
+pub(super) fn decode_error(family: Family, kind: u16, cause: Cause) -> DecodeError {
     DecodeError {
         family,
         kind,
@@ -40,17 +40,17 @@ pub(super) fn fault(family: Family, kind: u16, cause: Cause) -> DecodeError {
     }
 }
 
-/// The attribute that the bytes begin with.
+/// The first attribute of the bytes.
 pub(super) fn attribute<'a>(bytes: &'a [u8]) -> NlaBuffer<'a> {
     NlaBuffer::new_checked(bytes).expect("an attribute")
 }
 
-/// An attribute of a type and a payload, which is kept.
+/// An opaque attribute of a type and a payload.
 pub(super) fn kept(kind: u16, payload: &[u8]) -> DefaultNla {
     DefaultNla::new(kind, copied(payload).into_vec())
 }
 
-/// Attributes of these types and payloads.
+/// Opaque attributes of these types and payloads.
 pub(super) fn kept_list(attributes: &[(u16, &[u8])]) -> Vec<DefaultNla> {
     let mut list = Vec::new();
     for (kind, payload) in attributes {
@@ -69,7 +69,7 @@ pub(super) fn text_of(text: &str) -> Text {
     Text::copy_of(text).expect("memory")
 }
 
-/// The byte this many times.
+/// The byte, repeated `count` times.
 pub(super) fn repeated(byte: u8, count: usize) -> Vec<u8> {
     try_vec![byte; count].expect("memory")
 }

@@ -3,7 +3,8 @@
 use super::assertions::{assert_is, copied, kept, kept_list, repeated};
 use linkinfo::layers::nla_frame::{
     Bytes, DefaultNla, Emitable, Nla, ToVecError, emit_nlas, nlas_buffer_len, nlas_fit_len,
-    nlas_to_vec, put_attribute, put_attributes, put_bytes, put_bytes_attribute, put_frame,
+    nlas_to_vec, write_attribute, write_attributes, write_bytes, write_bytes_attribute,
+    write_frame,
 };
 
 /// Bytes without a header, as the layers above write statistics.
@@ -36,7 +37,7 @@ fn emits_one_attribute() {
     let taken = nla.emit_payload(&mut front);
     assert_is("emit_payload", (taken, front), (2, [1, 2, 255]));
 
-    // Padding is zero whatever stood in the buffer, and the bytes behind stay.
+    // Padding is zero whatever the buffer contained, and the bytes after it stay unchanged.
     let mut buffer = [255; 11];
     nla.emit(&mut buffer);
     assert_is("emit", buffer, [6, 0, 9, 0x80, 1, 2, 0, 0, 255, 255, 255]);
@@ -75,29 +76,29 @@ fn emits_lists() {
 }
 
 #[test]
-fn puts_attributes_in_front() {
+fn writes_attributes_at_the_front() {
     let list = kept_list(&[(0x8009, &[7]), (2, &[])]);
     assert!(nlas_fit_len(&list) == Some(12));
     assert!(nlas_buffer_len(&list) == 12);
     let mut buffer = [255; 13];
-    let taken = put_attributes(&list, &mut buffer);
+    let taken = write_attributes(&list, &mut buffer);
     assert_is(
-        "put_attributes",
+        "write_attributes",
         (taken, buffer),
         (12, [5, 0, 9, 0x80, 7, 0, 0, 0, 4, 0, 2, 0, 255]),
     );
 
     let nla = kept(3, &[1, 2]);
     assert!(nla.value.len() == 2);
-    let taken = put_attribute(&nla, &mut buffer);
+    let taken = write_attribute(&nla, &mut buffer);
     assert_is(
-        "put_attribute",
+        "write_attribute",
         (taken, buffer),
         (8, [6, 0, 3, 0, 1, 2, 0, 0, 4, 0, 2, 0, 255]),
     );
 }
 
-/// The attributes, written in one call.
+/// The byte string of the attributes, written in one call.
 fn written(list: &[DefaultNla]) -> Vec<u8> {
     nlas_to_vec(list).expect("attributes that fit")
 }
@@ -138,26 +139,26 @@ fn fits_up_to_65531_bytes() {
 }
 
 #[test]
-fn frames_are_put_round_payloads() {
+fn frames_are_written_around_payloads() {
     let mut buffer = [255; 13];
     buffer[4..9].copy_from_slice(&[1, 2, 3, 4, 5]);
-    put_frame(&mut buffer, 0x8007, 5);
+    write_frame(&mut buffer, 0x8007, 5);
     let wanted = [9, 0, 7, 0x80, 1, 2, 3, 4, 5, 0, 0, 0, 255];
     assert_is("of five bytes", buffer, wanted);
-    put_frame(&mut buffer, 1, 0);
+    write_frame(&mut buffer, 1, 0);
     let wanted = [4, 0, 1, 0, 1, 2, 3, 4, 5, 0, 0, 0, 255];
     assert_is("of none", buffer, wanted);
 }
 
 #[test]
-fn bytes_are_put_in_front() {
+fn bytes_are_written_at_the_front() {
     let mut buffer = [255; 13];
-    assert_is("put_bytes", put_bytes(&[1, 2, 3], &mut buffer), 3);
+    assert_is("write_bytes", write_bytes(&[1, 2, 3], &mut buffer), 3);
     assert_is("bytes", &buffer[..5], &[1, 2, 3, 255, 255]);
-    let taken = put_bytes_attribute(0x8007, &[1, 2, 3, 4, 5], &mut buffer);
+    let taken = write_bytes_attribute(0x8007, &[1, 2, 3, 4, 5], &mut buffer);
     let wanted = [9, 0, 7, 0x80, 1, 2, 3, 4, 5, 0, 0, 0, 255];
     assert_is("five bytes", (taken, buffer), (12, wanted));
-    let taken = put_bytes_attribute(1, &[], &mut buffer);
+    let taken = write_bytes_attribute(1, &[], &mut buffer);
     let wanted = [4, 0, 1, 0, 1, 2, 3, 4, 5, 0, 0, 0, 255];
     assert_is("no bytes", (taken, buffer), (4, wanted));
 }

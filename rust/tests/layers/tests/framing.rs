@@ -1,28 +1,28 @@
-//! Strings and the attributes that they frame.
+//! Byte strings and the attributes that they frame.
 
 use super::assertions::{assert_equality, assert_is, attribute, kept_list, repeated};
 use crate::support::*;
 use linkinfo::layers::nla_frame::{
     Cause, DecodeError, DefaultNla, Family, HeaderCount, NlaBuffer, NlasIterator, Parseable,
-    next_piece,
+    next_attribute,
 };
 
-const HEADER_FAULT: DecodeError = DecodeError {
+const HEADER_ERROR: DecodeError = DecodeError {
     family: Family::Frame,
     kind: 0,
     cause: Cause::Header,
 };
 
-/// What an iterator gives of a string until it ends, and what it says of itself then.
+/// What an iterator yields over a byte string until it ends, and its state then.
 #[derive(Debug, PartialEq)]
 struct Walked {
     attributes: Vec<DefaultNla>,
-    fault: Option<DecodeError>,
+    failure: Option<DecodeError>,
     examined: usize,
     place: usize,
 }
 
-/// The attribute, kept.
+/// The attribute as an opaque one.
 fn parsed(nla: &NlaBuffer<'_>) -> DefaultNla {
     DefaultNla::parse(nla).expect("memory")
 }
@@ -30,39 +30,39 @@ fn parsed(nla: &NlaBuffer<'_>) -> DefaultNla {
 fn walk(bytes: &[u8]) -> Walked {
     let mut iterator = NlasIterator::new(bytes);
     let mut attributes = Vec::new();
-    let mut fault = None;
+    let mut failure = None;
     for _ in 0..=bytes.len() {
         match iterator.next() {
             Some(Ok(nla)) => attributes.try_push(parsed(&nla)).expect("memory"),
-            Some(Err(error)) => fault = Some(error),
+            Some(Err(error)) => failure = Some(error),
             None => break,
         }
     }
     Walked {
         attributes,
-        fault,
+        failure,
         examined: iterator.examined(),
         place: iterator.place(),
     }
 }
 
-/// The same by single steps, with the count that they leave.
+/// The attributes by single steps, with the count after them.
 fn steps(bytes: &[u8]) -> Walked {
     let mut rest = bytes;
     let mut count = HeaderCount::new();
     let mut attributes = Vec::new();
-    let mut fault = None;
+    let mut failure = None;
     for _ in 0..=bytes.len() {
         if count.get() > bytes.len() {
             break;
         }
-        match next_piece(rest, &mut count) {
+        match next_attribute(rest, &mut count) {
             Some(Ok((nla, after))) => {
                 attributes.try_push(parsed(&nla)).expect("memory");
                 rest = after;
             }
             Some(Err(error)) => {
-                fault = Some(error);
+                failure = Some(error);
                 break;
             }
             None => break,
@@ -70,22 +70,22 @@ fn steps(bytes: &[u8]) -> Walked {
     }
     Walked {
         attributes,
-        fault,
+        failure,
         examined: count.get(),
         place: bytes.len().saturating_sub(rest.len()),
     }
 }
 
-/// What a string frames: its attributes, its error, the headers examined, and the offset of an
-/// iterator at the end.
+/// Asserts what a byte string frames: its attributes, its error, the headers examined, and the
+/// offset of an iterator at the end.
 fn check_walk(
     bytes: &[u8],
     attributes: &[(u16, &[u8])],
-    (fault, examined, place): (Option<DecodeError>, usize, usize),
+    (failure, examined, place): (Option<DecodeError>, usize, usize),
 ) {
     let wanted = Walked {
         attributes: kept_list(attributes),
-        fault,
+        failure,
         examined,
         place,
     };
@@ -93,8 +93,8 @@ fn check_walk(
     assert_is(("steps", bytes), &steps(bytes), &wanted);
 }
 
-/// A string, its attributes, its error, the headers examined, and the offset of an iterator at the
-/// end.
+/// A byte string, its attributes, its error, the headers examined, and the offset of an iterator at
+/// the end.
 type Framed = (
     &'static [u8],
     &'static [(u16, &'static [u8])],
@@ -102,38 +102,39 @@ type Framed = (
 );
 
 const STRINGS: &[Framed] = &[
-    // Nothing is the empty list.
+    // The empty byte string is the empty list.
     (&[], &[], (None, 0, 0)),
     // Flag bits belong to the type.
     (&[4, 0, 9, 0x80], &[(0x8009, &[])], (None, 1, 4)),
     (&[4, 0, 9, 0], &[(9, &[])], (None, 1, 4)),
-    // Header faults: three bytes, a length field of 3, one above the bytes, and a stray byte after an aligned attribute.
-    (&[8, 0, 1], &[], (Some(HEADER_FAULT), 0, 0)),
-    (&[3, 0, 1, 0], &[], (Some(HEADER_FAULT), 1, 0)),
+    // Header errors: three bytes, a length field of 3, one above the number of bytes, and a stray
+    // byte after an aligned attribute.
+    (&[8, 0, 1], &[], (Some(HEADER_ERROR), 0, 0)),
+    (&[3, 0, 1, 0], &[], (Some(HEADER_ERROR), 1, 0)),
     (
         &[9, 0, 1, 0, 0x78, 0x66, 0x72, 0x6d],
         &[],
-        (Some(HEADER_FAULT), 1, 0),
+        (Some(HEADER_ERROR), 1, 0),
     ),
-    (&[4, 0, 9, 0, 0], &[(9, &[])], (Some(HEADER_FAULT), 1, 4)),
-    (&[4, 0, 9, 0, 0, 0], &[(9, &[])], (Some(HEADER_FAULT), 1, 4)),
+    (&[4, 0, 9, 0, 0], &[(9, &[])], (Some(HEADER_ERROR), 1, 4)),
+    (&[4, 0, 9, 0, 0, 0], &[(9, &[])], (Some(HEADER_ERROR), 1, 4)),
     (
         &[4, 0, 9, 0, 0, 0, 0],
         &[(9, &[])],
-        (Some(HEADER_FAULT), 1, 4),
+        (Some(HEADER_ERROR), 1, 4),
     ),
 ];
 
 /// Length fields 0 to 4.
 const SHORT_LENGTH_FIELDS: &[Framed] = &[
-    (&[0, 0, 1, 0], &[], (Some(HEADER_FAULT), 1, 0)),
-    (&[1, 0, 1, 0], &[], (Some(HEADER_FAULT), 1, 0)),
-    (&[2, 0, 1, 0], &[], (Some(HEADER_FAULT), 1, 0)),
+    (&[0, 0, 1, 0], &[], (Some(HEADER_ERROR), 1, 0)),
+    (&[1, 0, 1, 0], &[], (Some(HEADER_ERROR), 1, 0)),
+    (&[2, 0, 1, 0], &[], (Some(HEADER_ERROR), 1, 0)),
     (&[4, 0, 1, 0], &[(1, &[])], (None, 1, 4)),
 ];
 
 const PADDED: &[Framed] = &[
-    // The last attribute's padding may be absent, cut short, or anything.
+    // The padding of the last attribute may be absent, cut short, or of any value.
     (&[5, 0, 1, 0, 7], &[(1, &[7])], (None, 1, 5)),
     (&[5, 0, 1, 0, 7, 1], &[(1, &[7])], (None, 1, 6)),
     (&[5, 0, 1, 0, 7, 1, 2], &[(1, &[7])], (None, 1, 7)),
@@ -141,9 +142,9 @@ const PADDED: &[Framed] = &[
     (
         &[5, 0, 1, 0, 7, 1, 2, 3, 4],
         &[(1, &[7])],
-        (Some(HEADER_FAULT), 1, 8),
+        (Some(HEADER_ERROR), 1, 8),
     ),
-    // Padding inside the list is passed over whatever it holds; a fault comes after what is in front of it.
+    // Padding inside the list may have any value; an error comes after the attributes before it.
     (
         &[6, 0, 1, 0, 7, 8, 255, 255, 4, 0, 2, 0],
         &[(1, &[7, 8]), (2, &[])],
@@ -152,7 +153,7 @@ const PADDED: &[Framed] = &[
     (
         &[6, 0, 1, 0, 7, 8, 255, 255, 4, 0, 2, 0, 3, 0, 0, 0],
         &[(1, &[7, 8]), (2, &[])],
-        (Some(HEADER_FAULT), 3, 12),
+        (Some(HEADER_ERROR), 3, 12),
     ),
 ];
 
@@ -173,11 +174,11 @@ fn frames_short_length_fields() {
 }
 
 #[test]
-fn passes_over_padding() {
+fn ignores_padding() {
     check_walks(PADDED);
 }
 
-/// This many bytes of the attribute with the longest value.
+/// The first `len` bytes of the attribute with the longest payload.
 fn longest(len: usize) -> Vec<u8> {
     let mut bytes = repeated(97, len);
     assert!(bytes.len() >= 4);
@@ -192,7 +193,7 @@ fn longest(len: usize) -> Vec<u8> {
 fn frames_the_longest_value() {
     let cut = longest(65534);
     let refused = NlaBuffer::new_checked(&cut).err();
-    assert_is("a byte less", refused, Some(HEADER_FAULT));
+    assert_is("a byte less", refused, Some(HEADER_ERROR));
     let whole = longest(65535);
     let nla = attribute(&whole);
     assert_is("all", (nla.length(), nla.value().len()), (65535, 65531));
@@ -211,8 +212,7 @@ fn reads_one_attribute() {
     assert_equality(&nla, &same, &other);
 }
 
-/// Whether the bytes begin with an attribute, and what a count of four headers is after that was
-/// looked at.
+/// Whether the bytes begin with an attribute, and the count after it, from a count of four headers.
 fn counted(bytes: &[u8]) -> (bool, usize) {
     let mut count = HeaderCount::default();
     count.add(4);

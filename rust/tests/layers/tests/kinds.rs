@@ -1,13 +1,13 @@
-//! Kinds of links and ports: names, tags, attributes.
+//! Link kinds and port kinds: names, tags, attributes.
 
-use super::assertions::{assert_displayed, assert_is, attribute, fault, repeated, text_of};
+use super::assertions::{assert_displayed, assert_is, attribute, decode_error, repeated, text_of};
 use crate::support::*;
 use linkinfo::layers::nla_frame::{Cause, ExactEq, Family, Nla, Parseable, is_equal};
 use linkinfo::layers::numbers::{
     InfoKind, InfoPortKind, KindTag, PortTag, port_tag_of_name, tag_of_name,
 };
 
-/// The kinds by their names.
+/// The kinds and their names.
 const KINDS: &[(&str, KindTag)] = &[
     ("dummy", KindTag::Dummy),
     ("ifb", KindTag::Ifb),
@@ -57,7 +57,7 @@ const KINDS: &[(&str, KindTag)] = &[
     ("rmnet", KindTag::RmNet),
 ];
 
-/// Names of no kind, each beside one of a kind.
+/// Names of no kind, each similar to the name of one.
 const OTHERS: &[&str] = &[
     "",
     "a",
@@ -98,7 +98,7 @@ fn port_kind_of(name: &str) -> InfoPortKind {
     InfoPortKind::from_text(name).expect("memory")
 }
 
-/// The kind has this name and tag, and `tag_of_name` gives the tag too.
+/// Asserts that the kind has this name and tag, and `tag_of_name` returns the tag too.
 fn is_named(kind: &InfoKind, name: &str, tag: KindTag) {
     assert_displayed(kind, name);
     let tags = [kind.tag(), tag_of_name(name.as_bytes())];
@@ -106,7 +106,7 @@ fn is_named(kind: &InfoKind, name: &str, tag: KindTag) {
     assert_is(("fit_len of", name), kind.fit_len(), Some(name.len() + 1));
 }
 
-/// The value and its clone are equal to the other value.
+/// Asserts that the value and its clone are equal to the other value.
 fn is_same<T: ExactEq + Clone>(value: &T, same: &T) {
     assert!(is_equal(value, same));
     assert!(value.try_clone().expect("memory") == *same);
@@ -129,13 +129,13 @@ fn other_kinds() {
         is_named(&kind, name, KindTag::Other);
         is_same(&kind, &InfoKind::Other(text_of(name)));
     }
-    // The tag goes by the variant.
+    // The tag depends on the variant.
     let other = InfoKind::Other(text_of("xfrm"));
     assert_is("Other of xfrm", other.tag(), KindTag::Other);
     assert!(other != InfoKind::Xfrm);
 }
 
-/// The port kind of the name has this tag, and `port_tag_of_name` gives the tag too.
+/// Asserts that the port kind of the name has this tag, and `port_tag_of_name` returns the tag too.
 fn is_port_named(name: &str, tag: PortTag) {
     let kind = port_kind_of(name);
     assert_displayed(&kind, name);
@@ -179,7 +179,7 @@ const KINDS_READ: &[(&[u8], &str)] = &[
     (&[9, 0, 1, 0, b'v', b'r', b'f', 0, 0], "vrf\0"),
 ];
 
-/// Attributes that are no kinds, and their faults.
+/// Attributes that are no kinds, and their errors.
 const KINDS_REFUSED: &[(&[u8], u16, Cause)] = &[
     (&[4, 0, 2, 0], 2, Cause::WrongType),
     (&[6, 0, 4, 0x80, b'x', 0], 4, Cause::WrongType),
@@ -194,7 +194,7 @@ fn kinds_in_attributes() {
     }
     for (bytes, kind, cause) in KINDS_REFUSED {
         let read = InfoKind::parse(&attribute(bytes));
-        let refused = fault(Family::LinkInfo, *kind, *cause);
+        let refused = decode_error(Family::LinkInfo, *kind, *cause);
         assert_is(bytes, read.err(), Some(refused));
     }
 }
@@ -205,7 +205,7 @@ const PORT_KINDS_READ: &[(&[u8], &str)] = &[
     (&[5, 0, 4, 0, b'x'], "x"),
 ];
 
-/// Attributes that are no port kinds, and their faults.
+/// Attributes that are no port kinds, and their errors.
 const PORT_KINDS_REFUSED: &[(&[u8], u16, Cause)] = &[
     (&[4, 0, 1, 0], 1, Cause::WrongType),
     (&[6, 0, 4, 0, 0xc3, 0x28], 4, Cause::Utf8),
@@ -215,7 +215,7 @@ const PORT_KINDS_REFUSED: &[(&[u8], u16, Cause)] = &[
 fn port_kinds_in_attributes() {
     for (bytes, kind, cause) in PORT_KINDS_REFUSED {
         let read = InfoPortKind::parse(&attribute(bytes));
-        let refused = fault(Family::LinkInfo, *kind, *cause);
+        let refused = decode_error(Family::LinkInfo, *kind, *cause);
         assert_is(bytes, read.err(), Some(refused));
     }
     for (bytes, text) in PORT_KINDS_READ {
@@ -264,7 +264,7 @@ fn port_kinds_as_attributes() {
     assert_is("emit", buffer, [6, 0, 4, 0, b'x', 0, 0, 0, 255]);
 }
 
-/// A name of this many letters.
+/// A name of `count` letters.
 fn letters(count: usize) -> String {
     String::from_utf8(repeated(b'a', count)).expect("letters")
 }

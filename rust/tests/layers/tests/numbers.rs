@@ -1,4 +1,4 @@
-//! Each number type, both ways.
+//! Each number type, converted both ways.
 
 use super::assertions::assert_is;
 use linkinfo::layers::numbers::{
@@ -8,7 +8,7 @@ use linkinfo::layers::numbers::{
 };
 use std::fmt::Debug;
 
-/// Each number gives its value, and each value its number.
+/// Asserts that each number gives its value, and each value its number.
 fn check_both_ways<N, T>(rows: &[(N, T)])
 where
     N: From<T> + Copy + PartialEq + Debug,
@@ -20,7 +20,7 @@ where
     }
 }
 
-// The named numbers of each type, the numbers beside them, and the largest.
+// The named numbers of each type, the numbers next to them, and the largest.
 
 const AMT_MODES: &[(u32, AmtMode)] = &[
     (0, AmtMode::Gateway),
@@ -208,7 +208,7 @@ fn device_numbers() {
     check_both_ways(NETKIT_POLICIES);
 }
 
-/// Numbers of types that are turned into them by reference.
+/// Numbers of types with a conversion from a reference.
 const GRE_ENCAP_TYPES: &[(u16, GreEncapType)] = &[
     (0, GreEncapType::None),
     (1, GreEncapType::Fou),
@@ -242,7 +242,7 @@ fn numbers_of_references() {
     }
 }
 
-/// Numbers, their values, and the numbers of these.
+/// Numbers, their values, and the numbers of these values.
 const SCRUBS: &[(u32, NetkitScrub, u32)] = &[
     (0, NetkitScrub::None, 0),
     (1, NetkitScrub::Default, 1),
@@ -263,7 +263,7 @@ fn numbers_of_scrubs() {
 }
 
 #[test]
-fn values_by_default() {
+fn default_values() {
     assert_is(
         "GtpRole, GreEncapType, ErSpanDir",
         (

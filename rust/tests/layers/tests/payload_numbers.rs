@@ -40,8 +40,8 @@ fn parses_addresses() {
     );
 }
 
-/// Whether the payload is read as u8, u16, u32, u64, i32, big-endian u16, u32 and u64, hardware,
-/// IP, IPv4 and IPv6 address.
+/// Whether the payload is accepted as u8, u16, u32, u64, i32, big-endian u16, u32 and u64, hardware
+/// address, IP, IPv4 and IPv6 address.
 fn accepted(payload: &[u8]) -> [bool; 12] {
     [
         parse_u8(payload).is_ok(),
@@ -60,7 +60,7 @@ fn accepted(payload: &[u8]) -> [bool; 12] {
 }
 
 #[test]
-fn refuses_other_lengths() {
+fn rejects_other_lengths() {
     let bytes = [0; 17];
     for len in 0..=17 {
         let (two, four, eight, sixteen) = (len == 2, len == 4, len == 8, len == 16);
@@ -107,7 +107,7 @@ fn emits_numbers() {
 }
 
 #[test]
-fn takes_one_nul_off_a_name() {
+fn strips_one_nul_from_a_name() {
     let names: [&[u8]; 4] = [
         without_nul(b"vrf\0"),
         without_nul(b"vrf\0\0"),

@@ -1,7 +1,7 @@
 //! Errors, and values that own memory.
 
 use super::assertions::{
-    assert_displayed, assert_equality, assert_is, attribute, copied, fault, kept, text_of,
+    assert_displayed, assert_equality, assert_is, attribute, copied, decode_error, kept, text_of,
 };
 use crate::support::*;
 use linkinfo::compat::{AllocError, AllocFailed};
@@ -9,7 +9,7 @@ use linkinfo::layers::nla_frame::{
     Bytes, Cause, DecodeError, DefaultNla, Family, Nlas, Parseable, Text, ToVecError,
 };
 
-/// A value that holds a list of itself.
+/// A value that contains a list of itself.
 #[derive(Debug, PartialEq, Eq, Clone)]
 enum Nested {
     Number(u32),
@@ -18,7 +18,7 @@ enum Nested {
 
 #[test]
 fn displays_errors() {
-    let order = fault(Family::LinkInfo, 2, Cause::Order);
+    let order = decode_error(Family::LinkInfo, 2, Cause::Order);
     assert_displayed(&order, "linkinfo 2 order");
     assert_displayed(&Family::BareUdp, "bareudp");
     assert_displayed(&Cause::AddressKind, "addresskind");
@@ -43,8 +43,8 @@ fn numbers_causes() {
 }
 
 #[test]
-fn want_of_memory_is_a_fault() {
-    let memory = fault(Family::Frame, 0, Cause::Memory);
+fn failed_allocation_is_an_error() {
+    let memory = decode_error(Family::Frame, 0, Cause::Memory);
     let refused = AllocFailed { value: 7u8 };
     assert_is(
         "DecodeError",
@@ -84,14 +84,14 @@ fn keeps_text() {
 }
 
 #[test]
-fn keeps_attributes_whole() {
+fn keeps_attributes_verbatim() {
     let nla = DefaultNla::parse(&attribute(&[5, 0, 9, 0x80, 7])).expect("memory");
     let same = kept(0x8009, &[7]);
     let other = kept(9, &[7]);
     assert_equality(&nla, &same, &other);
 }
 
-/// These numbers.
+/// A `Vec` of these numbers.
 fn numbers_of<const N: usize>(numbers: [u32; N]) -> Vec<u32> {
     Vec::try_from_array(numbers).expect("memory")
 }
@@ -111,7 +111,7 @@ fn keeps_lists() {
 }
 
 #[test]
-fn goes_over_lists() {
+fn iterates_over_lists() {
     let numbers = Nlas::new(numbers_of([3, 1, 2]));
     assert_is("the last", numbers.iter().rev().next(), Some(&2));
     let mut borrowed = Vec::new();

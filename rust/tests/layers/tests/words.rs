@@ -1,6 +1,6 @@
-//! Texts of values, and values of words.
+//! Displayed texts of values, and values of texts.
 
-use super::assertions::{assert_displayed, assert_is, fault};
+use super::assertions::{assert_displayed, assert_is, decode_error};
 use linkinfo::layers::nla_frame::{Cause, DecodeError, Family};
 use linkinfo::layers::numbers::{
     AmtMode, ErSpanDir, GeneveDf, GreEncapType, GtpRole, IpVlanMode, MacVlanMode, NetkitMode,
@@ -9,7 +9,7 @@ use linkinfo::layers::numbers::{
 use std::fmt::{Debug, Display};
 use std::str::FromStr;
 
-/// Each value displays as its text.
+/// Asserts that each value is displayed as its text.
 fn check_texts<T: Display + Debug>(rows: &[(T, &str)]) {
     for (value, text) in rows {
         assert_displayed(value, text);
@@ -19,7 +19,7 @@ fn check_texts<T: Display + Debug>(rows: &[(T, &str)]) {
 /// Texts that name no value.
 const NO_WORDS: &[&str] = &["", "0", "other", "L2", "Gateway", "gateway ", "set\0"];
 
-/// Each named value's text reads back as it, and the other texts are refused.
+/// Asserts that the text of each named value parses as it, and the other texts are rejected.
 fn check_words<T>(family: Family, rows: &[(T, &str)])
 where
     T: Display + FromStr<Err = DecodeError> + Copy + PartialEq + Debug,
@@ -29,12 +29,12 @@ where
         assert_is(text, T::from_str(text), Ok(*value));
     }
     for text in NO_WORDS {
-        let refused = Err(fault(family, 0, Cause::Word));
+        let refused = Err(decode_error(family, 0, Cause::Word));
         assert_is(text, T::from_str(text), refused);
     }
 }
 
-// The values that a word names, and their words.
+// The values that a text names, and their texts.
 
 const AMT_WORDS: &[(AmtMode, &str)] = &[(AmtMode::Gateway, "gateway"), (AmtMode::Relay, "relay")];
 
@@ -80,11 +80,11 @@ fn words() {
     check_words(Family::Netkit, NETKIT_MODE_WORDS);
     check_words(Family::Netkit, NETKIT_POLICY_WORDS);
     check_words(Family::Netkit, NETKIT_SCRUB_WORDS);
-    let refused = Err(fault(Family::Netkit, 0, Cause::Word));
+    let refused = Err(decode_error(Family::Netkit, 0, Cause::Word));
     assert_is("l3s", NetkitMode::from_str("l3s"), refused);
 }
 
-// Values and their texts, where no word is read or the text is none.
+// Values and their texts, of types that are not parsed, and `Other` values.
 
 const AMT_TEXTS: &[(AmtMode, &str)] = &[
     (AmtMode::Other(2), "2"),

@@ -1,4 +1,4 @@
-//! What the tests ask of one string or one value.
+//! Assertions on one byte string or one value.
 
 use crate::support::*;
 use linkinfo::layers::link::{
@@ -8,25 +8,25 @@ use linkinfo::layers::link::{
 };
 use std::fmt::Debug;
 
-/// Both values are equal: else prints the case, and both of them.
+/// Asserts that two values are equal; if they are not, prints the case and both values.
 pub fn assert_equal<C: Debug, T: Debug + PartialEq>(case: &C, found: &T, wanted: &T) {
     assert_eq!(found, wanted, "{case:?}");
 }
 
-/// The condition holds: else prints the case.
+/// Asserts that a condition holds; if it does not, prints the case.
 pub fn assert_holds<C: Debug>(case: &C, holds: bool) {
     assert!(holds, "{case:?}");
 }
 
-/// The fault of a header that is not accepted.
-pub const HEADER_FAULT: DecodeError = DecodeError {
+/// The error of a header that is not accepted.
+pub const HEADER_ERROR: DecodeError = DecodeError {
     family: Family::Frame,
     kind: 0,
     cause: Cause::Header,
 };
 
-/// A fault of an attribute of the list itself.
-pub fn link_fault(kind: u16, cause: Cause) -> DecodeError {
+/// An error of an attribute of the list itself.
+pub fn link_error(kind: u16, cause: Cause) -> DecodeError {
     DecodeError {
         family: Family::LinkInfo,
         kind,
@@ -34,7 +34,7 @@ pub fn link_fault(kind: u16, cause: Cause) -> DecodeError {
     }
 }
 
-/// The bytes of a text in hexadecimal digits, between which spaces may stand.
+/// The bytes of a text in hex digits, with or without spaces between them.
 pub fn bytes_of(text: &str) -> Vec<u8> {
     let mut bytes = Vec::new();
     let mut high = None;
@@ -57,7 +57,7 @@ pub fn bytes_of(text: &str) -> Vec<u8> {
     bytes
 }
 
-/// Attributes of a family.
+/// A list of attributes of a family.
 pub fn nlas<T, const N: usize>(items: [T; N]) -> Nlas<T> {
     Nlas::new(Vec::try_from_array(items).expect("memory"))
 }
@@ -72,7 +72,7 @@ pub fn text_of(text: &str) -> Text {
     Text::copy_of(text).expect("memory")
 }
 
-/// An attribute of a type and a payload, which is kept.
+/// An attribute of a type and a payload, kept verbatim.
 pub fn default_nla(kind: u16, payload: &[u8]) -> DefaultNla {
     DefaultNla::new(kind, payload.try_to_vec().expect("memory"))
 }
@@ -82,7 +82,7 @@ pub fn repeated(byte: u8, count: usize) -> Vec<u8> {
     try_vec![byte; count].expect("memory")
 }
 
-/// The list that the string is read as.
+/// The list that a byte string parses as.
 pub fn parsed(bytes: &[u8]) -> VecLinkInfo {
     VecLinkInfo::parse(bytes).expect("a list")
 }
@@ -97,14 +97,16 @@ pub fn list_of<const N: usize>(items: [LinkInfo; N]) -> VecLinkInfo {
     VecLinkInfoOf(nlas(items))
 }
 
-/// The buffer begins with the string, and the three bytes behind it are 255, as they were.
+/// Asserts that the buffer begins with the encoding, and that the three bytes after it are 255, as
+/// before.
 fn assert_written(buffer: &[u8], string: &[u8]) {
     let len = string.len();
     assert_equal(&string, &buffer.get(..len), &Some(string));
     assert_equal(&string, &buffer.get(len..), &Some([255; 3].as_slice()));
 }
 
-/// The list is emitted as the string into a longer buffer, whose last three bytes stay.
+/// Asserts that the list is written as the encoding into a longer buffer, whose last three bytes
+/// are unchanged.
 pub fn assert_emitted<T: Nla>(items: &[T], string: &[u8]) {
     let fit = nlas_fit_len(items).expect("a list that fits");
     let len = nlas_buffer_len(items);
@@ -116,25 +118,25 @@ pub fn assert_emitted<T: Nla>(items: &[T], string: &[u8]) {
     assert_written(&buffer, string);
 }
 
-/// The list of these attributes is emitted as the string.
+/// Asserts that the list of these attributes is written as the encoding.
 pub fn assert_built<const N: usize>(items: [LinkInfo; N], string: &[u8]) {
     assert_emitted(items.as_slice(), string);
 }
 
-/// Whether the strings are read as equal lists.
+/// Returns whether two byte strings parse as equal lists.
 pub fn reads_equal(a: &[u8], b: &[u8]) -> bool {
     let first = parsed(a);
     let second = parsed(b);
     first == second
 }
 
-/// The string is read as the list of these attributes.
+/// Asserts that a byte string parses as the list of these attributes.
 pub fn assert_read_as<const N: usize>(bytes: &[u8], items: [LinkInfo; N]) {
     assert_read(bytes, &list_of(items));
 }
 
-/// The canonical string of the bytes is refused to a buffer of this many bytes, which stays as it
-/// was.
+/// Asserts that the canonical encoding of the bytes is not written into a buffer of this many
+/// bytes, which is unchanged.
 pub fn assert_not_written(bytes: &[u8], room: usize, refused: CanonIntoError) {
     let mut buffer = repeated(255, room);
     let case = (bytes, room);
@@ -142,8 +144,8 @@ pub fn assert_not_written(bytes: &[u8], room: usize, refused: CanonIntoError) {
     assert_equal(&case, &buffer, &repeated(255, room));
 }
 
-/// The bytes are written as the canonical string into every buffer that has room for it, which
-/// keeps what stands behind, and into none that is shorter.
+/// Asserts that the canonical encoding of the bytes is written into each buffer that has room for
+/// it, whose rest is unchanged, and into no shorter one.
 pub fn assert_canon_into(bytes: &[u8], canonical: &[u8]) {
     let len = canonical.len();
     for room in 0..len {
@@ -158,8 +160,8 @@ pub fn assert_canon_into(bytes: &[u8], canonical: &[u8]) {
     assert_written(&longer, canonical);
 }
 
-/// The bytes are accepted, are the same as the canonical string in either order, and are made that
-/// string in one call.
+/// Asserts that the bytes are accepted, that they are equivalent to the canonical encoding in
+/// either order, and that `canon` returns this encoding.
 fn assert_accepted(bytes: &[u8], canonical: &[u8]) {
     let string = canon(bytes).expect("a canonical string");
     assert_equal(&bytes, &check(bytes), &Ok(()));
@@ -168,13 +170,14 @@ fn assert_accepted(bytes: &[u8], canonical: &[u8]) {
     assert_equal(&bytes, &string.as_slice(), &canonical);
 }
 
-/// The list that the string is read as, where headers are counted.
+/// The list that a byte string parses as, with headers counted.
 fn parsed_counted(bytes: &[u8]) -> VecLinkInfo {
     let mut count = HeaderCount::new();
     VecLinkInfo::parse_counted(bytes, &mut count).expect("a list")
 }
 
-/// A walk gives each attribute of the list in order, at its place, and ends where the bytes do.
+/// Asserts that a walk returns each attribute of the list in order, at its offset, and ends at the
+/// end of the bytes.
 fn assert_walked(bytes: &[u8], list: &VecLinkInfo) {
     let mut walk = LinkInfoWalk::new(bytes);
     for item in list.iter() {
@@ -182,23 +185,23 @@ fn assert_walked(bytes: &[u8], list: &VecLinkInfo) {
             panic!("an attribute");
         };
         assert_equal(&bytes, &(found.raw_kind & 0x3fff), &(item.kind() & 0x3fff));
-        let behind = bytes.get(found.place..).unwrap_or_default();
-        let payload = behind.get(4..4 + found.value.len());
+        let after = bytes.get(found.place..).unwrap_or_default();
+        let payload = after.get(4..4 + found.value.len());
         assert_equal(&bytes, &payload, &Some(found.value));
     }
     assert_holds(&bytes, walk.next().is_none());
     assert_equal(&bytes, &walk.place(), &bytes.len());
 }
 
-/// The bytes are read as the list, whether headers are counted or not.
+/// Asserts that the bytes parse as the list, whether headers are counted or not.
 fn assert_read(bytes: &[u8], wanted: &VecLinkInfo) {
     assert_holds(&bytes, parsed(bytes) == *wanted);
     assert_holds(&bytes, parsed_counted(bytes) == *wanted);
     assert_walked(bytes, wanted);
 }
 
-/// The string is read as the list, and the list is emitted as its canonical string, which reads as
-/// the same list.
+/// Asserts that the bytes of the text parse as the list, and that the list is written as its
+/// canonical encoding, which parses as the same list.
 fn assert_list(text: &str, list: &VecLinkInfo, canonical: &str) {
     let string = bytes_of(canonical);
     let bytes = bytes_of(text);
@@ -211,13 +214,14 @@ fn assert_list(text: &str, list: &VecLinkInfo, canonical: &str) {
     assert_canon_into(&string, &string);
 }
 
-/// The string is read as the list of these attributes, which is emitted as its canonical string.
+/// Asserts that the bytes of the text parse as the list of these attributes, which is written as
+/// its canonical encoding.
 pub fn assert_reads<const N: usize>(text: &str, items: [LinkInfo; N], canonical: &str) {
     assert_list(text, &list_of(items), canonical);
 }
 
-/// The string is read as the value, written as `Debug` writes it, which is emitted as the canonical
-/// string.
+/// Asserts that the bytes of the text parse as the value, which is given as `Debug` writes it, and
+/// which is written as the canonical encoding.
 pub fn assert_value(text: &str, canonical: &str, value: &str) {
     let read = parsed(&bytes_of(text));
     let written = try_format!("{:?}", read.as_slice()).expect("memory");
@@ -225,33 +229,34 @@ pub fn assert_value(text: &str, canonical: &str, value: &str) {
     assert_list(text, &read, canonical);
 }
 
-/// The string is refused with this fault by every call.
-pub fn assert_refused(bytes: &[u8], fault: DecodeError) {
+/// Asserts that each call rejects the bytes with this error.
+pub fn assert_refused(bytes: &[u8], error: DecodeError) {
     let read = VecLinkInfo::parse(bytes).err();
     let rewritten = canon(bytes).err();
-    assert_equal(&bytes, &check(bytes), &Err(fault));
-    assert_equal(&bytes, &read, &Some(fault));
-    assert_equal(&bytes, &same(bytes, &[]), &Err(fault));
-    assert_equal(&bytes, &same(&[], bytes), &Err(fault));
-    assert_equal(&bytes, &rewritten, &Some(CanonError::Refused(fault)));
-    assert_not_written(bytes, 0, CanonIntoError::Refused(fault));
-    assert_not_written(bytes, 100, CanonIntoError::Refused(fault));
+    assert_equal(&bytes, &check(bytes), &Err(error));
+    assert_equal(&bytes, &read, &Some(error));
+    assert_equal(&bytes, &same(bytes, &[]), &Err(error));
+    assert_equal(&bytes, &same(&[], bytes), &Err(error));
+    assert_equal(&bytes, &rewritten, &Some(CanonError::Refused(error)));
+    assert_not_written(bytes, 0, CanonIntoError::Refused(error));
+    assert_not_written(bytes, 100, CanonIntoError::Refused(error));
 }
 
-/// Checking and reading the string each look at this many headers, and answer this fault or none.
-pub fn assert_headers(bytes: &[u8], fault: Option<DecodeError>, headers: usize) {
+/// Asserts that validating and parsing the bytes each examine this many headers, and return this
+/// error or none.
+pub fn assert_headers(bytes: &[u8], error: Option<DecodeError>, headers: usize) {
     let mut checking = HeaderCount::new();
     let checked = check_counted(bytes, &mut checking);
     let mut reading = HeaderCount::new();
     let read = VecLinkInfo::parse_counted(bytes, &mut reading);
-    assert_equal(&bytes, &checked.err(), &fault);
-    assert_equal(&bytes, &read.err(), &fault);
+    assert_equal(&bytes, &checked.err(), &error);
+    assert_equal(&bytes, &read.err(), &error);
     assert_equal(&bytes, &checking.get(), &headers);
     assert_equal(&bytes, &reading.get(), &headers);
 }
 
-/// The payload of the attribute is emitted by itself as what stands behind the header of the
-/// string.
+/// Asserts that the payload of the attribute, written by itself, is what follows the header in the
+/// encoding.
 fn assert_payload<T: Nla>(value: &T, string: &[u8]) {
     let len = value.fit_len().expect("a value that fits");
     assert!(len <= 65_531);
@@ -266,7 +271,7 @@ fn assert_payload<T: Nla>(value: &T, string: &[u8]) {
     assert_written(&longer, &buffer);
 }
 
-/// The attribute is emitted as the string, with its type, and its payload by itself.
+/// Asserts that the attribute is written as the encoding, with its type, and its payload by itself.
 pub fn assert_attribute<T: Nla>(value: &T, string: &[u8]) {
     assert_payload(value, string);
     assert!(value.fit_len().is_some());

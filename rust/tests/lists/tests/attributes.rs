@@ -1,4 +1,4 @@
-//! Each value written as an attribute.
+//! Values written as attributes.
 
 use super::assertions::{
     assert_attribute, assert_equal, assert_holds, bytes_of, copied, default_nla, nlas, repeated,
@@ -9,12 +9,12 @@ use linkinfo::layers::link::{
     InfoVethOf, InfoVrf, InfoXfrm, LinkInfo, LinkXstats, Nla,
 };
 
-/// The attribute is emitted as this string.
+/// Asserts that the attribute is written as this encoding.
 fn assert_written<T: Nla>(value: T, string: &str) {
     assert_attribute(&value, &bytes_of(string));
 }
 
-/// The attribute is emitted as this string, and is equal to its clone.
+/// Asserts that the attribute is written as this encoding, and is equal to its clone.
 fn assert_clones<T: Nla + Clone + PartialEq>(value: T, string: &str) {
     assert_holds(&string, value.try_clone().expect("memory") == value);
     assert_written(value, string);
@@ -31,17 +31,17 @@ fn data_is_written() {
     assert_written(veth, "0c000200 06000100 aabb0000");
     let bit = InfoDataOf::Veth(InfoVethOf::Peer(BitPeer(true)));
     assert_written(bit, "0c000200 05000100 01000000");
-    // Without a family.
+    // Data without a family.
     let other = InfoData::Other(copied(&[7]));
     assert_clones(other, "05000200 07000000");
 }
 
-/// How long the value is written, where it fits.
+/// The number of bytes that the value is written as, if it fits.
 fn len_of<T: Nla>(value: T) -> Option<usize> {
     value.fit_len()
 }
 
-/// How long data of this many bytes is written, where it fits.
+/// The number of bytes that data of this many bytes is written as, if it fits.
 fn len_of_bytes(count: usize) -> Option<usize> {
     len_of(InfoData::Other(Bytes::new(repeated(0, count))))
 }

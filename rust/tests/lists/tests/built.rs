@@ -1,5 +1,5 @@
-//! Values that are built, written as strings, and read from them: a value or more of each group of
-//! families, and of each shape of data.
+//! Values that are built, written and parsed back: at least one of each group of families, and of
+//! each shape of data.
 
 use super::assertions::{assert_reads, copied, default_nla, link, nlas, text_of};
 use super::worked::{
@@ -15,7 +15,8 @@ use linkinfo::layers::link::{
     Ip6TunnelFlags, IpVlanFlags, IpVlanMode, IpoibMode, LinkInfo, LinkXstats, NetkitScrub, Nlas,
 };
 
-/// The string is read as a link of a kind with its data, which is emitted as its canonical string.
+/// Asserts that the bytes of the text parse as a link of a kind with its data, which is written as
+/// its canonical encoding.
 fn assert_link(text: &str, kind: InfoKind, data: InfoData, canonical: &str) {
     assert_reads(text, link(kind, data), canonical);
 }
@@ -41,7 +42,8 @@ fn builds_tunnels() {
     assert_link(VTI6, InfoKind::Vti6, data, VTI6);
 }
 
-/// A link of one of the kinds of `InfoIpTunnel` with these flags is read and emitted as the string.
+/// Asserts that a link of one of the kinds of `InfoIpTunnel` with these flags is written as the
+/// bytes of the text, and that these parse as it.
 fn assert_flags(kind: InfoKind, flags: InfoIpTunnel, string: &str) {
     let data = InfoData::IpTunnel(nlas([flags]));
     assert_link(string, kind, data, string);
@@ -96,7 +98,8 @@ fn builds_peers() {
     assert_link(VETH_TAIL, InfoKind::Veth, InfoData::Veth(peer), VETH);
 }
 
-/// The string is read as a port of a kind with its data, which is emitted as its canonical string.
+/// Asserts that the bytes of the text parse as a port of a kind with its data, which is written as
+/// its canonical encoding.
 fn assert_port(text: &str, kind: InfoPortKind, data: InfoPortData, canonical: &str) {
     let items = [LinkInfo::PortKind(kind), LinkInfo::PortData(data)];
     assert_reads(text, items, canonical);
@@ -110,13 +113,13 @@ fn builds_ports() {
     let kept_by_bridge = InfoBridgePort::Other(default_nla(1, &[3]));
     let data = InfoPortData::BridgePort(nlas([kept_by_bridge]));
     assert_port(BRIDGE_PORT, InfoPortKind::Bridge, data, BRIDGE_PORT);
-    // Its type is marked as nested.
+    // An attribute with the flag `NLA_F_NESTED` in its type.
     let kept_by_team = InfoTeamPort::Other(default_nla(0x8001, &[7]));
     let data = InfoPortData::TeamPort(nlas([kept_by_team]));
     assert_port(TEAM_PORT, InfoPortKind::Team, data, TEAM_PORT);
     let data = InfoPortData::VrfPort(nlas([]));
     assert_port(PORT_DATA, InfoPortKind::Vrf, data, PORT_DATA);
-    // The kind `x` is none with a family.
+    // The kind `x` has no family.
     let kind = InfoPortKind::Other(text_of("x"));
     let data = InfoPortData::Other(copied(&[7]));
     let canonical = "06000400 78000000 05000500 07000000";
@@ -134,12 +137,12 @@ fn builds_kinds() {
     assert_reads(marked, xfrm, "09000100 7866726d 00000000");
 }
 
-/// Data of an xfrm link.
+/// The data of an xfrm link.
 fn xfrm_data(items: Nlas<InfoXfrm>) -> LinkInfo {
     LinkInfo::Data(InfoData::Xfrm(items))
 }
 
-/// An xfrm link with data twice.
+/// An xfrm link with two data attributes.
 fn data_twice(none: Nlas<InfoXfrm>, identifier: Nlas<InfoXfrm>) -> [LinkInfo; 3] {
     [
         LinkInfo::Kind(InfoKind::Xfrm),

@@ -1,4 +1,4 @@
-//! Strings that are compared.
+//! Byte strings that are compared.
 
 use super::assertions::{assert_equal, bytes_of, reads_equal};
 use super::worked::{
@@ -9,7 +9,7 @@ use super::worked::{
 };
 use linkinfo::layers::link::{HeaderCount, same, same_counted};
 
-/// Strings that are accepted, and whether they are the same.
+/// Accepted byte strings, and whether they are equivalent.
 const PAIRS: &[(&str, &str, bool)] = &[
     ("", "", true),
     ("", "04000900", false),

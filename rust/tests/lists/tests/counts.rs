@@ -1,45 +1,45 @@
-//! How many headers are looked at.
+//! How many headers are examined.
 
 use super::assertions::{assert_equal, assert_headers, bytes_of};
 use super::worked::{
-    DATA_TWICE, FIRST_FAULT, PFCP, PFCP_NO_NUL, SECOND_PORT_DATA, VETH_TAIL, XFRM,
+    DATA_TWICE, FIRST_ERROR, PFCP, PFCP_NO_NUL, SECOND_PORT_DATA, VETH_TAIL, XFRM,
 };
 use linkinfo::layers::link::{Cause, DecodeError, Family, HeaderCount, same_counted};
 
-/// The fault of port data that no port kind stands before.
+/// The error of port data without a port kind before it.
 const ORDER: DecodeError = DecodeError {
     family: Family::LinkInfo,
     kind: 5,
     cause: Cause::Order,
 };
 
-/// The fault of a table number of one byte.
+/// The error of a table number of one byte.
 const LENGTH: DecodeError = DecodeError {
     family: Family::Vrf,
     kind: 1,
     cause: Cause::Length,
 };
 
-/// Strings with their faults, how many headers are looked at, and a quarter of their bytes.
+/// Byte strings with their errors, the number of headers examined, and a quarter of their bytes.
 const ONE: &[(&str, Option<DecodeError>, usize, usize)] = &[
     ("", None, 0, 0),
     (XFRM, None, 4, 8),
     (DATA_TWICE, None, 4, 7),
     (VETH_TAIL, None, 3, 7),
     (SECOND_PORT_DATA, Some(ORDER), 3, 4),
-    (FIRST_FAULT, Some(LENGTH), 3, 5),
+    (FIRST_ERROR, Some(LENGTH), 3, 5),
 ];
 
 #[test]
 fn counts_of_one_string() {
-    for (text, fault, headers, quarter) in ONE {
+    for (text, error, headers, quarter) in ONE {
         let bytes = bytes_of(text);
         assert_equal(text, &(bytes.len() / 4), quarter);
-        assert_headers(&bytes, *fault, *headers);
+        assert_headers(&bytes, *error, *headers);
     }
 }
 
-/// Two strings, whether they are the same or the fault, and how many headers are looked at.
+/// Two byte strings, whether they are equivalent or the error, and the number of headers examined.
 const TWO: &[(&str, &str, Result<bool, DecodeError>, usize)] = &[
     (PFCP_NO_NUL, PFCP, Ok(true), 4),
     (XFRM, SECOND_PORT_DATA, Err(ORDER), 7),

@@ -1,4 +1,4 @@
-//! Which family the data of a kind has, and payloads read, checked and compared by it.
+//! The family of a kind's data, and payloads parsed, validated and compared by family.
 
 use super::assertions::{assert_equal, assert_holds, nlas};
 use linkinfo::layers::link::{
@@ -7,7 +7,7 @@ use linkinfo::layers::link::{
     family_of, port_family_of,
 };
 
-/// Kinds, with the families of their data.
+/// Kinds, and the families of their data.
 const FAMILIES: &[(KindTag, DataFamily)] = &[
     (KindTag::Bond, DataFamily::Lower(LowerFamily::Bond)),
     (KindTag::Vrf, DataFamily::Device(DeviceFamily::Vrf)),
@@ -21,7 +21,7 @@ const FAMILIES: &[(KindTag, DataFamily)] = &[
     (KindTag::Other, DataFamily::Raw),
 ];
 
-/// Port kinds, with the families of their data.
+/// Port kinds, and the families of their data.
 const PORT_FAMILIES: &[(PortTag, PortFamily)] = &[
     (PortTag::Bond, PortFamily::Bond),
     (PortTag::Bridge, PortFamily::Bridge),
@@ -40,19 +40,19 @@ fn kinds_have_families() {
     }
 }
 
-/// The table 5 of a vrf.
+/// The data of a vrf link with the table 5.
 const TABLE: [u8; 8] = [8, 0, 1, 0, 5, 0, 0, 0];
 
-/// The same with a flag bit in its type.
+/// The data of a vrf link with the table 5, with a flag bit in the type of the attribute.
 const MARKED: [u8; 8] = [8, 0, 1, 0x80, 5, 0, 0, 0];
 
-/// Another table.
+/// The data of a vrf link with the table 6.
 const OTHER_TABLE: [u8; 8] = [8, 0, 1, 0, 6, 0, 0, 0];
 
-/// A table of one byte.
+/// The data of a vrf link with a table of one byte, which is rejected.
 const SHORT: [u8; 5] = [5, 0, 1, 0, 5];
 
-/// The payload is accepted by the family.
+/// Asserts that the family accepts the payload.
 fn accepts<D, F: PayloadFamily<D>>(family: F, payload: &[u8]) {
     assert!(payload.len() < 1000);
     let mut count = HeaderCount::new();
@@ -60,8 +60,8 @@ fn accepts<D, F: PayloadFamily<D>>(family: F, payload: &[u8]) {
     assert!(checked.is_ok());
 }
 
-/// Whether two accepted payloads mean the same by the family, with the headers that were looked at
-/// for the answer.
+/// Returns whether two accepted payloads are equivalent in the family, and the number of headers
+/// examined.
 fn are_same<D, F: PayloadFamily<D>>(family: F, a: &[u8], b: &[u8]) -> (bool, usize) {
     accepts::<D, F>(family, a);
     accepts::<D, F>(family, b);
@@ -70,8 +70,8 @@ fn are_same<D, F: PayloadFamily<D>>(family: F, a: &[u8], b: &[u8]) -> (bool, usi
     (same, count.get())
 }
 
-/// `TABLE` is read as the data by the family of vrf, the same as `MARKED` and no other, and a table
-/// of one byte is refused.
+/// Asserts that the family of vrf parses `TABLE` as the data, that `TABLE` is equivalent to
+/// `MARKED` and to no other, and that a table of one byte is rejected.
 fn has_tables<D: PartialEq, F: PayloadFamily<D>>(family: F, data: D) {
     let mut count = HeaderCount::new();
     let read = PayloadFamily::<D>::read(family, &TABLE, &mut count).expect("data");
@@ -82,14 +82,14 @@ fn has_tables<D: PartialEq, F: PayloadFamily<D>>(family: F, data: D) {
     assert_equal(&MARKED, &headers, &2);
     let (same, _) = are_same::<D, F>(family, &TABLE, &OTHER_TABLE);
     assert_holds(&OTHER_TABLE, !same);
-    let fault = DecodeError {
+    let error = DecodeError {
         family: Family::Vrf,
         kind: 1,
         cause: Cause::Length,
     };
     let mut count = HeaderCount::new();
     let checked = PayloadFamily::<D>::check(family, &SHORT, &mut count);
-    assert_equal(&SHORT, &checked, &Err(fault));
+    assert_equal(&SHORT, &checked, &Err(error));
     assert_equal(&SHORT, &count.get(), &1);
 }
 

@@ -1,38 +1,38 @@
 //! What holds of headers, tags and data.
 
 use super::assertions::{
-    HEADER_FAULT, assert_equal, assert_headers, assert_holds, assert_value, bytes_of,
+    HEADER_ERROR, assert_equal, assert_headers, assert_holds, assert_value, bytes_of,
 };
 use super::worked::{
-    DATA_TWICE, FIRST_FAULT, LATER_KIND, PFCP_NO_NUL, PFCP_NOT_FRAMED, SECOND_PORT_DATA, XFRM,
+    DATA_TWICE, FIRST_ERROR, LATER_KIND, PFCP_NO_NUL, PFCP_NOT_FRAMED, SECOND_PORT_DATA, XFRM,
 };
 use linkinfo::layers::link::{
     BitPeer, Cause, DecodeError, Family, KindTag, LinkInfoWalk, PortTag, check, check_of,
 };
 
-/// The fault of a table number of one byte.
-const LENGTH_FAULT: DecodeError = DecodeError {
+/// The error of a table number of one byte.
+const LENGTH_ERROR: DecodeError = DecodeError {
     family: Family::Vrf,
     kind: 1,
     cause: Cause::Length,
 };
 
-/// Strings, their faults, and how many headers are looked at.
+/// Byte strings, their errors, and the number of headers examined.
 const FRAMED: &[(&str, Option<DecodeError>, usize)] = &[
     (XFRM, None, 4),
-    (FIRST_FAULT, Some(LENGTH_FAULT), 3),
-    ("080001", Some(HEADER_FAULT), 0),
+    (FIRST_ERROR, Some(LENGTH_ERROR), 3),
+    ("080001", Some(HEADER_ERROR), 0),
 ];
 
 #[test]
 fn strings_are_framed() {
-    for (text, fault, headers) in FRAMED {
+    for (text, error, headers) in FRAMED {
         let bytes = bytes_of(text);
-        assert_headers(&bytes, *fault, *headers);
+        assert_headers(&bytes, *error, *headers);
     }
 }
 
-/// The tags of the items of a walk, which goes on to its end or to a fault behind them.
+/// Asserts the tags of the items of a walk, which ends after them or at an error after them.
 fn assert_tags(bytes: &[u8], tags: &[(Option<KindTag>, Option<PortTag>)]) {
     let mut walk = LinkInfoWalk::new(bytes);
     for wanted in tags {
@@ -70,25 +70,25 @@ fn items_are_equal_wherever_they_are() {
 }
 
 #[test]
-fn no_string_means_want_of_memory() {
-    for (text, fault, _) in FRAMED {
+fn no_string_has_the_memory_error() {
+    for (text, error, _) in FRAMED {
         let bytes = bytes_of(text);
-        assert_equal(text, &check_of::<BitPeer>(&bytes).err(), fault);
+        assert_equal(text, &check_of::<BitPeer>(&bytes).err(), error);
     }
 }
 
-/// Strings with pfcp and without, and their faults.
+/// Byte strings with and without pfcp, and their errors.
 const BY_PFCP: &[(&str, Option<DecodeError>)] = &[
     (PFCP_NO_NUL, None),
     (XFRM, None),
-    (PFCP_NOT_FRAMED, Some(HEADER_FAULT)),
+    (PFCP_NOT_FRAMED, Some(HEADER_ERROR)),
 ];
 
 #[test]
-fn data_under_pfcp_changed_alone() {
-    for (text, fault) in BY_PFCP {
+fn only_data_under_pfcp_changed() {
+    for (text, error) in BY_PFCP {
         let bytes = bytes_of(text);
-        assert_equal(text, &check(&bytes).err(), fault);
+        assert_equal(text, &check(&bytes).err(), error);
     }
 }
 

@@ -1,10 +1,10 @@
-//! Lines that are read and answered over memory.
+//! The lines of the program, with input and output in memory.
 
 use super::assertions::{assert_equal, assert_holds};
 use crate::linkinfo_lines::{RunError, run};
 use crate::support::*;
 
-/// Lines of each command, and such as are none.
+/// Lines of each command, and lines that are none.
 pub const INPUT: &[u8] = b"check 090001007866726d00000000140002000800010002000000080002000a000000
 canon 090001007866726d00000000140002000800010002000000080002000a000000
 canon 0800010070666370
@@ -13,7 +13,7 @@ canon -
 check 0
 ";
 
-/// What is written for them.
+/// The output for these lines.
 pub const ANSWER: &[u8] = b"ok
 090001007866726d00000000140002000800010002000000080002000a000000
 090001007066637000000000
@@ -22,7 +22,7 @@ err linkinfo 2 order
 bad line
 ";
 
-/// A run over memory.
+/// A run with input and output in memory.
 fn answer_in_memory(input: &[u8]) -> Result<Vec<u8>, RunError> {
     let mut reader = input;
     let mut output = Vec::new();
@@ -30,14 +30,14 @@ fn answer_in_memory(input: &[u8]) -> Result<Vec<u8>, RunError> {
     Ok(output)
 }
 
-/// A run over the input writes these bytes.
+/// Asserts that a run over the input writes these bytes.
 fn assert_answered(input: &[u8], wanted: &[u8]) {
     let output = answer_in_memory(input).expect("an answer");
     assert_equal(&input, &output.as_slice(), &wanted);
 }
 
 #[test]
-fn answers_over_memory() {
+fn lines_in_memory() {
     let mut input = INPUT;
     let mut output = Vec::new();
     let ended = run(&mut input, &mut output);
@@ -47,17 +47,17 @@ fn answers_over_memory() {
     assert_answered(b"", b"");
 }
 
-/// A kind whose name has 65531 letters is accepted, and too long to be written with its closing
-/// zero byte.
+/// A kind whose name has 65531 letters is accepted, and is too long to be written with its closing
+/// NUL.
 #[test]
-fn answers_a_list_that_does_not_fit() {
+fn a_list_that_does_not_fit() {
     let letters = "61".try_repeat(65_531).expect("memory");
     let input = try_format!("check ffff0100{letters}\ncanon ffff0100{letters}\ncanon -");
     let input = input.expect("memory");
     assert_answered(input.as_bytes(), b"ok\nunfit\n-\n");
 }
 
-/// The error is displayed as this text, and is equal to its clone.
+/// Asserts that the error is displayed as this text, and is equal to its clone.
 fn assert_displays(error: RunError, wanted: &str) {
     let text = error.try_to_text().expect("memory");
     assert_equal(&wanted, &text.as_str(), &wanted);

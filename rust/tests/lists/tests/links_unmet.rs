@@ -1,8 +1,8 @@
 //! Whether a link has all attributes of a request, and which one it lacks.
 
-use super::assertions::{HEADER_FAULT, assert_equal, bytes_of, link_fault};
+use super::assertions::{HEADER_ERROR, assert_equal, bytes_of, link_error};
 use linkinfo::layers::link::{
-    BitPeer, Bytes, Cause, Family, FaultIn, Unmet, first_unmet, first_unmet_of,
+    BitPeer, Bytes, Cause, ErrorIn, Family, Unmet, first_unmet, first_unmet_of,
 };
 
 /// An attribute that is not met: its family and type, its offset, and that of the other one.
@@ -83,6 +83,13 @@ const CASES: &[Case] = &[
         "09000100 76786c61 6e000000 0c000200 08000100 2a000000",
         None,
     ),
+    // Flags of types in the list and in data do not matter, nor which byte says that a truth value
+    // is true.
+    (
+        "0a000180 76786c61 6e000000 14000280 08000180 2a000000 05000780 01000000",
+        "0a000140 76786c61 6e000000 14000240 08000140 2a000000 05000740 02000000",
+        None,
+    ),
     // Bond: no attribute has a row. The flag "nested" of a type does not matter, the payload does.
     (
         "09000100 626f6e64 00000000 0c000200 05000180 01000000",
@@ -124,6 +131,28 @@ const CASES: &[Case] = &[
         "05000900 02000000",
         Some((Family::LinkInfo, 9, 0, Some(0))),
     ),
+    // .. of types that an index from 0 on does not have: the first in byte order.
+    (
+        "05004000 01000000 05000900 01000000",
+        "05004000 02000000 05000900 02000000",
+        Some((Family::LinkInfo, 64, 0, Some(0))),
+    ),
+    (
+        "05004000 01000000 05000900 01000000",
+        "05000900 02000000 05004000 02000000",
+        Some((Family::LinkInfo, 9, 0, Some(8))),
+    ),
+    ("0500ff3f 01000000", "0500ffff 01000000", None),
+    (
+        VXLAN,
+        "0a000100 76786c61 6e000000 0c000200 08000100 2b000000 05004000 01000000",
+        Some((Family::Vxlan, 1, 16, Some(16))),
+    ),
+    (
+        VXLAN,
+        "05004000 01000000 0a000100 76786c61 6e000000 0c000200 08000100 2b000000",
+        Some((Family::LinkInfo, 64, 0, None)),
+    ),
     // A port of a bridge: the kind of the port, and its data.
     (
         "0b000400 62726964 67650000 0c000500 05000100 03000000",
@@ -158,11 +187,11 @@ fn tells_whose_error_it_is() {
     let fine = bytes_of(VXLAN);
     let damaged = bytes_of("080001");
     let misplaced = bytes_of("04000200");
-    let order = link_fault(2, Cause::Order);
+    let order = link_error(2, Cause::Order);
     let cases = [
-        (&damaged, &fine, FaultIn::First(HEADER_FAULT)),
-        (&damaged, &misplaced, FaultIn::First(HEADER_FAULT)),
-        (&fine, &misplaced, FaultIn::Second(order)),
+        (&damaged, &fine, ErrorIn::First(HEADER_ERROR)),
+        (&damaged, &misplaced, ErrorIn::First(HEADER_ERROR)),
+        (&fine, &misplaced, ErrorIn::Second(order)),
     ];
     for (have, want, error) in cases {
         let found = first_unmet(have, want);

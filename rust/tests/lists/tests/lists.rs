@@ -1,4 +1,4 @@
-//! Lists that are read and emitted.
+//! Lists that are parsed and written.
 
 use super::assertions::{
     assert_built, assert_equal, assert_holds, assert_reads, bytes_of, link, list_of, nlas, parsed,
@@ -26,13 +26,13 @@ fn emits_what_is_not_well_formed() {
     assert_reads(text, own, text);
 }
 
-/// A clone of what the string is read as is equal to it.
+/// Asserts that a clone of the list that the bytes of the text parse as is equal to it.
 fn assert_clones(text: &str) {
     let list = parsed(&bytes_of(text));
     assert_holds(&text, list.try_clone().expect("memory") == list);
 }
 
-/// A string of each sort of attribute.
+/// An encoding of each sort of attribute.
 const CLONED: &[&str] = &[
     XFRM, VETH, XSTATS, OTHER_PORT, PORT_DATA, EMPTY_NAME, "04000980",
 ];
@@ -44,7 +44,7 @@ fn clones_are_equal() {
     }
 }
 
-/// The list is written for debugging as this text.
+/// Asserts that `Debug` writes the list as this text.
 fn assert_displays(list: VecLinkInfo, wanted: &str) {
     let text = try_format!("{list:?}").expect("memory");
     assert_equal(&"as text", &text.as_str(), &wanted);
@@ -57,7 +57,7 @@ fn lists_display_for_debugging() {
     assert_displays(list, wanted);
 }
 
-/// The list is written in one call as these bytes.
+/// Asserts that `to_vec` returns the bytes of the text for the list.
 fn assert_written(list: VecLinkInfo, text: &str) {
     let written = list.try_to_vec().expect("a string");
     let wanted = bytes_of(text);
@@ -72,7 +72,7 @@ fn writes_a_list_in_one_call() {
     assert_written(VecLinkInfo::from(Vec::new()), "");
 }
 
-/// The types of the attributes of the list, in order.
+/// Asserts the types of the attributes of the list, in order.
 fn assert_types(list: &VecLinkInfo, wanted: &[u16]) {
     let mut types = Vec::new();
     for item in list {
@@ -85,7 +85,7 @@ fn assert_types(list: &VecLinkInfo, wanted: &[u16]) {
     assert_holds(&wanted, ends);
 }
 
-/// The list of the attributes that a list gives.
+/// The list of the attributes of a list, iterated over by value.
 fn collected(list: VecLinkInfo) -> VecLinkInfo {
     let mut items = Vec::new();
     for item in list {
@@ -94,8 +94,8 @@ fn collected(list: VecLinkInfo) -> VecLinkInfo {
     VecLinkInfo::from(items)
 }
 
-/// The attributes that the list of the string gives by reference and by value, and their number.
-fn assert_gone_over(text: &str, types: &[u16]) {
+/// Asserts the attributes of the list by reference and by value, and their number.
+fn assert_iterated(text: &str, types: &[u16]) {
     let list = parsed(&bytes_of(text));
     assert_types(&list, types);
     let items = collected(list.try_clone().expect("memory"));
@@ -104,7 +104,7 @@ fn assert_gone_over(text: &str, types: &[u16]) {
 }
 
 #[test]
-fn goes_over_a_list() {
-    assert_gone_over(LATER_KIND, &[1, 1, 2]);
-    assert_gone_over("", &[]);
+fn iterates_over_a_list() {
+    assert_iterated(LATER_KIND, &[1, 1, 2]);
+    assert_iterated("", &[]);
 }

@@ -1,7 +1,7 @@
-//! Values as long as one attribute holds, and longer ones.
+//! Values that just fit into one attribute, and longer ones.
 
 use super::assertions::{
-    HEADER_FAULT, assert_attribute, assert_built, assert_equal, assert_not_written, assert_read_as,
+    HEADER_ERROR, assert_attribute, assert_built, assert_equal, assert_not_written, assert_read_as,
     assert_refused, parsed, repeated,
 };
 use super::fronts::assert_fronts;
@@ -12,7 +12,7 @@ use linkinfo::layers::link::{
 };
 
 /// A header of four bytes, and this many letters `a`.
-fn letters_behind(header: [u8; 4], count: usize) -> Vec<u8> {
+fn letters_after(header: [u8; 4], count: usize) -> Vec<u8> {
     let mut bytes = Vec::try_from_array(header).expect("memory");
     let letters = repeated(b'a', count);
     bytes.try_extend_from_slice(&letters).expect("memory");
@@ -35,8 +35,8 @@ fn list_of_letters(count: usize) -> [LinkInfo; 1] {
 
 #[test]
 fn longest_name() {
-    let mut string = letters_behind([255, 255, 1, 0], 65530);
-    let unclosed = letters_behind([254, 255, 1, 0], 65530);
+    let mut string = letters_after([255, 255, 1, 0], 65530);
+    let unclosed = letters_after([254, 255, 1, 0], 65530);
     string.try_push(0).expect("memory");
     assert_equal(&"the longest", &string.len(), &65535);
     assert_equal(&"without NUL", &same(&string, &unclosed), &Ok(true));
@@ -48,18 +48,18 @@ fn longest_name() {
     assert_built(list_of_letters(65530), &string);
 }
 
-/// The kind has 65531 bytes, and is emitted as the string.
+/// Asserts that the kind has 65531 bytes, and is written as the encoding.
 fn assert_kind(kind: InfoKind, string: &[u8]) {
     assert_equal(&"the kind", &kind.fit_len(), &Some(65531));
     assert_attribute(&kind, string);
 }
 
-/// How long a kind whose name is this many letters is written, where it fits.
+/// The number of bytes that a kind whose name is this many letters is written as, if it fits.
 fn len_of_letters(count: usize) -> Option<usize> {
     kind_of_letters(count).fit_len()
 }
 
-/// The list of the string does not fit.
+/// Asserts that the list that the bytes parse as does not fit.
 fn assert_unfit(string: &[u8]) {
     let read = parsed(string);
     let case = "a list that does not fit";
@@ -74,7 +74,7 @@ fn assert_unfit(string: &[u8]) {
 fn name_that_does_not_fit() {
     let case = "65531 letters";
     assert_equal(&case, &len_of_letters(65531), &None);
-    let string = letters_behind([255, 255, 1, 0], 65531);
+    let string = letters_after([255, 255, 1, 0], 65531);
     assert_equal(&case, &check(&string), &Ok(()));
     assert_equal(&case, &same(&string, &string), &Ok(true));
     assert_unfit(&string);
@@ -90,8 +90,8 @@ fn unknown_of_letters(count: usize) -> [LinkInfo; 1] {
 
 #[test]
 fn longest_unknown_attribute() {
-    let mut string = letters_behind([255, 255, 9, 0], 65530);
-    assert_refused(&string, HEADER_FAULT);
+    let mut string = letters_after([255, 255, 9, 0], 65530);
+    assert_refused(&string, HEADER_ERROR);
     string.try_push(b'a').expect("memory");
     assert_read_as(&string, unknown_of_letters(65531));
     string.try_push(0).expect("memory");

@@ -5,15 +5,15 @@ use super::fronts::assert_fronts;
 use crate::support::*;
 use linkinfo::layers::link::{Cause, DecodeError, Family, InfoData, InfoMacVlan, LinkInfo, same};
 
-/// The fault of a list inside 128 others.
+/// The error of a list inside 128 others.
 const TOO_DEEP: DecodeError = DecodeError {
     family: Family::MacVlan,
     kind: 5,
     cause: Cause::Depth,
 };
 
-/// How deep a chain is, the headers of its data and of its first list, a quarter of its bytes, how
-/// many headers are looked at, and the fault.
+/// The depth of a chain, the headers of its data and of its first list, a quarter of its bytes, the
+/// number of headers examined, and the error.
 const CHAINS: &[(u16, [u8; 8], usize, usize, Option<DecodeError>)] = &[
     (100, [0x94, 1, 2, 0, 0x90, 1, 5, 0], 104, 102, None),
     (128, [4, 2, 2, 0, 0, 2, 5, 0], 132, 130, None),
@@ -27,8 +27,8 @@ const CHAINS: &[(u16, [u8; 8], usize, usize, Option<DecodeError>)] = &[
     ),
 ];
 
-/// Puts the header of an attribute of this length and type behind the bytes.
-fn put_header(bytes: &mut Vec<u8>, len: u16, kind: u8) {
+/// Appends the header of an attribute of this length and type.
+fn write_header(bytes: &mut Vec<u8>, len: u16, kind: u8) {
     let [low, high] = len.to_le_bytes();
     let header = [low, high, kind, 0];
     bytes.try_extend_from_slice(&header).expect("memory");
@@ -40,31 +40,31 @@ fn chain(depth: u16) -> Vec<u8> {
     assert!(depth <= 16382);
     let kind = [12, 0, 1, 0, b'm', b'a', b'c', b'v', b'l', b'a', b'n', 0];
     let mut bytes = Vec::try_from_array(kind).expect("memory");
-    put_header(&mut bytes, 4 + 4 * depth, 2);
+    write_header(&mut bytes, 4 + 4 * depth, 2);
     for below in 0..depth {
-        put_header(&mut bytes, 4 * (depth - below), 5);
+        write_header(&mut bytes, 4 * (depth - below), 5);
     }
     bytes
 }
 
 #[test]
 fn counts_of_chains() {
-    for (depth, begin, quarter, headers, fault) in CHAINS {
+    for (depth, begin, quarter, headers, error) in CHAINS {
         let bytes = chain(*depth);
         assert_equal(depth, &bytes.get(12..20), &Some(begin.as_slice()));
         assert_equal(depth, &(bytes.len() / 4), quarter);
-        assert_headers(&bytes, *fault, *headers);
+        assert_headers(&bytes, *error, *headers);
     }
 }
 
 #[test]
-fn every_front_of_a_chain() {
+fn every_prefix_of_a_chain() {
     for (depth, ..) in CHAINS {
         assert_fronts(&chain(*depth));
     }
 }
 
-/// How many lists are in one another, each alone.
+/// The depth of lists that are inside one another, one at each level.
 fn depth_of(items: &[InfoMacVlan]) -> usize {
     let mut items = items;
     for depth in 0..1000 {
@@ -76,7 +76,7 @@ fn depth_of(items: &[InfoMacVlan]) -> usize {
     1000
 }
 
-/// The string is read as lists this deep, and is what is emitted for them.
+/// Asserts that the bytes parse as lists of this depth, which are written as these bytes.
 fn assert_chain(bytes: &[u8], depth: u16) {
     let read = parsed(bytes);
     let [LinkInfo::Kind(_), LinkInfo::Data(InfoData::MacVlan(items))] = read.as_slice() else {

@@ -1,4 +1,4 @@
-//! A peer of one's own: links with it read, checked, compared and written.
+//! A custom peer: links with it parsed, validated, compared and written.
 
 use super::assertions::{assert_emitted, assert_equal, assert_holds, bytes_of, nlas};
 use crate::AnyPeer;
@@ -6,13 +6,13 @@ use linkinfo::layers::link::{
     InfoDataOf, InfoKind, InfoVethOf, LinkInfoOf, VecLinkInfoOf, check_of, same_of,
 };
 
-/// Veth links whose peers are two bytes, and none.
+/// Veth links whose peers are two bytes, and no bytes.
 const PEERS: [&str; 2] = [
     "09000100 76657468 00000000 0a000200 06000100 aabb",
     "09000100 76657468 00000000 08000200 04000100",
 ];
 
-/// The string is accepted, and read as the list.
+/// Asserts that the bytes are accepted, and parse as the list.
 fn assert_accepted(bytes: &[u8], list: &VecLinkInfoOf<AnyPeer>) {
     let read = VecLinkInfoOf::<AnyPeer>::parse(bytes).expect("a list");
     assert_holds(&bytes, read == *list);
@@ -20,7 +20,7 @@ fn assert_accepted(bytes: &[u8], list: &VecLinkInfoOf<AnyPeer>) {
 }
 
 #[test]
-fn peer_of_ones_own() {
+fn custom_peer() {
     let data = InfoDataOf::Veth(InfoVethOf::Peer(AnyPeer));
     let items = [LinkInfoOf::Kind(InfoKind::Veth), LinkInfoOf::Data(data)];
     let list = VecLinkInfoOf(nlas(items));

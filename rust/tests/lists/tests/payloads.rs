@@ -1,7 +1,7 @@
-//! Data, port data and statistics read by themselves.
+//! Data, port data and statistics that are parsed by themselves.
 
 use super::assertions::{
-    HEADER_FAULT, assert_equal, assert_holds, copied, default_nla, nlas, text_of,
+    HEADER_ERROR, assert_equal, assert_holds, copied, default_nla, nlas, text_of,
 };
 use crate::support::*;
 use linkinfo::layers::link::{
@@ -13,8 +13,8 @@ use linkinfo::layers::link::{
 /// An attribute of type 1 of four bytes, and one of type 2.
 const TWO: [u8; 16] = [8, 0, 1, 0, 2, 0, 0, 0, 8, 0, 2, 0, 10, 0, 0, 0];
 
-/// The fault of a payload of another length.
-fn length_fault(family: Family) -> DecodeError {
+/// The error of a payload of another length than its type has.
+fn length_error(family: Family) -> DecodeError {
     DecodeError {
         family,
         kind: 1,
@@ -22,17 +22,17 @@ fn length_fault(family: Family) -> DecodeError {
     }
 }
 
-/// A payload read as data of a kind.
+/// Parses a payload as data of a kind.
 fn read_data(payload: &[u8], kind: &InfoKind) -> Result<InfoData, DecodeError> {
     InfoData::parse_with_param(payload, kind)
 }
 
-/// A payload read as data of a port kind.
+/// Parses a payload as data of a port kind.
 fn read_port_data(payload: &[u8], kind: &InfoPortKind) -> Result<InfoPortData, DecodeError> {
     InfoPortData::parse_with_param(payload, kind)
 }
 
-/// A payload is read as this data of a link of the kind.
+/// Asserts that a payload parses as this data of a link of the kind.
 fn assert_data(payload: &[u8], kind: InfoKind, data: InfoData) {
     let read = read_data(payload, &kind).expect("data");
     assert_holds(&payload, read == data);
@@ -42,7 +42,7 @@ fn assert_data(payload: &[u8], kind: InfoKind, data: InfoData) {
 fn data_of_families() {
     let xfrm = InfoData::Xfrm(nlas([InfoXfrm::Link(2), InfoXfrm::IfId(10)]));
     assert_data(&TWO, InfoKind::Xfrm, xfrm);
-    // The second attribute is kept.
+    // The second attribute is of an unknown type, and kept verbatim.
     let kept = InfoVrf::Other(default_nla(2, &[10, 0, 0, 0]));
     let vrf = InfoData::Vrf(nlas([InfoVrf::TableId(2), kept]));
     assert_data(&TWO, InfoKind::Vrf, vrf);
@@ -60,7 +60,7 @@ fn data_of_bits() {
     assert_holds(&bit, read.expect("data") == wanted);
 }
 
-/// A payload of five bytes read under a kind without a family is kept as bytes.
+/// Asserts that a payload of five bytes is kept as bytes under a kind without a family.
 fn assert_bytes(kind: InfoKind) {
     let bytes = copied(&TWO[..5]);
     assert_data(&TWO[..5], kind, InfoData::Other(bytes));
@@ -70,34 +70,34 @@ fn assert_bytes(kind: InfoKind) {
 fn data_without_a_family() {
     assert_bytes(InfoKind::Dummy);
 
-    // A kind of an unknown name has no family, whatever the text.
+    // A kind of an unknown name has no family, even if the name is that of a kind.
     assert_bytes(InfoKind::Other(text_of("xfrm")));
 }
 
-/// A payload is refused with this fault as data of a kind.
-fn assert_fault(payload: &[u8], kind: &InfoKind, fault: DecodeError) {
+/// Asserts that a payload is rejected with this error as data of a kind.
+fn assert_error(payload: &[u8], kind: &InfoKind, error: DecodeError) {
     let found = read_data(payload, kind).err();
-    assert_equal(&payload, &found, &Some(fault));
+    assert_equal(&payload, &found, &Some(error));
 }
 
 #[test]
-fn faults_of_data() {
+fn errors_of_data() {
     let short = [5, 0, 1, 0, 7];
-    let (xfrm, vrf) = (length_fault(Family::Xfrm), length_fault(Family::Vrf));
-    assert_fault(&short, &InfoKind::Xfrm, xfrm);
-    assert_fault(&short, &InfoKind::Vrf, vrf);
-    assert_fault(&[], &InfoKind::Veth, HEADER_FAULT);
-    assert_fault(&[7], &InfoKind::Xfrm, HEADER_FAULT);
+    let (xfrm, vrf) = (length_error(Family::Xfrm), length_error(Family::Vrf));
+    assert_error(&short, &InfoKind::Xfrm, xfrm);
+    assert_error(&short, &InfoKind::Vrf, vrf);
+    assert_error(&[], &InfoKind::Veth, HEADER_ERROR);
+    assert_error(&[7], &InfoKind::Xfrm, HEADER_ERROR);
 }
 
-/// A payload is read as this data of a port of the kind.
+/// Asserts that a payload parses as this data of a port of the kind.
 fn assert_port_data(payload: &[u8], kind: InfoPortKind, data: InfoPortData) {
     let read = read_port_data(payload, &kind).expect("data");
     assert_holds(&payload, is_equal(&read, &data));
     assert_holds(&payload, read == data);
 }
 
-/// A payload of one byte read under a port kind of an unknown name is kept as bytes.
+/// Asserts that a payload of one byte is kept as bytes under a port kind of an unknown name.
 fn assert_port_bytes(name: &str) {
     let bytes = copied(&[7]);
     let kind = InfoPortKind::Other(text_of(name));
@@ -112,10 +112,10 @@ fn port_data_by_kind() {
     assert_port_bytes("x");
     assert_port_bytes("vrf");
     let short = read_port_data(&[5, 0, 1, 0, 7], &InfoPortKind::Vrf).err();
-    assert_equal(&"a short table", &short, &Some(length_fault(Family::Vrf)));
+    assert_equal(&"a short table", &short, &Some(length_error(Family::Vrf)));
 }
 
-/// The statistics are read under this kind as these bytes.
+/// Asserts that the statistics parse under this kind as these bytes.
 fn assert_statistics(kind: InfoKind, xstats: &LinkXstats) {
     let nla = NlaBuffer::new_checked(&[6, 0, 3, 0, 1, 2]).expect("an attribute");
     let read = LinkXstats::parse_with_param(&nla, &kind).expect("statistics");

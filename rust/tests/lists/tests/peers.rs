@@ -1,4 +1,4 @@
-//! Lists with peers of another type.
+//! Lists with peers of another type than bytes.
 
 use super::assertions::{assert_emitted, assert_equal, assert_holds, bytes_of, nlas, repeated};
 use super::worked::VETH_TAIL;
@@ -9,20 +9,20 @@ use linkinfo::layers::link::{
     canon_of, check_counted_of, check_of, same, same_counted_of, same_of,
 };
 
-/// A veth link whose peer is one byte.
+/// A veth link whose peer is the byte 7.
 const PEER_OF_SEVEN: &str = "09000100 76657468 00000000 09000200 05000100 07";
 
-/// The same with another byte.
+/// A veth link whose peer is the byte 9.
 const PEER_OF_NINE: &str = "09000100 76657468 00000000 09000200 05000100 09";
 
-/// The fault of a peer that is refused.
+/// The error of a peer that is rejected.
 const PEER_REFUSED: DecodeError = DecodeError {
     family: Family::Veth,
     kind: 1,
     cause: Cause::Peer,
 };
 
-/// The bytes are read as the list, which looks at this many headers.
+/// Asserts that the bytes parse as the list, and that this many headers are examined.
 fn assert_read(bytes: &[u8], wanted: &VecLinkInfoOf<BitPeer>, headers: usize) {
     let read = VecLinkInfoOf::<BitPeer>::parse(bytes).expect("a list");
     assert_holds(&bytes, read == *wanted);
@@ -32,8 +32,8 @@ fn assert_read(bytes: &[u8], wanted: &VecLinkInfoOf<BitPeer>, headers: usize) {
     assert_equal(&bytes, &count.get(), &headers);
 }
 
-/// The list is equal to its clone, and is written as the canonical string into a buffer and in one
-/// call.
+/// Asserts that the list is equal to its clone, and is written as the canonical encoding, into a
+/// buffer and by `to_vec`.
 fn assert_written(list: &VecLinkInfoOf<BitPeer>, canonical: &[u8]) {
     assert_holds(&canonical, list.try_clone().expect("memory") == *list);
     assert_emitted(list.as_slice(), canonical);
@@ -41,7 +41,7 @@ fn assert_written(list: &VecLinkInfoOf<BitPeer>, canonical: &[u8]) {
     assert_equal(&canonical, &written.as_slice(), &canonical);
 }
 
-/// The bytes are made the canonical string in one call.
+/// Asserts that `canon` returns the canonical encoding of the bytes.
 fn assert_canonical(bytes: &[u8], canonical: &[u8]) {
     let string = canon_of::<BitPeer>(bytes).expect("a canonical string");
     assert_equal(&bytes, &string.as_slice(), &canonical);
@@ -54,17 +54,17 @@ fn assert_canonical(bytes: &[u8], canonical: &[u8]) {
     assert_equal(&bytes, &written, &Err(CanonIntoError::Short(len)));
 }
 
-/// The list is that of the string and of the canonical one, by this many headers, and is written as
-/// the canonical one.
+/// Asserts that the bytes of the text, and the canonical encoding, parse as the list, with this
+/// many headers examined, and that the list is written as the canonical encoding.
 fn assert_list(list: VecLinkInfoOf<BitPeer>, (bytes, canonical): (&[u8], &[u8]), headers: usize) {
     assert_read(bytes, &list, headers);
     assert_read(canonical, &list, headers);
     assert_written(&list, canonical);
 }
 
-/// The string is read as a link of the kind with the data, by this many headers, and the link is
-/// written as the canonical string. The other string has a peer that is the same as a bit, and not
-/// as a byte.
+/// Asserts that the bytes of the text parse as a link of the kind with the data, with this many
+/// headers examined, and that the link is written as the canonical encoding. The other text has a
+/// peer that is equivalent as a bit, and not as bytes.
 fn assert_bits(
     (text, other, canonical): (&str, &str, &str),
     items: [LinkInfoOf<BitPeer>; 2],
@@ -81,7 +81,7 @@ fn assert_bits(
     assert_canonical(&other, &canonical);
 }
 
-/// A link whose peer is a bit.
+/// A link with data whose peer is a bit.
 fn link(kind: InfoKind, data: InfoDataOf<BitPeer>) -> [LinkInfoOf<BitPeer>; 2] {
     [LinkInfoOf::Kind(kind), LinkInfoOf::Data(data)]
 }
@@ -102,7 +102,7 @@ fn bits_of_links() {
         "0a000100 76786361 6e000000 0c000200 05000100 01000000",
     );
     assert_bits(strings, link(InfoKind::Vxcan, data), 3);
-    // Peers of both bits.
+    // Both values of a bit as peers.
     let items = [
         InfoNetkitOf::Peer(BitPeer(true)),
         InfoNetkitOf::Primary(false),
@@ -130,33 +130,33 @@ fn checks_and_compares_bits() {
     assert_equal(&case, &checked, &Ok(()));
     assert_equal(&case, &checking.get(), &3);
 
-    // Each string is looked at to be checked, and again to be compared.
+    // Each list is examined once to be validated, and again to be compared.
     let mut comparing = HeaderCount::new();
     let answer = same_counted_of::<BitPeer>(&seven, &nine, &mut comparing);
     assert_equal(&case, &answer, &Ok(true));
     assert_equal(&case, &comparing.get(), &12);
 }
 
-/// The fault of a string, where peers are bits.
-fn fault_of(bytes: &[u8]) -> Option<DecodeError> {
+/// The error of a byte string, with bits as peers.
+fn error_of(bytes: &[u8]) -> Option<DecodeError> {
     VecLinkInfoOf::<BitPeer>::parse(bytes).err()
 }
 
 #[test]
-fn refuses_other_peers() {
+fn rejects_other_peers() {
     let bytes = bytes_of(VETH_TAIL);
     let rewritten = canon_of::<BitPeer>(&bytes).err();
     let written = canon_into_of::<BitPeer>(&bytes, &mut []);
     let case = VETH_TAIL;
     assert_equal(&case, &check_of::<BitPeer>(&bytes), &Err(PEER_REFUSED));
-    assert_equal(&case, &fault_of(&bytes), &Some(PEER_REFUSED));
+    assert_equal(&case, &error_of(&bytes), &Some(PEER_REFUSED));
     assert_equal(&case, &rewritten, &Some(CanonError::Refused(PEER_REFUSED)));
     assert_equal(&case, &written, &Err(CanonIntoError::Refused(PEER_REFUSED)));
     assert_equal(&case, &same_of::<BitPeer>(&bytes, &[]), &Err(PEER_REFUSED));
     assert_equal(&case, &same_of::<BitPeer>(&[], &bytes), &Err(PEER_REFUSED));
 }
 
-/// Links with a peer of two bytes, and the families that their faults name.
+/// Links with a peer of two bytes, and the families that their errors name.
 const PEERS_OF_TWO_BYTES: &[(&str, Family)] = &[
     (
         "09000100 76657468 00000000 0a000200 06000100 aabb",
@@ -176,12 +176,12 @@ const PEERS_OF_TWO_BYTES: &[(&str, Family)] = &[
 fn peers_that_are_no_bits() {
     for (text, family) in PEERS_OF_TWO_BYTES {
         let bytes = bytes_of(text);
-        let fault = DecodeError {
+        let error = DecodeError {
             family: *family,
             ..PEER_REFUSED
         };
-        assert_equal(text, &check_of::<BitPeer>(&bytes), &Err(fault));
-        assert_equal(text, &fault_of(&bytes), &Some(fault));
+        assert_equal(text, &check_of::<BitPeer>(&bytes), &Err(error));
+        assert_equal(text, &error_of(&bytes), &Some(error));
         assert_equal(text, &same(&bytes, &bytes), &Ok(true));
     }
 }

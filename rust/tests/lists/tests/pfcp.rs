@@ -1,7 +1,7 @@
 //! Links of the kind pfcp, whose data is attributes of a family without rows.
 
 use super::assertions::{
-    HEADER_FAULT, assert_built, assert_equal, assert_holds, assert_reads, assert_refused, bytes_of,
+    HEADER_ERROR, assert_built, assert_equal, assert_holds, assert_reads, assert_refused, bytes_of,
     copied, default_nla, link, nlas, parsed,
 };
 use super::worked::{PFCP_ATTRIBUTE, PFCP_EMPTY, PFCP_MARKED, PFCP_NOT_FRAMED, PFCP_SHORT};
@@ -12,7 +12,7 @@ fn pfcp(data: InfoData) -> [LinkInfo; 2] {
     link(InfoKind::Pfcp, data)
 }
 
-/// Data of one attribute, which is kept.
+/// Data of one attribute, which is kept verbatim.
 fn kept(kind: u16, payload: &[u8]) -> InfoData {
     let item = default_nla(kind, payload);
     InfoData::Pfcp(nlas([InfoPfcp::Other(item)]))
@@ -29,9 +29,9 @@ fn keeps_attributes_of_pfcp() {
 }
 
 #[test]
-fn refuses_data_of_pfcp_that_is_not_framed() {
+fn rejects_data_of_pfcp_that_is_not_framed() {
     let bytes = bytes_of(PFCP_NOT_FRAMED);
-    assert_refused(&bytes, HEADER_FAULT);
+    assert_refused(&bytes, HEADER_ERROR);
 }
 
 /// A pfcp link whose data is bytes, which is not well formed.
@@ -39,16 +39,16 @@ fn pfcp_of_bytes(payload: &[u8]) -> [LinkInfo; 2] {
     pfcp(InfoData::Other(copied(payload)))
 }
 
-/// The string is read as another list than that of these attributes.
+/// Asserts that the bytes parse as another list than that of these attributes.
 fn assert_read_otherwise(string: &[u8], items: [LinkInfo; 2]) {
     let equal = parsed(string).as_slice() == items.as_slice();
     assert_holds(&string, !equal);
 }
 
-/// Bytes as data of pfcp are not well formed: they are emitted, and their string is refused or
-/// reads as attributes.
+/// Bytes as data of pfcp are not well formed: they are written, and their encoding is rejected or
+/// parses as attributes.
 #[test]
-fn emits_bytes_under_pfcp() {
+fn writes_bytes_under_pfcp() {
     let string = bytes_of(PFCP_NOT_FRAMED);
     assert_built(pfcp_of_bytes(&[1, 2, 3]), &string);
     let string = bytes_of(PFCP_MARKED);
@@ -57,21 +57,21 @@ fn emits_bytes_under_pfcp() {
     assert_read_otherwise(&string, pfcp_of_bytes(&payload));
 }
 
-/// Bytes that were kept as data of pfcp, read anew.
+/// Data that bytes, once kept as the data of pfcp, parse as now.
 fn moved(payload: &[u8]) -> Result<InfoData, DecodeError> {
     InfoData::parse_with_param(payload, &InfoKind::Pfcp)
 }
 
-/// Bytes that were kept are moved to one attribute.
+/// Asserts that bytes, once kept, parse as one attribute now.
 fn assert_moved(payload: &[u8], attribute: InfoData) {
     let read = moved(payload).expect("data");
     assert_holds(&payload, read == attribute);
 }
 
 #[test]
-fn moves_bytes_under_pfcp() {
+fn parses_kept_bytes_under_pfcp() {
     let attribute = kept(0x8001, &[1, 0, 0, 0]);
     assert_moved(&[8, 0, 1, 0x80, 1, 0, 0, 0], attribute);
-    let fault = moved(&[1, 2, 3]).err();
-    assert_equal(&"three bytes", &fault, &Some(HEADER_FAULT));
+    let error = moved(&[1, 2, 3]).err();
+    assert_equal(&"three bytes", &error, &Some(HEADER_ERROR));
 }

@@ -1,5 +1,5 @@
-//! The README's example, word for word: a vxlan link built, written, read back, compared and gone
-//! over.
+//! The README's example, word for word: a vxlan link is built, written, parsed, compared and
+//! iterated over.
 
 use crate::support::Fail;
 use crate::support::*;
@@ -14,14 +14,14 @@ fn vxlan_link() -> Result<(), Fail> {
         LinkInfo::Kind(InfoKind::Vxlan),
         LinkInfo::Data(InfoData::Vxlan(Nlas::new(data))),
     ]?);
-    // The canonical string; `Unfit` where the list does not fit.
+    // The canonical encoding, or the error `Unfit` where an attribute is too long.
     let bytes = list.try_to_vec()?;
-    // Without memory: `Ok`, or the first fault, a family, a type and a cause.
+    // Validating allocates nothing. An error has a family, a type and a cause.
     assert_eq!(check(&bytes), Ok(()));
     assert!(VecLinkInfo::parse(&bytes)? == list);
-    // Without memory: whether both mean the same list.
+    // Comparing for equal meaning allocates nothing.
     assert_eq!(same(&bytes, &[]), Ok(false));
-    // Borrowed, one after the other: place, type, bytes, and the kinds in force.
+    // Each attribute is borrowed: its offset, type, payload, and the current kinds.
     let mut walk = LinkInfoWalk::new(&bytes);
     let Some(Ok(kind)) = walk.next() else {
         panic!("an attribute");

@@ -1,10 +1,10 @@
-//! Calls that try once more where memory was refused. `tests/refused.rs` has each request refused
-//! in turn.
+//! Calls that are repeated once where an allocation failed. `tests/refused.rs` makes each
+//! allocation fail in turn.
 
 mod answers;
 mod attributes;
 mod control;
-mod faults;
+mod errors;
 mod lists;
 mod names;
 mod payloads;

@@ -1,4 +1,4 @@
-//! Runs over readers and writers that cut what they give and take, and that fail.
+//! Runs with readers and writers that transfer few bytes at a time, and that fail.
 
 use super::assertions::{assert_equal, assert_holds};
 use super::lines::{ANSWER, INPUT};
@@ -8,39 +8,39 @@ use linkinfo::compat::AllocError;
 use std::io;
 use std::io::{ErrorKind, Read, Write};
 
-/// Gives its bytes in pieces, and fails at one of its reads.
-struct PieceReader<'a> {
+/// A reader that returns its bytes in chunks, and fails at one of its reads.
+struct ChunkReader<'a> {
     left: &'a [u8],
-    piece: usize,
+    chunk: usize,
     reads: u32,
     fails_at: u32,
 }
 
-impl PieceReader<'static> {
-    fn new(piece: usize, fails_at: u32) -> PieceReader<'static> {
-        PieceReader {
+impl ChunkReader<'static> {
+    fn new(chunk: usize, fails_at: u32) -> ChunkReader<'static> {
+        ChunkReader {
             left: INPUT,
-            piece,
+            chunk,
             reads: 0,
             fails_at,
         }
     }
 }
 
-impl Read for PieceReader<'_> {
+impl Read for ChunkReader<'_> {
     fn read(&mut self, buf: &mut [u8]) -> io::Result<usize> {
         self.reads = self.reads.saturating_add(1);
         if self.reads == self.fails_at {
             return Err(io::Error::from(ErrorKind::Interrupted));
         }
-        let n = self.left.len().min(self.piece).min(buf.len());
+        let n = self.left.len().min(self.chunk).min(buf.len());
         buf[..n].copy_from_slice(&self.left[..n]);
         self.left = &self.left[n..];
         Ok(n)
     }
 }
 
-/// Gives one byte at each read, without end.
+/// A reader that returns one byte at each read, without end.
 struct EndlessReader {
     reads: u32,
 }
@@ -56,8 +56,8 @@ impl Read for EndlessReader {
     }
 }
 
-/// Keeps what it takes in an array, at most seven bytes a write and up to a limit; from then on it
-/// fails or takes nothing.
+/// A writer that keeps what it takes in an array, at most seven bytes a write and up to a limit;
+/// from then on it fails or takes nothing.
 pub struct ArrayWriter {
     held: [u8; 128],
     len: usize,
@@ -76,7 +76,7 @@ impl ArrayWriter {
         }
     }
 
-    /// What it has taken.
+    /// The bytes that the writer has taken.
     pub fn as_slice(&self) -> &[u8] {
         &self.held[..self.len]
     }
@@ -99,8 +99,8 @@ impl Write for ArrayWriter {
     }
 }
 
-/// A run over the reader ends so, and the writer has taken these bytes. The number of the case is
-/// printed where that does not hold.
+/// Asserts the result of a run with the reader, and the bytes that the writer has taken. If they
+/// differ, prints the number of the case.
 fn assert_ended<R: Read>(
     case: usize,
     (reader, mut writer): (&mut R, ArrayWriter),
@@ -114,7 +114,7 @@ fn assert_ended<R: Read>(
 fn ends_at_a_failed_read() {
     let reads = INPUT.len() as u32 + 1;
     for k in 1..reads + 2 {
-        let mut reader = PieceReader::new(1, k);
+        let mut reader = ChunkReader::new(1, k);
         let writer = ArrayWriter::new(128, true);
         let wanted = if k <= reads {
             (Err(RunError::Read), b"".as_slice())
@@ -125,9 +125,9 @@ fn ends_at_a_failed_read() {
     }
 }
 
-/// A writer that fails after this many bytes, or takes no more, ends the run.
+/// Asserts that a writer that fails after this many bytes, or takes no more, ends the run.
 fn assert_cut(limit: usize, fails: bool) {
-    let mut reader = PieceReader::new(9, 0);
+    let mut reader = ChunkReader::new(9, 0);
     let writer = ArrayWriter::new(limit, fails);
     let wanted = (Err(RunError::Write), ANSWER.get(..limit).unwrap_or(ANSWER));
     assert_ended(limit, (&mut reader, writer), wanted);
@@ -151,7 +151,7 @@ fn ends_after_the_most_reads() {
     assert_equal(&"the most", &MOST_READS, &16_777_216);
 }
 
-/// Takes all address space there is, in smaller and smaller blocks that are never touched.
+/// Allocates all address space that is left, in smaller and smaller blocks that are never touched.
 fn take_all_memory() -> Result<Vec<Vec<u8>>, AllocError> {
     let mut held = Vec::try_with_room(200_000)?;
     let mut size = 1usize << 40;
@@ -169,9 +169,9 @@ fn take_all_memory() -> Result<Vec<Vec<u8>>, AllocError> {
     Ok(held)
 }
 
-/// Gives its bytes in pieces, and takes all memory at one of its reads.
+/// A reader that returns its bytes in chunks, and allocates all memory at one of its reads.
 struct MemoryTaker<'a> {
-    reader: PieceReader<'a>,
+    reader: ChunkReader<'a>,
     takes_at: u32,
     held: Vec<Vec<u8>>,
 }
@@ -186,11 +186,11 @@ impl Read for MemoryTaker<'_> {
     }
 }
 
-/// Once no memory is left after this read, a run that needs more ends with `Memory` and has written
-/// nothing.
+/// Asserts that a run that needs memory after this read, when none is left, ends with `Memory` and
+/// has written nothing.
 fn assert_starved(takes_at: u32) {
     let mut reader = MemoryTaker {
-        reader: PieceReader::new(9, 0),
+        reader: ChunkReader::new(9, 0),
         takes_at,
         held: Vec::new(),
     };
@@ -207,12 +207,12 @@ fn ends_where_no_memory_is_left() {
     assert_starved(15);
 }
 
-/// Wherever reads cut the input, the same output is written.
+/// The same output is written wherever reads split the input.
 #[test]
-fn answers_input_in_pieces() {
-    for piece in 1..INPUT.len() + 2 {
-        let mut reader = PieceReader::new(piece, 0);
+fn input_in_chunks() {
+    for chunk in 1..INPUT.len() + 2 {
+        let mut reader = ChunkReader::new(chunk, 0);
         let writer = ArrayWriter::new(128, true);
-        assert_ended(piece, (&mut reader, writer), (Ok(()), ANSWER));
+        assert_ended(chunk, (&mut reader, writer), (Ok(()), ANSWER));
     }
 }

@@ -1,5 +1,5 @@
-//! Worked strings and the lists that they are read as: a list or more of each group of families,
-//! and of each shape of data.
+//! Worked examples and the lists that they parse as: at least one of each group of families, and of
+//! each shape of data.
 
 use super::assertions::assert_value;
 use super::worked::{
@@ -9,8 +9,8 @@ use super::worked::{
     PFCP, PFCP_NO_NUL, PORT_DATA, SIT_FLAGS, TEAM_PORT, VETH, VETH_TAIL, VTI6, XSTATS,
 };
 
-/// A string, the canonical one of the same list, and what both are read as, written as `Debug`
-/// writes it.
+/// A byte string, the canonical encoding of the same list, and the value that both parse as, as
+/// `Debug` writes it.
 const VALUES: &[(&str, &str, &str)] = &[
     (
         GTP,
@@ -99,7 +99,7 @@ const VALUES: &[(&str, &str, &str)] = &[
     ),
 ];
 
-/// The list itself, likewise: its attributes, and the kinds that they go by.
+/// Examples of the list itself, as in `VALUES`: its attributes, and the current kinds before them.
 const LISTS: &[(&str, &str, &str)] = &[
     ("", "", "[]"),
     (PFCP_NO_NUL, PFCP, "[Kind(Pfcp)]"),

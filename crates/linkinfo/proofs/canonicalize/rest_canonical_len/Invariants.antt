@@ -3,7 +3,7 @@ use Rattle.std.specs.Prelude.{IsOk}
 use Rattle.std.specs.List.{AllByRecursion}
 use Rattle.nla_frame.specs.Attribute.{Fits, list_string}
 use Rattle.nla_frame.specs.Canonical.{attributes_for}
-use Rattle.nla_frame.specs.Pieces.{pieces}
+use Rattle.nla_frame.specs.NlaItems.{nla_items}
 use Rattle.linkinfo_data.specs.PeerFamilies.{families_of}
 use Rattle.linkinfo.specs.Items.{link_attribute}
 use Rattle.linkinfo.specs.Strings.{values_from}
@@ -14,10 +14,13 @@ abbrev pub invariant-loop-next : goal.invariant-loop-next
 invariant-loop-next g l =
     let peer = families_of g.row.P g.P.LinkPeer in
     let first = l.initial.walk in
-    let all = attributes_for (link_attribute peer) (values_from peer first.force (pieces (left first))) in
-    let now = attributes_for (link_attribute peer) (values_from peer l.walk.force (pieces (left l.walk))) in
+    let all =
+    attributes_for (link_attribute peer) (values_from peer first.kinds (nla_items (left first))) in
+    let now =
+    attributes_for (link_attribute peer)
+    (values_from peer l.walk.kinds (nla_items (left l.walk))) in
     record {
-      accepted : IsOk (values_from peer l.walk.force (pieces (left l.walk)));
+      accepted : IsOk (values_from peer l.walk.kinds (nla_items (left l.walk)));
       small : l.total < 2 ^ 64;
       so_far : l.total + length (list_string now) ≡ length (list_string all);
       each : AllByRecursion Fits now → AllByRecursion Fits all;

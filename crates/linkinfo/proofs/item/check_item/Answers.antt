@@ -8,7 +8,7 @@ use Rattle.linkinfo_table.specs.Rows.{row_meaning}
 use Rattle.linkinfo.specs.declared.link_info.LinkInfoOf.TheVariants as info
 use Rattle.linkinfo.specs.declared.role.Role.{Role}
 use Rattle.linkinfo.specs.Items.{link_other, link_row}
-use Rattle.linkinfo.specs.Roles.{behind_role, none_in_force}
+use Rattle.linkinfo.specs.Roles.{kinds_after_role, no_kinds}
 use Rattle.linkinfo.proofs.Naming.{name_checked, with_name_ok}
 use Rattle.linkinfo.proofs.item.check_item.Goals as goal
 use Rattle.linkinfo_data.specs.PeerFamilies.{families_of}
@@ -16,11 +16,17 @@ use Rattle.linkinfo_data.specs.PeerFamilies.{families_of}
 pub returns-in-Kind-clause-answer : goal.returns-in-Kind-clause-answer
 returns-in-Kind-clause-answer g c =
     name_checked (λ name. info.Kind (kind_of_name name)) _
-    (with_name_ok _ _ (subst (λ (r : Role). IsOk (behind_role r none_in_force c.args.nla.now)) c.in-Kind.is c.requires.entered))
-    ∙ sym (ap (λ (r : Role). verdict (row_meaning family.LinkInfo link_other (link_row (families_of g.row.P g.P.LinkPeer) r) c.args.nla.now)) c.in-Kind.is)
+    (with_name_ok _ _ (subst (λ (r : Role). IsOk (kinds_after_role r no_kinds c.args.nla.now))
+    c.in-Kind.is c.requires.entered))
+    ∙ sym (ap (λ (r : Role).
+    verdict (row_meaning family.LinkInfo link_other (link_row (families_of g.row.P g.P.LinkPeer) r)
+    c.args.nla.now)) c.in-Kind.is)
 
 pub returns-in-PortKind-clause-answer : goal.returns-in-PortKind-clause-answer
 returns-in-PortKind-clause-answer g c =
     name_checked (λ name. info.PortKind (port_kind_of_name name)) _
-    (with_name_ok _ _ (subst (λ (r : Role). IsOk (behind_role r none_in_force c.args.nla.now)) c.in-PortKind.is c.requires.entered))
-    ∙ sym (ap (λ (r : Role). verdict (row_meaning family.LinkInfo link_other (link_row (families_of g.row.P g.P.LinkPeer) r) c.args.nla.now)) c.in-PortKind.is)
+    (with_name_ok _ _ (subst (λ (r : Role). IsOk (kinds_after_role r no_kinds c.args.nla.now))
+    c.in-PortKind.is c.requires.entered))
+    ∙ sym (ap (λ (r : Role).
+    verdict (row_meaning family.LinkInfo link_other (link_row (families_of g.row.P g.P.LinkPeer) r)
+    c.args.nla.now)) c.in-PortKind.is)

@@ -13,10 +13,17 @@ use Rattle.linkinfo_data.specs.PeerFamilies.{families_of}
 
 pub shape_canonical_len-requires-clause-accepted : goal.shape_canonical_len-requires-clause-accepted
 shape_canonical_len-requires-clause-accepted g c =
-    accepted_name (λ name. info.Kind (kind_of_name name)) c.args.nla.now _ c.value-value.ensures.value
-    (subst (λ (r : Role). IsOk (row_meaning family.LinkInfo link_other (link_row (families_of g.row.P g.P.LinkPeer) r) c.args.nla.now)) c.in-Kind.is c.requires)
+    accepted_name (λ name. info.Kind (kind_of_name name)) c.args.nla.now _
+    c.value-value.ensures.value
+    (subst (λ (r : Role).
+    IsOk (row_meaning family.LinkInfo link_other (link_row (families_of g.row.P g.P.LinkPeer) r)
+    c.args.nla.now)) c.in-Kind.is c.requires)
 
-pub shape_canonical_len-requires-in-PortKind-clause-accepted : goal.shape_canonical_len-requires-in-PortKind-clause-accepted
+pub shape_canonical_len-requires-in-PortKind-clause-accepted :
+    goal.shape_canonical_len-requires-in-PortKind-clause-accepted
 shape_canonical_len-requires-in-PortKind-clause-accepted g c =
-    accepted_name (λ name. info.PortKind (port_kind_of_name name)) c.args.nla.now _ c.value-value.ensures.value
-    (subst (λ (r : Role). IsOk (row_meaning family.LinkInfo link_other (link_row (families_of g.row.P g.P.LinkPeer) r) c.args.nla.now)) c.in-PortKind.is c.requires)
+    accepted_name (λ name. info.PortKind (port_kind_of_name name)) c.args.nla.now _
+    c.value-value.ensures.value
+    (subst (λ (r : Role).
+    IsOk (row_meaning family.LinkInfo link_other (link_row (families_of g.row.P g.P.LinkPeer) r)
+    c.args.nla.now)) c.in-PortKind.is c.requires)

@@ -14,19 +14,34 @@ use Rattle.linkinfo_data.specs.PeerFamilies.{families_of}
 pub shape_same-requires-clause-first : goal.shape_same-requires-clause-first
 shape_same-requires-clause-first g c =
     accepted_name (λ name. info.Kind (kind_of_name name)) c.args.a.now _ c.value.ensures.value
-    (subst (λ (r : Role). IsOk (row_meaning family.LinkInfo link_other (link_row (families_of g.row.P g.P.LinkPeer) r) c.args.a.now)) c.in-Kind.is c.requires.first)
+    (subst (λ (r : Role).
+    IsOk (row_meaning family.LinkInfo link_other (link_row (families_of g.row.P g.P.LinkPeer) r)
+    c.args.a.now)) c.in-Kind.is c.requires.first)
 
 pub shape_same-requires-clause-second : goal.shape_same-requires-clause-second
 shape_same-requires-clause-second g c =
-    accepted_name (λ name. info.Kind (kind_of_name name)) c.args.b.now _ c.value-then-same_kind.ensures.value
-    (subst (λ (r : Role). IsOk (row_meaning family.LinkInfo link_other (link_row (families_of g.row.P g.P.LinkPeer) r) c.args.b.now)) c.in-Kind.is (c.requires.second (sym c.kind.ensures ∙ c.if-same_kind.true ∙ c.kind-2.ensures)))
+    accepted_name (λ name. info.Kind (kind_of_name name)) c.args.b.now _
+    c.value-then-same_kind.ensures.value
+    (subst (λ (r : Role).
+    IsOk (row_meaning family.LinkInfo link_other (link_row (families_of g.row.P g.P.LinkPeer) r)
+    c.args.b.now)) c.in-Kind.is
+    (c.requires.second (sym c.kind.ensures ∙ c.if-same_kind.true ∙ c.kind-2.ensures)))
 
-pub shape_same-requires-then-same_kind-4-clause-first : goal.shape_same-requires-then-same_kind-4-clause-first
+pub shape_same-requires-then-same_kind-4-clause-first :
+    goal.shape_same-requires-then-same_kind-4-clause-first
 shape_same-requires-then-same_kind-4-clause-first g c =
-    accepted_name (λ name. info.PortKind (port_kind_of_name name)) c.args.a.now _ c.value-then-same_kind-4.ensures.value
-    (subst (λ (r : Role). IsOk (row_meaning family.LinkInfo link_other (link_row (families_of g.row.P g.P.LinkPeer) r) c.args.a.now)) c.in-PortKind.is c.requires.first)
+    accepted_name (λ name. info.PortKind (port_kind_of_name name)) c.args.a.now _
+    c.value-then-same_kind-4.ensures.value
+    (subst (λ (r : Role).
+    IsOk (row_meaning family.LinkInfo link_other (link_row (families_of g.row.P g.P.LinkPeer) r)
+    c.args.a.now)) c.in-PortKind.is c.requires.first)
 
-pub shape_same-requires-then-same_kind-4-clause-second : goal.shape_same-requires-then-same_kind-4-clause-second
+pub shape_same-requires-then-same_kind-4-clause-second :
+    goal.shape_same-requires-then-same_kind-4-clause-second
 shape_same-requires-then-same_kind-4-clause-second g c =
-    accepted_name (λ name. info.PortKind (port_kind_of_name name)) c.args.b.now _ c.value-then-same_kind-4-2.ensures.value
-    (subst (λ (r : Role). IsOk (row_meaning family.LinkInfo link_other (link_row (families_of g.row.P g.P.LinkPeer) r) c.args.b.now)) c.in-PortKind.is (c.requires.second (sym c.kind.ensures ∙ c.if-same_kind-4.true ∙ c.kind-2.ensures)))
+    accepted_name (λ name. info.PortKind (port_kind_of_name name)) c.args.b.now _
+    c.value-then-same_kind-4-2.ensures.value
+    (subst (λ (r : Role).
+    IsOk (row_meaning family.LinkInfo link_other (link_row (families_of g.row.P g.P.LinkPeer) r)
+    c.args.b.now)) c.in-PortKind.is
+    (c.requires.second (sym c.kind.ensures ∙ c.if-same_kind-4.true ∙ c.kind-2.ensures)))

@@ -1,6 +1,6 @@
 use Rattle.std.proofs.Common.{◌≡◌, ◌+◌, ◌*◌, ◌≤◌, length}
 use Rattle.nla_frame.specs.Answers.{verdict}
-use Rattle.nla_frame.specs.Pieces.{pieces}
+use Rattle.nla_frame.specs.NlaItems.{nla_items}
 use Rattle.linkinfo.specs.Strings.{headers_from, values_from}
 use Rattle.linkinfo.specs.Walks.{left}
 use Rattle.linkinfo.proofs.list.check_rest.Given as goal
@@ -11,9 +11,14 @@ invariant-loop-next g l =
     let peer = families_of g.row.P g.P.LinkPeer in
     let first = l.initial.walk in
     record {
-      answer : verdict (values_from peer l.walk.force (pieces (left l.walk))) ≡ verdict (values_from peer first.force (pieces (left first)));
-      counted : (l.count + l.walk.attributes.examined) + headers_from peer l.walk.force (pieces (left l.walk)) ≡ (l.initial.count + first.attributes.examined) + headers_from peer first.force (pieces (left first));
-      room : 4 * (l.count + l.walk.attributes.examined) + length (left l.walk) ≤ 4 * (l.initial.count + first.attributes.examined) + length (left first);
+      answer : verdict (values_from peer l.walk.kinds (nla_items (left l.walk)))
+          ≡ verdict (values_from peer first.kinds (nla_items (left first)));
+      counted : (l.count + l.walk.attributes.examined)
+          + headers_from peer l.walk.kinds (nla_items (left l.walk))
+          ≡ (l.initial.count + first.attributes.examined)
+          + headers_from peer first.kinds (nla_items (left first));
+      room : 4 * (l.count + l.walk.attributes.examined) + length (left l.walk)
+          ≤ 4 * (l.initial.count + first.attributes.examined) + length (left first);
     }
 
 abbrev pub decreases-loop-next : goal.decreases-loop-next

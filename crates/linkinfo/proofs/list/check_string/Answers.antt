@@ -7,4 +7,5 @@ pub returns-clause-no_memory : goal.returns-clause-no_memory
 unfolding reading
 returns-clause-no_memory g c =
     let answer = rw c.new-walk.ensures at c.check_rest-answer.ensures.answer in
-    checked_no_memory (families_of g.row.P g.P.LinkPeer) c.families_lawful.ensures c.args.bytes.now _ answer
+    checked_no_memory (families_of g.row.P g.P.LinkPeer) c.families_lawful.ensures c.args.bytes.now
+    _ answer

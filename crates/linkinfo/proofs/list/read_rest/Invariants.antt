@@ -1,6 +1,6 @@
 use Rattle.std.proofs.Common.{◌≡◌, ◌+◌, ◌*◌, ◌≤◌, false, length}
-use Rattle.nla_frame.specs.Pieces.{pieces}
-use Rattle.linkinfo_table.specs.Lists.{behind}
+use Rattle.nla_frame.specs.NlaItems.{nla_items}
+use Rattle.linkinfo_table.specs.Lists.{append_to}
 use Rattle.linkinfo.specs.Strings.{headers_from, memory_from, values_from}
 use Rattle.linkinfo.specs.Walks.{left}
 use Rattle.linkinfo.proofs.list.read_rest.Given as goal
@@ -11,11 +11,17 @@ invariant-loop-next g l =
     let peer = families_of g.row.P g.P.LinkPeer in
     let first = l.initial.walk in
     record {
-      answer : behind l.items.items (values_from peer l.walk.force (pieces (left l.walk))) ≡ values_from peer first.force (pieces (left first));
-      certain : memory_from peer first.force (pieces (left first)) ≡ false → memory_from peer l.walk.force (pieces (left l.walk)) ≡ false;
-      counted : (l.count + l.walk.attributes.examined) + headers_from peer l.walk.force (pieces (left l.walk)) ≡ (l.initial.count + first.attributes.examined) + headers_from peer first.force (pieces (left first));
+      answer : append_to l.items.items (values_from peer l.walk.kinds (nla_items (left l.walk)))
+          ≡ values_from peer first.kinds (nla_items (left first));
+      certain : memory_from peer first.kinds (nla_items (left first)) ≡ false →
+          memory_from peer l.walk.kinds (nla_items (left l.walk)) ≡ false;
+      counted : (l.count + l.walk.attributes.examined)
+          + headers_from peer l.walk.kinds (nla_items (left l.walk))
+          ≡ (l.initial.count + first.attributes.examined)
+          + headers_from peer first.kinds (nla_items (left first));
       rises : l.initial.count + first.attributes.examined ≤ l.count + l.walk.attributes.examined;
-      room : 4 * (l.count + l.walk.attributes.examined) + length (left l.walk) ≤ 4 * (l.initial.count + first.attributes.examined) + length (left first);
+      room : 4 * (l.count + l.walk.attributes.examined) + length (left l.walk)
+          ≤ 4 * (l.initial.count + first.attributes.examined) + length (left first);
     }
 
 abbrev pub decreases-loop-next : goal.decreases-loop-next

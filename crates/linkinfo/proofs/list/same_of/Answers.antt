@@ -7,16 +7,22 @@ use Rattle.linkinfo_data.specs.PeerFamilies.{families_of}
 
 pub returns-clause-equal : goal.returns-clause-equal
 returns-clause-equal g c =
-    same_equal (families_of g.row.P g.P.LinkPeer) c.families_lawful.ensures c.args.a.now c.args.b.now _ (λ i. omega (arith, c.type_inv.a i)) (λ i. omega (arith, c.type_inv.b i)) c.same_uncounted.ensures.answer
+    same_equal (families_of g.row.P g.P.LinkPeer) c.families_lawful.ensures c.args.a.now
+    c.args.b.now _ (λ i. omega (arith, c.type_inv.a i)) (λ i. omega (arith, c.type_inv.b i))
+    c.same_uncounted.ensures.answer
 
 pub returns-clause-values : goal.returns-clause-values
 returns-clause-values g c = λ x y h k.
     let exact =
-    link.exact-law g.row.P g.P.ExactEq g.P.ExactEq-dict g.P.PartialEq g.P.PartialEq-dict (record { exact = g.met.P.ExactEq.exact }) (record { laws = g.met.P.PartialEq.laws }) in
-    same_values (families_of g.row.P g.P.LinkPeer) c.families_lawful.ensures c.args.a.now c.args.b.now _ x.0 y.0 _ (λ i. omega (arith, c.type_inv.a i)) (λ i. omega (arith, c.type_inv.b i))
+    link.exact-law g.row.P g.P.ExactEq g.P.ExactEq-dict g.P.PartialEq g.P.PartialEq-dict
+    (record { exact = g.met.P.ExactEq.exact }) (record { laws = g.met.P.PartialEq.laws }) in
+    same_values (families_of g.row.P g.P.LinkPeer) c.families_lawful.ensures c.args.a.now
+    c.args.b.now _ x.0 y.0 _ (λ i. omega (arith, c.type_inv.a i))
+    (λ i. omega (arith, c.type_inv.b i))
     c.same_uncounted.ensures.answer h k (pointwise_decides exact x.0 y.0)
 
 pub returns-clause-canonical : goal.returns-clause-canonical
 returns-clause-canonical g c = λ xs ys h k f e.
-    same_answered (families_of g.row.P g.P.LinkPeer) c.families_lawful.ensures c.args.a.now c.args.b.now _ xs ys (λ i. omega (arith, c.type_inv.a i)) (λ i. omega (arith, c.type_inv.b i))
+    same_answered (families_of g.row.P g.P.LinkPeer) c.families_lawful.ensures c.args.a.now
+    c.args.b.now _ xs ys (λ i. omega (arith, c.type_inv.a i)) (λ i. omega (arith, c.type_inv.b i))
     c.same_uncounted.ensures.answer h k f e

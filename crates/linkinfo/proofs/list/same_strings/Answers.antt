@@ -1,9 +1,9 @@
--- Each step pairs the attributes in front; the counts are sums over both strings.
+-- Each step pairs the first attributes left; the counts are sums over both byte strings.
 use Rattle.std.proofs.Common.{arith, ◌∙◌, sym, ap, subst, Result}
 use Rattle.std.specs.Prelude.{IsOk}
-use Rattle.nla_frame.specs.Pieces.{pieces}
+use Rattle.nla_frame.specs.NlaItems.{nla_items}
 use Rattle.nla_frame.specs.declared.error.DecodeError.{DecodeError}
-use Rattle.linkinfo.specs.declared.role.InForce.{InForce}
+use Rattle.linkinfo.specs.declared.role.CurrentKinds.{CurrentKinds}
 use Rattle.linkinfo.specs.Strings.{values_from, headers_from, alike_from}
 use Rattle.linkinfo.proofs.Pairs.{paired, entered_is, apart, along, on_true}
 use Rattle.linkinfo.proofs.list.same_strings.Goals as goal
@@ -12,48 +12,70 @@ use Rattle.linkinfo_data.specs.PeerFamilies.{families_of}
 pub same_item-requires-clause-first : goal.same_item-requires-clause-first
 same_item-requires-clause-first g c =
     let on_x = rw c.unwrap-p.ensures at c.in-Some.ensures in
-    let on_y = rw c.unwrap-q.ensures at c.in-Some-next_piece.ensures in
+    let on_y = rw c.unwrap-q.ensures at c.in-Some-next_attribute.ensures in
     let inv = c.loop-next.invariant in
-    (paired (families_of g.row.P g.P.LinkPeer) _ _ _ _ _ _ _ _ _ c.role_of-role.ensures c.kind.ensures on_x.pieces_are on_y.pieces_are inv.first inv.second).first
+    (paired (families_of g.row.P g.P.LinkPeer) _ _ _ _ _ _ _ _ _ c.role_of-role.ensures
+    c.kind.ensures on_x.nla_items_are on_y.nla_items_are inv.first inv.second).first
 
 pub same_item-requires-clause-second : goal.same_item-requires-clause-second
 same_item-requires-clause-second g c =
     let on_x = rw c.unwrap-p.ensures at c.in-Some.ensures in
-    let on_y = rw c.unwrap-q.ensures at c.in-Some-next_piece.ensures in
+    let on_y = rw c.unwrap-q.ensures at c.in-Some-next_attribute.ensures in
     let inv = c.loop-next.invariant in
-    (paired (families_of g.row.P g.P.LinkPeer) _ _ _ _ _ _ _ _ _ c.role_of-role.ensures c.kind.ensures on_x.pieces_are on_y.pieces_are inv.first inv.second).second
+    (paired (families_of g.row.P g.P.LinkPeer) _ _ _ _ _ _ _ _ _ c.role_of-role.ensures
+    c.kind.ensures on_x.nla_items_are on_y.nla_items_are inv.first inv.second).second
 
-pub unwrap-force-requires : goal.unwrap-force-requires
-unwrap-force-requires g c =
+pub unwrap-kinds-requires : goal.unwrap-kinds-requires
+unwrap-kinds-requires g c =
     let on_x = rw c.unwrap-p.ensures at c.in-Some.ensures in
-    let on_y = rw c.unwrap-q.ensures at c.in-Some-next_piece.ensures in
+    let on_y = rw c.unwrap-q.ensures at c.in-Some-next_attribute.ensures in
     let inv = c.loop-next.invariant in
-    let pair = paired (families_of g.row.P g.P.LinkPeer) _ _ _ _ _ _ _ _ _ c.role_of-role.ensures c.kind.ensures on_x.pieces_are on_y.pieces_are inv.first inv.second in
-    subst (λ (r : Result InForce DecodeError). IsOk r) (sym c.behind.ensures) pair.clean
+    let pair =
+    paired (families_of g.row.P g.P.LinkPeer) _ _ _ _ _ _ _ _ _ c.role_of-role.ensures
+    c.kind.ensures on_x.nla_items_are on_y.nla_items_are inv.first inv.second in
+    subst (λ (r : Result CurrentKinds DecodeError). IsOk r) (sym c.kinds_after.ensures) pair.clean
 
 pub returns-then-not-same_item-clause-same : goal.returns-then-not-same_item-clause-same
 returns-then-not-same_item-clause-same g c =
     let on_x = rw c.unwrap-p.ensures at c.in-Some.ensures in
-    let on_y = rw c.unwrap-q.ensures at c.in-Some-next_piece.ensures in
+    let on_y = rw c.unwrap-q.ensures at c.in-Some-next_attribute.ensures in
     let inv = c.loop-next.invariant in
-    let pair = paired (families_of g.row.P g.P.LinkPeer) _ _ _ _ _ _ _ _ _ c.role_of-role.ensures c.kind.ensures on_x.pieces_are on_y.pieces_are inv.first inv.second in
-    sym (sym inv.same ∙ pair.same ∙ apart _ _ (sym c.same_item.ensures.same ∙ c.if-not-same_item.true))
+    let pair =
+    paired (families_of g.row.P g.P.LinkPeer) _ _ _ _ _ _ _ _ _ c.role_of-role.ensures
+    c.kind.ensures on_x.nla_items_are on_y.nla_items_are inv.first inv.second in
+    sym (sym inv.same
+    ∙ pair.same
+    ∙ apart _ _ (sym c.same_item.ensures.same ∙ c.if-not-same_item.true))
 
 pub loop-next-preserved : goal.loop-next-preserved
 loop-next-preserved g c =
     let on_x = rw c.unwrap-p.ensures at c.in-Some.ensures in
-    let on_y = rw c.unwrap-q.ensures at c.in-Some-next_piece.ensures in
+    let on_y = rw c.unwrap-q.ensures at c.in-Some-next_attribute.ensures in
     let inv = c.loop-next.invariant in
-    let pair = paired (families_of g.row.P g.P.LinkPeer) _ _ _ _ _ _ _ _ _ c.role_of-role.ensures c.kind.ensures on_x.pieces_are on_y.pieces_are inv.first inv.second in
+    let pair =
+    paired (families_of g.row.P g.P.LinkPeer) _ _ _ _ _ _ _ _ _ c.role_of-role.ensures
+    c.kind.ensures on_x.nla_items_are on_y.nla_items_are inv.first inv.second in
     let peer = families_of g.row.P g.P.LinkPeer in
     let alike = sym c.same_item.ensures.same ∙ c.if-not-same_item.false in
-    let force = entered_is peer _ _ _ _ _ c.role_of-role.ensures c.kind.ensures (sym c.behind.ensures ∙ c.unwrap-force.ensures) in
-    let other = sym (pair.goes_on alike) ∙ force in
+    let kinds =
+    entered_is peer _ _ _ _ _ c.role_of-role.ensures c.kind.ensures
+    (sym c.kinds_after.ensures ∙ c.unwrap-kinds.ensures) in
+    let other = sym (pair.goes_on alike) ∙ kinds in
     record {
-      first = subst (λ (u : InForce). IsOk (values_from peer u (pieces c.unwrap-p.result.1.now))) force pair.first_more;
-      second = subst (λ (u : InForce). IsOk (values_from peer u (pieces c.unwrap-q.result.1.now))) other pair.second_more;
+      first =
+          subst
+          (λ (u : CurrentKinds). IsOk (values_from peer u (nla_items c.unwrap-p.result.1.now)))
+          kinds
+          pair.first_more;
+      second =
+          subst
+          (λ (u : CurrentKinds). IsOk (values_from peer u (nla_items c.unwrap-q.result.1.now)))
+          other
+          pair.second_more;
       same =
-          ap (λ (u : InForce). alike_from peer u (pieces c.unwrap-p.result.1.now) (pieces c.unwrap-q.result.1.now)) (sym force)
+          ap (λ (u : CurrentKinds).
+          alike_from peer u (nla_items c.unwrap-p.result.1.now) (nla_items c.unwrap-q.result.1.now))
+          (sym kinds)
           ∙ sym (pair.same ∙ along _ _ alike)
           ∙ inv.same;
       counted =
@@ -64,18 +86,30 @@ loop-next-preserved g c =
             on_y.counted,
             pair.headers_x,
             pair.headers_y alike,
-            ap (λ (u : InForce). headers_from peer u (pieces c.unwrap-p.result.1.now)) force,
-            ap (λ (u : InForce). headers_from peer u (pieces c.unwrap-q.result.1.now)) other,
+            ap
+                (λ (u : CurrentKinds). headers_from peer u (nla_items c.unwrap-p.result.1.now))
+                kinds,
+            ap
+                (λ (u : CurrentKinds). headers_from peer u (nla_items c.unwrap-q.result.1.now))
+                other,
             on_true _ _ c.if-not-same_item.false c.same_item.ensures.counted,
           );
       rises = omega (arith, inv.rises, on_x.counted, on_y.counted, c.same_item.ensures.rises);
-      room = omega (arith, inv.room, on_x.counted, on_y.counted, on_x.room, on_y.room, c.same_item.ensures.quarter);
+      room = omega (
+        arith,
+        inv.room,
+        on_x.counted,
+        on_y.counted,
+        on_x.room,
+        on_y.room,
+        c.same_item.ensures.quarter,
+      );
     }
 
 pub same_item-requires-clause-room : goal.same_item-requires-clause-room
 same_item-requires-clause-room g c =
     let on_x = rw c.unwrap-p.ensures at c.in-Some.ensures in
-    let on_y = rw c.unwrap-q.ensures at c.in-Some-next_piece.ensures in
+    let on_y = rw c.unwrap-q.ensures at c.in-Some-next_attribute.ensures in
     let inv = c.loop-next.invariant in
     omega (arith, c.requires.room, inv.room, on_x.counted, on_y.counted, on_x.room, on_y.room)
 
@@ -91,13 +125,21 @@ returns-then-not-same_item-clause-counted g c =
 pub returns-then-not-same_item-clause-rises : goal.returns-then-not-same_item-clause-rises
 returns-then-not-same_item-clause-rises g c =
     let on_x = rw c.unwrap-p.ensures at c.in-Some.ensures in
-    let on_y = rw c.unwrap-q.ensures at c.in-Some-next_piece.ensures in
+    let on_y = rw c.unwrap-q.ensures at c.in-Some-next_attribute.ensures in
     let inv = c.loop-next.invariant in
     omega (arith, inv.rises, on_x.counted, on_y.counted, c.same_item.ensures.rises)
 
 pub returns-then-not-same_item-clause-quarter : goal.returns-then-not-same_item-clause-quarter
 returns-then-not-same_item-clause-quarter g c =
     let on_x = rw c.unwrap-p.ensures at c.in-Some.ensures in
-    let on_y = rw c.unwrap-q.ensures at c.in-Some-next_piece.ensures in
+    let on_y = rw c.unwrap-q.ensures at c.in-Some-next_attribute.ensures in
     let inv = c.loop-next.invariant in
-    omega (arith, inv.room, on_x.counted, on_y.counted, on_x.room, on_y.room, c.same_item.ensures.quarter)
+    omega (
+      arith,
+      inv.room,
+      on_x.counted,
+      on_y.counted,
+      on_x.room,
+      on_y.room,
+      c.same_item.ensures.quarter,
+    )

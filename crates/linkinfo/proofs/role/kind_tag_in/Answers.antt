@@ -11,7 +11,8 @@ returns-in_ok-name_in-in-Other c =
     let bytes = c.without_nul.ensures ∙ ap stripped c.value.ensures.value in
     sym (
     made_of_name c.args.nla.now tag_of_name _ c.in_ok-name_in-in-Other.ensures
-    ∙ ap (λ (t : KindTag). let r : Result KindTag DecodeError = Ok t in r) (ap tag_of_name (sym bytes) ∙ sym c.tag_of_name.ensures ∙ c.in-Other.is)
+    ∙ ap (λ (t : KindTag). let r : Result KindTag DecodeError = Ok t in r)
+    (ap tag_of_name (sym bytes) ∙ sym c.tag_of_name.ensures ∙ c.in-Other.is)
     )
 
 pub returns-in_default : goal.returns-in_default
@@ -19,5 +20,6 @@ returns-in_default c =
     let bytes = c.without_nul.ensures ∙ ap stripped c.value.ensures.value in
     sym (
     made_known tag_of_name c.args.nla.now c.without_nul.result.now c.tag_of_name.result bytes
-    (tag_of_name-utf8 c.without_nul.result.now (λ e. c.in_default.not-Other (c.tag_of_name.ensures ∙ e))) (sym c.tag_of_name.ensures)
+    (tag_of_name-utf8 c.without_nul.result.now
+    (λ e. c.in_default.not-Other (c.tag_of_name.ensures ∙ e))) (sym c.tag_of_name.ensures)
     )

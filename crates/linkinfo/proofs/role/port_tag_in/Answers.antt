@@ -11,13 +11,16 @@ returns-in_ok-name_in-in-Other c =
     let bytes = c.without_nul.ensures ∙ ap stripped c.value.ensures.value in
     sym (
     made_of_name c.args.nla.now port_tag_of_name _ c.in_ok-name_in-in-Other.ensures
-    ∙ ap (λ (t : PortTag). let r : Result PortTag DecodeError = Ok t in r) (ap port_tag_of_name (sym bytes) ∙ sym c.port_tag_of_name.ensures ∙ c.in-Other.is)
+    ∙ ap (λ (t : PortTag). let r : Result PortTag DecodeError = Ok t in r)
+    (ap port_tag_of_name (sym bytes) ∙ sym c.port_tag_of_name.ensures ∙ c.in-Other.is)
     )
 
 pub returns-in_default : goal.returns-in_default
 returns-in_default c =
     let bytes = c.without_nul.ensures ∙ ap stripped c.value.ensures.value in
     sym (
-    made_known port_tag_of_name c.args.nla.now c.without_nul.result.now c.port_tag_of_name.result bytes
-    (port_tag_of_name-utf8 c.without_nul.result.now (λ e. c.in_default.not-Other (c.port_tag_of_name.ensures ∙ e))) (sym c.port_tag_of_name.ensures)
+    made_known port_tag_of_name c.args.nla.now c.without_nul.result.now c.port_tag_of_name.result
+    bytes
+    (port_tag_of_name-utf8 c.without_nul.result.now
+    (λ e. c.in_default.not-Other (c.port_tag_of_name.ensures ∙ e))) (sym c.port_tag_of_name.ensures)
     )

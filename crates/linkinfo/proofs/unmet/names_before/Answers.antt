@@ -25,20 +25,39 @@ loop-nla-preserved c =
     let bytes = c.args.bytes.now in
     let at : ℕ = length bytes - length c.loop-nla.rest.now in
     let is_before = nat_lt at c.args.offset in
-    let front = left_at_attribute bytes c.loop-nla.rest.now c.in-Some-Ok.after.now c.in-Some-Ok.nla _ _ step (omega (arith, before.room)) in
+    let front =
+    left_at_attribute bytes c.loop-nla.rest.now c.in-Some-Ok.after.now c.in-Some-Ok.nla _ _ step
+    (omega (arith, before.room)) in
     let stand = rw front at before.stand in
     let small : at ≤ length bytes = omega arith in
-    let kind_is = c.kind_after-kind.ensures ∙ ap (λ (k : ℕ). kind_place is_before k at c.loop-nla.kind) c.kind.ensures in
-    let port_is = c.port_after-port.ensures ∙ ap (λ (k : ℕ). port_place is_before k at c.loop-nla.port) c.kind-in-Some-Ok.ensures in
-    let named = named_step bytes at c.in-Some-Ok.nla stand.0 small is_before c.loop-nla.kind c.loop-nla.port in
+    let kind_is =
+    c.kind_after-kind.ensures
+    ∙ ap (λ (k : ℕ). kind_place is_before k at c.loop-nla.kind) c.kind.ensures in
+    let port_is =
+    c.port_after-port.ensures
+    ∙ ap (λ (k : ℕ). port_place is_before k at c.loop-nla.port) c.kind-in-Some-Ok.ensures in
+    let named =
+    named_step bytes at c.in-Some-Ok.nla stand.0 small is_before c.loop-nla.kind c.loop-nla.port in
     record {
       left =
-          ap (λ (o : Option ℕ). names_before c.args.offset (named_at bytes o c.port_after-port.result) (left_of bytes c.in-Some-Ok.after.now)) kind_is
-          ∙ ap (λ (o : Option ℕ). names_before c.args.offset (named_at bytes (kind_place is_before (masked c.in-Some-Ok.nla.kind) at c.loop-nla.kind) o) (left_of bytes c.in-Some-Ok.after.now)) port_is
-          ∙ ap (λ (n : Named). names_before c.args.offset n (left_of bytes c.in-Some-Ok.after.now)) named
+          ap (λ (o : Option ℕ).
+          names_before c.args.offset (named_at bytes o c.port_after-port.result)
+          (left_of bytes c.in-Some-Ok.after.now)) kind_is
+          ∙ ap (λ (o : Option ℕ).
+          names_before c.args.offset (named_at bytes
+          (kind_place is_before (masked c.in-Some-Ok.nla.kind) at c.loop-nla.kind) o)
+          (left_of bytes c.in-Some-Ok.after.now)) port_is
+          ∙ ap (λ (n : Named). names_before c.args.offset n (left_of bytes c.in-Some-Ok.after.now))
+          named
           ∙ (rw front at before.left);
       stand = stand.1;
-      kind = rw kind_is (kind_kept bytes at c.in-Some-Ok.nla stand.0 small is_before (masked c.in-Some-Ok.nla.kind) c.loop-nla.kind before.kind);
-      port = rw port_is (port_kept bytes at c.in-Some-Ok.nla stand.0 small is_before (masked c.in-Some-Ok.nla.kind) c.loop-nla.port before.port);
+      kind =
+          rw kind_is (kind_kept bytes
+          at c.in-Some-Ok.nla stand.0 small is_before (masked c.in-Some-Ok.nla.kind) c.loop-nla.kind
+          before.kind);
+      port =
+          rw port_is (port_kept bytes
+          at c.in-Some-Ok.nla stand.0 small is_before (masked c.in-Some-Ok.nla.kind) c.loop-nla.port
+          before.port);
       room = omega (arith, step.counted, step.room, before.room);
     }

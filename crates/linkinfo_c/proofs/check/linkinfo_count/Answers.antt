@@ -2,13 +2,14 @@ use Rattle.std.proofs.Common.{ap, subst, sym, ◌∙◌}
 use Rattle.linkinfo.specs.Strings.{reading}
 use Rattle.linkinfo_data.specs.BytesPeer.{bytes_peer}
 use Rattle.linkinfo_c.specs.Causes.{IsReturnedCode}
-use Rattle.linkinfo_c.specs.Faults.{fault_in}
-use Rattle.linkinfo_c.specs.declared.fault.LinkinfoFault.{LinkinfoFault}
+use Rattle.linkinfo_c.specs.Errors.{error_or_none}
+use Rattle.linkinfo_c.specs.declared.error.LinkinfoError.{LinkinfoError}
 use Rattle.linkinfo_c.proofs.CausingData.{reading_errors, verdict_code}
 use Rattle.linkinfo_c.proofs.check.linkinfo_count.Goals as goal
 
 pub returns-clause-cause : goal.returns-clause-cause
 returns-clause-cause c =
     let s = c.args.bytes.now in
-    subst (λ (z : LinkinfoFault). IsReturnedCode z.cause) (sym (c.fault_in-fault.ensures ∙ ap fault_in c.check_counted.ensures.answer))
+    subst (λ (z : LinkinfoError). IsReturnedCode z.cause)
+    (sym (c.error_or_none-error.ensures ∙ ap error_or_none c.check_counted.ensures.answer))
     (verdict_code (reading bytes_peer s) (reading_errors s))

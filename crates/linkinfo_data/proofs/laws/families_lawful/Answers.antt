@@ -3,14 +3,14 @@ use Rattle.nla_frame.specs.declared.error.Family.TheVariants as family
 use Rattle.linkinfo_data.proofs.Lawful.{amt_is, bare_udp_is, batadv_is, geneve_is, gre6_is, gre_is}
 use Rattle.linkinfo_data.proofs.Lawful.{gtp_is, ip_tunnel_is, ip_vlan_is, ip_vtap_is, ipoib_is}
 use Rattle.linkinfo_data.proofs.Lawful.{mac_sec_is, mac_vlan_is, mac_vtap_is, netkit_is, rm_net_is}
-use Rattle.linkinfo_data.proofs.Lawful.{rowless_is, veth_is, vrf_is, vti_is, vxcan_is, vxlan_is}
+use Rattle.linkinfo_data.proofs.Lawful.{opaque_is, veth_is, vrf_is, vti_is, vxcan_is, vxlan_is}
 use Rattle.linkinfo_data.proofs.Lawful.{wwan_is, xfrm_is}
 use Rattle.linkinfo_data.proofs.laws.families_lawful.Goals as goal
-use Rattle.linkinfo_data.specs.DeviceData.{devices_data_of}
+use Rattle.linkinfo_data.specs.DeviceData.{devices_data_of, mac_vlan_lists, mac_vtap_lists}
 use Rattle.linkinfo_data.specs.InfoData.{data_payload}
 use Rattle.linkinfo_data.specs.LowerData.{lower_data_of}
 use Rattle.linkinfo_data.specs.Payloads.{IsLawful, as_bytes_is_lawful, as_first_is_lawful}
-use Rattle.linkinfo_data.specs.Payloads.{as_list_is_lawful}
+use Rattle.linkinfo_data.specs.Payloads.{as_list_is_lawful, as_lists_is_lawful}
 use Rattle.linkinfo_data.specs.PeerData.{peers_data_of}
 use Rattle.linkinfo_data.specs.PeerFamilies.{families_of}
 use Rattle.linkinfo_data.specs.Plain.{plain}
@@ -38,17 +38,17 @@ returns g c =
     let families = families_of g.row.P peer in
     let lower_ones : (f : LowerFamily) →
     IsLawful (lower_data_of {P = g.row.P.Denot} f) (data_payload families) = elim [
-      | lower.Bridge ↦ as_list_is_lawful plain.bridge (rowless_is family.Bridge)
+      | lower.Bridge ↦ as_list_is_lawful plain.bridge (opaque_is family.Bridge)
           (λ xs. info.Bridge xs) (data_payload families) (λ _. refl) (λ x y e. cc)
-      | lower.Vlan ↦ as_list_is_lawful plain.vlan (rowless_is family.Vlan) (λ xs. info.Vlan xs)
+      | lower.Vlan ↦ as_list_is_lawful plain.vlan (opaque_is family.Vlan) (λ xs. info.Vlan xs)
           (data_payload families) (λ _. refl) (λ x y e. cc)
-      | lower.Bond ↦ as_list_is_lawful plain.bond (rowless_is family.Bond) (λ xs. info.Bond xs)
+      | lower.Bond ↦ as_list_is_lawful plain.bond (opaque_is family.Bond) (λ xs. info.Bond xs)
           (data_payload families) (λ _. refl) (λ x y e. cc)
-      | lower.Hsr ↦ as_list_is_lawful plain.hsr (rowless_is family.Hsr) (λ xs. info.Hsr xs)
+      | lower.Hsr ↦ as_list_is_lawful plain.hsr (opaque_is family.Hsr) (λ xs. info.Hsr xs)
           (data_payload families) (λ _. refl) (λ x y e. cc)
-      | lower.Can ↦ as_list_is_lawful plain.can (rowless_is family.Can) (λ xs. info.Can xs)
+      | lower.Can ↦ as_list_is_lawful plain.can (opaque_is family.Can) (λ xs. info.Can xs)
           (data_payload families) (λ _. refl) (λ x y e. cc)
-      | lower.Dsa ↦ as_list_is_lawful plain.dsa (rowless_is family.Dsa) (λ xs. info.Dsa xs)
+      | lower.Dsa ↦ as_list_is_lawful plain.dsa (opaque_is family.Dsa) (λ xs. info.Dsa xs)
           (data_payload families) (λ _. refl) (λ x y e. cc)
     ] in
     let device_ones : (f : DeviceFamily) →
@@ -57,9 +57,11 @@ returns g c =
           (data_payload families) (λ _. refl) (λ x y e. cc)
       | device.IpVtap ↦ as_list_is_lawful plain.ip_vtap ip_vtap_is (λ xs. info.IpVtap xs)
           (data_payload families) (λ _. refl) (λ x y e. cc)
-      | device.MacVlan ↦ as_list_is_lawful plain.mac_vlan mac_vlan_is (λ xs. info.MacVlan xs)
+      | device.MacVlan lists ↦ as_lists_is_lawful (plain.mac_vlan lists) (mac_vlan_is lists)
+          (mac_vlan_lists lists) (λ xs. info.MacVlan xs)
           (data_payload families) (λ _. refl) (λ x y e. cc)
-      | device.MacVtap ↦ as_list_is_lawful plain.mac_vtap mac_vtap_is (λ xs. info.MacVtap xs)
+      | device.MacVtap lists ↦ as_lists_is_lawful (plain.mac_vtap lists) (mac_vtap_is lists)
+          (mac_vtap_lists lists) (λ xs. info.MacVtap xs)
           (data_payload families) (λ _. refl) (λ x y e. cc)
       | device.Vrf ↦ as_list_is_lawful plain.vrf vrf_is (λ xs. info.Vrf xs) (data_payload families)
           (λ _. refl) (λ x y e. cc)
@@ -103,11 +105,11 @@ returns g c =
     ] in
     let peered_ones : (f : PeeredFamily) →
     IsLawful (peers_data_of families f) (data_payload families) = elim [
-      | peered.Tun ↦ as_list_is_lawful plain.tun (rowless_is family.Tun) (λ xs. info.Tun xs)
+      | peered.Tun ↦ as_list_is_lawful plain.tun (opaque_is family.Tun) (λ xs. info.Tun xs)
           (data_payload families) (λ _. refl) (λ x y e. cc)
-      | peered.Wireguard ↦ as_list_is_lawful plain.wireguard (rowless_is family.Wireguard)
+      | peered.Wireguard ↦ as_list_is_lawful plain.wireguard (opaque_is family.Wireguard)
           (λ xs. info.Wireguard xs) (data_payload families) (λ _. refl) (λ x y e. cc)
-      | peered.Pfcp ↦ as_list_is_lawful plain.pfcp (rowless_is family.Pfcp) (λ xs. info.Pfcp xs)
+      | peered.Pfcp ↦ as_list_is_lawful plain.pfcp (opaque_is family.Pfcp) (λ xs. info.Pfcp xs)
           (data_payload families) (λ _. refl) (λ x y e. cc)
       | peered.BatAdv ↦ as_list_is_lawful plain.bat_adv batadv_is (λ xs. info.BatAdv xs)
           (data_payload families) (λ _. refl) (λ x y e. cc)
@@ -124,11 +126,11 @@ returns g c =
           (λ xs. info.Netkit xs) (data_payload families) (λ _. refl) (λ x y e. cc)
     ] in
     let ports : (f : PortFamily) → IsLawful (port_data_of f) port_data_payload = elim [
-      | port_of.Bond ↦ as_list_is_lawful plain.bond_port (rowless_is family.BondPort)
+      | port_of.Bond ↦ as_list_is_lawful plain.bond_port (opaque_is family.BondPort)
           (λ xs. port.BondPort xs) port_data_payload (λ _. refl) (λ x y e. cc)
-      | port_of.Bridge ↦ as_list_is_lawful plain.bridge_port (rowless_is family.BridgePort)
+      | port_of.Bridge ↦ as_list_is_lawful plain.bridge_port (opaque_is family.BridgePort)
           (λ xs. port.BridgePort xs) port_data_payload (λ _. refl) (λ x y e. cc)
-      | port_of.Team ↦ as_list_is_lawful plain.team_port (rowless_is family.TeamPort)
+      | port_of.Team ↦ as_list_is_lawful plain.team_port (opaque_is family.TeamPort)
           (λ xs. port.TeamPort xs) port_data_payload (λ _. refl) (λ x y e. cc)
       | port_of.Vrf ↦ as_list_is_lawful plain.vrf_port vrf_is
           (λ xs. port.VrfPort xs) port_data_payload (λ _. refl) (λ x y e. cc)

@@ -9,7 +9,7 @@ use Rattle.linkinfo_peers.specs.Conditions.{batadv_conditions, batadv_stated, ne
 use Rattle.linkinfo_peers.specs.Conditions.{netkit_stated, veth_conditions, veth_stated}
 use Rattle.linkinfo_peers.specs.Conditions.{vxcan_conditions, vxcan_stated, wwan_conditions}
 use Rattle.linkinfo_peers.specs.Conditions.{wwan_stated}
-use Rattle.linkinfo_table.specs.Conditions.{rowless_conditions, rowless_stated}
+use Rattle.linkinfo_table.specs.Conditions.{opaque_conditions, opaque_stated}
 use Rattle.linkinfo_tunnels.specs.Conditions.{amt_conditions, amt_stated, bare_udp_conditions}
 use Rattle.linkinfo_tunnels.specs.Conditions.{bare_udp_stated, geneve_conditions, geneve_stated}
 use Rattle.linkinfo_tunnels.specs.Conditions.{gre6_conditions, gre6_stated, gre_conditions}
@@ -49,12 +49,12 @@ returns g c =
     let lower_ones : (f : LowerFamily) →
     IsStated (lower_data_of {P = g.row.P.Denot} f) (λ d. lower_conditions f d) = elim [
       | lower.Bridge ↦ list_stated plain.bridge
-          (λ xs. info.Bridge xs) rowless_conditions rowless_stated
-      | lower.Vlan ↦ list_stated plain.vlan (λ xs. info.Vlan xs) rowless_conditions rowless_stated
-      | lower.Bond ↦ list_stated plain.bond (λ xs. info.Bond xs) rowless_conditions rowless_stated
-      | lower.Hsr ↦ list_stated plain.hsr (λ xs. info.Hsr xs) rowless_conditions rowless_stated
-      | lower.Can ↦ list_stated plain.can (λ xs. info.Can xs) rowless_conditions rowless_stated
-      | lower.Dsa ↦ list_stated plain.dsa (λ xs. info.Dsa xs) rowless_conditions rowless_stated
+          (λ xs. info.Bridge xs) opaque_conditions opaque_stated
+      | lower.Vlan ↦ list_stated plain.vlan (λ xs. info.Vlan xs) opaque_conditions opaque_stated
+      | lower.Bond ↦ list_stated plain.bond (λ xs. info.Bond xs) opaque_conditions opaque_stated
+      | lower.Hsr ↦ list_stated plain.hsr (λ xs. info.Hsr xs) opaque_conditions opaque_stated
+      | lower.Can ↦ list_stated plain.can (λ xs. info.Can xs) opaque_conditions opaque_stated
+      | lower.Dsa ↦ list_stated plain.dsa (λ xs. info.Dsa xs) opaque_conditions opaque_stated
     ] in
     let device_ones : (f : DeviceFamily) →
     IsStated (devices_data_of {P = g.row.P.Denot} f) (λ d. device_conditions f d) = elim [
@@ -62,10 +62,10 @@ returns g c =
           (λ xs. info.IpVlan xs) ip_vlan_conditions ip_vlan_stated
       | device.IpVtap ↦ list_stated plain.ip_vtap
           (λ xs. info.IpVtap xs) ip_vtap_conditions ip_vtap_stated
-      | device.MacVlan ↦ list_stated plain.mac_vlan (λ xs. info.MacVlan xs) (mac_vlan_conditions 0)
-          (mac_vlan_stated 0)
-      | device.MacVtap ↦ list_stated plain.mac_vtap (λ xs. info.MacVtap xs) (mac_vtap_conditions 0)
-          (mac_vtap_stated 0)
+      | device.MacVlan lists ↦ list_stated (plain.mac_vlan lists) (λ xs. info.MacVlan xs)
+          (mac_vlan_conditions lists) (mac_vlan_stated lists)
+      | device.MacVtap lists ↦ list_stated (plain.mac_vtap lists) (λ xs. info.MacVtap xs)
+          (mac_vtap_conditions lists) (mac_vtap_stated lists)
       | device.Vrf ↦ list_stated plain.vrf (λ xs. info.Vrf xs) vrf_conditions vrf_stated
       | device.Ipoib ↦ list_stated plain.ipoib (λ xs. info.Ipoib xs) ipoib_conditions ipoib_stated
       | device.Xfrm ↦ list_stated plain.xfrm (λ xs. info.Xfrm xs) xfrm_conditions xfrm_stated
@@ -96,10 +96,10 @@ returns g c =
     ] in
     let peered_ones : (f : PeeredFamily) →
     IsStated (peers_data_of families f) (λ d. peered_conditions peer.well f d) = elim [
-      | peered.Tun ↦ list_stated plain.tun (λ xs. info.Tun xs) rowless_conditions rowless_stated
+      | peered.Tun ↦ list_stated plain.tun (λ xs. info.Tun xs) opaque_conditions opaque_stated
       | peered.Wireguard ↦ list_stated plain.wireguard
-          (λ xs. info.Wireguard xs) rowless_conditions rowless_stated
-      | peered.Pfcp ↦ list_stated plain.pfcp (λ xs. info.Pfcp xs) rowless_conditions rowless_stated
+          (λ xs. info.Wireguard xs) opaque_conditions opaque_stated
+      | peered.Pfcp ↦ list_stated plain.pfcp (λ xs. info.Pfcp xs) opaque_conditions opaque_stated
       | peered.BatAdv ↦ list_stated plain.bat_adv
           (λ xs. info.BatAdv xs) batadv_conditions batadv_stated
       | peered.Wwan ↦ list_stated plain.wwan (λ xs. info.Wwan xs) wwan_conditions wwan_stated
@@ -114,11 +114,11 @@ returns g c =
     let ports : (f : PortFamily) → IsStated (port_data_of f) (λ d. port_data_conditions f d) =
     elim [
       | port_of.Bond ↦ list_stated plain.bond_port
-          (λ xs. port.BondPort xs) rowless_conditions rowless_stated
+          (λ xs. port.BondPort xs) opaque_conditions opaque_stated
       | port_of.Bridge ↦ list_stated plain.bridge_port
-          (λ xs. port.BridgePort xs) rowless_conditions rowless_stated
+          (λ xs. port.BridgePort xs) opaque_conditions opaque_stated
       | port_of.Team ↦ list_stated plain.team_port
-          (λ xs. port.TeamPort xs) rowless_conditions rowless_stated
+          (λ xs. port.TeamPort xs) opaque_conditions opaque_stated
       | port_of.Vrf ↦ list_stated plain.vrf_port (λ xs. port.VrfPort xs) vrf_conditions vrf_stated
       | port_of.Raw ↦ λ d. (λ w. w, λ h. h)
     ] in

@@ -1,63 +1,53 @@
-use Rattle.std.proofs.Common.{arith, refl, sym, ◌∙◌, ◌-◌, length, ap, Option}
+use Rattle.std.proofs.Common.{arith, ap, nat_lt, sym, ◌∙◌, Option}
 use Rattle.linkinfo_table.specs.Last.{attributes_of}
-use Rattle.linkinfo_table.specs.declared.last.PlacedNla.{PlacedNla}
-use Rattle.linkinfo_table.proofs.Lasts.{all_stand, left_at_attribute, left_at_start}
 use Rattle.linkinfo_data.specs.Listing.{alike_in}
-use Rattle.linkinfo_data.specs.Unmet.{is_met}
-use Rattle.linkinfo_data.proofs.Unmets.{counts_found, found_later, is_list, last_accepted, last_found, met}
-use Rattle.linkinfo_data.proofs.Unmets.{not_counted}
+use Rattle.linkinfo_data.specs.Unmet.{earlier, first_told, missed}
+use Rattle.linkinfo_data.specs.declared.unmet.UnmetAt.{UnmetAt}
+use Rattle.linkinfo_data.proofs.Blocks.{next_block, none_below, unmet_in, whole_list}
 use Rattle.linkinfo_data.proofs.unmet.list_unmet.Goals as goal
 
-pub loop-nla-init : goal.loop-nla-init
-loop-nla-init g c =
-    let start = left_at_start c.args.want.now in
+pub loop-block-init : goal.loop-block-init
+loop-block-init g c =
+    let alike = alike_in (g.F.PayloadFamily.data_of c.args.family).listing in
+    let have = attributes_of c.args.have.now in
+    let want = attributes_of c.args.want.now in
+    record { first = sym (none_below (missed c.args.name alike have want) want) }
+
+pub loop-block-preserved : goal.loop-block-preserved
+loop-block-preserved g c =
+    let alike = alike_in (g.F.PayloadFamily.data_of c.args.family).listing in
+    let want = attributes_of c.args.want.now in
+    let missing = missed c.args.name alike (attributes_of c.args.have.now) want in
     record {
-      accepted = c.requires.want;
-      stand = rw start (all_stand c.args.want.now);
-      left = rw start refl;
-      room = omega (arith, c.new-count.ensures);
+      first =
+          c.earlier-first.ensures
+          ∙ ap (λ (o : Option UnmetAt). earlier o c.unmet_from.result) c.loop-block.invariant.first
+          ∙ ap (λ (o : Option UnmetAt).
+          earlier (first_told (λ k. nat_lt k c.loop-block.block) missing want) o)
+          c.unmet_from.ensures
+          ∙ next_block c.loop-block.block missing c.args.want.now;
     }
 
-pub is_met-requires-clause-found_accepted : goal.is_met-requires-clause-found_accepted
-is_met-requires-clause-found_accepted g c =
-    let payload = g.F.PayloadFamily.data_of c.args.family in
-    let listed = is_list payload payload.listing c.args.name (g.met.F.PayloadFamily.listed c.args.family) c.requires.listed in
-    rw (c.find-last.ensures.last, c.new-found.ensures)
-    (last_accepted payload listed.0 listed.2 c.kind-kind.result c.args.have.now c.requires.have)
+pub overflow_add-block : goal.overflow_add-block
+overflow_add-block g c = omega (arith, c.loop-block-test.true, c.types_end-end.ensures.small)
 
-pub loop-nla-preserved-else-not-is_met : goal.loop-nla-preserved-else-not-is_met
-loop-nla-preserved-else-not-is_met g c =
-    let step = rw c.in-Some-Ok.field-0-is at c.in-Some-Ok.ensures in
-    let before = c.loop-nla.invariant in
-    let want = c.args.want.now in
-    let payload = g.F.PayloadFamily.data_of c.args.family in
-    let listed = is_list payload payload.listing c.args.name (g.met.F.PayloadFamily.listed c.args.family) c.requires.listed in
-    let front = left_at_attribute want c.loop-nla.rest.now c.in-Some-Ok.after.now c.in-Some-Ok.nla _ _ step (omega (arith, before.room)) in
-    let w : PlacedNla = record { offset = length want - length c.loop-nla.rest.now; nla = c.in-Some-Ok.nla } in
-    let alike = alike_in payload.listing in
-    let found = last_found c.args.have.now c.new-found.result w c.kind-kind.result c.new-found.ensures c.kind-kind.ensures c.find-last.result c.find-last.ensures.last in
-    let is = ap (λ (o : Option PlacedNla). is_met alike o w) (sym found) ∙ sym c.if-not-is_met.ensures in
-    record {
-      accepted = listed.2.rest c.loop-nla.rest.now c.in-Some-Ok.after.now c.in-Some-Ok.nla before.accepted step.pieces_are;
-      stand = (rw front at before.stand).1;
-      left = sym (found_later alike (attributes_of c.args.have.now) (attributes_of want) w _ (met alike (attributes_of c.args.have.now) (attributes_of want) w is)) ∙ (rw front at before.left);
-      room = omega (arith, step.counted, step.room, before.room);
-    }
+pub returns-in_err-first : goal.returns-in_err-first
+returns-in_err-first g c =
+    let alike = alike_in (g.F.PayloadFamily.data_of c.args.family).listing in
+    let have = attributes_of c.args.have.now in
+    let want = attributes_of c.args.want.now in
+    c.from_residual.ensures
+    ∙ (ap unmet_in (sym c.in_err-first.was)
+    ∙ whole_list c.args.name alike have want c.loop-block.block c.loop-block.first
+    c.loop-block.invariant.first
+    (omega (arith, c.loop-block-test.false, c.types_end-end.ensures.end)))
 
-pub loop-nla-preserved : goal.loop-nla-preserved
-loop-nla-preserved g c =
-    let step = rw c.in-Some-Ok.field-0-is at c.in-Some-Ok.ensures in
-    let before = c.loop-nla.invariant in
-    let want = c.args.want.now in
-    let payload = g.F.PayloadFamily.data_of c.args.family in
-    let listed = is_list payload payload.listing c.args.name (g.met.F.PayloadFamily.listed c.args.family) c.requires.listed in
-    let front = left_at_attribute want c.loop-nla.rest.now c.in-Some-Ok.after.now c.in-Some-Ok.nla _ _ step (omega (arith, before.room)) in
-    let w : PlacedNla = record { offset = length want - length c.loop-nla.rest.now; nla = c.in-Some-Ok.nla } in
-    let alike = alike_in payload.listing in
-    let is = counts_found want c.new-wanted.result w c.kind-kind.result c.new-wanted.ensures c.kind-kind.ensures c.offset.result w.offset _ c.offset.ensures refl c.if-eq.ensures in
-    record {
-      accepted = listed.2.rest c.loop-nla.rest.now c.in-Some-Ok.after.now c.in-Some-Ok.nla before.accepted step.pieces_are;
-      stand = (rw front at before.stand).1;
-      left = sym (found_later alike (attributes_of c.args.have.now) (attributes_of want) w _ (not_counted alike (attributes_of c.args.have.now) (attributes_of want) w is)) ∙ (rw front at before.left);
-      room = omega (arith, step.counted, step.room, before.room);
-    }
+pub returns : goal.returns
+returns g c =
+    let alike = alike_in (g.F.PayloadFamily.data_of c.args.family).listing in
+    let have = attributes_of c.args.have.now in
+    let want = attributes_of c.args.want.now in
+    ap unmet_in (sym c.in_ok-first.was)
+    ∙ whole_list c.args.name alike have want c.loop-block.block c.loop-block.first
+    c.loop-block.invariant.first
+    (omega (arith, c.loop-block-test.false, c.types_end-end.ensures.end))

@@ -1,22 +1,15 @@
-use Rattle.std.specs.Prelude.{IsOk}
-use Rattle.std.specs.List.{AllByRecursion, find}
-use Rattle.std.proofs.Common.{◌≡◌, ◌*◌, ◌+◌, ◌≤◌, length}
-use Rattle.linkinfo_table.specs.Last.{StandsIn, attributes_of}
-use Rattle.linkinfo_table.proofs.Lasts.{left_of}
+use Rattle.std.proofs.Common.{◌≡◌, ◌-◌, nat_lt}
+use Rattle.linkinfo_table.specs.Last.{attributes_of}
 use Rattle.linkinfo_data.specs.Listing.{alike_in}
-use Rattle.linkinfo_data.specs.Unmet.{misses}
+use Rattle.linkinfo_data.specs.Unmet.{first_told, missed}
 use Rattle.linkinfo_data.proofs.unmet.list_unmet.Given as goal
 
-abbrev pub invariant-loop-nla : goal.invariant-loop-nla
-invariant-loop-nla g l =
+abbrev pub invariant-loop-block : goal.invariant-loop-block
+invariant-loop-block g l =
     let payload = g.F.PayloadFamily.data_of l.family in
-    let missing = misses (alike_in payload.listing) (attributes_of l.have) (attributes_of l.want) in
-    record {
-      accepted : IsOk (payload.means l.rest);
-      stand : AllByRecursion (StandsIn l.want) (left_of l.want l.rest);
-      left : find missing (left_of l.want l.rest) ≡ find missing (attributes_of l.want);
-      room : 4 * l.count + length l.rest ≤ length l.want;
-    }
+    let missing =
+    missed l.name (alike_in payload.listing) (attributes_of l.have) (attributes_of l.want) in
+    record { first : l.first ≡ first_told (λ k. nat_lt k l.block) missing (attributes_of l.want) }
 
-abbrev pub decreases-loop-nla : goal.decreases-loop-nla
-decreases-loop-nla g l = length l.rest
+abbrev pub decreases-loop-block : goal.decreases-loop-block
+decreases-loop-block g l = l.end - l.block

@@ -4,7 +4,8 @@ use Rattle.nla_frame.specs.Attribute.{list_string}
 use Rattle.linkinfo_devices.proofs.nested_emission.+nested_emit.Given as goal
 
 abbrev pub invariant-emit_list-loop-item : goal.invariant-emit_list-loop-item
-invariant-emit_list-loop-item g l = WrittenUpTo g.F.RowFamily.canonical l.items l.item-index l.place l.fn.buffer l.buffer
+invariant-emit_list-loop-item g l =
+    WrittenUpTo g.F.RowFamily.canonical l.items l.item-index l.place l.fn.buffer l.buffer
 
 abbrev pub decreases-nested_emit_payload : goal.decreases-nested_emit_payload
 decreases-nested_emit_payload g l = 3 * length (g.F.RowFamily.canonical l.value.now).value + 1

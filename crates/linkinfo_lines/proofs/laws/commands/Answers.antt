@@ -1,4 +1,21 @@
-use Rattle.std.proofs.Common.{◌≡◌, ◌≢◌, ℕ, eqb, Bool, true, false, if◌then◌else◌, List, [], ◌∷◌, ◌++◌, refl, ap, ◌∙◌, arith}
+use Rattle.std.proofs.Common.{
+  ◌≡◌,
+  ◌≢◌,
+  ℕ,
+  eqb,
+  Bool,
+  true,
+  false,
+  if◌then◌else◌,
+  List,
+  [],
+  ◌∷◌,
+  ◌++◌,
+  refl,
+  ap,
+  ◌∙◌,
+  arith,
+}
 use Rattle.std.specs.Prelude.{All, codes, bytes_eq}
 use Rattle.std.proofs.lemmas.Bool.{false_from_ne_true}
 use Rattle.std.proofs.lemmas.Bool.Decides.{nat_tests}
@@ -28,16 +45,22 @@ returns-clause-canon c word = ap (λ (text : List ℕ). text ++ 10 ∷ []) (on_o
 
 pub returns-clause-same : goal.returns-clause-same
 returns-clause-same c first second h =
-    let words : words_of (first ++ 32 ∷ second) ≡ first ∷ words_of second = slice_split_at (λ b. eqb b 32) first 32 second (no_space first h) refl in
-    ap (λ (text : List ℕ). text ++ 10 ∷ []) (ap (on_two comparison_answer) words ∙ on_two-words_of first second)
+    let words : words_of (first ++ 32 ∷ second) ≡ first ∷ words_of second =
+    slice_split_at (λ b. eqb b 32) first 32 second (no_space first h) refl in
+    ap (λ (text : List ℕ). text ++ 10 ∷ [])
+    (ap (on_two comparison_answer) words ∙ on_two-words_of first second)
 
 pub returns-clause-one_word : goal.returns-clause-one_word
 returns-clause-one_word c line h =
-    let words : words_of line ≡ line ∷ [] = slice_split_none (λ b. eqb b 32) line (no_space line h) in
+    let words : words_of line ≡ line ∷ [] =
+    slice_split_none (λ b. eqb b 32) line (no_space line h) in
     ap (λ (text : List ℕ). text ++ 10 ∷ []) (ap words_answer words
-    ∙ either (bytes_eq line (codes "check")) (bytes_eq line (codes "canon")) (bytes_eq line (codes "same")))
+    ∙ either (bytes_eq line (codes "check")) (bytes_eq line (codes "canon"))
+    (bytes_eq line (codes "same")))
   where
-    either : (a b c : Bool) → (if a then bad_line else if b then bad_line else if c then bad_line else bad_line) ≡ bad_line
+    either : (a b c : Bool) →
+        (if a then bad_line else if b then bad_line else if c then bad_line else bad_line)
+        ≡ bad_line
     either true b c = refl
     either false true c = refl
     either false false true = refl
@@ -45,7 +68,12 @@ returns-clause-one_word c line h =
 
 pub returns-clause-other_verb : goal.returns-clause-other_verb
 returns-clause-other_verb c verb operands h check canon same =
-    let words : words_of (verb ++ 32 ∷ operands) ≡ verb ∷ words_of operands = slice_split_at (λ b. eqb b 32) verb 32 operands (no_space verb h) refl in
+    let words : words_of (verb ++ 32 ∷ operands) ≡ verb ∷ words_of operands =
+    slice_split_at (λ b. eqb b 32) verb 32 operands (no_space verb h) refl in
     let bad : words_answer (verb ∷ words_of operands) ≡ bad_line =
-    rw (refuses verb (codes "check") check, refuses verb (codes "canon") canon, refuses verb (codes "same") same) refl in
+    rw (
+      refuses verb (codes "check") check,
+      refuses verb (codes "canon") canon,
+      refuses verb (codes "same") same,
+    ) refl in
     ap (λ (text : List ℕ). text ++ 10 ∷ []) (ap words_answer words ∙ bad)

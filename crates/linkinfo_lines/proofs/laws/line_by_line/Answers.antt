@@ -1,4 +1,21 @@
-use Rattle.std.proofs.Common.{◌≡◌, ◌≢◌, ℕ, ◌<◌, eqb, false, List, [], ◌∷◌, ◌++◌, length, refl, ap, ◌∙◌, arith, append-nil}
+use Rattle.std.proofs.Common.{
+  ◌≡◌,
+  ◌≢◌,
+  ℕ,
+  ◌<◌,
+  eqb,
+  false,
+  List,
+  [],
+  ◌∷◌,
+  ◌++◌,
+  length,
+  refl,
+  ap,
+  ◌∙◌,
+  arith,
+  append-nil,
+}
 use Rattle.std.specs.Prelude.{flat_map}
 use Rattle.std.specs.List.{All}
 use Rattle.std.proofs.lemmas.Bool.Decides.{nat_tests}
@@ -20,8 +37,10 @@ nonempty (b ∷ line) h = omega arith
 
 pub returns-clause-line : goal.returns-clause-line
 returns-clause-line c line rest h =
-    ap (flat_map line_answer) (lines_of-more (line ++ 10 ∷ rest) line rest (slice_split_at (λ b. eqb b 10) line 10 rest (others line h) refl))
+    ap (flat_map line_answer) (lines_of-more (line ++ 10 ∷ rest) line rest
+    (slice_split_at (λ b. eqb b 10) line 10 rest (others line h) refl))
 
 pub returns-clause-last : goal.returns-clause-last
 returns-clause-last c line h some =
-    ap (flat_map line_answer) (lines_of-last line line (nonempty line some) (slice_split_none (λ b. eqb b 10) line (others line h)) refl) ∙ append-nil (line_answer line)
+    ap (flat_map line_answer) (lines_of-last line line (nonempty line some)
+    (slice_split_none (λ b. eqb b 10) line (others line h)) refl) ∙ append-nil (line_answer line)

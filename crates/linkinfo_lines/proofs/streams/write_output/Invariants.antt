@@ -2,9 +2,12 @@ use Rattle.std.proofs.Common.{◌≡◌, ℕ, List, ◌++◌, length}
 use Rattle.std.specs.Io.KnownBytes.{Appends}
 use Rattle.linkinfo_lines.proofs.streams.write_output.Given as goal
 
--- what is gone from `rest` was written
+-- what is no longer in `rest` was written
 abbrev pub invariant-loop-rest : goal.invariant-loop-rest
-invariant-loop-rest g l = (done : List ℕ) × (l.bytes ≡ done ++ l.rest) × Appends (g.W.Write.contents l.initial.writer) (g.W.Write.contents l.writer) done
+invariant-loop-rest g l =
+    (done : List ℕ)
+    × (l.bytes ≡ done ++ l.rest)
+    × Appends (g.W.Write.contents l.initial.writer) (g.W.Write.contents l.writer) done
 
 abbrev pub decreases-loop-rest : goal.decreases-loop-rest
 decreases-loop-rest g l = length l.rest

@@ -1,7 +1,17 @@
-use Rattle.linkinfo_numbers.specs.Kind.{text_of_kind-kind_of_name, tag_of_kind-kind_of_name, kind_of_name-text_of_kind}
+use Rattle.linkinfo_numbers.specs.Kind.{
+  text_of_kind-kind_of_name,
+  tag_of_kind-kind_of_name,
+  kind_of_name-text_of_kind,
+}
 use Rattle.linkinfo_numbers.specs.Kind.{tag_of_name-text_of_kind, kind_attribute_reads_back}
-use Rattle.linkinfo_numbers.specs.PortKind.{text_of_port_kind-port_kind_of_name, tag_of_port_kind-port_kind_of_name}
-use Rattle.linkinfo_numbers.specs.PortKind.{port_kind_of_name-text_of_port_kind, port_tag_of_name-text_of_port_kind}
+use Rattle.linkinfo_numbers.specs.PortKind.{
+  text_of_port_kind-port_kind_of_name,
+  tag_of_port_kind-port_kind_of_name,
+}
+use Rattle.linkinfo_numbers.specs.PortKind.{
+  port_kind_of_name-text_of_port_kind,
+  port_tag_of_name-text_of_port_kind,
+}
 use Rattle.linkinfo_numbers.specs.PortKind.{port_kind_attribute_reads_back}
 use Rattle.linkinfo_numbers.specs.Kind.{kind_meaning_is_proper}
 use Rattle.linkinfo_numbers.specs.PortKind.{port_kind_meaning_is_proper}

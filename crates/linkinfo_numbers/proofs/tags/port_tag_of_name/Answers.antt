@@ -1,6 +1,12 @@
 -- A name of a port kind is a name of a link kind.
 use Rattle.std.proofs.Common.{sym, ◌∙◌}
-use Rattle.linkinfo_numbers.specs.PortKind.{port_tag-bond, port_tag-bridge, port_tag-other, port_tag-team, port_tag-vrf}
+use Rattle.linkinfo_numbers.specs.PortKind.{
+  port_tag-bond,
+  port_tag-bridge,
+  port_tag-other,
+  port_tag-team,
+  port_tag-vrf,
+}
 use Rattle.linkinfo_numbers.proofs.tags.port_tag_of_name.Goals as goal
 
 pub returns-in-Bond : goal.returns-in-Bond
@@ -18,5 +24,6 @@ returns-in-Team c = port_tag-team c.args.name.now (sym c.tag_of_name.ensures ∙
 pub returns-in_default : goal.returns-in_default
 returns-in_default c =
     port_tag-other c.args.name.now (λ e. c.in_default.not-Bond (c.tag_of_name.ensures ∙ e))
-    (λ e. c.in_default.not-Bridge (c.tag_of_name.ensures ∙ e)) (λ e. c.in_default.not-Vrf (c.tag_of_name.ensures ∙ e))
+    (λ e. c.in_default.not-Bridge (c.tag_of_name.ensures ∙ e))
+    (λ e. c.in_default.not-Vrf (c.tag_of_name.ensures ∙ e))
     (λ e. c.in_default.not-Team (c.tag_of_name.ensures ∙ e))

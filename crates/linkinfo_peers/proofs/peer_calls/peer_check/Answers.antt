@@ -9,4 +9,6 @@ returns-then-kind-eq-PEER g c =
     let rows = g.F.RowFamily.rows c.args.ctx in
     let a = c.args.nla.now in
     let at : 1 ≡ masked a.kind = sym c.if-kind-eq-PEER.true ∙ c.kind.ensures in
-    c.check_as_peer.ensures ∙ ap verdict (sym (meaning_at g.F.RowFamily.FAMILY g.F.RowFamily.other rows a 1 _ at (g.met.F.PeerFamily.peer_means c.args.ctx a)))
+    c.check_as_peer.ensures
+    ∙ ap verdict (sym (meaning_at g.F.RowFamily.FAMILY g.F.RowFamily.other rows a 1 _
+    at (g.met.F.PeerFamily.peer_means c.args.ctx a)))

@@ -9,7 +9,9 @@ returns-then-kind-eq-PEER-clause-answer g c =
     let rows = g.F.RowFamily.rows c.args.ctx in
     let a = c.args.nla.now in
     let at : 1 ≡ masked a.kind = sym c.if-kind-eq-PEER.true ∙ c.kind.ensures in
-    let means = meaning_at g.F.RowFamily.FAMILY g.F.RowFamily.other rows a 1 _ at (g.met.F.PeerFamily.peer_means c.args.ctx a) in
+    let means =
+    meaning_at g.F.RowFamily.FAMILY g.F.RowFamily.other rows a 1 _
+    at (g.met.F.PeerFamily.peer_means c.args.ctx a) in
     subst (λ m. Gives (λ value. value) c.read_as_peer.result m) (sym means) c.read_as_peer.ensures
 
 pub returns-then-kind-eq-PEER-clause-certain : goal.returns-then-kind-eq-PEER-clause-certain
@@ -17,4 +19,5 @@ returns-then-kind-eq-PEER-clause-certain g c = λ none.
     let rows = g.F.RowFamily.rows c.args.ctx in
     let a = c.args.nla.now in
     let at : 1 ≡ masked a.kind = sym c.if-kind-eq-PEER.true ∙ c.kind.ensures in
-    absurd (not_both _ (needs_at rows a 1 at (g.met.F.PeerFamily.peer_needs_memory c.args.ctx a)) none)
+    absurd
+    (not_both _ (needs_at rows a 1 at (g.met.F.PeerFamily.peer_needs_memory c.args.ctx a)) none)

@@ -8,7 +8,8 @@ same_as_peer-requires-clause-first g c =
     let rows = g.F.RowFamily.rows c.args.ctx in
     let a = c.args.a.now in
     let at : 1 ≡ masked a.kind = sym c.if-kind-eq-PEER.true ∙ c.kind.ensures in
-    peer_accepted g.F.RowFamily.FAMILY g.F.RowFamily.other g.F.PeerFamily.peer_value g.F.Peer.LinkPeer.meaning rows a 1 at
+    peer_accepted g.F.RowFamily.FAMILY g.F.RowFamily.other g.F.PeerFamily.peer_value
+    g.F.Peer.LinkPeer.meaning rows a 1 at
     (g.met.F.PeerFamily.peer_means c.args.ctx a) c.requires.first
 
 pub same_as_peer-requires-clause-second : goal.same_as_peer-requires-clause-second
@@ -16,7 +17,8 @@ same_as_peer-requires-clause-second g c = λ same.
     let rows = g.F.RowFamily.rows c.args.ctx in
     let b = c.args.b.now in
     let at : 1 ≡ masked b.kind = sym c.if-kind-eq-PEER.true ∙ c.kind.ensures ∙ sym same in
-    peer_accepted g.F.RowFamily.FAMILY g.F.RowFamily.other g.F.PeerFamily.peer_value g.F.Peer.LinkPeer.meaning rows b 1 at
+    peer_accepted g.F.RowFamily.FAMILY g.F.RowFamily.other g.F.PeerFamily.peer_value
+    g.F.Peer.LinkPeer.meaning rows b 1 at
     (g.met.F.PeerFamily.peer_means c.args.ctx b) c.requires.second
 
 pub returns-then-kind-eq-PEER : goal.returns-then-kind-eq-PEER

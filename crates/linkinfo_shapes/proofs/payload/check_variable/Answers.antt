@@ -19,11 +19,15 @@ returns-in-Name c = c.check_name.ensures ∙ verdict_under _ _ _ c.in-Name.is
 
 pub returns-in-GeneveV4 : goal.returns-in-GeneveV4
 returns-in-GeneveV4 c =
-    c.check_version.ensures ∙ verdict_version 4 16 c.args.payload.now (ipv4_of c.args.payload.now) ∙ verdict_under _ _ _ c.in-GeneveV4.is
+    c.check_version.ensures
+    ∙ verdict_version 4 16 c.args.payload.now (ipv4_of c.args.payload.now)
+    ∙ verdict_under _ _ _ c.in-GeneveV4.is
 
 pub returns-in-GeneveV6 : goal.returns-in-GeneveV6
 returns-in-GeneveV6 c =
-    c.check_version-in-GeneveV6.ensures ∙ verdict_version 16 4 c.args.payload.now (ipv6_of c.args.payload.now) ∙ verdict_under _ _ _ c.in-GeneveV6.is
+    c.check_version-in-GeneveV6.ensures
+    ∙ verdict_version 16 4 c.args.payload.now (ipv6_of c.args.payload.now)
+    ∙ verdict_under _ _ _ c.in-GeneveV6.is
 
 pub returns-in-Ip : goal.returns-in-Ip
 returns-in-Ip c = c.check_ip.ensures ∙ verdict_under _ _ _ c.in-Ip.is

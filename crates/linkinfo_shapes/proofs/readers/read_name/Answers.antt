@@ -13,17 +13,22 @@ reads_text : (p q s : List ℕ) → q ≡ stripped p → s ≡ q → IsUtf8 q �
 unfolding reads
 reads_text p q s e h u =
     let good : is_utf8 (stripped p) ≡ true = ap is_utf8 (sym e) ∙ is_utf8-from_IsUtf8 q u in
-    ap (wrapped Name) (cond-true (is_utf8 (stripped p)) _ _ good) ∙ ap (λ (t : List ℕ). let r : Result Value Cause = Ok (text t) in r) (sym (h ∙ e))
+    ap (wrapped Name) (cond-true (is_utf8 (stripped p)) _ _ good)
+    ∙ ap (λ (t : List ℕ). let r : Result Value Cause = Ok (text t) in r) (sym (h ∙ e))
 
 reads_no_text : (p q : List ℕ) → q ≡ stripped p → (IsUtf8 q → ⊥) → reads Name p ≡ Err Utf8
 unfolding reads
 reads_no_text p q e n =
-    let bad : is_utf8 (stripped p) ≡ false = false_from_ne_true _ (λ t. n (IsUtf8-from_is_utf8 q (ap is_utf8 e ∙ t))) in
+    let bad : is_utf8 (stripped p) ≡ false =
+    false_from_ne_true _ (λ t. n (IsUtf8-from_is_utf8 q (ap is_utf8 e ∙ t))) in
     ap (wrapped Name) (cond-false (is_utf8 (stripped p)) _ _ bad)
 
 pub returns-in-Ok : goal.returns-in-Ok
 unfolding ReadsAs Suits
-returns-in-Ok c = (reads_text _ _ _ c.without_nul.ensures c.in-Ok.ensures.cases.0 c.in-Ok.ensures.cases.1, tt)
+returns-in-Ok c = (
+  reads_text _ _ _ c.without_nul.ensures c.in-Ok.ensures.cases.0 c.in-Ok.ensures.cases.1,
+  tt,
+)
 
 pub returns-in-Err : goal.returns-in-Err
 unfolding ReadsAs

@@ -1,4 +1,4 @@
-use Rattle.linkinfo_table.specs.FaultNames.{names, names_first, names_list}
+use Rattle.linkinfo_table.specs.ErrorNames.{names, names_first, names_list}
 use Rattle.linkinfo_table.proofs.laws.errors_named.Goals as goal
 
 pub returns : goal.returns

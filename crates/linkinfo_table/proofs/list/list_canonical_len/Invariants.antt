@@ -1,6 +1,6 @@
 use Rattle.std.proofs.Common.{◌≡◌, ◌+◌, ◌*◌, ◌≤◌, length}
 use Rattle.std.specs.Prelude.{IsOk}
-use Rattle.nla_frame.specs.Pieces.{pieces}
+use Rattle.nla_frame.specs.NlaItems.{nla_items}
 use Rattle.linkinfo_table.specs.Lists.{canonical_list, values}
 use Rattle.linkinfo_table.proofs.list.list_canonical_len.Given as goal
 
@@ -9,8 +9,9 @@ invariant-loop-next g l =
     let m = g.F.LinkFamily.meaning l.ctx in
     let attribute = g.F.Nla.attribute in
     record {
-      accepted : IsOk (values m (pieces l.rest));
-      so_far : l.total + length (canonical_list attribute m (pieces l.rest)) ≡ length (canonical_list attribute m (pieces l.bytes));
+      accepted : IsOk (values m (nla_items l.rest));
+      so_far : l.total + length (canonical_list attribute m (nla_items l.rest))
+          ≡ length (canonical_list attribute m (nla_items l.bytes));
       small : l.total ≤ 65531;
       room : 4 * l.count + length l.rest ≤ length l.bytes;
     }

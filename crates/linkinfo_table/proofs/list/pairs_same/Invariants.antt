@@ -1,6 +1,6 @@
 use Rattle.std.proofs.Common.{◌≡◌, ◌+◌, ◌*◌, ◌≤◌, length}
 use Rattle.std.specs.Prelude.{IsOk}
-use Rattle.nla_frame.specs.Pieces.{pieces}
+use Rattle.nla_frame.specs.NlaItems.{nla_items}
 use Rattle.linkinfo_table.specs.Lists.{values, headers_of, alike_pairs}
 use Rattle.linkinfo_table.proofs.list.pairs_same.Given as goal
 
@@ -11,10 +11,12 @@ invariant-loop-next g l =
     let f = g.F.LinkFamily.alike l.ctx in
     let needs = g.F.LinkFamily.needs_memory l.ctx in
     record {
-      first : IsOk (values m (pieces l.x));
-      second : IsOk (values m (pieces l.y));
-      same : alike_pairs f (pieces l.x) (pieces l.y) ≡ alike_pairs f (pieces l.a) (pieces l.b);
-      counted : l.count + (headers_of m h (pieces l.x) + headers_of m h (pieces l.y)) ≡ l.fn.count + (headers_of m h (pieces l.a) + headers_of m h (pieces l.b));
+      first : IsOk (values m (nla_items l.x));
+      second : IsOk (values m (nla_items l.y));
+      same : alike_pairs f (nla_items l.x) (nla_items l.y)
+          ≡ alike_pairs f (nla_items l.a) (nla_items l.b);
+      counted : l.count + (headers_of m h (nla_items l.x) + headers_of m h (nla_items l.y))
+          ≡ l.fn.count + (headers_of m h (nla_items l.a) + headers_of m h (nla_items l.b));
       rises : l.fn.count ≤ l.count;
       room : 4 * l.count + (length l.x + length l.y) ≤ 4 * l.fn.count + (length l.a + length l.b);
     }

@@ -1,7 +1,18 @@
 use Rattle.std.proofs.Common.{◌∙◌, sym, refl}
 use Rattle.nla_frame.specs.Attribute.{masked}
 use Rattle.nla_frame.specs.Kept.{kept}
-use Rattle.linkinfo_table.proofs.RowAnswers.{flat_at, meaning_at, check_row, means_fault, refuse_row, refused_row, kept_row, verdict_at, verdict_err, verdict_ok}
+use Rattle.linkinfo_table.proofs.RowAnswers.{
+  flat_at,
+  meaning_at,
+  check_row,
+  means_error,
+  refuse_row,
+  refused_row,
+  kept_row,
+  verdict_at,
+  verdict_err,
+  verdict_ok,
+}
 use Rattle.linkinfo_table.proofs.rows.row_check.Goals as goal
 
 pub returns-in-Ok : goal.returns-in-Ok
@@ -14,7 +25,9 @@ returns-in-Ok g c =
     let at = c.kind-kind.ensures in
     let flat = flat_at rows k (masked a.kind) at c.requires in
     let is = sym c.shape.ensures ∙ c.in-Is.is in
-    verdict_at f other rows a k _ at (check_row f other (rows k) a c.in-Is.shape c.value.result.now flat is c.value.ensures.value c.in-Ok.ensures)
+    verdict_at f other rows a k _
+    at (check_row f other (rows k) a c.in-Is.shape c.value.result.now flat is c.value.ensures.value
+    c.in-Ok.ensures)
 
 pub returns-in-Err : goal.returns-in-Err
 returns-in-Err g c =
@@ -26,11 +39,13 @@ returns-in-Err g c =
     let at = c.kind-kind.ensures in
     let flat = flat_at rows k (masked a.kind) at c.requires in
     let is = sym c.shape.ensures ∙ c.in-Is.is in
-    let fails = means_fault f other c.in-Is.shape c.value.result.now c.in-Err.cause c.in-Err.ensures in
-    let error = c.fault.result in
+    let fails =
+    means_error f other c.in-Is.shape c.value.result.now c.in-Err.cause c.in-Err.ensures in
+    let error = c.error.result in
     verdict_err f other _ error (meaning_at f other rows a k _ at
-    (refuse_row f other (rows k) a c.in-Is.shape c.value.result.now c.in-Err.cause c.FAMILY.result k error flat is c.value.ensures.value fails
-    c.fault.ensures c.FAMILY.ensures at))
+    (refuse_row f other (rows k) a c.in-Is.shape c.value.result.now c.in-Err.cause c.FAMILY.result k
+    error flat is c.value.ensures.value fails
+    c.error.ensures c.FAMILY.ensures at))
 
 pub returns-in-Refused : goal.returns-in-Refused
 returns-in-Refused g c =
@@ -41,9 +56,10 @@ returns-in-Refused g c =
     let k = c.kind-kind.result in
     let at = c.kind-kind.ensures in
     let is = sym c.shape.ensures ∙ c.in-Refused.is in
-    let error = c.fault-in-Refused.result in
+    let error = c.error-in-Refused.result in
     verdict_err f other _ error (meaning_at f other rows a k _ at
-    (refused_row f other (rows k) a c.in-Refused.cause c.FAMILY-in-Refused.result k error is c.fault-in-Refused.ensures c.FAMILY-in-Refused.ensures at))
+    (refused_row f other (rows k) a c.in-Refused.cause c.FAMILY-in-Refused.result k error is
+    c.error-in-Refused.ensures c.FAMILY-in-Refused.ensures at))
 
 pub returns-in-Unknown : goal.returns-in-Unknown
 returns-in-Unknown g c =
@@ -54,4 +70,5 @@ returns-in-Unknown g c =
     let k = c.kind-kind.result in
     let at = c.kind-kind.ensures in
     let is = sym c.shape.ensures ∙ c.in-Unknown.is in
-    verdict_ok f other _ (other (kept a)) (meaning_at f other rows a k _ at (kept_row f other (rows k) a (kept a) _ is refl refl))
+    verdict_ok f other _ (other (kept a))
+    (meaning_at f other rows a k _ at (kept_row f other (rows k) a (kept a) _ is refl refl))

@@ -1,7 +1,7 @@
-//! A test that the script has to see fail.
+//! A test that the script must see fail.
 
-/// Fails where its request for memory is refused, or that for more: so the script knows that both
-/// are.
+/// Fails if its allocation fails, or if growing it does. So the script knows that it makes both
+/// fail.
 #[test]
 fn fails_without_memory(rt: HostRuntime) {
     let mut bytes = Vec::from_array(rt.alloc(), [0u8]).expect(&rt, "memory");

@@ -1,4 +1,4 @@
-//! A run of the program over memory.
+//! A run of the program, with input and output in memory.
 
 use crate::tests::assertions::assert_equal;
 use crate::tests::lines::{ANSWER, INPUT};
@@ -6,7 +6,8 @@ use crate::tests::streams::ArrayWriter;
 use linkinfo_lines::{RunError, run};
 use std::alloc::Global;
 
-/// How a run over the input ends, and whether the writer has the whole answer then, or nothing.
+/// The result of a run over the input, and whether the writer then has the whole output, or
+/// nothing.
 fn ends(alloc: Global) -> (Result<(), RunError>, bool) {
     let mut input = INPUT;
     let mut writer = ArrayWriter::new(128, true);
@@ -20,7 +21,7 @@ fn ends(alloc: Global) -> (Result<(), RunError>, bool) {
     (ended, is_written)
 }
 
-/// A run reports Memory and has written nothing, or answers each line.
+/// A run returns `Memory` and has written nothing, or writes the result of each line.
 #[test]
 fn run_over_memory(rt: HostRuntime) {
     let answer = match ends(rt.alloc()) {

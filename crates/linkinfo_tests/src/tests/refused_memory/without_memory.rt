@@ -1,7 +1,7 @@
-//! Calls that make no request for memory.
+//! Calls that do not allocate.
 
 use super::answers::{is_emitted, is_refused, reads};
-use crate::tests::assertions::{HEADER_FAULT, assert_equal, assert_holds, link_fault};
+use crate::tests::assertions::{HEADER_ERROR, assert_equal, assert_holds, link_error};
 use linkinfo::{
     CanonError, Cause, HeaderCount, InfoKind, InfoPortKind, LinkInfo, Nla, VecLinkInfo, canon,
     check, check_counted, nlas_fit_len, nlas_to_vec, same, same_counted,
@@ -13,13 +13,13 @@ const XFRM: [u8; 32] = [
     0, 10, 0, 0, 0,
 ];
 
-/// A port of a vrf with its data twice.
+/// A port of a vrf with two data attributes.
 const SECOND_PORT_DATA: [u8; 16] = [8, 0, 4, 0, b'v', b'r', b'f', 0, 4, 0, 5, 0, 4, 0, 5, 0];
 
 #[test]
 fn checks(rt: HostRuntime) {
     let mut count = HeaderCount::new();
-    let order = link_fault(5, Cause::Order);
+    let order = link_error(5, Cause::Order);
     assert_equal(&rt, &"nothing", &check(&[]), &Ok(()));
     assert_equal(&rt, &"xfrm", &check(&XFRM), &Ok(()));
     assert_equal(&rt, &"data twice", &check(&SECOND_PORT_DATA), &Err(order));
@@ -27,7 +27,7 @@ fn checks(rt: HostRuntime) {
         &rt,
         &"a stray byte",
         &check(&[4, 0, 9, 0, 0]),
-        &Err(HEADER_FAULT),
+        &Err(HEADER_ERROR),
     );
     assert_equal(&rt, &"counted", &check_counted(&XFRM, &mut count), &Ok(()));
     assert_equal(&rt, &"headers", &count.get(), &4);
@@ -38,7 +38,7 @@ fn compares(rt: HostRuntime) {
     let open = [8, 0, 1, 0, b'p', b'f', b'c', b'p'];
     let closed = [9, 0, 1, 0, b'p', b'f', b'c', b'p', 0, 0, 0, 0];
     let mut count = HeaderCount::new();
-    let order = link_fault(5, Cause::Order);
+    let order = link_error(5, Cause::Order);
     assert_equal(&rt, &"names", &same(&open, &closed), &Ok(true));
     assert_equal(&rt, &"nothing", &same(&[], &[4, 0, 9, 0]), &Ok(false));
     assert_equal(
@@ -71,24 +71,24 @@ fn measures_and_emits(rt: HostRuntime) {
     assert_holds(&rt, &string, is_emitted(&items, &string));
 }
 
-/// A first fault needs no memory.
+/// A first error needs no memory.
 #[test]
-fn first_faults(rt: HostRuntime) {
+fn first_errors(rt: HostRuntime) {
     let alloc = rt.alloc();
-    let order = link_fault(2, Cause::Order);
-    let utf8 = link_fault(1, Cause::Utf8);
+    let order = link_error(2, Cause::Order);
+    let utf8 = link_error(1, Cause::Utf8);
     let data = [8, 0, 2, 0, 0, 0, 0, 0];
     assert_holds(&rt, &data, is_refused(alloc, &data, order));
-    let statistics = is_refused(alloc, &[4, 0, 3, 0], link_fault(3, Cause::Order));
+    let statistics = is_refused(alloc, &[4, 0, 3, 0], link_error(3, Cause::Order));
     assert_holds(&rt, &"statistics", statistics);
     let name = [6, 0, 1, 0, 0xc3, 0x28];
     assert_holds(&rt, &name, is_refused(alloc, &name, utf8));
     let three = [8, 0, 1];
-    assert_holds(&rt, &three, is_refused(alloc, &three, HEADER_FAULT));
+    assert_holds(&rt, &three, is_refused(alloc, &three, HEADER_ERROR));
     let length = [3, 0, 1, 0];
-    assert_holds(&rt, &length, is_refused(alloc, &length, HEADER_FAULT));
+    assert_holds(&rt, &length, is_refused(alloc, &length, HEADER_ERROR));
     let cut = [9, 0, 1, 0, b'x', b'f', b'r', b'm'];
-    assert_holds(&rt, &cut, is_refused(alloc, &cut, HEADER_FAULT));
+    assert_holds(&rt, &cut, is_refused(alloc, &cut, HEADER_ERROR));
 }
 
 /// The empty list needs no memory.
@@ -99,21 +99,22 @@ fn empty_list(rt: HostRuntime) {
     assert_holds(&rt, &"emitted", reads(alloc, &[], &[]));
 }
 
-/// Nothing is written without memory.
+/// The encoding of the empty list needs no memory.
 #[test]
 fn to_vec_of_nothing(rt: HostRuntime) {
     let none: [LinkInfo; 0] = [];
     assert_holds(&rt, &"nothing", nlas_to_vec(rt.alloc(), &none).is_ok());
 }
 
-/// The canonical string of the empty string, and a fault before anything is kept, need no memory.
+/// The canonical encoding of the empty string, and an error before anything is kept, need no
+/// memory.
 #[test]
-fn canonical_string_of_nothing(rt: HostRuntime) {
+fn canonical_encoding_of_nothing(rt: HostRuntime) {
     let alloc = rt.alloc();
     let empty = canon(alloc, &[]).is_ok_and(|string| string.is_empty());
     assert_holds(&rt, &"nothing", empty);
     let refused = canon(alloc, &[8, 0, 1]).err();
-    let wanted = Some(CanonError::Refused(HEADER_FAULT));
+    let wanted = Some(CanonError::Refused(HEADER_ERROR));
     assert_equal(&rt, &"three bytes", &refused, &wanted);
 }
 

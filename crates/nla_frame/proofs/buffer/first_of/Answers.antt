@@ -9,6 +9,14 @@ invariant_of-result c =
     let n = c.from_le_bytes-length.result - 4 in
     record {
       kind = omega (arith, c.from_le_bytes-kind.ensures, c.type_inv.bytes 2, c.type_inv.bytes 3);
-      short = omega (arith, length-take n (drop 4 bytes), c.from_le_bytes-length.ensures, c.type_inv.bytes 0, c.type_inv.bytes 1);
-      bytes = IsBytes-take n (drop 4 bytes) (IsBytes-drop 4 bytes (λ i. omega (arith, c.type_inv.bytes i)));
+      short = omega (
+        arith,
+        length-take n (drop 4 bytes),
+        c.from_le_bytes-length.ensures,
+        c.type_inv.bytes 0,
+        c.type_inv.bytes 1,
+      );
+      bytes =
+          IsBytes-take n (drop 4 bytes)
+          (IsBytes-drop 4 bytes (λ i. omega (arith, c.type_inv.bytes i)));
     }

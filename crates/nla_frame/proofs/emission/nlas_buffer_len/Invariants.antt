@@ -7,6 +7,7 @@ abbrev pub invariant-loop-item : goal.invariant-loop-item
 invariant-loop-item g l =
     let left = map g.T.Nla.attribute (drop l.item-index l.items) in
     record {
-      so_far : l.total + length (list_string left) ≡ length (list_string (map g.T.Nla.attribute l.items));
+      so_far : l.total + length (list_string left)
+          ≡ length (list_string (map g.T.Nla.attribute l.items));
       each : AllByRecursion Fits left;
     }

@@ -1,20 +1,20 @@
-//! The answers that a call may give where a request may be refused.
+//! The results that a call may return if an allocation may fail.
 
 use linkinfo::layers::link::{
     Cause, DecodeError, Family, LinkInfo, VecLinkInfo, emit_nlas, nlas_fit_len,
 };
 
-/// Want of memory.
+/// The error of a failed allocation.
 pub const MEMORY: DecodeError = DecodeError {
     family: Family::Frame,
     kind: 0,
     cause: Cause::Memory,
 };
 
-/// The room for an emitted list.
+/// The length of the buffer that a list is written into.
 const ROOM: usize = 1024;
 
-/// What reading answers where it is not refused memory: read once more after an answer of Memory.
+/// Parses the bytes, and once more if an allocation failed.
 pub fn read_at_last(bytes: &[u8]) -> Result<VecLinkInfo, DecodeError> {
     match VecLinkInfo::parse(bytes) {
         Err(MEMORY) => VecLinkInfo::parse(bytes),
@@ -22,31 +22,33 @@ pub fn read_at_last(bytes: &[u8]) -> Result<VecLinkInfo, DecodeError> {
     }
 }
 
-/// Whether the list is emitted as the string, which takes no memory, and no byte behind it is
-/// written. A list that was read has no other such string.
+/// Returns whether the list is written as the encoding, without allocating and without changing the
+/// bytes after it. No other list that is parsed has this encoding.
 pub fn is_emitted(items: &[LinkInfo], string: &[u8]) -> bool {
     let mut buffer = [255; ROOM];
     match nlas_fit_len(items) {
         Some(len) if len <= ROOM => {
             emit_nlas(items, &mut buffer);
-            let (written, behind) = buffer.split_at(len);
-            written == string && behind.iter().all(|byte| *byte == 255)
+            let (written, after) = buffer.split_at(len);
+            written == string && after.iter().all(|byte| *byte == 255)
         }
         _ => false,
     }
 }
 
-/// Whether reading answers Memory or the list of this canonical string, and at last the latter.
+/// Returns whether the bytes parse as the list of this canonical encoding, at the second try if an
+/// allocation failed.
 pub fn reads(bytes: &[u8], canonical: &[u8]) -> bool {
     read_at_last(bytes).is_ok_and(|list| is_emitted(list.as_slice(), canonical))
 }
 
-/// Whether reading answers Memory or the fault, and at last the latter.
-pub fn is_refused_at_last(bytes: &[u8], fault: DecodeError) -> bool {
-    read_at_last(bytes).err() == Some(fault)
+/// Returns whether the bytes are rejected with the error, at the second try if an allocation
+/// failed.
+pub fn is_refused_at_last(bytes: &[u8], error: DecodeError) -> bool {
+    read_at_last(bytes).err() == Some(error)
 }
 
-/// Whether reading answers the fault whichever request is refused.
-pub fn is_refused(bytes: &[u8], fault: DecodeError) -> bool {
-    VecLinkInfo::parse(bytes).err() == Some(fault)
+/// Returns whether the bytes are rejected with the error, whichever allocation fails.
+pub fn is_refused(bytes: &[u8], error: DecodeError) -> bool {
+    VecLinkInfo::parse(bytes).err() == Some(error)
 }

@@ -1,4 +1,4 @@
-//! Single attributes that are read.
+//! Single attributes that are parsed.
 
 use super::answers::MEMORY;
 use crate::tests::assertions::assert_holds;
@@ -14,10 +14,10 @@ use linkinfo::layers::link::{
 /// An attribute of a type that no family has.
 const UNKNOWN: [u8; 5] = [5, 0, 255, 0, 1];
 
-/// What it is emitted as.
+/// The encoding of `UNKNOWN`, with its padding.
 const KEPT: [u8; 8] = [5, 0, 255, 0, 1, 0, 0, 0];
 
-/// What `parse` answers where it is not refused memory: called once more after an answer of Memory.
+/// The result of `parse`, called once more if an allocation failed.
 fn parse_at_last<'a, T: Parseable<NlaBuffer<'a>>>(nla: &NlaBuffer<'a>) -> Result<T, DecodeError> {
     match T::parse(nla) {
         Err(MEMORY) => T::parse(nla),
@@ -25,7 +25,7 @@ fn parse_at_last<'a, T: Parseable<NlaBuffer<'a>>>(nla: &NlaBuffer<'a>) -> Result
     }
 }
 
-/// Whether the answer is a value that is emitted as this string.
+/// Returns whether the result is a value that is written as this encoding.
 fn is_written<T: Nla>(answer: Result<T, DecodeError>, string: &[u8; 8]) -> bool {
     let mut buffer = [255; 8];
     match answer {
@@ -37,7 +37,8 @@ fn is_written<T: Nla>(answer: Result<T, DecodeError>, string: &[u8; 8]) -> bool 
     }
 }
 
-/// Whether a family's `read` under the context keeps the attribute, whose type it does not have.
+/// Returns whether `read` of a family keeps the attribute, whose type the family does not have,
+/// under the context.
 fn reads_unknown<F: LinkFamily>(nla: &NlaBuffer<'_>, ctx: F::Context) -> bool {
     if nla.value().len() > 1 {
         return false;
@@ -53,12 +54,12 @@ fn reads_unknown<F: LinkFamily>(nla: &NlaBuffer<'_>, ctx: F::Context) -> bool {
     is_written(answer, &KEPT)
 }
 
-/// Whether `parse` keeps the attribute verbatim, at the second try where memory ran out.
+/// Returns whether `parse` keeps the attribute verbatim, at the second try if an allocation failed.
 fn parses_unknown<'a, T: Parseable<NlaBuffer<'a>> + Nla>(nla: &NlaBuffer<'a>) -> bool {
     is_written(parse_at_last::<T>(nla), &KEPT)
 }
 
-/// The family keeps the attribute by both calls, where the context is none.
+/// Asserts that the family, which has no context, keeps the attribute by both calls.
 fn assert_kept<'a, F: LinkFamily<Context = ()> + Parseable<NlaBuffer<'a>>>(
     nla: &NlaBuffer<'a>,
     family: &str,
@@ -67,7 +68,7 @@ fn assert_kept<'a, F: LinkFamily<Context = ()> + Parseable<NlaBuffer<'a>>>(
     assert_holds(&family, reads_unknown::<F>(nla, ()));
 }
 
-/// Each of the families keeps the attribute of a type that it does not have.
+/// Asserts that each of the families keeps the attribute of a type that it does not have.
 macro_rules! assert_all_kept {
     ($($family:ty),*) => {
         let nla = NlaBuffer::new_checked(&UNKNOWN).expect("an attribute");
@@ -128,7 +129,7 @@ fn without_rows() {
     assert_all_kept!(InfoCan, InfoHsr, InfoDsa, InfoWireguard, InfoPfcp);
 }
 
-/// Families that are read under a context.
+/// Families that are parsed under a context.
 #[test]
 fn by_context() {
     let nla = NlaBuffer::new_checked(&UNKNOWN).expect("an attribute");

@@ -1,9 +1,9 @@
-//! A test that the script has to see fail.
+//! A test that the script must see fail.
 
 use crate::support::*;
 
-/// Fails where its request for memory is refused, or that for more: so the script knows that both
-/// are.
+/// Fails if its allocation fails, or if growing it does. So the script knows that it makes both
+/// fail.
 #[test]
 fn fails_without_memory() {
     let mut bytes = Vec::try_from_array([0u8]).expect("memory");

@@ -1,4 +1,4 @@
-//! Lists that are read and written.
+//! Lists that are parsed and written.
 
 use super::answers::{MEMORY, read_at_last, reads};
 use crate::tests::assertions::{assert_equal, assert_holds};
@@ -9,7 +9,7 @@ use linkinfo::layers::link::{
 /// The length of a chain of 128 lists, with the kind and the header of its data before it.
 const LONGEST_CHAIN: usize = 16 + 4 * 128;
 
-/// The string of a macvlan link whose data is a chain of address lists, this many levels deep, of
+/// The encoding of a macvlan link whose data is a chain of address lists, this many levels deep, of
 /// which the last one is empty, and its length.
 fn chain(depth: u16) -> ([u8; LONGEST_CHAIN], usize) {
     let mut bytes = [0; LONGEST_CHAIN];
@@ -41,7 +41,7 @@ fn chain_of_128() {
     assert_holds(&"128 levels", reads(string, string));
 }
 
-/// A kind of 65,531 letters is read, and has no string.
+/// A kind of 65531 letters is parsed, and has no encoding.
 #[test]
 fn name_that_does_not_fit() {
     let mut bytes = [b'a'; 65535];
@@ -71,9 +71,9 @@ fn to_vec() {
     assert_equal(&"a port", &bytes.as_slice(), &string.as_slice());
 }
 
-/// The canonical string of a kind without its NUL, or out of memory.
+/// The canonical encoding of a kind without its NUL, or the error of a failed allocation.
 #[test]
-fn canonical_string() {
+fn canonical_encoding() {
     let bytes = [8, 0, 1, 0, b'p', b'f', b'c', b'p'];
     let answer = match canon(&bytes) {
         Err(CanonError::Refused(MEMORY)) => canon(&bytes),

@@ -1,4 +1,4 @@
-//! Payloads that are read by themselves.
+//! Payloads that are parsed by themselves.
 
 use super::answers::MEMORY;
 use crate::tests::assertions::{assert_equal, assert_holds};
@@ -8,10 +8,10 @@ use linkinfo::layers::link::{
     NlaBuffer, ParseableParametrized, Text, first_read, list_read,
 };
 
-/// The data of an xfrm link with its underlying interface and its identifier.
+/// The data of an xfrm link: the underlying interface and the identifier.
 const XFRM: [u8; 16] = [8, 0, 1, 0, 2, 0, 0, 0, 8, 0, 2, 0, 10, 0, 0, 0];
 
-/// Whether these are the attributes of that data.
+/// Returns whether these are the attributes of `XFRM`.
 fn is_xfrm(items: &[InfoXfrm]) -> bool {
     items == [InfoXfrm::Link(2), InfoXfrm::IfId(10)].as_slice()
 }
@@ -76,7 +76,7 @@ fn first_attributes() {
     assert_equal(&bytes, &peer.as_slice(), &[0xaa, 0xbb].as_slice());
 }
 
-/// Statistics of a can link.
+/// The statistics of a can link.
 #[test]
 fn statistics() {
     let nla = NlaBuffer::new_checked(&[6, 0, 3, 0, 1, 2]).expect("an attribute");

@@ -1,11 +1,12 @@
-//! A run of the program over memory.
+//! A run of the program, with input and output in memory.
 
 use crate::linkinfo_lines::{RunError, run};
 use crate::tests::assertions::assert_equal;
 use crate::tests::lines::{ANSWER, INPUT};
 use crate::tests::streams::ArrayWriter;
 
-/// How a run over the input ends, and whether the writer has the whole answer then, or nothing.
+/// The result of a run over the input, and whether the writer then has the whole output, or
+/// nothing.
 fn ends() -> (Result<(), RunError>, bool) {
     let mut input = INPUT;
     let mut writer = ArrayWriter::new(128, true);
@@ -19,7 +20,7 @@ fn ends() -> (Result<(), RunError>, bool) {
     (ended, is_written)
 }
 
-/// A run reports Memory and has written nothing, or answers each line.
+/// A run returns `Memory` and has written nothing, or writes the result of each line.
 #[test]
 fn run_over_memory() {
     let answer = match ends() {

@@ -1,9 +1,9 @@
-//! Accepted strings that are read.
+//! Accepted byte strings that are parsed.
 
 use super::answers::reads;
 use crate::tests::assertions::assert_holds;
 
-/// What each string has, the string, and its canonical string.
+/// What each byte string has, the byte string, and its canonical encoding.
 const STRINGS: &[(&str, &[u8], &[u8])] = &[
     (
         "xfrm",
@@ -340,7 +340,8 @@ const STRINGS: &[(&str, &[u8], &[u8])] = &[
     ),
 ];
 
-/// What each canonical string has, and the string: one of each family that the strings above lack.
+/// What each canonical encoding has, and the encoding: one of each family that the byte strings
+/// above lack.
 const CANONICAL: &[(&str, &[u8])] = &[
     (
         "the name of a kind that is empty",

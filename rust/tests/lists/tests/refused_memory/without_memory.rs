@@ -1,7 +1,7 @@
-//! Calls that make no request for memory.
+//! Calls that do not allocate.
 
 use super::answers::{is_emitted, is_refused, reads};
-use crate::tests::assertions::{HEADER_FAULT, assert_equal, assert_holds, link_fault};
+use crate::tests::assertions::{HEADER_ERROR, assert_equal, assert_holds, link_error};
 use linkinfo::layers::link::{
     CanonError, Cause, HeaderCount, InfoKind, InfoPortKind, LinkInfo, Nla, VecLinkInfo, canon,
     check, check_counted, nlas_fit_len, nlas_to_vec, same, same_counted,
@@ -13,20 +13,20 @@ const XFRM: [u8; 32] = [
     0, 10, 0, 0, 0,
 ];
 
-/// A port of a vrf with its data twice.
+/// A port of a vrf with two data attributes.
 const SECOND_PORT_DATA: [u8; 16] = [8, 0, 4, 0, b'v', b'r', b'f', 0, 4, 0, 5, 0, 4, 0, 5, 0];
 
 #[test]
 fn checks() {
     let mut count = HeaderCount::new();
-    let order = link_fault(5, Cause::Order);
+    let order = link_error(5, Cause::Order);
     assert_equal(&"nothing", &check(&[]), &Ok(()));
     assert_equal(&"xfrm", &check(&XFRM), &Ok(()));
     assert_equal(&"data twice", &check(&SECOND_PORT_DATA), &Err(order));
     assert_equal(
         &"a stray byte",
         &check(&[4, 0, 9, 0, 0]),
-        &Err(HEADER_FAULT),
+        &Err(HEADER_ERROR),
     );
     assert_equal(&"counted", &check_counted(&XFRM, &mut count), &Ok(()));
     assert_equal(&"headers", &count.get(), &4);
@@ -37,7 +37,7 @@ fn compares() {
     let open = [8, 0, 1, 0, b'p', b'f', b'c', b'p'];
     let closed = [9, 0, 1, 0, b'p', b'f', b'c', b'p', 0, 0, 0, 0];
     let mut count = HeaderCount::new();
-    let order = link_fault(5, Cause::Order);
+    let order = link_error(5, Cause::Order);
     assert_equal(&"names", &same(&open, &closed), &Ok(true));
     assert_equal(&"nothing", &same(&[], &[4, 0, 9, 0]), &Ok(false));
     assert_equal(&"data twice", &same(&XFRM, &SECOND_PORT_DATA), &Err(order));
@@ -64,23 +64,23 @@ fn measures_and_emits() {
     assert_holds(&string, is_emitted(&items, &string));
 }
 
-/// A first fault needs no memory.
+/// A first error needs no memory.
 #[test]
-fn first_faults() {
-    let order = link_fault(2, Cause::Order);
-    let utf8 = link_fault(1, Cause::Utf8);
+fn first_errors() {
+    let order = link_error(2, Cause::Order);
+    let utf8 = link_error(1, Cause::Utf8);
     let data = [8, 0, 2, 0, 0, 0, 0, 0];
     assert_holds(&data, is_refused(&data, order));
-    let statistics = is_refused(&[4, 0, 3, 0], link_fault(3, Cause::Order));
+    let statistics = is_refused(&[4, 0, 3, 0], link_error(3, Cause::Order));
     assert_holds(&"statistics", statistics);
     let name = [6, 0, 1, 0, 0xc3, 0x28];
     assert_holds(&name, is_refused(&name, utf8));
     let three = [8, 0, 1];
-    assert_holds(&three, is_refused(&three, HEADER_FAULT));
+    assert_holds(&three, is_refused(&three, HEADER_ERROR));
     let length = [3, 0, 1, 0];
-    assert_holds(&length, is_refused(&length, HEADER_FAULT));
+    assert_holds(&length, is_refused(&length, HEADER_ERROR));
     let cut = [9, 0, 1, 0, b'x', b'f', b'r', b'm'];
-    assert_holds(&cut, is_refused(&cut, HEADER_FAULT));
+    assert_holds(&cut, is_refused(&cut, HEADER_ERROR));
 }
 
 /// The empty list needs no memory.
@@ -90,20 +90,21 @@ fn empty_list() {
     assert_holds(&"emitted", reads(&[], &[]));
 }
 
-/// Nothing is written without memory.
+/// The encoding of the empty list needs no memory.
 #[test]
 fn to_vec_of_nothing() {
     let none: [LinkInfo; 0] = [];
     assert_holds(&"nothing", nlas_to_vec(&none).is_ok());
 }
 
-/// The canonical string of the empty string, and a fault before anything is kept, need no memory.
+/// The canonical encoding of the empty string, and an error before anything is kept, need no
+/// memory.
 #[test]
-fn canonical_string_of_nothing() {
+fn canonical_encoding_of_nothing() {
     let empty = canon(&[]).is_ok_and(|string| string.is_empty());
     assert_holds(&"nothing", empty);
     let refused = canon(&[8, 0, 1]).err();
-    let wanted = Some(CanonError::Refused(HEADER_FAULT));
+    let wanted = Some(CanonError::Refused(HEADER_ERROR));
     assert_equal(&"three bytes", &refused, &wanted);
 }
 

@@ -1,4 +1,4 @@
--- Each clause is that of the walk over the rest, from the beginning of the bytes; the count is a sum.
+-- Each clause is that of `read_rest`, from the beginning of the bytes; the count is a sum.
 use Rattle.std.proofs.Common.{◌∙◌, ap, arith, sym, List, Result, Ok}
 use Rattle.nla_frame.specs.declared.error.DecodeError.{DecodeError}
 use Rattle.linkinfo.specs.declared.link_info.LinkInfoOf.{LinkInfoOf}
@@ -11,7 +11,8 @@ read items = Ok items
 pub returns-in-Ok-clause-answer : goal.returns-in-Ok-clause-answer
 unfolding reading
 returns-in-Ok-clause-answer g c =
-    let answer = rw c.new-walk.ensures at c.in-Ok.ensures.answer in answer ∙ ap read (sym c.new.ensures)
+    let answer = rw c.new-walk.ensures at c.in-Ok.ensures.answer in
+    answer ∙ ap read (sym c.new.ensures)
 
 pub returns-in-Ok-clause-certain : goal.returns-in-Ok-clause-certain
 returns-in-Ok-clause-certain g c = λ _. returns-in-Ok-clause-answer g c

@@ -1,4 +1,4 @@
--- Each clause is that of the call, on the attributes that the slice holds.
+-- Each clause is that of `nlas_to_vec`, on the attributes in the slice.
 use Rattle.std.proofs.Common.{◌∙◌}
 use Rattle.linkinfo.proofs.list.VecLinkInfoOf.to_vec.Goals as goal
 

@@ -6,9 +6,9 @@ returns-in-Err-clause-steps c =
     let stops = rw c.in-Err.is at c.in_ok-nla.ensures.step in
     record {
       gives = stops_gives _ _ _ stops;
-      holds = (stops.at, stops.force);
+      holds = (stops.at, stops.kinds);
       source = c.advance.ensures.source;
-      examined = (stops.seen, stops.fault, stops.examined);
+      examined = (stops.seen, stops.error, stops.examined);
     }
 
 pub returns-in-Err-clause-goes : goal.returns-in-Err-clause-goes

@@ -1,4 +1,4 @@
--- Each arm compares as the family says that it calls.
+-- Each arm compares as the contract of the family that it calls says.
 use Rattle.linkinfo_data.proofs.Arms.{counted_by, ok_by, same_by}
 use Rattle.linkinfo_data.specs.Data.{data_of}
 use Rattle.linkinfo_data.specs.PeerFamilies.{families_of}

@@ -10,17 +10,25 @@ use Rattle.linkinfo_lines.proofs.answers.Answers.push_canon.Goals as goal
 pub returns-in-Ok : goal.returns-in-Ok
 returns-in-Ok c =
     let text : canon_text (reading bytes_peer c.deref.result.now) ≡ codes "-" =
-    canon_text-none _ _ c.in-Ok.ensures.string (ap (λ (n : ℕ). n == 0) (sym c.in-Ok.bytes.ok.0) ∙ sym c.is_empty.ensures ∙ c.if-is_empty.true) in
+    canon_text-none _ _ c.in-Ok.ensures.string
+    (ap (λ (n : ℕ). n == 0) (sym c.in-Ok.bytes.ok.0)
+    ∙ sym c.is_empty.ensures
+    ∙ c.if-is_empty.true) in
     search (rules, text)
 
 pub returns-in-Ok-2 : goal.returns-in-Ok-2
 returns-in-Ok-2 c =
-    let text : canon_text (reading bytes_peer c.deref.result.now) ≡ encode_lower c.in-Ok.bytes.items =
-    canon_text-some _ _ c.in-Ok.ensures.string (ap (λ (n : ℕ). n == 0) (sym c.in-Ok.bytes.ok.0) ∙ sym c.is_empty.ensures ∙ c.if-is_empty.false) in
+    let text : canon_text (reading bytes_peer c.deref.result.now)
+    ≡ encode_lower c.in-Ok.bytes.items =
+    canon_text-some _ _ c.in-Ok.ensures.string
+    (ap (λ (n : ℕ). n == 0) (sym c.in-Ok.bytes.ok.0)
+    ∙ sym c.is_empty.ensures
+    ∙ c.if-is_empty.false) in
     search (rules, text)
 
 pub returns-in-Err-Unfit : goal.returns-in-Err-Unfit
 returns-in-Err-Unfit c =
     let text : canon_text (reading bytes_peer c.deref.result.now) ≡ codes "unfit" =
-    canon_text-unfit (reading bytes_peer c.deref.result.now) c.canon.result (c.in-Err-Unfit.is ∙ ap (λ e. Err e) c.in-Err-Unfit.field-0-is) c.canon.ensures.refused in
+    canon_text-unfit (reading bytes_peer c.deref.result.now) c.canon.result
+    (c.in-Err-Unfit.is ∙ ap (λ e. Err e) c.in-Err-Unfit.field-0-is) c.canon.ensures.refused in
     search (rules, text)

@@ -8,6 +8,8 @@ pub returns : goal.returns
 returns c =
     let first = c.cut.result.0.now in
     let second = c.in-Some.second.now in
-    let two : on_two comparison_answer (words_of c.args.operands.now) ≡ comparison_answer first second =
-    ap (on_two comparison_answer) (rw c.in-Some.is at c.cut.ensures.parts) ∙ on_two-words_of first second in
+    let two : on_two comparison_answer (words_of c.args.operands.now)
+    ≡ comparison_answer first second =
+    ap (on_two comparison_answer) (rw c.in-Some.is at c.cut.ensures.parts)
+    ∙ on_two-words_of first second in
     rw two (search rules)

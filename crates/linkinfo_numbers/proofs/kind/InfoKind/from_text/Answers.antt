@@ -1,6 +1,12 @@
--- The kind of a name is that of its tag, or else `Other` of the name.
+-- The kind of a name is that of its tag, and otherwise `Other` of the name.
 use Rattle.std.proofs.Common.{◌≡◌, Some, None, sym, ap, ◌∙◌}
-use Rattle.linkinfo_numbers.specs.Kind.{kind_of_tag, tag_of_name, text_of_kind, kind_of_name-tagged, kind_of_name-untagged}
+use Rattle.linkinfo_numbers.specs.Kind.{
+  kind_of_tag,
+  tag_of_name,
+  text_of_kind,
+  kind_of_name-tagged,
+  kind_of_name-untagged,
+}
 use Rattle.linkinfo_numbers.specs.Kind.{text_of_kind-kind_of_name}
 use Rattle.linkinfo_numbers.proofs.kind.InfoKind.from_text.Goals as goal
 

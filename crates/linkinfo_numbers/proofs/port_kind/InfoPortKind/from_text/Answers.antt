@@ -1,7 +1,15 @@
--- The kind of a name is that of its tag, or else `Other` of the name.
+-- The kind of a name is that of its tag, and otherwise `Other` of the name.
 use Rattle.std.proofs.Common.{◌≡◌, Some, None, sym, ap, ◌∙◌}
-use Rattle.linkinfo_numbers.specs.PortKind.{port_kind_of_tag, port_tag_of_name, text_of_port_kind, port_kind_of_name-tagged}
-use Rattle.linkinfo_numbers.specs.PortKind.{port_kind_of_name-untagged, text_of_port_kind-port_kind_of_name}
+use Rattle.linkinfo_numbers.specs.PortKind.{
+  port_kind_of_tag,
+  port_tag_of_name,
+  text_of_port_kind,
+  port_kind_of_name-tagged,
+}
+use Rattle.linkinfo_numbers.specs.PortKind.{
+  port_kind_of_name-untagged,
+  text_of_port_kind-port_kind_of_name,
+}
 use Rattle.linkinfo_numbers.proofs.port_kind.InfoPortKind.from_text.Goals as goal
 
 pub returns-in-Some-clause-kind : goal.returns-in-Some-clause-kind
@@ -11,7 +19,8 @@ returns-in-Some-clause-kind c =
 
 pub returns-in-Some-clause-same_text : goal.returns-in-Some-clause-same_text
 returns-in-Some-clause-same_text c =
-    ap text_of_port_kind (returns-in-Some-clause-kind c) ∙ text_of_port_kind-port_kind_of_name c.args.text.now
+    ap text_of_port_kind (returns-in-Some-clause-kind c)
+    ∙ text_of_port_kind-port_kind_of_name c.args.text.now
 
 pub returns-in_ok-copy_of-in-None-clause-kind : goal.returns-in_ok-copy_of-in-None-clause-kind
 returns-in_ok-copy_of-in-None-clause-kind c =

@@ -1,19 +1,21 @@
-use Rattle.std.proofs.Common.{arith, ap, subst, sym, ◌∙◌, ◌≡◌, ℕ, refl, List, Option, Some}
-use Rattle.linkinfo_table.specs.Last.{StandsIn, attributes_of, last_of_type, offset_of}
+use Rattle.std.proofs.Common.{arith, ap, subst, sym, ◌∙◌, ◌≡◌, ℕ, refl, Option, Some}
+use Rattle.linkinfo_table.specs.Last.{Indexed, StandsIn, indexed_last, offset_of}
 use Rattle.linkinfo_table.specs.declared.last.PlacedNla.{PlacedNla}
-use Rattle.linkinfo_table.proofs.Lasts.{found_there, last_stands, same_placed, stands_within}
+use Rattle.linkinfo_table.proofs.Lasts.{found_there, indexed_stands, same_at, stands_within}
 use Rattle.linkinfo_table.proofs.last.LastOfType.find.Goals as goal
 
-abbrev There : List ℕ → ℕ → ℕ → Type 0
-There s kind offset =
-    (placed : PlacedNla) × (last_of_type kind (attributes_of s) ≡ Some placed)
-    × (placed.offset ≡ offset) × StandsIn s placed
+abbrev There : Indexed → ℕ → ℕ → Type 0
+There index kind offset =
+    (placed : PlacedNla) × (indexed_last index kind ≡ Some placed)
+    × (placed.offset ≡ offset) × StandsIn index.source placed
 
-abbrev there : (s t : List ℕ) (kind offset : ℕ) (found : Option ℕ) → t ≡ s →
-    found ≡ offset_of (last_of_type kind (attributes_of t)) → found ≡ Some offset → There s kind offset
-there s t kind offset found same told was =
-    subst (λ (u : List ℕ). There u kind offset) same
-    (found_there t (last_of_type kind (attributes_of t)) offset (last_stands kind t) (sym told ∙ was))
+abbrev there : (index now : Indexed) (kind offset : ℕ) (found : Option ℕ) → now ≡ index →
+    found ≡ offset_of (indexed_last now kind) → found ≡ Some offset →
+    There index kind offset
+there index now kind offset found same told was =
+    subst (λ (i : Indexed). There i kind offset) same
+    (found_there now.source (indexed_last now kind) offset (indexed_stands now kind)
+    (sym told ∙ was))
 
 pub placed_at-requires-clause-within : goal.placed_at-requires-clause-within
 placed_at-requires-clause-within c =
@@ -28,5 +30,7 @@ placed_at-requires-clause-attribute c =
 pub returns-clause-last : goal.returns-clause-last
 returns-clause-last c =
     let at = there _ _ _ _ _ (sym c.self.view_is) c.offset.ensures c.in_ok-offset.was in
-    let is = same_placed _ c.placed_at.result at.0 c.placed_at.ensures.stands at.3 (c.placed_at.ensures.offset ∙ sym at.2) in
+    let is =
+    same_at _ c.placed_at.result at.0 c.placed_at.ensures.stands at.3
+    (c.placed_at.ensures.offset ∙ sym at.2) in
     rw (← c.self.view_is) (ap Some is ∙ sym at.1)

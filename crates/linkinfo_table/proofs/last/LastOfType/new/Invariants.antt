@@ -1,13 +1,13 @@
-use Rattle.std.proofs.Common.{◌≡◌, ◌*◌, ◌+◌, ◌<◌, ◌≤◌, ℕ, length, get_or, None}
-use Rattle.linkinfo_table.specs.Last.{attributes_of, last_of_type, offset_of}
+use Rattle.std.proofs.Common.{◌≡◌, ◌*◌, ◌+◌, ◌-◌, ◌≤◌, ℕ, length, get_or, true, None}
+use Rattle.linkinfo_table.specs.Last.{attributes_of, covers, last_of_type, offset_of}
 use Rattle.linkinfo_table.proofs.Lasts.{last_from}
 use Rattle.linkinfo_table.proofs.last.LastOfType.new.Given as goal
 
 abbrev pub invariant-loop-nla : goal.invariant-loop-nla
 invariant-loop-nla l = record {
   entries : length l.offsets ≡ 64;
-  last : (kind : ℕ) → kind < 64 →
-      last_from (get_or l.offsets kind None) kind l.source l.rest
+  last : (kind : ℕ) → covers l.first kind ≡ true →
+      last_from (get_or l.offsets (kind - l.first) None) kind l.source l.rest
       ≡ offset_of (last_of_type kind (attributes_of l.source));
   room : 4 * l.count + length l.rest ≤ length l.source;
 }

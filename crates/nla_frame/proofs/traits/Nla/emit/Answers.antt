@@ -1,10 +1,12 @@
 use Rattle.std.proofs.Common.{◌∙◌, ◌-◌, length, refl}
-use Rattle.nla_frame.proofs.Emitting.{framed_behind}
+use Rattle.nla_frame.proofs.Emitting.{framed_after}
 use Rattle.nla_frame.proofs.traits.Nla.emit.Goals as goal
 
 pub returns : goal.returns
 returns g c =
     let buffer = c.args.buffer.now in
-    c.put_frame.ensures
-    ∙ framed_behind (g.Self.Nla.attribute c.args.self.now) buffer c.emit_payload-len.new.buffer c.emit_payload-len.result (length buffer - 4) c.kind.result
-    c.emit_payload-len.ensures.taken refl c.kind.ensures c.requires.room c.emit_payload-len.ensures.written
+    c.write_frame.ensures
+    ∙ framed_after (g.Self.Nla.attribute c.args.self.now) buffer c.emit_payload-len.new.buffer
+    c.emit_payload-len.result (length buffer - 4) c.kind.result
+    c.emit_payload-len.ensures.taken refl c.kind.ensures c.requires.room
+    c.emit_payload-len.ensures.written

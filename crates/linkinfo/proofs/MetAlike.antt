@@ -1,0 +1,198 @@
+-- Equivalent lists meet one another.
+use Rattle.std.specs.Prelude.{◌≡◌, ℕ, ◌+◌, ◌==◌, ◌&&◌, Bool, true, false, if◌then◌else◌, IsOk}
+use Rattle.std.specs.Prelude.{IsTrue, List, [], ◌∷◌, Option, None, Some, Result, Ok, Err, map}
+use Rattle.std.specs.Prelude.{length, refl, IfSome}
+use Rattle.std.specs.List.{AllZip}
+use Rattle.std.specs.Str.{bytes_eq}
+use Rattle.std.proofs.Common.{sym, ap, subst, ◌∙◌}
+use Rattle.std.proofs.lemmas.Bool.{and_parts, eqb-true}
+use Rattle.std.proofs.lemmas.Slice.Eq.{bytes_eq-Decides}
+use Rattle.nla_frame.specs.Attribute.{Attribute, IsBytes, aligned, masked}
+use Rattle.nla_frame.specs.Payload.{stripped}
+use Rattle.nla_frame.specs.NlaItems.{nla_items}
+use Rattle.nla_frame.specs.declared.error.DecodeError.{DecodeError}
+use Rattle.linkinfo_table.specs.Last.{attributes_of, placed_from}
+use Rattle.linkinfo_table.specs.Lists.{◌>>=◌}
+use Rattle.linkinfo_table.specs.Rows.{alike_in, row_alike}
+use Rattle.linkinfo_data.specs.Data.{data_of, family_of}
+use Rattle.linkinfo_data.specs.Families.{Families}
+use Rattle.linkinfo_data.specs.Lawful.{AreLawful}
+use Rattle.linkinfo_data.specs.Listing.{Listing}
+use Rattle.linkinfo_data.specs.PortData.{port_data_of, port_family_of}
+use Rattle.linkinfo_data.specs.Unmet.{meets}
+use Rattle.linkinfo.specs.Items.{link_alike, link_meaning, link_row}
+use Rattle.linkinfo.specs.Met.{Item, ItemMeets, PayloadMeets, RoleMeets, items_of, items_under}
+use Rattle.linkinfo.specs.Met.{nlas_of, role_of_item, type_of, type_of_item}
+use Rattle.linkinfo.specs.Roles.{role_of}
+use Rattle.linkinfo.specs.Strings.{alike_from, alike_strings, next_kinds, reading, values_from}
+use Rattle.linkinfo.specs.Unmet.{Named, kinds_named, names_after, no_names, strings_unmet}
+use Rattle.linkinfo.specs.declared.link_info.LinkInfoOf.{LinkInfoOf}
+use Rattle.linkinfo.specs.declared.role.CurrentKinds.{CurrentKinds}
+use Rattle.linkinfo.specs.declared.role.Role.TheVariants as role
+use Rattle.linkinfo.specs.declared.role.Role.{Role}
+use Rattle.linkinfo.proofs.Items.{role_alike_after}
+use Rattle.linkinfo.proofs.Meeting.{or_second, same_names, string_met}
+use Rattle.linkinfo.proofs.MetLasts.{pairs_meet, same_named}
+use Rattle.linkinfo.proofs.PairedData.{ArePair, HaveOneType, data_paired, port_paired}
+use Rattle.linkinfo.proofs.Unmets.{under_next}
+use Rattle.linkinfo.proofs.Whole.{strings_alike}
+
+payload_alike : (o : Option Listing) (alike : List ℕ → List ℕ → Bool) (a b : Attribute) →
+    IfSome o (λ listing.
+    (s t : List ℕ) → alike s t ≡ true → AllZip (ArePair listing.alike) (nlas_of s) (nlas_of t)) →
+    alike a.value b.value ≡ true → PayloadMeets o alike a b
+payload_alike None alike a b paired e =
+    or_second (bytes_eq a.value b.value) (alike a.value b.value) e
+payload_alike (Some listing) alike a b paired e =
+    pairs_meet type_of (ArePair listing.alike) (λ h w. IsTrue (meets listing.alike h w))
+    (λ x y r. r.0) (λ x y r. or_second (bytes_eq x.value y.value) (listing.alike x y) r.1)
+    (nlas_of a.value) (nlas_of b.value) (paired a.value b.value e)
+
+if_same : {A : Type 0} (c d : Bool) (p q o : A) → c ≡ d → (c ≡ true → p ≡ q) →
+    (if c then p else o) ≡ (if d then q else o)
+if_same true true p q o e f = f refl
+if_same true false p q o e f = absurd cc
+if_same false true p q o e f = absurd cc
+if_same false false p q o e f = refl
+
+module _ {P : Type 0} (families : Families P) (netkit : HaveOneType families.netkit.alike) where
+  role_alike : (r : Role) (a b : Attribute) → row_alike (link_row families r) a b ≡ true →
+      RoleMeets families r a b
+  role_alike (role.Data tag) a b e =
+      let payload = data_of families (family_of tag) in
+      payload_alike payload.listing payload.alike a b (data_paired families netkit (family_of tag))
+      (and_parts (masked b.kind == masked a.kind) (payload.alike a.value b.value) e).1
+  role_alike (role.PortData tag) a b e =
+      let payload = port_data_of (port_family_of tag) in
+      payload_alike payload.listing payload.alike a b (port_paired (port_family_of tag))
+      (and_parts (masked b.kind == masked a.kind) (payload.alike a.value b.value) e).1
+  role_alike r a b e =
+      or_second (bytes_eq a.value b.value) (row_alike (link_row families r) a b) e
+
+  -- ---- the names after equivalent attributes
+
+  stripped_same : (a b : Attribute) →
+      ((masked b.kind == masked a.kind) && bytes_eq (stripped a.value) (stripped b.value)) ≡ true →
+      stripped a.value ≡ stripped b.value
+  stripped_same a b e =
+      (bytes_eq-Decides (stripped a.value) (stripped b.value)).0
+      (and_parts (masked b.kind == masked a.kind)
+      (bytes_eq (stripped a.value) (stripped b.value)) e).1
+
+  kind_role : (t : CurrentKinds) (n : ℕ) → (n == 1) ≡ true → role_of t n ≡ role.Kind
+  unfolding role_of
+  kind_role t n e = rw e refl
+
+  port_role : (t : CurrentKinds) (n : ℕ) → (n == 4) ≡ true → role_of t n ≡ role.PortKind
+  unfolding role_of
+  port_role t n e = let is = eqb-true n 4 e in rw is refl
+
+  names_alike : (t : CurrentKinds) (names : Named) (a b : Attribute) →
+      row_alike (link_row families (role_of t (type_of a))) a b ≡ true →
+      names_after names a ≡ names_after names b
+  names_alike t names a b e =
+      let typed : type_of a ≡ type_of b =
+      sym (role_alike_after families (role_of t (type_of a)) t a b e).0 in
+      let is = λ (n : ℕ). ap (λ (k : ℕ). k == n) typed in
+      let first = stripped a.value in
+      let second = stripped b.value in
+      let kept = λ (c : Bool). if c then None else names.port in
+      same_named (names_after names a) (names_after names b)
+      (if_same (type_of a == 1) (type_of b == 1) (Some first) (Some second) names.kind (is 1)
+      (λ one. ap Some (stripped_same a b (rw (kind_role t (type_of a) one) at e))))
+      (if_same (type_of a == 4) (type_of b == 4) (Some first) (Some second) (kept (type_of a == 5))
+      (is 4) (λ four. ap Some (stripped_same a b (rw (port_role t (type_of a) four) at e)))
+      ∙ ap (λ (c : Bool). if type_of b == 4 then Some second else kept c) (is 5))
+
+  -- ---- equivalent strings
+
+  -- of one type, under the same names, and equivalent
+  record AreAlike (x y : Item) : Type 0 where
+    typed : type_of_item x ≡ type_of_item y
+    named : x.named ≡ y.named
+    same : row_alike (link_row families (role_of_item x)) x.nla y.nla ≡ true
+
+  alike_meet : (x y : Item) → AreAlike x y → ItemMeets families x y
+  alike_meet x y pair =
+      let roles : role_of_item x ≡ role_of_item y =
+      ap (λ (names : Named). role_of (kinds_named names) (type_of_item x)) pair.named
+      ∙ ap (λ (n : ℕ). role_of (kinds_named y.named) n) pair.typed in
+      record {
+        kind =
+            same_names (role_of_item y) x.named y.named (ap (λ (n : Named). n.kind) pair.named)
+            (ap (λ (n : Named). n.port) pair.named);
+        payload =
+            subst (λ (r : Role). RoleMeets families r x.nla y.nla) roles
+            (role_alike (role_of_item x) x.nla y.nla pair.same);
+      }
+
+  abbrev items_from : Named → ℕ → List (Result Attribute ℕ) → List Item
+  items_from names n ps = items_under names (map (λ p. p.nla) (placed_from n ps))
+
+  both_ok : {X : Type 0} (m : Result X DecodeError) (v : Result (List X) DecodeError) →
+      IsOk (m >>= λ x. v >>= λ xs. let r : Result (List X) DecodeError = Ok (x ∷ xs) in r) →
+      IsOk m × IsOk v
+  both_ok (Ok x) (Ok xs) ok = (refl, refl)
+  both_ok (Ok x) (Err e) ok = absurd cc
+  both_ok (Err e) v ok = absurd cc
+
+  alike_first : (t : CurrentKinds) (a b : Attribute) → link_alike families t a b ≡ true →
+      row_alike (link_row families (role_of t (type_of a))) a b ≡ true
+  unfolding alike_in
+  alike_first t a b e = e
+
+  pairs_from : (ps qs : List (Result Attribute ℕ)) (names : Named) (m n : ℕ) →
+      IsOk (values_from families (kinds_named names) ps) →
+      alike_from families (kinds_named names) ps qs ≡ true →
+      AllZip AreAlike (items_from names m ps) (items_from names n qs)
+  pairs_from [] [] names m n ok e = tt
+  pairs_from [] (y ∷ ys) names m n ok e = absurd cc
+  pairs_from ((Ok a) ∷ xs) [] names m n ok e = absurd cc
+  pairs_from ((Err k) ∷ xs) [] names m n ok e = absurd cc
+  pairs_from ((Ok a) ∷ xs) ((Ok b) ∷ ys) names m n ok e =
+      let t = kinds_named names in
+      let h = and_parts (link_alike families t a b)
+      (alike_from families (next_kinds t a) xs ys) e in
+      let first = alike_first t a b h.0 in
+      let oks =
+      both_ok (link_meaning families t a) (values_from families (next_kinds t a) xs) ok in
+      let next = names_after names a in
+      let more =
+      pairs_from xs ys next (m + aligned (4 + length a.value)) (n + aligned (4 + length b.value))
+      (under_next families (λ u. IsOk (values_from families u xs)) names a oks.0 oks.1)
+      (under_next families (λ u. alike_from families u xs ys ≡ true) names a oks.0 h.1) in
+      let typed : type_of a ≡ type_of b =
+      sym (role_alike_after families (role_of t (type_of a)) t a b first).0 in (
+        record { typed = typed; named = refl; same = first },
+        subst
+            (λ (other : Named).
+            AllZip AreAlike (items_from next (m + aligned (4 + length a.value)) xs)
+            (items_from other (n + aligned (4 + length b.value)) ys))
+            (names_alike t names a b first) more,
+      )
+  pairs_from ((Ok a) ∷ xs) ((Err k) ∷ ys) names m n ok e = absurd cc
+  pairs_from ((Err k) ∷ xs) (y ∷ ys) names m n ok e = absurd cc
+
+  pub alike_met : (a b : List ℕ) → IsOk (reading families a) → alike_strings families a b ≡ true →
+      strings_unmet families a b ≡ None
+  unfolding reading alike_strings attributes_of
+  alike_met a b ok e =
+      (string_met families a b).1
+      (pairs_meet type_of_item AreAlike (ItemMeets families) (λ x y pair. pair.typed) alike_meet
+      (items_of a) (items_of b) (pairs_from (nla_items a) (nla_items b) no_names 0 0 ok e))
+
+-- equivalence has no order
+module _ {P : Type 0} (families : Families P) (law : AreLawful families) where
+  pub alike_turned : (a b : List ℕ) → IsBytes a → IsBytes b → IsOk (reading families a) →
+      IsOk (reading families b) → alike_strings families a b ≡ true →
+      alike_strings families b a ≡ true
+  alike_turned a b a_bytes b_bytes a_ok b_ok e =
+      go (reading families a) (reading families b) refl refl a_ok b_ok
+    where
+      go : (m n : Result (List (LinkInfoOf P)) DecodeError) → reading families a ≡ m →
+          reading families b ≡ n → IsOk m → IsOk n → alike_strings families b a ≡ true
+      go (Ok xs) (Ok ys) a_is b_is i j =
+          (strings_alike families law b a ys xs b_bytes a_bytes b_is a_is).1
+          (sym ((strings_alike families law a b xs ys a_bytes b_bytes a_is b_is).0 e))
+      go (Err d) n a_is b_is i j = absurd cc
+      go (Ok xs) (Err d) a_is b_is i j = absurd cc

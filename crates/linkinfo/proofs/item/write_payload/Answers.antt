@@ -1,0 +1,16 @@
+use Rattle.std.proofs.Common.{◌∙◌, ◌-◌, length, refl}
+use Rattle.nla_frame.specs.Attribute.{Attribute}
+use Rattle.nla_frame.proofs.Emitting.{framed_after}
+use Rattle.linkinfo.proofs.item.write_payload.Goals as goal
+
+pub returns-clause-written : goal.returns-clause-written
+returns-clause-written g c =
+    let buffer = c.args.buffer.now in
+    let a : Attribute = record {
+      kind = c.args.kind;
+      value = (g.F.PayloadFamily.data_of c.args.family).canonical c.args.payload.now;
+    } in
+    c.write_frame.ensures
+    ∙ framed_after a buffer c.write_canonical-len.new.buffer c.write_canonical-len.result
+    (length buffer - 4) c.args.kind c.write_canonical-len.ensures.taken refl refl c.requires.room
+    c.write_canonical-len.ensures.written

@@ -1,0 +1,65 @@
+-- The first pair of attributes in which two lists of link info differ.
+use Rattle.std.specs.Prelude.{ℕ, ◌==◌, Bool, if◌then◌else◌, List, Option, None, Some}
+use Rattle.std.specs.Option.{option_map}
+use Rattle.nla_frame.specs.Attribute.{masked}
+use Rattle.nla_frame.specs.declared.error.Family.TheVariants as family
+use Rattle.linkinfo_table.specs.Last.{attributes_of}
+use Rattle.linkinfo_table.specs.Rows.{row_alike}
+use Rattle.linkinfo_table.specs.declared.last.PlacedNla.{PlacedNla}
+use Rattle.linkinfo_data.specs.Data.{data_of, family_of}
+use Rattle.linkinfo_data.specs.Difference.{
+  differ,
+  inner_difference,
+  list_difference,
+  pair_difference,
+}
+use Rattle.linkinfo_data.specs.Difference.{pairs_difference}
+use Rattle.linkinfo_data.specs.Families.{Families}
+use Rattle.linkinfo_data.specs.Listing.{Listing}
+use Rattle.linkinfo_data.specs.Payloads.{Payload}
+use Rattle.linkinfo_data.specs.PortData.{port_data_of, port_family_of}
+use Rattle.linkinfo_data.specs.declared.difference.Difference.{Difference}
+use Rattle.linkinfo.specs.Items.{link_row}
+use Rattle.linkinfo.specs.Roles.{no_kinds, role_at}
+use Rattle.linkinfo.specs.Strings.{next_kinds}
+use Rattle.linkinfo.specs.declared.role.CurrentKinds.{CurrentKinds}
+use Rattle.linkinfo.specs.declared.role.Role.TheVariants as role
+use Rattle.linkinfo.specs.declared.role.Role.{Role}
+
+-- the difference of two attributes with data: in their payloads if these are lists, otherwise of
+-- the attributes as a whole
+abbrev pub payload_difference : Option Listing → (List ℕ → List ℕ → Bool) → PlacedNla → PlacedNla →
+    Option Difference
+payload_difference (Some listing) alike p q =
+    option_map (inner_difference p q)
+    (list_difference listing.family listing.lists listing.alike p.nla.value q.nla.value)
+payload_difference None alike p q =
+    pair_difference family.LinkInfo (alike p.nla.value q.nla.value) p q
+
+abbrev pub data_difference : {X : Type 0} → Payload X → PlacedNla → PlacedNla → Option Difference
+data_difference payload p q = payload_difference payload.listing payload.alike p q
+
+-- the difference of two attributes of one type, by the role of the first
+abbrev pub role_difference : {P : Type 0} → Families P → Role → PlacedNla → PlacedNla →
+    Option Difference
+role_difference families (role.Data tag) p q =
+    data_difference (data_of families (family_of tag)) p q
+role_difference families (role.PortData tag) p q =
+    data_difference (port_data_of (port_family_of tag)) p q
+role_difference families r p q =
+    pair_difference family.LinkInfo (row_alike (link_row families r) p.nla q.nla) p q
+
+-- the difference of two attributes, under the current kinds before the first
+abbrev pub link_difference : {P : Type 0} → Families P → CurrentKinds → PlacedNla → PlacedNla →
+    Option Difference
+link_difference families t p q =
+    if masked q.nla.kind == masked p.nla.kind
+    then role_difference families (role_at t p.nla) p q
+    else Some (differ family.LinkInfo p q)
+
+-- the difference of two byte strings: that of the first pair that has one, or the end of one of
+-- them before the other
+abbrev pub strings_difference : {P : Type 0} → Families P → List ℕ → List ℕ → Option Difference
+strings_difference families a b =
+    pairs_difference family.LinkInfo (link_difference families) next_kinds no_kinds
+    (attributes_of a) (attributes_of b)

@@ -1,0 +1,191 @@
+-- When a list meets another one, told without offsets, and which lists do.
+use Rattle.std.specs.Prelude.{◌≡◌, ◌⊎◌, ℕ, ◌==◌, Bool, false, IsTrue, is_some, List, [], ◌∷◌, map}
+use Rattle.std.specs.Prelude.{Option, None, Some}
+use Rattle.std.specs.List.{AllByRecursion, AllZip, Any, IsDistinct, filter, last_or, list_any}
+use Rattle.std.specs.Option.{option_map}
+use Rattle.nla_frame.specs.Attribute.{Attribute, masked}
+use Rattle.nla_frame.specs.Payload.{stripped}
+use Rattle.linkinfo_table.specs.Last.{attributes_of}
+use Rattle.linkinfo_table.specs.Rows.{row_alike}
+use Rattle.linkinfo_data.specs.Data.{data_of, family_of}
+use Rattle.linkinfo_data.specs.Families.{Families}
+use Rattle.linkinfo_data.specs.Listing.{Listing}
+use Rattle.linkinfo_data.specs.Payloads.{Payload}
+use Rattle.linkinfo_data.specs.PortData.{port_data_of, port_family_of}
+use Rattle.linkinfo_data.specs.Unmet.{meets}
+use Rattle.linkinfo.specs.Items.{link_row}
+use Rattle.linkinfo.specs.Roles.{role_of}
+use Rattle.linkinfo.specs.Unmet.{Named, kinds_named, names_after, no_names, same_kind}
+use Rattle.linkinfo.specs.declared.role.Role.TheVariants as role
+use Rattle.linkinfo.specs.declared.role.Role.{Role}
+
+-- ---- the last ones of each type
+
+-- the last element of a type
+abbrev pub last_of : {X : Type 0} → (X → ℕ) → ℕ → List X → Option X
+last_of type k list = last_or None (filter (λ x. type x == k) list)
+
+-- what is wanted, if anything, is met by what is there
+abbrev pub IsMet : {X : Type 0} → (X → X → Type 0) → Option X → Option X → Type 0
+IsMet Meets have None = Unit {0}
+IsMet Meets None (Some want) = ⊥
+IsMet Meets (Some have) (Some want) = Meets have want
+
+-- of each type, the last element of a list is met by the last one of another list
+abbrev pub LastsMeet : {X : Type 0} → (X → ℕ) → (X → X → Type 0) → List X → List X → Type 0
+LastsMeet type Meets have want = (k : ℕ) → IsMet Meets (last_of type k have) (last_of type k want)
+
+-- ---- attributes without their offsets
+
+-- the type without its flags
+abbrev pub type_of : Attribute → ℕ
+type_of a = masked a.kind
+
+-- the attributes of a string, in order
+abbrev pub nlas_of : List ℕ → List Attribute
+nlas_of s = map (λ p. p.nla) (attributes_of s)
+
+-- an attribute of the list, and the names that are current before it
+pub record Item : Type 0 where
+  pub nla : Attribute
+  pub named : Named
+
+abbrev pub type_of_item : Item → ℕ
+type_of_item item = type_of item.nla
+
+abbrev pub role_of_item : Item → Role
+role_of_item item = role_of (kinds_named item.named) (type_of_item item)
+
+-- attributes in order, each with the names before it
+abbrev pub items_under : Named → List Attribute → List Item
+items_under names [] = []
+items_under names (a ∷ more) =
+    record { nla = a; named = names } ∷ items_under (names_after names a) more
+
+abbrev pub items_of : List ℕ → List Item
+items_of s = items_under no_names (nlas_of s)
+
+-- ---- what is met
+
+-- attributes of data that is a list: the payloads are equal, or the attributes are equivalent
+abbrev pub ListMeets : (Attribute → Attribute → Bool) → List ℕ → List ℕ → Type 0
+ListMeets alike have want =
+    LastsMeet type_of (λ h w. IsTrue (meets alike h w)) (nlas_of have) (nlas_of want)
+
+-- data: attribute by attribute where it is a list, and else as a whole
+abbrev pub PayloadMeets :
+    Option Listing → (List ℕ → List ℕ → Bool) → Attribute → Attribute → Type 0
+PayloadMeets (Some listing) alike have want = ListMeets listing.alike have.value want.value
+PayloadMeets None alike have want = IsTrue (meets (λ a b. alike a.value b.value) have want)
+
+abbrev pub DataMeets : {X : Type 0} → Payload X → Attribute → Attribute → Type 0
+DataMeets payload have want = PayloadMeets payload.listing payload.alike have want
+
+-- an attribute of the list, by its role
+abbrev pub RoleMeets : {P : Type 0} → Families P → Role → Attribute → Attribute → Type 0
+RoleMeets families (role.Data tag) have want =
+    DataMeets (data_of families (family_of tag)) have want
+RoleMeets families (role.PortData tag) have want =
+    DataMeets (port_data_of (port_family_of tag)) have want
+RoleMeets families r have want = IsTrue (meets (row_alike (link_row families r)) have want)
+
+-- .. under the same kind
+pub record ItemMeets {P : Type 0} (families : Families P) (have want : Item) : Type 0 where
+  pub kind : IsTrue (same_kind (role_of_item want) have.named want.named)
+  pub payload : RoleMeets families (role_of_item want) have.nla want.nla
+
+-- a list meets another one
+abbrev pub StringMeets : {P : Type 0} → Families P → List ℕ → List ℕ → Type 0
+StringMeets families have want =
+    LastsMeet type_of_item (ItemMeets families) (items_of have) (items_of want)
+
+-- ---- lists with more attributes
+
+-- of each type of a list, two other ones have the same last attribute
+abbrev pub HaveSameLasts : List ℕ → List ℕ → List ℕ → Type 0
+HaveSameLasts want have more =
+    AllByRecursion
+    (λ w. last_of type_of (type_of w) (nlas_of more) ≡ last_of type_of (type_of w) (nlas_of have))
+    (nlas_of want)
+
+-- a list has an attribute of a type
+abbrev pub has_type : List Attribute → ℕ → Bool
+has_type list k = list_any (λ a. type_of a == k) list
+
+-- two lists differ only in attributes of types that `want` has not: the others are the same, in
+-- order
+abbrev pub DifferElsewhere : List ℕ → List ℕ → List ℕ → Type 0
+DifferElsewhere want have more =
+    filter (λ a. has_type (nlas_of want) (type_of a)) (nlas_of more)
+    ≡ filter (λ a. has_type (nlas_of want) (type_of a)) (nlas_of have)
+
+-- ---- lists in another order
+
+abbrev pub HasNoTypeTwice : List Attribute → Type 0
+HasNoTypeTwice list = IsDistinct (λ a b. type_of a == type_of b) list
+
+-- each attribute has one of its type in another list that is like it
+abbrev pub EachHasOneLike :
+    (Attribute → Attribute → Type 0) → List Attribute → List Attribute → Type 0
+EachHasOneLike IsLike list other =
+    AllByRecursion (λ a. Any (λ b. (type_of b ≡ type_of a) × IsLike a b) other) list
+
+-- two lists without a type twice, of which each attribute has one like it in the other list
+pub record IsReordering (IsLike : Attribute → Attribute → Type 0) (list other : List Attribute) :
+    Type 0 where
+  pub first : HasNoTypeTwice list
+  pub second : HasNoTypeTwice other
+  pub forth : EachHasOneLike IsLike list other
+  pub back : EachHasOneLike (λ b a. IsLike a b) other list
+
+-- data: the payloads of the attributes in it are equal
+abbrev pub IsReorderedData : List ℕ → List ℕ → Type 0
+IsReorderedData p q = IsReordering (λ a b. a.value ≡ b.value) (nlas_of p) (nlas_of q)
+
+-- the name in the attribute of a type
+abbrev pub name_in_list : List Attribute → ℕ → Option (List ℕ)
+name_in_list list k = option_map (λ a. stripped a.value) (last_of type_of k list)
+
+-- the names of the kind and of the port kind of a list
+abbrev pub names_in_list : List Attribute → Named
+names_in_list list = record { kind = name_in_list list 1; port = name_in_list list 4 }
+
+abbrev pub role_in_list : List Attribute → Attribute → Role
+role_in_list list a = role_of (kinds_named (names_in_list list)) (type_of a)
+
+-- data that is a list of attributes of a family
+abbrev pub is_list : {P : Type 0} → Families P → Role → Bool
+is_list families (role.Data tag) = is_some (data_of families (family_of tag)).listing
+is_list families (role.PortData tag) = is_some (port_data_of (port_family_of tag)).listing
+is_list families _ = false
+
+-- the payloads are equal, or data that is a list is in another order
+abbrev pub IsLikeIn : {P : Type 0} → Families P → List Attribute → Attribute → Attribute → Type 0
+IsLikeIn families list a b =
+    (a.value ≡ b.value)
+    ⊎ (IsTrue (is_list families (role_in_list list a)) × IsReorderedData a.value b.value)
+
+abbrev pub IsReorderedList : {P : Type 0} → Families P → List ℕ → List ℕ → Type 0
+IsReorderedList families s t =
+    IsReordering (IsLikeIn families (nlas_of s)) (nlas_of s) (nlas_of t)
+
+-- ---- lists with more attributes inside data
+
+-- wanted data of this type is a list, and of each type in it the last attribute has stayed
+abbrev pub StaysFor : {P : Type 0} → Families P → Item → Item → Item → Type 0
+StaysFor families old new want =
+    type_of_item want ≡ type_of_item old →
+    IsTrue (is_list families (role_of_item want))
+    × HaveSameLasts want.nla.value old.nla.value new.nla.value
+
+-- an attribute of the list has stayed, or is data that has changed beside what is wanted
+pub record HasGained {P : Type 0} (families : Families P) (want : List Item) (old new : Item) :
+    Type 0 where
+  pub named : old.named ≡ new.named
+  pub type : type_of_item old ≡ type_of_item new
+  pub payload : (old.nla ≡ new.nla) ⊎ AllByRecursion (StaysFor families old new) want
+
+-- of two lists with the same types in order each attribute is so
+abbrev pub DifferInside : {P : Type 0} → Families P → List ℕ → List ℕ → List ℕ → Type 0
+DifferInside families want have more =
+    AllZip (HasGained families (items_of want)) (items_of have) (items_of more)

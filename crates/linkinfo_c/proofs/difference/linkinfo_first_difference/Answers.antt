@@ -1,0 +1,18 @@
+use Rattle.std.proofs.Common.{ap, subst, sym, ◌∙◌}
+use Rattle.linkinfo.specs.Difference.{strings_difference}
+use Rattle.linkinfo.specs.Strings.{reading}
+use Rattle.linkinfo_data.specs.BytesPeer.{bytes_peer}
+use Rattle.linkinfo_c.specs.Causes.{IsReturnedCode}
+use Rattle.linkinfo_c.specs.Difference.{difference_record}
+use Rattle.linkinfo_c.specs.declared.difference.LinkinfoDifference.{LinkinfoDifference}
+use Rattle.linkinfo_c.proofs.CausingData.{difference_code, reading_errors}
+use Rattle.linkinfo_c.proofs.difference.linkinfo_first_difference.Goals as goal
+
+pub returns-clause-cause : goal.returns-clause-cause
+returns-clause-cause c =
+    let a = c.args.a.now in
+    let b = c.args.b.now in
+    subst (λ (z : LinkinfoDifference). IsReturnedCode z.error.cause)
+    (sym (c.difference_record.ensures ∙ ap difference_record c.first_difference.ensures.answer))
+    (difference_code (reading bytes_peer a) (reading bytes_peer b)
+    (strings_difference bytes_peer a b) (reading_errors a) (reading_errors b))

@@ -1,0 +1,101 @@
+//! Whether a link has all attributes of a request, and the first one that it lacks.
+
+ghost use Rattle.std.specs.Prelude.{◌≡◌};
+ghost use Rattle.linkinfo_data.specs.BytesPeer.{bytes_peer};
+ghost use Rattle.linkinfo.specs.Strings.{reading};
+ghost use Rattle.linkinfo.specs.Unmet.{strings_unmet, unmet_answer};
+ghost use Rattle.linkinfo_c.specs.Causes.{IsReturnedCode};
+ghost use Rattle.linkinfo_c.specs.Unmet.{lacking, rejected, unmet_record};
+
+use crate::codes::family_code;
+use crate::error::{LinkinfoError, NO_ERROR, error_record};
+use linkinfo::{DecodeError, ErrorIn, Unmet, first_unmet};
+
+/// `struct linkinfo_unmet`: whether a link has all attributes of a request, and the first one that
+/// it lacks.
+#[repr(C)]
+#[derive(Clone, Copy, Debug, PartialEq, Eq)]
+pub struct LinkinfoUnmet {
+    /// The error of the link's list, otherwise that of the request.
+    pub error: LinkinfoError,
+    /// Which list has the error: 1 the link's, 2 the request, and 0 if neither has one.
+    pub rejected: u32,
+    /// The family of the request's attribute that is not met, `enum linkinfo_family`; 0 if there is
+    /// none.
+    pub family: u16,
+    /// The type, without flag bits, of the attribute that is not met; 0 if there is none.
+    pub kind: u16,
+    /// The offset in the request, in bytes, of the attribute that is not met; 0 if there is none.
+    pub want: usize,
+    /// The offset in the link's list, in bytes, of the last attribute of that type; 0 if the link
+    /// has none.
+    pub have: usize,
+    /// Whether all attributes of the request are met; false with an error.
+    pub met: bool,
+    /// Whether the link has an attribute of that type, at `have`.
+    pub is_present: bool,
+}
+
+/// The record without an error and without an attribute.
+const NO_UNMET: LinkinfoUnmet = LinkinfoUnmet {
+    error: NO_ERROR,
+    rejected: 0,
+    family: 0,
+    kind: 0,
+    want: 0,
+    have: 0,
+    met: false,
+    is_present: false,
+};
+
+/// The record of an error of one of the lists.
+fn rejected(list: u32, error: DecodeError) -> LinkinfoUnmet
+    ensures { result ≡ rejected list error }
+{
+    LinkinfoUnmet {
+        error: error_record(error),
+        rejected: list,
+        ..NO_UNMET
+    }
+}
+
+/// The record of an attribute that is not met.
+fn lacking(unmet: Unmet) -> LinkinfoUnmet
+    ensures { result ≡ lacking unmet }
+{
+    LinkinfoUnmet {
+        family: family_code(unmet.family),
+        kind: unmet.kind,
+        want: unmet.want,
+        have: unmet.have.unwrap_or(0),
+        is_present: unmet.have.is_some(),
+        ..NO_UNMET
+    }
+}
+
+/// The record of a result of `first_unmet`.
+fn unmet_record(answer: Result<Option<Unmet>, ErrorIn>) -> LinkinfoUnmet
+    ensures { result ≡ unmet_record answer }
+{
+    match answer {
+        Ok(None) => LinkinfoUnmet {
+            met: true,
+            ..NO_UNMET
+        },
+        Ok(Some(unmet)) => lacking(unmet),
+        Err(ErrorIn::First(error)) => rejected(1, error),
+        Err(ErrorIn::Second(error)) => rejected(2, error),
+    }
+}
+
+/// Returns whether the link's list `have` has all attributes of the request `want`, or the first
+/// one that it lacks.
+#[unsafe(no_mangle)]
+pub extern "C" fn linkinfo_first_unmet(have: &[u8], want: &[u8]) -> LinkinfoUnmet
+    ensures answer { result
+        ≡ unmet_record (unmet_answer (reading bytes_peer have.now) (reading bytes_peer want.now)
+        (strings_unmet bytes_peer have.now want.now)) }
+    ensures cause { IsReturnedCode result.error.cause }
+{
+    unmet_record(first_unmet(have, want))
+}

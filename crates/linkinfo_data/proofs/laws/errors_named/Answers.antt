@@ -1,0 +1,145 @@
+use Rattle.std.specs.Prelude.{◌≡◌, Some}
+use Rattle.nla_frame.specs.declared.error.Family.TheVariants as family
+use Rattle.nla_frame.specs.declared.error.Family.{Family}
+use Rattle.linkinfo_data.proofs.Lawful.{amt_names, bare_udp_names, batadv_names, geneve_names}
+use Rattle.linkinfo_data.proofs.Lawful.{gre6_names, gre_names, gtp_names, ip_tunnel_names}
+use Rattle.linkinfo_data.proofs.Lawful.{ip_vlan_names, ip_vtap_names, ipoib_names, mac_sec_names}
+use Rattle.linkinfo_data.proofs.Lawful.{mac_vlan_names, mac_vtap_names, netkit_names, rm_net_names}
+use Rattle.linkinfo_data.proofs.Lawful.{opaque_names, veth_names, vrf_names, vti_names}
+use Rattle.linkinfo_data.proofs.Lawful.{vxcan_names, vxlan_names, wwan_names, xfrm_names}
+use Rattle.linkinfo_data.proofs.laws.errors_named.Goals as goal
+use Rattle.linkinfo_data.specs.Data.{data_of}
+use Rattle.linkinfo_data.specs.DeviceData.{devices_data_of}
+use Rattle.linkinfo_data.specs.LowerData.{lower_data_of}
+use Rattle.linkinfo_data.specs.Names.{ErrorsName, device_name, first_errors_name, list_errors_name}
+use Rattle.linkinfo_data.specs.Names.{lower_name, no_name, peered_name, port_data_name, tunnel_name}
+use Rattle.linkinfo_data.specs.Names.{under_name}
+use Rattle.linkinfo_data.specs.Payloads.{Payload}
+use Rattle.linkinfo_data.specs.PeerData.{peers_data_of}
+use Rattle.linkinfo_data.specs.PeerFamilies.{families_of}
+use Rattle.linkinfo_data.specs.Plain.{plain}
+use Rattle.linkinfo_data.specs.PortData.{port_data_of}
+use Rattle.linkinfo_data.specs.TunnelData.{tunnels_data_of}
+use Rattle.linkinfo_data.specs.declared.data.DataFamily.TheVariants as of
+use Rattle.linkinfo_data.specs.declared.data.DataFamily.{DataFamily}
+use Rattle.linkinfo_data.specs.declared.devices.DeviceFamily.TheVariants as device
+use Rattle.linkinfo_data.specs.declared.devices.DeviceFamily.{DeviceFamily}
+use Rattle.linkinfo_data.specs.declared.info_data.InfoDataOf.TheVariants as info
+use Rattle.linkinfo_data.specs.declared.info_data.InfoDataOf.{InfoDataOf}
+use Rattle.linkinfo_data.specs.declared.lower.LowerFamily.TheVariants as lower
+use Rattle.linkinfo_data.specs.declared.lower.LowerFamily.{LowerFamily}
+use Rattle.linkinfo_data.specs.declared.peers.PeeredFamily.TheVariants as peered
+use Rattle.linkinfo_data.specs.declared.peers.PeeredFamily.{PeeredFamily}
+use Rattle.linkinfo_data.specs.declared.port_data.InfoPortData.TheVariants as port
+use Rattle.linkinfo_data.specs.declared.port_data.PortFamily.TheVariants as port_of
+use Rattle.linkinfo_data.specs.declared.port_data.PortFamily.{PortFamily}
+use Rattle.linkinfo_data.specs.declared.tunnels.TunnelFamily.TheVariants as tunnel
+use Rattle.linkinfo_data.specs.declared.tunnels.TunnelFamily.{TunnelFamily}
+
+pub returns : goal.returns
+returns g c =
+    let peer = g.P.LinkPeer in
+    let laws = g.met.P.LinkPeer in
+    let families = families_of g.row.P peer in
+    let means : DataFamily → Payload (InfoDataOf g.row.P.Denot) = data_of families in
+    let lower_ones : (f : LowerFamily) →
+    ErrorsName (lower_name f) (lower_data_of {P = g.row.P.Denot} f) = elim [
+      | lower.Bridge ↦ list_errors_name family.Bridge plain.bridge (λ xs. info.Bridge xs)
+          (opaque_names family.Bridge)
+      | lower.Vlan ↦ list_errors_name family.Vlan plain.vlan (λ xs. info.Vlan xs)
+          (opaque_names family.Vlan)
+      | lower.Bond ↦ list_errors_name family.Bond plain.bond (λ xs. info.Bond xs)
+          (opaque_names family.Bond)
+      | lower.Hsr ↦ list_errors_name family.Hsr plain.hsr (λ xs. info.Hsr xs)
+          (opaque_names family.Hsr)
+      | lower.Can ↦ list_errors_name family.Can plain.can (λ xs. info.Can xs)
+          (opaque_names family.Can)
+      | lower.Dsa ↦ list_errors_name family.Dsa plain.dsa (λ xs. info.Dsa xs)
+          (opaque_names family.Dsa)
+    ] in
+    let device_ones : (f : DeviceFamily) →
+    ErrorsName (device_name f) (devices_data_of {P = g.row.P.Denot} f) = elim [
+      | device.IpVlan ↦ list_errors_name family.IpVlan plain.ip_vlan
+          (λ xs. info.IpVlan xs) ip_vlan_names
+      | device.IpVtap ↦ list_errors_name family.IpVtap plain.ip_vtap
+          (λ xs. info.IpVtap xs) ip_vtap_names
+      | device.MacVlan lists ↦ list_errors_name family.MacVlan (plain.mac_vlan lists)
+          (λ xs. info.MacVlan xs) (mac_vlan_names lists)
+      | device.MacVtap lists ↦ list_errors_name family.MacVtap (plain.mac_vtap lists)
+          (λ xs. info.MacVtap xs) (mac_vtap_names lists)
+      | device.Vrf ↦ list_errors_name family.Vrf plain.vrf (λ xs. info.Vrf xs) vrf_names
+      | device.Ipoib ↦ list_errors_name family.Ipoib plain.ipoib (λ xs. info.Ipoib xs) ipoib_names
+      | device.Xfrm ↦ list_errors_name family.Xfrm plain.xfrm (λ xs. info.Xfrm xs) xfrm_names
+      | device.MacSec ↦ list_errors_name family.MacSec plain.mac_sec
+          (λ xs. info.MacSec xs) mac_sec_names
+      | device.RmNet ↦ list_errors_name family.RmNet plain.rm_net (λ xs. info.RmNet xs) rm_net_names
+    ] in
+    let tunnel_ones : (f : TunnelFamily) →
+    ErrorsName (tunnel_name f) (tunnels_data_of {P = g.row.P.Denot} f) = elim [
+      | tunnel.Vxlan ↦ list_errors_name family.Vxlan plain.vxlan (λ xs. info.Vxlan xs) vxlan_names
+      | tunnel.GreTap ↦ list_errors_name family.Gre plain.gre (λ xs. info.GreTap xs) gre_names
+      | tunnel.GreTap6 ↦ list_errors_name family.Gre6 plain.gre6 (λ xs. info.GreTap6 xs) gre6_names
+      | tunnel.IpTunnel tag ↦ list_errors_name family.IpTunnel (plain.ip_tunnel tag)
+          (λ xs. info.IpTunnel xs) (ip_tunnel_names tag)
+      | tunnel.GreTun ↦ list_errors_name family.Gre plain.gre (λ xs. info.GreTun xs) gre_names
+      | tunnel.GreTun6 ↦ list_errors_name family.Gre6 plain.gre6 (λ xs. info.GreTun6 xs) gre6_names
+      | tunnel.Vti ↦ list_errors_name family.Vti plain.vti (λ xs. info.Vti xs) vti_names
+      | tunnel.Gtp ↦ list_errors_name family.Gtp plain.gtp (λ xs. info.Gtp xs) gtp_names
+      | tunnel.Geneve ↦ list_errors_name family.Geneve plain.geneve
+          (λ xs. info.Geneve xs) geneve_names
+      | tunnel.Amt ↦ list_errors_name family.Amt plain.amt (λ xs. info.Amt xs) amt_names
+      | tunnel.BareUdp ↦ list_errors_name family.BareUdp plain.bare_udp
+          (λ xs. info.BareUdp xs) bare_udp_names
+      | tunnel.ErSpan ↦ list_errors_name family.Gre plain.gre (λ xs. info.ErSpan xs) gre_names
+      | tunnel.Ip6ErSpan ↦ list_errors_name family.Gre6 plain.gre6
+          (λ xs. info.Ip6ErSpan xs) gre6_names
+    ] in
+    let peered_ones : (f : PeeredFamily) → ErrorsName (peered_name f) (peers_data_of families f) =
+    elim [
+      | peered.Tun ↦ list_errors_name family.Tun plain.tun (λ xs. info.Tun xs)
+          (opaque_names family.Tun)
+      | peered.Wireguard ↦ list_errors_name family.Wireguard plain.wireguard
+          (λ xs. info.Wireguard xs) (opaque_names family.Wireguard)
+      | peered.Pfcp ↦ list_errors_name family.Pfcp plain.pfcp (λ xs. info.Pfcp xs)
+          (opaque_names family.Pfcp)
+      | peered.BatAdv ↦ list_errors_name family.BatAdv plain.bat_adv
+          (λ xs. info.BatAdv xs) batadv_names
+      | peered.Wwan ↦ list_errors_name family.Wwan plain.wwan (λ xs. info.Wwan xs) wwan_names
+      | peered.Veth ↦ first_errors_name family.Veth families.veth (λ x. info.Veth x)
+          (veth_names g.row.P peer laws.alike_is laws.meaning_well laws.well_means laws.well_bytes)
+      | peered.Vxcan ↦ first_errors_name family.Vxcan families.vxcan (λ x. info.Vxcan x)
+          (vxcan_names g.row.P peer laws.alike_is laws.meaning_well laws.well_means laws.well_bytes)
+      | peered.Netkit ↦ list_errors_name family.Netkit families.netkit (λ xs. info.Netkit xs)
+          (netkit_names g.row.P peer laws.alike_is laws.meaning_well laws.well_means
+          laws.well_bytes)
+    ] in
+    let ports : (f : PortFamily) (name : Family) → port_data_name f ≡ Some name →
+    ErrorsName name (port_data_of f) = elim [
+      | port_of.Bond ↦ λ name e. under_name (port_data_of port_of.Bond) family.BondPort name e
+          (list_errors_name family.BondPort plain.bond_port (λ xs. port.BondPort xs)
+          (opaque_names family.BondPort))
+      | port_of.Bridge ↦ λ name e. under_name
+          (port_data_of port_of.Bridge) family.BridgePort name e
+          (list_errors_name family.BridgePort plain.bridge_port (λ xs. port.BridgePort xs)
+          (opaque_names family.BridgePort))
+      | port_of.Team ↦ λ name e. under_name (port_data_of port_of.Team) family.TeamPort name e
+          (list_errors_name family.TeamPort plain.team_port (λ xs. port.TeamPort xs)
+          (opaque_names family.TeamPort))
+      | port_of.Vrf ↦ λ name e. under_name (port_data_of port_of.Vrf) family.Vrf name e
+          (list_errors_name family.Vrf plain.vrf_port (λ xs. port.VrfPort xs) vrf_names)
+      | port_of.Raw ↦ λ name e. absurd (no_name name e)
+    ] in
+    record {
+      link = elim [
+        | of.Lower f ↦ λ name e. under_name (means (of.Lower f)) (lower_name f) name e
+            (lower_ones f)
+        | of.Device f ↦ λ name e. under_name (means (of.Device f)) (device_name f) name e
+            (device_ones f)
+        | of.Tunnel f ↦ λ name e. under_name (means (of.Tunnel f)) (tunnel_name f) name e
+            (tunnel_ones f)
+        | of.Peered f ↦ λ name e. under_name (means (of.Peered f)) (peered_name f) name e
+            (peered_ones f)
+        | of.Raw ↦ λ name e. absurd (no_name name e)
+      ];
+      port = ports;
+    }

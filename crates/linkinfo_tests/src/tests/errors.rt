@@ -1,0 +1,177 @@
+//! Byte strings that are rejected.
+
+use super::assertions::{HEADER_ERROR, assert_equal, assert_refused, bytes_of, link_error};
+use super::worked::{FIRST_ERROR, IP6TNL_SHORT_FLAGS, SECOND_PORT_DATA, VETH_EMPTY, XFRM};
+use linkinfo::{Cause, DecodeError, Family, VecLinkInfo, check, same};
+use std::alloc::Global;
+use std::process::Abort;
+
+/// Byte strings that are rejected at the level of the list: family, type and cause of the error.
+const REFUSED: &[(&str, Family, u16, Cause)] = &[
+    ("080001", Family::Frame, 0, Cause::Header),
+    ("03000100", Family::Frame, 0, Cause::Header),
+    ("09000100 7866726d", Family::Frame, 0, Cause::Header),
+    ("04000900 00", Family::Frame, 0, Cause::Header),
+    ("00000100", Family::Frame, 0, Cause::Header),
+    ("01000100", Family::Frame, 0, Cause::Header),
+    ("02000100", Family::Frame, 0, Cause::Header),
+    (VETH_EMPTY, Family::Frame, 0, Cause::Header),
+    // Data, statistics and port data without a kind before them.
+    ("08000200 00000000", Family::LinkInfo, 2, Cause::Order),
+    ("04000300", Family::LinkInfo, 3, Cause::Order),
+    ("04000500", Family::LinkInfo, 5, Cause::Order),
+    (SECOND_PORT_DATA, Family::LinkInfo, 5, Cause::Order),
+    ("04000280", Family::LinkInfo, 2, Cause::Order),
+    // Names that are not UTF-8.
+    ("06000100 c328", Family::LinkInfo, 1, Cause::Utf8),
+    ("06000400 c328", Family::LinkInfo, 4, Cause::Utf8),
+];
+
+#[test]
+fn returns_the_first_error(rt: HostRuntime) {
+    let alloc = rt.alloc();
+    let length = DecodeError {
+        family: Family::Vrf,
+        kind: 1,
+        cause: Cause::Length,
+    };
+    let bytes = bytes_of(&rt, alloc, FIRST_ERROR);
+    assert_refused(&rt, alloc, &bytes, length);
+
+    // Of two lists the error of the first, otherwise that of the second.
+    let order = [8, 0, 2, 0, 0, 0, 0, 0];
+    let header = [8, 0, 1];
+    let error = link_error(2, Cause::Order);
+    let accepted = bytes_of(&rt, alloc, XFRM);
+    assert_equal(&rt, &"order, header", &same(&order, &header), &Err(error));
+    assert_equal(
+        &rt,
+        &"header, order",
+        &same(&header, &order),
+        &Err(HEADER_ERROR),
+    );
+    assert_equal(&rt, &"none, order", &same(&accepted, &order), &Err(error));
+}
+
+#[test]
+fn accepted_prefixes_of_one_string(rt: HostRuntime) {
+    let alloc = rt.alloc();
+    let bytes = bytes_of(&rt, alloc, XFRM);
+    assert_equal(&rt, &XFRM, &bytes.len(), &32);
+    for end in 0..=bytes.len() {
+        let front = &bytes[..end];
+        if end == 0 || (9..=12).contains(&end) || end == 32 {
+            assert_equal(&rt, &end, &check(front), &Ok(()));
+            assert_equal(&rt, &end, &VecLinkInfo::parse(alloc, front).err(), &None);
+            assert_equal(&rt, &end, &same(front, front), &Ok(true));
+        } else {
+            assert_refused(&rt, alloc, front, HEADER_ERROR);
+        }
+    }
+}
+
+/// Links whose data is rejected: family, type and cause of the error.
+const REFUSED_DATA: &[(&str, Family, u16, Cause)] = &[
+    (IP6TNL_SHORT_FLAGS, Family::IpTunnel, 8, Cause::Length),
+    (
+        "09000100 69706970 00000000 0c000200 08000800 01000100",
+        Family::IpTunnel,
+        8,
+        Cause::Length,
+    ),
+    (
+        "0c000100 62617265 75647000 0c000200 05000300 07000000",
+        Family::BareUdp,
+        3,
+        Cause::Length,
+    ),
+    (
+        "0b000100 67656e65 76650000 18000200 14000200 00000000 00000000 00000000 00000000",
+        Family::Geneve,
+        2,
+        Cause::AddressKind,
+    ),
+    (
+        "0b000100 67656e65 76650000 0c000200 06000200 01020000",
+        Family::Geneve,
+        2,
+        Cause::Length,
+    ),
+    (
+        "0a000100 726d6e65 74000000 14000200 0d000200 01020304 05060708 09000000",
+        Family::RmNet,
+        2,
+        Cause::Length,
+    ),
+    (
+        "0a000100 76786c61 6e000000 0c000200 06001c00 00000000",
+        Family::Vxlan,
+        28,
+        Cause::Length,
+    ),
+    (
+        "08000100 616d7400 0c000200 06000500 01020000",
+        Family::Amt,
+        5,
+        Cause::Length,
+    ),
+    (
+        "0b000100 6e65746b 69740000 0c000200 08000800 05000000",
+        Family::Netkit,
+        8,
+        Cause::Length,
+    ),
+    (
+        "0c000100 6d616376 74617000 10000200 0c000500 05000400 01000000",
+        Family::MacVtap,
+        4,
+        Cause::Length,
+    ),
+    (
+        "0b000100 62617461 64760000 0a000200 06000100 c328",
+        Family::BatAdv,
+        1,
+        Cause::Utf8,
+    ),
+    (
+        "0c000100 6d616376 74617000 0c000200 08000500 05000400",
+        Family::Frame,
+        0,
+        Cause::Header,
+    ),
+    (
+        "09000100 7866726d 00000000 09000200 04000900 00",
+        Family::Frame,
+        0,
+        Cause::Header,
+    ),
+];
+
+/// Asserts that each call rejects the bytes of the text with the error of this family, type and
+/// cause.
+fn assert_text_refused(
+    rt: &impl Abort,
+    alloc: Global,
+    text: &str,
+    family: Family,
+    kind: u16,
+    cause: Cause,
+) {
+    let error = DecodeError {
+        family,
+        kind,
+        cause,
+    };
+    assert_refused(rt, alloc, &bytes_of(rt, alloc, text), error);
+}
+
+#[test]
+fn rejects_strings(rt: HostRuntime) {
+    let alloc = rt.alloc();
+    for (text, family, kind, cause) in REFUSED {
+        assert_text_refused(&rt, alloc, text, *family, *kind, *cause);
+    }
+    for (text, family, kind, cause) in REFUSED_DATA {
+        assert_text_refused(&rt, alloc, text, *family, *kind, *cause);
+    }
+}

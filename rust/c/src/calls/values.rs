@@ -1,0 +1,187 @@
+//! The attributes in data with their values, written into an array of the caller.
+
+use crate::calls::attributes::{AttributeRecord, datum_in, write_inside};
+use crate::calls::codes::shape_code;
+use crate::calls::items::LinkinfoListResult;
+use linkinfo::layers::link::{Datum, NlaBuffer, Shape};
+
+/// The values of `enum linkinfo_value_type`, from `LINKINFO_VALUE_NONE` on.
+const NONE: u32 = 0;
+
+const NUMBER: u32 = 1;
+
+const SIGNED: u32 = 2;
+
+const TRUTH: u32 = 3;
+
+const PRESENT: u32 = 4;
+
+const TEXT: u32 = 5;
+
+const IPV4: u32 = 6;
+
+const IPV6: u32 = 7;
+
+const MAC: u32 = 8;
+
+const PAIR: u32 = 9;
+
+const LIST: u32 = 10;
+
+const BYTES: u32 = 11;
+
+/// `struct linkinfo_value`: what a payload means. Every member that `value_type` does not name is 0
+/// or false.
+#[repr(C)]
+#[derive(Clone, Copy, Debug, PartialEq, Eq)]
+pub struct LinkinfoValue {
+    /// The value, if it is an unsigned number.
+    pub number: u64,
+    /// The value, if it is a signed number.
+    pub signed_number: i64,
+    /// The number of bytes of a text without the closing NUL, of an address, of a list or of a
+    /// peer.
+    pub len: usize,
+    /// The octets of an address in network byte order, followed by zeros.
+    pub octets: [u8; 16],
+    /// The first number of a pair, or the flags.
+    pub first: u32,
+    /// The second number of a pair, or the mask of the flags.
+    pub second: u32,
+    /// The type of the value, `enum linkinfo_value_type`: it names the members that have the value.
+    pub value_type: u32,
+    /// The truth value; true for an attribute whose presence is its value.
+    pub truth: bool,
+}
+
+/// `struct linkinfo_valued_attribute`: an attribute in data, and its value.
+#[repr(C)]
+#[derive(Clone, Copy, Debug, PartialEq, Eq)]
+pub struct LinkinfoValuedAttribute {
+    /// The offset of its header in the data, in bytes; its payload is four bytes after that.
+    pub place: usize,
+    /// The length of its payload, in bytes.
+    pub len: usize,
+    /// The value that its payload means.
+    pub value: LinkinfoValue,
+    /// Its whole 16-bit type, flag bits included.
+    pub raw_kind: u16,
+    /// The shape of its payload, `enum linkinfo_shape`; 0 if its type has none.
+    pub shape: u16,
+}
+
+const NO_VALUE: LinkinfoValue = LinkinfoValue {
+    number: 0,
+    signed_number: 0,
+    len: 0,
+    octets: [0; 16],
+    first: 0,
+    second: 0,
+    value_type: NONE,
+    truth: false,
+};
+
+/// The octets of an address, four, six or sixteen, followed by zeros.
+fn address_octets(octets: &[u8]) -> [u8; 16] {
+    let mut all = [0; 16];
+    all[..octets.len()].copy_from_slice(octets);
+    all
+}
+
+/// The record of an address of this type.
+fn address_record(value_type: u32, octets: &[u8]) -> LinkinfoValue {
+    LinkinfoValue {
+        value_type,
+        len: octets.len(),
+        octets: address_octets(octets),
+        ..NO_VALUE
+    }
+}
+
+/// The record of a datum.
+fn value_record(datum: Datum<'_>) -> LinkinfoValue {
+    match datum {
+        Datum::Number(number) => LinkinfoValue {
+            value_type: NUMBER,
+            number,
+            ..NO_VALUE
+        },
+        Datum::Signed(number) => LinkinfoValue {
+            value_type: SIGNED,
+            signed_number: i64::from(number),
+            ..NO_VALUE
+        },
+        Datum::Truth(truth) => LinkinfoValue {
+            value_type: TRUTH,
+            truth,
+            ..NO_VALUE
+        },
+        Datum::Empty => LinkinfoValue {
+            value_type: PRESENT,
+            truth: true,
+            ..NO_VALUE
+        },
+        Datum::Text(text) => LinkinfoValue {
+            value_type: TEXT,
+            len: text.len(),
+            ..NO_VALUE
+        },
+        Datum::V4(address) => address_record(IPV4, &address.octets()),
+        Datum::V6(address) => address_record(IPV6, &address.octets()),
+        Datum::Mac(octets) => address_record(MAC, &octets),
+        Datum::Pair(first, second) => LinkinfoValue {
+            value_type: PAIR,
+            first,
+            second,
+            ..NO_VALUE
+        },
+        Datum::Bytes(bytes) => LinkinfoValue {
+            value_type: BYTES,
+            len: bytes.len(),
+            ..NO_VALUE
+        },
+    }
+}
+
+/// The record of the value of a payload whose type has this shape or none.
+fn value_in(shape: Option<Shape>, payload: &[u8]) -> LinkinfoValue {
+    match shape {
+        Some(Shape::SelfList) => LinkinfoValue {
+            value_type: LIST,
+            len: payload.len(),
+            ..NO_VALUE
+        },
+        Some(Shape::Peer) => value_record(Datum::Bytes(payload)),
+        _ => match datum_in(shape, payload) {
+            Some(datum) => value_record(datum),
+            None => NO_VALUE,
+        },
+    }
+}
+
+impl AttributeRecord for LinkinfoValuedAttribute {
+    fn of_attribute(
+        place: usize,
+        shape: Option<Shape>,
+        nla: &NlaBuffer<'_>,
+    ) -> LinkinfoValuedAttribute {
+        LinkinfoValuedAttribute {
+            place,
+            len: nla.value().len(),
+            value: value_in(shape, nla.value()),
+            raw_kind: nla.raw_kind(),
+            shape: shape.map_or(0, shape_code),
+        }
+    }
+}
+
+/// Writes the attributes in data of a kind, or in port data of a port kind, each with its value,
+/// into the array: as many as it has room for. The attributes, their number and the error are those
+/// of `linkinfo_attributes`.
+pub fn linkinfo_values(
+    bytes: &[u8],
+    kind: u16,
+    attributes: &mut [LinkinfoValuedAttribute],
+) -> LinkinfoListResult {
+    write_inside(bytes, kind, attributes)
+}

@@ -1,0 +1,123 @@
+//! Where two lists of link info differ first.
+
+use crate::layers::data::{
+    DataFamily, Difference, InfoDataOf, InfoPortData, PayloadFamily, PortFamily, family_of,
+    list_difference, port_family_of,
+};
+use crate::layers::link::item::same_item;
+use crate::layers::link::list::check_of;
+use crate::layers::link::placed::ErrorIn;
+use crate::layers::link::role::{CurrentKinds, Role, kinds_after, role_of};
+use crate::layers::nla_frame::{Bytes, Family, HeaderCount, next_attribute};
+use crate::layers::table::{LinkPeer, PlacedNla};
+
+/// The first difference of two attributes with data of one family: in the data if that is a list,
+/// otherwise of the attributes as a whole.
+fn data_difference<D, F: PayloadFamily<D>>(
+    family: F,
+    p: &PlacedNla<'_>,
+    q: &PlacedNla<'_>,
+) -> Option<Difference> {
+    let (x, y) = (p.nla.value(), q.nla.value());
+    match family.listing() {
+        Some(name) => {
+            let inside = list_difference::<D, F>(family, name, x, y)?;
+            Some(inside.inside(p, q))
+        }
+        None if family.same(x, y, &mut HeaderCount::new()) => None,
+        None => Some(Difference::of_pair(Family::LinkInfo, p, q)),
+    }
+}
+
+/// The first difference of two attributes of one type, by the role of the first.
+fn role_difference<P: LinkPeer>(
+    role: Role,
+    p: &PlacedNla<'_>,
+    q: &PlacedNla<'_>,
+) -> Option<Difference> {
+    match role {
+        Role::Data(tag) => data_difference::<InfoDataOf<P>, DataFamily>(family_of(tag), p, q),
+        Role::PortData(tag) => {
+            data_difference::<InfoPortData, PortFamily>(port_family_of(tag), p, q)
+        }
+        _ if same_item::<P>(&p.nla, &q.nla, role, &mut HeaderCount::new()) => None,
+        _ => Some(Difference::of_pair(Family::LinkInfo, p, q)),
+    }
+}
+
+/// The first difference of two accepted lists.
+fn first_difference_in<P: LinkPeer>(a: &[u8], b: &[u8]) -> Option<Difference> {
+    let mut count = HeaderCount::new();
+    let mut kinds = CurrentKinds::none();
+    let mut x = a;
+    let mut y = b;
+    while let Some(Ok((nla, after_x))) = next_attribute(x, &mut count) {
+        let first = PlacedNla {
+            offset: a.len() - x.len(),
+            nla,
+        };
+        let Some(Ok((nla, after_y))) = next_attribute(y, &mut count) else {
+            return Some(Difference::of_first(Family::LinkInfo, &first));
+        };
+        let second = PlacedNla {
+            offset: b.len() - y.len(),
+            nla,
+        };
+        let kind = first.nla.kind();
+        if second.nla.kind() != kind {
+            return Some(Difference::of_pair(Family::LinkInfo, &first, &second));
+        }
+        let role = role_of(kinds, kind);
+        let difference = role_difference::<P>(role, &first, &second);
+        if difference.is_some() {
+            return difference;
+        }
+        kinds = kinds_after(role, kinds, &first.nla).unwrap();
+        x = after_x;
+        y = after_y;
+    }
+    let Some(Ok((nla, _))) = next_attribute(y, &mut count) else {
+        return None;
+    };
+    let second = PlacedNla {
+        offset: b.len() - y.len(),
+        nla,
+    };
+    Some(Difference::of_second(Family::LinkInfo, &second))
+}
+
+/// Returns the first pair of attributes in which two lists differ, with peers of type `P`, or
+/// `None` if and only if the lists are equivalent (`same_of`).
+///
+/// Attributes are compared in byte order. Data that is a list is compared attribute by attribute,
+/// and so are lists inside it. Data of veth and vxcan links, and data without a family, is compared
+/// as a whole. In the result, `family` is the family of the data that differs, or
+/// `Family::LinkInfo`. Offsets are in bytes from the beginning of each list, and `None` for a list
+/// that has ended.
+///
+/// The error is that of `a`, otherwise that of `b`. Each header is examined at most four times.
+/// Does not allocate.
+pub fn first_difference_of<P: LinkPeer>(a: &[u8], b: &[u8]) -> Result<Option<Difference>, ErrorIn> {
+    match check_of::<P>(a) {
+        Ok(()) => {}
+        Err(error) => return Err(ErrorIn::First(error)),
+    }
+    match check_of::<P>(b) {
+        Ok(()) => {}
+        Err(error) => return Err(ErrorIn::Second(error)),
+    }
+    Ok(first_difference_in::<P>(a, b))
+}
+
+/// Returns the first pair of attributes in which two lists differ, or `None` if and only if the
+/// lists are equivalent (`same`). Peers are kept as bytes; `first_difference_of` takes other types
+/// of peer.
+///
+/// ```text
+/// if let Some(difference) = first_difference(&before, &after)? {
+///     .. // an attribute of `difference.family` with the type `difference.kind`
+/// }
+/// ```
+pub fn first_difference(a: &[u8], b: &[u8]) -> Result<Option<Difference>, ErrorIn> {
+    first_difference_of::<Bytes>(a, b)
+}
