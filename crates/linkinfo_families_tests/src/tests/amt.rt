@@ -1,6 +1,6 @@
 //! Rows of AMT tunnels.
 
-use super::rows::{UNLISTED, has_rows, has_rows_of, is_refused, keeps_unlisted, unlisted};
+use super::rows::{UNLISTED, has_rows, has_rows_of, is_rejected, keeps_unlisted, unlisted};
 use linkinfo_numbers::AmtMode;
 use linkinfo_tunnels::InfoAmt;
 use nla_frame::Cause;
@@ -49,7 +49,7 @@ fn rows_of_amt(rt: HostRuntime) {
     ];
     has_rows_of(&rt, alloc, ADDRESSES, addresses);
     let short = [6, 0, 5, 0, 1, 2, 0, 0];
-    is_refused::<InfoAmt>(&rt, alloc, (), &short, Cause::Length);
+    is_rejected::<InfoAmt>(&rt, alloc, (), &short, Cause::Length);
     keeps_unlisted(
         &rt,
         alloc,

@@ -1,6 +1,6 @@
 //! Rows of bare UDP tunnels.
 
-use super::rows::{UNLISTED, has_marks, has_rows, is_list, is_refused, keeps_unlisted, unlisted};
+use super::rows::{UNLISTED, has_marks, has_rows, is_list, is_rejected, keeps_unlisted, unlisted};
 use linkinfo_numbers::EthernetProtocol;
 use linkinfo_tunnels::InfoBareUdp;
 use nla_frame::Cause;
@@ -24,7 +24,7 @@ fn rows_of_bare_udp(rt: HostRuntime) {
     has_rows(&rt, alloc, &ROWS);
     has_marks(&rt, alloc, &MARKS);
     let short = [5, 0, 3, 0, 7, 0, 0, 0];
-    is_refused::<InfoBareUdp>(&rt, alloc, (), &short, Cause::Length);
+    is_rejected::<InfoBareUdp>(&rt, alloc, (), &short, Cause::Length);
     let data = [6, 0, 1, 0, 0x19, 0xeb, 0, 0, 6, 0, 2, 0, 0x88, 0x47, 0, 0];
     let wanted = [
         InfoBareUdp::Port(6635),

@@ -1,7 +1,7 @@
 //! Rows of `batadv` links.
 
 use super::rows::{
-    UNLISTED, are_same, assert_is, has_shapes, is_list, is_parsed, is_read, is_refused, is_row,
+    UNLISTED, are_same, assert_is, has_shapes, is_list, is_parsed, is_read, is_rejected, is_row,
     keeps_unlisted, unlisted,
 };
 use linkinfo_peers::InfoBatAdv;
@@ -50,7 +50,7 @@ fn rows_of_batadv(rt: HostRuntime) {
     has_name(&rt, alloc, &NO_ZERO, "BATMAN_IV", &BATMAN_IV);
     has_name(&rt, alloc, &[4, 0, 1, 0], "", &[5, 0, 1, 0, 0, 0, 0, 0]);
     assert!(rt; !are_same::<InfoBatAdv>(&rt, (), &BATMAN_IV, &TWO_ZEROS));
-    is_refused::<InfoBatAdv>(&rt, alloc, (), &[6, 0, 1, 0, 0xc3, 0x28], Cause::Utf8);
+    is_rejected::<InfoBatAdv>(&rt, alloc, (), &[6, 0, 1, 0, 0xc3, 0x28], Cause::Utf8);
 }
 
 #[test]

@@ -1,7 +1,7 @@
 //! Rows of Geneve tunnels.
 
 use super::rows::{
-    UNLISTED, has_marks, has_rows, has_rows_of, is_refused, keeps_unlisted, unlisted,
+    UNLISTED, has_marks, has_rows, has_rows_of, is_rejected, keeps_unlisted, unlisted,
 };
 use linkinfo_numbers::GeneveDf;
 use linkinfo_tunnels::InfoGeneve;
@@ -77,6 +77,6 @@ fn addresses_of_the_other_version(rt: HostRuntime) {
     ] {
         attribute[0] = length;
         attribute[2] = kind;
-        is_refused::<InfoGeneve>(&rt, alloc, (), &attribute, cause);
+        is_rejected::<InfoGeneve>(&rt, alloc, (), &attribute, cause);
     }
 }

@@ -1,7 +1,7 @@
 //! Rows of IP tunnels, and their flags by the kind of the link.
 
 use super::rows::{
-    UNLISTED, attribute, error, has_one_length, is_kept, is_mark, is_refused, is_row, unlisted,
+    UNLISTED, attribute, error, has_one_length, is_kept, is_mark, is_rejected, is_row, unlisted,
 };
 use bitflags::Flags;
 use linkinfo_numbers::{
@@ -170,7 +170,7 @@ fn flags_by_kind(rt: HostRuntime) {
 fn refuses_flags(rt: &impl Abort, alloc: Global, kind: InfoKind, bytes: &[u8], cause: Cause) {
     let expected = error(Family::IpTunnel, 8, cause);
     assert_eq!(rt; parsed(rt, alloc, bytes, &kind).err(), Some(expected));
-    is_refused::<InfoIpTunnel>(rt, alloc, kind.tag(), bytes, cause);
+    is_rejected::<InfoIpTunnel>(rt, alloc, kind.tag(), bytes, cause);
 }
 
 #[test]

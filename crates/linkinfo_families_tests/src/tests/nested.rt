@@ -1,7 +1,7 @@
 //! Nested address lists.
 
 use super::rows::{
-    assert_is, attribute, compare_lists, error, is_emitted, is_not_parsed, is_parsed, is_refused,
+    assert_is, attribute, compare_lists, error, is_emitted, is_not_parsed, is_parsed, is_rejected,
     list_checked,
 };
 use linkinfo_devices::{InfoMacVlan, InfoMacVtap};
@@ -159,7 +159,7 @@ where
     );
     for lists in [128, 255] {
         assert!(rt; <F as LinkFamily>::shape(lists, 5) == Lookup::Refused(Cause::Depth));
-        is_refused::<F>(rt, alloc, lists, &bytes, Cause::Depth);
+        is_rejected::<F>(rt, alloc, lists, &bytes, Cause::Depth);
     }
     // Nested in 127 others it may be empty, and must not contain another.
     let deep = error(<F as LinkFamily>::FAMILY, 5, Cause::Depth);

@@ -2,7 +2,7 @@
 
 use super::rows::{
     UNLISTED, error, has_row_of, has_shapes, is_list, is_not_parsed, is_parsed, is_read,
-    is_refused, keeps_unlisted, unlisted,
+    is_rejected, keeps_unlisted, unlisted,
 };
 use linkinfo_numbers::{NetkitMode, NetkitPolicy, NetkitScrub};
 use linkinfo_peers::{BitPeer, InfoNetkit, InfoNetkitOf};
@@ -93,7 +93,7 @@ fn worked_netkit(rt: HostRuntime) {
     ];
     is_list(&rt, alloc, (), &list, values);
     let wide = [8, 0, 8, 0, 5, 0, 0, 0];
-    is_refused::<InfoNetkit>(&rt, alloc, (), &wide, Cause::Length);
+    is_rejected::<InfoNetkit>(&rt, alloc, (), &wide, Cause::Length);
     let expected = error(Family::Netkit, 8, Cause::Length);
     is_not_parsed::<InfoNetkit>(&rt, alloc, &wide, expected);
 }

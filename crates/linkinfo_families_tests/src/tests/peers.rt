@@ -3,7 +3,7 @@
 use super::rows::{
     UNLISTED, are_same, assert_is, compare, compare_lists, error, first_checked,
     first_is_written_as, has_shapes, is_emitted, is_list, is_not_parsed, is_parsed, is_read,
-    is_refused, keeps_unlisted, list_checked, list_is_written_as, same_with_flags, unlisted,
+    is_rejected, keeps_unlisted, list_checked, list_is_written_as, same_with_flags, unlisted,
 };
 use linkinfo_peers::{
     BitPeer, InfoNetkit, InfoNetkitOf, InfoVeth, InfoVethOf, InfoVxcan, InfoVxcanOf,
@@ -46,7 +46,7 @@ const LIST_OF_BYTES: &[u8] = &[4, 0, 1, 0, 6, 0, 1, 0, 0xaa, 0xbb, 0, 0];
 const LIST_OF_BITS: &[u8] = &[5, 0, 1, 0, 1, 0, 0, 0, 5, 0, 1, 0, 0, 0, 0, 0];
 
 /// The error of a rejected peer.
-fn refused(family: Family) -> DecodeError {
+fn rejected(family: Family) -> DecodeError {
     error(family, 1, Cause::Peer)
 }
 
@@ -132,10 +132,10 @@ where
     has_peer(rt, alloc, nine, set, ONE);
     has_peer(rt, alloc, zero, clear, ZERO);
     assert!(rt; !is_equal(set, clear));
-    is_not_parsed::<F>(rt, alloc, two, refused(<F as LinkFamily>::FAMILY));
+    is_not_parsed::<F>(rt, alloc, two, rejected(<F as LinkFamily>::FAMILY));
     // The peer, and not the family, rejects a payload of another length.
-    is_refused::<F>(rt, alloc, (), TWO, Cause::Peer);
-    is_refused::<F>(rt, alloc, (), EMPTY, Cause::Peer);
+    is_rejected::<F>(rt, alloc, (), TWO, Cause::Peer);
+    is_rejected::<F>(rt, alloc, (), EMPTY, Cause::Peer);
     refuses_two_bytes::<F>(rt);
     compares_bits::<F>(rt);
 }
@@ -182,7 +182,7 @@ where
 /// Asserts that a peer of `aa bb` is no bit, so lists and first attributes that begin with one are
 /// rejected.
 fn refuses_two_bytes<F: LinkFamily<Context = ()>>(rt: &impl Abort) {
-    let expected = refused(F::FAMILY);
+    let expected = rejected(F::FAMILY);
     assert_is(
         rt,
         "first_check, list_check",

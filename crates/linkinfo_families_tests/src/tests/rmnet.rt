@@ -1,6 +1,6 @@
 //! Rows of `rmnet` links.
 
-use super::rows::{UNLISTED, has_rows_of, is_list, is_refused, keeps_unlisted, unlisted};
+use super::rows::{UNLISTED, has_rows_of, is_list, is_rejected, keeps_unlisted, unlisted};
 use bitflags::Flags;
 use linkinfo_devices::InfoRmNet;
 use linkinfo_numbers::{InfoRmNetFlags, RmNetFlags};
@@ -35,7 +35,7 @@ fn rows_of_rmnet(rt: HostRuntime) {
     has_rows_of(&rt, alloc, ATTRIBUTES, values);
     is_list(&rt, alloc, (), ATTRIBUTES[2], [flags_under(1, 255)]);
     let longer = [13, 0, 2, 0, 1, 0, 0, 0, 255, 0, 0, 0, 0];
-    is_refused::<InfoRmNet>(&rt, alloc, (), &longer, Cause::Length);
+    is_rejected::<InfoRmNet>(&rt, alloc, (), &longer, Cause::Length);
     keeps_unlisted(
         &rt,
         alloc,

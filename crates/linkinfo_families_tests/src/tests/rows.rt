@@ -126,7 +126,7 @@ fn read_error<F: LinkFamily>(
 
 /// Asserts that the attribute is rejected with this cause, under the name of the family and its
 /// type, with no header examined inside.
-pub(super) fn is_refused<F: LinkFamily>(
+pub(super) fn is_rejected<F: LinkFamily>(
     rt: &impl Abort,
     alloc: Global,
     ctx: F::Context,
@@ -136,7 +136,7 @@ pub(super) fn is_refused<F: LinkFamily>(
     let expected = Some(error(F::FAMILY, attribute(rt, bytes).kind(), cause));
     assert_is(
         rt,
-        ("refused", bytes),
+        ("rejected", bytes),
         [
             checked::<F>(rt, ctx, bytes),
             read_error::<F>(rt, alloc, ctx, bytes),
@@ -290,9 +290,9 @@ pub(super) fn has_one_length<F: LinkFamily>(
     let length = attribute[0];
     assert!(rt; 5 <= length && length <= 24);
     attribute[0] = length - 1;
-    is_refused::<F>(rt, alloc, ctx, &attribute, Cause::Length);
+    is_rejected::<F>(rt, alloc, ctx, &attribute, Cause::Length);
     attribute[0] = length + 1;
-    is_refused::<F>(rt, alloc, ctx, &attribute, Cause::Length);
+    is_rejected::<F>(rt, alloc, ctx, &attribute, Cause::Length);
 }
 
 /// Asserts a presence flag: its canonical attribute is empty, and any payload is equivalent.

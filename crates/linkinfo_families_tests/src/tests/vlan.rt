@@ -1,6 +1,6 @@
 //! A custom family: lists of it read, checked, compared and written.
 
-use super::rows::{compare_lists, has_shapes, is_kept, is_list, is_refused, is_row, unlisted};
+use super::rows::{compare_lists, has_shapes, is_kept, is_list, is_rejected, is_row, unlisted};
 use crate::InfoVlanRow;
 use linkinfo_table::{Shape, laws};
 use nla_frame::Cause;
@@ -47,5 +47,5 @@ fn custom_family(rt: HostRuntime) {
         [InfoVlanRow::Id(7), InfoVlanRow::Protocol(0x8100)],
     );
     compare_lists::<InfoVlanRow>(&rt, (), PAIRS);
-    is_refused::<InfoVlanRow>(&rt, alloc, (), &[5, 0, 1, 0, 7], Cause::Length);
+    is_rejected::<InfoVlanRow>(&rt, alloc, (), &[5, 0, 1, 0, 7], Cause::Length);
 }

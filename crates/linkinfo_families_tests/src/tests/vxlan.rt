@@ -1,7 +1,7 @@
 //! Rows of VXLAN tunnels.
 
 use super::rows::{
-    UNLISTED, has_marks, has_rows, has_rows_of, is_parsed, is_refused, is_rewritten, is_row,
+    UNLISTED, has_marks, has_rows, has_rows_of, is_parsed, is_rejected, is_rewritten, is_row,
     keeps_unlisted, unlisted,
 };
 use linkinfo_numbers::VxlanDf;
@@ -113,7 +113,7 @@ fn worked_vxlan(rt: HostRuntime) {
     is_parsed_row(&rt, alloc, &zero, InfoVxlan::TtlInherit(0));
     is_parsed_row(&rt, alloc, &[4, 0, 28, 0], InfoVxlan::TtlInheritFlag);
     let long = [6, 0, 28, 0, 0, 0, 0, 0];
-    is_refused::<InfoVxlan>(&rt, alloc, (), &long, Cause::Length);
+    is_rejected::<InfoVxlan>(&rt, alloc, (), &long, Cause::Length);
     // Every nonzero byte is true, and is written as 1.
     let two = [5, 0, 7, 0, 2, 0, 0, 0];
     let learning = InfoVxlan::Learning(true);

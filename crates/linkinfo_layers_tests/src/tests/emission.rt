@@ -153,8 +153,8 @@ fn fits_up_to_65531_bytes(rt: HostRuntime) {
         [Some(65536), None],
     );
     assert_is(&rt, "longest", written(&rt, alloc, &longest).len(), 65536);
-    let refused = nlas_to_vec(alloc, &longer).err();
-    assert_is(&rt, "longer", refused, Some(ToVecError::Unfit));
+    let rejected = nlas_to_vec(alloc, &longer).err();
+    assert_is(&rt, "longer", rejected, Some(ToVecError::Unfit));
 }
 
 #[test]

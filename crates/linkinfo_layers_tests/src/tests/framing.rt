@@ -199,8 +199,8 @@ fn longest(rt: &impl Abort, alloc: Global, len: usize) -> Vec<u8> {
 #[test]
 fn frames_the_longest_value(rt: HostRuntime) {
     let cut = longest(&rt, rt.alloc(), 65534);
-    let refused = NlaBuffer::new_checked(&cut).err();
-    assert_is(&rt, "a byte less", refused, Some(HEADER_ERROR));
+    let rejected = NlaBuffer::new_checked(&cut).err();
+    assert_is(&rt, "a byte less", rejected, Some(HEADER_ERROR));
     let whole = longest(&rt, rt.alloc(), 65535);
     let nla = attribute(&rt, &whole);
     assert_is(

@@ -210,8 +210,8 @@ fn kinds_in_attributes(rt: HostRuntime) {
     }
     for (bytes, kind, cause) in KINDS_REFUSED {
         let read = InfoKind::parse(alloc, &attribute(&rt, bytes));
-        let refused = decode_error(Family::LinkInfo, *kind, *cause);
-        assert_is(&rt, bytes, read.err(), Some(refused));
+        let rejected = decode_error(Family::LinkInfo, *kind, *cause);
+        assert_is(&rt, bytes, read.err(), Some(rejected));
     }
 }
 
@@ -232,8 +232,8 @@ fn port_kinds_in_attributes(rt: HostRuntime) {
     let alloc = rt.alloc();
     for (bytes, kind, cause) in PORT_KINDS_REFUSED {
         let read = InfoPortKind::parse(alloc, &attribute(&rt, bytes));
-        let refused = decode_error(Family::LinkInfo, *kind, *cause);
-        assert_is(&rt, bytes, read.err(), Some(refused));
+        let rejected = decode_error(Family::LinkInfo, *kind, *cause);
+        assert_is(&rt, bytes, read.err(), Some(rejected));
     }
     for (bytes, text) in PORT_KINDS_READ {
         let kind = InfoPortKind::parse(alloc, &attribute(&rt, bytes)).expect(&rt, "a port kind");

@@ -256,8 +256,8 @@ fn reads_and_writes(rt: HostRuntime) {
         check_payload(&rt, *shape, payload, *datum, written);
     }
     for name in NO_TEXTS {
-        let refused = shape_check(Shape::Name, name);
-        assert_is(&rt, name, refused, Err(Cause::Utf8));
+        let rejected = shape_check(Shape::Name, name);
+        assert_is(&rt, name, rejected, Err(Cause::Utf8));
     }
 }
 

@@ -44,11 +44,11 @@ fn numbers_causes(rt: HostRuntime) {
 #[test]
 fn failed_allocation_is_an_error(rt: HostRuntime) {
     let memory = decode_error(Family::Frame, 0, Cause::Memory);
-    let refused = AllocFailed { value: 7u8 };
+    let failed = AllocFailed { value: 7u8 };
     assert_is(
         &rt,
         "DecodeError",
-        [DecodeError::from(AllocError), DecodeError::from(refused)],
+        [DecodeError::from(AllocError), DecodeError::from(failed)],
         [memory, memory],
     );
     let error = ToVecError::from(AllocError);

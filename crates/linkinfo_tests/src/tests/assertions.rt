@@ -165,11 +165,11 @@ pub fn assert_not_written(
     alloc: Global,
     bytes: &[u8],
     room: usize,
-    refused: CanonIntoError,
+    rejected: CanonIntoError,
 ) {
     let mut buffer = repeated(rt, alloc, 255, room);
     let case = (bytes, room);
-    assert_equal(rt, &case, &canon_into(bytes, &mut buffer), &Err(refused));
+    assert_equal(rt, &case, &canon_into(bytes, &mut buffer), &Err(rejected));
     assert_equal(rt, &case, &buffer, &repeated(rt, alloc, 255, room));
 }
 

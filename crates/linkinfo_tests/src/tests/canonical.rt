@@ -6,17 +6,17 @@ use linkinfo::{CanonError, CanonIntoError, Cause};
 #[test]
 fn texts_of_canon_errors(rt: HostRuntime) {
     let alloc = rt.alloc();
-    let refused = CanonError::Refused(link_error(2, Cause::Order));
-    let text = format!(in alloc; "{refused}, {}", CanonError::Unfit).expect(&rt, "memory");
+    let rejected = CanonError::Refused(link_error(2, Cause::Order));
+    let text = format!(in alloc; "{rejected}, {}", CanonError::Unfit).expect(&rt, "memory");
     assert_equal(&rt, &"as text", &text.as_str(), &"linkinfo 2 order, unfit");
 }
 
 #[test]
 fn texts_of_canon_into_errors(rt: HostRuntime) {
     let alloc = rt.alloc();
-    let refused = CanonIntoError::from(CanonError::Refused(link_error(2, Cause::Order)));
+    let rejected = CanonIntoError::from(CanonError::Refused(link_error(2, Cause::Order)));
     let unfit = CanonIntoError::from(CanonError::Unfit);
-    let text = format!(in alloc; "{refused}, {unfit}, {}", CanonIntoError::Short(12)).expect(
+    let text = format!(in alloc; "{rejected}, {unfit}, {}", CanonIntoError::Short(12)).expect(
         &rt, "memory",
     );
     let wanted = "linkinfo 2 order, unfit, short 12";

@@ -97,7 +97,7 @@ fn errors_have_offsets(rt: HostRuntime) {
 fn errors_of_bits_have_offsets(rt: HostRuntime) {
     let alloc = rt.alloc();
     let two = "09000100 76657468 00000000 0a000200 06000100 aabb";
-    let refused = ErrorAt {
+    let rejected = ErrorAt {
         error: DecodeError {
             family: Family::Veth,
             kind: 1,
@@ -107,13 +107,13 @@ fn errors_of_bits_have_offsets(rt: HostRuntime) {
         inner: 16,
     };
     let bytes = bytes_of(&rt, alloc, two);
-    assert_equal(&rt, &two, &check_at_of::<BitPeer>(&bytes), &Err(refused));
+    assert_equal(&rt, &two, &check_at_of::<BitPeer>(&bytes), &Err(rejected));
     assert_equal(&rt, &two, &check_at(&bytes), &Ok(()));
     let elsewhere = ErrorAt {
         place: 0,
-        ..refused
+        ..rejected
     };
-    assert_holds(&rt, &two, !is_equal(&refused, &elsewhere));
+    assert_holds(&rt, &two, !is_equal(&rejected, &elsewhere));
 }
 
 /// Asserts the result of comparing the byte strings, whether peers are bytes or bits.
@@ -127,16 +127,16 @@ fn assert_compared(rt: &impl Abort, a: &[u8], b: &[u8], answer: Result<bool, Err
 fn errors_of_two_strings(rt: HostRuntime) {
     let alloc = rt.alloc();
     let accepted = bytes_of(&rt, alloc, XFRM);
-    let refused = bytes_of(&rt, alloc, SECOND_PORT_DATA);
+    let rejected = bytes_of(&rt, alloc, SECOND_PORT_DATA);
     let order = link_error(5, Cause::Order);
     let short = bytes_of(&rt, alloc, "09000100 78");
     let kind = bytes_of(&rt, alloc, "09000100 7866726d 00000000");
     assert_compared(&rt, &accepted, &accepted, Ok(true));
     assert_compared(&rt, &accepted, &kind, Ok(false));
-    assert_compared(&rt, &accepted, &refused, Err(ErrorIn::Second(order)));
-    assert_compared(&rt, &refused, &accepted, Err(ErrorIn::First(order)));
-    assert_compared(&rt, &short, &refused, Err(ErrorIn::First(HEADER_ERROR)));
-    assert_compared(&rt, &refused, &refused, Err(ErrorIn::First(order)));
+    assert_compared(&rt, &accepted, &rejected, Err(ErrorIn::Second(order)));
+    assert_compared(&rt, &rejected, &accepted, Err(ErrorIn::First(order)));
+    assert_compared(&rt, &short, &rejected, Err(ErrorIn::First(HEADER_ERROR)));
+    assert_compared(&rt, &rejected, &rejected, Err(ErrorIn::First(order)));
     let (first, second) = (ErrorIn::First(order), ErrorIn::Second(order));
     assert_equal(&rt, &"the first", &first.error(), &order);
     let header = ErrorIn::Second(HEADER_ERROR);

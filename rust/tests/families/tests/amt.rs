@@ -1,6 +1,6 @@
 //! Rows of AMT tunnels.
 
-use super::rows::{UNLISTED, has_rows, has_rows_of, is_refused, keeps_unlisted, unlisted};
+use super::rows::{UNLISTED, has_rows, has_rows_of, is_rejected, keeps_unlisted, unlisted};
 use linkinfo::layers::nla_frame::Cause;
 use linkinfo::layers::numbers::AmtMode;
 use linkinfo::layers::tunnels::InfoAmt;
@@ -48,6 +48,6 @@ fn rows_of_amt() {
     ];
     has_rows_of(ADDRESSES, addresses);
     let short = [6, 0, 5, 0, 1, 2, 0, 0];
-    is_refused::<InfoAmt>((), &short, Cause::Length);
+    is_rejected::<InfoAmt>((), &short, Cause::Length);
     keeps_unlisted((), &UNLISTED, InfoAmt::Other(unlisted()));
 }

@@ -1,6 +1,6 @@
 //! Rows of bare UDP tunnels.
 
-use super::rows::{UNLISTED, has_marks, has_rows, is_list, is_refused, keeps_unlisted, unlisted};
+use super::rows::{UNLISTED, has_marks, has_rows, is_list, is_rejected, keeps_unlisted, unlisted};
 use linkinfo::layers::nla_frame::Cause;
 use linkinfo::layers::numbers::EthernetProtocol;
 use linkinfo::layers::tunnels::InfoBareUdp;
@@ -23,7 +23,7 @@ fn rows_of_bare_udp() {
     has_rows(&ROWS);
     has_marks(&MARKS);
     let short = [5, 0, 3, 0, 7, 0, 0, 0];
-    is_refused::<InfoBareUdp>((), &short, Cause::Length);
+    is_rejected::<InfoBareUdp>((), &short, Cause::Length);
     let data = [6, 0, 1, 0, 0x19, 0xeb, 0, 0, 6, 0, 2, 0, 0x88, 0x47, 0, 0];
     let wanted = [
         InfoBareUdp::Port(6635),

@@ -1,7 +1,7 @@
 //! Rows of `batadv` links.
 
 use super::rows::{
-    UNLISTED, are_same, assert_is, has_shapes, is_list, is_parsed, is_read, is_refused, is_row,
+    UNLISTED, are_same, assert_is, has_shapes, is_list, is_parsed, is_read, is_rejected, is_row,
     keeps_unlisted, unlisted,
 };
 use crate::support::*;
@@ -47,7 +47,7 @@ fn rows_of_batadv() {
     has_name(&NO_ZERO, "BATMAN_IV", &BATMAN_IV);
     has_name(&[4, 0, 1, 0], "", &[5, 0, 1, 0, 0, 0, 0, 0]);
     assert!(!are_same::<InfoBatAdv>((), &BATMAN_IV, &TWO_ZEROS));
-    is_refused::<InfoBatAdv>((), &[6, 0, 1, 0, 0xc3, 0x28], Cause::Utf8);
+    is_rejected::<InfoBatAdv>((), &[6, 0, 1, 0, 0xc3, 0x28], Cause::Utf8);
 }
 
 #[test]

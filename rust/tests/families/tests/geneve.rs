@@ -1,7 +1,7 @@
 //! Rows of Geneve tunnels.
 
 use super::rows::{
-    UNLISTED, has_marks, has_rows, has_rows_of, is_refused, keeps_unlisted, unlisted,
+    UNLISTED, has_marks, has_rows, has_rows_of, is_rejected, keeps_unlisted, unlisted,
 };
 use linkinfo::layers::nla_frame::Cause;
 use linkinfo::layers::numbers::GeneveDf;
@@ -69,6 +69,6 @@ fn addresses_of_the_other_version() {
     ] {
         attribute[0] = length;
         attribute[2] = kind;
-        is_refused::<InfoGeneve>((), &attribute, cause);
+        is_rejected::<InfoGeneve>((), &attribute, cause);
     }
 }

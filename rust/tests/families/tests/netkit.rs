@@ -2,7 +2,7 @@
 
 use super::rows::{
     UNLISTED, error, has_row_of, has_shapes, is_list, is_not_parsed, is_parsed, is_read,
-    is_refused, keeps_unlisted, unlisted,
+    is_rejected, keeps_unlisted, unlisted,
 };
 use linkinfo::layers::nla_frame::{Bytes, Cause, Family};
 use linkinfo::layers::numbers::{NetkitMode, NetkitPolicy, NetkitScrub};
@@ -90,7 +90,7 @@ fn worked_netkit() {
     ];
     is_list((), &list, values);
     let wide = [8, 0, 8, 0, 5, 0, 0, 0];
-    is_refused::<InfoNetkit>((), &wide, Cause::Length);
+    is_rejected::<InfoNetkit>((), &wide, Cause::Length);
     let expected = error(Family::Netkit, 8, Cause::Length);
     is_not_parsed::<InfoNetkit>(&wide, expected);
 }

@@ -3,7 +3,7 @@
 use super::rows::{
     UNLISTED, are_same, assert_is, compare, compare_lists, error, first_checked,
     first_is_written_as, has_shapes, is_emitted, is_list, is_not_parsed, is_parsed, is_read,
-    is_refused, keeps_unlisted, list_checked, list_is_written_as, same_with_flags, unlisted,
+    is_rejected, keeps_unlisted, list_checked, list_is_written_as, same_with_flags, unlisted,
 };
 use crate::support::*;
 use linkinfo::layers::nla_frame::{
@@ -45,7 +45,7 @@ const LIST_OF_BYTES: &[u8] = &[4, 0, 1, 0, 6, 0, 1, 0, 0xaa, 0xbb, 0, 0];
 const LIST_OF_BITS: &[u8] = &[5, 0, 1, 0, 1, 0, 0, 0, 5, 0, 1, 0, 0, 0, 0, 0];
 
 /// The error of a rejected peer.
-fn refused(family: Family) -> DecodeError {
+fn rejected(family: Family) -> DecodeError {
     error(family, 1, Cause::Peer)
 }
 
@@ -121,10 +121,10 @@ fn has_peers_of_bits<'a, F>(
     has_peer(nine, set, ONE);
     has_peer(zero, clear, ZERO);
     assert!(!is_equal(set, clear));
-    is_not_parsed::<F>(two, refused(<F as LinkFamily>::FAMILY));
+    is_not_parsed::<F>(two, rejected(<F as LinkFamily>::FAMILY));
     // The peer, and not the family, rejects a payload of another length.
-    is_refused::<F>((), TWO, Cause::Peer);
-    is_refused::<F>((), EMPTY, Cause::Peer);
+    is_rejected::<F>((), TWO, Cause::Peer);
+    is_rejected::<F>((), EMPTY, Cause::Peer);
     refuses_two_bytes::<F>();
     compares_bits::<F>();
 }
@@ -170,7 +170,7 @@ where
 /// Asserts that a peer of `aa bb` is no bit, so lists and first attributes that begin with one are
 /// rejected.
 fn refuses_two_bytes<F: LinkFamily<Context = ()>>() {
-    let expected = refused(F::FAMILY);
+    let expected = rejected(F::FAMILY);
     assert_is(
         "first_check, list_check",
         [first_checked::<F>((), TAIL), list_checked::<F>((), TAIL)],

@@ -1,6 +1,6 @@
 //! Rows of `rmnet` links.
 
-use super::rows::{UNLISTED, has_rows_of, is_list, is_refused, keeps_unlisted, unlisted};
+use super::rows::{UNLISTED, has_rows_of, is_list, is_rejected, keeps_unlisted, unlisted};
 use bitflags::Flags;
 use linkinfo::layers::devices::InfoRmNet;
 use linkinfo::layers::nla_frame::Cause;
@@ -34,6 +34,6 @@ fn rows_of_rmnet() {
     has_rows_of(ATTRIBUTES, values);
     is_list((), ATTRIBUTES[2], [flags_under(1, 255)]);
     let longer = [13, 0, 2, 0, 1, 0, 0, 0, 255, 0, 0, 0, 0];
-    is_refused::<InfoRmNet>((), &longer, Cause::Length);
+    is_rejected::<InfoRmNet>((), &longer, Cause::Length);
     keeps_unlisted((), &UNLISTED, InfoRmNet::Other(unlisted()));
 }

@@ -90,10 +90,10 @@ fn read_error<F: LinkFamily>(ctx: F::Context, bytes: &[u8]) -> (Option<DecodeErr
 
 /// Asserts that the attribute is rejected with this cause, under the name of the family and its
 /// type, with no header examined inside.
-pub(super) fn is_refused<F: LinkFamily>(ctx: F::Context, bytes: &[u8], cause: Cause) {
+pub(super) fn is_rejected<F: LinkFamily>(ctx: F::Context, bytes: &[u8], cause: Cause) {
     let expected = Some(error(F::FAMILY, attribute(bytes).kind(), cause));
     assert_is(
-        ("refused", bytes),
+        ("rejected", bytes),
         [checked::<F>(ctx, bytes), read_error::<F>(ctx, bytes)],
         [(expected, 0); 2],
     );
@@ -205,9 +205,9 @@ pub(super) fn has_one_length<F: LinkFamily>(ctx: F::Context, bytes: &[u8]) {
     let length = attribute[0];
     assert!(5 <= length && length <= 24);
     attribute[0] = length - 1;
-    is_refused::<F>(ctx, &attribute, Cause::Length);
+    is_rejected::<F>(ctx, &attribute, Cause::Length);
     attribute[0] = length + 1;
-    is_refused::<F>(ctx, &attribute, Cause::Length);
+    is_rejected::<F>(ctx, &attribute, Cause::Length);
 }
 
 /// Asserts a presence flag: its canonical attribute is empty, and any payload is equivalent.

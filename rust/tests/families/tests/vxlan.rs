@@ -1,7 +1,7 @@
 //! Rows of VXLAN tunnels.
 
 use super::rows::{
-    UNLISTED, has_marks, has_rows, has_rows_of, is_parsed, is_refused, is_rewritten, is_row,
+    UNLISTED, has_marks, has_rows, has_rows_of, is_parsed, is_rejected, is_rewritten, is_row,
     keeps_unlisted, unlisted,
 };
 use linkinfo::layers::nla_frame::Cause;
@@ -103,7 +103,7 @@ fn worked_vxlan() {
     is_parsed_row(&zero, InfoVxlan::TtlInherit(0));
     is_parsed_row(&[4, 0, 28, 0], InfoVxlan::TtlInheritFlag);
     let long = [6, 0, 28, 0, 0, 0, 0, 0];
-    is_refused::<InfoVxlan>((), &long, Cause::Length);
+    is_rejected::<InfoVxlan>((), &long, Cause::Length);
     // Every nonzero byte is true, and is written as 1.
     let two = [5, 0, 7, 0, 2, 0, 0, 0];
     let learning = InfoVxlan::Learning(true);

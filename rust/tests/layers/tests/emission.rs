@@ -134,8 +134,8 @@ fn fits_up_to_65531_bytes() {
         [Some(65536), None],
     );
     assert_is("longest", written(&longest).len(), 65536);
-    let refused = nlas_to_vec(&longer).err();
-    assert_is("longer", refused, Some(ToVecError::Unfit));
+    let rejected = nlas_to_vec(&longer).err();
+    assert_is("longer", rejected, Some(ToVecError::Unfit));
 }
 
 #[test]

@@ -192,8 +192,8 @@ fn longest(len: usize) -> Vec<u8> {
 #[test]
 fn frames_the_longest_value() {
     let cut = longest(65534);
-    let refused = NlaBuffer::new_checked(&cut).err();
-    assert_is("a byte less", refused, Some(HEADER_ERROR));
+    let rejected = NlaBuffer::new_checked(&cut).err();
+    assert_is("a byte less", rejected, Some(HEADER_ERROR));
     let whole = longest(65535);
     let nla = attribute(&whole);
     assert_is("all", (nla.length(), nla.value().len()), (65535, 65531));

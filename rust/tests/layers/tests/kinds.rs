@@ -194,8 +194,8 @@ fn kinds_in_attributes() {
     }
     for (bytes, kind, cause) in KINDS_REFUSED {
         let read = InfoKind::parse(&attribute(bytes));
-        let refused = decode_error(Family::LinkInfo, *kind, *cause);
-        assert_is(bytes, read.err(), Some(refused));
+        let rejected = decode_error(Family::LinkInfo, *kind, *cause);
+        assert_is(bytes, read.err(), Some(rejected));
     }
 }
 
@@ -215,8 +215,8 @@ const PORT_KINDS_REFUSED: &[(&[u8], u16, Cause)] = &[
 fn port_kinds_in_attributes() {
     for (bytes, kind, cause) in PORT_KINDS_REFUSED {
         let read = InfoPortKind::parse(&attribute(bytes));
-        let refused = decode_error(Family::LinkInfo, *kind, *cause);
-        assert_is(bytes, read.err(), Some(refused));
+        let rejected = decode_error(Family::LinkInfo, *kind, *cause);
+        assert_is(bytes, read.err(), Some(rejected));
     }
     for (bytes, text) in PORT_KINDS_READ {
         let kind = InfoPortKind::parse(&attribute(bytes)).expect("a port kind");

@@ -253,8 +253,8 @@ fn reads_and_writes() {
         check_payload(*shape, payload, *datum, written);
     }
     for name in NO_TEXTS {
-        let refused = shape_check(Shape::Name, name);
-        assert_is(name, refused, Err(Cause::Utf8));
+        let rejected = shape_check(Shape::Name, name);
+        assert_is(name, rejected, Err(Cause::Utf8));
     }
 }
 

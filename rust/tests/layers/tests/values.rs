@@ -45,10 +45,10 @@ fn numbers_causes() {
 #[test]
 fn failed_allocation_is_an_error() {
     let memory = decode_error(Family::Frame, 0, Cause::Memory);
-    let refused = AllocFailed { value: 7u8 };
+    let failed = AllocFailed { value: 7u8 };
     assert_is(
         "DecodeError",
-        [DecodeError::from(AllocError), DecodeError::from(refused)],
+        [DecodeError::from(AllocError), DecodeError::from(failed)],
         [memory, memory],
     );
     let error = ToVecError::from(AllocError);

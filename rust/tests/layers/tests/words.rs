@@ -29,8 +29,8 @@ where
         assert_is(text, T::from_str(text), Ok(*value));
     }
     for text in NO_WORDS {
-        let refused = Err(decode_error(family, 0, Cause::Word));
-        assert_is(text, T::from_str(text), refused);
+        let rejected = Err(decode_error(family, 0, Cause::Word));
+        assert_is(text, T::from_str(text), rejected);
     }
 }
 
@@ -80,8 +80,8 @@ fn words() {
     check_words(Family::Netkit, NETKIT_MODE_WORDS);
     check_words(Family::Netkit, NETKIT_POLICY_WORDS);
     check_words(Family::Netkit, NETKIT_SCRUB_WORDS);
-    let refused = Err(decode_error(Family::Netkit, 0, Cause::Word));
-    assert_is("l3s", NetkitMode::from_str("l3s"), refused);
+    let rejected = Err(decode_error(Family::Netkit, 0, Cause::Word));
+    assert_is("l3s", NetkitMode::from_str("l3s"), rejected);
 }
 
 // Values and their texts, of types that are not parsed, and `Other` values.

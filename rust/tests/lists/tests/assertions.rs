@@ -137,10 +137,10 @@ pub fn assert_read_as<const N: usize>(bytes: &[u8], items: [LinkInfo; N]) {
 
 /// Asserts that the canonical encoding of the bytes is not written into a buffer of this many
 /// bytes, which is unchanged.
-pub fn assert_not_written(bytes: &[u8], room: usize, refused: CanonIntoError) {
+pub fn assert_not_written(bytes: &[u8], room: usize, rejected: CanonIntoError) {
     let mut buffer = repeated(255, room);
     let case = (bytes, room);
-    assert_equal(&case, &canon_into(bytes, &mut buffer), &Err(refused));
+    assert_equal(&case, &canon_into(bytes, &mut buffer), &Err(rejected));
     assert_equal(&case, &buffer, &repeated(255, room));
 }
 

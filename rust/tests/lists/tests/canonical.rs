@@ -5,16 +5,16 @@ use linkinfo::layers::link::{CanonError, CanonIntoError, Cause};
 
 #[test]
 fn texts_of_canon_errors() {
-    let refused = CanonError::Refused(link_error(2, Cause::Order));
-    let text = try_format!("{refused}, {}", CanonError::Unfit).expect("memory");
+    let rejected = CanonError::Refused(link_error(2, Cause::Order));
+    let text = try_format!("{rejected}, {}", CanonError::Unfit).expect("memory");
     assert_equal(&"as text", &text.as_str(), &"linkinfo 2 order, unfit");
 }
 
 #[test]
 fn texts_of_canon_into_errors() {
-    let refused = CanonIntoError::from(CanonError::Refused(link_error(2, Cause::Order)));
+    let rejected = CanonIntoError::from(CanonError::Refused(link_error(2, Cause::Order)));
     let unfit = CanonIntoError::from(CanonError::Unfit);
-    let text = try_format!("{refused}, {unfit}, {}", CanonIntoError::Short(12)).expect("memory");
+    let text = try_format!("{rejected}, {unfit}, {}", CanonIntoError::Short(12)).expect("memory");
     let wanted = "linkinfo 2 order, unfit, short 12";
     assert_equal(&"as text", &text.as_str(), &wanted);
 }

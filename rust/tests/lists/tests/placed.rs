@@ -94,7 +94,7 @@ fn errors_have_offsets() {
 #[test]
 fn errors_of_bits_have_offsets() {
     let two = "09000100 76657468 00000000 0a000200 06000100 aabb";
-    let refused = ErrorAt {
+    let rejected = ErrorAt {
         error: DecodeError {
             family: Family::Veth,
             kind: 1,
@@ -104,13 +104,13 @@ fn errors_of_bits_have_offsets() {
         inner: 16,
     };
     let bytes = bytes_of(two);
-    assert_equal(&two, &check_at_of::<BitPeer>(&bytes), &Err(refused));
+    assert_equal(&two, &check_at_of::<BitPeer>(&bytes), &Err(rejected));
     assert_equal(&two, &check_at(&bytes), &Ok(()));
     let elsewhere = ErrorAt {
         place: 0,
-        ..refused
+        ..rejected
     };
-    assert_holds(&two, !is_equal(&refused, &elsewhere));
+    assert_holds(&two, !is_equal(&rejected, &elsewhere));
 }
 
 /// Asserts the result of comparing the byte strings, whether peers are bytes or bits.
@@ -123,16 +123,16 @@ fn assert_compared(a: &[u8], b: &[u8], answer: Result<bool, ErrorIn>) {
 #[test]
 fn errors_of_two_strings() {
     let accepted = bytes_of(XFRM);
-    let refused = bytes_of(SECOND_PORT_DATA);
+    let rejected = bytes_of(SECOND_PORT_DATA);
     let order = link_error(5, Cause::Order);
     let short = bytes_of("09000100 78");
     let kind = bytes_of("09000100 7866726d 00000000");
     assert_compared(&accepted, &accepted, Ok(true));
     assert_compared(&accepted, &kind, Ok(false));
-    assert_compared(&accepted, &refused, Err(ErrorIn::Second(order)));
-    assert_compared(&refused, &accepted, Err(ErrorIn::First(order)));
-    assert_compared(&short, &refused, Err(ErrorIn::First(HEADER_ERROR)));
-    assert_compared(&refused, &refused, Err(ErrorIn::First(order)));
+    assert_compared(&accepted, &rejected, Err(ErrorIn::Second(order)));
+    assert_compared(&rejected, &accepted, Err(ErrorIn::First(order)));
+    assert_compared(&short, &rejected, Err(ErrorIn::First(HEADER_ERROR)));
+    assert_compared(&rejected, &rejected, Err(ErrorIn::First(order)));
     let (first, second) = (ErrorIn::First(order), ErrorIn::Second(order));
     assert_equal(&"the first", &first.error(), &order);
     let header = ErrorIn::Second(HEADER_ERROR);
