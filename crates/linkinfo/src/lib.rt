@@ -26,6 +26,7 @@ pub use canonicalize::{CanonIntoError, canon_into, canon_into_of};
 pub use difference::{first_difference, first_difference_of};
 pub use link_info::{LinkInfo, LinkInfoOf};
 pub use linkinfo_data::{InfoData, InfoDataOf, InfoPortData};
+pub use linkinfo_names::{Explanation, attribute_name};
 pub use linkinfo_numbers::{
     IFLA_INFO_DATA, IFLA_INFO_KIND, IFLA_INFO_SLAVE_DATA, IFLA_INFO_SLAVE_KIND, IFLA_INFO_XSTATS,
     InfoKind, InfoPortKind, KindTag, PortTag, port_tag_of_name, tag_of_name,

@@ -13,8 +13,11 @@ use linkinfo_data::{
     DataFamilies, DataFamily, InfoDataOf, InfoPortData, PayloadFamily, PortFamily, family_of,
     list_error, port_family_of,
 };
+use linkinfo_names::Explanation;
 use linkinfo_table::LinkPeer;
 use nla_frame::{Bytes, DecodeError, ExactEq, HeaderCount, NlaBuffer};
+use std::error::Error;
+use std::fmt;
 
 /// The first error of a list, with its offsets.
 #[derive(Clone, Copy, Debug, PartialEq, Eq)]
@@ -30,6 +33,25 @@ pub struct ErrorAt {
     /// `place`.
     pub inner: usize,
 }
+
+/// Writes the error as a sentence for people, with the kernel's name of the attribute and the
+/// offset `inner`: `IFLA_INFO_DATA is before IFLA_INFO_KIND, at offset 0`.
+impl fmt::Display for ErrorAt {
+    ghost use Rattle.std.specs.Prelude.{Some};
+    ghost use Rattle.linkinfo_names.specs.Explanation.{explanation};
+
+    ghost output = { λ it. Some (explanation it.error it.inner) };
+
+    fn fmt<W: fmt::Write>(&self, f: &mut fmt::Formatter<W>) -> fmt::Result {
+        let explanation = Explanation {
+            error: self.error,
+            offset: self.inner,
+        };
+        write!(f, "{explanation}")
+    }
+}
+
+impl Error for ErrorAt {}
 
 impl ExactEq for ErrorAt {
     ghost use Rattle.std.specs.Prelude.{refl};
