@@ -2,7 +2,7 @@
 
 use crate::layers::nla_frame::NlasIterator;
 use crate::{
-    Bytes, DecodeError, ErrorAt, ErrorIn, LinkInfoOf, LinkInfoWalk, LinkPeer, Nlas, Text,
+    Bytes, DecodeError, ErrorIn, LinkInfoOf, LinkInfoWalk, LinkPeer, Nlas, Text,
     ToVecError, VecLinkInfoOf,
 };
 use alloc::string::String;
@@ -38,15 +38,6 @@ impl fmt::Display for ErrorIn {
 }
 
 impl Error for ErrorIn {}
-
-/// Displays the error without its offsets.
-impl fmt::Display for ErrorAt {
-    fn fmt(&self, f: &mut fmt::Formatter<'_>) -> fmt::Result {
-        self.error.fmt(f)
-    }
-}
-
-impl Error for ErrorAt {}
 
 /// The list of the items. It aborts where memory runs out, as `Vec` does.
 impl<P> FromIterator<LinkInfoOf<P>> for VecLinkInfoOf<P> {

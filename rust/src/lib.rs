@@ -67,6 +67,7 @@ pub use layers::link::{
 pub use layers::lower::{
     InfoBond, InfoBondPort, InfoBridge, InfoBridgePort, InfoCan, InfoDsa, InfoHsr, InfoVlan,
 };
+pub use layers::names::{Explanation, attribute_name};
 pub use layers::nla_frame::{
     Bytes, Cause, DecodeError, DefaultNla, Family, Nlas, Text, ToVecError,
 };

@@ -6,14 +6,17 @@
 
 ghost use Rattle.std.specs.Prelude.{◌≡◌, ◌<◌, ◌≤◌, length};
 ghost use Rattle.nla_frame.specs.Error.{error_text};
+ghost use Rattle.linkinfo_names.specs.Explanation.{explanation, subject};
 ghost use Rattle.linkinfo_numbers.specs.Kind.{tag_of_name};
 ghost use Rattle.linkinfo_numbers.specs.PortKind.{port_tag_of_name};
 ghost use Rattle.linkinfo_c.specs.Buffers.{with_text};
 ghost use Rattle.linkinfo_c.specs.Codes.{kind_code, port_kind_code};
 ghost use Rattle.linkinfo_c.specs.Texts.{
+  attribute_text,
   cause_text,
   family_text,
   kind_text,
+  message_text,
   port_kind_text,
   record_text,
 };
@@ -23,7 +26,10 @@ use crate::codes::{
 };
 use crate::error::LinkinfoError;
 use arrayvec::ArrayString;
-use linkinfo::{DecodeError, InfoKind, InfoPortKind, port_tag_of_name, tag_of_name};
+use linkinfo::{
+    Cause, DecodeError, InfoKind, InfoPortKind, attribute_name, port_tag_of_name, tag_of_name,
+};
+use linkinfo_names::problem;
 
 /// Writes a text and a NUL after it, truncated to the buffer, and returns the length of the whole
 /// text.
@@ -148,5 +154,97 @@ fn error_line(error: DecodeError) -> ArrayString<28>
     text.push_str(decimal.format(error.kind));
     text.push_str(" ");
     text.push_str(error.cause.name());
+    text
+}
+
+/// Writes the kernel's name of an attribute's type, as `IFLA_VXLAN_ID`, and returns its length: at
+/// most 31 bytes. The type is without its two flag bits. The name is empty for a type that has no
+/// row in the family, and for a number that is no family.
+#[unsafe(no_mangle)]
+pub extern "C" fn linkinfo_attribute_name(family: u16, kind: u16, buffer: &mut [u8]) -> usize
+    ensures length { result ≡ length (attribute_text family kind) }
+    ensures most { result ≤ 31 }
+    ensures text { buffer.new ≡ with_text (attribute_text family kind) buffer.old }
+{
+    match family_of_code(family) {
+        Some(family) => match attribute_name(family, kind) {
+            Some(name) => write_text(name, buffer),
+            None => write_text("", buffer),
+        },
+        None => write_text("", buffer),
+    }
+}
+
+/// Writes an error as a sentence for people, as `IFLA_INFO_DATA is before IFLA_INFO_KIND, at offset
+/// 0`, and returns the length of this text: at most 104 bytes. The text is empty without an error,
+/// and if a number is no family or no cause.
+#[unsafe(no_mangle)]
+pub extern "C" fn linkinfo_error_message(
+    error: LinkinfoError,
+    offset: usize,
+    buffer: &mut [u8],
+) -> usize
+    ensures length { result ≡ length (message_text error offset) }
+    ensures most { result ≤ 104 }
+    ensures text { buffer.new ≡ with_text (message_text error offset) buffer.old }
+{
+    match (family_of_code(error.family), cause_of_code(error.cause)) {
+        (Some(family), Some(cause)) => {
+            let error = DecodeError {
+                family,
+                kind: error.kind,
+                cause,
+            };
+            write_text(sentence(error, offset).as_str(), buffer)
+        }
+        _ => write_text("", buffer),
+    }
+}
+
+/// The sentence of an error: at most 31, 1, 40, 12 and 20 bytes.
+fn sentence(error: DecodeError, offset: usize) -> ArrayString<104>
+    ensures { result.bytes ≡ explanation error offset }
+{
+    let mut text = ArrayString::new();
+    match error.cause {
+        Cause::Memory => {
+            text.push_str("out of memory");
+            return text;
+        }
+        Cause::Word => {
+            text.push_str("no value of ");
+            text.push_str(error.family.name());
+            text.push_str(" has this name");
+            return text;
+        }
+        Cause::Header => text.push_str("invalid attribute header"),
+        _ => {
+            text.push_str(subject(error).as_str());
+            text.push_str(" ");
+            text.push_str(problem(error));
+        }
+    }
+    let mut decimal = itoa::Buffer::new();
+    text.push_str(", at offset ");
+    text.push_str(decimal.format(offset));
+    text
+}
+
+/// The attribute of an error: the kernel's name of its type, of at most 31 bytes, or the type and
+/// the family.
+fn subject(error: DecodeError) -> ArrayString<31>
+    ensures { result.bytes ≡ subject error }
+{
+    let mut text = ArrayString::new();
+    match attribute_name(error.family, error.kind) {
+        Some(name) => text.push_str(name),
+        None => {
+            let mut decimal = itoa::Buffer::new();
+            text.push_str("type ");
+            text.push_str(decimal.format(error.kind));
+            text.push_str(" of ");
+            text.push_str(error.family.name());
+        }
+    }
     text
 }

@@ -1,5 +1,5 @@
-//! Names and sentences for people: the name that the kernel gives to an attribute, and what an error
-//! says of it.
+//! Names and sentences for people: the name that the kernel gives to an attribute, and what an
+//! error says of it.
 #![tactic(auto)]
 
 mod explanation;

@@ -24,9 +24,9 @@ pub enum InfoVlanRow {
 macro_rules! rows {
     ($body:ident $given:tt) => {
         $body! { InfoVlanRow $given;
-            (IFLA_VLAN_ID = 1, le16, Id),
-            (IFLA_VLAN_FLAGS = 2, flag_pair, Flags),
-            (IFLA_VLAN_PROTOCOL = 5, be16, Protocol),
+            (1, le16, Id),
+            (2, flag_pair, Flags),
+            (5, be16, Protocol),
         }
     };
 }

@@ -18,6 +18,7 @@ mod links_difference;
 mod links_unmet;
 mod lists;
 mod longest;
+mod names;
 mod nesting;
 mod own;
 mod payloads;

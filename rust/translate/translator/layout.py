@@ -11,6 +11,7 @@ LIBRARY = (
     "nla_frame",
     "linkinfo_numbers",
     "linkinfo_shapes",
+    "linkinfo_names",
     "linkinfo_table",
     "linkinfo_lower",
     "linkinfo_devices",

@@ -7,8 +7,8 @@ use std::alloc::Global;
 use std::fmt::Display;
 use std::process::Abort;
 
-/// By family, the beginning of the names in the kernel's headers, and the rest of the names of types
-/// 1, 2, 3 and so on; `-` is a type without a name.
+/// By family, the beginning of the names in the kernel's headers, and the rest of the names of
+/// types 1, 2, 3 and so on; `-` is a type without a name.
 const NAMES: &[(Family, &str, &str)] = &[
     (Family::Frame, "", "-"),
     (

@@ -28,9 +28,9 @@ pub enum InfoIpoib {
 macro_rules! rows {
     ($body:ident $given:tt) => {
         $body! { InfoIpoib $given;
-            (IFLA_IPOIB_PKEY = 1, le16, Pkey),
-            (IFLA_IPOIB_MODE = 2, le16, Mode as IpoibMode),
-            (IFLA_IPOIB_UMCAST = 3, le16, UmCast),
+            (1, le16, Pkey),
+            (2, le16, Mode as IpoibMode),
+            (3, le16, UmCast),
         }
     };
 }

@@ -26,8 +26,8 @@ pub enum InfoIpVlan {
 macro_rules! rows {
     ($body:ident $given:tt) => {
         $body! { InfoIpVlan $given;
-            (IFLA_IPVLAN_MODE = 1, le16, Mode as IpVlanMode),
-            (IFLA_IPVLAN_FLAGS = 2, le16, Flags as flags IpVlanFlags),
+            (1, le16, Mode as IpVlanMode),
+            (2, le16, Flags as flags IpVlanFlags),
         }
     };
 }

@@ -26,8 +26,8 @@ pub enum InfoIpVtap {
 macro_rules! rows {
     ($body:ident $given:tt) => {
         $body! { InfoIpVtap $given;
-            (IFLA_IPVLAN_MODE = 1, le16, Mode as IpVtapMode),
-            (IFLA_IPVLAN_FLAGS = 2, le16, Flags as flags IpVtapFlags),
+            (1, le16, Mode as IpVtapMode),
+            (2, le16, Flags as flags IpVtapFlags),
         }
     };
 }

@@ -50,20 +50,20 @@ pub enum InfoMacSec {
 macro_rules! rows {
     ($body:ident $given:tt) => {
         $body! { InfoMacSec $given;
-            (IFLA_MACSEC_SCI = 1, le64, Sci),
-            (IFLA_MACSEC_PORT = 2, be16, Port),
-            (IFLA_MACSEC_ICV_LEN = 3, u8, IcvLen),
-            (IFLA_MACSEC_CIPHER_SUITE = 4, le64, CipherSuite as MacSecCipherId),
-            (IFLA_MACSEC_WINDOW = 5, le32, Window),
-            (IFLA_MACSEC_ENCODING_SA = 6, u8, EncodingSa),
-            (IFLA_MACSEC_ENCRYPT = 7, u8, Encrypt),
-            (IFLA_MACSEC_PROTECT = 8, u8, Protect),
-            (IFLA_MACSEC_INC_SCI = 9, u8, IncSci),
-            (IFLA_MACSEC_ES = 10, u8, Es),
-            (IFLA_MACSEC_SCB = 11, u8, Scb),
-            (IFLA_MACSEC_REPLAY_PROTECT = 12, u8, ReplayProtect),
-            (IFLA_MACSEC_VALIDATION = 13, u8, Validation as MacSecValidate),
-            (IFLA_MACSEC_OFFLOAD = 15, u8, Offload as MacSecOffload),
+            (1, le64, Sci),
+            (2, be16, Port),
+            (3, u8, IcvLen),
+            (4, le64, CipherSuite as MacSecCipherId),
+            (5, le32, Window),
+            (6, u8, EncodingSa),
+            (7, u8, Encrypt),
+            (8, u8, Protect),
+            (9, u8, IncSci),
+            (10, u8, Es),
+            (11, u8, Scb),
+            (12, u8, ReplayProtect),
+            (13, u8, Validation as MacSecValidate),
+            (15, u8, Offload as MacSecOffload),
         }
     };
 }

@@ -27,8 +27,8 @@ pub enum InfoRmNet {
 macro_rules! rows {
     ($body:ident $given:tt) => {
         $body! { InfoRmNet $given;
-            (IFLA_RMNET_MUX_ID = 1, le16, MuxId),
-            (IFLA_RMNET_FLAGS = 2, flag_pair, Flags by flags_of, pair_of),
+            (1, le16, MuxId),
+            (2, flag_pair, Flags by flags_of, pair_of),
         }
     };
 }

@@ -25,7 +25,7 @@ pub type InfoVrfPort = InfoVrf;
 macro_rules! rows {
     ($body:ident $given:tt) => {
         $body! { InfoVrf $given;
-            (IFLA_VRF_TABLE = 1, le32, TableId),
+            (1, le32, TableId),
         }
     };
 }

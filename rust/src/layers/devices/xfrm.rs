@@ -23,8 +23,8 @@ pub enum InfoXfrm {
 macro_rules! rows {
     ($body:ident $given:tt) => {
         $body! { InfoXfrm $given;
-            (IFLA_XFRM_LINK = 1, le32, Link),
-            (IFLA_XFRM_IF_ID = 2, le32, IfId),
+            (1, le32, Link),
+            (2, le32, IfId),
         }
     };
 }

@@ -19,6 +19,7 @@ mod xstats;
 
 // Lists: parsed, serialized, validated and compared.
 pub use crate::layers::data::{InfoData, InfoDataOf, InfoPortData};
+pub use crate::layers::names::{Explanation, attribute_name};
 pub use crate::layers::nla_frame::{
     Bytes, Cause, DecodeError, DefaultNla, Emitable, ExactEq, Family, HeaderCount, Nla, Nlas,
     Parseable, ParseableParametrized, Text, ToVecError, emit_nlas, is_equal, nlas_buffer_len,

@@ -7,8 +7,11 @@ use crate::layers::data::{
 use crate::layers::link::item::check_item;
 use crate::layers::link::role::Role;
 use crate::layers::link::walk::LinkInfoWalk;
+use crate::layers::names::Explanation;
 use crate::layers::nla_frame::{Bytes, DecodeError, ExactEq, HeaderCount, NlaBuffer};
 use crate::layers::table::LinkPeer;
+use core::error::Error;
+use core::fmt;
 
 /// The first error of a list, with its offsets.
 #[derive(Clone, Copy, Debug, PartialEq, Eq)]
@@ -24,6 +27,20 @@ pub struct ErrorAt {
     /// `place`.
     pub inner: usize,
 }
+
+/// Writes the error as a sentence for people, with the kernel's name of the attribute and the
+/// offset `inner`: `IFLA_INFO_DATA is before IFLA_INFO_KIND, at offset 0`.
+impl fmt::Display for ErrorAt {
+    fn fmt(&self, f: &mut fmt::Formatter<'_>) -> fmt::Result {
+        let explanation = Explanation {
+            error: self.error,
+            offset: self.inner,
+        };
+        write!(f, "{explanation}")
+    }
+}
+
+impl Error for ErrorAt {}
 
 impl ExactEq for ErrorAt {}
 

@@ -21,7 +21,7 @@ pub enum InfoBatAdv {
 macro_rules! rows {
     ($body:ident $given:tt) => {
         $body! { InfoBatAdv $given;
-            (IFLA_BATADV_ALGO_NAME = 1, name, AlgoName),
+            (1, name, AlgoName),
         }
     };
 }

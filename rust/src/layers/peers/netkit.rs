@@ -47,15 +47,15 @@ pub type InfoNetkit = InfoNetkitOf<Bytes>;
 macro_rules! rows {
     ($body:ident $given:tt) => {
         $body! { InfoNetkitOf $given;
-            (IFLA_NETKIT_PEER_INFO = 1, custom, Peer),
-            (IFLA_NETKIT_PRIMARY = 2, truth, Primary),
-            (IFLA_NETKIT_POLICY = 3, le32, Policy as NetkitPolicy),
-            (IFLA_NETKIT_PEER_POLICY = 4, le32, PeerPolicy as NetkitPolicy),
-            (IFLA_NETKIT_MODE = 5, le32, Mode as NetkitMode),
-            (IFLA_NETKIT_SCRUB = 6, scrub, Scrub by scrub_of, is_by_default),
-            (IFLA_NETKIT_PEER_SCRUB = 7, scrub, PeerScrub by scrub_of, is_by_default),
-            (IFLA_NETKIT_HEADROOM = 8, le16, Headroom),
-            (IFLA_NETKIT_TAILROOM = 9, le16, Tailroom),
+            (1, custom, Peer),
+            (2, truth, Primary),
+            (3, le32, Policy as NetkitPolicy),
+            (4, le32, PeerPolicy as NetkitPolicy),
+            (5, le32, Mode as NetkitMode),
+            (6, scrub, Scrub by scrub_of, is_by_default),
+            (7, scrub, PeerScrub by scrub_of, is_by_default),
+            (8, le16, Headroom),
+            (9, le16, Tailroom),
         }
     };
 }

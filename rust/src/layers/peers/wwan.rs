@@ -21,7 +21,7 @@ pub enum InfoWwan {
 macro_rules! rows {
     ($body:ident $given:tt) => {
         $body! { InfoWwan $given;
-            (IFLA_WWAN_LINK_ID = 1, le32, LinkId),
+            (1, le32, LinkId),
         }
     };
 }

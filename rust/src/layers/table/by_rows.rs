@@ -6,16 +6,16 @@
 //! macro_rules! rows {
 //!     ($body:ident $given:tt) => {
 //!         $body! { InfoGtp $given;
-//!             (IFLA_GTP_FD0 = 1, le32, Fd0),
-//!             (IFLA_GTP_ROLE = 4, le32, Role as GtpRole),
+//!             (1, le32, Fd0),
+//!             (4, le32, Role as GtpRole),
 //!         }
 //!     };
 //! }
 //! ```
 //!
-//! A row has the type by its name in the kernel, the shape by the name of its function in
-//! `encodables`, and the variant. After the variant comes how its field differs from the plain
-//! datum of the shape:
+//! A row has the type, the shape by the name of its function in `encodables`, and the variant. Its
+//! doc comment has the kernel's name of the type. After the variant comes how its field differs
+//! from the plain datum of the shape:
 //!
 //! - `as GtpRole`, a number type, and `as &GreEncapType` if the number is made from a reference;
 //! - `as flags IpVlanFlags`, a flag set;
@@ -34,7 +34,7 @@ macro_rules! store_by_rows {
     (
         $family:ident ($slot:ident, $decoded:ident);
         $((
-            $name:ident = $number:literal, $shape:ident, $variant:ident $(or $empty:ident)?
+            $number:literal, $shape:ident, $variant:ident $(or $empty:ident)?
             $(as $($named:tt)+)? $(by $from:ident, $to:ident)?
         )),* $(,)?
         $(; else $($elsewhere:ident),+)?
@@ -173,7 +173,7 @@ macro_rules! encodable_by_rows {
     (
         $family:ident $value:tt;
         $((
-            $name:ident = $number:literal, $shape:ident, $variant:ident $(or $empty:ident)?
+            $number:literal, $shape:ident, $variant:ident $(or $empty:ident)?
             $(as $($named:tt)+)? $(by $from:ident, $to:ident)?
         )),* $(,)?
         $(; else $($elsewhere:ident),+)?

@@ -38,14 +38,14 @@ pub enum InfoAmt {
 macro_rules! rows {
     ($body:ident $given:tt) => {
         $body! { InfoAmt $given;
-            (IFLA_AMT_MODE = 1, le32, Mode as AmtMode),
-            (IFLA_AMT_RELAY_PORT = 2, be16, RelayPort),
-            (IFLA_AMT_GATEWAY_PORT = 3, be16, GatewayPort),
-            (IFLA_AMT_LINK = 4, le32, Link),
-            (IFLA_AMT_LOCAL_IP = 5, ip, LocalIp),
-            (IFLA_AMT_REMOTE_IP = 6, ip, RemoteIp),
-            (IFLA_AMT_DISCOVERY_IP = 7, ip, DiscoveryIp),
-            (IFLA_AMT_MAX_TUNNELS = 8, le32, MaxTunnels),
+            (1, le32, Mode as AmtMode),
+            (2, be16, RelayPort),
+            (3, be16, GatewayPort),
+            (4, le32, Link),
+            (5, ip, LocalIp),
+            (6, ip, RemoteIp),
+            (7, ip, DiscoveryIp),
+            (8, le32, MaxTunnels),
         }
     };
 }

@@ -29,10 +29,10 @@ pub enum InfoBareUdp {
 macro_rules! rows {
     ($body:ident $given:tt) => {
         $body! { InfoBareUdp $given;
-            (IFLA_BAREUDP_PORT = 1, be16, Port),
-            (IFLA_BAREUDP_ETHERTYPE = 2, be16, Ethertype as EthernetProtocol),
-            (IFLA_BAREUDP_SRCPORT_MIN = 3, le16, SrcPortMin),
-            (IFLA_BAREUDP_MULTIPROTO_MODE = 4, mark, MultiprotoMode),
+            (1, be16, Port),
+            (2, be16, Ethertype as EthernetProtocol),
+            (3, le16, SrcPortMin),
+            (4, mark, MultiprotoMode),
         }
     };
 }

@@ -57,22 +57,22 @@ pub enum InfoGeneve {
 macro_rules! rows {
     ($body:ident $given:tt) => {
         $body! { InfoGeneve $given;
-            (IFLA_GENEVE_ID = 1, le32, Id),
-            (IFLA_GENEVE_REMOTE = 2, geneve_v4, Remote),
-            (IFLA_GENEVE_TTL = 3, u8, Ttl),
-            (IFLA_GENEVE_TOS = 4, u8, Tos),
-            (IFLA_GENEVE_PORT = 5, be16, Port),
-            (IFLA_GENEVE_COLLECT_METADATA = 6, mark, CollectMetadata),
-            (IFLA_GENEVE_REMOTE6 = 7, geneve_v6, Remote6),
-            (IFLA_GENEVE_UDP_CSUM = 8, truth, UdpCsum),
-            (IFLA_GENEVE_UDP_ZERO_CSUM6_TX = 9, truth, UdpZeroCsum6Tx),
-            (IFLA_GENEVE_UDP_ZERO_CSUM6_RX = 10, truth, UdpZeroCsum6Rx),
-            (IFLA_GENEVE_LABEL = 11, be32, Label),
-            (IFLA_GENEVE_TTL_INHERIT = 12, truth, TtlInherit),
-            (IFLA_GENEVE_DF = 13, u8, Df as GeneveDf),
-            (IFLA_GENEVE_INNER_PROTO_INHERIT = 14, mark, InnerProtoInherit),
-            (IFLA_GENEVE_LOCAL = 17, geneve_v4, Local),
-            (IFLA_GENEVE_LOCAL6 = 18, geneve_v6, Local6),
+            (1, le32, Id),
+            (2, geneve_v4, Remote),
+            (3, u8, Ttl),
+            (4, u8, Tos),
+            (5, be16, Port),
+            (6, mark, CollectMetadata),
+            (7, geneve_v6, Remote6),
+            (8, truth, UdpCsum),
+            (9, truth, UdpZeroCsum6Tx),
+            (10, truth, UdpZeroCsum6Rx),
+            (11, be32, Label),
+            (12, truth, TtlInherit),
+            (13, u8, Df as GeneveDf),
+            (14, mark, InnerProtoInherit),
+            (17, geneve_v4, Local),
+            (18, geneve_v6, Local6),
         }
     };
 }

@@ -37,14 +37,14 @@ pub enum InfoGtp {
 macro_rules! rows {
     ($body:ident $given:tt) => {
         $body! { InfoGtp $given;
-            (IFLA_GTP_FD0 = 1, le32, Fd0),
-            (IFLA_GTP_FD1 = 2, le32, Fd1),
-            (IFLA_GTP_PDP_HASHSIZE = 3, le32, PdpHashsize),
-            (IFLA_GTP_ROLE = 4, le32, Role as GtpRole),
-            (IFLA_GTP_CREATE_SOCKETS = 5, truth, CreateSockets),
-            (IFLA_GTP_RESTART_COUNT = 6, u8, RestartCount),
-            (IFLA_GTP_LOCAL = 7, v4, Local),
-            (IFLA_GTP_LOCAL6 = 8, v6, Local6),
+            (1, le32, Fd0),
+            (2, le32, Fd1),
+            (3, le32, PdpHashsize),
+            (4, le32, Role as GtpRole),
+            (5, truth, CreateSockets),
+            (6, u8, RestartCount),
+            (7, v4, Local),
+            (8, v6, Local6),
         }
     };
 }

@@ -33,12 +33,12 @@ pub enum InfoVti {
 macro_rules! rows {
     ($body:ident $given:tt) => {
         $body! { InfoVti $given;
-            (IFLA_VTI_LINK = 1, le32, Link),
-            (IFLA_VTI_IKEY = 2, be32, IKey),
-            (IFLA_VTI_OKEY = 3, be32, OKey),
-            (IFLA_VTI_LOCAL = 4, ip, Local),
-            (IFLA_VTI_REMOTE = 5, ip, Remote),
-            (IFLA_VTI_FWMARK = 6, le32, FwMark),
+            (1, le32, Link),
+            (2, be32, IKey),
+            (3, be32, OKey),
+            (4, ip, Local),
+            (5, ip, Remote),
+            (6, le32, FwMark),
         }
     };
 }

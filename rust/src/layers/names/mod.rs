@@ -1,0 +1,8 @@
+//! Names and sentences for people: the name that the kernel gives to an attribute, and what an
+//! error says of it.
+
+mod explanation;
+mod names;
+
+pub use explanation::{Explanation, problem};
+pub use names::attribute_name;
