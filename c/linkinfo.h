@@ -1,38 +1,50 @@
 /* SPDX-License-Identifier: MIT */
 /*
- * linkinfo: validates, compares, canonicalizes and iterates over the contents of
- * IFLA_LINKINFO (include/uapi/linux/if_link.h), by proved code. It does not build
- * lists. docs/C.md of its repository says what is proved and what is tested.
+ * linkinfo - reads, checks, compares and canonicalizes link info
  *
- *   // Does the link meet the request?
- *   struct linkinfo_unmet result = linkinfo_first_unmet(have, have_length, want, want_length);
- *   if (result.rejected != 0) {
+ * liblinkinfo reads, checks, compares and canonicalizes link info: the contents
+ * of IFLA_LINKINFO (linux/if_link.h), the nested attribute of rtnetlink link
+ * messages that names the kind of a network link and has its attributes. It
+ * does not build lists, and has neither sockets nor messages. docs/C.md of its
+ * repository says what is proved of each build and what is tested.
+ *
+ *   #include <linkinfo.h>
+ *   #include <stdio.h>
+ *
+ *   int has_all(const uint8_t *have, size_t have_length, const uint8_t *want,
+ *               size_t want_length) {
  *     char text[32];
- *     linkinfo_error_text(result.error, text, sizeof text);
- *     fprintf(stderr, "list %u: %s\n", result.rejected, text);
- *   } else if (!result.met) {
- *     // the first attribute that is not met: result.type at byte result.want of the request
+ *     struct linkinfo_unmet unmet =
+ *         linkinfo_first_unmet(have, have_length, want, want_length);
+ *     if (unmet.rejected == 0) return unmet.met;
+ *     linkinfo_error_text(unmet.error, text, sizeof text);
+ *     fprintf(stderr, "list %u: %s\n", (unsigned)unmet.rejected, text);
+ *     return -1;
  *   }
  *
- * linkinfo_first_unmet is for a link and a request: does the link that the kernel returned
- * have each attribute of the request? linkinfo_same is for two requests, or for two canonical
- * encodings: are they equivalent? It is false for a request and the link that the kernel made
- * by it, since the kernel returns all defaults too.
+ * Lists. A list is a pointer to its bytes and their number, without the header
+ * of IFLA_LINKINFO itself. A null pointer with length 0 is the empty list,
+ * array, buffer or name. A null pointer with another length is the caller's
+ * error, and so is a length that exceeds the memory that the pointer points to.
+ * Arrays and buffers that are written to may be uninitialized, and must not
+ * overlap what the call reads.
  *
- * A list is a pointer to its bytes and their number, without the header of
- * IFLA_LINKINFO itself. A null pointer with length 0 is the empty list, array, buffer
- * or name. A null pointer with another length is the caller's error, and so is a length
- * that exceeds the memory that the pointer points to. Arrays and buffers that are
- * written to may be uninitialized, and must not overlap what the call reads.
+ * Calls. Every call returns, whatever the bytes are. No call keeps a pointer,
+ * allocates, has a global, takes a lock or calls back, so each is thread-safe
+ * (MT-Safe in attributes(7)). A call takes up to 40 KiB of stack: in a signal
+ * handler that is more than SIGSTKSZ.
  *
- * Every call returns, whatever the bytes are. No call keeps a pointer, allocates, has a
- * global, takes a lock or calls back, so each is thread-safe. A call takes
- * up to 40 KiB of stack: in a signal handler that is more than SIGSTKSZ.
+ * Which comparison. linkinfo_first_unmet is for a link and a request: does the
+ * link that the kernel returned have each attribute of the request?
+ * linkinfo_same is for two requests, or for two canonical encodings: are they
+ * equivalent? It is false for a request and the link that the kernel made by
+ * it, since the kernel returns all defaults too.
  *
- * Values of the enums never change, and new ones are added at the end. Structs do not
- * grow; a new result is a new call. Native numbers are little-endian; big-endian
- * machines are not supported. linkinfo_same, linkinfo_canon and linkinfo_count are each
- * a struct and a call, so in C++ the struct is written `struct linkinfo_same`.
+ * Compatibility. Values of the enums never change, and new ones are added at
+ * the end. Structs do not grow; a new result is a new call. Native numbers are
+ * little-endian; big-endian machines are not supported. The header compiles as
+ * C90 and later, and as C++. It takes bool and the integer types from
+ * <stdbool.h> and <stdint.h>, which a compiler for C90 must have.
  */
 #ifndef LINKINFO_H
 #define LINKINFO_H
@@ -41,28 +53,80 @@
 #include <stddef.h>
 #include <stdint.h>
 
-#ifdef __cplusplus
-#define LINKINFO_RESTRICT __restrict__
-extern "C" {
-#else
-#define LINKINFO_RESTRICT restrict
+#if defined(__BYTE_ORDER__) && __BYTE_ORDER__ != __ORDER_LITTLE_ENDIAN__
+#error "linkinfo.h: big-endian machines are not supported"
+#endif
+#if SIZE_MAX != UINT64_MAX
+#error "linkinfo.h: machines on which size_t is not 64 bits are not supported"
 #endif
 
-/* What is wrong with a list. No call returns the causes that are marked "not returned". */
+/* The version of this header. linkinfo_version() has that of the library. */
+#define LINKINFO_VERSION_MAJOR 0
+#define LINKINFO_VERSION_MINOR 1
+#define LINKINFO_VERSION_PATCH 0
+#define LINKINFO_VERSION_STRING "0.1.0"
+
+#if defined(__GNUC__)
+#define LINKINFO_RESTRICT __restrict__
+#elif defined(__STDC_VERSION__) && __STDC_VERSION__ >= 199901L
+#define LINKINFO_RESTRICT restrict
+#else
+#define LINKINFO_RESTRICT
+#endif
+
+/* The compiler warns where the result of such a call is not used. */
+#if (defined(__cplusplus) && __cplusplus >= 201703L) || \
+    (defined(__STDC_VERSION__) && __STDC_VERSION__ >= 202311L)
+#define LINKINFO_NODISCARD [[nodiscard]]
+#elif defined(__GNUC__)
+#define LINKINFO_NODISCARD __attribute__((__warn_unused_result__))
+#else
+#define LINKINFO_NODISCARD
+#endif
+
+/* clang warns of bool as C90, though it has it. */
+#if defined(__clang__) && !defined(__cplusplus) && \
+    (!defined(__STDC_VERSION__) || __STDC_VERSION__ < 199901L)
+#pragma clang diagnostic push
+#pragma clang diagnostic ignored "-Wc99-extensions"
+#define LINKINFO_POP_DIAGNOSTIC
+#endif
+
+#ifdef __cplusplus
+extern "C" {
+#endif
+
+/*
+ * linkinfo_version - the version of the library
+ *
+ * Return: the text "MAJOR.MINOR.PATCH" of the library that the program is
+ * linked with, which may be newer than its header; the text is constant.
+ * Time: constant.
+ * Threads: MT-Safe.
+ */
+LINKINFO_NODISCARD const char *linkinfo_version(void);
+
+/* What is wrong with a list. No call returns the causes that are marked
+ * "not returned". */
 enum linkinfo_cause {
   LINKINFO_CAUSE_NONE = 0,
-  LINKINFO_CAUSE_HEADER = 1,       /* no attribute header is accepted here */
-  LINKINFO_CAUSE_LENGTH = 2,       /* a payload of a length that its type does not accept */
-  LINKINFO_CAUSE_UTF8 = 3,         /* a name is not UTF-8 */
-  LINKINFO_CAUSE_ORDER = 4,        /* data or statistics without a kind before, or port data
-                                      without a port kind */
+  LINKINFO_CAUSE_HEADER = 1, /* no attribute header is accepted here */
+  LINKINFO_CAUSE_LENGTH = 2, /* a payload of a length that its type does not
+                                accept */
+  LINKINFO_CAUSE_UTF8 = 3,   /* a name is not UTF-8 */
+  LINKINFO_CAUSE_ORDER = 4,  /* data or statistics without a kind before, or
+                                port data without a port kind */
   LINKINFO_CAUSE_ADDRESS_KIND = 5, /* an address of the other version */
-  LINKINFO_CAUSE_WORD = 6,         /* a text that names no value; not returned */
-  LINKINFO_CAUSE_WRONG_TYPE = 7,   /* another type than the expected one; not returned */
-  LINKINFO_CAUSE_KIND = 8,         /* an attribute that this kind does not have; not returned */
-  LINKINFO_CAUSE_DEPTH = 9,        /* an address list inside 128 others */
-  LINKINFO_CAUSE_MEMORY = 10,      /* an allocation failed; not returned */
-  LINKINFO_CAUSE_PEER = 11         /* a peer's payload that is rejected; not returned */
+  LINKINFO_CAUSE_WORD = 6,         /* a text that names no value; not
+                                      returned */
+  LINKINFO_CAUSE_WRONG_TYPE = 7,   /* another type than the expected one; not
+                                      returned */
+  LINKINFO_CAUSE_KIND = 8,    /* an attribute that this kind does not have; not
+                                 returned */
+  LINKINFO_CAUSE_DEPTH = 9,   /* an address list inside 128 others */
+  LINKINFO_CAUSE_MEMORY = 10, /* an allocation failed; not returned */
+  LINKINFO_CAUSE_PEER = 11    /* a peer's payload that is rejected; not
+                                 returned */
 };
 
 /* The family of attributes that has the error. */
@@ -159,8 +223,8 @@ enum linkinfo_kind {
   LINKINFO_KIND_RMNET = 47
 };
 
-/* The kind of the link that a port belongs to: the string of IFLA_INFO_SLAVE_KIND.
- * Its numbers differ from those of enum linkinfo_kind. */
+/* The kind of the link that a port belongs to: the string of
+ * IFLA_INFO_SLAVE_KIND. Its numbers differ from those of enum linkinfo_kind. */
 enum linkinfo_port_kind {
   LINKINFO_PORT_KIND_NONE = 0,
   LINKINFO_PORT_KIND_OTHER = 256, /* every other name */
@@ -173,142 +237,254 @@ enum linkinfo_port_kind {
 /* An error. With cause 0 there is none, and family and type are 0 too. */
 struct linkinfo_error {
   uint16_t family; /* enum linkinfo_family */
-  uint16_t type;   /* of the attribute with the error, without its two flag bits */
+  uint16_t type;   /* of the attribute with the error, without its two flag
+                      bits */
   uint32_t cause;  /* enum linkinfo_cause */
 };
 
-/* Validates a list: returns its first error in byte order, or none. */
-struct linkinfo_error linkinfo_check(const uint8_t *bytes, size_t length);
+/*
+ * linkinfo_check - validates a list
+ * @bytes: the list
+ * @length: its length in bytes
+ *
+ * Return: the first error in byte order, or none (cause 0).
+ * Time: linear; each header is examined once.
+ * Threads: MT-Safe.
+ */
+LINKINFO_NODISCARD struct linkinfo_error
+linkinfo_check(const uint8_t *bytes, size_t length);
 
 /* An error and its offset. */
 struct linkinfo_error_at {
   struct linkinfo_error error;
-  /* The offset of the attribute of the list that has the error, itself or in its
-   * contents, or the offset at which no header is accepted; 0 without an error. */
-  size_t place;
+  size_t place; /* the offset of the attribute of the list that has the error,
+                   itself or in its contents, or the offset at which no header
+                   is accepted; 0 without an error */
 };
 
-/* Validates a list: returns its first error in byte order, or none, with its offset. */
-struct linkinfo_error_at linkinfo_check_at(const uint8_t *bytes, size_t length);
+/*
+ * linkinfo_check_at - validates a list, and finds the attribute with the error
+ * @bytes: the list
+ * @length: its length in bytes
+ *
+ * Return: the error that linkinfo_check returns, with its offset.
+ * Time: linear; each header is examined once, those of rejected data up to
+ * three times.
+ * Threads: MT-Safe.
+ */
+LINKINFO_NODISCARD struct linkinfo_error_at
+linkinfo_check_at(const uint8_t *bytes, size_t length);
 
-/* An error and two offsets: of the attribute of the list, and of the innermost attribute. */
+/* An error and two offsets: of the attribute of the list, and of the innermost
+ * attribute. */
 struct linkinfo_inner_error {
   struct linkinfo_error error;
   size_t place; /* the offset that linkinfo_check_at returns */
-  /* The offset in the list of the innermost attribute that has the error: in data, or in a
-   * nested list in data; place where the attribute of the list has it itself. */
-  size_t inner;
+  size_t inner; /* the offset in the list of the innermost attribute that has
+                   the error: in data, or in a nested list in data; place where
+                   the attribute of the list has it itself */
 };
 
-/* Validates a list: returns its first error in byte order, or none, with both offsets. */
-struct linkinfo_inner_error linkinfo_check_inner(const uint8_t *bytes, size_t length);
+/*
+ * linkinfo_check_inner - validates a list, and finds the innermost attribute
+ * with the error
+ * @bytes: the list
+ * @length: its length in bytes
+ *
+ * Return: the error that linkinfo_check returns, with both offsets.
+ * Time: linear, as linkinfo_check_at.
+ * Threads: MT-Safe.
+ */
+LINKINFO_NODISCARD struct linkinfo_inner_error
+linkinfo_check_inner(const uint8_t *bytes, size_t length);
 
 /* Whether two lists are equivalent. */
-struct linkinfo_same {
+struct linkinfo_same_result {
   struct linkinfo_error error; /* of the first list, else of the second */
-  uint32_t rejected;           /* which list has it: 1 or 2; 0 where neither has one */
-  bool same;                   /* whether they are equivalent; false with an error */
+  uint32_t rejected;           /* which list has it: 1 or 2; 0 where neither has
+                                  one */
+  bool same;                   /* whether they are equivalent; false with an
+                                  error */
 };
 
-/* Compares two lists for equal meaning: two requests, or two canonical encodings. For a link
- * and a request, call linkinfo_first_unmet. */
-struct linkinfo_same linkinfo_same(const uint8_t *a, size_t a_length, const uint8_t *b,
-                                   size_t b_length);
+/*
+ * linkinfo_same - compares two lists for equal meaning
+ * @a: the first list
+ * @a_length: its length in bytes
+ * @b: the second list
+ * @b_length: its length in bytes
+ *
+ * The lists are two requests, or two canonical encodings. For a link and a
+ * request, call linkinfo_first_unmet.
+ *
+ * Return: whether they are equivalent, or the error of a list.
+ * Time: linear; each header is examined at most twice.
+ * Threads: MT-Safe.
+ */
+LINKINFO_NODISCARD struct linkinfo_same_result
+linkinfo_same(const uint8_t *a, size_t a_length, const uint8_t *b,
+              size_t b_length);
 
-/* Whether two lists are equivalent, and the first pair of attributes in which they differ.
- * Where there is no such pair, its family, type and offsets are 0. */
+/* Whether two lists are equivalent, and the first pair of attributes in which
+ * they differ. Where there is no such pair, its family, type and offsets are
+ * 0. */
 struct linkinfo_difference {
   struct linkinfo_error error; /* of the first list, else of the second */
-  uint32_t rejected;           /* which list has it: 1 or 2; 0 where neither has one */
-  uint16_t family;             /* enum linkinfo_family: LINKINFO_FAMILY_LINKINFO of attributes
-                                  of the list, or that of attributes in data */
-  uint16_t type;               /* of the first list's attribute, else of the second's, without
-                                  its two flag bits */
-  size_t first;                /* where is_in_first, the offset of the header of the first
-                                  list's attribute; else 0 */
-  size_t second;               /* where is_in_second, that of the second list's; else 0 */
-  bool same;                   /* whether they are equivalent; false with an error */
-  bool is_in_first;            /* false where the first list, or the data, has ended there */
+  uint32_t rejected;           /* which list has it: 1 or 2; 0 where neither has
+                                  one */
+  uint16_t family;             /* enum linkinfo_family: LINKINFO_FAMILY_LINKINFO
+                                  of attributes of the list, or that of
+                                  attributes in data */
+  uint16_t type;               /* of the first list's attribute, else of the
+                                  second's, without its two flag bits */
+  size_t first;                /* where is_in_first, the offset of the header of
+                                  the first list's attribute; else 0 */
+  size_t second;               /* where is_in_second, that of the second list's;
+                                  else 0 */
+  bool same;                   /* whether they are equivalent; false with an
+                                  error */
+  bool is_in_first;            /* false where the first list, or the data, has
+                                  ended there */
   bool is_in_second;           /* false where the second has */
 };
 
-/* Where do two lists differ first? Attributes are compared in byte order, those of data and of
- * nested lists one by one. As linkinfo_same, it is for two requests, or for two canonical
- * encodings. */
-struct linkinfo_difference linkinfo_first_difference(const uint8_t *a, size_t a_length,
-                                                     const uint8_t *b, size_t b_length);
+/*
+ * linkinfo_first_difference - finds where two lists differ first
+ * @a: the first list
+ * @a_length: its length in bytes
+ * @b: the second list
+ * @b_length: its length in bytes
+ *
+ * Attributes are compared in byte order, those of data and of nested lists one
+ * by one. As linkinfo_same, it is for two requests, or for two canonical
+ * encodings.
+ *
+ * Return: the first pair of attributes in which they differ, or the error of a
+ * list.
+ * Time: linear; each header is examined at most four times.
+ * Threads: MT-Safe.
+ */
+LINKINFO_NODISCARD struct linkinfo_difference
+linkinfo_first_difference(const uint8_t *a, size_t a_length, const uint8_t *b,
+                          size_t b_length);
 
-/* Whether a link meets a request, and the first attribute of the request that it does not
- * meet. Where there is no such attribute, its family, type and offsets are 0. */
+/* Whether a link meets a request, and the first attribute of the request that
+ * it does not meet. Where there is no such attribute, its family, type and
+ * offsets are 0. */
 struct linkinfo_unmet {
   struct linkinfo_error error; /* of the first list, else of the second */
-  uint32_t rejected;           /* which list has it: 1 or 2; 0 where neither has one */
-  uint16_t family;             /* enum linkinfo_family: LINKINFO_FAMILY_LINKINFO of an
-                                  attribute of the list, or that of an attribute in data */
+  uint32_t rejected;           /* which list has it: 1 or 2; 0 where neither has
+                                  one */
+  uint16_t family;             /* enum linkinfo_family: LINKINFO_FAMILY_LINKINFO
+                                  of an attribute of the list, or that of an
+                                  attribute in data */
   uint16_t type;               /* without its two flag bits */
   size_t want;                 /* the offset of its header in the second list */
-  size_t have;                 /* where is_present, the offset of the header of the last
-                                  attribute of that type in the first list; else 0 */
-  bool met;                    /* whether each attribute is met; false with an error */
-  bool is_present;             /* whether the first list has an attribute of that type */
+  size_t have;                 /* where is_present, the offset of the header of
+                                  the last attribute of that type in the first
+                                  list; else 0 */
+  bool met;                    /* whether each attribute is met; false with an
+                                  error */
+  bool is_present;             /* whether the first list has an attribute of
+                                  that type */
 };
 
-/* Does a link have each attribute of a request? The first list is the link, as the kernel
- * returned it; the second is the request. The order of attributes of different types does
- * not matter, nor do the flag bits of an attribute's own type, nor further attributes of
- * the link.
+/*
+ * linkinfo_first_unmet - finds the first attribute of a request that a link
+ * does not have
+ * @have: the link, as the kernel returned it
+ * @have_length: its length in bytes
+ * @want: the request
+ * @want_length: its length in bytes
  *
- * Of several attributes of a type the last one counts, as in the kernel. An attribute of
- * the request is met where that of the link has an equal payload or is equivalent. Data,
- * port data and statistics also require that the kind or the port kind has the same name. Data of
- * a family is compared attribute by attribute. Nested lists, and other data, are compared
- * as a whole, with their order and the flag bits inside. Empty data is met by data alone.
+ * The order of attributes of different types does not matter, nor do the flag
+ * bits of an attribute's own type, nor further attributes of the link.
  *
- * Takes linear time: three passes over the lists for types below 64, which are all of the
- * kernel's, and three more for each further 64 up to the largest type of the request. */
-struct linkinfo_unmet linkinfo_first_unmet(const uint8_t *have, size_t have_length,
-                                           const uint8_t *want, size_t want_length);
+ * Of several attributes of a type the last one counts, as in the kernel. An
+ * attribute of the request is met where that of the link has an equal payload
+ * or is equivalent. Data, port data and statistics also require that the kind
+ * or the port kind has the same name. Data of a family is compared attribute by
+ * attribute. Nested lists, and other data, are compared as a whole, with their
+ * order and the flag bits inside. Empty data is met by data alone.
+ *
+ * Return: the first attribute of the request that is not met, or the error of a
+ * list.
+ * Time: linear; three passes over the lists for types below 64, which are all
+ * of the kernel's, and three more for each further 64 up to the largest type of
+ * the request.
+ * Threads: MT-Safe.
+ */
+LINKINFO_NODISCARD struct linkinfo_unmet
+linkinfo_first_unmet(const uint8_t *have, size_t have_length,
+                     const uint8_t *want, size_t want_length);
 
 /* The outcome of linkinfo_canon. */
 enum linkinfo_canon_status {
   LINKINFO_CANON_WRITTEN = 0, /* the canonical encoding is in the buffer */
   LINKINFO_CANON_REFUSED = 1, /* the list has an error */
-  LINKINFO_CANON_UNFIT = 2,   /* a payload would have more than 65531 bytes, or the
-                                 whole more than a size_t counts */
+  LINKINFO_CANON_UNFIT = 2,   /* a payload would have more than 65531 bytes, or
+                                 the whole more than a size_t counts */
   LINKINFO_CANON_SHORT = 3    /* the buffer is too short for it */
 };
 
 /* The outcome of linkinfo_canon, and the length of the canonical encoding. */
-struct linkinfo_canon {
+struct linkinfo_canon_result {
   struct linkinfo_error error; /* of the list, with status REFUSED */
   uint32_t status;             /* enum linkinfo_canon_status */
-  size_t length;               /* of the canonical encoding, with status WRITTEN or SHORT;
-                                  else 0 */
+  size_t length;               /* of the canonical encoding, with status WRITTEN
+                                  or SHORT; else 0 */
 };
 
-/* Writes the canonical encoding of a list: the one that all equivalent lists have. The
- * bytes of the buffer after it are unchanged, and so is the whole buffer with any other
- * status than WRITTEN. Without a buffer (NULL and 0) the result is SHORT, with the length
- * that is needed. The buffer must not overlap the list. */
-struct linkinfo_canon linkinfo_canon(const uint8_t *LINKINFO_RESTRICT bytes, size_t length,
-                                     uint8_t *LINKINFO_RESTRICT buffer,
-                                     size_t buffer_length);
+/*
+ * linkinfo_canon - writes the canonical encoding of a list
+ * @bytes: the list
+ * @length: its length in bytes
+ * @buffer: where the encoding is written; must not overlap the list
+ * @buffer_length: its length in bytes
+ *
+ * All equivalent lists have one canonical encoding. The bytes of the buffer
+ * after it are unchanged, and so is the whole buffer with any other status than
+ * WRITTEN. Without a buffer (NULL and 0) the status is SHORT, with the length
+ * that is needed.
+ *
+ * Return: the status, and the length of the encoding.
+ * Time: linear; three passes.
+ * Threads: MT-Safe.
+ */
+LINKINFO_NODISCARD struct linkinfo_canon_result
+linkinfo_canon(const uint8_t *LINKINFO_RESTRICT bytes, size_t length,
+               uint8_t *LINKINFO_RESTRICT buffer, size_t buffer_length);
 
 /* The number of headers that were examined. */
-struct linkinfo_count {
+struct linkinfo_count_result {
   struct linkinfo_error error;
-  size_t count; /* headers examined, at all depths, up to the error: at most a quarter
-                   of the bytes */
+  size_t count; /* headers examined, at all depths, up to the error: at most a
+                   quarter of the bytes */
 };
 
-/* Validates a list, and counts the headers that this examines. */
-struct linkinfo_count linkinfo_count(const uint8_t *bytes, size_t length);
+/*
+ * linkinfo_count - validates a list, and counts the headers that this examines
+ * @bytes: the list
+ * @length: its length in bytes
+ *
+ * It ends at the first error, also at one inside data; linkinfo_items does not
+ * look inside data.
+ *
+ * Return: the error that linkinfo_check returns, and the number of headers, at
+ * all depths, up to it.
+ * Time: linear; each header is examined once.
+ * Threads: MT-Safe.
+ */
+LINKINFO_NODISCARD struct linkinfo_count_result
+linkinfo_count(const uint8_t *bytes, size_t length);
 
 /* An attribute of the list. */
 struct linkinfo_item {
-  size_t place;       /* the offset of its header; its payload is four bytes after that */
+  size_t place;       /* the offset of its header; its payload is four bytes
+                         after that */
   size_t length;      /* of its payload */
-  uint16_t raw_type;  /* with its flag bits NLA_F_NESTED and NLA_F_NET_BYTEORDER */
+  uint16_t raw_type;  /* with its flag bits NLA_F_NESTED and
+                         NLA_F_NET_BYTEORDER */
   uint16_t kind;      /* the current kind of the link, enum linkinfo_kind */
   uint16_t port_kind; /* the current port kind, enum linkinfo_port_kind */
 };
@@ -316,98 +492,143 @@ struct linkinfo_item {
 /* The number of attributes, and the error that ends them. */
 struct linkinfo_list_result {
   struct linkinfo_error error;
-  size_t place; /* the offset of that error; without one the number of bytes, or 0 where
-                   data is opaque bytes */
-  size_t count; /* of all attributes, whatever room the array has: at most a quarter of the
-                   bytes */
+  size_t place; /* the offset of that error; without one the number of bytes, or
+                   0 where data is opaque bytes */
+  size_t count; /* of all attributes, whatever room the array has: at most a
+                   quarter of the bytes */
 };
 
-/* Writes the attributes of a list in order, as many as the array has room for, and leaves
- * the rest of the array unchanged. They end at the first attribute that has no accepted
- * header, no current kind that it requires, or a name that is not UTF-8. No other payload
- * is examined, so data may have an error that linkinfo_check returns. An array of
- * length / 4 items has room for those of every list. */
-struct linkinfo_list_result linkinfo_items(const uint8_t *LINKINFO_RESTRICT bytes, size_t length,
-                                           struct linkinfo_item *LINKINFO_RESTRICT items,
-                                           size_t items_length);
+/*
+ * linkinfo_items - writes the attributes of a list
+ * @bytes: the list
+ * @length: its length in bytes
+ * @items: an array, into which the attributes are written in order
+ * @items_length: the number of its items; length / 4 is enough for every list
+ *
+ * As many are written as the array has room for, and the rest of the array is
+ * unchanged. They end at the first attribute that has no accepted header, no
+ * current kind that it requires, or a name that is not UTF-8. No other payload
+ * is examined. So they do not end at an error inside data, which
+ * linkinfo_check returns and at which linkinfo_count ends.
+ *
+ * The values of the data of an item:
+ *
+ *   if ((item.raw_type & NLA_TYPE_MASK) == IFLA_INFO_DATA)
+ *     found = linkinfo_values(bytes + item.place + NLA_HDRLEN, item.length,
+ *                             item.kind, values, values_length);
+ *
+ * Return: the number of all attributes, whatever room the array has, and the
+ * error that ends them.
+ * Time: linear in the number of attributes and the length of names.
+ * Threads: MT-Safe.
+ */
+LINKINFO_NODISCARD struct linkinfo_list_result
+linkinfo_items(const uint8_t *LINKINFO_RESTRICT bytes, size_t length,
+               struct linkinfo_item *LINKINFO_RESTRICT items,
+               size_t items_length);
 
 /* The shape of the payload of an attribute in data. */
 enum linkinfo_shape {
-  LINKINFO_SHAPE_NONE = 0, /* the type has no known shape: the attribute is opaque */
-  LINKINFO_SHAPE_U8 = 1, /* a number of one byte */
-  LINKINFO_SHAPE_LE16 = 2, /* a little-endian number of two bytes */
-  LINKINFO_SHAPE_LE32 = 3, /* of four */
-  LINKINFO_SHAPE_LE64 = 4, /* of eight */
-  LINKINFO_SHAPE_BE16 = 5, /* a big-endian number of two bytes */
-  LINKINFO_SHAPE_BE32 = 6, /* of four */
-  LINKINFO_SHAPE_BE64 = 7, /* of eight */
-  LINKINFO_SHAPE_I32 = 8, /* a signed little-endian number of four bytes */
+  LINKINFO_SHAPE_NONE = 0,  /* the type has no known shape: the attribute is
+                               opaque */
+  LINKINFO_SHAPE_U8 = 1,    /* a number of one byte */
+  LINKINFO_SHAPE_LE16 = 2,  /* a little-endian number of two bytes */
+  LINKINFO_SHAPE_LE32 = 3,  /* of four */
+  LINKINFO_SHAPE_LE64 = 4,  /* of eight */
+  LINKINFO_SHAPE_BE16 = 5,  /* a big-endian number of two bytes */
+  LINKINFO_SHAPE_BE32 = 6,  /* of four */
+  LINKINFO_SHAPE_BE64 = 7,  /* of eight */
+  LINKINFO_SHAPE_I32 = 8,   /* a signed little-endian number of four bytes */
   LINKINFO_SHAPE_TRUTH = 9, /* one byte, true where it is not 0 */
   LINKINFO_SHAPE_TRUTH_ONE = 10, /* one byte, true where it is 1 */
-  LINKINFO_SHAPE_MARK = 11, /* a presence flag; its bytes are ignored */
-  LINKINFO_SHAPE_NAME = 12, /* a text, without one trailing NUL */
-  LINKINFO_SHAPE_V4 = 13, /* an IPv4 address */
-  LINKINFO_SHAPE_V6 = 14, /* an IPv6 address */
-  LINKINFO_SHAPE_GENEVE_V4 = 15, /* an IPv4 address; 16 bytes have the cause ADDRESS_KIND */
-  LINKINFO_SHAPE_GENEVE_V6 = 16, /* an IPv6 address; 4 bytes have the cause ADDRESS_KIND */
-  LINKINFO_SHAPE_IP = 17, /* an address of either version */
-  LINKINFO_SHAPE_MAC = 18, /* a hardware address of six bytes */
-  LINKINFO_SHAPE_BE_PAIR = 19, /* two big-endian numbers of two bytes */
-  LINKINFO_SHAPE_FLAG_PAIR = 20, /* flags and their mask, little-endian, four bytes each */
+  LINKINFO_SHAPE_MARK = 11,      /* a presence flag; its bytes are ignored */
+  LINKINFO_SHAPE_NAME = 12,      /* a text, without one trailing NUL */
+  LINKINFO_SHAPE_V4 = 13,        /* an IPv4 address */
+  LINKINFO_SHAPE_V6 = 14,        /* an IPv6 address */
+  LINKINFO_SHAPE_GENEVE_V4 = 15, /* an IPv4 address; 16 bytes have the cause
+                                    ADDRESS_KIND */
+  LINKINFO_SHAPE_GENEVE_V6 = 16, /* an IPv6 address; 4 bytes have the cause
+                                    ADDRESS_KIND */
+  LINKINFO_SHAPE_IP = 17,        /* an address of either version */
+  LINKINFO_SHAPE_MAC = 18,       /* a hardware address of six bytes */
+  LINKINFO_SHAPE_BE_PAIR = 19,   /* two big-endian numbers of two bytes */
+  LINKINFO_SHAPE_FLAG_PAIR = 20, /* flags and their mask, little-endian, four
+                                    bytes each */
   LINKINFO_SHAPE_EMPTY_OR_BYTE = 21, /* nothing or one byte */
-  LINKINFO_SHAPE_SCRUB = 22, /* a little-endian number of four bytes: 0 is no scrubbing */
-  LINKINFO_SHAPE_RAW = 23, /* any bytes; not returned */
+  LINKINFO_SHAPE_SCRUB = 22,     /* a little-endian number of four bytes: 0 is
+                                    no scrubbing */
+  LINKINFO_SHAPE_RAW = 23,       /* any bytes; not returned */
   LINKINFO_SHAPE_SELF_LIST = 24, /* a list of attributes of the same family */
-  LINKINFO_SHAPE_PEER = 25 /* the peer of a veth, vxcan or netkit */
+  LINKINFO_SHAPE_PEER = 25       /* the peer of a veth, vxcan or netkit */
 };
 
 /* An attribute in data or port data. */
 struct linkinfo_attribute {
-  size_t place;      /* the offset of its header in the data; its payload is four bytes after
-                        that */
+  size_t place;      /* the offset of its header in the data; its payload is
+                        four bytes after that */
   size_t length;     /* of its payload */
   uint64_t number;   /* the number that its payload means, else 0 */
   uint16_t raw_type; /* with its flag bits */
   uint16_t shape;    /* enum linkinfo_shape */
-  bool is_number;    /* whether the payload means an unsigned number: of shape U8, LE16 .. BE64,
-                        or one byte of EMPTY_OR_BYTE; not of I32 or SCRUB */
+  bool is_number;    /* whether the payload means an unsigned number: of shape
+                        U8, LE16 .. BE64, or one byte of EMPTY_OR_BYTE; not of
+                        I32 or SCRUB */
 };
 
-/* Writes the attributes of the data of a kind, or of the port data of a port kind, as many
- * as the array has room for, and leaves the rest of the array unchanged. The data is the
- * payload of an item of type IFLA_INFO_DATA or IFLA_INFO_SLAVE_DATA, and the kind is that
- * item's kind or port_kind. They end at the first attribute without an accepted header.
+/*
+ * linkinfo_attributes - writes the attributes of data, with their numbers
+ * @bytes: data or port data: the payload of an item of type IFLA_INFO_DATA or
+ * IFLA_INFO_SLAVE_DATA
+ * @length: its length in bytes
+ * @kind: that item's kind for data, or its port_kind for port data
+ * @attributes: an array, into which the attributes are written in order
+ * @attributes_length: the number of its items; length / 4 is enough
+ *
+ * As many are written as the array has room for, and the rest of the array is
+ * unchanged. They end at the first attribute without an accepted header.
  * Payloads are not validated here: that is for linkinfo_check of the list.
  *
- * linkinfo_values writes the same attributes with the values of all shapes.
+ * Where data of the kind is opaque bytes, there are none, and place is 0.
+ * Attributes of bond, bridge, vlan, tun, hsr, can, dsa, wireguard and pfcp
+ * data, and of ports of bonds, bridges and teams, have no known shape: a VLAN
+ * identifier is two bytes that the caller reads. The payload of shape SELF_LIST
+ * is such data again. What follows the first attribute of veth and vxcan data
+ * is written here too, though parsing ignores it.
  *
- * Where data of the kind is opaque bytes, there are none, and place is 0. Attributes of
- * bond, bridge, vlan, tun, hsr, can, dsa, wireguard and pfcp data, and of ports of bonds,
- * bridges and teams, have no known shape: a VLAN identifier is two bytes that the caller
- * reads. The payload of shape SELF_LIST is such data again. What follows the first
- * attribute of veth and vxcan data is written here too, though parsing ignores it. */
-struct linkinfo_list_result
-linkinfo_attributes(const uint8_t *LINKINFO_RESTRICT bytes, size_t length, uint16_t kind,
+ * Return: the number of all attributes, whatever room the array has, and the
+ * error that ends them.
+ * Time: linear.
+ * Threads: MT-Safe.
+ */
+LINKINFO_NODISCARD struct linkinfo_list_result
+linkinfo_attributes(const uint8_t *LINKINFO_RESTRICT bytes, size_t length,
+                    uint16_t kind,
                     struct linkinfo_attribute *LINKINFO_RESTRICT attributes,
                     size_t attributes_length);
 
 /* Which members of struct linkinfo_value have the value of a payload. */
 enum linkinfo_value_type {
-  LINKINFO_VALUE_NONE = 0,    /* none: the type has no known shape, or the shape does not
-                                 accept the payload */
-  LINKINFO_VALUE_NUMBER = 1,  /* number: U8, LE16 .. BE64, and one byte of EMPTY_OR_BYTE */
+  LINKINFO_VALUE_NONE = 0,    /* none: the type has no known shape, or the shape
+                                 does not accept the payload */
+  LINKINFO_VALUE_NUMBER = 1,  /* number: U8, LE16 .. BE64, and one byte of
+                                 EMPTY_OR_BYTE */
   LINKINFO_VALUE_SIGNED = 2,  /* signed_number: I32 */
-  LINKINFO_VALUE_TRUTH = 3,   /* truth: TRUTH, true where the byte is not 0; TRUTH_ONE, true
-                                 where it is 1; SCRUB, true for the default scrubbing */
-  LINKINFO_VALUE_PRESENT = 4, /* truth, which is true: MARK, and EMPTY_OR_BYTE without a byte */
-  LINKINFO_VALUE_TEXT = 5,    /* length: NAME, the first bytes of the payload, without one
-                                 trailing NUL; it is UTF-8 and may have other NULs */
+  LINKINFO_VALUE_TRUTH = 3,   /* truth: TRUTH, true where the byte is not 0;
+                                 TRUTH_ONE, true where it is 1; SCRUB, true for
+                                 the default scrubbing */
+  LINKINFO_VALUE_PRESENT = 4, /* truth, which is true: MARK, and EMPTY_OR_BYTE
+                                 without a byte */
+  LINKINFO_VALUE_TEXT = 5,    /* length: NAME, the first bytes of the payload,
+                                 without one trailing NUL; it is UTF-8 and may
+                                 have other NULs */
   LINKINFO_VALUE_IPV4 = 6,    /* octets, 4: V4, GENEVE_V4, IP */
   LINKINFO_VALUE_IPV6 = 7,    /* octets, 16: V6, GENEVE_V6, IP */
   LINKINFO_VALUE_MAC = 8,     /* octets, 6: MAC */
-  LINKINFO_VALUE_PAIR = 9,    /* first and second: BE_PAIR, and FLAG_PAIR, flags and mask */
-  LINKINFO_VALUE_LIST = 10,   /* length: SELF_LIST, the payload, whose attributes are those of
-                                 another call; they may have an error */
+  LINKINFO_VALUE_PAIR = 9,    /* first and second: BE_PAIR, and FLAG_PAIR, flags
+                                 and mask */
+  LINKINFO_VALUE_LIST = 10,   /* length: SELF_LIST, the payload, whose
+                                 attributes are those of another call; they may
+                                 have an error */
   LINKINFO_VALUE_BYTES = 11   /* length: PEER, the payload */
 };
 
@@ -415,8 +636,10 @@ enum linkinfo_value_type {
 struct linkinfo_value {
   uint64_t number;
   int64_t signed_number;
-  size_t length;       /* of the text, of the address, or of the payload that is a list or bytes */
-  uint8_t octets[16];  /* of the address, in network byte order, followed by zeros */
+  size_t length;       /* of the text, of the address, or of the payload that is
+                          a list or bytes */
+  uint8_t octets[16];  /* of the address, in network byte order, followed by
+                          zeros */
   uint32_t first;      /* of a pair; the flags */
   uint32_t second;     /* of a pair; the mask of the flags */
   uint32_t value_type; /* enum linkinfo_value_type */
@@ -425,47 +648,144 @@ struct linkinfo_value {
 
 /* An attribute in data or port data, with its value. */
 struct linkinfo_valued_attribute {
-  size_t place;                /* the offset of its header in the data; its payload is four
-                                  bytes after that */
+  size_t place;                /* the offset of its header in the data; its
+                                  payload is four bytes after that */
   size_t length;               /* of its payload */
   struct linkinfo_value value; /* what its payload means */
   uint16_t raw_type;           /* with its flag bits */
   uint16_t shape;              /* enum linkinfo_shape */
 };
 
-/* Writes the attributes that linkinfo_attributes writes, each with what its payload means:
- * numbers, truth values, flags, texts, addresses and pairs. A payload that linkinfo_check
- * rejects for its own length or text has no value. */
-struct linkinfo_list_result
-linkinfo_values(const uint8_t *LINKINFO_RESTRICT bytes, size_t length, uint16_t kind,
+/*
+ * linkinfo_values - writes the attributes of data, with their values
+ * @bytes: data or port data, as for linkinfo_attributes
+ * @length: its length in bytes
+ * @kind: the kind or the port kind, as for linkinfo_attributes
+ * @values: an array, into which the attributes are written in order
+ * @values_length: the number of its items; length / 4 is enough
+ *
+ * Writes the attributes that linkinfo_attributes writes, each with what its
+ * payload means: numbers, truth values, flags, texts, addresses and pairs. A
+ * payload that linkinfo_check rejects for its own length or text has no value.
+ *
+ * Return: the result of linkinfo_attributes.
+ * Time: linear.
+ * Threads: MT-Safe.
+ */
+LINKINFO_NODISCARD struct linkinfo_list_result
+linkinfo_values(const uint8_t *LINKINFO_RESTRICT bytes, size_t length,
+                uint16_t kind,
                 struct linkinfo_valued_attribute *LINKINFO_RESTRICT values,
                 size_t values_length);
 
-/* Texts. Each call writes a text and a NUL, truncated where the buffer has no room for both,
- * and returns the length of the whole text without the NUL, as snprintf does. The text of 0,
- * and of a number that is in no table, is empty. */
+/* Texts. Each call writes a text and a NUL, truncated where the buffer has no
+ * room for both, and returns the length of the whole text without the NUL, as
+ * snprintf does. The text of 0, and of a number that is in no table, is
+ * empty. */
 
-/* The name of a family, as "linkinfo" or "vxlan". */
-size_t linkinfo_family_name(uint16_t family, char *buffer, size_t buffer_length);
-/* The name of a cause, as "header" or "length". */
+/*
+ * linkinfo_family_name - the name of a family, as "linkinfo" or "vxlan"
+ * @family: enum linkinfo_family
+ * @buffer: where the name and a NUL are written, truncated to the buffer
+ * @buffer_length: its length in bytes
+ *
+ * Return: the length of the whole name without the NUL, as snprintf; 0 for a
+ * number that is no family.
+ * Time: constant.
+ * Threads: MT-Safe.
+ */
+size_t linkinfo_family_name(uint16_t family, char *buffer,
+                            size_t buffer_length);
+
+/*
+ * linkinfo_cause_name - the name of a cause, as "header" or "length"
+ * @cause: enum linkinfo_cause
+ * @buffer: where the name and a NUL are written, truncated to the buffer
+ * @buffer_length: its length in bytes
+ *
+ * Return: the length of the whole name without the NUL, as snprintf; 0 for a
+ * number that is no cause.
+ * Time: constant.
+ * Threads: MT-Safe.
+ */
 size_t linkinfo_cause_name(uint32_t cause, char *buffer, size_t buffer_length);
-/* The name of a kind, as "vxlan"; empty for LINKINFO_KIND_OTHER, whose names are in the
- * list. */
-size_t linkinfo_kind_name(uint16_t kind, char *buffer, size_t buffer_length);
-/* The name of a port kind, as "bridge"; empty for LINKINFO_PORT_KIND_OTHER. */
-size_t linkinfo_port_kind_name(uint16_t port_kind, char *buffer, size_t buffer_length);
-/* Family, type and cause of an error, as "linkinfo 2 order", at most 28 bytes; empty without
- * an error. */
-size_t linkinfo_error_text(struct linkinfo_error error, char *buffer, size_t buffer_length);
 
-/* The kind of a name, which is passed without a trailing NUL; LINKINFO_KIND_OTHER where it is
- * not known. */
-uint16_t linkinfo_kind_of_name(const char *name, size_t length);
-/* The port kind of a name, which is passed without a trailing NUL; LINKINFO_PORT_KIND_OTHER
- * where it is not known. */
-uint16_t linkinfo_port_kind_of_name(const char *name, size_t length);
+/*
+ * linkinfo_kind_name - the name of a kind, as "vxlan"
+ * @kind: enum linkinfo_kind
+ * @buffer: where the name and a NUL are written, truncated to the buffer
+ * @buffer_length: its length in bytes
+ *
+ * Return: the length of the whole name without the NUL, as snprintf; 0 for a
+ * number that is no kind, and for LINKINFO_KIND_OTHER, whose names are in the
+ * list.
+ * Time: constant.
+ * Threads: MT-Safe.
+ */
+size_t linkinfo_kind_name(uint16_t kind, char *buffer, size_t buffer_length);
+
+/*
+ * linkinfo_port_kind_name - the name of a port kind, as "bridge"
+ * @port_kind: enum linkinfo_port_kind
+ * @buffer: where the name and a NUL are written, truncated to the buffer
+ * @buffer_length: its length in bytes
+ *
+ * Return: the length of the whole name without the NUL, as snprintf; 0 for a
+ * number that is no port kind, and for LINKINFO_PORT_KIND_OTHER.
+ * Time: constant.
+ * Threads: MT-Safe.
+ */
+size_t linkinfo_port_kind_name(uint16_t port_kind, char *buffer,
+                               size_t buffer_length);
+
+/*
+ * linkinfo_error_text - family, type and cause of an error as a text
+ * @error: the error
+ * @buffer: where the text and a NUL are written, truncated to the buffer; 29
+ * bytes are enough
+ * @buffer_length: its length in bytes
+ *
+ * The text is as "linkinfo 2 order", and empty without an error.
+ *
+ * Return: the length of the whole text without the NUL, as snprintf.
+ * Time: constant.
+ * Threads: MT-Safe.
+ */
+size_t linkinfo_error_text(struct linkinfo_error error, char *buffer,
+                           size_t buffer_length);
+
+/*
+ * linkinfo_kind_of_name - the kind of a name
+ * @name: a name, without a trailing NUL
+ * @length: its length in bytes
+ *
+ * Return: the number of the kind, enum linkinfo_kind; LINKINFO_KIND_OTHER where
+ * the name is not known.
+ * Time: constant.
+ * Threads: MT-Safe.
+ */
+LINKINFO_NODISCARD uint16_t
+linkinfo_kind_of_name(const char *name, size_t length);
+
+/*
+ * linkinfo_port_kind_of_name - the port kind of a name
+ * @name: a name, without a trailing NUL
+ * @length: its length in bytes
+ *
+ * Return: the number of the port kind, enum linkinfo_port_kind;
+ * LINKINFO_PORT_KIND_OTHER where the name is not known.
+ * Time: constant.
+ * Threads: MT-Safe.
+ */
+LINKINFO_NODISCARD uint16_t
+linkinfo_port_kind_of_name(const char *name, size_t length);
 
 #ifdef __cplusplus
 }
+#endif
+
+#ifdef LINKINFO_POP_DIAGNOSTIC
+#pragma clang diagnostic pop
+#undef LINKINFO_POP_DIAGNOSTIC
 #endif
 #endif

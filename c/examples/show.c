@@ -5,6 +5,8 @@
  * link that the kernel made for it, to which it adds attributes.) */
 #include "linkinfo.h"
 #include <inttypes.h>
+#include <linux/if_link.h>
+#include <linux/netlink.h>
 #include <stdio.h>
 #include <stdlib.h>
 #include <string.h>
@@ -31,12 +33,15 @@ static bool is_rejected(const char *whose, const uint8_t *bytes, size_t length) 
   return true;
 }
 
+static unsigned type_of(uint16_t raw_type) { return raw_type & NLA_TYPE_MASK; }
+
 /* The kind of the link, or of the port, whose data or statistics the item is. */
 static void kind_of(const struct linkinfo_item *item, char *text, size_t length) {
-  unsigned type = item->raw_type & 0x3fffu;
+  unsigned type = type_of(item->raw_type);
   text[0] = 0;
-  if (type == 2 || type == 3) linkinfo_kind_name(item->kind, text, length);
-  if (type == 5) linkinfo_port_kind_name(item->port_kind, text, length);
+  if (type == IFLA_INFO_DATA || type == IFLA_INFO_XSTATS)
+    linkinfo_kind_name(item->kind, text, length);
+  if (type == IFLA_INFO_SLAVE_DATA) linkinfo_port_kind_name(item->port_kind, text, length);
 }
 
 /* A value, as the shape of its attribute means it. */
@@ -73,21 +78,21 @@ static void show_value(const uint8_t *payload, const struct linkinfo_valued_attr
 
 /* The attributes in data or port data. */
 static void show_data(const uint8_t *list, const struct linkinfo_item *item) {
-  unsigned type = item->raw_type & 0x3fffu;
+  unsigned type = type_of(item->raw_type);
   struct linkinfo_valued_attribute *attributes =
       malloc((item->length / 4 + 1) * sizeof *attributes);
-  if (!attributes || (type != 2 && type != 5)) {
+  if (!attributes || (type != IFLA_INFO_DATA && type != IFLA_INFO_SLAVE_DATA)) {
     free(attributes);
     return;
   }
-  size_t begin = item->place + 4;
-  uint16_t kind = type == 2 ? item->kind : item->port_kind;
+  size_t begin = item->place + NLA_HDRLEN;
+  uint16_t kind = type == IFLA_INFO_DATA ? item->kind : item->port_kind;
   struct linkinfo_list_result found =
       linkinfo_values(list + begin, item->length, kind, attributes, item->length / 4);
   for (size_t i = 0; i < found.count; i++) {
     size_t place = begin + attributes[i].place;
-    printf("  %zu: type %u", place, attributes[i].raw_type & 0x3fffu);
-    show_value(list + place + 4, &attributes[i]);
+    printf("  %zu: type %u", place, type_of(attributes[i].raw_type));
+    show_value(list + place + NLA_HDRLEN, &attributes[i]);
   }
   free(attributes);
 }
@@ -127,7 +132,7 @@ int main(int count, char **arguments) {
   struct linkinfo_list_result found = linkinfo_items(bytes, length, items, length / 4);
   for (size_t i = 0; i < found.count; i++) {
     kind_of(&items[i], text, sizeof text);
-    printf("%zu: type %u, %zu bytes%s%s\n", items[i].place, items[i].raw_type & 0x3fffu,
+    printf("%zu: type %u, %zu bytes%s%s\n", items[i].place, type_of(items[i].raw_type),
            items[i].length, text[0] ? " of " : "", text);
     show_data(bytes, &items[i]);
   }

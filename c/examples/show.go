@@ -7,6 +7,8 @@ package main
 
 // #cgo pkg-config: linkinfo
 // #include <linkinfo.h>
+// #include <linux/if_link.h>
+// #include <linux/netlink.h>
 import "C"
 
 import (
@@ -15,6 +17,9 @@ import (
 	"os"
 	"unsafe"
 )
+
+// typeMask is NLA_TYPE_MASK for a type of 16 bits.
+const typeMask = 0xffff & C.NLA_TYPE_MASK
 
 // pointer is that of the first byte; C takes null where there is none.
 func pointer(bytes []byte) *C.uint8_t {
@@ -39,12 +44,12 @@ func items(list []byte) []C.struct_linkinfo_item {
 // kind is that of the link, or of the port, whose data or statistics the item is.
 func kind(item C.struct_linkinfo_item) string {
 	name := ""
-	switch item.raw_type & 0x3fff {
-	case 2, 3:
+	switch item.raw_type & typeMask {
+	case C.IFLA_INFO_DATA, C.IFLA_INFO_XSTATS:
 		name = text(func(buffer *C.char, length C.size_t) C.size_t {
 			return C.linkinfo_kind_name(item.kind, buffer, length)
 		})
-	case 5:
+	case C.IFLA_INFO_SLAVE_DATA:
 		name = text(func(buffer *C.char, length C.size_t) C.size_t {
 			return C.linkinfo_port_kind_name(item.port_kind, buffer, length)
 		})
@@ -59,10 +64,10 @@ func kind(item C.struct_linkinfo_item) string {
 func attributes(payload []byte, item C.struct_linkinfo_item) []C.struct_linkinfo_valued_attribute {
 	values := make([]C.struct_linkinfo_valued_attribute, len(payload)/4+1)
 	kind := C.uint16_t(0)
-	switch item.raw_type & 0x3fff {
-	case 2:
+	switch item.raw_type & typeMask {
+	case C.IFLA_INFO_DATA:
 		kind = item.kind
-	case 5:
+	case C.IFLA_INFO_SLAVE_DATA:
 		kind = item.port_kind
 	}
 	found := C.linkinfo_values(pointer(payload), C.size_t(len(payload)), kind, &values[0],
@@ -109,14 +114,14 @@ func isRejected(whose string, list []byte) bool {
 
 func show(list []byte) {
 	for _, item := range items(list) {
-		fmt.Printf("%d: type %d, %d bytes%s\n", item.place, item.raw_type&0x3fff, item.length,
+		fmt.Printf("%d: type %d, %d bytes%s\n", item.place, item.raw_type&typeMask, item.length,
 			kind(item))
-		begin := item.place + 4
+		begin := item.place + C.NLA_HDRLEN
 		payload := list[begin : begin+item.length]
 		for _, attribute := range attributes(payload, item) {
-			value := valueText(attribute, payload[attribute.place+4:][:attribute.length])
+			value := valueText(attribute, payload[attribute.place+C.NLA_HDRLEN:][:attribute.length])
 			place := begin + attribute.place
-			fmt.Printf("  %d: type %d%s\n", place, attribute.raw_type&0x3fff, value)
+			fmt.Printf("  %d: type %d%s\n", place, attribute.raw_type&typeMask, value)
 		}
 	}
 }

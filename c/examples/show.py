@@ -13,6 +13,10 @@ import sys
 from ctypes import POINTER, Structure
 from ctypes import c_bool, c_char_p, c_int64, c_size_t, c_uint8, c_uint16, c_uint32, c_uint64
 
+# linux/if_link.h and linux/netlink.h
+IFLA_INFO_DATA, IFLA_INFO_XSTATS, IFLA_INFO_SLAVE_DATA = 2, 3, 5
+NLA_TYPE_MASK, NLA_HDRLEN = 0x3FFF, 4
+
 library = ctypes.CDLL(os.environ.get("LINKINFO_LIBRARY", "liblinkinfo.so.0"))
 
 
@@ -102,13 +106,14 @@ def items_of(given):
 
 def attributes_in(given, item):
     """The attributes in data or port data, with their payloads."""
-    kinds = {2: item.kind, 5: item.port_kind}
-    kind = kinds.get(item.raw_type & 0x3FFF, 0)
-    payload = given[item.place + 4 : item.place + 4 + item.length]
+    kinds = {IFLA_INFO_DATA: item.kind, IFLA_INFO_SLAVE_DATA: item.port_kind}
+    kind = kinds.get(item.raw_type & NLA_TYPE_MASK, 0)
+    begin = item.place + NLA_HDRLEN
+    payload = given[begin : begin + item.length]
     attributes = (Attribute * (len(payload) // 4))()
     found = library.linkinfo_values(payload, len(payload), kind, attributes, len(attributes))
     for attribute in attributes[: found.count]:
-        begin = attribute.place + 4
+        begin = attribute.place + NLA_HDRLEN
         yield attribute, payload[begin : begin + attribute.length]
 
 
@@ -134,10 +139,10 @@ def value_of(attribute, payload):
 def kind_of(item):
     """The kind of the link, or of the port, whose data or statistics the item is."""
     text = ctypes.create_string_buffer(32)
-    kind = item.raw_type & 0x3FFF
-    if kind in (2, 3):
+    kind = item.raw_type & NLA_TYPE_MASK
+    if kind in (IFLA_INFO_DATA, IFLA_INFO_XSTATS):
         library.linkinfo_kind_name(item.kind, text, len(text))
-    if kind == 5:
+    if kind == IFLA_INFO_SLAVE_DATA:
         library.linkinfo_port_kind_name(item.port_kind, text, len(text))
     return f" of {text.value.decode()}" if text.value else ""
 
@@ -168,12 +173,12 @@ def main(given, wanted=None):
     if is_rejected("", given) or (wanted is not None and is_rejected("wanted: ", wanted)):
         return 1
     for item in items_of(given):
-        kind = item.raw_type & 0x3FFF
+        kind = item.raw_type & NLA_TYPE_MASK
         print(f"{item.place}: type {kind}, {item.length} bytes{kind_of(item)}")
         for attribute, payload in attributes_in(given, item):
-            place = item.place + 4 + attribute.place
+            place = item.place + NLA_HDRLEN + attribute.place
             value = value_of(attribute, payload)
-            print(f"  {place}: type {attribute.raw_type & 0x3FFF}{value}")
+            print(f"  {place}: type {attribute.raw_type & NLA_TYPE_MASK}{value}")
     return 0 if wanted is None or is_as_wanted(given, wanted) else 1
 
 

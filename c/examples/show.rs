@@ -7,6 +7,13 @@
 mod linkinfo {
     use std::ffi::c_char;
 
+    // linux/if_link.h and linux/netlink.h
+    const IFLA_INFO_DATA: u16 = 2;
+    const IFLA_INFO_XSTATS: u16 = 3;
+    const IFLA_INFO_SLAVE_DATA: u16 = 5;
+    pub const NLA_TYPE_MASK: u16 = 0x3fff;
+    pub const NLA_HDRLEN: usize = 4;
+
     #[repr(C)]
     #[derive(Clone, Copy)]
     pub struct Error {
@@ -122,15 +129,15 @@ mod linkinfo {
 
     /// The payload of an item: data or port data of a list.
     pub fn payload<'a>(list: &'a [u8], item: &Item) -> &'a [u8] {
-        &list[item.place + 4..][..item.length]
+        &list[item.place + NLA_HDRLEN..][..item.length]
     }
 
     /// The attributes in data or port data of a list.
     pub fn attributes(list: &[u8], item: &Item) -> Vec<Attribute> {
         let payload = payload(list, item);
-        let kind = match item.raw_type & 0x3fff {
-            2 => item.kind,
-            5 => item.port_kind,
+        let kind = match item.raw_type & NLA_TYPE_MASK {
+            IFLA_INFO_DATA => item.kind,
+            IFLA_INFO_SLAVE_DATA => item.port_kind,
             _ => 0,
         };
         let mut attributes = vec![Attribute::default(); payload.len() / 4];
@@ -149,11 +156,11 @@ mod linkinfo {
 
     /// The kind of the link, or of the port, whose data or statistics the item is.
     pub fn kind_of(item: &Item) -> String {
-        match item.raw_type & 0x3fff {
-            2 | 3 => {
+        match item.raw_type & NLA_TYPE_MASK {
+            IFLA_INFO_DATA | IFLA_INFO_XSTATS => {
                 text(|buffer, length| unsafe { linkinfo_kind_name(item.kind, buffer, length) })
             }
-            5 => text(|buffer, length| unsafe {
+            IFLA_INFO_SLAVE_DATA => text(|buffer, length| unsafe {
                 linkinfo_port_kind_name(item.port_kind, buffer, length)
             }),
             _ => String::new(),
@@ -205,13 +212,14 @@ fn show(list: &[u8]) {
     for item in linkinfo::items(list) {
         let kind = linkinfo::kind_of(&item);
         let of = if kind.is_empty() { "" } else { " of " };
-        let item_type = item.raw_type & 0x3fff;
+        let item_type = item.raw_type & linkinfo::NLA_TYPE_MASK;
         println!("{}: type {item_type}, {} bytes{of}{kind}", item.place, item.length);
         let data = linkinfo::payload(list, &item);
         for attribute in linkinfo::attributes(list, &item) {
-            let value = value_text(&attribute, &data[attribute.place + 4..][..attribute.length]);
-            let place = item.place + 4 + attribute.place;
-            println!("  {place}: type {}{value}", attribute.raw_type & 0x3fff);
+            let begin = attribute.place + linkinfo::NLA_HDRLEN;
+            let value = value_text(&attribute, &data[begin..][..attribute.length]);
+            let attribute_type = attribute.raw_type & linkinfo::NLA_TYPE_MASK;
+            println!("  {}: type {attribute_type}{value}", item.place + begin);
         }
     }
 }

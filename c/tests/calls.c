@@ -25,15 +25,16 @@ _Static_assert(sizeof(struct linkinfo_error) == 8 && offsetof(struct linkinfo_er
 _Static_assert(sizeof(struct linkinfo_error_at) == 16 &&
                    offsetof(struct linkinfo_error_at, place) == 8,
                "error at");
-_Static_assert(sizeof(struct linkinfo_same) == 16 &&
-                   offsetof(struct linkinfo_same, rejected) == 8 &&
-                   offsetof(struct linkinfo_same, same) == 12,
+_Static_assert(sizeof(struct linkinfo_same_result) == 16 &&
+                   offsetof(struct linkinfo_same_result, rejected) == 8 &&
+                   offsetof(struct linkinfo_same_result, same) == 12,
                "same");
-_Static_assert(sizeof(struct linkinfo_canon) == 24 &&
-                   offsetof(struct linkinfo_canon, status) == 8 &&
-                   offsetof(struct linkinfo_canon, length) == 16,
+_Static_assert(sizeof(struct linkinfo_canon_result) == 24 &&
+                   offsetof(struct linkinfo_canon_result, status) == 8 &&
+                   offsetof(struct linkinfo_canon_result, length) == 16,
                "canon");
-_Static_assert(sizeof(struct linkinfo_count) == 16 && offsetof(struct linkinfo_count, count) == 8,
+_Static_assert(sizeof(struct linkinfo_count_result) == 16 &&
+                   offsetof(struct linkinfo_count_result, count) == 8,
                "count");
 _Static_assert(sizeof(struct linkinfo_list_result) == 24 &&
                    offsetof(struct linkinfo_list_result, place) == 8 &&
@@ -141,7 +142,7 @@ static void no_bytes(void) {
   CHECK(is_none(linkinfo_check(NULL, 0)));
   struct linkinfo_error_at placed = linkinfo_check_at(NULL, 0);
   CHECK(is_none(placed.error) && placed.place == 0);
-  struct linkinfo_same same = linkinfo_same(NULL, 0, NULL, 0);
+  struct linkinfo_same_result same = linkinfo_same(NULL, 0, NULL, 0);
   CHECK(is_none(same.error) && same.rejected == 0 && same.same);
   struct linkinfo_inner_error inner = linkinfo_check_inner(NULL, 0);
   CHECK(is_none(inner.error) && inner.place == 0 && inner.inner == 0);
@@ -150,11 +151,12 @@ static void no_bytes(void) {
   CHECK(no_pair(&difference));
   struct linkinfo_unmet unmet = linkinfo_first_unmet(NULL, 0, NULL, 0);
   CHECK(unmet.met && no_attribute(&unmet) && unmet.rejected == 0 && is_none(unmet.error));
-  struct linkinfo_count count = linkinfo_count(NULL, 0);
+  struct linkinfo_count_result count = linkinfo_count(NULL, 0);
   CHECK(is_none(count.error) && count.count == 0);
+  CHECK(strcmp(linkinfo_version(), LINKINFO_VERSION_STRING) == 0);
   struct linkinfo_list_result found = linkinfo_items(NULL, 0, NULL, 0);
   CHECK(is_none(found.error) && found.count == 0 && found.place == 0);
-  struct linkinfo_canon canon = linkinfo_canon(NULL, 0, NULL, 0);
+  struct linkinfo_canon_result canon = linkinfo_canon(NULL, 0, NULL, 0);
   CHECK(is_none(canon.error) && canon.status == LINKINFO_CANON_WRITTEN && canon.length == 0);
   CHECK(linkinfo_kind_of_name(NULL, 0) == LINKINFO_KIND_OTHER &&
         linkinfo_port_kind_of_name(NULL, 0) == LINKINFO_PORT_KIND_OTHER);
@@ -375,7 +377,7 @@ static int few_rooms;
 static void canonical(const uint8_t *bytes, size_t length) {
   static uint8_t whole[ROOM];
   struct linkinfo_error error = linkinfo_check(bytes, length);
-  struct linkinfo_canon wanted = linkinfo_canon(bytes, length, whole, sizeof whole);
+  struct linkinfo_canon_result wanted = linkinfo_canon(bytes, length, whole, sizeof whole);
   CHECK(equal(wanted.error, error) &&
         wanted.status == (is_none(error) ? LINKINFO_CANON_WRITTEN : LINKINFO_CANON_REFUSED));
   CHECK(is_none(error) ? wanted.length % 4 == 0 && (wanted.length > 0) == (length > 0)
@@ -383,7 +385,7 @@ static void canonical(const uint8_t *bytes, size_t length) {
   for (size_t room = few_rooms && wanted.length > 0 ? wanted.length - 1 : 0;
        room <= wanted.length + 3; room++) {
     uint8_t *buffer = room_of(room);
-    struct linkinfo_canon canon = linkinfo_canon(bytes, length, buffer, room);
+    struct linkinfo_canon_result canon = linkinfo_canon(bytes, length, buffer, room);
     size_t shown = is_none(error) && room >= wanted.length ? wanted.length : 0;
     uint32_t status = !is_none(error)        ? LINKINFO_CANON_REFUSED
                       : room < wanted.length ? LINKINFO_CANON_SHORT
@@ -404,7 +406,7 @@ static void canonical(const uint8_t *bytes, size_t length) {
 /* A list before a change and after it. */
 static void differs(const uint8_t *a, const uint8_t *b, size_t length) {
   struct linkinfo_difference found = linkinfo_first_difference(a, length, b, length);
-  struct linkinfo_same same = linkinfo_same(a, length, b, length);
+  struct linkinfo_same_result same = linkinfo_same(a, length, b, length);
   CHECK(equal(found.error, same.error) && found.rejected == same.rejected &&
         found.same == same.same);
   if (same.same || same.rejected != 0) {
@@ -444,9 +446,9 @@ static void of_string(const uint8_t *bytes, size_t length) {
   bytes = at_end(bytes, length);
   struct linkinfo_error error = linkinfo_check(bytes, length);
   CHECK(is_returned(error.cause));
-  struct linkinfo_count count = linkinfo_count(bytes, length);
+  struct linkinfo_count_result count = linkinfo_count(bytes, length);
   CHECK(equal(count.error, error) && count.count <= length / 4);
-  struct linkinfo_same same = linkinfo_same(bytes, length, bytes, length);
+  struct linkinfo_same_result same = linkinfo_same(bytes, length, bytes, length);
   CHECK(equal(same.error, error) && same.same == is_none(error) &&
         same.rejected == (is_none(error) ? 0u : 1u));
   same = linkinfo_same(NULL, 0, bytes, length);
@@ -563,7 +565,7 @@ static void worked_canon(void) {
                        closed[] = {9, 0, 1, 0, 'p', 'f', 'c', 'p', 0, 0, 0, 0};
   uint8_t buffer[16];
   memset(buffer, GUARD, sizeof buffer);
-  struct linkinfo_canon canon = linkinfo_canon(pfcp, sizeof pfcp, buffer, sizeof closed - 1);
+  struct linkinfo_canon_result canon = linkinfo_canon(pfcp, sizeof pfcp, buffer, sizeof closed - 1);
   CHECK(canon.status == LINKINFO_CANON_SHORT && canon.length == sizeof closed &&
         is_guard(buffer, sizeof buffer));
   canon = linkinfo_canon(pfcp, sizeof pfcp, buffer, sizeof buffer);

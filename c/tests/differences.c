@@ -82,7 +82,7 @@ static int is_pair(size_t row) {
   if (!from_hex(pairs[row].first, &a) || !from_hex(pairs[row].second, &b)) return 0;
   struct linkinfo_difference found =
       linkinfo_first_difference(a.bytes, a.length, b.bytes, b.length);
-  struct linkinfo_same same = linkinfo_same(a.bytes, a.length, b.bytes, b.length);
+  struct linkinfo_same_result same = linkinfo_same(a.bytes, a.length, b.bytes, b.length);
   if (found.same != same.same || found.rejected != same.rejected) return 0;
   if (found.rejected != 0) {
     linkinfo_error_text(found.error, name, sizeof name);

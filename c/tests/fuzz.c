@@ -53,7 +53,7 @@ static struct linkinfo_error one(const uint8_t *bytes, size_t length) {
   static char text[29];
   struct linkinfo_error error = linkinfo_check(bytes, length);
   struct linkinfo_error_at placed = linkinfo_check_at(bytes, length);
-  struct linkinfo_count count = linkinfo_count(bytes, length);
+  struct linkinfo_count_result count = linkinfo_count(bytes, length);
   struct linkinfo_list_result found = linkinfo_items(bytes, length, items, ROOM / 4);
   CHECK(error.cause <= LINKINFO_CAUSE_ADDRESS_KIND || error.cause == LINKINFO_CAUSE_DEPTH);
   CHECK(memcmp(&placed.error, &error, sizeof error) == 0 &&
@@ -88,8 +88,8 @@ static struct linkinfo_error one(const uint8_t *bytes, size_t length) {
 static size_t canonical(const uint8_t *bytes, size_t length, struct linkinfo_error error,
                         uint8_t *buffer) {
   static uint8_t again[2 * ROOM];
-  struct linkinfo_canon canon = linkinfo_canon(bytes, length, buffer, 2 * ROOM),
-                        none = linkinfo_canon(bytes, length, NULL, 0);
+  struct linkinfo_canon_result canon = linkinfo_canon(bytes, length, buffer, 2 * ROOM),
+                               none = linkinfo_canon(bytes, length, NULL, 0);
   CHECK(memcmp(&canon.error, &error, sizeof error) == 0 && none.length == canon.length &&
         (canon.status == LINKINFO_CANON_REFUSED) == (error.cause != 0));
   CHECK(canon.status != LINKINFO_CANON_SHORT &&
@@ -117,8 +117,8 @@ int LLVMFuzzerTestOneInput(const uint8_t *data, size_t size) {
   memcpy(a, data + 2, cut);
   memcpy(b, data + 2 + cut, rest - cut);
   struct linkinfo_error x = one(a, cut), y = one(b, rest - cut);
-  struct linkinfo_same same = linkinfo_same(a, cut, b, rest - cut),
-                       swapped = linkinfo_same(b, rest - cut, a, cut);
+  struct linkinfo_same_result same = linkinfo_same(a, cut, b, rest - cut),
+                              swapped = linkinfo_same(b, rest - cut, a, cut);
   CHECK(same.rejected == (x.cause != 0   ? 1u
                           : y.cause != 0 ? 2u
                                        : 0u) &&

@@ -15,7 +15,7 @@ static void write_result(struct linkinfo_error error, const char *accepted) {
 
 static void write_canon(const struct string *string) {
   static uint8_t buffer[2 * MOST_BYTES];
-  struct linkinfo_canon canon =
+  struct linkinfo_canon_result canon =
       linkinfo_canon(string->bytes, string->length, buffer, sizeof buffer);
   static char hex[4 * MOST_BYTES + 1] = "-";
   for (size_t i = 0; i < canon.length; i++) sprintf(hex + 2 * i, "%02x", buffer[i]);
@@ -31,7 +31,7 @@ int main(void) {
     const char *second = first ? strchr(first + 1, ' ') : NULL;
     if (!first || !from_hex(first + 1, &a) || (second && !from_hex(second + 1, &b))) return 1;
     if (second) {
-      struct linkinfo_same same = linkinfo_same(a.bytes, a.length, b.bytes, b.length);
+      struct linkinfo_same_result same = linkinfo_same(a.bytes, a.length, b.bytes, b.length);
       if (same.rejected != (same.error.cause == 0                     ? 0u
                             : linkinfo_check(a.bytes, a.length).cause ? 1u
                                                                     : 2u))

@@ -59,7 +59,7 @@ static int is_met_by_itself(const struct string *request) {
   static uint8_t canonical[2 * MOST_BYTES];
   const uint8_t *bytes = request->bytes;
   size_t length = request->length;
-  struct linkinfo_canon canon = linkinfo_canon(bytes, length, canonical, sizeof canonical);
+  struct linkinfo_canon_result canon = linkinfo_canon(bytes, length, canonical, sizeof canonical);
   if (canon.status == LINKINFO_CANON_REFUSED) return 1;
   return linkinfo_first_unmet(bytes, length, bytes, length).met &&
          linkinfo_first_unmet(canonical, canon.length, bytes, length).met &&

@@ -39,8 +39,8 @@ static void *same(void *wrong) {
   uint8_t padded[sizeof list + 4];
   memcpy(padded, list, sizeof list);
   header(padded + sizeof list, 4, 0);
-  struct linkinfo_same itself = linkinfo_same(list, sizeof list, list, sizeof list),
-                       other = linkinfo_same(list, sizeof list, padded, sizeof padded);
+  struct linkinfo_same_result itself = linkinfo_same(list, sizeof list, list, sizeof list),
+                              other = linkinfo_same(list, sizeof list, padded, sizeof padded);
   return itself.same && other.error.cause == 0 && !other.same ? NULL : wrong;
 }
 static void *first_unmet(void *wrong) {

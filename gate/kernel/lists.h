@@ -102,7 +102,7 @@ static struct list list_of_hex(const char *hex) {
 
 /* The canonical encoding of a list, by the library. */
 static bool canonical(const struct list *list, struct list *into) {
-  struct linkinfo_canon result =
+  struct linkinfo_canon_result result =
       linkinfo_canon(list->bytes, list->length, into->bytes, sizeof into->bytes);
   into->length = result.length;
   return result.status == LINKINFO_CANON_WRITTEN;
