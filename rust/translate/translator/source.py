@@ -19,11 +19,11 @@ class Source:
         self.tokens = tokens_of(text)
         self.deleted = collections.Counter()
         self.put = collections.Counter()
-        self.refresh()
+        self.kept = [t for t in self.tokens if t.counts]
 
     def refresh(self):
         """Forgets the deleted tokens. Each rule calls it once it has deleted."""
-        self.kept = [t for t in self.tokens if t.counts and t.out]
+        self.kept = [t for t in self.kept if t.out]
 
     def at(self, index):
         """What is written for the token, or nothing outside the file."""
@@ -79,7 +79,7 @@ class Source:
 
     def words(self):
         """The indices of the words."""
-        return [k for k in range(len(self.kept)) if self.kind(k) == "word"]
+        return [k for k, token in enumerate(self.kept) if token.kind == "word"]
 
     def front(self, index):
         """The index of the first of the docs and `pub` right before the item at the index."""
