@@ -64,6 +64,8 @@ pub trait TryVec<T>: Sized {
     fn try_with_room(capacity: usize) -> Result<Self, AllocError>;
     /// The items of the array.
     fn try_from_array<const N: usize>(items: [T; N]) -> Result<Self, AllocError>;
+    /// Room for this many more items.
+    fn try_reserve_room(&mut self, additional: usize) -> Result<(), AllocError>;
     /// Adds an item.
     fn try_push(&mut self, item: T) -> Result<(), AllocFailed<T>>;
     /// Cuts the `Vec`, or fills it up with clones of the item, to this length.
@@ -92,8 +94,16 @@ impl<T> TryVec<T> for Vec<T> {
     }
 
     #[inline(always)]
+    fn try_reserve_room(&mut self, additional: usize) -> Result<(), AllocError> {
+        if self.capacity() - self.len() < additional {
+            return grow(self, additional);
+        }
+        Ok(())
+    }
+
+    #[inline(always)]
     fn try_push(&mut self, item: T) -> Result<(), AllocFailed<T>> {
-        if self.len() == self.capacity() && self.try_reserve(1).is_err() {
+        if self.try_reserve_room(1).is_err() {
             return Err(AllocFailed { value: item });
         }
         self.push(item);
@@ -119,6 +129,13 @@ impl<T> TryVec<T> for Vec<T> {
         self.extend_from_slice(items);
         Ok(())
     }
+}
+
+/// Room for this many more items, where there is not yet.
+#[cold]
+#[inline(never)]
+fn grow<T>(items: &mut Vec<T>, additional: usize) -> Result<(), AllocError> {
+    Ok(items.try_reserve(additional)?)
 }
 
 /// A copy of a slice, or the failure to allocate it.
@@ -207,5 +224,18 @@ impl FillZeros for [u8] {
             [a, b, c] => (*a, *b, *c) = (0, 0, 0),
             longer => longer.fill(0),
         }
+    }
+}
+
+/// The multiple of four that is not less: `next_multiple_of(4)`, of which LLVM makes a comparison.
+pub trait NextMultiple {
+    /// The multiple. Like `next_multiple_of`, it overflows where the number is above the last one.
+    fn next_multiple_of_four(self) -> usize;
+}
+
+impl NextMultiple for usize {
+    #[inline(always)]
+    fn next_multiple_of_four(self) -> usize {
+        (self + 3) & !3
     }
 }

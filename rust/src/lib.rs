@@ -4,6 +4,8 @@
 //! - [`VecLinkInfo::parse`] parses a list, or returns the first error; [`VecLinkInfo::to_vec`]
 //!   writes its one canonical encoding.
 //! - [`check`] and [`same`] validate and compare encodings without allocating memory.
+//! - [`first_unmet`] returns the first attribute of a request that a link does not meet, and
+//!   [`first_difference`] where two lists differ first.
 //! - [`canon`] and [`canon_into`] write the canonical encoding of the list that an encoding means.
 //! - [`LinkInfoWalk`] iterates over the borrowed attributes.
 //!
@@ -27,8 +29,14 @@
 //! Most of the crate is translated from sources that are proved against their contracts. The crate
 //! itself is not proved: `docs/RUST.md` of the repository says what may be claimed of it.
 //!
-//! A `clone` of a value that owns memory aborts the process where memory runs out, as those of
-//! `alloc` do. Every other call reports it.
+//! `clone`, `collect`, and `From` of arrays, slices and `&str` abort the process where memory runs
+//! out, as those of `alloc` do. Every other call reports it.
+//!
+//! # Features
+//!
+//! - `std`, on by default: `From<AllocError> for std::io::Error`.
+//! - `netlink-packet-core`: the list is the attribute `IFLA_LINKINFO` by the traits `Nla`,
+//!   `Emitable` and `Parseable` of that crate.
 #![no_std]
 #![forbid(unsafe_code)]
 

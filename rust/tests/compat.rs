@@ -2,7 +2,7 @@
 
 use linkinfo::AllocError;
 use linkinfo::compat::{
-    FillZeros, ToUnsigned, TryFromText, TryToVec, TryVec, narrow_u8, narrow_u16,
+    FillZeros, NextMultiple, ToUnsigned, TryFromText, TryToVec, TryVec, narrow_u8, narrow_u16,
 };
 use std::error::Error;
 use std::io;
@@ -16,6 +16,13 @@ fn zeros_of_every_length() {
         (wanted[0], wanted[len + 1]) = (255, 255);
         assert_eq!(bytes, wanted);
     }
+}
+
+#[test]
+fn multiples_of_four() {
+    let multiples: Vec<usize> = (0..10).map(usize::next_multiple_of_four).collect();
+    assert_eq!(multiples, [0, 4, 4, 4, 4, 8, 8, 8, 8, 12]);
+    assert_eq!((usize::MAX - 3).next_multiple_of_four(), usize::MAX - 3);
 }
 
 #[test]
@@ -46,6 +53,11 @@ fn vectors() {
         items.try_push(item).unwrap();
     }
     assert_eq!(items, [0, 1, 2, 3, 4]);
+    items.try_reserve_room(7).unwrap();
+    let room = items.capacity();
+    assert!(room >= 12);
+    items.try_reserve_room(room - 5).unwrap();
+    assert_eq!((items.capacity(), items.len()), (room, 5));
     items.try_resize(3, 9).unwrap();
     assert_eq!(items, [0, 1, 2]);
     items.try_resize(5, 9).unwrap();
@@ -62,6 +74,7 @@ fn vectors() {
 fn requests_that_no_allocator_grants() {
     assert_eq!(Vec::<u64>::try_with_room(usize::MAX), Err(AllocError));
     assert_eq!(Vec::<u8>::new().try_resize(usize::MAX, 0), Err(AllocError));
+    assert_eq!(vec![1_u16].try_reserve_room(usize::MAX), Err(AllocError));
 }
 
 #[test]

@@ -1,5 +1,5 @@
 from tests.helping import RuleTest
-from translator import allocator, casts, fallible, flags, formatting
+from translator import allocator, casts, fallible, flags, formatting, inlining
 from translator.rules import Own
 from translator.source import Source, Unknown
 
@@ -79,7 +79,7 @@ class Fallible(RuleTest):
             self.rule(),
             "a.push(b)?; a.resize(1, 0)?; a.reserve(1)?; a.push_reserved(c); "
             "a.extend_from_slice(d)?",
-            "a.try_push(b)?; a.try_resize(1, 0)?; a.try_reserve(1)?; a.push(c); "
+            "a.try_push(b)?; a.try_resize(1, 0)?; a.try_reserve_room(1)?; a.push(c); "
             "a.try_extend_from_slice(d)?",
         )
 
@@ -142,6 +142,13 @@ class Names(RuleTest):
             "a[b..].fill_zeros(); c.fill(1)",
         )
 
+    def test_multiples(self):
+        self.assert_written(
+            formatting.name_multiples,
+            "a.next_multiple_of(4); b.next_multiple_of(8)",
+            "a.next_multiple_of_four(); b.next_multiple_of(8)",
+        )
+
     def test_flag_tables(self):
         self.assert_written(
             flags.name_flag_tables,
@@ -156,3 +163,26 @@ class Names(RuleTest):
             'Flag::new("a", A(1),)',
         )
         self.assert_written(flags.read_flag_tables, "F::flags().len()", "F::FLAGS.len()")
+
+
+class Inlining(RuleTest):
+    def test_methods_of_one_attribute(self):
+        self.assert_written(
+            inlining.inline_small,
+            "impl<P: LinkPeer> Nla for Peer<P> { /// A.\n fn kind(&self) -> u16 { 1 } "
+            "#[inline(always)] fn fit_len(&self) -> usize { f() } } "
+            "impl<'a> a::Parseable<B<'a>> for C { fn parse(b: &B<'a>) -> C { C } } "
+            "impl Bytes { pub fn copy_of(a: &[u8]) -> Bytes { B } }",
+            "impl<P: LinkPeer> Nla for Peer<P> { /// A.\n #[inline] fn kind(&self) -> u16 { 1 } "
+            "#[inline(always)] fn fit_len(&self) -> usize { f() } } "
+            "impl<'a> a::Parseable<B<'a>> for C { #[inline] fn parse(b: &B<'a>) -> C { C } } "
+            "impl Bytes { #[inline] pub fn copy_of(a: &[u8]) -> Bytes { B } }",
+        )
+
+    def test_others_stay(self):
+        self.assert_kept(
+            inlining.inline_small,
+            "trait Nla { fn kind(&self) -> u16; } impl Nla { fn len(&self) -> usize { 1 } } "
+            "impl Debug for A { fn fmt(&self) {} } fn f<T>(a: impl Nla) { g() } "
+            "trait Copied { fn copy_of(a: &[u8]) -> Self; }",
+        )

@@ -1,9 +1,9 @@
 import re
 import unittest
+from unittest import mock
 
 from tests.test_tokens import REPOSITORY
 from translator import items, layout, panics, proofs
-from translator.rules import Translation
 from translator.source import Source
 
 
@@ -35,7 +35,14 @@ class Root(unittest.TestCase):
 class Package(unittest.TestCase):
     @classmethod
     def setUpClass(cls):
-        cls.files = layout.package_files(REPOSITORY)
+        cls.crates, read = [], layout.read_crate
+
+        def remembered(*arguments):
+            cls.crates.append(read(*arguments))
+            return cls.crates[-1]
+
+        with mock.patch.object(layout, "read_crate", remembered):
+            cls.files = layout.package_files(REPOSITORY)
 
     def test_every_test_is_translated(self):
         files = REPOSITORY.glob("crates/*/src/**/*.rt")
@@ -49,12 +56,12 @@ class Package(unittest.TestCase):
             self.assertIn(folder + "mod.rs", self.files)
 
     def test_counts_of_what_is_put_in(self):
-        libraries = [layout.read_crate(REPOSITORY, name) for name in layout.LIBRARY]
+        libraries = [crate for crate in self.crates if crate.name in layout.LIBRARY]
+        self.assertEqual(len(libraries), len(layout.LIBRARY))
         sources = [source for crate in libraries for source in crate.sources.values()]
-        Translation(libraries)
         kinds = {kind.split(":")[0] for source in sources for kind in source.put}
         self.assertLessEqual(
             kinds,
             {"path", "import", "derive", "fallible call", "cast", "formatter", "octets"}
-            | {"unsigned", "zeros", "flags", "panics", "docs"},
+            | {"unsigned", "zeros", "multiple", "inline", "flags", "panics", "docs"},
         )

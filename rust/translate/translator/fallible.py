@@ -20,7 +20,7 @@ BY_NAME = {"to_vec": "try_to_vec", "to_string": "try_to_text", "repeat": "try_re
 GROWING = {
     "push": "try_push",
     "resize": "try_resize",
-    "reserve": "try_reserve",
+    "reserve": "try_reserve_room",
     "extend_from_slice": "try_extend_from_slice",
     "push_reserved": "push",
     "clone": "try_clone",

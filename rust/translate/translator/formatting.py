@@ -1,4 +1,4 @@
-"""Rust's forms of four things that its library has another way."""
+"""Rust's forms of five things that its library has another way."""
 
 
 def name_formatters(source):
@@ -35,4 +35,14 @@ def name_zeros(source):
         if source.reads(index, "fill", "(", "0", ")") and source.at(index - 1) == ".":
             source.replace(index, "fill_zeros", "zeros")
             source.delete(index + 2, index + 3, "number of fill")
+    source.refresh()
+
+
+def name_multiples(source):
+    """`next_multiple_of(4)` compares in Rust: LLVM does not see that adding three and clearing two
+    bits is the same."""
+    for index in source.words():
+        if source.reads(index, "next_multiple_of", "(", "4", ")") and source.at(index - 1) == ".":
+            source.replace(index, "next_multiple_of_four", "multiple")
+            source.delete(index + 2, index + 3, "number of next_multiple_of")
     source.refresh()

@@ -7,6 +7,7 @@ PRELUDE = {"Vec": "alloc::vec::Vec", "String": "alloc::string::String"}
 # The traits of `compat` by which fallible and renamed calls are methods.
 METHODS = {
     "try_push": "TryVec",
+    "try_reserve_room": "TryVec",
     "try_resize": "TryVec",
     "try_with_room": "TryVec",
     "try_from_array": "TryVec",
@@ -15,6 +16,7 @@ METHODS = {
     "try_from_text": "TryFromText",
     "to_unsigned": "ToUnsigned",
     "fill_zeros": "FillZeros",
+    "next_multiple_of_four": "NextMultiple",
 }
 # Those that tests alone call; the module `support` has them all.
 IN_TESTS = {"try_clone", "try_to_text", "try_repeat"}

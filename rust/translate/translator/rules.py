@@ -1,7 +1,7 @@
 """The rules in order, and the translation of the files of a crate."""
 
-from . import allocator, casts, clones, docs, fallible, flags, formatting, imports, known, macros
-from . import panics, paths, proofs, without_laws
+from . import allocator, casts, clones, docs, fallible, flags, formatting, imports, inlining, known
+from . import macros, panics, paths, proofs, without_laws
 from .items import functions, methods, methods_of_traits
 from .laws import Laws
 from .source import Source
@@ -41,6 +41,8 @@ def rewrite_calls(source, own, place):
     formatting.name_unsigned(source)
     if not place.hosted:
         formatting.name_zeros(source)
+        formatting.name_multiples(source)
+        inlining.inline_small(source)
     flags.name_flag_tables(source)
     flags.make_flags(source)
     flags.read_flag_tables(source)

@@ -19,11 +19,13 @@ class Source:
         self.tokens = tokens_of(text)
         self.deleted = collections.Counter()
         self.put = collections.Counter()
+        self.kept = [t for t in self.tokens if t.counts]
         self.refresh()
 
     def refresh(self):
         """Forgets the deleted tokens. Each rule calls it once it has deleted."""
-        self.kept = [t for t in self.tokens if t.counts and t.out]
+        self.kept = [t for t in self.kept if t.out]
+        self.kept_words = None
 
     def at(self, index):
         """What is written for the token, or nothing outside the file."""
@@ -38,7 +40,10 @@ class Source:
 
     def reads(self, index, *words):
         """Whether these tokens are at the index, one after another."""
-        return all(self.at(index + k) == word for k, word in enumerate(words))
+        for k, word in enumerate(words, index):
+            if self.at(k) != word:
+                return False
+        return True
 
     def is_path(self, index):
         """Whether `::` is at the index."""
@@ -79,7 +84,9 @@ class Source:
 
     def words(self):
         """The indices of the words."""
-        return [k for k in range(len(self.kept)) if self.kind(k) == "word"]
+        if self.kept_words is None:
+            self.kept_words = [k for k, t in enumerate(self.kept) if t.kind == "word"]
+        return self.kept_words
 
     def front(self, index):
         """The index of the first of the docs and `pub` right before the item at the index."""

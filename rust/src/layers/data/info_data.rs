@@ -168,14 +168,17 @@ macro_rules! of_data {
 /// Written as an attribute of type 2 (`IFLA_INFO_DATA`). The payload is the encodings of the
 /// attributes, one after another.
 impl<P: LinkPeer> Nla for InfoDataOf<P> {
+    #[inline]
     fn value_len(&self) -> usize {
         self.fit_len().unwrap_or(0)
     }
 
+    #[inline]
     fn kind(&self) -> u16 {
         IFLA_INFO_DATA
     }
 
+    #[inline]
     fn emit_payload(&self, buffer: &mut [u8]) -> usize {
         of_data!(
             self, it =>
@@ -183,10 +186,12 @@ impl<P: LinkPeer> Nla for InfoDataOf<P> {
         )
     }
 
+    #[inline]
     fn emit_value(&self, buffer: &mut [u8]) {
         self.emit_payload(buffer);
     }
 
+    #[inline]
     fn fit_len(&self) -> Option<usize> {
         of_data!(self, it => list_fit_len(it), one_fit_len(it), fitting(it.len()))
     }

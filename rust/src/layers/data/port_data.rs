@@ -143,14 +143,17 @@ impl InfoPortData {
 /// Written as an attribute of type 5 (`IFLA_INFO_SLAVE_DATA`). The payload is the encodings of the
 /// attributes, one after another.
 impl Nla for InfoPortData {
+    #[inline]
     fn value_len(&self) -> usize {
         self.fit_len().unwrap_or(0)
     }
 
+    #[inline]
     fn kind(&self) -> u16 {
         IFLA_INFO_SLAVE_DATA
     }
 
+    #[inline]
     fn emit_payload(&self, buffer: &mut [u8]) -> usize {
         match self {
             InfoPortData::BondPort(list) => write_list(list, buffer),
@@ -161,10 +164,12 @@ impl Nla for InfoPortData {
         }
     }
 
+    #[inline]
     fn emit_value(&self, buffer: &mut [u8]) {
         self.emit_payload(buffer);
     }
 
+    #[inline]
     fn fit_len(&self) -> Option<usize> {
         match self {
             InfoPortData::BondPort(list) => list_fit_len(list),

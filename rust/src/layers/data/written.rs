@@ -1,5 +1,6 @@
 //! Payloads that are the encoding of a list of attributes, or of one attribute.
 
+use crate::compat::NextMultiple;
 use crate::layers::nla_frame::{
     DecodeError, HeaderCount, Nla, Nlas, fitting, nlas_fit_len, write_attribute, write_attributes,
 };
@@ -35,5 +36,5 @@ pub(crate) fn write_one<T: Nla>(nla: &T, buffer: &mut [u8]) -> usize {
 
 /// The length, in bytes, of the encoding of one attribute, or `None` if it does not fit a payload.
 pub(crate) fn one_fit_len<T: Nla>(nla: &T) -> Option<usize> {
-    fitting(4 + nla.fit_len()?.next_multiple_of(4))
+    fitting(4 + nla.fit_len()?.next_multiple_of_four())
 }

@@ -53,22 +53,27 @@ impl TableFamily for InfoIpoib {
 }
 
 impl Nla for InfoIpoib {
+    #[inline]
     fn value_len(&self) -> usize {
         row_value_len(self)
     }
 
+    #[inline]
     fn kind(&self) -> u16 {
         row_kind(self)
     }
 
+    #[inline]
     fn emit_value(&self, buffer: &mut [u8]) {
         row_emit_value(self, buffer);
     }
 
+    #[inline]
     fn emit_payload(&self, buffer: &mut [u8]) -> usize {
         row_emit_payload(self, buffer)
     }
 
+    #[inline]
     fn fit_len(&self) -> Option<usize> {
         row_fit_len(self)
     }
@@ -78,6 +83,7 @@ impl WrittenByTable for InfoIpoib {}
 
 /// Reads the attribute. A payload of invalid length is rejected as `(Ipoib, type, Length)`.
 impl<'a> Parseable<NlaBuffer<'a>> for InfoIpoib {
+    #[inline]
     fn parse(buffer: &NlaBuffer<'a>) -> Result<InfoIpoib, DecodeError> {
         row_read(buffer, ())
     }

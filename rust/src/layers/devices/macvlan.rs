@@ -95,22 +95,27 @@ impl NestedFamily for InfoMacVlan {
 }
 
 impl Nla for InfoMacVlan {
+    #[inline]
     fn value_len(&self) -> usize {
         nested_value_len(self)
     }
 
+    #[inline]
     fn kind(&self) -> u16 {
         nested_kind(self)
     }
 
+    #[inline]
     fn emit_value(&self, buffer: &mut [u8]) {
         nested_emit_value(self, buffer);
     }
 
+    #[inline]
     fn emit_payload(&self, buffer: &mut [u8]) -> usize {
         nested_emit_payload(self, buffer)
     }
 
+    #[inline]
     fn fit_len(&self) -> Option<usize> {
         nested_fit_len(self)
     }
@@ -174,6 +179,7 @@ impl LinkFamily for InfoMacVlan {
 /// type, Length)`, and a list nested in 128 others as `(MacVlan, 5, Depth)`. A nested list with a
 /// bad header is rejected as `(Frame, 0, Header)`.
 impl<'a> Parseable<NlaBuffer<'a>> for InfoMacVlan {
+    #[inline]
     fn parse(buffer: &NlaBuffer<'a>) -> Result<InfoMacVlan, DecodeError> {
         nested_parse(buffer)
     }

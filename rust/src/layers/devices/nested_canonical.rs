@@ -2,6 +2,7 @@
 //! value. The calls that measure and write are mutually recursive, and visit each attribute once,
 //! at any depth.
 
+use crate::compat::NextMultiple;
 use crate::layers::devices::nested_family::{LIST_TYPE, MOST_LISTS, NestedFamily};
 use crate::layers::nla_frame::{HeaderCount, NlaBuffer, fitting, next_attribute, write_frame};
 use crate::layers::table::{row_canonical_len, row_write_canonical};
@@ -30,7 +31,7 @@ fn nested_list_canonical_len<F: NestedFamily>(bytes: &[u8], lists: u8) -> Option
     while let Some(next) = next_attribute(rest, &mut count) {
         let (nla, after) = next.unwrap();
         let len = nested_canonical_len::<F>(&nla, lists)?;
-        total = fitting(total + 4 + len.next_multiple_of(4))?;
+        total = fitting(total + 4 + len.next_multiple_of_four())?;
         rest = after;
     }
     Some(total)
@@ -64,7 +65,7 @@ pub fn nested_write_canonical<F: NestedFamily>(
 fn nested_write_list<F: NestedFamily>(bytes: &[u8], lists: u8, buffer: &mut [u8]) -> usize {
     let len = nested_list_write_canonical::<F>(bytes, lists, &mut buffer[4..]);
     write_frame(buffer, LIST_TYPE, len);
-    4 + len.next_multiple_of(4)
+    4 + len.next_multiple_of_four()
 }
 
 /// Writes the canonical byte string of the list that the bytes mean at the front of the buffer, and

@@ -1,6 +1,7 @@
 //! Measures and writes values of a family with nested lists: each call is one walk over the value,
 //! linear in its size at any depth.
 
+use crate::compat::NextMultiple;
 use crate::layers::devices::nested_family::{LIST_TYPE, NestedFamily};
 use crate::layers::nla_frame::{fitting, write_frame};
 use crate::layers::table::{row_emit_payload, row_fit_len, row_kind};
@@ -18,7 +19,7 @@ fn nested_list_fit_len<F: NestedFamily>(items: &[F]) -> Option<usize> {
     let mut total: usize = 0;
     for item in items {
         let len = nested_fit_len(item)?;
-        total = fitting(total + 4 + len.next_multiple_of(4))?;
+        total = fitting(total + 4 + len.next_multiple_of_four())?;
     }
     Some(total)
 }
@@ -85,5 +86,5 @@ fn emit_list<F: NestedFamily>(items: &[F], buffer: &mut [u8]) -> usize {
 fn emit_attribute<F: NestedFamily>(value: &F, buffer: &mut [u8]) -> usize {
     let len = nested_emit_payload(value, &mut buffer[4..]);
     write_frame(buffer, nested_kind(value), len);
-    4 + len.next_multiple_of(4)
+    4 + len.next_multiple_of_four()
 }

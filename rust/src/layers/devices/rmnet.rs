@@ -65,22 +65,27 @@ fn pair_of(under: InfoRmNetFlags) -> (u32, u32) {
 }
 
 impl Nla for InfoRmNet {
+    #[inline]
     fn value_len(&self) -> usize {
         row_value_len(self)
     }
 
+    #[inline]
     fn kind(&self) -> u16 {
         row_kind(self)
     }
 
+    #[inline]
     fn emit_value(&self, buffer: &mut [u8]) {
         row_emit_value(self, buffer);
     }
 
+    #[inline]
     fn emit_payload(&self, buffer: &mut [u8]) -> usize {
         row_emit_payload(self, buffer)
     }
 
+    #[inline]
     fn fit_len(&self) -> Option<usize> {
         row_fit_len(self)
     }
@@ -90,6 +95,7 @@ impl WrittenByTable for InfoRmNet {}
 
 /// Reads the attribute. A payload of invalid length is rejected as `(RmNet, type, Length)`.
 impl<'a> Parseable<NlaBuffer<'a>> for InfoRmNet {
+    #[inline]
     fn parse(buffer: &NlaBuffer<'a>) -> Result<InfoRmNet, DecodeError> {
         row_read(buffer, ())
     }

@@ -1,6 +1,7 @@
 //! The canonical encoding of a list, from another encoding of it, in a buffer of the caller and
 //! without allocating.
 
+use crate::compat::NextMultiple;
 use crate::layers::link::canonical::CanonError;
 use crate::layers::link::item::{item_canonical_len, write_item};
 use crate::layers::link::list::check_of;
@@ -54,7 +55,7 @@ fn rest_canonical_len<P: LinkPeer>(walk: &mut LinkInfoWalk<'_>) -> Option<usize>
     while let Some(next) = walk.advance() {
         let (nla, role) = next.unwrap();
         let len = item_canonical_len::<P>(&nla, role)?;
-        total = total.checked_add(4 + len.next_multiple_of(4))?;
+        total = total.checked_add(4 + len.next_multiple_of_four())?;
     }
     Some(total)
 }

@@ -1,5 +1,6 @@
 //! One attribute of the list: parsed, validated, compared and written.
 
+use crate::compat::NextMultiple;
 use crate::layers::data::{
     DataFamily, InfoDataOf, InfoPortData, PayloadFamily, PortFamily, family_of, port_family_of,
 };
@@ -163,5 +164,5 @@ fn write_payload<D, F: PayloadFamily<D>>(
 ) -> usize {
     let len = family.write_canonical(payload, &mut buffer[4..]);
     write_frame(buffer, kind, len);
-    4 + len.next_multiple_of(4)
+    4 + len.next_multiple_of_four()
 }

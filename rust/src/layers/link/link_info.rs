@@ -28,6 +28,7 @@ pub enum LinkInfoOf<P> {
 pub type LinkInfo = LinkInfoOf<Bytes>;
 
 impl<P: LinkPeer> Nla for LinkInfoOf<P> {
+    #[inline]
     fn value_len(&self) -> usize {
         match self {
             LinkInfoOf::Xstats(xstats) => xstats.buffer_len(),
@@ -39,6 +40,7 @@ impl<P: LinkPeer> Nla for LinkInfoOf<P> {
         }
     }
 
+    #[inline]
     fn kind(&self) -> u16 {
         match self {
             LinkInfoOf::Xstats(_) => IFLA_INFO_XSTATS,
@@ -50,6 +52,7 @@ impl<P: LinkPeer> Nla for LinkInfoOf<P> {
         }
     }
 
+    #[inline]
     fn emit_payload(&self, buffer: &mut [u8]) -> usize {
         match self {
             LinkInfoOf::Xstats(xstats) => {
@@ -64,10 +67,12 @@ impl<P: LinkPeer> Nla for LinkInfoOf<P> {
         }
     }
 
+    #[inline]
     fn emit_value(&self, buffer: &mut [u8]) {
         self.emit_payload(buffer);
     }
 
+    #[inline]
     fn fit_len(&self) -> Option<usize> {
         match self {
             LinkInfoOf::Xstats(xstats) => fitting(xstats.buffer_len()),

@@ -1,5 +1,6 @@
 //! One attribute in borrowed bytes, and one step from an attribute to the next.
 
+use crate::compat::NextMultiple;
 use crate::layers::nla_frame::error::{Cause, DecodeError, Family};
 use crate::layers::nla_frame::exact_eq::ExactEq;
 use crate::layers::nla_frame::header_count::HeaderCount;
@@ -50,7 +51,7 @@ fn first_of<'a>(bytes: &'a [u8]) -> Result<NlaBuffer<'a>, DecodeError> {
 /// The bytes after an attribute of this length and its padding.
 #[inline(always)]
 fn rest_after<'a>(bytes: &'a [u8], length: u16) -> &'a [u8] {
-    let step = (length as usize).next_multiple_of(4);
+    let step = (length as usize).next_multiple_of_four();
     if step < bytes.len() {
         &bytes[step..]
     } else {

@@ -18,6 +18,7 @@ impl Bytes {
     }
 
     /// Copies the bytes; fails only if memory runs out.
+    #[inline]
     pub fn copy_of(bytes: &[u8]) -> Result<Bytes, AllocError> {
         Ok(Bytes {
             bytes: bytes.try_to_vec()?,

@@ -29,18 +29,22 @@ impl DefaultNla {
 }
 
 impl Nla for DefaultNla {
+    #[inline]
     fn value_len(&self) -> usize {
         self.value.len()
     }
 
+    #[inline]
     fn kind(&self) -> u16 {
         self.kind
     }
 
+    #[inline]
     fn emit_value(&self, buffer: &mut [u8]) {
         buffer.copy_from_slice(self.value.as_slice());
     }
 
+    #[inline]
     fn fit_len(&self) -> Option<usize> {
         fitting(self.value.len())
     }
@@ -48,6 +52,7 @@ impl Nla for DefaultNla {
 
 /// Copies type and payload. Reading fails only if memory runs out.
 impl<'a> Parseable<NlaBuffer<'a>> for DefaultNla {
+    #[inline]
     fn parse(buffer: &NlaBuffer<'a>) -> Result<DefaultNla, DecodeError> {
         Ok(DefaultNla {
             kind: buffer.raw_kind(),

@@ -1,6 +1,7 @@
 //! Measures and writes attributes and lists of attributes.
 
 use crate::compat::FillZeros;
+use crate::compat::NextMultiple;
 use crate::layers::nla_frame::traits::Nla;
 
 /// The maximum length of a payload: what a 16-bit length field can count, less the four header
@@ -31,7 +32,7 @@ pub fn fitting(len: usize) -> Option<usize> {
 pub fn write_attribute<T: Nla>(item: &T, buffer: &mut [u8]) -> usize {
     let len = item.emit_payload(&mut buffer[4..]);
     write_frame(buffer, item.kind(), len);
-    4 + len.next_multiple_of(4)
+    4 + len.next_multiple_of_four()
 }
 
 /// Completes an attribute whose payload of `len` bytes is at offset 4 of the buffer already: writes
@@ -48,7 +49,7 @@ pub fn write_attribute<T: Nla>(item: &T, buffer: &mut [u8]) -> usize {
 pub fn write_frame(buffer: &mut [u8], kind: u16, len: usize) {
     let end = 4 + len;
     write_header(buffer, crate::compat::narrow_u16(end), kind);
-    buffer[end..end.next_multiple_of(4)].fill_zeros();
+    buffer[end..end.next_multiple_of_four()].fill_zeros();
 }
 
 /// Writes bytes at the front of the buffer, and returns how many there are. The bytes after them
@@ -79,7 +80,7 @@ pub fn write_bytes(bytes: &[u8], buffer: &mut [u8]) -> usize {
 pub fn write_bytes_attribute(kind: u16, value: &[u8], buffer: &mut [u8]) -> usize {
     let len = write_bytes(value, &mut buffer[4..]);
     write_frame(buffer, kind, len);
-    4 + len.next_multiple_of(4)
+    4 + len.next_multiple_of_four()
 }
 
 /// Writes length and type at the front of the buffer, each as a little-endian u16.
@@ -95,7 +96,7 @@ pub fn nlas_fit_len<T: Nla>(items: &[T]) -> Option<usize> {
     let mut total: usize = 0;
     for item in items {
         let len = item.fit_len()?;
-        total = total.checked_add(4 + len.next_multiple_of(4))?;
+        total = total.checked_add(4 + len.next_multiple_of_four())?;
     }
     Some(total)
 }

@@ -19,6 +19,7 @@ impl Text {
     }
 
     /// Copies the text; fails only if memory runs out.
+    #[inline]
     pub fn copy_of(text: &str) -> Result<Text, AllocError> {
         Ok(Text {
             text: String::try_from_text(text)?,

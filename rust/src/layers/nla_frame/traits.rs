@@ -1,5 +1,6 @@
 //! What values can do: be written as an attribute or as plain bytes, and be read from bytes.
 
+use crate::compat::NextMultiple;
 use crate::layers::nla_frame::emission::write_frame;
 use crate::layers::nla_frame::error::DecodeError;
 
@@ -57,7 +58,7 @@ pub trait Nla {
     /// May panic where a condition of the caller that is named here does not hold. Where it does
     /// not panic then, the result has no meaning.
     fn buffer_len(&self) -> usize {
-        4 + self.value_len().next_multiple_of(4)
+        4 + self.value_len().next_multiple_of_four()
     }
 
     /// Writes header, payload and zero padding at the front of the buffer.

@@ -225,18 +225,22 @@ impl fmt::Display for InfoKind {
 /// An attribute `IFLA_INFO_KIND` (1): the name and one NUL. It fits if the name has at most 65530
 /// bytes.
 impl Nla for InfoKind {
+    #[inline]
     fn value_len(&self) -> usize {
         self.name().len() + 1
     }
 
+    #[inline]
     fn kind(&self) -> u16 {
         IFLA_INFO_KIND
     }
 
+    #[inline]
     fn emit_value(&self, buffer: &mut [u8]) {
         emit_name(self.name(), buffer);
     }
 
+    #[inline]
     fn fit_len(&self) -> Option<usize> {
         name_fit_len(self.name())
     }
@@ -247,6 +251,7 @@ impl Nla for InfoKind {
 /// An attribute of another type is rejected as `(LinkInfo, type, WrongType)` with that type, and a
 /// name that is not UTF-8 as `(LinkInfo, 1, Utf8)`. Only an unknown name needs memory.
 impl<'a> Parseable<NlaBuffer<'a>> for InfoKind {
+    #[inline]
     fn parse(buffer: &NlaBuffer<'a>) -> Result<InfoKind, DecodeError> {
         let name = name_of(buffer, IFLA_INFO_KIND)?;
         Ok(InfoKind::from_text(name)?)

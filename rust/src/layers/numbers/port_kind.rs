@@ -77,18 +77,22 @@ impl fmt::Display for InfoPortKind {
 /// An attribute `IFLA_INFO_SLAVE_KIND` (4): the name and one NUL. It fits if the name has at most
 /// 65530 bytes.
 impl Nla for InfoPortKind {
+    #[inline]
     fn value_len(&self) -> usize {
         self.name().len() + 1
     }
 
+    #[inline]
     fn kind(&self) -> u16 {
         IFLA_INFO_SLAVE_KIND
     }
 
+    #[inline]
     fn emit_value(&self, buffer: &mut [u8]) {
         emit_name(self.name(), buffer);
     }
 
+    #[inline]
     fn fit_len(&self) -> Option<usize> {
         name_fit_len(self.name())
     }
@@ -99,6 +103,7 @@ impl Nla for InfoPortKind {
 /// An attribute of another type is rejected as `(LinkInfo, type, WrongType)` with that type, and a
 /// name that is not UTF-8 as `(LinkInfo, 4, Utf8)`. Only an unknown name needs memory.
 impl<'a> Parseable<NlaBuffer<'a>> for InfoPortKind {
+    #[inline]
     fn parse(buffer: &NlaBuffer<'a>) -> Result<InfoPortKind, DecodeError> {
         let name = name_of(buffer, IFLA_INFO_SLAVE_KIND)?;
         Ok(InfoPortKind::from_text(name)?)

@@ -44,22 +44,27 @@ impl TableFamily for InfoBatAdv {
 }
 
 impl Nla for InfoBatAdv {
+    #[inline]
     fn value_len(&self) -> usize {
         row_value_len(self)
     }
 
+    #[inline]
     fn kind(&self) -> u16 {
         row_kind(self)
     }
 
+    #[inline]
     fn emit_value(&self, buffer: &mut [u8]) {
         row_emit_value(self, buffer);
     }
 
+    #[inline]
     fn emit_payload(&self, buffer: &mut [u8]) -> usize {
         row_emit_payload(self, buffer)
     }
 
+    #[inline]
     fn fit_len(&self) -> Option<usize> {
         row_fit_len(self)
     }
@@ -69,6 +74,7 @@ impl WrittenByTable for InfoBatAdv {}
 
 /// Reads the attribute. A name that is not UTF-8 is rejected as `(BatAdv, 1, Utf8)`.
 impl<'a> Parseable<NlaBuffer<'a>> for InfoBatAdv {
+    #[inline]
     fn parse(buffer: &NlaBuffer<'a>) -> Result<InfoBatAdv, DecodeError> {
         row_read(buffer, ())
     }

@@ -110,22 +110,27 @@ impl<P: LinkPeer> PeerFamily for InfoNetkitOf<P> {
 }
 
 impl<P: LinkPeer> Nla for InfoNetkitOf<P> {
+    #[inline]
     fn value_len(&self) -> usize {
         peer_value_len(self)
     }
 
+    #[inline]
     fn kind(&self) -> u16 {
         peer_kind(self)
     }
 
+    #[inline]
     fn emit_value(&self, buffer: &mut [u8]) {
         peer_emit_value(self, buffer);
     }
 
+    #[inline]
     fn emit_payload(&self, buffer: &mut [u8]) -> usize {
         peer_emit_payload(self, buffer)
     }
 
+    #[inline]
     fn fit_len(&self) -> Option<usize> {
         peer_fit_len(self)
     }
@@ -134,6 +139,7 @@ impl<P: LinkPeer> Nla for InfoNetkitOf<P> {
 /// Reads the attribute. A rejected peer gives the error `(Netkit, 1, Peer)`, a payload of invalid
 /// length `(Netkit, type, Length)`.
 impl<'a, P: LinkPeer> Parseable<NlaBuffer<'a>> for InfoNetkitOf<P> {
+    #[inline]
     fn parse(buffer: &NlaBuffer<'a>) -> Result<InfoNetkitOf<P>, DecodeError> {
         peer_read(buffer, ())
     }

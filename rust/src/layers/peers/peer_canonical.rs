@@ -1,5 +1,6 @@
 //! Re-encodes accepted attributes of a family with a peer canonically, without building a value.
 
+use crate::compat::NextMultiple;
 use crate::layers::nla_frame::{NlaBuffer, write_frame};
 use crate::layers::peers::peer_calls::PEER;
 use crate::layers::peers::peer_family::PeerFamily;
@@ -12,7 +13,7 @@ fn len_as_peer<F: PeerFamily>(nla: &NlaBuffer<'_>) -> Option<usize> {
 fn write_as_peer<F: PeerFamily>(nla: &NlaBuffer<'_>, buffer: &mut [u8]) -> usize {
     let len = F::Peer::write_canonical(nla.value(), &mut buffer[4..]);
     write_frame(buffer, PEER, len);
-    4 + len.next_multiple_of(4)
+    4 + len.next_multiple_of_four()
 }
 
 /// Returns the length of the canonical payload of the value that an attribute means, or `None` if

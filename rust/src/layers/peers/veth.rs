@@ -72,22 +72,27 @@ impl<P: LinkPeer> PeerFamily for InfoVethOf<P> {
 }
 
 impl<P: LinkPeer> Nla for InfoVethOf<P> {
+    #[inline]
     fn value_len(&self) -> usize {
         peer_value_len(self)
     }
 
+    #[inline]
     fn kind(&self) -> u16 {
         peer_kind(self)
     }
 
+    #[inline]
     fn emit_value(&self, buffer: &mut [u8]) {
         peer_emit_value(self, buffer);
     }
 
+    #[inline]
     fn emit_payload(&self, buffer: &mut [u8]) -> usize {
         peer_emit_payload(self, buffer)
     }
 
+    #[inline]
     fn fit_len(&self) -> Option<usize> {
         peer_fit_len(self)
     }
@@ -95,6 +100,7 @@ impl<P: LinkPeer> Nla for InfoVethOf<P> {
 
 /// Reads the attribute. A rejected peer gives the error `(Veth, 1, Peer)`.
 impl<'a, P: LinkPeer> Parseable<NlaBuffer<'a>> for InfoVethOf<P> {
+    #[inline]
     fn parse(buffer: &NlaBuffer<'a>) -> Result<InfoVethOf<P>, DecodeError> {
         peer_read(buffer, ())
     }

@@ -44,22 +44,27 @@ impl TableFamily for InfoWwan {
 }
 
 impl Nla for InfoWwan {
+    #[inline]
     fn value_len(&self) -> usize {
         row_value_len(self)
     }
 
+    #[inline]
     fn kind(&self) -> u16 {
         row_kind(self)
     }
 
+    #[inline]
     fn emit_value(&self, buffer: &mut [u8]) {
         row_emit_value(self, buffer);
     }
 
+    #[inline]
     fn emit_payload(&self, buffer: &mut [u8]) -> usize {
         row_emit_payload(self, buffer)
     }
 
+    #[inline]
     fn fit_len(&self) -> Option<usize> {
         row_fit_len(self)
     }
@@ -69,6 +74,7 @@ impl WrittenByTable for InfoWwan {}
 
 /// Reads the attribute. A payload of invalid length is rejected as `(Wwan, 1, Length)`.
 impl<'a> Parseable<NlaBuffer<'a>> for InfoWwan {
+    #[inline]
     fn parse(buffer: &NlaBuffer<'a>) -> Result<InfoWwan, DecodeError> {
         row_read(buffer, ())
     }

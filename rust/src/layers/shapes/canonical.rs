@@ -1,5 +1,6 @@
 //! Re-encodes accepted payloads canonically, without building a value.
 
+use crate::compat::NextMultiple;
 use crate::layers::nla_frame::write_frame;
 use crate::layers::shapes::datum::Datum;
 use crate::layers::shapes::payload::{datum_len, read_datum, write_datum};
@@ -68,5 +69,5 @@ pub fn shape_write_canonical(shape: Shape, payload: &[u8], buffer: &mut [u8]) ->
 pub fn shape_write_attribute(shape: Shape, kind: u16, payload: &[u8], buffer: &mut [u8]) -> usize {
     let len = shape_write_canonical(shape, payload, &mut buffer[4..]);
     write_frame(buffer, kind, len);
-    4 + len.next_multiple_of(4)
+    4 + len.next_multiple_of_four()
 }

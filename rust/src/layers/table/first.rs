@@ -1,5 +1,6 @@
 //! Calls on the first attribute of a byte string alone. They do not examine what follows it.
 
+use crate::compat::NextMultiple;
 use crate::layers::nla_frame::{Cause, DecodeError, Family, HeaderCount, fitting, next_attribute};
 use crate::layers::table::family::LinkFamily;
 
@@ -78,7 +79,7 @@ pub fn first_canonical_len<F: LinkFamily>(bytes: &[u8], ctx: F::Context) -> Opti
     let (nla, _) = next_attribute(bytes, &mut HeaderCount::new())
         .unwrap()
         .unwrap();
-    fitting(4 + F::canonical_len(&nla, ctx)?.next_multiple_of(4))
+    fitting(4 + F::canonical_len(&nla, ctx)?.next_multiple_of_four())
 }
 
 /// Writes the canonical encoding of the value that the first attribute means at the front of the

@@ -1,5 +1,6 @@
 //! Lists of attributes of one family.
 
+use crate::compat::NextMultiple;
 use crate::compat::TryVec;
 use crate::layers::nla_frame::{DecodeError, HeaderCount, fitting, next_attribute};
 use crate::layers::table::family::LinkFamily;
@@ -114,7 +115,7 @@ pub fn list_canonical_len<F: LinkFamily>(bytes: &[u8], ctx: F::Context) -> Optio
     while let Some(next) = next_attribute(rest, &mut count) {
         let (nla, after) = next.unwrap();
         let len = F::canonical_len(&nla, ctx)?;
-        total = fitting(total + 4 + len.next_multiple_of(4))?;
+        total = fitting(total + 4 + len.next_multiple_of_four())?;
         rest = after;
     }
     Some(total)

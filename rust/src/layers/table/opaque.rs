@@ -105,18 +105,22 @@ impl<const NUMBER: u8> TableFamily for Opaque<NUMBER> {
 }
 
 impl<const NUMBER: u8> Nla for Opaque<NUMBER> {
+    #[inline]
     fn value_len(&self) -> usize {
         self.kept().value_len()
     }
 
+    #[inline]
     fn kind(&self) -> u16 {
         self.kept().kind()
     }
 
+    #[inline]
     fn emit_value(&self, buffer: &mut [u8]) {
         self.kept().emit_value(buffer);
     }
 
+    #[inline]
     fn fit_len(&self) -> Option<usize> {
         self.kept().fit_len()
     }
@@ -126,6 +130,7 @@ impl<const NUMBER: u8> WrittenByTable for Opaque<NUMBER> {}
 
 /// Keeps the attribute verbatim. Reading fails only if memory runs out.
 impl<'a, const NUMBER: u8> Parseable<NlaBuffer<'a>> for Opaque<NUMBER> {
+    #[inline]
     fn parse(buffer: &NlaBuffer<'a>) -> Result<Opaque<NUMBER>, DecodeError> {
         Ok(Opaque::Other(DefaultNla::parse(buffer)?))
     }

@@ -1,6 +1,7 @@
 //! Where a decoded value is stored.
 
 use crate::compat::AllocError;
+use crate::compat::TryVec;
 use alloc::vec::Vec;
 
 /// Where a decoded value is stored: the end of a list, or an `Option`. A family builds its value in
@@ -15,7 +16,7 @@ pub trait Slot<T>: Sized {
 impl<T> Slot<T> for Vec<T> {
     #[inline(always)]
     fn store(&mut self, value: T) -> Result<(), AllocError> {
-        self.try_reserve(1)?;
+        self.try_reserve_room(1)?;
         self.push(value);
         Ok(())
     }

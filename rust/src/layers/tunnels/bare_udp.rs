@@ -55,22 +55,27 @@ impl TableFamily for InfoBareUdp {
 }
 
 impl Nla for InfoBareUdp {
+    #[inline]
     fn value_len(&self) -> usize {
         row_value_len(self)
     }
 
+    #[inline]
     fn kind(&self) -> u16 {
         row_kind(self)
     }
 
+    #[inline]
     fn emit_value(&self, buffer: &mut [u8]) {
         row_emit_value(self, buffer);
     }
 
+    #[inline]
     fn emit_payload(&self, buffer: &mut [u8]) -> usize {
         row_emit_payload(self, buffer)
     }
 
+    #[inline]
     fn fit_len(&self) -> Option<usize> {
         row_fit_len(self)
     }
@@ -80,6 +85,7 @@ impl WrittenByTable for InfoBareUdp {}
 
 /// Reads the attribute. A payload of invalid length is rejected as `(BareUdp, type, Length)`.
 impl<'a> Parseable<NlaBuffer<'a>> for InfoBareUdp {
+    #[inline]
     fn parse(buffer: &NlaBuffer<'a>) -> Result<InfoBareUdp, DecodeError> {
         row_read(buffer, ())
     }

@@ -95,22 +95,27 @@ impl TableFamily for InfoGeneve {
 }
 
 impl Nla for InfoGeneve {
+    #[inline]
     fn value_len(&self) -> usize {
         row_value_len(self)
     }
 
+    #[inline]
     fn kind(&self) -> u16 {
         row_kind(self)
     }
 
+    #[inline]
     fn emit_value(&self, buffer: &mut [u8]) {
         row_emit_value(self, buffer);
     }
 
+    #[inline]
     fn emit_payload(&self, buffer: &mut [u8]) -> usize {
         row_emit_payload(self, buffer)
     }
 
+    #[inline]
     fn fit_len(&self) -> Option<usize> {
         row_fit_len(self)
     }
@@ -121,6 +126,7 @@ impl WrittenByTable for InfoGeneve {}
 /// Reads the attribute. An address of the other IP version is rejected as `(Geneve, type,
 /// AddressKind)`, any other payload of invalid length as `(Geneve, type, Length)`.
 impl<'a> Parseable<NlaBuffer<'a>> for InfoGeneve {
+    #[inline]
     fn parse(buffer: &NlaBuffer<'a>) -> Result<InfoGeneve, DecodeError> {
         row_read(buffer, ())
     }

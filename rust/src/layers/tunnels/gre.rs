@@ -106,22 +106,27 @@ impl TableFamily for InfoGre {
 }
 
 impl Nla for InfoGre {
+    #[inline]
     fn value_len(&self) -> usize {
         row_value_len(self)
     }
 
+    #[inline]
     fn kind(&self) -> u16 {
         row_kind(self)
     }
 
+    #[inline]
     fn emit_value(&self, buffer: &mut [u8]) {
         row_emit_value(self, buffer);
     }
 
+    #[inline]
     fn emit_payload(&self, buffer: &mut [u8]) -> usize {
         row_emit_payload(self, buffer)
     }
 
+    #[inline]
     fn fit_len(&self) -> Option<usize> {
         row_fit_len(self)
     }
@@ -131,6 +136,7 @@ impl WrittenByTable for InfoGre {}
 
 /// Reads the attribute. A payload of invalid length is rejected as `(Gre, type, Length)`.
 impl<'a> Parseable<NlaBuffer<'a>> for InfoGre {
+    #[inline]
     fn parse(buffer: &NlaBuffer<'a>) -> Result<InfoGre, DecodeError> {
         row_read(buffer, ())
     }

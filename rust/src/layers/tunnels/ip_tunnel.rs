@@ -154,22 +154,27 @@ fn flags(tag: KindTag, datum: Datum<'_>) -> InfoIpTunnel {
 }
 
 impl Nla for InfoIpTunnel {
+    #[inline]
     fn value_len(&self) -> usize {
         row_value_len(self)
     }
 
+    #[inline]
     fn kind(&self) -> u16 {
         row_kind(self)
     }
 
+    #[inline]
     fn emit_value(&self, buffer: &mut [u8]) {
         row_emit_value(self, buffer);
     }
 
+    #[inline]
     fn emit_payload(&self, buffer: &mut [u8]) -> usize {
         row_emit_payload(self, buffer)
     }
 
+    #[inline]
     fn fit_len(&self) -> Option<usize> {
         row_fit_len(self)
     }

@@ -61,22 +61,27 @@ impl TableFamily for InfoVti {
 }
 
 impl Nla for InfoVti {
+    #[inline]
     fn value_len(&self) -> usize {
         row_value_len(self)
     }
 
+    #[inline]
     fn kind(&self) -> u16 {
         row_kind(self)
     }
 
+    #[inline]
     fn emit_value(&self, buffer: &mut [u8]) {
         row_emit_value(self, buffer);
     }
 
+    #[inline]
     fn emit_payload(&self, buffer: &mut [u8]) -> usize {
         row_emit_payload(self, buffer)
     }
 
+    #[inline]
     fn fit_len(&self) -> Option<usize> {
         row_fit_len(self)
     }
@@ -86,6 +91,7 @@ impl WrittenByTable for InfoVti {}
 
 /// Reads the attribute. A payload of invalid length is rejected as `(Vti, type, Length)`.
 impl<'a> Parseable<NlaBuffer<'a>> for InfoVti {
+    #[inline]
     fn parse(buffer: &NlaBuffer<'a>) -> Result<InfoVti, DecodeError> {
         row_read(buffer, ())
     }
