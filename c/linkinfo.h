@@ -755,6 +755,43 @@ size_t linkinfo_error_text(struct linkinfo_error error, char *buffer,
                            size_t buffer_length);
 
 /*
+ * linkinfo_error_message - an error as a sentence for people
+ * @error: the error
+ * @offset: the offset that the sentence names, as that of
+ * linkinfo_check_inner()
+ * @buffer: where the sentence and a NUL are written, truncated to the buffer;
+ * 105 bytes are enough
+ * @buffer_length: its length in bytes
+ *
+ * The sentence is as "IFLA_INFO_DATA is before IFLA_INFO_KIND, at offset 0",
+ * and empty without an error.
+ *
+ * Return: the length of the whole sentence without the NUL, as snprintf.
+ * Time: constant.
+ * Threads: MT-Safe.
+ */
+size_t linkinfo_error_message(struct linkinfo_error error, size_t offset,
+                              char *buffer, size_t buffer_length);
+
+/*
+ * linkinfo_attribute_name - the kernel's name of an attribute's type
+ * @family: enum linkinfo_family
+ * @type: the type without its two flag bits
+ * @buffer: where the name and a NUL are written, truncated to the buffer; 32
+ * bytes are enough
+ * @buffer_length: its length in bytes
+ *
+ * The name is as "IFLA_VXLAN_ID".
+ *
+ * Return: the length of the whole name without the NUL, as snprintf; 0 for a
+ * type that has no row in the family, and for a number that is no family.
+ * Time: constant.
+ * Threads: MT-Safe.
+ */
+size_t linkinfo_attribute_name(uint16_t family, uint16_t type, char *buffer,
+                               size_t buffer_length);
+
+/*
  * linkinfo_kind_of_name - the kind of a name
  * @name: a name, without a trailing NUL
  * @length: its length in bytes

@@ -168,6 +168,8 @@ static void no_bytes(void) {
                         error = {LINKINFO_FAMILY_LINKINFO, 2, LINKINFO_CAUSE_ORDER};
   CHECK(linkinfo_error_text(none, NULL, 0) == 0 &&
         linkinfo_error_text(error, NULL, 0) == strlen("linkinfo 2 order"));
+  CHECK(linkinfo_error_message(none, 0, NULL, 0) == 0 &&
+        linkinfo_attribute_name(LINKINFO_FAMILY_XFRM, 2, NULL, 0) == strlen("IFLA_XFRM_IF_ID"));
 }
 
 static size_t aligned(size_t n) { return (n + 3) / 4 * 4; }
@@ -516,6 +518,61 @@ static size_t write_error(const void *of, char *buffer, size_t room) {
   return linkinfo_error_text(*(const struct linkinfo_error *)of, buffer, room);
 }
 
+struct at {
+  struct linkinfo_error error;
+  size_t offset;
+};
+static size_t write_message(const void *of, char *buffer, size_t room) {
+  const struct at *at = of;
+  return linkinfo_error_message(at->error, at->offset, buffer, room);
+}
+static size_t write_attribute(const void *of, char *buffer, size_t room) {
+  const uint16_t *pair = of;
+  return linkinfo_attribute_name(pair[0], pair[1], buffer, room);
+}
+
+/* Sentences of errors, and names of attributes; tests/rows.c has all names. */
+static void sentences(void) {
+  static const struct {
+    struct at at;
+    const char *text;
+  } all[] = {
+      {{{LINKINFO_FAMILY_LINKINFO, 2, LINKINFO_CAUSE_ORDER}, 0},
+       "IFLA_INFO_DATA is before IFLA_INFO_KIND, at offset 0"},
+      {{{LINKINFO_FAMILY_LINKINFO, 5, LINKINFO_CAUSE_ORDER}, 16},
+       "IFLA_INFO_SLAVE_DATA is without IFLA_INFO_SLAVE_KIND, at offset 16"},
+      {{{LINKINFO_FAMILY_FRAME, 0, LINKINFO_CAUSE_HEADER}, 8},
+       "invalid attribute header, at offset 8"},
+      {{{LINKINFO_FAMILY_FRAME, 0, LINKINFO_CAUSE_MEMORY}, 8}, "out of memory"},
+      {{{LINKINFO_FAMILY_GTP, 0, LINKINFO_CAUSE_WORD}, 8}, "no value of gtp has this name"},
+      {{{LINKINFO_FAMILY_WWAN, 9, LINKINFO_CAUSE_LENGTH}, 65536},
+       "type 9 of wwan has a payload of invalid length, at offset 65536"},
+      {{{LINKINFO_FAMILY_IPTUNNEL, 14, LINKINFO_CAUSE_ADDRESS_KIND}, SIZE_MAX},
+       "IFLA_IPTUN_6RD_RELAY_PREFIXLEN has an address of the other IP version, "
+       "at offset 18446744073709551615"},
+      {{{LINKINFO_FAMILY_XFRM, 2, LINKINFO_CAUSE_NONE}, 0}, ""},
+      {{{38, 2, LINKINFO_CAUSE_LENGTH}, 0}, ""},
+      {{{1, 0, 12}, 0}, ""},
+  };
+  for (size_t at = 0; at < sizeof all / sizeof *all; at++)
+    text_is(all[at].text, write_message, &all[at].at);
+  static const struct {
+    uint16_t pair[2];
+    const char *text;
+  } names[] = {
+      {{LINKINFO_FAMILY_VXLAN, 1}, "IFLA_VXLAN_ID"},
+      {{LINKINFO_FAMILY_VXCAN, 1}, "VXCAN_INFO_PEER"},
+      {{LINKINFO_FAMILY_IPTUNNEL, 8}, "IFLA_IPTUN_FLAGS"},
+      {{LINKINFO_FAMILY_VXLAN, 0}, ""},
+      {{LINKINFO_FAMILY_VXLAN, 0x8001}, ""},
+      {{LINKINFO_FAMILY_BOND, 1}, ""},
+      {{0, 1}, ""},
+      {{38, 1}, ""},
+  };
+  for (size_t at = 0; at < sizeof names / sizeof *names; at++)
+    text_is(names[at].text, write_attribute, names[at].pair);
+}
+
 static void texts(void) {
   static const char *causes[] = {"",     "header",    "length", "utf8",  "order",  "addresskind",
                                  "word", "wrongtype", "kind",   "depth", "memory", "peer",
@@ -623,6 +680,7 @@ int main(int count, char **arguments) {
   output_end = guarded();
   no_bytes();
   of_strings();
+  sentences();
   texts();
   few_rooms = 0;
   nested();

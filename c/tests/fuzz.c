@@ -64,6 +64,7 @@ static struct linkinfo_error one(const uint8_t *bytes, size_t length) {
         (error.cause != 0 || (found.error.cause == 0 && found.place == length)));
   struct linkinfo_inner_error inner = linkinfo_check_inner(bytes, length);
   CHECK(memcmp(&inner.error, &error, sizeof error) == 0 && inner.place == placed.place);
+  CHECK((linkinfo_error_message(error, inner.inner, text, sizeof text) > 0) == (error.cause != 0));
   CHECK(inner.inner >= inner.place && inner.inner <= length);
   if (error.cause != 0) {
     CHECK(linkinfo_check(bytes, placed.place).cause == 0);

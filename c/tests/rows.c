@@ -1,6 +1,6 @@
 /* The shapes that linkinfo_attributes returns for each kind and type, compared with lines of
  * rows.py on standard input: 'link NAME TYPE SHAPE' or 'port NAME TYPE SHAPE'. A type without a
- * line has no shape. */
+ * line has no shape. So too the kernel's names: 'name FAMILY TYPE NAME'. */
 #include "linkinfo.h"
 #include <stdio.h>
 #include <string.h>
@@ -60,12 +60,52 @@ static int has_shape(size_t at, unsigned type) {
   return 0;
 }
 
+/* The names of types by family, or an empty text. */
+enum { MOST_FAMILIES = 64 };
+static char called[MOST_FAMILIES][TYPES][32];
+static size_t name_count;
+
+static int keep_name(const char *family, unsigned type, const char *name) {
+  char text[32];
+  for (uint16_t code = 1; code < MOST_FAMILIES; code++) {
+    linkinfo_family_name(code, text, sizeof text);
+    if (strcmp(text, family) != 0) continue;
+    if (type >= TYPES || called[code][type][0] != 0) return 0;
+    strcpy(called[code][type], name);
+    name_count++;
+    return 1;
+  }
+  return 0;
+}
+
+static int has_name(uint16_t family, uint16_t type) {
+  char text[32];
+  size_t length = linkinfo_attribute_name(family, type, text, sizeof text);
+  if (length == strlen(called[family][type]) && strcmp(text, called[family][type]) == 0) return 1;
+  fprintf(stderr, "family %u, type %u: '%s', and not '%s'\n", family, type, text,
+          called[family][type]);
+  return 0;
+}
+
+static int have_names(void) {
+  int all = name_count == 199;
+  for (uint16_t family = 0; family < MOST_FAMILIES; family++)
+    for (uint16_t type = 0; type < TYPES; type++)
+      if (!has_name(family, type)) all = 0;
+  printf("rows: %zu types have their names\n", name_count);
+  return all;
+}
+
 int main(void) {
   char way[8], name[32], shape[32];
   unsigned type, seen[SHAPES] = {0};
   size_t rows = 0;
   while (scanf("%7s %31s %u %31s", way, name, &type, shape) == 4) {
     uint16_t number = 0;
+    if (strcmp(way, "name") == 0) {
+      if (!keep_name(name, type, shape)) return 1;
+      continue;
+    }
     while (number < SHAPES && strcmp(names[number], shape) != 0) number++;
     size_t at = kind_at(way, name);
     if (number == SHAPES || at == MOST_KINDS || type >= TYPES) return 1;
@@ -86,5 +126,5 @@ int main(void) {
     for (type = 0; type < TYPES; type++)
       if (!has_shape(at, type)) status = 1;
   printf("rows: %zu of %zu kinds and port kinds have their shapes\n", rows, kind_count);
-  return status;
+  return have_names() ? status : 1;
 }

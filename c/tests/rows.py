@@ -1,7 +1,8 @@
 #!/usr/bin/env python3
 """rows.py FORMAT.md: writes the shapes of the attributes of each kind and port kind, as the tables
 of that page have them, for rows.c. It writes lines 'link NAME TYPE SHAPE' and 'port NAME TYPE
-SHAPE', and a line 'link NAME 0 None' for each kind, so that one without rows is there too."""
+SHAPE', and a line 'link NAME 0 None' for each kind, so that one without rows is there too. A line
+'name FAMILY TYPE NAME' has the kernel's name of a type."""
 import re
 import sys
 
@@ -28,3 +29,13 @@ for name, family in re.findall(r"`(\w+)`\s+(\w+)", ports.split("\n\n")[0]):
     print("port", name, 0, "None")
     for number, shape in rows.get({"Vrf": "Vrf"}.get(family, family + "Port"), []):
         print("port", name, number, shape)
+# The kernel's names: where a table is of two families, of both, or one name for each.
+tables = re.findall(r"(?ms)^### (.*?)\n(.*?)(?=^###|\*\*No rows)",
+                    text.split("## Rows")[1].split("## Names")[0])
+listed = text.split("## The list inside IFLA_LINKINFO")[1].split("## Rows")[0]
+for families, table in [*tables, ("`LinkInfo`", listed)]:
+    families = re.findall(r"`(\w+)`", families)
+    for number, column in re.findall(r"(?m)^\| (\d+)(?: under `ipip`)? \|([^|]*)\|", table):
+        called = re.findall(r"`(\w+)`", column)
+        for at, family in enumerate(families):
+            print("name", family.lower(), number, called[at if len(called) > 1 else 0])

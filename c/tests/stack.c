@@ -100,7 +100,9 @@ static void *texts(void *wrong) {
   struct linkinfo_error error = {LINKINFO_FAMILY_BRIDGEPORT, 65535, LINKINFO_CAUSE_ADDRESS_KIND};
   return linkinfo_error_text(error, text, sizeof text) == 28 &&
                  linkinfo_family_name(error.family, text, sizeof text) == 10 &&
-                 linkinfo_cause_name(error.cause, text, sizeof text) == 11
+                 linkinfo_cause_name(error.cause, text, sizeof text) == 11 &&
+                 linkinfo_attribute_name(LINKINFO_FAMILY_XFRM, 1, text, sizeof text) == 14 &&
+                 linkinfo_error_message(error, 0, text, sizeof text) > sizeof text
              ? NULL
              : wrong;
 }
@@ -148,7 +150,7 @@ int main(void) {
                {"items", items},
                {"attributes", attributes},
                {"values", values},
-               {"error_text, _family_name, _cause_name", texts},
+               {"error_text, _error_message, _family_name, _cause_name, _attribute_name", texts},
                {"kind_name, _kind_of_name, _port_kind_name, _port_kind_of_name", names}};
   int status = 0;
   make_list();

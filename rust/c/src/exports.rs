@@ -173,6 +173,26 @@ unsafe extern "C" fn linkinfo_error_text(
 }
 
 #[unsafe(no_mangle)]
+unsafe extern "C" fn linkinfo_error_message(
+    error: LinkinfoError,
+    offset: usize,
+    buffer: *mut u8,
+    length: usize,
+) -> usize {
+    texts::linkinfo_error_message(error, offset, unsafe { slice_mut(buffer, length) })
+}
+
+#[unsafe(no_mangle)]
+unsafe extern "C" fn linkinfo_attribute_name(
+    family: u16,
+    kind: u16,
+    buffer: *mut u8,
+    length: usize,
+) -> usize {
+    texts::linkinfo_attribute_name(family, kind, unsafe { slice_mut(buffer, length) })
+}
+
+#[unsafe(no_mangle)]
 unsafe extern "C" fn linkinfo_kind_of_name(name: *const u8, length: usize) -> u16 {
     texts::linkinfo_kind_of_name(unsafe { slice(name, length) })
 }

@@ -9,7 +9,10 @@ use crate::calls::codes::{
 };
 use crate::calls::error::LinkinfoError;
 use arrayvec::ArrayString;
-use linkinfo::layers::link::{DecodeError, InfoKind, InfoPortKind, port_tag_of_name, tag_of_name};
+use linkinfo::layers::link::{
+    Cause, DecodeError, InfoKind, InfoPortKind, attribute_name, port_tag_of_name, tag_of_name,
+};
+use linkinfo::layers::names::problem;
 
 /// Writes a text and a NUL after it, truncated to the buffer, and returns the length of the whole
 /// text.
@@ -102,5 +105,79 @@ fn error_line(error: DecodeError) -> ArrayString<28> {
     text.push_str(decimal.format(error.kind));
     text.push_str(" ");
     text.push_str(error.cause.name());
+    text
+}
+
+/// Writes the kernel's name of an attribute's type, as `IFLA_VXLAN_ID`, and returns its length: at
+/// most 31 bytes. The type is without its two flag bits. The name is empty for a type that has no
+/// row in the family, and for a number that is no family.
+pub fn linkinfo_attribute_name(family: u16, kind: u16, buffer: &mut [u8]) -> usize {
+    match family_of_code(family) {
+        Some(family) => match attribute_name(family, kind) {
+            Some(name) => write_text(name, buffer),
+            None => write_text("", buffer),
+        },
+        None => write_text("", buffer),
+    }
+}
+
+/// Writes an error as a sentence for people, as `IFLA_INFO_DATA is before IFLA_INFO_KIND, at offset
+/// 0`, and returns the length of this text: at most 104 bytes. The text is empty without an error,
+/// and if a number is no family or no cause.
+pub fn linkinfo_error_message(error: LinkinfoError, offset: usize, buffer: &mut [u8]) -> usize {
+    match (family_of_code(error.family), cause_of_code(error.cause)) {
+        (Some(family), Some(cause)) => {
+            let error = DecodeError {
+                family,
+                kind: error.kind,
+                cause,
+            };
+            write_text(sentence(error, offset).as_str(), buffer)
+        }
+        _ => write_text("", buffer),
+    }
+}
+
+/// The sentence of an error: at most 31, 1, 40, 12 and 20 bytes.
+fn sentence(error: DecodeError, offset: usize) -> ArrayString<104> {
+    let mut text = ArrayString::new();
+    match error.cause {
+        Cause::Memory => {
+            text.push_str("out of memory");
+            return text;
+        }
+        Cause::Word => {
+            text.push_str("no value of ");
+            text.push_str(error.family.name());
+            text.push_str(" has this name");
+            return text;
+        }
+        Cause::Header => text.push_str("invalid attribute header"),
+        _ => {
+            text.push_str(subject(error).as_str());
+            text.push_str(" ");
+            text.push_str(problem(error));
+        }
+    }
+    let mut decimal = itoa::Buffer::new();
+    text.push_str(", at offset ");
+    text.push_str(decimal.format(offset));
+    text
+}
+
+/// The attribute of an error: the kernel's name of its type, of at most 31 bytes, or the type and
+/// the family.
+fn subject(error: DecodeError) -> ArrayString<31> {
+    let mut text = ArrayString::new();
+    match attribute_name(error.family, error.kind) {
+        Some(name) => text.push_str(name),
+        None => {
+            let mut decimal = itoa::Buffer::new();
+            text.push_str("type ");
+            text.push_str(decimal.format(error.kind));
+            text.push_str(" of ");
+            text.push_str(error.family.name());
+        }
+    }
     text
 }
