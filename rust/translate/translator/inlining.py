@@ -1,8 +1,9 @@
-"""Puts `#[inline]` before small functions: those of other crates are else called, not inlined.
+"""Puts `#[inline]` before small functions: else rustc does not inline them into other crates.
 
-Rattle compiles all crates as one. cargo compiles each crate alone, and a generic function where it
-is used: there its calls of functions that are not generic stay calls, but for those with `#[inline]`
-(and with link-time optimization, which then decides by that attribute).
+The toolchain optimizes all crates as one. rustc compiles each crate alone, and a generic function
+in the crate that uses it: its calls of functions that are not generic stay calls there, unless
+these have `#[inline]`. With link-time optimization they can be inlined, and more of them are with
+that attribute.
 """
 
 from .items import function_parts, impl_head
