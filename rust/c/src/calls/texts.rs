@@ -142,27 +142,31 @@ pub fn linkinfo_error_message(error: LinkinfoError, offset: usize, buffer: &mut 
 fn sentence(error: DecodeError, offset: usize) -> ArrayString<104> {
     let mut text = ArrayString::new();
     match error.cause {
-        Cause::Memory => {
-            text.push_str("out of memory");
-            return text;
-        }
+        Cause::Memory => text.push_str("out of memory"),
         Cause::Word => {
             text.push_str("no value of ");
             text.push_str(error.family.name());
             text.push_str(" has this name");
-            return text;
         }
-        Cause::Header => text.push_str("invalid attribute header"),
+        Cause::Header => {
+            text.push_str("invalid attribute header");
+            push_offset(&mut text, offset);
+        }
         _ => {
             text.push_str(subject(error).as_str());
             text.push_str(" ");
             text.push_str(problem(error));
+            push_offset(&mut text, offset);
         }
     }
+    text
+}
+
+/// Writes after a text at which offset the error is. Requires that the text has at most 72 bytes.
+fn push_offset(text: &mut ArrayString<104>, offset: usize) {
     let mut decimal = itoa::Buffer::new();
     text.push_str(", at offset ");
     text.push_str(decimal.format(offset));
-    text
 }
 
 /// The attribute of an error: the kernel's name of its type, of at most 31 bytes, or the type and
