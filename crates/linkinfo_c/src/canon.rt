@@ -18,7 +18,7 @@ const UNFIT: u32 = 2;
 
 const SHORT: u32 = 3;
 
-/// `struct linkinfo_canon`: the outcome of `linkinfo_canon`.
+/// `struct linkinfo_canon_result`: the outcome of `linkinfo_canon`.
 #[repr(C)]
 #[derive(Clone, Copy, Debug, PartialEq, Eq)]
 pub struct LinkinfoCanon {

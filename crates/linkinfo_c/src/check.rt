@@ -11,7 +11,7 @@ ghost use Rattle.linkinfo_c.specs.Errors.{error_or_none, same_record};
 use crate::error::{LinkinfoError, NO_ERROR, error_or_none, error_record};
 use linkinfo::{ErrorIn, HeaderCount, check, check_at, check_counted, same_at};
 
-/// `struct linkinfo_same`: whether two lists are equivalent.
+/// `struct linkinfo_same_result`: whether two lists are equivalent.
 #[repr(C)]
 #[derive(Clone, Copy, Debug, PartialEq, Eq)]
 pub struct LinkinfoSame {
@@ -23,7 +23,7 @@ pub struct LinkinfoSame {
     pub same: bool,
 }
 
-/// `struct linkinfo_count`: the number of headers examined.
+/// `struct linkinfo_count_result`: the number of headers examined.
 #[repr(C)]
 #[derive(Clone, Copy, Debug, PartialEq, Eq)]
 pub struct LinkinfoCount {

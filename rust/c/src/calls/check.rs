@@ -3,7 +3,7 @@
 use crate::calls::error::{LinkinfoError, NO_ERROR, error_or_none, error_record};
 use linkinfo::layers::link::{ErrorIn, HeaderCount, check, check_at, check_counted, same_at};
 
-/// `struct linkinfo_same`: whether two lists are equivalent.
+/// `struct linkinfo_same_result`: whether two lists are equivalent.
 #[repr(C)]
 #[derive(Clone, Copy, Debug, PartialEq, Eq)]
 pub struct LinkinfoSame {
@@ -15,7 +15,7 @@ pub struct LinkinfoSame {
     pub same: bool,
 }
 
-/// `struct linkinfo_count`: the number of headers examined.
+/// `struct linkinfo_count_result`: the number of headers examined.
 #[repr(C)]
 #[derive(Clone, Copy, Debug, PartialEq, Eq)]
 pub struct LinkinfoCount {
