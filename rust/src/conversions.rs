@@ -2,8 +2,8 @@
 
 use crate::layers::nla_frame::NlasIterator;
 use crate::{
-    Bytes, DecodeError, ErrorIn, LinkInfoOf, LinkInfoWalk, LinkPeer, Nlas, Text,
-    ToVecError, VecLinkInfoOf,
+    Bytes, DecodeError, ErrorIn, LinkInfoOf, LinkInfoWalk, LinkPeer, Nlas, Text, ToVecError,
+    VecLinkInfoOf,
 };
 use alloc::string::String;
 use alloc::vec::Vec;

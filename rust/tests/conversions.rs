@@ -70,7 +70,10 @@ fn errors_are_displayed() {
     let second: Box<dyn Error> = first_unmet(&VXLAN, &VXLAN[12..]).unwrap_err().into();
     assert_eq!(second.to_string(), "linkinfo 2 order");
     let placed: Box<dyn Error> = check_at(&VXLAN[12..]).unwrap_err().into();
-    assert_eq!(placed.to_string(), "linkinfo 2 order");
+    assert_eq!(
+        placed.to_string(),
+        "IFLA_INFO_DATA is before IFLA_INFO_KIND, at offset 0"
+    );
     let unfit: Box<dyn Error> = ToVecError::Unfit.into();
     assert_eq!(unfit.to_string(), "unfit");
 }
