@@ -763,7 +763,7 @@ size_t linkinfo_error_text(struct linkinfo_error error, char *buffer,
  * 105 bytes are enough
  * @buffer_length: its length in bytes
  *
- * The sentence is as "IFLA_INFO_DATA is before IFLA_INFO_KIND, at offset 0",
+ * The sentence is as "IFLA_INFO_DATA before IFLA_INFO_KIND, at offset 0",
  * and empty without an error.
  *
  * Return: the length of the whole sentence without the NUL, as snprintf.

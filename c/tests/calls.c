@@ -538,9 +538,9 @@ static void sentences(void) {
     const char *text;
   } all[] = {
       {{{LINKINFO_FAMILY_LINKINFO, 2, LINKINFO_CAUSE_ORDER}, 0},
-       "IFLA_INFO_DATA is before IFLA_INFO_KIND, at offset 0"},
+       "IFLA_INFO_DATA before IFLA_INFO_KIND, at offset 0"},
       {{{LINKINFO_FAMILY_LINKINFO, 5, LINKINFO_CAUSE_ORDER}, 16},
-       "IFLA_INFO_SLAVE_DATA is without IFLA_INFO_SLAVE_KIND, at offset 16"},
+       "IFLA_INFO_SLAVE_DATA without IFLA_INFO_SLAVE_KIND, at offset 16"},
       {{{LINKINFO_FAMILY_FRAME, 0, LINKINFO_CAUSE_HEADER}, 8},
        "invalid attribute header, at offset 8"},
       {{{LINKINFO_FAMILY_FRAME, 0, LINKINFO_CAUSE_MEMORY}, 8}, "out of memory"},

@@ -72,7 +72,7 @@ fn errors_are_displayed() {
     let placed: Box<dyn Error> = check_at(&VXLAN[12..]).unwrap_err().into();
     assert_eq!(
         placed.to_string(),
-        "IFLA_INFO_DATA is before IFLA_INFO_KIND, at offset 0"
+        "IFLA_INFO_DATA before IFLA_INFO_KIND, at offset 0"
     );
     let unfit: Box<dyn Error> = ToVecError::Unfit.into();
     assert_eq!(unfit.to_string(), "unfit");

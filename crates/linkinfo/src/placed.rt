@@ -35,7 +35,7 @@ pub struct ErrorAt {
 }
 
 /// Writes the error as a sentence for people, with the kernel's name of the attribute and the
-/// offset `inner`: `IFLA_INFO_DATA is before IFLA_INFO_KIND, at offset 0`.
+/// offset `inner`: `IFLA_INFO_DATA before IFLA_INFO_KIND, at offset 0`.
 impl fmt::Display for ErrorAt {
     ghost use Rattle.std.specs.Prelude.{Some};
     ghost use Rattle.linkinfo_names.specs.Explanation.{explanation};

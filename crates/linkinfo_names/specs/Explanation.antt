@@ -34,8 +34,8 @@ subject error = subject_named (attribute_name error.family error.kind) error
 -- which attribute of the list has to be before the attribute of this type
 abbrev pub misplaced : Family → ℕ → List ℕ
 misplaced family.LinkInfo kind =
-    if (kind == 2) || (kind == 3) then codes "is before IFLA_INFO_KIND"
-    else if kind == 5 then codes "is without IFLA_INFO_SLAVE_KIND"
+    if (kind == 2) || (kind == 3) then codes "before IFLA_INFO_KIND"
+    else if kind == 5 then codes "without IFLA_INFO_SLAVE_KIND"
     else codes "is out of order"
 misplaced _ kind = codes "is out of order"
 

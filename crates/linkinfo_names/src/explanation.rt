@@ -19,7 +19,7 @@ pub struct Explanation {
 }
 
 /// Writes the sentence, with the kernel's name of the attribute:
-/// `IFLA_INFO_DATA is before IFLA_INFO_KIND, at offset 0`.
+/// `IFLA_INFO_DATA before IFLA_INFO_KIND, at offset 0`.
 ///
 /// A type without a name is written as its number and its family: `type 9 of wwan`. Out of memory,
 /// and a text that names no value, have no offset.
@@ -78,8 +78,8 @@ pub fn problem(error: DecodeError) -> &'static str
         Cause::Length => "has a payload of invalid length",
         Cause::Utf8 => "is not UTF-8",
         Cause::Order => match (error.family, error.kind) {
-            (Family::LinkInfo, 2 | 3) => "is before IFLA_INFO_KIND",
-            (Family::LinkInfo, 5) => "is without IFLA_INFO_SLAVE_KIND",
+            (Family::LinkInfo, 2 | 3) => "before IFLA_INFO_KIND",
+            (Family::LinkInfo, 5) => "without IFLA_INFO_SLAVE_KIND",
             _ => "is out of order",
         },
         Cause::AddressKind => "has an address of the other IP version",

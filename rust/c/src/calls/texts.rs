@@ -121,7 +121,7 @@ pub fn linkinfo_attribute_name(family: u16, kind: u16, buffer: &mut [u8]) -> usi
     }
 }
 
-/// Writes an error as a sentence for people, as `IFLA_INFO_DATA is before IFLA_INFO_KIND, at offset
+/// Writes an error as a sentence for people, as `IFLA_INFO_DATA before IFLA_INFO_KIND, at offset
 /// 0`, and returns the length of this text: at most 104 bytes. The text is empty without an error,
 /// and if a number is no family or no cause.
 pub fn linkinfo_error_message(error: LinkinfoError, offset: usize, buffer: &mut [u8]) -> usize {

@@ -29,7 +29,7 @@ pub struct ErrorAt {
 }
 
 /// Writes the error as a sentence for people, with the kernel's name of the attribute and the
-/// offset `inner`: `IFLA_INFO_DATA is before IFLA_INFO_KIND, at offset 0`.
+/// offset `inner`: `IFLA_INFO_DATA before IFLA_INFO_KIND, at offset 0`.
 impl fmt::Display for ErrorAt {
     fn fmt(&self, f: &mut fmt::Formatter<'_>) -> fmt::Result {
         let explanation = Explanation {

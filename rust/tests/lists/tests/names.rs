@@ -149,20 +149,20 @@ const SENTENCES: &[(&str, &str)] = &[
     // Data, statistics and port data that come first.
     (
         "04000200",
-        "IFLA_INFO_DATA is before IFLA_INFO_KIND, at offset 0",
+        "IFLA_INFO_DATA before IFLA_INFO_KIND, at offset 0",
     ),
     (
         "04000900 04000300",
-        "IFLA_INFO_XSTATS is before IFLA_INFO_KIND, at offset 4",
+        "IFLA_INFO_XSTATS before IFLA_INFO_KIND, at offset 4",
     ),
     (
         "04000500",
-        "IFLA_INFO_SLAVE_DATA is without IFLA_INFO_SLAVE_KIND, at offset 0",
+        "IFLA_INFO_SLAVE_DATA without IFLA_INFO_SLAVE_KIND, at offset 0",
     ),
     // The port kind is used up by the first port data.
     (
         SECOND_PORT_DATA,
-        "IFLA_INFO_SLAVE_DATA is without IFLA_INFO_SLAVE_KIND, at offset 12",
+        "IFLA_INFO_SLAVE_DATA without IFLA_INFO_SLAVE_KIND, at offset 12",
     ),
     (
         "05000100 ff000000",
@@ -261,6 +261,6 @@ fn explains_each_cause() {
         place: 0,
         inner: 65_536,
     };
-    let sentence = "IFLA_INFO_DATA is before IFLA_INFO_KIND, at offset 65536";
+    let sentence = "IFLA_INFO_DATA before IFLA_INFO_KIND, at offset 65536";
     assert_displayed(&at, sentence);
 }
