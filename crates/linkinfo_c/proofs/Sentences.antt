@@ -1,5 +1,5 @@
 -- The sentence of an error that an attribute has.
-use Rattle.std.specs.Prelude.{ℕ, ◌≡◌, ◌++◌, List, codes, refl}
+use Rattle.std.specs.Prelude.{ℕ, ◌≡◌, ◌++◌, codes, refl}
 use Rattle.nla_frame.specs.declared.error.Cause.{Cause}
 use Rattle.nla_frame.specs.declared.error.Cause.TheVariants as cause
 use Rattle.nla_frame.specs.declared.error.DecodeError.{DecodeError}
