@@ -291,6 +291,8 @@ struct linkinfo_inner_error {
  * @bytes: the list
  * @length: its length in bytes
  *
+ * linkinfo_error_message() makes a sentence of the error and the offset inner.
+ *
  * Return: the error that linkinfo_check returns, with both offsets.
  * Time: linear, as linkinfo_check_at.
  * Threads: MT-Safe.
@@ -485,8 +487,11 @@ struct linkinfo_item {
   size_t length;      /* of its payload */
   uint16_t raw_type;  /* with its flag bits NLA_F_NESTED and
                          NLA_F_NET_BYTEORDER */
-  uint16_t kind;      /* the current kind of the link, enum linkinfo_kind */
-  uint16_t port_kind; /* the current port kind, enum linkinfo_port_kind */
+  uint16_t kind;      /* the current kind of the link, before this attribute,
+                         enum linkinfo_kind; linkinfo_kind_of_name() has that
+                         of a payload of IFLA_INFO_KIND, without its NUL */
+  uint16_t port_kind; /* the current port kind, before this attribute, enum
+                         linkinfo_port_kind */
 };
 
 /* The number of attributes, and the error that ends them. */
@@ -763,8 +768,10 @@ size_t linkinfo_error_text(struct linkinfo_error error, char *buffer,
  * 105 bytes are enough
  * @buffer_length: its length in bytes
  *
- * The sentence is as "IFLA_INFO_DATA before IFLA_INFO_KIND, at offset 0",
- * and empty without an error.
+ * The sentence is as "IFLA_INFO_DATA before IFLA_INFO_KIND, at offset 0". It is
+ * empty without an error, and for a number that is no family or no cause. For
+ * an error of a call that returns no offset, as linkinfo_same(),
+ * linkinfo_check_inner() of that list returns both.
  *
  * Return: the length of the whole sentence without the NUL, as snprintf.
  * Time: constant.
@@ -781,10 +788,12 @@ size_t linkinfo_error_message(struct linkinfo_error error, size_t offset,
  * bytes are enough
  * @buffer_length: its length in bytes
  *
- * The name is as "IFLA_VXLAN_ID".
+ * The name is as "IFLA_VXLAN_ID". Attributes of opaque families, as of bonds
+ * and bridges, have no name. That of a vrf's port, IFLA_VRF_PORT_TABLE, has the
+ * family and the type of IFLA_VRF_TABLE, and that name.
  *
  * Return: the length of the whole name without the NUL, as snprintf; 0 for a
- * type that has no row in the family, and for a number that is no family.
+ * type that has no name, and for a number that is no family.
  * Time: constant.
  * Threads: MT-Safe.
  */

@@ -5,9 +5,10 @@ use crate::layers::nla_frame::Family;
 /// The kernel's name of a type of attributes, as `IFLA_VXLAN_ID`: at most 31 bytes.
 ///
 /// The type is without its two flag bits. `None` if the type has no row in that family, and for
-/// families whose attributes are all opaque. Attributes of gre and gre6 have the same names, as
-/// have those of ipvlan and ipvtap, and of macvlan and macvtap. A row of a port has the name of the
-/// row of its link: `IFLA_VRF_TABLE`.
+/// families whose attributes are all opaque. The kernel has one name for attributes of gre and
+/// gre6, of ipvlan and ipvtap, and of macvlan and macvtap. The attribute of a vrf's port, which it
+/// names `IFLA_VRF_PORT_TABLE`, is of the same family and type as `IFLA_VRF_TABLE`, and has that
+/// name here.
 pub fn attribute_name(family: Family, kind: u16) -> Option<&'static str> {
     match family {
         Family::LinkInfo => link_info(kind),
