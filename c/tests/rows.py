@@ -10,8 +10,9 @@ with open(sys.argv[1], encoding="utf-8") as page:
     text = page.read()
 # By family the types and their shapes, and those that one kind alone has.
 rows, of_kind = {}, {}
-for families, table in re.findall(r"(?ms)^### (.*?)\n(.*?)(?=^###|\*\*No rows)",
-                                  text.split("## Rows")[1].split("## Names")[0]):
+tables = re.findall(r"(?ms)^### (.*?)\n(.*?)(?=^###|\*\*No rows)",
+                    text.split("## Rows")[1].split("## Names")[0])
+for families, table in tables:
     found = re.findall(r"(?m)^\| (\d+)(?: under `(\w+)`)? \|[^|]*\|[^|]*\| (\w+) \|", table)
     for family in re.findall(r"`(\w+)`", families):
         rows[family] = [(number, shape) for number, kind, shape in found if not kind]
@@ -30,8 +31,6 @@ for name, family in re.findall(r"`(\w+)`\s+(\w+)", ports.split("\n\n")[0]):
     for number, shape in rows.get({"Vrf": "Vrf"}.get(family, family + "Port"), []):
         print("port", name, number, shape)
 # The kernel's names: where a table is of two families, of both, or one name for each.
-tables = re.findall(r"(?ms)^### (.*?)\n(.*?)(?=^###|\*\*No rows)",
-                    text.split("## Rows")[1].split("## Names")[0])
 listed = text.split("## The list inside IFLA_LINKINFO")[1].split("## Rows")[0]
 for families, table in [*tables, ("`LinkInfo`", listed)]:
     families = re.findall(r"`(\w+)`", families)
