@@ -1,0 +1,6 @@
+pub mod Integers
+pub mod Reading
+pub mod Messages
+pub mod Links
+pub mod Views
+pub mod Walks

@@ -1,0 +1,14 @@
+//! Link messages in the bytes of a netlink socket, and the packets of captures of an nlmon device.
+#![tactic(auto)]
+
+mod attributes;
+mod error;
+mod integers;
+mod link;
+mod links;
+mod message;
+
+pub use error::{MessageCause, MessageError};
+pub use link::{LinkContents, LinkEvent, LinkMessage};
+pub use links::LinkMessages;
+pub use message::message_len;
