@@ -4,3 +4,4 @@ pub mod Messages
 pub mod Links
 pub mod Views
 pub mod Walks
+pub mod Captures
