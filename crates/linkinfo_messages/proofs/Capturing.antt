@@ -78,8 +78,8 @@ format_room s =
     let P : Result CaptureFormat CaptureError → Type 0 = λ r. IfOk r (λ _. 24 ≤ length s) in
     of_choice P (ltb (length s) 24) (Err (capture_error 0 cause.FileHeader))
     (of_netlink (format_by (le32 s 0)) s) (λ _. tt) (λ long.
-        let enough : 24 ≤ length s = ltb-false (length s) 24 long in
-        always (of_netlink (format_by (le32 s 0)) s) enough)
+    let enough : 24 ≤ length s = ltb-false (length s) 24 long in
+    always (of_netlink (format_by (le32 s 0)) s) enough)
 
 -- ---- one record
 
@@ -112,11 +112,11 @@ reads_at format place s =
     cond (ltb (length s) (16 + n)) (Err (capture_error place (cause.Cut n))) all in
     of_choice P (ltb (length s) 16) (Err (capture_error place cause.RecordHeader)) cut (λ _. refl)
     (λ _. of_choice P (ltb (length s) (16 + n)) (Err (capture_error place (cause.Cut n))) all
-      (λ _. refl) (λ long.
-        let enough : 16 + n ≤ length s = ltb-false (length s) (16 + n) long in
-        let size : length (take (16 + n - 16) (drop 16 s)) ≡ n =
-        omega (arith, length-take (16 + n - 16) (drop 16 s), length-drop 16 s, enough) in
-        (refl, refl, ap (λ k. 16 + k) (sym size), enough)))
+    (λ _. refl) (λ long.
+    let enough : 16 + n ≤ length s = ltb-false (length s) (16 + n) long in
+    let size : length (take (16 + n - 16) (drop 16 s)) ≡ n =
+    omega (arith, length-take (16 + n - 16) (drop 16 s), length-drop 16 s, enough) in
+    (refl, refl, ap (λ k. 16 + k) (sym size), enough)))
 
 takes_some : (format : CaptureFormat) → TakesSome (record_at format)
 takes_some format place s x e =
@@ -143,7 +143,7 @@ first_left s u format place failed r going h unread e =
     left_in s format place failed going
     ∙ items_at (record_at format) (takes_some format) place s h
     ∙ ap (λ v. followed (record_at format place v)
-      (λ k. items (record_at format) (place + k) (drop (place + k) s))) (sym unread)
+    (λ k. items (record_at format) (place + k) (drop (place + k) s))) (sym unread)
     ∙ ap (λ v. followed v (λ k. items (record_at format) (place + k) (drop (place + k) s))) (sym e)
 
 -- what is read at an offset ends within the bytes

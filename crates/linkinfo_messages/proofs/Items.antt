@@ -52,10 +52,10 @@ items_enough read takes zero n place (b ∷ s) h i = absurd (omega (arith, h))
 items_enough read takes (suc m) zero place (b ∷ s) h i = absurd (omega (arith, i))
 items_enough read takes (suc m) (suc n) place (b ∷ s) h i =
     followed_same (read place (b ∷ s)) _ _ (λ x e.
-        let size = takes place (b ∷ s) x e in
-        items_enough read takes m n (place + x.1) (drop x.1 (b ∷ s))
-        (omega (arith, length-drop x.1 (b ∷ s), size.0, h))
-        (omega (arith, length-drop x.1 (b ∷ s), size.0, i)))
+    let size = takes place (b ∷ s) x e in
+    items_enough read takes m n (place + x.1) (drop x.1 (b ∷ s))
+    (omega (arith, length-drop x.1 (b ∷ s), size.0, h))
+    (omega (arith, length-drop x.1 (b ∷ s), size.0, i)))
 
 -- no bytes have no items
 pub items_nil : {X E : Type 0} (read : Reader X E) (place : ℕ) → items read place [] ≡ []
@@ -71,10 +71,10 @@ unfolding items items_up_to
 items_first read takes place [] some = absurd (omega (arith, some))
 items_first read takes place (b ∷ s) some =
     followed_same (read place (b ∷ s)) _ _ (λ x e.
-        let size = takes place (b ∷ s) x e in
-        items_enough read takes (length s) (length (drop x.1 (b ∷ s))) (place + x.1)
-        (drop x.1 (b ∷ s))
-        (omega (arith, length-drop x.1 (b ∷ s), size.0)) (omega arith))
+    let size = takes place (b ∷ s) x e in
+    items_enough read takes (length s) (length (drop x.1 (b ∷ s))) (place + x.1)
+    (drop x.1 (b ∷ s))
+    (omega (arith, length-drop x.1 (b ∷ s), size.0)) (omega arith))
 
 -- the same for the bytes from an offset on
 pub items_at : {X E : Type 0} (read : Reader X E) → TakesSome read → (place : ℕ) (s : List ℕ) →
@@ -99,9 +99,9 @@ items_up_to-bound read takes zero place s = omega arith
 items_up_to-bound read takes (suc n) place [] = omega arith
 items_up_to-bound read takes (suc n) place (b ∷ s) =
     followed_bound (read place (b ∷ s)) _ (length (b ∷ s)) (omega arith) (λ x e.
-        let size = takes place (b ∷ s) x e in
-        let rest = items_up_to-bound read takes n (place + x.1) (drop x.1 (b ∷ s)) in
-        omega (arith, length-drop x.1 (b ∷ s), size.0, size.1, rest))
+    let size = takes place (b ∷ s) x e in
+    let rest = items_up_to-bound read takes n (place + x.1) (drop x.1 (b ∷ s)) in
+    omega (arith, length-drop x.1 (b ∷ s), size.0, size.1, rest))
 
 -- at most one item per sixteen bytes, and one more
 pub items-bound : {X E : Type 0} (read : Reader X E) → TakesSome read → (place : ℕ)

@@ -88,11 +88,11 @@ reads_at place s =
     of_choice P (ltb (length s) 16) (Err (message_error place Header)) long (λ _. refl) (λ whole.
     of_choice P (ltb n 16) (Err (message_error place (Short n))) bounded (λ _. refl) (λ low.
     of_choice P (ltb (length s) n) (Err (message_error place (Long n))) message (λ _. refl) (λ high.
-        let more : 16 ≤ length s = ltb-false (length s) 16 whole in
-        let least : 16 ≤ n = ltb-false n 16 low in
-        let taken : 16 ≤ min (length s) (aligned n) = omega arith in
-        let within : min (length s) (aligned n) ≤ length s = omega arith in
-        (refl, taken, within))))
+    let more : 16 ≤ length s = ltb-false (length s) 16 whole in
+    let least : 16 ≤ n = ltb-false n 16 low in
+    let taken : 16 ≤ min (length s) (aligned n) = omega arith in
+    let within : min (length s) (aligned n) ≤ length s = omega arith in
+    (refl, taken, within))))
 
 pub takes_some : TakesSome message_at
 takes_some place s x e =
@@ -116,7 +116,7 @@ link_as_at event m =
     (Err (message_error m.place (LinkHeader (16 + length m.payload))))
     (link_of_items event m attributes) (λ _. refl)
     (λ _. unless_damaged_at (damaged_at (m.place + 32) attributes) m.place
-      (link_with event m (located (m.place + 32) attributes)) refl)
+    (link_with event m (located (m.place + 32) attributes)) refl)
 
 pub says_at : (m : Message) → SaysAt m.place (link_of m)
 unfolding link_of

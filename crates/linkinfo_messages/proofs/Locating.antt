@@ -69,7 +69,7 @@ at_next f same s t a start h source =
       | inl past ↦
           let none : nla_items (unread t) ≡ [] =
           ap nla_items (none_unread t.source t.place t.failed
-            (omega (arith, ap length source, h.place, past))) ∙ no_items in
+          (omega (arith, ap length source, h.place, past))) ∙ no_items in
           ap (λ l. f (start + t.place) l) none ∙ same _ _
           ∙ ap (λ l. f ((start + s.place) + aligned (4 + length a.value)) l) (sym none)
       | inr within ↦ ap (λ p. f p (nla_items (unread t))) (omega (arith, h.place, within))

@@ -5,3 +5,4 @@ pub mod Links
 pub mod Views
 pub mod Walks
 pub mod Captures
+pub mod ErrorTexts

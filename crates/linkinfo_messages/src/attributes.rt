@@ -42,7 +42,10 @@ impl<'a> LinkAttributes<'a> {
             },
             IFLA_LINKINFO => LinkAttributes {
                 name: self.name,
-                info: Some(LinkContents { place: place + 4, bytes: nla.value() }),
+                info: Some(LinkContents {
+                    place: place + 4,
+                    bytes: nla.value(),
+                }),
             },
             _ => self,
         }
@@ -51,14 +54,14 @@ impl<'a> LinkAttributes<'a> {
 
 /// Reads the attributes of a byte string that begins at offset `start`. The error is the offset of
 /// the first header that is not accepted.
-pub(crate) fn attributes_of<'a>(
-    start: usize,
-    bytes: &'a [u8],
-) -> Result<LinkAttributes<'a>, usize>
+pub(crate) fn attributes_of<'a>(start: usize, bytes: &'a [u8]) -> Result<LinkAttributes<'a>, usize>
     requires { start + length bytes.now < 2 ^ 64 }
     ensures { HasAttributes result start (nla_items bytes.now) }
 {
-    let mut attributes = LinkAttributes { name: None, info: None };
+    let mut attributes = LinkAttributes {
+        name: None,
+        info: None,
+    };
     let mut nlas = NlasIterator::new(bytes);
     let mut place = start;
     while let Some(item) = nlas.next() {

@@ -57,20 +57,32 @@ impl CaptureFormat {
         ensures { result ≡ format_of bytes.now }
     {
         if bytes.len() < FILE_HEADER_LEN {
-            return Err(CaptureError { place: 0, cause: CaptureCause::FileHeader });
+            return Err(CaptureError {
+                place: 0,
+                cause: CaptureCause::FileHeader,
+            });
         }
         let (big_endian, nanoseconds) = match le_u32(bytes, 0) {
             0xa1b2_c3d4 => (false, false),
             0xa1b2_3c4d => (false, true),
             0xd4c3_b2a1 => (true, false),
             0x4d3c_b2a1 => (true, true),
-            magic => return Err(CaptureError { place: 0, cause: CaptureCause::Magic(magic) }),
+            magic => return Err(CaptureError {
+                place: 0,
+                cause: CaptureCause::Magic(magic),
+            }),
         };
         let link_type = (u32_in(big_endian, bytes, 20) % 0x1_0000) as u16;
         if link_type != LINKTYPE_NETLINK {
-            return Err(CaptureError { place: 0, cause: CaptureCause::LinkType(link_type) });
+            return Err(CaptureError {
+                place: 0,
+                cause: CaptureCause::LinkType(link_type),
+            });
         }
-        Ok(CaptureFormat { big_endian, nanoseconds })
+        Ok(CaptureFormat {
+            big_endian,
+            nanoseconds,
+        })
     }
 
     /// The length of the record at the front of the bytes, header included, or `None` if fewer than
@@ -92,7 +104,12 @@ impl CaptureFormat {
             ≡ record { source = bytes.now; format = self; place = 0; failed = false } }
         ensures item_bound { 16 * length (records_left result) ≤ length bytes.now + 15 }
     {
-        Capture { bytes, format: self, place: 0, failed: false }
+        Capture {
+            bytes,
+            format: self,
+            place: 0,
+            failed: false,
+        }
     }
 }
 
@@ -131,11 +148,17 @@ impl<'a> Record<'a> {
             return Err(CaptureError { place, cause });
         }
         if captured < PACKET_HEADER_LEN {
-            return Err(CaptureError { place, cause: CaptureCause::PacketHeader(captured) });
+            return Err(CaptureError {
+                place,
+                cause: CaptureCause::PacketHeader(captured),
+            });
         }
         let device = be_u16(self.packet, 2);
         if device != ARPHRD_NETLINK {
-            return Err(CaptureError { place, cause: CaptureCause::Device(device) });
+            return Err(CaptureError {
+                place,
+                cause: CaptureCause::Device(device),
+            });
         }
         match be_u16(self.packet, 14) {
             0 => Ok(Some(&self.packet[PACKET_HEADER_LEN..])),
@@ -179,7 +202,12 @@ impl<'a> Capture<'a> {
             (λ capture. 16 * length (records_left capture) ≤ length bytes.now) }
     {
         let format = CaptureFormat::new(bytes)?;
-        Ok(Capture { bytes, format, place: FILE_HEADER_LEN, failed: false })
+        Ok(Capture {
+            bytes,
+            format,
+            place: FILE_HEADER_LEN,
+            failed: false,
+        })
     }
 
     /// The offset of the next record's header: after the last record, the number of bytes; after
@@ -203,18 +231,28 @@ fn record_at<'a>(
     ensures { record_result result ≡ record_at format place bytes.now }
 {
     if bytes.len() < RECORD_HEADER_LEN {
-        return Err(CaptureError { place, cause: CaptureCause::RecordHeader });
+        return Err(CaptureError {
+            place,
+            cause: CaptureCause::RecordHeader,
+        });
     }
     let captured = u32_in(format.big_endian, bytes, 8);
     let end = RECORD_HEADER_LEN + captured as usize;
     if bytes.len() < end {
-        return Err(CaptureError { place, cause: CaptureCause::Cut(captured) });
+        return Err(CaptureError {
+            place,
+            cause: CaptureCause::Cut(captured),
+        });
     }
     let fraction = u32_in(format.big_endian, bytes, 4) as u64;
     let record = Record {
         place,
         seconds: u32_in(format.big_endian, bytes, 0),
-        nanoseconds: if format.nanoseconds { fraction } else { 1000 * fraction },
+        nanoseconds: if format.nanoseconds {
+            fraction
+        } else {
+            1000 * fraction
+        },
         original: u32_in(format.big_endian, bytes, 12),
         packet: &bytes[RECORD_HEADER_LEN..end],
     };

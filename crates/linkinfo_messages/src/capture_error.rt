@@ -33,3 +33,64 @@ pub struct CaptureError {
     /// What is wrong.
     pub cause: CaptureCause,
 }
+
+/// Writes a sentence: `record at offset 24: its header is cut short`.
+impl fmt::Display for CaptureError {
+    ghost use Rattle.std.specs.Prelude.{Some};
+    ghost use Rattle.linkinfo_messages.specs.ErrorTexts.{capture_error_text};
+
+    ghost output = { λ error. Some (capture_error_text error) };
+
+    fn fmt<W: fmt::Write>(&self, f: &mut fmt::Formatter<W>) -> fmt::Result {
+        let place = self.place;
+        let cause = self.cause;
+        match cause {
+            CaptureCause::FileHeader | CaptureCause::Magic(_) | CaptureCause::LinkType(_) => {
+                write!(f, "capture file: {cause}")
+            }
+            _ => write!(f, "record at offset {place}: {cause}"),
+        }
+    }
+}
+
+/// Writes what is wrong, as the sentence of `CaptureError` has it.
+impl fmt::Display for CaptureCause {
+    ghost use Rattle.std.specs.Prelude.{Some};
+    ghost use Rattle.linkinfo_messages.specs.ErrorTexts.{capture_cause_text};
+
+    ghost output = { λ cause. Some (capture_cause_text cause) };
+
+    fn fmt<W: fmt::Write>(&self, f: &mut fmt::Formatter<W>) -> fmt::Result {
+        match *self {
+            CaptureCause::FileHeader | CaptureCause::RecordHeader => {
+                f.write_str("its header is cut short")
+            }
+            CaptureCause::Magic(number) => {
+                write!(f, "0x{number:x} is not the magic number of a pcap file")
+            }
+            CaptureCause::LinkType(number) => {
+                write!(f, "its link type {number} is not LINKTYPE_NETLINK")
+            }
+            CaptureCause::Cut(captured) => {
+                write!(
+                    f,
+                    "its captured length {captured} exceeds the bytes that are left"
+                )
+            }
+            CaptureCause::Truncated(captured, original) => {
+                write!(f, "{captured} of {original} bytes were captured")
+            }
+            CaptureCause::PacketHeader(captured) => {
+                write!(
+                    f,
+                    "its {captured} bytes are less than the header of a packet"
+                )
+            }
+            CaptureCause::Device(number) => {
+                write!(f, "its device type {number} is not ARPHRD_NETLINK")
+            }
+        }
+    }
+}
+
+impl Error for CaptureError {}

@@ -29,3 +29,45 @@ pub struct MessageError {
     /// What is wrong with it.
     pub cause: MessageCause,
 }
+
+/// Writes a sentence: `message at offset 48: its length 12 is less than that of its header`.
+impl fmt::Display for MessageError {
+    ghost use Rattle.std.specs.Prelude.{Some};
+    ghost use Rattle.linkinfo_messages.specs.ErrorTexts.{message_error_text};
+
+    ghost output = { λ error. Some (message_error_text error) };
+
+    fn fmt<W: fmt::Write>(&self, f: &mut fmt::Formatter<W>) -> fmt::Result {
+        let place = self.place;
+        let cause = self.cause;
+        write!(f, "message at offset {place}: {cause}")
+    }
+}
+
+/// Writes what is wrong, as the sentence of `MessageError` has it.
+impl fmt::Display for MessageCause {
+    ghost use Rattle.std.specs.Prelude.{Some};
+    ghost use Rattle.linkinfo_messages.specs.ErrorTexts.{message_cause_text};
+
+    ghost output = { λ cause. Some (message_cause_text cause) };
+
+    fn fmt<W: fmt::Write>(&self, f: &mut fmt::Formatter<W>) -> fmt::Result {
+        match *self {
+            MessageCause::Header => f.write_str("its header is cut short"),
+            MessageCause::Short(length) => {
+                write!(f, "its length {length} is less than that of its header")
+            }
+            MessageCause::Long(length) => {
+                write!(f, "its length {length} exceeds the bytes that are left")
+            }
+            MessageCause::LinkHeader(length) => {
+                write!(f, "its length {length} has no room for ifinfomsg")
+            }
+            MessageCause::Attribute(place) => {
+                write!(f, "invalid attribute header, at offset {place}")
+            }
+        }
+    }
+}
+
+impl Error for MessageError {}

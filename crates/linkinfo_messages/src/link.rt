@@ -91,6 +91,9 @@ fn link_as<'a>(
             name: attributes.name,
             info: attributes.info,
         })),
-        Err(at) => Err(MessageError { place, cause: MessageCause::Attribute(at) }),
+        Err(at) => Err(MessageError {
+            place,
+            cause: MessageCause::Attribute(at),
+        }),
     }
 }

@@ -43,18 +43,31 @@ pub(crate) fn message_at<'a>(
     ensures { result ≡ message_at place bytes.now }
 {
     if bytes.len() < HEADER_LEN {
-        return Err(MessageError { place, cause: MessageCause::Header });
+        return Err(MessageError {
+            place,
+            cause: MessageCause::Header,
+        });
     }
     let length = le_u32(bytes, 0);
     if length < 16 {
-        return Err(MessageError { place, cause: MessageCause::Short(length) });
+        return Err(MessageError {
+            place,
+            cause: MessageCause::Short(length),
+        });
     }
     let end = length as usize;
     if bytes.len() < end {
-        return Err(MessageError { place, cause: MessageCause::Long(length) });
+        return Err(MessageError {
+            place,
+            cause: MessageCause::Long(length),
+        });
     }
     let kind = le_u16(bytes, 4);
-    let message = Message { place, kind, payload: &bytes[HEADER_LEN..end] };
+    let message = Message {
+        place,
+        kind,
+        payload: &bytes[HEADER_LEN..end],
+    };
     Ok((message, end.next_multiple_of(4).min(bytes.len())))
 }
 
@@ -72,7 +85,10 @@ pub fn message_len(bytes: &[u8]) -> Result<Option<usize>, MessageError>
     }
     let length = le_u32(bytes, 0);
     if length < 16 {
-        return Err(MessageError { place: 0, cause: MessageCause::Short(length) });
+        return Err(MessageError {
+            place: 0,
+            cause: MessageCause::Short(length),
+        });
     }
     Ok(Some((length as usize).next_multiple_of(4)))
 }

@@ -25,8 +25,11 @@ returns-then-self-clause-steps c =
 
 pub overflow_add-self : goal.overflow_add-self
 overflow_add-self c =
-    omega (arith, record_room _ _ _ _ _ _ c.self.invariant
-    (take_rest c.self.inside.bytes.now c.self.inside.place) c.in-Ok.ensures)
+    omega (
+      arith,
+      record_room _ _ _ _ _ _ c.self.invariant
+          (take_rest c.self.inside.bytes.now c.self.inside.place) c.in-Ok.ensures,
+    )
 
 pub invariant_of-self : goal.invariant_of-self
 invariant_of-self c =
