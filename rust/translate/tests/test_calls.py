@@ -133,7 +133,18 @@ class Names(RuleTest):
 
     def test_newer_calls(self):
         self.assert_written(formatting.name_octets, "Ipv4Addr::from_octets(a)", "Ipv4Addr::from(a)")
-        self.assert_written(formatting.name_unsigned, "a.cast_unsigned()", "a.to_unsigned()")
+        self.assert_written(
+            formatting.name_signs,
+            "a.cast_unsigned(); b.cast_signed()",
+            "a.to_unsigned(); b.to_signed()",
+        )
+
+    def test_attributes_of_the_formatter(self):
+        self.assert_written(
+            formatting.name_formatter_attributes,
+            "#[rattlefmt::skip] const A: u8 = 1; rattlefmt(b)",
+            "#[rustfmt::skip] const A: u8 = 1; rattlefmt(b)",
+        )
 
     def test_zeros(self):
         self.assert_written(

@@ -15,6 +15,7 @@ METHODS = {
     "try_to_vec": "TryToVec",
     "try_from_text": "TryFromText",
     "to_unsigned": "ToUnsigned",
+    "to_signed": "ToSigned",
     "fill_zeros": "FillZeros",
     "next_multiple_of_four": "NextMultiple",
 }

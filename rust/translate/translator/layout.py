@@ -12,6 +12,7 @@ LIBRARY = (
     "linkinfo_numbers",
     "linkinfo_shapes",
     "linkinfo_names",
+    "linkinfo_messages",
     "linkinfo_table",
     "linkinfo_lower",
     "linkinfo_devices",

@@ -38,7 +38,8 @@ def rewrite_calls(source, own, place):
         casts.check_casts(source)
     formatting.name_formatters(source)
     formatting.name_octets(source)
-    formatting.name_unsigned(source)
+    formatting.name_signs(source)
+    formatting.name_formatter_attributes(source)
     if not place.hosted:
         formatting.name_zeros(source)
         formatting.name_multiples(source)
