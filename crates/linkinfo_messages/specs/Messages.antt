@@ -1,20 +1,5 @@
 -- Netlink messages: how a byte string frames them (include/uapi/linux/netlink.h).
-use Rattle.std.specs.Prelude.{
-  ℕ,
-  ◌+◌,
-  if◌then◌else◌,
-  nat_lt,
-  min,
-  List,
-  length,
-  slice_range,
-  Option,
-  Some,
-  None,
-  Result,
-  Ok,
-  Err,
-}
+use Rattle.std.specs.Prelude.{ℕ, if◌then◌else◌, nat_lt, min, List, length, slice_range, Option, Some, None, Result, Ok, Err}
 use Rattle.nla_frame.specs.Attribute.{aligned}
 use Rattle.linkinfo_messages.specs.declared.error.MessageCause.{MessageCause}
 use Rattle.linkinfo_messages.specs.declared.error.MessageCause.TheVariants.{Header, Short, Long}

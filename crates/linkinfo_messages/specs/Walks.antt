@@ -24,7 +24,7 @@ use Rattle.linkinfo_messages.specs.declared.error.MessageError.{MessageError}
 use Rattle.linkinfo_messages.specs.declared.link.LinkMessage.{LinkMessage}
 use Rattle.linkinfo_messages.specs.Links.{Link, links_of}
 use Rattle.linkinfo_messages.specs.Messages.{messages}
-use Rattle.linkinfo_messages.specs.Views.{link_in, item_seen}
+use Rattle.linkinfo_messages.specs.Views.{HasSlices, link_in, item_seen}
 
 -- its byte string, the offset of the next header, and whether there was an error
 pub record Walk : Type 0 where
@@ -46,6 +46,7 @@ pub record FindsLink (s : List ℕ) (start : ℕ) (link : LinkMessage) (after : 
   pub from : start ≤ link.place
   pub advances : link.place < after
   pub within : after ≤ length s
+  pub slices : HasSlices link s 0
 
 -- .. or an error, ..
 pub record FindsError (s : List ℕ) (start : ℕ) (e : MessageError) : Type 0 where
@@ -59,12 +60,17 @@ Finds s start (Ok None) = links_from s start ≡ []
 Finds s start (Ok (Some x)) = FindsLink s start x.0 x.1
 Finds s start (Err e) = FindsError s start e
 
--- After a link message the offset is that of the message after it, after an error that of the
--- rejected message, and at the end the number of bytes.
+-- A link message has its name and contents as slices of the source, and the next message is after
+-- it. After an error the offset is that of the rejected message.
+pub record IsNext (s : Walk) (link : LinkMessage) (t : Walk) : Type 0 where
+  pub from : s.place ≤ link.place
+  pub advances : link.place < t.place
+  pub slices : HasSlices link s.source 0
+  pub failed : t.failed ≡ s.failed
+
 abbrev pub StepsBy : Walk → Option (Result LinkMessage MessageError) → Walk → Type 0
 StepsBy s None t = (t.failed ≡ s.failed) × (links_left s ≡ [])
-StepsBy s (Some (Ok link)) t =
-    (s.place ≤ link.place) × (link.place < t.place) × (t.failed ≡ s.failed)
+StepsBy s (Some (Ok link)) t = IsNext s link t
 StepsBy s (Some (Err e)) t = (t.place ≡ e.place) × (t.failed ≡ true)
 
 -- one call yields the first of the items left, and keeps its byte string

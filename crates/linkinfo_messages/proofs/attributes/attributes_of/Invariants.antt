@@ -3,6 +3,7 @@ use Rattle.std.specs.Option.{option_or}
 use Rattle.nla_frame.specs.NlaItems.{nla_items}
 use Rattle.nla_frame.specs.Walk.{unread}
 use Rattle.linkinfo_messages.specs.Links.{located, damaged_at, name_in, info_in}
+use Rattle.linkinfo_messages.specs.Slices.{AreSlices}
 use Rattle.linkinfo_messages.specs.Views.{info_seen}
 use Rattle.linkinfo_messages.proofs.attributes.attributes_of.Given as goal
 
@@ -18,4 +19,5 @@ invariant-loop-item l = record {
       ≡ name_in (located l.start (nla_items l.bytes));
   info : option_or (info_in (located l.place (nla_items (unread l.nlas)))) (info_seen l.attributes.info)
       ≡ info_in (located l.start (nla_items l.bytes));
+  slices : AreSlices (option_copied l.attributes.name) (info_seen l.attributes.info) l.bytes l.start;
 }
