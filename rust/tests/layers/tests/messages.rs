@@ -174,6 +174,16 @@ fn capture(magic: u32, big_endian: bool, family: [u8; 2]) -> Vec<u8> {
     out
 }
 
+/// The bytes before an offset.
+fn before<'a>(bytes: &'a [u8], end: usize) -> &'a [u8] {
+    bytes.get(..end).expect("a prefix")
+}
+
+/// The bytes from an offset on.
+fn after<'a>(bytes: &'a [u8], start: usize) -> &'a [u8] {
+    bytes.get(start..).expect("a suffix")
+}
+
 /// The first record of a capture.
 fn record<'a>(bytes: &'a [u8]) -> Record<'a> {
     let mut capture = Capture::new(bytes).expect("a capture");
@@ -202,10 +212,18 @@ fn captures_in_each_format() {
         );
         assert_is(magic, numbers, (24, 1000, nanoseconds, 76));
         assert_is(magic, record.messages(), Ok(Some(&DUMP[..60])));
-        let format = CaptureFormat::new(&bytes[..24]).expect("a format");
-        assert_is(magic, format.record_len(&bytes[24..40]), Some(92));
-        assert_is(magic, format.record_len(&bytes[24..39]), None);
-        assert_is(magic, format.records(&bytes[24..]).count(), 1);
+        let format = CaptureFormat::new(before(&bytes, 24)).expect("a format");
+        assert_is(
+            magic,
+            format.record_len(before(after(&bytes, 24), 16)),
+            Some(92),
+        );
+        assert_is(
+            magic,
+            format.record_len(before(after(&bytes, 24), 15)),
+            None,
+        );
+        assert_is(magic, format.records(after(&bytes, 24)).count(), 1);
     }
 }
 
@@ -224,19 +242,33 @@ fn capture_error(place: usize, cause: CaptureCause) -> Option<CaptureError> {
 #[test]
 fn errors_of_captures() {
     let bytes = capture(0xa1b2_c3d4, false, [0, 0]);
-    assert_eq!(bytes.len(), 116);
     let other = capture(0x0a0d_0d0a, false, [0, 0]);
     let mut ethernet = capture(0xa1b2_c3d4, false, [0, 0]);
     assert_eq!(ethernet.len(), 116);
     ethernet[20] = 1;
     let cases = [
-        (&bytes[..23], capture_error(0, CaptureCause::FileHeader)),
-        (&other, capture_error(0, CaptureCause::Magic(0x0a0d_0d0a))),
-        (&ethernet, capture_error(0, CaptureCause::LinkType(1))),
-        (&bytes[..24], None),
-        (&bytes[..39], capture_error(24, CaptureCause::RecordHeader)),
-        (&bytes[..115], capture_error(24, CaptureCause::Cut(76))),
-        (&bytes, None),
+        (
+            before(&bytes, 23),
+            capture_error(0, CaptureCause::FileHeader),
+        ),
+        (
+            other.as_slice(),
+            capture_error(0, CaptureCause::Magic(0x0a0d_0d0a)),
+        ),
+        (
+            ethernet.as_slice(),
+            capture_error(0, CaptureCause::LinkType(1)),
+        ),
+        (before(&bytes, 24), None),
+        (
+            before(&bytes, 39),
+            capture_error(24, CaptureCause::RecordHeader),
+        ),
+        (
+            before(&bytes, 115),
+            capture_error(24, CaptureCause::Cut(76)),
+        ),
+        (bytes.as_slice(), None),
     ];
     for (case, (bytes, wanted)) in cases.iter().enumerate() {
         assert_is(case, capture_error_in(bytes), *wanted);
