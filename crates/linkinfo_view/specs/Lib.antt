@@ -1,2 +1,4 @@
 pub mod Lines
 pub mod Table
+pub mod Text
+pub mod Words

@@ -3,6 +3,10 @@
 
 mod format;
 mod table;
+mod text;
+mod words;
 
 pub use format::{Elements, Flags, Format, Row, Table, Words};
 pub use table::table_row;
+pub use text::{escaped, hex_json};
+pub use words::{Flag, flag_at, word};
