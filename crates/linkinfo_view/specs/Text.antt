@@ -7,6 +7,7 @@ use Rattle.std.specs.Prelude.{
   ◌==◌,
   ◌&&◌,
   Bool,
+  false,
   not,
   if◌then◌else◌,
   nat_le,

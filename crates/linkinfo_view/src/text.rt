@@ -73,6 +73,7 @@ fn push_escaped(text: &mut String, byte: u8) -> Result<(), AllocError>
 
 /// Bytes as printable ASCII: each byte outside 0x20..=0x7e, and the backslash, is written as `\xNN`,
 /// with two hex digits.
+#[tactic(auto, unfolding(crate::specs::Text::escaped_text))]
 pub fn escaped(alloc: Global, bytes: &[u8]) -> Result<String, AllocError>
     ensures { IfOk result (λ s. string_bytes s ≡ escaped_text bytes.now) }
 {
@@ -98,6 +99,7 @@ pub fn escaped_json(alloc: Global, bytes: &[u8]) -> Result<Value, AllocError>
 }
 
 /// Adds bytes as pairs of hex digits, with colons between them.
+#[tactic(auto, unfolding(crate::specs::Text::octets_text))]
 fn push_octets(text: &mut String, octets: &[u8]) -> Result<(), AllocError>
     ensures { OnOk result
         (string_bytes text.new ≡ string_bytes text.old ++ octets_text octets.now) }
