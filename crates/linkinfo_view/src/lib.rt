@@ -1,9 +1,12 @@
 //! What an attribute of link info is for a reader: names and values, as JSON.
 #![tactic(auto)]
 
+mod attributes;
 mod format;
+mod members;
 mod table;
 mod text;
+mod value;
 mod words;
 
 pub use format::{Elements, Flags, Format, Row, Table, Words};

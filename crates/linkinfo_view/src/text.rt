@@ -133,13 +133,14 @@ pub fn octets_json(alloc: Global, octets: &[u8]) -> Result<Value, AllocError>
 }
 
 /// An identifier of a bridge as a JSON string: its priority in hex, and its hardware address.
-pub fn bridge_id_json(alloc: Global, priority: [u8; 2], octets: &[u8]) -> Result<Value, AllocError>
-    ensures { IfOk result (λ v. view v ≡ string (flat_map byte_digits priority ++ 46 ∷ octets_text octets.now)) }
+pub fn bridge_id_json(alloc: Global, priority: &[u8], octets: &[u8]) -> Result<Value, AllocError>
+    ensures { IfOk result (λ v. view v
+        ≡ string (flat_map byte_digits priority.now ++ 46 ∷ octets_text octets.now)) }
 {
-    let [high, low] = priority;
     let mut text = String::new(alloc);
-    push_byte(&mut text, high)?;
-    push_byte(&mut text, low)?;
+    for byte in priority {
+        push_byte(&mut text, *byte)?;
+    }
     push_ascii(&mut text, b'.')?;
     push_octets(&mut text, octets)?;
     Ok(Value::String(text))
