@@ -194,7 +194,7 @@ with_bit None n more = more
 with_bit (Some flag) n more = (flag.name, json.boolean (is_set flag n)) ∷ more
 
 -- the same for the flags of so many places
-abbrev pub bits_from : ℕ → ℕ → Flags → ℕ → List Named
+unfoldable pub bits_from : ℕ → ℕ → Flags → ℕ → List Named
 bits_from zero place flags n = []
 bits_from (suc k) place flags n =
     with_bit (flag_at flags place) n (bits_from k (suc place) flags n)
@@ -205,7 +205,7 @@ with_option None n mask more = more
 with_option (Some flag) n mask more = if is_set flag mask
     then (flag.name, number_data (if is_set flag n then 1 else 0)) ∷ more else more
 
-abbrev pub options_from : ℕ → ℕ → Flags → ℕ → ℕ → List Named
+unfoldable pub options_from : ℕ → ℕ → Flags → ℕ → ℕ → List Named
 options_from zero place flags n mask = []
 options_from (suc k) place flags n mask =
     with_option (flag_at flags place) n mask (options_from k (suc place) flags n mask)
@@ -215,7 +215,7 @@ abbrev pub with_name : Option FlagRow → ℕ → List Data → List Data
 with_name None n more = more
 with_name (Some flag) n more = if is_set flag n then json.string flag.name ∷ more else more
 
-abbrev pub names_from : ℕ → ℕ → Flags → ℕ → List Data
+unfoldable pub names_from : ℕ → ℕ → Flags → ℕ → List Data
 names_from zero place flags n = []
 names_from (suc k) place flags n =
     with_name (flag_at flags place) n (names_from k (suc place) flags n)
@@ -225,7 +225,7 @@ abbrev pub without : Option FlagRow → ℕ → ℕ → ℕ
 without None n left = left
 without (Some flag) n left = if is_set flag n then left - flag.value else left
 
-abbrev pub unnamed_from : ℕ → ℕ → Flags → ℕ → ℕ → ℕ
+unfoldable pub unnamed_from : ℕ → ℕ → Flags → ℕ → ℕ → ℕ
 unnamed_from zero place flags n left = left
 unnamed_from (suc k) place flags n left =
     unnamed_from k (suc place) flags n (without (flag_at flags place) n left)

@@ -49,6 +49,7 @@ use Rattle.linkinfo_view.specs.Values.{
 }
 use Rattle.linkinfo_view.specs.declared.format.Elements.{Elements}
 use Rattle.linkinfo_view.specs.declared.format.Elements.TheVariants as elements
+use Rattle.linkinfo_view.specs.declared.format.Flags.{Flags}
 use Rattle.linkinfo_view.specs.declared.format.Format.{Format}
 use Rattle.linkinfo_view.specs.declared.format.Format.TheVariants as format
 use Rattle.linkinfo_view.specs.declared.format.Table.{Table}
@@ -105,18 +106,30 @@ abbrev pub elements_data : Elements → List ℕ → Data
 elements_data el payload =
     json.array (items_of (elements_from el 0 (attributes payload) ++ rest_data (rest_of payload)))
 
+-- a mask in two forms
+abbrev pub mask_members : List ℕ → ℕ → List Named
+mask_members name n = (name, json.string (mask_text n))
+    ∷ (codes "group_fwd_mask_str", json.string (hex_text n))
+    ∷ []
+
+-- a number, and the traffic class and the flow label in it
+abbrev pub flow_members : List ℕ → ℕ → List Named
+flow_members name n = (name, json.string (hex_text n))
+    ∷ (codes "tclass", json.string (class_text (n / 0x100000)))
+    ∷ (codes "flowlabel", json.string (label_text n))
+    ∷ []
+
+-- the names of flags, and a mask
+abbrev pub names_members : Flags → List ℕ → List ℕ → ℕ → ℕ → List Named
+names_members flags name mask_name n mask = (name, names_data flags n)
+    ∷ (mask_name, json.string (hex_text mask))
+    ∷ []
+
 -- the members of a value by its format, where `nested` shows a nested list by a table
 abbrev pub format_members : (Table → List ℕ → Data) → List ℕ → Format → Value → List ℕ →
     List Named
-format_members nested name format.Mask value payload =
-    (name, json.string (mask_text (first_of value)))
-    ∷ (codes "group_fwd_mask_str", json.string (hex_text (first_of value)))
-    ∷ []
-format_members nested name format.FlowInfo value payload =
-    (name, json.string (hex_text (first_of value)))
-    ∷ (codes "tclass", json.string (class_text (first_of value / 0x100000)))
-    ∷ (codes "flowlabel", json.string (label_text (first_of value)))
-    ∷ []
+format_members nested name format.Mask value payload = mask_members name (first_of value)
+format_members nested name format.FlowInfo value payload = flow_members name (first_of value)
 format_members nested name format.Group value payload =
     (if is_multicast payload then name else codes "remote", plain_data value) ∷ []
 format_members nested name format.Group6 value payload =
@@ -126,13 +139,9 @@ format_members nested name (format.Bits flags) value payload =
 format_members nested name (format.Options flags) value payload =
     (name, flags_data value) ∷ options_from 16 0 flags (first_of value) (second_of value)
 format_members nested name (format.Names flags) value payload =
-    (name, names_data flags (first_of value))
-    ∷ (codes "flags_mask", json.string (hex_text (second_of value)))
-    ∷ []
+    names_members flags name (codes "flags_mask") (first_of value) (second_of value)
 format_members nested name (format.SecondNames flags) value payload =
-    (name, names_data flags (second_of value))
-    ∷ (codes "ctrlmode_mask", json.string (hex_text (first_of value)))
-    ∷ []
+    names_members flags name (codes "ctrlmode_mask") (second_of value) (first_of value)
 format_members nested name (format.List el) value payload = (name, elements_data el payload) ∷ []
 format_members nested name (format.Nested table) value payload = (name, nested table payload) ∷ []
 format_members nested name format value payload = (name, format_data format value payload) ∷ []

@@ -3,6 +3,7 @@
 
 mod attributes;
 mod format;
+mod list;
 mod members;
 mod table;
 mod text;
@@ -10,6 +11,7 @@ mod value;
 mod words;
 
 pub use format::{Elements, Flags, Format, Row, Table, Words};
+pub use list::attributes_json;
 pub use table::table_row;
 pub use text::{escaped, hex_json};
 pub use words::{Flag, flag_at, word};

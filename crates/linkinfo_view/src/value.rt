@@ -45,7 +45,7 @@ pub fn datum_of(shape: Shape, payload: &[u8]) -> Result<Datum<'_>, Cause>
 }
 
 /// Two numbers as an object.
-fn pair_json(
+pub fn pair_json(
     alloc: Global,
     first: &str,
     a: u32,
