@@ -58,7 +58,7 @@ fn put_if_shown<N: Nesting>(
     map: &mut Map<String, Value>,
 ) -> Result<(), AllocError>
     ensures { OnOk result (members_view map.new.entries
-        ≡ put_shown N.shown (option_map line_of row.entry) attribute.now.value
+        ≡ put_shown N.shown (option_map line_of row) attribute.now.value
           (members_view map.old.entries)) }
 {
     match row {
@@ -77,7 +77,7 @@ fn push_if_other(
 ) -> Result<(), AllocError>
     ensures { OnOk result (list_map view others.new.items
         ≡ list_map view others.old.items
-          ++ others_with (option_map line_of row.entry) table attribute.now []) }
+          ++ others_with (option_map line_of row) table attribute.now []) }
 {
     match row {
         Some(_) => Ok(()),
