@@ -1,5 +1,6 @@
 -- The rows of all tables, by type without flag bits.
 use Rattle.std.specs.Prelude.{ℕ, ◌==◌, if◌then◌else◌, List, [], ◌∷◌, ◌++◌, Option, Some, None, codes}
+use Rattle.std.specs.Str.{bytes_eq}
 use Rattle.nla_frame.specs.declared.error.Family.{Family}
 use Rattle.nla_frame.specs.declared.error.Family.TheVariants as family
 use Rattle.linkinfo_shapes.specs.declared.shape.Shape.{Shape}
@@ -170,15 +171,14 @@ ip_tunnel_rows =
 abbrev pub sit_rows : List (ℕ × Line)
 sit_rows =
     line 8 (codes "flags") shape.Be16 (format.Bits flags.Sit) ∷
-    line 9 (codes "proto") shape.U8 (format.Word words.TunnelProtocol) ∷
-    []
+    ip_tunnel_rows
 
 -- Ip6Tunnel
 abbrev pub ip6_tunnel_rows : List (ℕ × Line)
 ip6_tunnel_rows =
     line 8 (codes "flags") shape.Le32 (format.Bits flags.Ip6Tunnel) ∷
     line 9 (codes "proto") shape.U8 (format.Word words.Tunnel6Protocol) ∷
-    []
+    ip_tunnel_rows
 
 -- IpVlan
 abbrev pub ip_vlan_rows : List (ℕ × Line)
@@ -652,3 +652,13 @@ found (row ∷ rows) number = if number == row.0 then Some row.1 else found rows
 
 abbrev pub row_of : Table → ℕ → Option Line
 row_of table number = found (rows_of table) number
+
+-- the table of the data of a link of a kind
+abbrev pub tunnel_table : List ℕ → Table
+tunnel_table kind = if bytes_eq kind (codes "sit") then table.Sit
+    else if bytes_eq kind (codes "ip6tnl") then table.Ip6Tunnel
+    else table.Family family.IpTunnel
+
+abbrev pub table_of : Family → List ℕ → Table
+table_of family.IpTunnel kind = tunnel_table kind
+table_of f kind = table.Family f

@@ -1,5 +1,8 @@
 //! Rows, and how the value of an attribute is shown.
 
+ghost use Rattle.std.specs.Prelude.{◌≡◌};
+ghost use Rattle.nla_frame.specs.declared.error.Family.TheVariants as family;
+
 use linkinfo_shapes::Shape;
 use nla_frame::Family;
 
@@ -22,6 +25,35 @@ pub enum Table {
     CanModes,
     /// The list in `IFLA_CAN_XL_PWM`.
     CanPulse,
+}
+
+impl Table {
+    ghost use Rattle.linkinfo_view.specs.Table.{table_of};
+
+    /// The table of the data of a link of this kind, a name without its NUL: that of the family,
+    /// but one of their own for `sit` and `ip6tnl` links, which name flags and protocols in other
+    /// ways.
+    pub fn of_kind(family: Family, kind: &[u8]) -> Table
+        ensures { result ≡ table_of family kind.now }
+    {
+        match family {
+            Family::IpTunnel => Table::of_tunnel(kind),
+            _ => Table::Family(family),
+        }
+    }
+
+    /// The table of a kind of tunnels over IP.
+    fn of_tunnel(kind: &[u8]) -> Table
+        ensures { result ≡ table_of family.IpTunnel kind.now }
+    {
+        if kind == b"sit".as_slice() {
+            Table::Sit
+        } else if kind == b"ip6tnl".as_slice() {
+            Table::Ip6Tunnel
+        } else {
+            Table::Family(Family::IpTunnel)
+        }
+    }
 }
 
 /// How the attributes of one type are shown.

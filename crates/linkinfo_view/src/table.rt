@@ -48,15 +48,25 @@ use nla_frame::Family;
 
 /// The row of a type, from a list of rows: type, member, shape and format.
 macro_rules! row {
-    ($kind:ident; $(($number:literal, $name:literal, $shape:ident, $format:ident $(($part:path))?),)*) => {
+    (
+        $kind:ident;
+        $(($number:literal, $name:literal, $shape:ident, $format:ident $(($part:path))?),)*
+        $(else $other:expr)?
+    ) => {
         match $kind {
             $($number => Some(Row {
                 name: $name,
                 shape: Shape::$shape,
                 format: Format::$format $(($part))?,
             }),)*
-            _ => None,
+            _ => row!(@or $($other)?),
         }
+    };
+    (@or) => {
+        None
+    };
+    (@or $other:expr) => {
+        $other
     };
 }
 
@@ -208,7 +218,7 @@ fn ipoib(kind: u16) -> Option<Row>
     }
 }
 
-/// `IFLA_IPTUN_*` (include/uapi/linux/if_tunnel.h), of `ipip` links and in common.
+/// `IFLA_IPTUN_*` (include/uapi/linux/if_tunnel.h): those of `ipip` links.
 fn ip_tunnel(kind: u16) -> Option<Row>
     ensures { option_map line_of result ≡ found ip_tunnel_rows kind }
 {
@@ -236,23 +246,24 @@ fn ip_tunnel(kind: u16) -> Option<Row>
     }
 }
 
-/// `IFLA_IPTUN_*` of `sit` links: flags, and names of protocols.
+/// `IFLA_IPTUN_*` of `sit` links: those of `ipip` links but for the flags.
 fn sit(kind: u16) -> Option<Row>
     ensures { option_map line_of result ≡ found sit_rows kind }
 {
     row! { kind;
         (8, "flags", Be16, Bits(Flags::Sit)),
-        (9, "proto", U8, Word(Words::TunnelProtocol)),
+        else ip_tunnel(kind)
     }
 }
 
-/// `IFLA_IPTUN_*` of `ip6tnl` links: flags, and names of protocols.
+/// `IFLA_IPTUN_*` of `ip6tnl` links: those of `ipip` links but for flags and protocols.
 fn ip6_tunnel(kind: u16) -> Option<Row>
     ensures { option_map line_of result ≡ found ip6_tunnel_rows kind }
 {
     row! { kind;
         (8, "flags", Le32, Bits(Flags::Ip6Tunnel)),
         (9, "proto", U8, Word(Words::Tunnel6Protocol)),
+        else ip_tunnel(kind)
     }
 }
 
