@@ -1,6 +1,6 @@
 //! A list of attributes as a JSON object.
 
-ghost use Rattle.std.specs.Prelude.{◌≡◌, ◌++◌, [], IfOk, OnOk, option_map, map as list_map};
+ghost use Rattle.std.specs.Prelude.{◌≡◌, ◌≤◌, ◌++◌, [], false, IfOk, OnOk, option_map, map as list_map};
 ghost use Rattle.std.specs.Option.{option_copied};
 ghost use Rattle.nla_frame.specs.Attribute.{masked};
 ghost use Rattle.linkinfo_view.specs.Attributes.{attributes};
@@ -17,7 +17,9 @@ ghost use Rattle.linkinfo_view.specs.View.{
   put_shown,
   row_before,
 };
+ghost use Rattle.serde_json.specs.Data.{depth};
 ghost use Rattle.serde_json.specs.View.{members_view, view};
+ghost use Rattle.serde_json.specs.Written.{has_float};
 
 use crate::attributes::{first_attribute, has_type};
 use crate::format::{Row, Table};
@@ -158,7 +160,9 @@ impl Nesting for AsList {
 /// most once for each row of the table, and once more.
 #[tactic(auto, unfolding(crate::specs::View::attributes_data))]
 pub fn attributes_json(alloc: Global, table: Table, payload: &[u8]) -> Result<Value, AllocError>
-    ensures { IfOk result (λ v. view v ≡ attributes_data table payload.now) }
+    ensures shown { IfOk result (λ v. view v ≡ attributes_data table payload.now) }
+    ensures shallow { IfOk result (λ v. depth (view v) ≤ 4) }
+    ensures whole_numbers { IfOk result (λ v. has_float (view v) ≡ false) }
 {
     list_json::<AsList>(alloc, table, payload)
 }
