@@ -58,6 +58,13 @@ impl<T> From<AllocFailed<T>> for AllocError {
     }
 }
 
+#[cfg(feature = "std")]
+impl<T> From<AllocFailed<T>> for std::io::Error {
+    fn from(_: AllocFailed<T>) -> std::io::Error {
+        std::io::Error::from(AllocError)
+    }
+}
+
 /// The calls of `Vec` that allocate, each with a `Result`.
 pub trait TryVec<T>: Sized {
     /// An empty `Vec` with room for this many items.

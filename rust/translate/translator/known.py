@@ -61,7 +61,7 @@ def defined(source):
 def called_names(source):
     """The indices of methods that are called, of macros, and of names after `::`."""
     for index in source.words():
-        method = source.at(index - 1) == "." and (
+        method = source.at(index - 1) == "." != source.at(index - 2) and (
             source.at(index + 1) == "(" or source.is_path(index + 1)
         )
         macro = (

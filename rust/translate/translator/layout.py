@@ -23,6 +23,9 @@ LIBRARY = (
 )
 LINES = "linkinfo_lines"
 TOOL = "linkinfo_tool"
+# The second program is a package of its own, with these libraries as its modules.
+SHOWN = ("linkinfo_view", "linkinfo_print")
+SHOW = "linkinfo_show"
 TESTS = {
     "linkinfo_layers_tests": "layers",
     "linkinfo_families_tests": "families",
@@ -37,6 +40,18 @@ TEST_ROOT = """#![allow(
     clippy::type_complexity,
     reason = "the text is that of the sources' tests"
 )]"""
+SHOW_ROOT = """#![forbid(unsafe_code)]
+#![allow(
+    dead_code,
+    unused_imports,
+    reason = "the text is that of proved libraries, of which this program does not use every item"
+)]
+#![allow(
+    clippy::manual_map,
+    clippy::manual_range_contains,
+    clippy::needless_range_loop,
+    reason = "the text is that of the proved source, where these forms are the ones with proofs"
+)]"""
 
 
 def module_of(crate):
@@ -49,16 +64,36 @@ def library_paths(root):
     return {crate: f"{root}::layers::{module_of(crate)}" for crate in LIBRARY}
 
 
+# Names of which Rust's libraries have none, or one that does not report an allocation failure.
+SHOW_PATHS = {
+    "serde_json": "crate::compat::serde_json",
+    "hex::encode": "crate::compat::hex",
+    "std::env": "crate::compat",
+}
+
+
+def show_place(crate):
+    """How the paths of a crate of the second program are written."""
+    paths = library_paths("linkinfo") | {name: f"crate::{name}" for name in SHOWN} | SHOW_PATHS
+    own = "crate" if crate == SHOW else paths[crate]
+    glob = "crate::compat::calls::*"
+    return Place(own, paths, "crate::compat", hosted=True, checked=True, glob=glob)
+
+
 def place_of(crate):
     """How the paths of a crate are written."""
     if crate in LIBRARY:
         paths = library_paths("crate")
-        return Place(paths[crate], paths, "crate::compat")
+        return Place(paths[crate], paths, "crate::compat", checked=True)
+    if crate in (*SHOWN, SHOW):
+        return show_place(crate)
     paths = library_paths("linkinfo") | {LINES: f"crate::{LINES}"}
     if crate == LINES:
         return Place(paths[LINES], paths, "linkinfo::compat", hosted=True)
-    support = "crate::support" if crate in TESTS else None
-    return Place("crate", paths, "linkinfo::compat", hosted=True, support=support)
+    if crate not in TESTS:
+        return Place("crate", paths, "linkinfo::compat", hosted=True)
+    support, glob = "crate::support", "crate::support::*"
+    return Place("crate", paths, "linkinfo::compat", hosted=True, support=support, glob=glob)
 
 
 def read_crate(repository, name):
@@ -119,6 +154,16 @@ def program_files(lines, tool):
     return files | {"examples/linkinfo/main.rs": main}
 
 
+def show_files(libraries, program):
+    """The package of the second program, but for its module `compat`."""
+    files = {}
+    for crate in libraries:
+        texts = written(crate, "mod.rs")
+        files |= {f"show/src/{crate.name}/{name}": text for name, text in texts.items()}
+    modules = [SHOW_ROOT, "", "#[macro_use]", "mod compat;", *(f"mod {name};" for name in SHOWN)]
+    return files | {"show/src/main.rs": with_modules(written(program, "main.rs")["main.rs"], modules)}
+
+
 def test_files(crate, target):
     """The tests of a crate, as one target of cargo."""
     texts = written(crate, "main.rs")
@@ -133,12 +178,13 @@ def package_files(repository):
     """Every generated file of the package, by its path below `rust`."""
     libraries = [read_crate(repository, name) for name in LIBRARY]
     library = Translation(libraries)
-    others = [read_crate(repository, name) for name in (LINES, TOOL, *TESTS)]
+    others = [read_crate(repository, name) for name in (LINES, TOOL, *TESTS, *SHOWN, SHOW)]
     rest = Translation(others, library)
     if dead := [old for old, _ in rest.sentences if old not in library.used | rest.used]:
         raise Unknown(f"sentences.txt: no doc comment has {dead[0]!r}")
     by_name = {crate.name: crate for crate in others}
     files = library_files(libraries) | program_files(by_name[LINES], by_name[TOOL])
+    files |= show_files([by_name[name] for name in SHOWN], by_name[SHOW])
     for name, target in TESTS.items():
         files |= test_files(by_name[name], target)
     return files
