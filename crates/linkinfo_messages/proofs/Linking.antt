@@ -39,9 +39,20 @@ use Rattle.nla_frame.specs.NlaItems.{nla_items}
 use Rattle.linkinfo_messages.specs.declared.error.MessageError.{MessageError}
 use Rattle.linkinfo_messages.specs.declared.link.LinkEvent.{LinkEvent}
 use Rattle.linkinfo_messages.specs.declared.link.LinkEvent.TheVariants.{New, Deleted}
-use Rattle.linkinfo_messages.specs.declared.error.MessageCause.TheVariants.{Header, Short, Long, LinkHeader}
+use Rattle.linkinfo_messages.specs.declared.error.MessageCause.TheVariants.{
+  Header,
+  Short,
+  Long,
+  LinkHeader,
+}
 use Rattle.linkinfo_messages.specs.Integers.{le16}
-use Rattle.linkinfo_messages.specs.Messages.{Message, message_error, message_at, messages, length_of}
+use Rattle.linkinfo_messages.specs.Messages.{
+  Message,
+  message_error,
+  message_at,
+  messages,
+  length_of,
+}
 use Rattle.linkinfo_messages.specs.Links.{
   Link,
   located,
