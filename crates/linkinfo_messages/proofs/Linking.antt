@@ -214,7 +214,8 @@ pub finds_bad_link : (s : List ℕ) (start place : ℕ) (m : Message) (k : ℕ) 
 finds_bad_link s start place m k e h bad from same =
     let at : e.place ≡ m.place = subst (SaysAt m.place) (sym bad) (says_at m) in
     record {
-      links_are = sym same ∙ h.links ∙ ap (λ r. links_before r (links_from s (place + k))) (sym bad);
+      links_are =
+          sym same ∙ h.links ∙ ap (λ r. links_before r (links_from s (place + k))) (sym bad);
       from = omega (arith, at, h.at, from);
       within = omega (arith, at, h.at, h.some, h.within);
     }

@@ -126,7 +126,8 @@ if_chosen P b x old new e h i =
 pub slices_with : (s t : Walk) (a : Attribute) (source : List ℕ) (start place : ℕ) (b c : Bool)
     (name name' : Option (List ℕ)) (info info' : Option (ℕ × List ℕ)) → Passes s a t →
     s.source ≡ source → place ≡ start + s.place →
-    name' ≡ cond b (Some (stripped a.value)) name → info' ≡ cond c (Some (place + 4, a.value)) info →
+    name' ≡ cond b (Some (stripped a.value)) name →
+    info' ≡ cond c (Some (place + 4, a.value)) info →
     AreSlices name info source start → AreSlices name' info' source start
 slices_with s t a source start place b c name name' info info' h from at e f old =
     let value : IsSlice a.value s.source (s.place + 4) = record {

@@ -49,7 +49,11 @@ reads place kind s payload n e k p whole low high room =
     let same : slice_range s 16 (length_of s) ≡ payload = ap (λ j. slice_range s 16 j) e ∙ p in
     let size : min (length s) (aligned (length_of s)) ≡ aligned n =
     ap (λ j. min (length s) (aligned j)) e ∙ omega (arith, room) in
-    rw (le-ltb (length s) 16 whole, le-ltb (length_of s) 16 low', le-ltb (length s) (length_of s) high') (cc)
+    rw (
+      le-ltb (length s) 16 whole,
+      le-ltb (length_of s) 16 low',
+      le-ltb (length s) (length_of s) high',
+    ) (cc)
 
 length_is : (n : ℕ) (more : List ℕ) → n < 2 ^ 32 → length_of (to_le_bytes w32 n ++ more) ≡ n
 length_is n more h = omega (arith, h)

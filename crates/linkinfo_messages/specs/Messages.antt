@@ -54,7 +54,8 @@ message_at place s =
 -- sequence number and port, the payload, and the padding
 abbrev pub message_string : ℕ → List ℕ → List ℕ → List ℕ → List ℕ
 message_string kind middle payload padding =
-    to_le_bytes w32 (16 + length payload) ++ (to_le_bytes w16 kind ++ (middle ++ (payload ++ padding)))
+    to_le_bytes w32 (16 + length payload)
+    ++ (to_le_bytes w16 kind ++ (middle ++ (payload ++ padding)))
 
 abbrev pub message_in : ℕ → ℕ → List ℕ → Message
 message_in place kind payload = record { place = place; kind = kind; payload = payload }
