@@ -71,7 +71,7 @@ Finds s start (Ok (Some x)) = FindsLink s start x.0 x.1
 Finds s start (Err e) = FindsError s start e
 
 -- A link message has its name and contents as slices of the source, and the next message is after
--- it. After an error the offset is that of the rejected message, and at the end the number of bytes.
+-- it. After an error the offset is that of the rejected message; at the end, the number of bytes.
 pub record IsNext (s : Walk) (link : LinkMessage) (t : Walk) : Type 0 where
   pub from : s.place ≤ link.place
   pub ends : EndsAt s.source link.place t.place
