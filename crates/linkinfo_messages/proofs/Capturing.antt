@@ -1,5 +1,36 @@
 -- The records of a capture file, one after another.
-use Rattle.std.proofs.Common.{◌≡◌, ◌≢◌, ℕ, ◌+◌, ◌-◌, ◌*◌, ◌≤◌, ◌<◌, Bool, true, false, cond, ltb, List, [], ◌∷◌, length, take, drop, refl, sym, ap, subst, ◌∙◌, arith, Some, None, Result, Ok, Err}
+use Rattle.std.proofs.Common.{
+  ◌≡◌,
+  ◌≢◌,
+  ℕ,
+  ◌+◌,
+  ◌-◌,
+  ◌*◌,
+  ◌≤◌,
+  ◌<◌,
+  Bool,
+  true,
+  false,
+  cond,
+  ltb,
+  List,
+  [],
+  ◌∷◌,
+  length,
+  take,
+  drop,
+  refl,
+  sym,
+  ap,
+  subst,
+  ◌∙◌,
+  arith,
+  Some,
+  None,
+  Result,
+  Ok,
+  Err,
+}
 use Rattle.std.specs.Prelude.{slice_range, IfOk}
 use Rattle.std.specs.Iterator.{MakesProgress, item_count}
 use Rattle.std.proofs.lemmas.Bool.{ltb-false}
@@ -119,7 +150,8 @@ pub record_room : (s u : List ℕ) (format : CaptureFormat) (place : ℕ) (r : R
     place ≤ length s → u ≡ drop place s → Ok (r, k) ≡ record_at format place u →
     place + k ≤ length s
 record_room s u format place r k h unread e =
-    let at : ReadsAt place u (Ok (r, k)) = subst (ReadsAt place u) (sym e) (reads_at format place u) in
+    let at : ReadsAt place u (Ok (r, k)) =
+    subst (ReadsAt place u) (sym e) (reads_at format place u) in
     omega (arith, at.3, ap length unread, length-drop place s, h)
 
 -- a packet in the source
@@ -156,7 +188,8 @@ pub on_error : (s u : List ℕ) (format : CaptureFormat) (place : ℕ) (failed :
     Err e ≡ record_at format place u →
     Moves (walk s format place failed) (Some (Err e)) (walk s format place true)
 on_error s u format place failed e going within more unread bad =
-    let at : ReadsAt place u (Err e) = subst (ReadsAt place u) (sym bad) (reads_at format place u) in
+    let at : ReadsAt place u (Err e) =
+    subst (ReadsAt place u) (sym bad) (reads_at format place u) in
     record {
       gives = first_left s u format place failed _ going (omega arith) unread bad;
       source = refl;

@@ -1,5 +1,30 @@
 -- The items of a byte string: the first, and those after it.
-use Rattle.std.proofs.Common.{◌≡◌, ℕ, zero, suc, ◌+◌, ◌*◌, ◌<◌, ◌≤◌, Bool, true, false, cond, List, [], ◌∷◌, length, drop, refl, ap, ◌∙◌, arith, Result, Ok, Err}
+use Rattle.std.proofs.Common.{
+  ◌≡◌,
+  ℕ,
+  zero,
+  suc,
+  ◌+◌,
+  ◌*◌,
+  ◌<◌,
+  ◌≤◌,
+  Bool,
+  true,
+  false,
+  cond,
+  List,
+  [],
+  ◌∷◌,
+  length,
+  drop,
+  refl,
+  ap,
+  ◌∙◌,
+  arith,
+  Result,
+  Ok,
+  Err,
+}
 use Rattle.std.proofs.lemmas.List.{length-drop, drop-drop}
 use Rattle.linkinfo_messages.specs.Reading.{Reader, followed, items_up_to, items}
 
@@ -37,7 +62,7 @@ unfolding items items_up_to
 items_nil read place = refl
 
 -- the first item, and then those after it
-items_first : {X E : Type 0} (read : Reader X E) → TakesSome read → (place : ℕ) (s : List ℕ) →
+pub items_first : {X E : Type 0} (read : Reader X E) → TakesSome read → (place : ℕ) (s : List ℕ) →
     0 < length s →
     items read place s
     ≡ followed (read place s) (λ k. items read (place + k) (drop k s))

@@ -3,3 +3,4 @@ pub mod Locating
 pub mod Slicing
 pub mod Linking
 pub mod Capturing
+pub mod Writing

@@ -39,9 +39,20 @@ use Rattle.nla_frame.specs.NlaItems.{nla_items}
 use Rattle.linkinfo_messages.specs.declared.error.MessageError.{MessageError}
 use Rattle.linkinfo_messages.specs.declared.link.LinkEvent.{LinkEvent}
 use Rattle.linkinfo_messages.specs.declared.link.LinkEvent.TheVariants.{New, Deleted}
-use Rattle.linkinfo_messages.specs.declared.error.MessageCause.TheVariants.{Header, Short, Long, LinkHeader}
+use Rattle.linkinfo_messages.specs.declared.error.MessageCause.TheVariants.{
+  Header,
+  Short,
+  Long,
+  LinkHeader,
+}
 use Rattle.linkinfo_messages.specs.Integers.{le16}
-use Rattle.linkinfo_messages.specs.Messages.{Message, message_error, message_at, messages, length_of}
+use Rattle.linkinfo_messages.specs.Messages.{
+  Message,
+  message_error,
+  message_at,
+  messages,
+  length_of,
+}
 use Rattle.linkinfo_messages.specs.Links.{
   Link,
   located,
@@ -58,7 +69,7 @@ use Rattle.linkinfo_messages.specs.Reading.{followed}
 use Rattle.linkinfo_messages.specs.declared.link.LinkMessage.{LinkMessage}
 use Rattle.linkinfo_messages.specs.Slices.{IsSlice}
 use Rattle.linkinfo_messages.specs.Views.{HasSlices, info_seen, link_in}
-use Rattle.linkinfo_messages.specs.Walks.{links_from, FindsLink, FindsError, Moves}
+use Rattle.linkinfo_messages.specs.Walks.{Walk, links_from, FindsLink, FindsError, Moves}
 use Rattle.linkinfo_messages.proofs.Slicing.{range_slice, rest_slice, slice_in, slices_in}
 use Rattle.linkinfo_messages.proofs.Items.{
   TakesSome,
@@ -150,6 +161,7 @@ links_first s place r h e =
 -- a message at an offset, and then those after it
 pub record Ahead (s : List ℕ) (place : ℕ) (m : Message) (k : ℕ) : Type 0 where
   pub links : links_from s place ≡ links_before (link_of m) (links_from s (place + k))
+  pub here : message_at place (drop place s) ≡ Ok (m, k)
   pub at : m.place ≡ place
   pub some : 16 ≤ k
   pub within : place + k ≤ length s
@@ -164,6 +176,7 @@ ahead s u place m k h from e =
     subst (ReadsAt place (drop place s)) (sym here) (reads_at place (drop place s)) in
     record {
       links = links_first s place (Ok (m, k)) h here;
+      here = sym here;
       at = reads.0;
       some = reads.1;
       within = omega (arith, reads.2, length-drop place s, h);
@@ -189,6 +202,12 @@ finds_link s start place m k link h some slices from e =
     record {
       links_are = sym e ∙ h.links ∙ ap (λ r. links_before r (links_from s (place + k))) (sym some);
       from = omega (arith, at, h.at, from);
+      ends = (
+        m,
+        k,
+        subst (λ p. message_at p (drop p s) ≡ Ok (m, k)) (sym (at ∙ h.at)) h.here,
+        ap (λ p. p + k) (sym (at ∙ h.at)),
+      );
       advances = omega (arith, at, h.at, h.some);
       within = h.within;
       slices =
@@ -203,7 +222,8 @@ pub finds_bad_link : (s : List ℕ) (start place : ℕ) (m : Message) (k : ℕ) 
 finds_bad_link s start place m k e h bad from same =
     let at : e.place ≡ m.place = subst (SaysAt m.place) (sym bad) (says_at m) in
     record {
-      links_are = sym same ∙ h.links ∙ ap (λ r. links_before r (links_from s (place + k))) (sym bad);
+      links_are =
+          sym same ∙ h.links ∙ ap (λ r. links_before r (links_from s (place + k))) (sym bad);
       from = omega (arith, at, h.at, from);
       within = omega (arith, at, h.at, h.some, h.within);
     }
@@ -243,13 +263,19 @@ links-bound s =
 
 -- ---- the iterator at its end
 
+abbrev walk : List ℕ → ℕ → Bool → Walk
+walk s place failed = record { source = s; place = place; failed = failed }
+
 pub on_end : (s : List ℕ) (place : ℕ) (failed : Bool) → failed ≡ false → links_from s place ≡ [] →
-    Moves (record { source = s; place = place; failed = failed }) None
-    (record { source = s; place = length s; failed = failed })
+    Moves (walk s place failed) None (walk s (length s) failed)
 on_end s place true going h = absurd cc
-on_end s place false going h =
-    record {
-      gives = (h, links_end s (length s) (omega arith));
-      source = refl;
-      steps = (refl, h);
-    }
+on_end s place false going h = record {
+  gives = (h, links_end s (length s) (omega arith));
+  source = refl;
+  steps = (refl, refl);
+}
+
+pub on_failed : (s : List ℕ) (place : ℕ) (failed : Bool) → failed ≡ true →
+    Moves (walk s place failed) None (walk s place failed)
+on_failed s place true h = record { gives = (refl, refl); source = refl; steps = (refl, refl) }
+on_failed s place false h = absurd cc

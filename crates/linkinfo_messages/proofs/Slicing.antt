@@ -1,7 +1,40 @@
 -- Slices of slices.
-use Rattle.std.proofs.Common.{◌≡◌, ℕ, ◌+◌, ◌-◌, ◌≤◌, Bool, cond, eqb, List, [], ◌++◌, length, take, drop, refl, sym, ap, subst, ◌∙◌, append_assoc, append-nil, arith, Option, Some, None}
+use Rattle.std.proofs.Common.{
+  ◌≡◌,
+  ℕ,
+  ◌+◌,
+  ◌-◌,
+  ◌≤◌,
+  Bool,
+  cond,
+  eqb,
+  List,
+  [],
+  ◌++◌,
+  length,
+  take,
+  drop,
+  refl,
+  sym,
+  ap,
+  subst,
+  ◌∙◌,
+  append_assoc,
+  append-nil,
+  arith,
+  Option,
+  Some,
+  None,
+}
 use Rattle.std.specs.Prelude.{slice_index, slice_range, IfSome}
-use Rattle.std.proofs.lemmas.List.{take_at, drop_at, take-append-drop, length-append, length-take, length-drop}
+use Rattle.std.proofs.lemmas.List.{
+  take_at,
+  drop_at,
+  take-append-drop,
+  length-append,
+  length-take,
+  length-drop,
+}
 use Rattle.nla_frame.specs.Attribute.{Attribute}
 use Rattle.nla_frame.specs.Payload.{stripped}
 use Rattle.nla_frame.specs.Walk.{Walk, Passes}
@@ -93,7 +126,8 @@ if_chosen P b x old new e h i =
 pub slices_with : (s t : Walk) (a : Attribute) (source : List ℕ) (start place : ℕ) (b c : Bool)
     (name name' : Option (List ℕ)) (info info' : Option (ℕ × List ℕ)) → Passes s a t →
     s.source ≡ source → place ≡ start + s.place →
-    name' ≡ cond b (Some (stripped a.value)) name → info' ≡ cond c (Some (place + 4, a.value)) info →
+    name' ≡ cond b (Some (stripped a.value)) name →
+    info' ≡ cond c (Some (place + 4, a.value)) info →
     AreSlices name info source start → AreSlices name' info' source start
 slices_with s t a source start place b c name name' info info' h from at e f old =
     let value : IsSlice a.value s.source (s.place + 4) = record {

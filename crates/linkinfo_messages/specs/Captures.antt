@@ -1,5 +1,29 @@
 -- Capture files of nlmon devices, in the format of pcap.
-use Rattle.std.specs.Prelude.{◌≡◌, ℕ, ◌+◌, ◌*◌, ◌%◌, ◌==◌, Bool, true, false, if◌then◌else◌, nat_lt, List, [], length, drop, slice_range, Option, Some, None, option_copied, Result, Ok, Err}
+use Rattle.std.specs.Prelude.{
+  ◌≡◌,
+  ℕ,
+  ◌+◌,
+  ◌*◌,
+  ◌%◌,
+  ◌==◌,
+  Bool,
+  true,
+  false,
+  if◌then◌else◌,
+  nat_lt,
+  List,
+  [],
+  length,
+  drop,
+  slice_range,
+  Option,
+  Some,
+  None,
+  option_copied,
+  Result,
+  Ok,
+  Err,
+}
 use Rattle.std.specs.Iterator.{YieldsFirstBy}
 use Rattle.linkinfo_messages.specs.declared.capture.CaptureFormat.{CaptureFormat}
 use Rattle.linkinfo_messages.specs.declared.capture.Record.{Record}

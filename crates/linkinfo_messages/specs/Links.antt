@@ -1,11 +1,33 @@
 -- Link messages: RTM_NEWLINK and RTM_DELLINK (include/uapi/linux/rtnetlink.h).
-use Rattle.std.specs.Prelude.{ℕ, ℤ, ◌+◌, ◌==◌, if◌then◌else◌, nat_lt, List, [], ◌∷◌, length, drop, Option, Some, None, option_map, Result, Ok, Err}
+use Rattle.std.specs.Prelude.{
+  ℕ,
+  ℤ,
+  ◌+◌,
+  ◌==◌,
+  if◌then◌else◌,
+  nat_lt,
+  List,
+  [],
+  ◌∷◌,
+  length,
+  drop,
+  Option,
+  Some,
+  None,
+  option_map,
+  Result,
+  Ok,
+  Err,
+}
 use Rattle.std.specs.Option.{option_or}
 use Rattle.std.specs.Int.{w32, cast_signed}
 use Rattle.nla_frame.specs.Attribute.{Attribute, aligned, masked}
 use Rattle.nla_frame.specs.NlaItems.{nla_items}
 use Rattle.nla_frame.specs.Payload.{stripped}
-use Rattle.linkinfo_messages.specs.declared.error.MessageCause.TheVariants.{LinkHeader, Attribute as BadAttribute}
+use Rattle.linkinfo_messages.specs.declared.error.MessageCause.TheVariants.{
+  LinkHeader,
+  Attribute as BadAttribute,
+}
 use Rattle.linkinfo_messages.specs.declared.error.MessageError.{MessageError}
 use Rattle.linkinfo_messages.specs.declared.link.LinkEvent.{LinkEvent}
 use Rattle.linkinfo_messages.specs.declared.link.LinkEvent.TheVariants.{New, Deleted}

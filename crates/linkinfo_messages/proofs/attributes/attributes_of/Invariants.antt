@@ -15,9 +15,12 @@ invariant-loop-item l = record {
   source : l.nlas.source ≡ l.bytes;
   place : l.place ≡ l.start + l.nlas.place;
   damaged : damaged_at l.place (nla_items (unread l.nlas)) ≡ damaged_at l.start (nla_items l.bytes);
-  name : option_or (name_in (located l.place (nla_items (unread l.nlas)))) (option_copied l.attributes.name)
+  name : option_or (name_in (located l.place (nla_items (unread l.nlas))))
+      (option_copied l.attributes.name)
       ≡ name_in (located l.start (nla_items l.bytes));
-  info : option_or (info_in (located l.place (nla_items (unread l.nlas)))) (info_seen l.attributes.info)
+  info : option_or (info_in (located l.place (nla_items (unread l.nlas))))
+      (info_seen l.attributes.info)
       ≡ info_in (located l.start (nla_items l.bytes));
-  slices : AreSlices (option_copied l.attributes.name) (info_seen l.attributes.info) l.bytes l.start;
+  slices : AreSlices (option_copied l.attributes.name) (info_seen l.attributes.info)
+      l.bytes l.start;
 }
