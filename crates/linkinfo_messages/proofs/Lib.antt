@@ -1,0 +1,4 @@
+pub mod Items
+pub mod Locating
+pub mod Linking
+pub mod Capturing
