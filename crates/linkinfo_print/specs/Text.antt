@@ -178,3 +178,10 @@ message_text d =
     ++ (codes " <"
     ++ (flags_text (get (codes "flags") d)
     ++ (codes ">" ++ info_text (get (codes "linkinfo") d))))
+
+-- ---- two lists
+
+-- the answer to a question about two lists: a line for each member
+abbrev pub pair_text : Data → List ℕ
+pair_text (object ms) = member_lines [] ms
+pair_text d = inline_text d

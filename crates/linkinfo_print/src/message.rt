@@ -154,6 +154,18 @@ fn name_json(alloc: Global, name: Option<&[u8]>) -> Result<Option<Value>, AllocE
     }
 }
 
+/// The time of a packet as JSON, if it has one: seconds since 1970 with nine decimal places.
+pub(crate) fn time_json(
+    alloc: Global,
+    time: Option<(u32, u64)>,
+) -> Result<Option<Value>, AllocError> {
+    let Some((seconds, nanoseconds)) = time else {
+        return Ok(None);
+    };
+    let text = format!(in alloc; "{seconds}.{nanoseconds:09}")?;
+    Ok(Some(Value::String(text)))
+}
+
 /// Returns a link message as a JSON object: `deleted`, `flags`, `ifindex`, and where they are there
 /// `ifname`, the list as `linkinfo`, and the time of its packet as `time`.
 pub fn message_json(

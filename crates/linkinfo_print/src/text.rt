@@ -21,6 +21,7 @@ ghost use Rattle.linkinfo_print.specs.Text.{
   other_lines,
   others_if,
   others_or_line,
+  pair_text,
   text_or,
   time_text,
 };
@@ -288,4 +289,15 @@ pub fn push_message(text: &mut Vec<u8>, message: &Value) -> Result<(), AllocErro
     push_flags(text, message.get("flags"))?;
     text.extend_from_slice(b">")?;
     push_info(text, message.get("linkinfo"))
+}
+
+/// Appends the answer to a question about two lists, as `difference_json` and `unmet_json` give it:
+/// a word, and if it is no, a line for each member.
+pub fn push_pair(text: &mut Vec<u8>, pair: &Value) -> Result<(), AllocError>
+    ensures { OnOk result (text.new.items ≡ text.old.items ++ pair_text (view pair.now)) }
+{
+    match pair {
+        Value::Object(members) => push_member_lines(text, b"", members),
+        _ => push_inline(text, pair),
+    }
 }
