@@ -1,0 +1,24 @@
+//! Members of JSON objects that may be absent.
+
+ghost use Rattle.std.specs.Prelude.{◌≡◌, OnOk, option_map};
+ghost use Rattle.serde_json.specs.View.{members_view, view};
+ghost use Rattle.linkinfo_print.specs.MembersData.{put_some};
+
+use serde_json::{Map, Value, put};
+use std::alloc::{AllocError, Global};
+
+/// Adds a member, if it is there.
+pub(crate) fn put_some(
+    members: &mut Map<String, Value>,
+    alloc: Global,
+    key: &str,
+    value: Option<Value>,
+) -> Result<(), AllocError>
+    ensures { OnOk result (members_view members.new.entries
+        ≡ put_some key.now (option_map view value) (members_view members.old.entries)) }
+{
+    match value {
+        Some(value) => put(members, alloc, key, value),
+        None => Ok(()),
+    }
+}
