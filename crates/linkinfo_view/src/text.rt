@@ -237,7 +237,5 @@ pub fn thousandths_json(alloc: Global, number: u32) -> Result<Value, AllocError>
     let tenths = number / 100 % 10;
     let hundredths = number / 10 % 10;
     let thousandths = number % 10;
-    Ok(Value::String(
-        format!(in alloc; "{whole}.{tenths}{hundredths}{thousandths}")?,
-    ))
+    Ok(Value::String(format!(in alloc; "{whole}.{tenths}{hundredths}{thousandths}")?))
 }

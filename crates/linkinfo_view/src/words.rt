@@ -657,4 +657,3 @@ fn vlan_flag(place: u32) -> Option<Flag>
         (4, 0x10, 0x10, "BRIDGE_BINDING"),
     }
 }
-

@@ -7,4 +7,4 @@ returns-in-FlowInfo g c =
 pub returns-in-SecondNames : goal.returns-in-SecondNames
 returns-in-SecondNames g c =
     rw (c.in-SecondNames.is, ← c.first_of-in-SecondNames.ensures, ← c.second_of-in-SecondNames.ensures)
-      c.put_names-in-SecondNames.ensures
+    c.put_names-in-SecondNames.ensures
