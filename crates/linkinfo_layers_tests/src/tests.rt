@@ -12,4 +12,5 @@ mod payload_numbers;
 mod payloads;
 mod rows;
 mod values;
+mod view;
 mod words;

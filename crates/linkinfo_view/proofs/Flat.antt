@@ -45,7 +45,21 @@ use Rattle.nla_frame.specs.Attribute.{Attribute}
 use Rattle.nla_frame.specs.declared.error.Cause.{Cause}
 use Rattle.linkinfo_shapes.specs.Data as value
 use Rattle.linkinfo_shapes.specs.declared.shape.Shape.TheVariants as shape
-use Rattle.serde_json.specs.Data.{Data, Members, array, boolean, depth, items_depth, member, members_depth, no_members, number, object, put, string}
+use Rattle.serde_json.specs.Data.{
+  Data,
+  Members,
+  array,
+  boolean,
+  depth,
+  items_depth,
+  member,
+  members_depth,
+  no_members,
+  number,
+  object,
+  put,
+  string,
+}
 use Rattle.serde_json.specs.Find.{of_integer}
 use Rattle.serde_json.specs.View.{items_of, view}
 use Rattle.serde_json.specs.declared.value.Value.{Value}
@@ -54,8 +68,49 @@ use Rattle.serde_json.specs.Written.{has_float, items_have_float, members_have_f
 use Rattle.linkinfo_view.specs.Attributes.{attributes, rest_of}
 use Rattle.linkinfo_view.specs.Lines.{Line}
 use Rattle.linkinfo_view.specs.Text.{hex_data}
-use Rattle.linkinfo_view.specs.Values.{Named, bit_timing, bits_from, first_of, flags_data, format_data, meant, named, names_data, names_from, number_data, options_from, second_of, plain_data, plain_or_hex, with_bit, with_name, with_option}
-use Rattle.linkinfo_view.specs.View.{attributes_data, element_payload, elements_data, elements_from, format_members, hex_nested, list_data, mapping, members_meant, nested_data, other_data, others_in, others_member, others_with, put_all, put_shown, rest_data, rest_member, row_before, shown_in, with_label}
+use Rattle.linkinfo_view.specs.Values.{
+  Named,
+  bit_timing,
+  bits_from,
+  first_of,
+  flags_data,
+  format_data,
+  meant,
+  named,
+  names_data,
+  names_from,
+  number_data,
+  options_from,
+  second_of,
+  plain_data,
+  plain_or_hex,
+  with_bit,
+  with_name,
+  with_option,
+}
+use Rattle.linkinfo_view.specs.View.{
+  attributes_data,
+  element_payload,
+  elements_data,
+  elements_from,
+  format_members,
+  hex_nested,
+  list_data,
+  mapping,
+  members_meant,
+  nested_data,
+  other_data,
+  others_in,
+  others_member,
+  others_with,
+  put_all,
+  put_shown,
+  rest_data,
+  rest_member,
+  row_before,
+  shown_in,
+  with_label,
+}
 use Rattle.linkinfo_view.specs.Words.{FlagRow, flag_at}
 use Rattle.linkinfo_view.specs.declared.format.Elements.{Elements}
 use Rattle.linkinfo_view.specs.declared.format.Elements.TheVariants as elements

@@ -1,5 +1,24 @@
 -- Shapes and names of all rows, by computing.
-use Rattle.std.proofs.Common.{◌≡◌, ℕ, Bool, true, false, List, [], ◌∷◌, Option, Some, None, cond, eqb, map, IsTrue, refl, ap, ◌∙◌}
+use Rattle.std.proofs.Common.{
+  ◌≡◌,
+  ℕ,
+  Bool,
+  true,
+  false,
+  List,
+  [],
+  ◌∷◌,
+  Option,
+  Some,
+  None,
+  cond,
+  eqb,
+  map,
+  IsTrue,
+  refl,
+  ap,
+  ◌∙◌,
+}
 use Rattle.std.proofs.lemmas.Bool.{eqb-true}
 use Rattle.nla_frame.specs.declared.error.Family.{Family}
 use Rattle.nla_frame.specs.declared.error.Family.TheVariants as family

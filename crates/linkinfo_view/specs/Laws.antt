@@ -1,5 +1,20 @@
 -- What holds of the rows: shapes are those of the library, and names are distinct.
-use Rattle.std.specs.Prelude.{◌≡◌, ℕ, ◌&&◌, Bool, true, not, List, [], ◌∷◌, map, Option, Some, option_map, codes}
+use Rattle.std.specs.Prelude.{
+  ◌≡◌,
+  ℕ,
+  ◌&&◌,
+  Bool,
+  true,
+  not,
+  List,
+  [],
+  ◌∷◌,
+  map,
+  Option,
+  Some,
+  option_map,
+  codes,
+}
 use Rattle.std.specs.List.{flat_map, list_any}
 use Rattle.std.specs.Str.{bytes_eq}
 use Rattle.nla_frame.specs.declared.error.Family.{Family}
@@ -19,7 +34,8 @@ shown_shape t number = option_map (λ (row : Line). row.shape) (row_of t number)
 
 -- the table has each row of the family that the library has, with the library's shape
 abbrev pub Agrees : Table → Family → Type 0
-Agrees t f = (number : ℕ) (sh : Shape) → shape_of f number ≡ Some sh → shown_shape t number ≡ Some sh
+Agrees t f =
+    (number : ℕ) (sh : Shape) → shape_of f number ≡ Some sh → shown_shape t number ≡ Some sh
 
 -- the names of flags
 abbrev pub flag_names : Flags → List (List ℕ)

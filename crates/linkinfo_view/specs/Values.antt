@@ -55,7 +55,15 @@ use Rattle.serde_json.specs.Data as json
 use Rattle.serde_json.specs.Data.{Data, Members, put}
 use Rattle.serde_json.specs.Find.{of_integer}
 use Rattle.serde_json.specs.View.{items_of}
-use Rattle.linkinfo_view.specs.Text.{byte_digits, escaped_text, four_digits, hex_data, hex_text, octets_text, thousandths_text}
+use Rattle.linkinfo_view.specs.Text.{
+  byte_digits,
+  escaped_text,
+  four_digits,
+  hex_data,
+  hex_text,
+  octets_text,
+  thousandths_text,
+}
 use Rattle.linkinfo_view.specs.Words.{FlagRow, flag_at, word}
 use Rattle.linkinfo_view.specs.declared.format.Format.{Format}
 use Rattle.linkinfo_view.specs.declared.format.Format.TheVariants as format

@@ -1,5 +1,23 @@
 -- A list of attributes as a JSON object, by the rows of a table.
-use Rattle.std.specs.Prelude.{ℕ, ◌/◌, ◌==◌, suc, Bool, if◌then◌else◌, List, [], ◌∷◌, ◌++◌, Option, Some, None, Result, Ok, Err, codes}
+use Rattle.std.specs.Prelude.{
+  ℕ,
+  ◌/◌,
+  ◌==◌,
+  suc,
+  Bool,
+  if◌then◌else◌,
+  List,
+  [],
+  ◌∷◌,
+  ◌++◌,
+  Option,
+  Some,
+  None,
+  Result,
+  Ok,
+  Err,
+  codes,
+}
 use Rattle.nla_frame.specs.Attribute.{Attribute, masked}
 use Rattle.nla_frame.specs.declared.error.Cause.{Cause}
 use Rattle.linkinfo_shapes.specs.Data as value

@@ -1,6 +1,16 @@
 //! A list of attributes as a JSON object.
 
-ghost use Rattle.std.specs.Prelude.{◌≡◌, ◌≤◌, ◌++◌, [], false, IfOk, OnOk, option_map, map as list_map};
+ghost use Rattle.std.specs.Prelude.{
+  ◌≡◌,
+  ◌≤◌,
+  ◌++◌,
+  [],
+  false,
+  IfOk,
+  OnOk,
+  option_map,
+  map as list_map,
+};
 ghost use Rattle.std.specs.Option.{option_copied};
 ghost use Rattle.nla_frame.specs.Attribute.{masked};
 ghost use Rattle.linkinfo_view.specs.Attributes.{attributes};

@@ -1,6 +1,19 @@
 //! The members of one attribute, by its row.
 
-ghost use Rattle.std.specs.Prelude.{◌≡◌, ◌+◌, ◌<◌, ◌≤◌, ◌++◌, [], ◌∷◌, IfOk, OnOk, length, map as list_map, if◌then◌else◌};
+ghost use Rattle.std.specs.Prelude.{
+  ◌≡◌,
+  ◌+◌,
+  ◌<◌,
+  ◌≤◌,
+  ◌++◌,
+  [],
+  ◌∷◌,
+  IfOk,
+  OnOk,
+  length,
+  map as list_map,
+  if◌then◌else◌,
+};
 ghost use Rattle.std.specs.Option.{option_copied};
 ghost use Rattle.linkinfo_shapes.specs.Data.{value_of};
 ghost use Rattle.serde_json.specs.View.{members_view, view};
@@ -390,7 +403,8 @@ fn put_formatted<N: Nesting>(
     map: &mut Map<String, Value>,
 ) -> Result<(), AllocError>
     ensures { OnOk result (members_view map.new.entries
-        ≡ put_all (format_members N.shown row.now.name.now row.now.format (value_of datum.now) payload.now)
+        ≡ put_all (format_members N.shown row.now.name.now row.now.format
+        (value_of datum.now) payload.now)
         (members_view map.old.entries)) }
 {
     let name = row.name;

@@ -1,4 +1,17 @@
-use Rattle.std.proofs.Common.{ℕ, List, ◌+◌, ◌-◌, ◌++◌, map, ap, sym, ◌∙◌, append_assoc, append-nil, arith}
+use Rattle.std.proofs.Common.{
+  ℕ,
+  List,
+  ◌+◌,
+  ◌-◌,
+  ◌++◌,
+  map,
+  ap,
+  sym,
+  ◌∙◌,
+  append_assoc,
+  append-nil,
+  arith,
+}
 use Rattle.serde_json.specs.Data.{Data, array}
 use Rattle.serde_json.specs.View.{items_of, view}
 use Rattle.serde_json.proofs.Views.{view-Array}
