@@ -1,3 +1,4 @@
 pub mod Flat
 pub mod Meant
 pub mod Places
+pub mod Rows

@@ -69,11 +69,13 @@ def name_allocating_calls(source, own):
 def is_grown(source, index):
     """Whether the name at the index is a parameter of its function, a `&mut` of such a type."""
     name, at = source.at(index), index
+    if source.at(index - 1) == ".":
+        return False
     while at > 0 and not (source.is_word(at, "fn") and source.is_word(at + 1)):
         at -= 1
-    words = (source.reads(k, name, ":", "&", "mut") for k in range(at, index))
     return any(
-        found and source.at(k + 4) in GROWN for k, found in zip(range(at, index), words)
+        source.reads(k, name, ":", "&", "mut") and source.at(k + 4) in GROWN
+        for k in range(at, index)
     )
 
 

@@ -37,6 +37,7 @@ TEST_ROOT = """#![allow(
     unused_imports,
     clippy::manual_next_back,
     clippy::manual_range_contains,
+    clippy::needless_lifetimes,
     clippy::type_complexity,
     reason = "the text is that of the sources' tests"
 )]"""
@@ -87,7 +88,7 @@ def place_of(crate):
         return Place(paths[crate], paths, "crate::compat", checked=True)
     if crate in (*SHOWN, SHOW):
         return show_place(crate)
-    paths = library_paths("linkinfo") | {LINES: f"crate::{LINES}"}
+    paths = library_paths("linkinfo") | {name: f"crate::{name}" for name in (LINES, *SHOWN)}
     if crate == LINES:
         return Place(paths[LINES], paths, "linkinfo::compat", hosted=True)
     if crate not in TESTS:
@@ -167,9 +168,15 @@ def show_files(libraries, program):
 def test_files(crate, target):
     """The tests of a crate, as one target of cargo."""
     texts = written(crate, "main.rs")
-    modules = [TEST_ROOT, "", "#[macro_use]", *mounted("support", "../support/mod.rs")]
+    support = ["#[macro_use]", *mounted("support", "../support/mod.rs")]
     if any(f"crate::{LINES}" in text for text in texts.values()):
-        modules += mounted(LINES, f"../../examples/linkinfo/{LINES}/mod.rs")
+        support += mounted(LINES, f"../../examples/linkinfo/{LINES}/mod.rs")
+    shown = [name for name in SHOWN if any(f"crate::{name}" in text for text in texts.values())]
+    # Macros of `compat` have the names of those of `support`, which are the tests' own: the later.
+    before = ["#[macro_use]", *mounted("compat", "../../show/src/compat.rs")] if shown else []
+    for name in shown:
+        before += mounted(name, f"../../show/src/{name}/mod.rs")
+    modules = [TEST_ROOT, "", *before, *support]
     texts["main.rs"] = with_modules(texts["main.rs"], modules)
     return {f"tests/{target}/{name}": text for name, text in texts.items()}
 

@@ -12,5 +12,4 @@ mod words;
 pub use format::{Elements, Flags, Format, Row, Table, Words};
 pub use list::attributes_json;
 pub use table::table_row;
-pub use text::{escaped, escaped_json, hex_json};
-pub use words::{Flag, flag_at, word};
+pub use text::{escaped, hex_json};

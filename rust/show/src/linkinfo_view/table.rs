@@ -160,8 +160,17 @@ fn ipoib(kind: u16) -> Option<Row> {
     }
 }
 
-/// `IFLA_IPTUN_*` (include/uapi/linux/if_tunnel.h): those of `ipip` links.
+/// `IFLA_IPTUN_*` (include/uapi/linux/if_tunnel.h) of `ipip` links.
 fn ip_tunnel(kind: u16) -> Option<Row> {
+    row! { kind;
+        (8, "flags", Be16, Hex),
+        (9, "proto", U8, Word(Words::TunnelProtocol)),
+        else tunnel(kind)
+    }
+}
+
+/// `IFLA_IPTUN_*` that are the same of all tunnels over IP.
+fn tunnel(kind: u16) -> Option<Row> {
     row! { kind;
         (1, "link", Le32, Plain),
         (2, "local", Ip, Address),
@@ -170,8 +179,6 @@ fn ip_tunnel(kind: u16) -> Option<Row> {
         (5, "tos", U8, Hex),
         (6, "encap_limit", U8, Plain),
         (7, "flowinfo", Be32, FlowInfo),
-        (8, "flags", Be16, Hex),
-        (9, "proto", U8, Word(Words::TunnelProtocol)),
         (10, "pmtudisc", Truth, Plain),
         (11, "prefix", V6, Plain),
         (12, "relay_prefix", V4, Plain),
@@ -186,20 +193,21 @@ fn ip_tunnel(kind: u16) -> Option<Row> {
     }
 }
 
-/// `IFLA_IPTUN_*` of `sit` links: those of `ipip` links but for the flags.
+/// `IFLA_IPTUN_*` of `sit` links.
 fn sit(kind: u16) -> Option<Row> {
     row! { kind;
         (8, "flags", Be16, Bits(Flags::Sit)),
-        else ip_tunnel(kind)
+        (9, "proto", U8, Word(Words::TunnelProtocol)),
+        else tunnel(kind)
     }
 }
 
-/// `IFLA_IPTUN_*` of `ip6tnl` links: those of `ipip` links but for flags and protocols.
+/// `IFLA_IPTUN_*` of `ip6tnl` links.
 fn ip6_tunnel(kind: u16) -> Option<Row> {
     row! { kind;
         (8, "flags", Le32, Bits(Flags::Ip6Tunnel)),
         (9, "proto", U8, Word(Words::Tunnel6Protocol)),
-        else ip_tunnel(kind)
+        else tunnel(kind)
     }
 }
 

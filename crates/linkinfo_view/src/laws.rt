@@ -1,0 +1,22 @@
+//! Laws of the rows. They have no code: their contracts are what they are there for.
+
+ghost use Rattle.std.specs.Prelude.{IsTrue};
+ghost use Rattle.nla_frame.specs.declared.error.Family.{Family};
+ghost use Rattle.nla_frame.specs.declared.error.Family.TheVariants as family;
+ghost use Rattle.linkinfo_view.specs.Laws.{Agrees, are_distinct, member_names};
+ghost use Rattle.linkinfo_view.specs.declared.format.Table.{Table};
+ghost use Rattle.linkinfo_view.specs.declared.format.Table.TheVariants as table;
+
+/// Each row of a family that the library parses has a row here, with the same shape. So reading and
+/// showing cannot differ in a layout.
+pub fn same_shapes()
+    ensures families { (f : Family) → Agrees (table.Family f) f }
+    ensures sit { Agrees table.Sit family.IpTunnel }
+    ensures ip6_tunnel { Agrees table.Ip6Tunnel family.IpTunnel }
+{}
+
+/// The names of the members that rows give are distinct in each table, and none is `others` or
+/// `rest`. So no member of an object takes the place of another.
+pub fn distinct_names()
+    ensures { (t : Table) → IsTrue (are_distinct (member_names t)) }
+{}
