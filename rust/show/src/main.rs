@@ -19,8 +19,8 @@ mod linkinfo_print;
 mod linkinfo_view;
 
 use crate::compat::calls::*;
-use crate::compat::env;
 use crate::linkinfo_print::{Options, Request, request_of, run};
+use std::env;
 use std::io;
 use std::process::ExitCode;
 
@@ -75,7 +75,7 @@ fn show(options: Options) -> io::Result<ExitCode> {
 /// The words of the command line after the program's name.
 fn words() -> io::Result<Vec<String>> {
     let mut words = Vec::new();
-    for word in env::args()?.skip(1) {
+    for word in crate::compat::env::args()?.skip(1) {
         words.try_push(word)?;
     }
     Ok(words)

@@ -57,14 +57,15 @@ class Paths(RuleTest):
 
     def test_the_second_program(self):
         text = (
-            "use crate::a; use serde_json::{Map, put}; use std::env; use std::io; use hex::C; "
-            "use linkinfo::D; use linkinfo_view::E; use std::alloc::AllocError; hex::encode(f)"
+            "use crate::a; use serde_json::{Map, put}; use std::{env, io}; use hex::C; "
+            "use linkinfo::D; use linkinfo_view::E; use std::alloc::AllocError; hex::encode(f); "
+            "env::args()"
         )
         wanted = (
             "use crate::linkinfo_print::a; use crate::compat::serde_json::{Map, put}; "
-            "use crate::compat::env; use std::io; use hex::C; use linkinfo::layers::link::D; "
+            "use std::{env, io}; use hex::C; use linkinfo::layers::link::D; "
             "use crate::linkinfo_view::E; use crate::compat::AllocError; "
-            "crate::compat::hex::encode(f)"
+            "crate::compat::hex::encode(f); crate::compat::env::args()"
         )
         self.assertEqual(self.written_in("linkinfo_print", text), words(wanted))
         self.assertEqual(self.written_in("linkinfo_show", "use crate::a;"), words("use crate::a;"))

@@ -69,7 +69,7 @@ def library_paths(root):
 SHOW_PATHS = {
     "serde_json": "crate::compat::serde_json",
     "hex::encode": "crate::compat::hex",
-    "std::env": "crate::compat",
+    "env::args": "crate::compat::env",
 }
 
 
