@@ -162,7 +162,8 @@ def show_files(libraries, program):
         texts = written(crate, "mod.rs")
         files |= {f"show/src/{crate.name}/{name}": text for name, text in texts.items()}
     modules = [SHOW_ROOT, "", "#[macro_use]", "mod compat;", *(f"mod {name};" for name in SHOWN)]
-    return files | {"show/src/main.rs": with_modules(written(program, "main.rs")["main.rs"], modules)}
+    main = with_modules(written(program, "main.rs")["main.rs"], modules)
+    return files | {"show/src/main.rs": main}
 
 
 def test_files(crate, target):
