@@ -17,6 +17,8 @@
 mod compat;
 mod linkinfo_print;
 mod linkinfo_view;
+#[cfg(test)]
+mod tests;
 
 use crate::compat::calls::*;
 use crate::linkinfo_print::{Options, Request, request_of, run};

@@ -156,12 +156,13 @@ def program_files(lines, tool):
 
 
 def show_files(libraries, program):
-    """The package of the second program, but for its module `compat`."""
+    """The package of the second program, but for `compat` and its tests."""
     files = {}
     for crate in libraries:
         texts = written(crate, "mod.rs")
         files |= {f"show/src/{crate.name}/{name}": text for name, text in texts.items()}
     modules = [SHOW_ROOT, "", "#[macro_use]", "mod compat;", *(f"mod {name};" for name in SHOWN)]
+    modules += ["#[cfg(test)]", "mod tests;"]
     main = with_modules(written(program, "main.rs")["main.rs"], modules)
     return files | {"show/src/main.rs": main}
 
