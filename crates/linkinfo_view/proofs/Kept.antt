@@ -34,14 +34,14 @@ use Rattle.std.proofs.Common.{
   ◌∙◌,
   bytes_eq,
 }
-use Rattle.std.proofs.lemmas.Bool.{eqb-false, eqb-true, eq-eqb}
+use Rattle.std.proofs.lemmas.Bool.{and_parts, eqb-false, eqb-true, not-true, or_parts}
 use Rattle.std.proofs.lemmas.Slice.Eq.{bytes_eq-Decides}
 use Rattle.std.specs.List.{AllByRecursion, flat_map, list_any}
 use Rattle.nla_frame.specs.Attribute.{Attribute, masked}
 use Rattle.nla_frame.specs.declared.error.Cause.{Cause}
 use Rattle.linkinfo_shapes.specs.Data as value
 use Rattle.serde_json.specs.Data.{Data, Members, array, no_members, object, put}
-use Rattle.serde_json.specs.Find.{get, get_member}
+use Rattle.serde_json.specs.Find.{get_member}
 use Rattle.serde_json.specs.View.{items_of}
 use Rattle.serde_json.proofs.Views.{get_member-put, get_member-put_other}
 use Rattle.linkinfo_view.specs.Attributes.{attributes, has_type, rest_of}
@@ -58,15 +58,7 @@ use Rattle.linkinfo_view.specs.Laws.{
 use Rattle.linkinfo_view.specs.Lines.{Line}
 use Rattle.linkinfo_view.specs.Table.{found, row_of, rows_of}
 use Rattle.linkinfo_view.specs.Text.{hex_data}
-use Rattle.linkinfo_view.specs.Values.{
-  Named,
-  bits_from,
-  is_set,
-  meant,
-  options_from,
-  with_bit,
-  with_option,
-}
+use Rattle.linkinfo_view.specs.Values.{Named, bits_from, meant, options_from, with_bit, with_option}
 use Rattle.linkinfo_view.specs.View.{
   attributes_data,
   format_members,
@@ -109,18 +101,6 @@ Distinct [] = Unit {0}
 Distinct (x ∷ xs) = Apart x xs × Distinct xs
 
 -- from the test
-both : (a b : Bool) → (a && b) ≡ true → (a ≡ true) × (b ≡ true)
-both true b h = (refl, h)
-both false b h = absurd (cc)
-
-neither_of : (a b : Bool) → (a || b) ≡ false → (a ≡ false) × (b ≡ false)
-neither_of true b h = absurd (cc)
-neither_of false b h = (refl, h)
-
-not_true : (a : Bool) → not a ≡ true → a ≡ false
-not_true true h = absurd (cc)
-not_true false h = refl
-
 other_texts : (x y : Text) → bytes_eq x y ≡ false → x ≡ y → ⊥
 other_texts x y h e =
     let same : bytes_eq x y ≡ true = (bytes_eq-Decides x y).1 e in absurd (cc)
@@ -129,14 +109,14 @@ apart_from : (x : Text) (ys : List Text) → list_any (λ (y : Text). bytes_eq x
     Apart x ys
 apart_from x [] h = tt
 apart_from x (y ∷ ys) h =
-    let parts = neither_of (bytes_eq x y) _ h in
+    let parts = or_parts (bytes_eq x y) _ h in
     (other_texts x y parts.0, apart_from x ys parts.1)
 
 distinct_from : (xs : List Text) → are_distinct xs ≡ true → Distinct xs
 distinct_from [] h = tt
 distinct_from (x ∷ xs) h =
-    let parts = both (not (list_any (λ (y : Text). bytes_eq x y) xs)) (are_distinct xs) h in
-    (apart_from x xs (not_true _ parts.0), distinct_from xs parts.1)
+    let parts = and_parts (not (list_any (λ (y : Text). bytes_eq x y) xs)) (are_distinct xs) h in
+    (apart_from x xs (not-true _ parts.0), distinct_from xs parts.1)
 
 apart_mem : (x y : Text) (ys : List Text) → Apart x ys → Mem y ys → x ≡ y → ⊥
 apart_mem x y [] h m e = m
@@ -187,7 +167,8 @@ some_same : (p q : Line) → Some p ≡ Some q → p ≡ q
 some_same p q h = cc
 
 found_at : (n : ℕ) (p : ℕ × Line) (rest : Option Line) (row : Line) (b : Bool) →
-    cond b (Some p.1) rest ≡ Some row → ((b ≡ true) × (row ≡ p.1)) ⊎ ((b ≡ false) × (rest ≡ Some row))
+    cond b (Some p.1) rest ≡ Some row →
+    ((b ≡ true) × (row ≡ p.1)) ⊎ ((b ≡ false) × (rest ≡ Some row))
 found_at n p rest row true h = inl (refl, some_same row p.1 (sym h))
 found_at n p rest row false h = inr (refl, h)
 
@@ -196,9 +177,10 @@ found_names : (rows : List (ℕ × Line)) (n : ℕ) (row : Line) (x : Text) →
 found_names [] n row x h m = absurd (cc)
 found_names (p ∷ rows) n row x h m =
     elim (found_at n p (found rows n) row (eqb n p.0) h) [
-      inl here ↦ mem_left x (line_names p.1) (all_names rows)
-        (subst (λ (q : Line). Mem x (line_names q)) here.1 m)
-    | inr later ↦ mem_right x (line_names p.1) (all_names rows) (found_names rows n row x later.1 m)
+      | inl here ↦ mem_left x (line_names p.1) (all_names rows)
+          (subst (λ (q : Line). Mem x (line_names q)) here.1 m)
+      | inr later ↦ mem_right x (line_names p.1) (all_names rows)
+          (found_names rows n row x later.1 m)
     ]
 
 row_distinct : (rows : List (ℕ × Line)) (n : ℕ) (row : Line) → Distinct (all_names rows) →
@@ -206,10 +188,10 @@ row_distinct : (rows : List (ℕ × Line)) (n : ℕ) (row : Line) → Distinct (
 row_distinct [] n row d h = absurd (cc)
 row_distinct (p ∷ rows) n row d h =
     elim (found_at n p (found rows n) row (eqb n p.0) h) [
-      inl here ↦ subst (λ (q : Line). Distinct (line_names q)) (sym here.1)
-        (distinct_left (line_names p.1) (all_names rows) d)
-    | inr later ↦ row_distinct rows n row
-        (distinct_right (line_names p.1) (all_names rows) d) later.1
+      | inl here ↦ subst (λ (q : Line). Distinct (line_names q)) (sym here.1)
+          (distinct_left (line_names p.1) (all_names rows) d)
+      | inr later ↦ row_distinct rows n row
+          (distinct_right (line_names p.1) (all_names rows) d) later.1
     ]
 
 -- rows of two types have no name in common
@@ -219,18 +201,18 @@ rows_apart : (rows : List (ℕ × Line)) (n m : ℕ) (r q : Line) (x y : Text) �
 rows_apart [] n m r q x y d h g other in_r in_q e = cc
 rows_apart (p ∷ rows) n m r q x y d h g other in_r in_q e =
     elim (found_at n p (found rows n) r (eqb n p.0) h) [
-      inl here ↦ elim (found_at m p (found rows m) q (eqb m p.0) g) [
-        inl there ↦ other (eqb-true n p.0 here.0 ∙ sym (eqb-true m p.0 there.0))
-      | inr there ↦ parts_apart (line_names p.1) (all_names rows) x y d
-          (subst (λ (l : Line). Mem x (line_names l)) here.1 in_r)
-          (found_names rows m q y there.1 in_q) e
+      | inl here ↦ elim (found_at m p (found rows m) q (eqb m p.0) g) [
+        | inl there ↦ other (eqb-true n p.0 here.0 ∙ sym (eqb-true m p.0 there.0))
+        | inr there ↦ parts_apart (line_names p.1) (all_names rows) x y d
+            (subst (λ (l : Line). Mem x (line_names l)) here.1 in_r)
+            (found_names rows m q y there.1 in_q) e
       ]
-    | inr here ↦ elim (found_at m p (found rows m) q (eqb m p.0) g) [
-        inl there ↦ parts_apart (line_names p.1) (all_names rows) y x d
-          (subst (λ (l : Line). Mem y (line_names l)) there.1 in_q)
-          (found_names rows n r x here.1 in_r) (sym e)
-      | inr there ↦ rows_apart rows n m r q x y
-          (distinct_right (line_names p.1) (all_names rows) d) here.1 there.1 other in_r in_q e
+      | inr here ↦ elim (found_at m p (found rows m) q (eqb m p.0) g) [
+        | inl there ↦ parts_apart (line_names p.1) (all_names rows) y x d
+            (subst (λ (l : Line). Mem y (line_names l)) there.1 in_q)
+            (found_names rows n r x here.1 in_r) (sym e)
+        | inr there ↦ rows_apart rows n m r q x y
+            (distinct_right (line_names p.1) (all_names rows) d) here.1 there.1 other in_r in_q e
       ]
     ]
 
@@ -417,8 +399,9 @@ put_other : (t : Table) (n m : ℕ) (r : Line) (x : Text) (payload : List ℕ) (
 put_other t n m r x payload ms None d h other in_r g = refl
 put_other t n m r x payload ms (Some q) d h other in_r g =
     put_all_other x (members_of nested_data q payload) ms (
-      keys_of_others (rows_of t) n m r q x (members_of nested_data q payload) d h (g q refl) other in_r
-        (thins_within _ (line_names q) (members_thin nested_data q payload))
+    keys_of_others (rows_of t) n m r q x (members_of nested_data q payload) d h (g q refl) other
+    in_r
+    (thins_within _ (line_names q) (members_thin nested_data q payload))
     )
 
 shown_other : (t : Table) (n : ℕ) (r : Line) (x : Text) (later : List Attribute) (ms : Members) →
@@ -426,15 +409,16 @@ shown_other : (t : Table) (n : ℕ) (r : Line) (x : Text) (later : List Attribut
     has_type n later ≡ false → get_member x (shown_in nested_data t later ms) ≡ get_member x ms
 shown_other t n r x [] ms d h in_r none = refl
 shown_other t n r x (b ∷ more) ms d h in_r none =
-    let parts = neither_of (eqb (masked b.kind) n) (has_type n more) none in
-    shown_other t n r x more (put_shown nested_data (row_before t b more) b.value ms) d h in_r parts.1
+    let parts = or_parts (eqb (masked b.kind) n) (has_type n more) none in
+    shown_other t n r x more (put_shown nested_data (row_before t b more) b.value ms) d h in_r
+    parts.1
     ∙ put_other t n (masked b.kind) r x b.value ms (row_before t b more) d h
-      (λ e. eqb-false (masked b.kind) n parts.0 (sym e)) in_r
-      (λ q g. unless_some (has_type (masked b.kind) more) t (masked b.kind) q g)
+    (λ e. eqb-false (masked b.kind) n parts.0 (sym e)) in_r
+    (λ q g. unless_some (has_type (masked b.kind) more) t (masked b.kind) q g)
 
-keeps_all : (t : Table) (n : ℕ) (r : Line) (xs : List Named) (later : List Attribute) (ms : Members) →
-    Distinct (all_names (rows_of t)) → row_of t n ≡ Some r → Within xs (line_names r) →
-    has_type n later ≡ false → HaveAll xs ms → HaveAll xs (shown_in nested_data t later ms)
+keeps_all : (t : Table) (n : ℕ) (r : Line) (xs : List Named) (later : List Attribute)
+    (ms : Members) → Distinct (all_names (rows_of t)) → row_of t n ≡ Some r →
+    Within xs (line_names r) → has_type n later ≡ false → HaveAll xs ms → HaveAll xs (shown_in nested_data t later ms)
 keeps_all t n r [] later ms d h w none has = tt
 keeps_all t n r (x ∷ xs) later ms d h w none has = (
   shown_other t n r x.0 later ms d h w.0 none ∙ has.0,
@@ -442,7 +426,8 @@ keeps_all t n r (x ∷ xs) later ms d h w none has = (
 )
 
 -- the members of an attribute in a list
-unless_none : (b : Bool) (t : Table) (kind : ℕ) (q : Line) → row_unless b t kind ≡ Some q → b ≡ false
+unless_none : (b : Bool) (t : Table) (kind : ℕ) (q : Line) → row_unless b t kind ≡ Some q →
+    b ≡ false
 unless_none true t kind q h = absurd (cc)
 unless_none false t kind q h = refl
 
@@ -459,8 +444,8 @@ shown_has t [] a later row ms d h =
     subst (λ (o : Option Line). HaveAll xs (shown_in nested_data t later
     (put_shown nested_data o a.value ms))) (sym h)
     (keeps_all t n row xs later (put_all xs ms) d here
-      (thins_within xs (line_names row) thin) (unless_none (has_type n later) t n row h)
-      (put_all_has xs ms (thins_distinct xs (line_names row) names thin)))
+    (thins_within xs (line_names row) thin) (unless_none (has_type n later) t n row h)
+    (put_all_has xs ms (thins_distinct xs (line_names row) names thin)))
 shown_has t (f ∷ front) a later row ms d h =
     shown_has t front a later row
     (put_shown nested_data (row_before t f (front ++ a ∷ later)) f.value ms) d h
@@ -482,8 +467,8 @@ object_has : (r : List ℕ) (ds : List Data) (ms : Members) (xs : List Named) (n
 object_has r ds ms [] ns o p w h = tt
 object_has r ds ms (x ∷ xs) ns o p w h = (
   rest_apart x.0 r (others_member ds ms) (λ e. apart_mem (codes "rest") x.0 ns p w.0 (sym e))
-    ∙ others_apart x.0 ds ms (λ e. apart_mem (codes "others") x.0 ns o w.0 (sym e))
-    ∙ h.0,
+      ∙ others_apart x.0 ds ms (λ e. apart_mem (codes "others") x.0 ns o w.0 (sym e))
+      ∙ h.0,
   object_has r ds ms xs ns o p w.1 h.1,
 )
 
@@ -500,10 +485,10 @@ keeps_shown t d s = λ front a later row e h.
     let xs = members_of nested_data row a.value in
     let here = unless_some (has_type n later) t n row h in
     let within = within_all (rows_of t) n row xs here
-      (thins_within xs (line_names row) (members_thin nested_data row a.value)) in
+    (thins_within xs (line_names row) (members_thin nested_data row a.value)) in
     let has : HaveAll xs (shown_in nested_data t (attributes s) no_members) =
-      subst (λ (all : List Attribute). HaveAll xs (shown_in nested_data t all no_members)) (sym e)
-      (shown_has t front a later row no_members ((d.1).1) h) in
+    subst (λ (all : List Attribute). HaveAll xs (shown_in nested_data t all no_members)) (sym e)
+    (shown_has t front a later row no_members ((d.1).1) h) in
     object_has (rest_of s) (others_in t (attributes s)) _ xs (all_names (rows_of t))
     ((d.0).1) ((d.1).0) within has
 
@@ -520,7 +505,7 @@ before_one (Some row) t f xs ys h = h
 
 others_split : (t : Table) (front : List Attribute) (a : Attribute) (later : List Attribute) →
     row_before t a later ≡ None → (before : List Data) × (others_in t (front ++ a ∷ later)
-      ≡ before ++ other_data (label_of (row_of t (masked a.kind))) a ∷ others_in t later)
+    ≡ before ++ other_data (label_of (row_of t (masked a.kind))) a ∷ others_in t later)
 others_split t [] a later h =
     ([], ap (λ (o : Option Line). others_with o t a (others_in t later)) h)
 others_split t (f ∷ front) a later h =
@@ -531,30 +516,31 @@ others_there : (before : List Data) (d : Data) (more ds : List Data) (ms : Membe
     get_member (codes "others") (others_member ds ms) ≡ Some (array (items_of ds))
 others_there [] d more ds ms e = subst
     (λ (xs : List Data). get_member (codes "others") (others_member xs ms)
-      ≡ Some (array (items_of xs))) (sym e) (get_member-put (codes "others") _ ms)
+    ≡ Some (array (items_of xs))) (sym e) (get_member-put (codes "others") _ ms)
 others_there (b ∷ before) d more ds ms e = subst
     (λ (xs : List Data). get_member (codes "others") (others_member xs ms)
-      ≡ Some (array (items_of xs))) (sym e) (get_member-put (codes "others") _ ms)
+    ≡ Some (array (items_of xs))) (sym e) (get_member-put (codes "others") _ ms)
 
 pub keeps_others : (t : Table) → Distinct (member_names t) → (s : List ℕ) → KeepsOthers t s
 unfolding attributes_data list_data
 keeps_others t d s = λ front a later e h.
     let split = others_split t front a later h in
     let ds = others_in t (attributes s) in
-    let same = ap (λ (all : List Attribute). others_in t all) e ∙ split.1 in
-    ((split.0, same),
+    let same = ap (λ (all : List Attribute). others_in t all) e ∙ split.1 in (
+      (split.0, same),
       rest_apart (codes "others") (rest_of s)
-        (others_member ds (shown_in nested_data t (attributes s) no_members)) ((d.0).0)
-      ∙ others_there split.0 _ _ ds _ same)
+          (others_member ds (shown_in nested_data t (attributes s) no_members)) ((d.0).0)
+          ∙ others_there split.0 _ _ ds _ same,
+    )
 
 -- the rest
 pub keeps_rest : (t : Table) (s : List ℕ) → KeepsRest t s
 unfolding attributes_data list_data
 keeps_rest t s = λ b r e.
     let before = others_member (others_in t (attributes s))
-      (shown_in nested_data t (attributes s) no_members) in
+    (shown_in nested_data t (attributes s) no_members) in
     subst (λ (q : List ℕ). get_member (codes "rest") (rest_member q before)
-      ≡ Some (hex_data (b ∷ r))) (sym e) (get_member-put (codes "rest") (hex_data (b ∷ r)) before)
+    ≡ Some (hex_data (b ∷ r))) (sym e) (get_member-put (codes "rest") (hex_data (b ∷ r)) before)
 
 pub names_distinct : (t : Table) → IsTrue (are_distinct (member_names t)) →
     Distinct (member_names t)

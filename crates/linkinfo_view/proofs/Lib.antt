@@ -2,4 +2,5 @@ pub mod Flat
 pub mod Kept
 pub mod Meant
 pub mod Places
+pub mod Printable
 pub mod Rows

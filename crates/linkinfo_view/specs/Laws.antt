@@ -99,9 +99,9 @@ KeepsOthers t s =
     (front : List Attribute) (a : Attribute) (later : List Attribute) →
     attributes s ≡ front ++ a ∷ later → row_before t a later ≡ None →
     ((before : List Data) × (others_in t (attributes s)
-      ≡ before ++ other_data (label_of (row_of t (masked a.kind))) a ∷ others_in t later))
+    ≡ before ++ other_data (label_of (row_of t (masked a.kind))) a ∷ others_in t later))
     × (get (codes "others") (attributes_data t s)
-      ≡ Some (array (items_of (others_in t (attributes s)))))
+    ≡ Some (array (items_of (others_in t (attributes s)))))
 
 -- And what follows the last whole attribute is there.
 abbrev pub KeepsRest : Table → List ℕ → Type 0

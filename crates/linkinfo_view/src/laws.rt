@@ -1,6 +1,7 @@
 //! Laws of the rows. They have no code: their contracts are what they are there for.
 
 ghost use Rattle.std.specs.Prelude.{IsTrue, List, ℕ};
+ghost use Rattle.std.specs.List.{AllPass};
 ghost use Rattle.nla_frame.specs.declared.error.Family.{Family};
 ghost use Rattle.nla_frame.specs.declared.error.Family.TheVariants as family;
 ghost use Rattle.linkinfo_view.specs.Laws.{
@@ -11,6 +12,7 @@ ghost use Rattle.linkinfo_view.specs.Laws.{
   are_distinct,
   member_names,
 };
+ghost use Rattle.linkinfo_view.specs.Text.{escaped_text, is_printable};
 ghost use Rattle.linkinfo_view.specs.declared.format.Table.{Table};
 ghost use Rattle.linkinfo_view.specs.declared.format.Table.TheVariants as table;
 
@@ -35,5 +37,9 @@ pub fn nothing_hidden()
     ensures shown { (t : Table) (s : List ℕ) → KeepsShown t s }
     ensures others { (t : Table) (s : List ℕ) → KeepsOthers t s }
     ensures rest { (t : Table) (s : List ℕ) → KeepsRest t s }
-{
-}
+{}
+
+/// An escaped text is printable ASCII, whatever its bytes.
+pub fn escaped_texts()
+    ensures { (bytes : List ℕ) → AllPass is_printable (escaped_text bytes) }
+{}
