@@ -418,7 +418,9 @@ shown_other t n r x (b ∷ more) ms d h in_r none =
 
 keeps_all : (t : Table) (n : ℕ) (r : Line) (xs : List Named) (later : List Attribute)
     (ms : Members) → Distinct (all_names (rows_of t)) → row_of t n ≡ Some r →
-    Within xs (line_names r) → has_type n later ≡ false → HaveAll xs ms → HaveAll xs (shown_in nested_data t later ms)
+    Within xs (line_names r)
+    → has_type n later ≡ false → HaveAll xs ms
+    → HaveAll xs (shown_in nested_data t later ms)
 keeps_all t n r [] later ms d h w none has = tt
 keeps_all t n r (x ∷ xs) later ms d h w none has = (
   shown_other t n r x.0 later ms d h w.0 none ∙ has.0,
