@@ -9,19 +9,37 @@ use Rattle.std.specs.Prelude.{
   List,
   [],
   ◌∷◌,
+  ◌++◌,
   map,
   Option,
   Some,
+  None,
   option_map,
   codes,
 }
-use Rattle.std.specs.List.{flat_map, list_any}
+use Rattle.std.specs.List.{AllByRecursion, flat_map, list_any}
 use Rattle.std.specs.Str.{bytes_eq}
+use Rattle.nla_frame.specs.Attribute.{Attribute, masked}
 use Rattle.nla_frame.specs.declared.error.Family.{Family}
 use Rattle.linkinfo_shapes.specs.Table.{shape_of}
 use Rattle.linkinfo_shapes.specs.declared.shape.Shape.{Shape}
+use Rattle.serde_json.specs.Data.{Data, array}
+use Rattle.serde_json.specs.Find.{get}
+use Rattle.serde_json.specs.View.{items_of}
+use Rattle.linkinfo_view.specs.Attributes.{attributes, rest_of}
 use Rattle.linkinfo_view.specs.Lines.{Line}
 use Rattle.linkinfo_view.specs.Table.{row_of, rows_of}
+use Rattle.linkinfo_view.specs.Text.{hex_data}
+use Rattle.linkinfo_view.specs.Values.{Named}
+use Rattle.linkinfo_view.specs.View.{
+  attributes_data,
+  label_of,
+  members_of,
+  nested_data,
+  other_data,
+  others_in,
+  row_before,
+}
 use Rattle.linkinfo_view.specs.Words.{FlagRow, flag_of}
 use Rattle.linkinfo_view.specs.declared.format.Flags.{Flags}
 use Rattle.linkinfo_view.specs.declared.format.Format.{Format}
@@ -62,3 +80,30 @@ member_names t = codes "others" ∷ codes "rest"
 abbrev pub are_distinct : List (List ℕ) → Bool
 are_distinct [] = true
 are_distinct (x ∷ xs) = not (list_any (λ y. bytes_eq x y) xs) && are_distinct xs
+
+-- an object has these members
+abbrev pub HasMembers : List Named → Data → Type 0
+HasMembers xs d = AllByRecursion (λ (x : Named). get x.0 d ≡ Some x.1) xs
+
+-- An attribute of a list is shown if its type has a row and no later attribute has the type. Then
+-- the object has all members that the row gives it.
+abbrev pub KeepsShown : Table → List ℕ → Type 0
+KeepsShown t s =
+    (front : List Attribute) (a : Attribute) (later : List Attribute) (row : Line) →
+    attributes s ≡ front ++ a ∷ later → row_before t a later ≡ Some row →
+    HasMembers (members_of nested_data row a.value) (attributes_data t s)
+
+-- Every other attribute is in the array `others`, before those that follow it in the list.
+abbrev pub KeepsOthers : Table → List ℕ → Type 0
+KeepsOthers t s =
+    (front : List Attribute) (a : Attribute) (later : List Attribute) →
+    attributes s ≡ front ++ a ∷ later → row_before t a later ≡ None →
+    ((before : List Data) × (others_in t (attributes s)
+    ≡ before ++ other_data (label_of (row_of t (masked a.kind))) a ∷ others_in t later))
+    × (get (codes "others") (attributes_data t s)
+    ≡ Some (array (items_of (others_in t (attributes s)))))
+
+-- And what follows the last whole attribute is there.
+abbrev pub KeepsRest : Table → List ℕ → Type 0
+KeepsRest t s = (b : ℕ) (r : List ℕ) → rest_of s ≡ b ∷ r →
+    get (codes "rest") (attributes_data t s) ≡ Some (hex_data (b ∷ r))
