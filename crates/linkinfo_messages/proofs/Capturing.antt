@@ -25,7 +25,6 @@ use Rattle.std.proofs.Common.{
   subst,
   ◌∙◌,
   arith,
-  Option,
   Some,
   None,
   Result,
@@ -151,7 +150,8 @@ pub record_room : (s u : List ℕ) (format : CaptureFormat) (place : ℕ) (r : R
     place ≤ length s → u ≡ drop place s → Ok (r, k) ≡ record_at format place u →
     place + k ≤ length s
 record_room s u format place r k h unread e =
-    let at : ReadsAt place u (Ok (r, k)) = subst (ReadsAt place u) (sym e) (reads_at format place u) in
+    let at : ReadsAt place u (Ok (r, k)) =
+    subst (ReadsAt place u) (sym e) (reads_at format place u) in
     omega (arith, at.3, ap length unread, length-drop place s, h)
 
 -- a packet in the source
@@ -188,7 +188,8 @@ pub on_error : (s u : List ℕ) (format : CaptureFormat) (place : ℕ) (failed :
     Err e ≡ record_at format place u →
     Moves (walk s format place failed) (Some (Err e)) (walk s format place true)
 on_error s u format place failed e going within more unread bad =
-    let at : ReadsAt place u (Err e) = subst (ReadsAt place u) (sym bad) (reads_at format place u) in
+    let at : ReadsAt place u (Err e) =
+    subst (ReadsAt place u) (sym bad) (reads_at format place u) in
     record {
       gives = first_left s u format place failed _ going (omega arith) unread bad;
       source = refl;

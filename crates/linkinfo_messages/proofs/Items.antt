@@ -18,7 +18,6 @@ use Rattle.std.proofs.Common.{
   length,
   drop,
   refl,
-  sym,
   ap,
   ◌∙◌,
   arith,
@@ -63,7 +62,7 @@ unfolding items items_up_to
 items_nil read place = refl
 
 -- the first item, and then those after it
-items_first : {X E : Type 0} (read : Reader X E) → TakesSome read → (place : ℕ) (s : List ℕ) →
+pub items_first : {X E : Type 0} (read : Reader X E) → TakesSome read → (place : ℕ) (s : List ℕ) →
     0 < length s →
     items read place s
     ≡ followed (read place s) (λ k. items read (place + k) (drop k s))

@@ -32,16 +32,27 @@ use Rattle.std.proofs.Common.{
   Err,
 }
 use Rattle.std.proofs.lemmas.Bool.{ltb-false}
-use Rattle.std.proofs.lemmas.List.{length-drop, drop-drop, drop_all}
-use Rattle.std.specs.Prelude.{slice_range}
+use Rattle.std.proofs.lemmas.List.{length-drop, drop_all}
+use Rattle.std.specs.Prelude.{slice_range, option_copied}
 use Rattle.nla_frame.specs.Attribute.{Attribute, aligned}
 use Rattle.nla_frame.specs.NlaItems.{nla_items}
 use Rattle.linkinfo_messages.specs.declared.error.MessageError.{MessageError}
 use Rattle.linkinfo_messages.specs.declared.link.LinkEvent.{LinkEvent}
 use Rattle.linkinfo_messages.specs.declared.link.LinkEvent.TheVariants.{New, Deleted}
-use Rattle.linkinfo_messages.specs.declared.error.MessageCause.TheVariants.{Header, Short, Long, LinkHeader}
+use Rattle.linkinfo_messages.specs.declared.error.MessageCause.TheVariants.{
+  Header,
+  Short,
+  Long,
+  LinkHeader,
+}
 use Rattle.linkinfo_messages.specs.Integers.{le16}
-use Rattle.linkinfo_messages.specs.Messages.{Message, message_error, message_at, messages, length_of}
+use Rattle.linkinfo_messages.specs.Messages.{
+  Message,
+  message_error,
+  message_at,
+  messages,
+  length_of,
+}
 use Rattle.linkinfo_messages.specs.Links.{
   Link,
   located,
@@ -54,10 +65,12 @@ use Rattle.linkinfo_messages.specs.Links.{
   links_before,
   links_of,
 }
-use Rattle.linkinfo_messages.specs.Reading.{items, followed}
+use Rattle.linkinfo_messages.specs.Reading.{followed}
 use Rattle.linkinfo_messages.specs.declared.link.LinkMessage.{LinkMessage}
-use Rattle.linkinfo_messages.specs.Views.{link_in}
-use Rattle.linkinfo_messages.specs.Walks.{links_from, FindsLink, FindsError, Moves}
+use Rattle.linkinfo_messages.specs.Slices.{IsSlice}
+use Rattle.linkinfo_messages.specs.Views.{HasSlices, info_seen, link_in}
+use Rattle.linkinfo_messages.specs.Walks.{Walk, links_from, FindsLink, FindsError, Moves}
+use Rattle.linkinfo_messages.proofs.Slicing.{range_slice, rest_slice, slice_in, slices_in}
 use Rattle.linkinfo_messages.proofs.Items.{
   TakesSome,
   items_nil,
@@ -69,7 +82,8 @@ use Rattle.linkinfo_messages.proofs.Items.{
 -- ---- a message, and what it says, have the offset of its header
 
 abbrev pub ReadsAt : ℕ → List ℕ → Result (Message × ℕ) MessageError → Type 0
-ReadsAt place s (Ok x) = (x.0.place ≡ place) × (16 ≤ x.1) × (x.1 ≤ length s)
+ReadsAt place s (Ok x) =
+    (x.0.place ≡ place) × (16 ≤ x.1) × (x.1 ≤ length s) × IsSlice x.0.payload s 16
 ReadsAt place s (Err e) = e.place ≡ place
 
 pub reads_at : (place : ℕ) (s : List ℕ) → ReadsAt place s (message_at place s)
@@ -92,7 +106,8 @@ reads_at place s =
     let least : 16 ≤ n = ltb-false n 16 low in
     let taken : 16 ≤ min (length s) (aligned n) = omega arith in
     let within : min (length s) (aligned n) ≤ length s = omega arith in
-    (refl, taken, within))))
+    let whole' : n ≤ length s = ltb-false (length s) n high in
+    (refl, taken, within, range_slice s 16 n least whole'))))
 
 pub takes_some : TakesSome message_at
 takes_some place s x e =
@@ -146,9 +161,11 @@ links_first s place r h e =
 -- a message at an offset, and then those after it
 pub record Ahead (s : List ℕ) (place : ℕ) (m : Message) (k : ℕ) : Type 0 where
   pub links : links_from s place ≡ links_before (link_of m) (links_from s (place + k))
+  pub here : message_at place (drop place s) ≡ Ok (m, k)
   pub at : m.place ≡ place
   pub some : 16 ≤ k
   pub within : place + k ≤ length s
+  pub payload : IsSlice m.payload s (place + 16)
 
 pub ahead : (s u : List ℕ) (place : ℕ) (m : Message) (k : ℕ) → place < length s →
     u ≡ drop place s → Ok (m, k) ≡ message_at place u → Ahead s place m k
@@ -159,9 +176,13 @@ ahead s u place m k h from e =
     subst (ReadsAt place (drop place s)) (sym here) (reads_at place (drop place s)) in
     record {
       links = links_first s place (Ok (m, k)) h here;
+      here = sym here;
       at = reads.0;
       some = reads.1;
       within = omega (arith, reads.2, length-drop place s, h);
+      payload =
+          slice_in m.payload (drop place s) s 16 place reads.3
+          (rest_slice (drop place s) s place (omega (arith, h)) refl);
     }
 
 -- no link in a message
@@ -173,15 +194,25 @@ passes s start place m k h none e =
 
 -- a link in a message
 pub finds_link : (s : List ℕ) (start place : ℕ) (m : Message) (k : ℕ) (link : LinkMessage) →
-    Ahead s place m k → Ok (Some (link_in link)) ≡ link_of m → start ≤ place →
+    Ahead s place m k → Ok (Some (link_in link)) ≡ link_of m →
+    HasSlices link m.payload (m.place + 16) → start ≤ place →
     links_from s place ≡ links_from s start → FindsLink s start link (place + k)
-finds_link s start place m k link h some from e =
+finds_link s start place m k link h some slices from e =
     let at : link.place ≡ m.place = subst (SaysAt m.place) (sym some) (says_at m) in
     record {
       links_are = sym e ∙ h.links ∙ ap (λ r. links_before r (links_from s (place + k))) (sym some);
       from = omega (arith, at, h.at, from);
+      ends = (
+        m,
+        k,
+        subst (λ p. message_at p (drop p s) ≡ Ok (m, k)) (sym (at ∙ h.at)) h.here,
+        ap (λ p. p + k) (sym (at ∙ h.at)),
+      );
       advances = omega (arith, at, h.at, h.some);
       within = h.within;
+      slices =
+          slices_in (option_copied link.name) (info_seen link.info) m.payload s 0 (place + 16)
+          (m.place + 16) (omega (arith, h.at)) slices h.payload;
     }
 
 -- a link message that is rejected
@@ -191,7 +222,8 @@ pub finds_bad_link : (s : List ℕ) (start place : ℕ) (m : Message) (k : ℕ) 
 finds_bad_link s start place m k e h bad from same =
     let at : e.place ≡ m.place = subst (SaysAt m.place) (sym bad) (says_at m) in
     record {
-      links_are = sym same ∙ h.links ∙ ap (λ r. links_before r (links_from s (place + k))) (sym bad);
+      links_are =
+          sym same ∙ h.links ∙ ap (λ r. links_before r (links_from s (place + k))) (sym bad);
       from = omega (arith, at, h.at, from);
       within = omega (arith, at, h.at, h.some, h.within);
     }
@@ -231,13 +263,19 @@ links-bound s =
 
 -- ---- the iterator at its end
 
+abbrev walk : List ℕ → ℕ → Bool → Walk
+walk s place failed = record { source = s; place = place; failed = failed }
+
 pub on_end : (s : List ℕ) (place : ℕ) (failed : Bool) → failed ≡ false → links_from s place ≡ [] →
-    Moves (record { source = s; place = place; failed = failed }) None
-    (record { source = s; place = length s; failed = failed })
+    Moves (walk s place failed) None (walk s (length s) failed)
 on_end s place true going h = absurd cc
-on_end s place false going h =
-    record {
-      gives = (h, links_end s (length s) (omega arith));
-      source = refl;
-      steps = (refl, h);
-    }
+on_end s place false going h = record {
+  gives = (h, links_end s (length s) (omega arith));
+  source = refl;
+  steps = (refl, refl);
+}
+
+pub on_failed : (s : List ℕ) (place : ℕ) (failed : Bool) → failed ≡ true →
+    Moves (walk s place failed) None (walk s place failed)
+on_failed s place true h = record { gives = (refl, refl); source = refl; steps = (refl, refl) }
+on_failed s place false h = absurd cc

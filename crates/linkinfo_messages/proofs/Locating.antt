@@ -26,8 +26,6 @@ use Rattle.std.proofs.Common.{
   Some,
   None,
   Result,
-  Ok,
-  Err,
 }
 use Rattle.std.specs.Prelude.{option_map}
 use Rattle.std.specs.Option.{option_or}

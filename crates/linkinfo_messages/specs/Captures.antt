@@ -1,7 +1,6 @@
 -- Capture files of nlmon devices, in the format of pcap.
 use Rattle.std.specs.Prelude.{
   ◌≡◌,
-  ◌<◌,
   ℕ,
   ◌+◌,
   ◌*◌,

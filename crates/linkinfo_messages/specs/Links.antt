@@ -15,7 +15,6 @@ use Rattle.std.specs.Prelude.{
   Some,
   None,
   option_map,
-  option_copied,
   Result,
   Ok,
   Err,
@@ -25,8 +24,10 @@ use Rattle.std.specs.Int.{w32, cast_signed}
 use Rattle.nla_frame.specs.Attribute.{Attribute, aligned, masked}
 use Rattle.nla_frame.specs.NlaItems.{nla_items}
 use Rattle.nla_frame.specs.Payload.{stripped}
-use Rattle.linkinfo_messages.specs.declared.error.MessageCause.{MessageCause}
-use Rattle.linkinfo_messages.specs.declared.error.MessageCause.TheVariants.{LinkHeader, Attribute as BadAttribute}
+use Rattle.linkinfo_messages.specs.declared.error.MessageCause.TheVariants.{
+  LinkHeader,
+  Attribute as BadAttribute,
+}
 use Rattle.linkinfo_messages.specs.declared.error.MessageError.{MessageError}
 use Rattle.linkinfo_messages.specs.declared.link.LinkEvent.{LinkEvent}
 use Rattle.linkinfo_messages.specs.declared.link.LinkEvent.TheVariants.{New, Deleted}

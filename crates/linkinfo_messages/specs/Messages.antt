@@ -2,6 +2,7 @@
 use Rattle.std.specs.Prelude.{
   ℕ,
   ◌+◌,
+  ◌++◌,
   if◌then◌else◌,
   nat_lt,
   min,
@@ -15,6 +16,7 @@ use Rattle.std.specs.Prelude.{
   Ok,
   Err,
 }
+use Rattle.std.specs.Int.{w16, w32, to_le_bytes}
 use Rattle.nla_frame.specs.Attribute.{aligned}
 use Rattle.linkinfo_messages.specs.declared.error.MessageCause.{MessageCause}
 use Rattle.linkinfo_messages.specs.declared.error.MessageCause.TheVariants.{Header, Short, Long}
@@ -47,6 +49,16 @@ message_at place s =
       record { place = place; kind = le16 s 4; payload = slice_range s 16 (length_of s) },
       min (length s) (aligned (length_of s)),
     )
+
+-- a message as the kernel writes it: length and type, little-endian, then ten bytes of flags,
+-- sequence number and port, the payload, and the padding
+abbrev pub message_string : ℕ → List ℕ → List ℕ → List ℕ → List ℕ
+message_string kind middle payload padding =
+    to_le_bytes w32 (16 + length payload)
+    ++ (to_le_bytes w16 kind ++ (middle ++ (payload ++ padding)))
+
+abbrev pub message_in : ℕ → ℕ → List ℕ → Message
+message_in place kind payload = record { place = place; kind = kind; payload = payload }
 
 -- the messages of the bytes that begin at an offset
 abbrev pub messages : ℕ → List ℕ → List (Result Message MessageError)

@@ -17,6 +17,7 @@ use Rattle.linkinfo_messages.specs.declared.error.MessageError.{MessageError}
 use Rattle.linkinfo_messages.specs.declared.attributes.LinkAttributes.{LinkAttributes}
 use Rattle.linkinfo_messages.specs.declared.link.LinkContents.{LinkContents}
 use Rattle.linkinfo_messages.specs.declared.link.LinkMessage.{LinkMessage}
+use Rattle.linkinfo_messages.specs.Slices.{AreSlices}
 use Rattle.linkinfo_messages.specs.Links.{Link, located, damaged_at, name_in, info_in}
 
 -- the offset of the contents, and the contents
@@ -32,6 +33,10 @@ link_in m = record {
   name = option_copied m.name;
   info = info_seen m.info;
 }
+
+-- its name and its contents are slices of a byte string that begins at this offset
+abbrev pub HasSlices : LinkMessage → List ℕ → ℕ → Type 0
+HasSlices m s start = AreSlices (option_copied m.name) (info_seen m.info) s start
 
 abbrev pub link_seen : Result (Option LinkMessage) MessageError → Result (Option Link) MessageError
 link_seen (Ok link) = Ok (option_map link_in link)

@@ -1,9 +1,10 @@
 //! The attributes of a link message.
 
-ghost use Rattle.std.specs.Prelude.{◌≡◌, ◌+◌, ◌<◌, ◌^◌, ◌==◌, if◌then◌else◌, Some, length};
+ghost use Rattle.std.specs.Prelude.{◌≡◌, ◌+◌, ◌<◌, ◌^◌, ◌==◌, if◌then◌else◌, Some, length, IfOk};
 ghost use Rattle.nla_frame.specs.Attribute.{aligned, masked};
 ghost use Rattle.nla_frame.specs.NlaItems.{nla_items};
 ghost use Rattle.nla_frame.specs.Payload.{stripped};
+ghost use Rattle.linkinfo_messages.specs.Slices.{AreSlices};
 ghost use Rattle.linkinfo_messages.specs.Views.{HasAttributes, info_seen};
 ghost use Rattle.std.specs.Prelude.{option_copied};
 
@@ -56,7 +57,9 @@ impl<'a> LinkAttributes<'a> {
 /// the first header that is not accepted.
 pub(crate) fn attributes_of<'a>(start: usize, bytes: &'a [u8]) -> Result<LinkAttributes<'a>, usize>
     requires { start + length bytes.now < 2 ^ 64 }
-    ensures { HasAttributes result start (nla_items bytes.now) }
+    ensures attributes { HasAttributes result start (nla_items bytes.now) }
+    ensures slices { IfOk result (λ attributes. AreSlices (option_copied attributes.name)
+        (info_seen attributes.info) bytes.now start) }
 {
     let mut attributes = LinkAttributes {
         name: None,

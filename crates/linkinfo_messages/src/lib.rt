@@ -6,6 +6,7 @@ mod capture;
 mod capture_error;
 mod error;
 mod integers;
+pub mod laws;
 mod link;
 mod links;
 mod message;

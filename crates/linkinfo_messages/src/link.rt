@@ -1,8 +1,8 @@
 //! One link message.
 
-ghost use Rattle.std.specs.Prelude.{◌≡◌, ◌+◌, ◌<◌, ◌^◌, length};
+ghost use Rattle.std.specs.Prelude.{◌≡◌, ◌+◌, ◌<◌, ◌^◌, length, IfOk, IfSome};
 ghost use Rattle.linkinfo_messages.specs.Links.{link_as, link_of};
-ghost use Rattle.linkinfo_messages.specs.Views.{link_seen};
+ghost use Rattle.linkinfo_messages.specs.Views.{HasSlices, link_seen};
 
 use crate::attributes::attributes_of;
 use crate::error::{MessageCause, MessageError};
@@ -59,7 +59,9 @@ pub struct LinkMessage<'a> {
 #[tactic(auto, unfolding(crate::specs::Links::link_of))]
 #[inline(always)]
 pub(crate) fn link_of<'a>(message: &Message<'a>) -> Result<Option<LinkMessage<'a>>, MessageError>
-    ensures { link_seen result ≡ link_of message.now }
+    ensures link { link_seen result ≡ link_of message.now }
+    ensures slices { IfOk result (λ link. IfSome link (λ link.
+        HasSlices link message.now.payload (message.now.place + 16))) }
 {
     match message.kind() {
         NEW_LINK => link_as(LinkEvent::New, message),
@@ -74,7 +76,9 @@ fn link_as<'a>(
     event: LinkEvent,
     message: &Message<'a>,
 ) -> Result<Option<LinkMessage<'a>>, MessageError>
-    ensures { link_seen result ≡ link_as event message.now }
+    ensures link { link_seen result ≡ link_as event message.now }
+    ensures slices { IfOk result (λ link. IfSome link (λ link.
+        HasSlices link message.now.payload (message.now.place + 16))) }
 {
     let place = message.place();
     let payload = message.payload();

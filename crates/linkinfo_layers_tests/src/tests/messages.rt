@@ -186,6 +186,16 @@ fn capture(
     out
 }
 
+/// The bytes before an offset.
+fn before<'a>(rt: &impl Abort, bytes: &'a [u8], end: usize) -> &'a [u8] {
+    bytes.get(..end).expect(rt, "a prefix")
+}
+
+/// The bytes from an offset on.
+fn after<'a>(rt: &impl Abort, bytes: &'a [u8], start: usize) -> &'a [u8] {
+    bytes.get(start..).expect(rt, "a suffix")
+}
+
 /// The first record of a capture.
 fn record<'a>(rt: &impl Abort, bytes: &'a [u8]) -> Record<'a> {
     let mut capture = Capture::new(bytes).expect(rt, "a capture");
@@ -214,10 +224,25 @@ fn captures_in_each_format(rt: HostRuntime) {
         );
         assert_is(&rt, magic, numbers, (24, 1000, nanoseconds, 76));
         assert_is(&rt, magic, record.messages(), Ok(Some(&DUMP[..60])));
-        let format = CaptureFormat::new(&bytes[..24]).expect(&rt, "a format");
-        assert_is(&rt, magic, format.record_len(&bytes[24..40]), Some(92));
-        assert_is(&rt, magic, format.record_len(&bytes[24..39]), None);
-        assert_is(&rt, magic, format.records(&bytes[24..]).count(), 1);
+        let format = CaptureFormat::new(before(&rt, &bytes, 24)).expect(&rt, "a format");
+        assert_is(
+            &rt,
+            magic,
+            format.record_len(before(&rt, after(&rt, &bytes, 24), 16)),
+            Some(92),
+        );
+        assert_is(
+            &rt,
+            magic,
+            format.record_len(before(&rt, after(&rt, &bytes, 24), 15)),
+            None,
+        );
+        assert_is(
+            &rt,
+            magic,
+            format.records(after(&rt, &bytes, 24)).count(),
+            1,
+        );
     }
 }
 
@@ -236,19 +261,33 @@ fn capture_error(place: usize, cause: CaptureCause) -> Option<CaptureError> {
 #[test]
 fn errors_of_captures(rt: HostRuntime) {
     let bytes = capture(&rt, rt.alloc(), 0xa1b2_c3d4, false, [0, 0]);
-    assert_eq!(rt; bytes.len(), 116);
     let other = capture(&rt, rt.alloc(), 0x0a0d_0d0a, false, [0, 0]);
     let mut ethernet = capture(&rt, rt.alloc(), 0xa1b2_c3d4, false, [0, 0]);
     assert_eq!(rt; ethernet.len(), 116);
     ethernet[20] = 1;
     let cases = [
-        (&bytes[..23], capture_error(0, CaptureCause::FileHeader)),
-        (&other, capture_error(0, CaptureCause::Magic(0x0a0d_0d0a))),
-        (&ethernet, capture_error(0, CaptureCause::LinkType(1))),
-        (&bytes[..24], None),
-        (&bytes[..39], capture_error(24, CaptureCause::RecordHeader)),
-        (&bytes[..115], capture_error(24, CaptureCause::Cut(76))),
-        (&bytes, None),
+        (
+            before(&rt, &bytes, 23),
+            capture_error(0, CaptureCause::FileHeader),
+        ),
+        (
+            other.as_slice(),
+            capture_error(0, CaptureCause::Magic(0x0a0d_0d0a)),
+        ),
+        (
+            ethernet.as_slice(),
+            capture_error(0, CaptureCause::LinkType(1)),
+        ),
+        (before(&rt, &bytes, 24), None),
+        (
+            before(&rt, &bytes, 39),
+            capture_error(24, CaptureCause::RecordHeader),
+        ),
+        (
+            before(&rt, &bytes, 115),
+            capture_error(24, CaptureCause::Cut(76)),
+        ),
+        (bytes.as_slice(), None),
     ];
     for (case, (bytes, wanted)) in cases.iter().enumerate() {
         assert_is(&rt, case, capture_error_in(bytes), *wanted);

@@ -1,9 +1,7 @@
-use Rattle.std.proofs.Common.{refl, ap, sym, ◌∙◌, arith, length}
-use Rattle.nla_frame.specs.Attribute.{Attribute}
-use Rattle.nla_frame.specs.NlaItems.{nla_items}
-use Rattle.nla_frame.specs.Walk.{Passes, unread}
-use Rattle.linkinfo_messages.specs.Links.{located}
+use Rattle.std.proofs.Common.{refl, ap, ◌∙◌, arith, length}
+use Rattle.nla_frame.specs.Walk.{Passes}
 use Rattle.linkinfo_messages.proofs.Locating.{room, moved, damage_moves, name_moves, info_moves}
+use Rattle.linkinfo_messages.proofs.Slicing.{slices_with}
 use Rattle.linkinfo_messages.proofs.attributes.attributes_of.Goals as goal
 
 pub with-attributes-requires : goal.with-attributes-requires
@@ -31,4 +29,7 @@ loop-item-preserved c =
       damaged = damage_moves _ _ _ _ _ h steps.source kept.place ∙ kept.damaged;
       name = name_moves _ _ _ _ _ _ _ next c.with-attributes.ensures.name kept.name;
       info = info_moves _ _ _ _ _ _ _ next c.with-attributes.ensures.info kept.info;
+      slices =
+          slices_with _ _ _ _ _ _ _ _ _ _ _ _ h kept.source kept.place
+          c.with-attributes.ensures.name c.with-attributes.ensures.info kept.slices;
     })

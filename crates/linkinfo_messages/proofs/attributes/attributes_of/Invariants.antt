@@ -3,6 +3,7 @@ use Rattle.std.specs.Option.{option_or}
 use Rattle.nla_frame.specs.NlaItems.{nla_items}
 use Rattle.nla_frame.specs.Walk.{unread}
 use Rattle.linkinfo_messages.specs.Links.{located, damaged_at, name_in, info_in}
+use Rattle.linkinfo_messages.specs.Slices.{AreSlices}
 use Rattle.linkinfo_messages.specs.Views.{info_seen}
 use Rattle.linkinfo_messages.proofs.attributes.attributes_of.Given as goal
 
@@ -14,8 +15,12 @@ invariant-loop-item l = record {
   source : l.nlas.source ≡ l.bytes;
   place : l.place ≡ l.start + l.nlas.place;
   damaged : damaged_at l.place (nla_items (unread l.nlas)) ≡ damaged_at l.start (nla_items l.bytes);
-  name : option_or (name_in (located l.place (nla_items (unread l.nlas)))) (option_copied l.attributes.name)
+  name : option_or (name_in (located l.place (nla_items (unread l.nlas))))
+      (option_copied l.attributes.name)
       ≡ name_in (located l.start (nla_items l.bytes));
-  info : option_or (info_in (located l.place (nla_items (unread l.nlas)))) (info_seen l.attributes.info)
+  info : option_or (info_in (located l.place (nla_items (unread l.nlas))))
+      (info_seen l.attributes.info)
       ≡ info_in (located l.start (nla_items l.bytes));
+  slices : AreSlices (option_copied l.attributes.name) (info_seen l.attributes.info)
+      l.bytes l.start;
 }

@@ -1,8 +1,6 @@
-use Rattle.std.proofs.Common.{ap, sym, ◌∙◌, Ok, arith}
+use Rattle.std.proofs.Common.{sym, ◌∙◌, arith}
 use Rattle.std.proofs.lemmas.List.{take_rest}
 use Rattle.std.proofs.lemmas.Result.{err_from_is_err_and}
-use Rattle.linkinfo_messages.specs.Links.{Link}
-use Rattle.linkinfo_messages.specs.Views.{link_in}
 use Rattle.linkinfo_messages.proofs.Linking.{
   Ahead,
   ahead,
@@ -35,7 +33,7 @@ returns-in_err-link c =
     let h : Ahead c.args.bytes.now c.loop-place.place c.in_ok-message.message c.in_ok-message.len =
     ahead _ _ _ _ _ c.loop-place-test.true (take_rest c.args.bytes.now c.loop-place.place)
     c.in_ok-message.ensures in
-    rw (p.1, p.2) (finds_bad_link _ _ _ _ _ _ h c.in_err-link.ensures
+    rw (p.1, p.2) (finds_bad_link _ _ _ _ _ _ h c.in_err-link.ensures.link
     c.loop-place.invariant.from c.loop-place.invariant.links)
 
 pub returns-in-Some : goal.returns-in-Some
@@ -43,8 +41,9 @@ returns-in-Some c =
     let h : Ahead c.args.bytes.now c.loop-place.place c.in_ok-message.message c.in_ok-message.len =
     ahead _ _ _ _ _ c.loop-place-test.true (take_rest c.args.bytes.now c.loop-place.place)
     c.in_ok-message.ensures in
-    let says = rw c.in-Some.is at c.in_ok-link.ensures in
-    finds_link _ _ _ _ _ _ h says c.loop-place.invariant.from c.loop-place.invariant.links
+    let says = rw c.in-Some.is at c.in_ok-link.ensures.link in
+    let slices = rw c.in-Some.is at c.in_ok-link.ensures.slices in
+    finds_link _ _ _ _ _ _ h says slices c.loop-place.invariant.from c.loop-place.invariant.links
 
 pub loop-place-smaller : goal.loop-place-smaller
 loop-place-smaller c =
@@ -58,7 +57,7 @@ loop-place-preserved c =
     let h : Ahead c.args.bytes.now c.loop-place.place c.in_ok-message.message c.in_ok-message.len =
     ahead _ _ _ _ _ c.loop-place-test.true (take_rest c.args.bytes.now c.loop-place.place)
     c.in_ok-message.ensures in
-    let says = rw c.in_default.is at c.in_ok-link.ensures in
+    let says = rw c.in_default.is at c.in_ok-link.ensures.link in
     record {
       from = omega (arith, h.some);
       within = h.within;

@@ -1,7 +1,6 @@
-use Rattle.std.proofs.Common.{◌≤◌, length, subst, sym, arith, Ok, drop}
+use Rattle.std.proofs.Common.{◌≤◌, length, subst, sym, arith, drop}
 use Rattle.std.specs.Prelude.{IfOk}
 use Rattle.std.proofs.lemmas.List.{length-drop}
-use Rattle.linkinfo_messages.specs.Captures.{format_of}
 use Rattle.linkinfo_messages.proofs.Capturing.{format_room, records-bound}
 use Rattle.linkinfo_messages.proofs.capture.Capture.new.Goals as goal
 
