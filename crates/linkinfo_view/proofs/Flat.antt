@@ -41,30 +41,24 @@ use Rattle.std.proofs.Common.{
 use Rattle.std.specs.Cmp.Lexicographic.{slice_cmp}
 use Rattle.std.specs.List.{AllByRecursion}
 use Rattle.std.specs.Ordering.{match_ordering}
-use Rattle.nla_frame.specs.Attribute.{Attribute, masked}
+use Rattle.nla_frame.specs.Attribute.{Attribute}
 use Rattle.nla_frame.specs.declared.error.Cause.{Cause}
 use Rattle.linkinfo_shapes.specs.Data as value
 use Rattle.linkinfo_shapes.specs.declared.shape.Shape.TheVariants as shape
 use Rattle.serde_json.specs.Data.{
   Data,
-  Items,
   Members,
   array,
   boolean,
   depth,
-  item,
   items_depth,
   member,
   members_depth,
-  negative,
-  no_items,
   no_members,
-  null,
   number,
   object,
   put,
   string,
-  unsigned,
 }
 use Rattle.serde_json.specs.Find.{of_integer}
 use Rattle.serde_json.specs.View.{items_of, view}
@@ -73,7 +67,6 @@ use Rattle.std.specs.declared.alloc.AllocError.{AllocError}
 use Rattle.serde_json.specs.Written.{has_float, items_have_float, members_have_float}
 use Rattle.linkinfo_view.specs.Attributes.{attributes, rest_of}
 use Rattle.linkinfo_view.specs.Lines.{Line}
-use Rattle.linkinfo_view.specs.Table.{row_of}
 use Rattle.linkinfo_view.specs.Text.{hex_data}
 use Rattle.linkinfo_view.specs.Values.{
   Named,
@@ -82,7 +75,6 @@ use Rattle.linkinfo_view.specs.Values.{
   first_of,
   flags_data,
   format_data,
-  is_set,
   meant,
   named,
   names_data,
@@ -92,15 +84,12 @@ use Rattle.linkinfo_view.specs.Values.{
   second_of,
   plain_data,
   plain_or_hex,
-  unnamed_data,
-  unnamed_from,
   with_bit,
   with_name,
   with_option,
 }
 use Rattle.linkinfo_view.specs.View.{
   attributes_data,
-  element_data,
   element_payload,
   elements_data,
   elements_from,
@@ -109,7 +98,6 @@ use Rattle.linkinfo_view.specs.View.{
   list_data,
   mapping,
   members_meant,
-  members_of,
   nested_data,
   other_data,
   others_in,
@@ -332,8 +320,8 @@ no_or_one false d h = (h, tt)
 
 names_data_flat : (flags : Flags) (n : ℕ) → IsFlat 1 (names_data flags n)
 names_data_flat flags n = array_flat 0 _ (
-  both_flat 0 _ _ (names_flat 16 0 flags n) (no_or_one _ _ (text_flat 0 _))
-)
+    both_flat 0 _ _ (names_flat 16 0 flags n) (no_or_one _ _ (text_flat 0 _))
+    )
 
 -- lists
 label_flat : (o : Option (List ℕ)) (ms : Members) → AreFlat 0 ms → AreFlat 0 (with_label o ms)
@@ -342,10 +330,10 @@ label_flat (Some name) ms h = put_flat 0 _ _ ms (text_flat 0 _) h
 
 other_flat : (o : Option (List ℕ)) (a : Attribute) → IsFlat 1 (other_data o a)
 other_flat o a = object_flat 0 _ (label_flat o _ (
-  put_flat 0 (codes "type") (number_data a.kind) (put (codes "hex") (hex_data a.value) no_members)
+    put_flat 0 (codes "type") (number_data a.kind) (put (codes "hex") (hex_data a.value) no_members)
     (number_flat 0 a.kind)
     (put_flat 0 (codes "hex") (hex_data a.value) no_members (text_flat 0 _) (none_flat 0))
-))
+    ))
 
 rest_flat : (n : ℕ) (s : List ℕ) (ms : Members) → AreFlat n ms → AreFlat n (rest_member s ms)
 rest_flat n [] ms h = h
@@ -364,9 +352,10 @@ element_payload_flat elements.PriorityPairs payload = mapping_flat _ payload
 elements_flat : (el : Elements) (place : ℕ) (xs : List Attribute) →
     AllFlat 1 (elements_from el place xs)
 elements_flat el place [] = tt
-elements_flat el place (a ∷ more) =
-    (either_flat 1 _ _ _ (element_payload_flat el a.value) (other_flat None a),
-      elements_flat el (suc place) more)
+elements_flat el place (a ∷ more) = (
+  either_flat 1 _ _ _ (element_payload_flat el a.value) (other_flat None a),
+  elements_flat el (suc place) more,
+)
 
 rest_data_flat : (s : List ℕ) → AllFlat 1 (rest_data s)
 rest_data_flat [] = tt
@@ -374,8 +363,8 @@ rest_data_flat (b ∷ s) = (object_flat 0 _ (rest_flat 0 (b ∷ s) no_members (n
 
 elements_data_flat : (el : Elements) (payload : List ℕ) → IsFlat 2 (elements_data el payload)
 elements_data_flat el payload = array_flat 1 _ (
-  both_flat 1 _ _ (elements_flat el 0 (attributes payload)) (rest_data_flat (rest_of payload))
-)
+    both_flat 1 _ _ (elements_flat el 0 (attributes payload)) (rest_data_flat (rest_of payload))
+    )
 
 -- the members of an attribute, where a nested list is at most so deep
 deeper_all : (n : ℕ) (xs : List Named) → 1 ≤ n → NamedFlat 1 xs → NamedFlat n xs
@@ -397,12 +386,12 @@ members_flat nested n le all name format.Group6 v payload =
     (deeper 1 n (plain_data v) (omega arith) (plain_flat v), tt)
 members_flat nested n le all name (format.Bits flags) v payload =
     deeper_all n (first_named name v (bits_from 16 0 flags (first_of v))) (omega arith)
-      (flags_flat v, bits_flat 16 0 flags (first_of v))
+    (flags_flat v, bits_flat 16 0 flags (first_of v))
 members_flat nested n le all name (format.Options flags) v payload =
     deeper_all n
-      (first_named name v (options_from 16 0 flags (first_of v) (second_of v)))
-      (omega arith)
-      (flags_flat v, options_flat 16 0 flags (first_of v) (second_of v))
+    (first_named name v (options_from 16 0 flags (first_of v) (second_of v)))
+    (omega arith)
+    (flags_flat v, options_flat 16 0 flags (first_of v) (second_of v))
 members_flat nested n le all name (format.Names flags) v payload =
     (deeper 1 n _ (omega arith) (names_data_flat flags _), (text_flat n _, tt))
 members_flat nested n le all name (format.SecondNames flags) v payload =
@@ -461,10 +450,10 @@ list_flat : (nested : Table → List ℕ → Data) (n : ℕ) → 2 ≤ n →
     IsFlat (suc n) (list_data nested table s)
 unfolding list_data
 list_flat nested n le all table s = object_flat n _ (rest_flat n (rest_of s) _ (
-  others_member_flat n le (others_in table (attributes s)) _
+    others_member_flat n le (others_in table (attributes s)) _
     (others_flat_all table (attributes s))
     (shown_flat nested n le all table (attributes s) no_members (none_flat n))
-))
+    ))
 
 nested_flat : (table : Table) (s : List ℕ) → IsFlat 3 (nested_data table s)
 unfolding nested_data

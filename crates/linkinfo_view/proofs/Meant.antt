@@ -1,5 +1,5 @@
 -- What a payload means, by what the layer of shapes reads.
-use Rattle.std.proofs.Common.{◌≡◌, ℕ, List, Result, Ok, Err, refl, ◌∙◌, IsTrue}
+use Rattle.std.proofs.Common.{◌≡◌, ℕ, List, Result, Ok, Err, refl, ◌∙◌}
 use Rattle.nla_frame.specs.declared.error.Cause.{Cause}
 use Rattle.linkinfo_shapes.specs.Data.{ReadsAs, reads}
 use Rattle.linkinfo_shapes.specs.Shapes.{IsPlain}

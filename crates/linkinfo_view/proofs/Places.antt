@@ -20,7 +20,6 @@ use Rattle.std.proofs.Common.{
   None,
   refl,
   ap,
-  sym,
   ◌∙◌,
   arith,
 }

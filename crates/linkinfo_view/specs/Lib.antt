@@ -1,4 +1,5 @@
 pub mod Attributes
+pub mod Laws
 pub mod Lines
 pub mod Table
 pub mod Text

@@ -1,5 +1,5 @@
 -- The rows of all tables, by type without flag bits.
-use Rattle.std.specs.Prelude.{ℕ, ◌==◌, if◌then◌else◌, List, [], ◌∷◌, ◌++◌, Option, Some, None, codes}
+use Rattle.std.specs.Prelude.{ℕ, ◌==◌, if◌then◌else◌, List, [], ◌∷◌, Option, Some, None, codes}
 use Rattle.std.specs.Str.{bytes_eq}
 use Rattle.nla_frame.specs.declared.error.Family.{Family}
 use Rattle.nla_frame.specs.declared.error.Family.TheVariants as family
@@ -142,9 +142,9 @@ ipoib_rows =
     line 3 (codes "umcast") shape.Le16 format.FourDigits ∷
     []
 
--- IpTunnel
-abbrev pub ip_tunnel_rows : List (ℕ × Line)
-ip_tunnel_rows =
+-- of all tunnels over IP
+abbrev pub tunnel_rows : List (ℕ × Line)
+tunnel_rows =
     line 1 (codes "link") shape.Le32 format.Plain ∷
     line 2 (codes "local") shape.Ip format.Address ∷
     line 3 (codes "remote") shape.Ip format.Address ∷
@@ -152,8 +152,6 @@ ip_tunnel_rows =
     line 5 (codes "tos") shape.U8 format.Hex ∷
     line 6 (codes "encap_limit") shape.U8 format.Plain ∷
     line 7 (codes "flowinfo") shape.Be32 format.FlowInfo ∷
-    line 8 (codes "flags") shape.Be16 format.Hex ∷
-    line 9 (codes "proto") shape.U8 (format.Word words.TunnelProtocol) ∷
     line 10 (codes "pmtudisc") shape.Truth format.Plain ∷
     line 11 (codes "prefix") shape.V6 format.Plain ∷
     line 12 (codes "relay_prefix") shape.V4 format.Plain ∷
@@ -167,18 +165,26 @@ ip_tunnel_rows =
     line 20 (codes "fwmark") shape.Le32 format.Hex ∷
     []
 
+-- IpTunnel
+abbrev pub ip_tunnel_rows : List (ℕ × Line)
+ip_tunnel_rows =
+    line 8 (codes "flags") shape.Be16 format.Hex ∷
+    line 9 (codes "proto") shape.U8 (format.Word words.TunnelProtocol) ∷
+    tunnel_rows
+
 -- Sit
 abbrev pub sit_rows : List (ℕ × Line)
 sit_rows =
     line 8 (codes "flags") shape.Be16 (format.Bits flags.Sit) ∷
-    ip_tunnel_rows
+    line 9 (codes "proto") shape.U8 (format.Word words.TunnelProtocol) ∷
+    tunnel_rows
 
 -- Ip6Tunnel
 abbrev pub ip6_tunnel_rows : List (ℕ × Line)
 ip6_tunnel_rows =
     line 8 (codes "flags") shape.Le32 (format.Bits flags.Ip6Tunnel) ∷
     line 9 (codes "proto") shape.U8 (format.Word words.Tunnel6Protocol) ∷
-    ip_tunnel_rows
+    tunnel_rows
 
 -- IpVlan
 abbrev pub ip_vlan_rows : List (ℕ × Line)

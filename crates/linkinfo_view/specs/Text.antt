@@ -28,7 +28,7 @@ abbrev pub digit : ℕ → ℕ
 digit n = if nat_lt n 10 then 48 + n else 87 + n
 
 abbrev pub byte_digits : ℕ → List ℕ
-byte_digits b = digit (b / 16) ∷ digit (b % 16) ∷ []
+byte_digits b = digit (b / 16 % 16) ∷ digit (b % 16) ∷ []
 
 -- a byte that a text holds unchanged: printable ASCII but for the backslash
 abbrev pub is_plain : ℕ → Bool

@@ -57,13 +57,10 @@ use Rattle.serde_json.specs.Find.{of_integer}
 use Rattle.serde_json.specs.View.{items_of}
 use Rattle.linkinfo_view.specs.Text.{
   byte_digits,
-  class_text,
   escaped_text,
   four_digits,
   hex_data,
   hex_text,
-  label_text,
-  mask_text,
   octets_text,
   thousandths_text,
 }

@@ -6,7 +6,6 @@ use Rattle.std.specs.Prelude.{
   suc,
   Bool,
   if◌then◌else◌,
-  is_some,
   List,
   [],
   ◌∷◌,
@@ -62,8 +61,8 @@ with_label (Some name) ms = put (codes "name") (json.string name) ms
 
 abbrev pub other_data : Option (List ℕ) → Attribute → Data
 other_data name a = json.object (with_label name (
-  put (codes "type") (number_data a.kind) (put (codes "hex") (hex_data a.value) json.no_members)
-))
+    put (codes "type") (number_data a.kind) (put (codes "hex") (hex_data a.value) json.no_members)
+    ))
 
 -- what follows the last whole attribute, if anything does
 abbrev pub rest_member : List ℕ → Members → Members
@@ -200,12 +199,12 @@ others_member (d ∷ ds) ms = put (codes "others") (json.array (items_of (d ∷ 
 -- a list of attributes: what rows show, the others, and what follows the last whole attribute
 unfoldable pub list_data : (Table → List ℕ → Data) → Table → List ℕ → Data
 list_data nested table s = json.object (
-  rest_member (rest_of s) (
+    rest_member (rest_of s) (
     others_member (others_in table (attributes s)) (
-      shown_in nested table (attributes s) json.no_members
+    shown_in nested table (attributes s) json.no_members
     )
-  )
-)
+    )
+    )
 
 -- a nested list, in which further ones are hex
 abbrev pub hex_nested : Table → List ℕ → Data

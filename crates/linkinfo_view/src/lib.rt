@@ -3,6 +3,7 @@
 
 mod attributes;
 mod format;
+pub mod laws;
 mod list;
 mod members;
 mod table;
@@ -14,4 +15,3 @@ pub use format::{Elements, Flags, Format, Row, Table, Words};
 pub use list::attributes_json;
 pub use table::table_row;
 pub use text::{escaped, hex_json};
-pub use words::{Flag, flag_at, word};

@@ -1,6 +1,16 @@
 //! A list of attributes as a JSON object.
 
-ghost use Rattle.std.specs.Prelude.{◌≡◌, ◌≤◌, ◌++◌, [], false, IfOk, OnOk, option_map, map as list_map};
+ghost use Rattle.std.specs.Prelude.{
+  ◌≡◌,
+  ◌≤◌,
+  ◌++◌,
+  [],
+  false,
+  IfOk,
+  OnOk,
+  option_map,
+  map as list_map,
+};
 ghost use Rattle.std.specs.Option.{option_copied};
 ghost use Rattle.nla_frame.specs.Attribute.{masked};
 ghost use Rattle.linkinfo_view.specs.Attributes.{attributes};
@@ -61,7 +71,7 @@ fn put_if_shown<N: Nesting>(
 ) -> Result<(), AllocError>
     ensures { OnOk result (members_view map.new.entries
         ≡ put_shown N.shown (option_map line_of row) attribute.now.value
-          (members_view map.old.entries)) }
+        (members_view map.old.entries)) }
 {
     match row {
         Some(row) => put_row::<N>(alloc, &row, attribute.value(), map),
@@ -79,11 +89,14 @@ fn push_if_other(
 ) -> Result<(), AllocError>
     ensures { OnOk result (list_map view others.new.items
         ≡ list_map view others.old.items
-          ++ others_with (option_map line_of row) table attribute.now []) }
+        ++ others_with (option_map line_of row) table attribute.now []) }
 {
     match row {
         Some(_) => Ok(()),
-        None => push(others, other_json(alloc, label(table, attribute), attribute)?),
+        None => push(
+            others,
+            other_json(alloc, label(table, attribute), attribute)?,
+        ),
     }
 }
 
@@ -103,11 +116,7 @@ fn put_others(
 }
 
 /// A list of attributes by the rows of a table.
-fn list_json<N: Nesting>(
-    alloc: Global,
-    table: Table,
-    payload: &[u8],
-) -> Result<Value, AllocError>
+fn list_json<N: Nesting>(alloc: Global, table: Table, payload: &[u8]) -> Result<Value, AllocError>
     ensures { IfOk result (λ v. view v ≡ list_data N.shown table payload.now) }
 {
     let mut map = Map::new(alloc);

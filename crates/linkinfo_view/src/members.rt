@@ -1,6 +1,19 @@
 //! The members of one attribute, by its row.
 
-ghost use Rattle.std.specs.Prelude.{◌≡◌, ◌+◌, ◌<◌, ◌≤◌, ◌++◌, [], ◌∷◌, IfOk, OnOk, length, map as list_map, if◌then◌else◌};
+ghost use Rattle.std.specs.Prelude.{
+  ◌≡◌,
+  ◌+◌,
+  ◌<◌,
+  ◌≤◌,
+  ◌++◌,
+  [],
+  ◌∷◌,
+  IfOk,
+  OnOk,
+  length,
+  map as list_map,
+  if◌then◌else◌,
+};
 ghost use Rattle.std.specs.Option.{option_copied};
 ghost use Rattle.linkinfo_shapes.specs.Data.{value_of};
 ghost use Rattle.serde_json.specs.View.{members_view, view};
@@ -103,7 +116,7 @@ fn put_option(
 ) -> Result<(), AllocError>
     ensures { OnOk result (members_view map.new.entries
         ≡ put_all (with_option (flag_of_place flags place) number mask [])
-          (members_view map.old.entries)) }
+        (members_view map.old.entries)) }
 {
     match flag_at(flags, place) {
         Some(flag) if is_set(&flag, mask) => {
@@ -215,11 +228,7 @@ pub fn other_json(
 }
 
 /// Puts what follows the last whole attribute, if anything does.
-pub fn put_rest(
-    alloc: Global,
-    rest: &[u8],
-    map: &mut Map<String, Value>,
-) -> Result<(), AllocError>
+pub fn put_rest(alloc: Global, rest: &[u8], map: &mut Map<String, Value>) -> Result<(), AllocError>
     ensures { OnOk result (members_view map.new.entries
         ≡ rest_member rest.now (members_view map.old.entries)) }
 {
@@ -303,7 +312,10 @@ fn elements_json(alloc: Global, elements: Elements, payload: &[u8]) -> Result<Va
     let mut rest = payload;
     let mut place = 0;
     while let Some((attribute, next)) = first_attribute(rest) {
-        push(&mut items, element_json(alloc, elements, place, &attribute)?)?;
+        push(
+            &mut items,
+            element_json(alloc, elements, place, &attribute)?,
+        )?;
         rest = next;
         place += 1;
     }
@@ -336,7 +348,12 @@ fn put_mask(
         ≡ put_all (mask_members name.now number) (members_view map.old.entries)) }
 {
     put(map, alloc, name, mask_json(alloc, number)?)?;
-    put(map, alloc, "group_fwd_mask_str", number_json(alloc, number)?)
+    put(
+        map,
+        alloc,
+        "group_fwd_mask_str",
+        number_json(alloc, number)?,
+    )
 }
 
 /// Puts traffic class and flow label.
@@ -364,7 +381,7 @@ fn put_names(
 ) -> Result<(), AllocError>
     ensures { OnOk result (members_view map.new.entries
         ≡ put_all (names_members flags names.entry.0.now names.entry.1.now numbers.0 numbers.1)
-          (members_view map.old.entries)) }
+        (members_view map.old.entries)) }
 {
     put(map, alloc, names.0, names_json(alloc, flags, numbers.0)?)?;
     put(map, alloc, names.1, number_json(alloc, numbers.1)?)
@@ -386,8 +403,9 @@ fn put_formatted<N: Nesting>(
     map: &mut Map<String, Value>,
 ) -> Result<(), AllocError>
     ensures { OnOk result (members_view map.new.entries
-        ≡ put_all (format_members N.shown row.now.name.now row.now.format (value_of datum.now) payload.now)
-          (members_view map.old.entries)) }
+        ≡ put_all (format_members N.shown row.now.name.now row.now.format
+        (value_of datum.now) payload.now)
+        (members_view map.old.entries)) }
 {
     let name = row.name;
     match row.format {
@@ -419,7 +437,12 @@ fn put_formatted<N: Nesting>(
         }
         Format::List(elements) => put(map, alloc, name, elements_json(alloc, elements, payload)?),
         Format::Nested(table) => put(map, alloc, name, N::nested_json(alloc, table, payload)?),
-        format => put(map, alloc, name, format_json(alloc, format, datum, payload)?),
+        format => put(
+            map,
+            alloc,
+            name,
+            format_json(alloc, format, datum, payload)?,
+        ),
     }
 }
 
@@ -432,7 +455,7 @@ pub fn put_row<N: Nesting>(
 ) -> Result<(), AllocError>
     ensures { OnOk result (members_view map.new.entries
         ≡ put_all (members_of N.shown (line_of row.now) payload.now)
-          (members_view map.old.entries)) }
+        (members_view map.old.entries)) }
 {
     match datum_of(row.shape, payload) {
         Ok(datum) => put_formatted::<N>(alloc, row, &datum, payload, map),

@@ -35,6 +35,7 @@ ghost use Rattle.linkinfo_view.specs.Table.{
   dsa_rows,
   hsr_rows,
   tun_rows,
+  tunnel_rows,
   bond_ad_info_rows,
   bridge_querier_rows,
   can_delay_rows,
@@ -218,9 +219,20 @@ fn ipoib(kind: u16) -> Option<Row>
     }
 }
 
-/// `IFLA_IPTUN_*` (include/uapi/linux/if_tunnel.h): those of `ipip` links.
+/// `IFLA_IPTUN_*` (include/uapi/linux/if_tunnel.h) of `ipip` links.
 fn ip_tunnel(kind: u16) -> Option<Row>
     ensures { option_map line_of result ≡ found ip_tunnel_rows kind }
+{
+    row! { kind;
+        (8, "flags", Be16, Hex),
+        (9, "proto", U8, Word(Words::TunnelProtocol)),
+        else tunnel(kind)
+    }
+}
+
+/// `IFLA_IPTUN_*` that are the same of all tunnels over IP.
+fn tunnel(kind: u16) -> Option<Row>
+    ensures { option_map line_of result ≡ found tunnel_rows kind }
 {
     row! { kind;
         (1, "link", Le32, Plain),
@@ -230,8 +242,6 @@ fn ip_tunnel(kind: u16) -> Option<Row>
         (5, "tos", U8, Hex),
         (6, "encap_limit", U8, Plain),
         (7, "flowinfo", Be32, FlowInfo),
-        (8, "flags", Be16, Hex),
-        (9, "proto", U8, Word(Words::TunnelProtocol)),
         (10, "pmtudisc", Truth, Plain),
         (11, "prefix", V6, Plain),
         (12, "relay_prefix", V4, Plain),
@@ -246,24 +256,25 @@ fn ip_tunnel(kind: u16) -> Option<Row>
     }
 }
 
-/// `IFLA_IPTUN_*` of `sit` links: those of `ipip` links but for the flags.
+/// `IFLA_IPTUN_*` of `sit` links.
 fn sit(kind: u16) -> Option<Row>
     ensures { option_map line_of result ≡ found sit_rows kind }
 {
     row! { kind;
         (8, "flags", Be16, Bits(Flags::Sit)),
-        else ip_tunnel(kind)
+        (9, "proto", U8, Word(Words::TunnelProtocol)),
+        else tunnel(kind)
     }
 }
 
-/// `IFLA_IPTUN_*` of `ip6tnl` links: those of `ipip` links but for flags and protocols.
+/// `IFLA_IPTUN_*` of `ip6tnl` links.
 fn ip6_tunnel(kind: u16) -> Option<Row>
     ensures { option_map line_of result ≡ found ip6_tunnel_rows kind }
 {
     row! { kind;
         (8, "flags", Le32, Bits(Flags::Ip6Tunnel)),
         (9, "proto", U8, Word(Words::Tunnel6Protocol)),
-        else ip_tunnel(kind)
+        else tunnel(kind)
     }
 }
 
@@ -810,10 +821,7 @@ fn family_row(family: Family, kind: u16) -> Option<Row>
         Family::Dsa => dsa(kind),
         Family::Hsr => hsr(kind),
         Family::Tun => tun(kind),
-        Family::Frame
-        | Family::LinkInfo
-        | Family::Pfcp
-        | Family::TeamPort
-        | Family::Wireguard => None,
+        Family::Frame | Family::LinkInfo | Family::Pfcp | Family::TeamPort | Family::Wireguard =>
+            None,
     }
 }

@@ -71,8 +71,8 @@ fn push_escaped(text: &mut String, byte: u8) -> Result<(), AllocError>
     push_byte(text, byte)
 }
 
-/// Bytes as printable ASCII: each byte outside 0x20..=0x7e, and the backslash, is written as `\xNN`,
-/// with two hex digits.
+/// Bytes as printable ASCII: each byte outside 0x20..=0x7e, and the backslash, is written as
+/// `\xNN`, with two hex digits.
 #[tactic(auto, unfolding(crate::specs::Text::escaped_text))]
 pub fn escaped(alloc: Global, bytes: &[u8]) -> Result<String, AllocError>
     ensures { IfOk result (λ s. string_bytes s ≡ escaped_text bytes.now) }
@@ -237,7 +237,5 @@ pub fn thousandths_json(alloc: Global, number: u32) -> Result<Value, AllocError>
     let tenths = number / 100 % 10;
     let hundredths = number / 10 % 10;
     let thousandths = number % 10;
-    Ok(Value::String(
-        format!(in alloc; "{whole}.{tenths}{hundredths}{thousandths}")?,
-    ))
+    Ok(Value::String(format!(in alloc; "{whole}.{tenths}{hundredths}{thousandths}")?))
 }

@@ -193,13 +193,33 @@ fn bit_timing_json(alloc: Global, payload: &[u8]) -> Result<Value, AllocError>
         return hex_json(alloc, payload);
     }
     let mut map = Map::new(alloc);
-    put(&mut map, alloc, "bitrate", Value::from(number_at(payload, 0)))?;
+    put(
+        &mut map,
+        alloc,
+        "bitrate",
+        Value::from(number_at(payload, 0)),
+    )?;
     let sample_point = thousandths_json(alloc, number_at(payload, 4))?;
     put(&mut map, alloc, "sample_point", sample_point)?;
     put(&mut map, alloc, "tq", Value::from(number_at(payload, 8)))?;
-    put(&mut map, alloc, "prop_seg", Value::from(number_at(payload, 12)))?;
-    put(&mut map, alloc, "phase_seg1", Value::from(number_at(payload, 16)))?;
-    put(&mut map, alloc, "phase_seg2", Value::from(number_at(payload, 20)))?;
+    put(
+        &mut map,
+        alloc,
+        "prop_seg",
+        Value::from(number_at(payload, 12)),
+    )?;
+    put(
+        &mut map,
+        alloc,
+        "phase_seg1",
+        Value::from(number_at(payload, 16)),
+    )?;
+    put(
+        &mut map,
+        alloc,
+        "phase_seg2",
+        Value::from(number_at(payload, 20)),
+    )?;
     put(&mut map, alloc, "sjw", Value::from(number_at(payload, 24)))?;
     put(&mut map, alloc, "brp", Value::from(number_at(payload, 28)))?;
     Ok(Value::Object(map))

@@ -2,7 +2,15 @@
 
 ghost use Rattle.std.specs.Prelude.{◌≡◌, option_map};
 ghost use Rattle.std.specs.Option.{option_copied};
-ghost use Rattle.linkinfo_view.specs.Words.{flag_found, flag_of, flag_seen, flag_at, word, word_found, word_rows};
+ghost use Rattle.linkinfo_view.specs.Words.{
+  flag_found,
+  flag_of,
+  flag_seen,
+  flag_at,
+  word,
+  word_found,
+  word_rows,
+};
 ghost use Rattle.linkinfo_view.specs.declared.format.Words.TheVariants as words;
 ghost use Rattle.linkinfo_view.specs.declared.format.Flags.TheVariants as flags;
 
@@ -657,4 +665,3 @@ fn vlan_flag(place: u32) -> Option<Flag>
         (4, 0x10, 0x10, "BRIDGE_BINDING"),
     }
 }
-

@@ -7,7 +7,7 @@ use Rattle.linkinfo_view.proofs.members.elements_json.Given as goal
 abbrev pub invariant-loop-attribute : goal.invariant-loop-attribute
 invariant-loop-attribute l =
     (map view l.items.items ++ elements_from l.elements l.place (attributes l.rest)
-      ≡ elements_from l.elements 0 (attributes l.payload))
+    ≡ elements_from l.elements 0 (attributes l.payload))
     × (rest_of l.rest ≡ rest_of l.payload)
     × (l.place + length l.rest ≤ length l.payload)
 

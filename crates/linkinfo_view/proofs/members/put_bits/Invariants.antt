@@ -1,6 +1,6 @@
-use Rattle.std.proofs.Common.{◌≡◌, ◌-◌, ◌++◌, map}
-use Rattle.serde_json.specs.View.{members_view, view}
-use Rattle.linkinfo_view.specs.Values.{bits_from, names_from, options_from, unnamed_from}
+use Rattle.std.proofs.Common.{◌≡◌, ◌-◌}
+use Rattle.serde_json.specs.View.{members_view}
+use Rattle.linkinfo_view.specs.Values.{bits_from}
 use Rattle.linkinfo_view.specs.View.{put_all}
 use Rattle.linkinfo_view.proofs.members.put_bits.Given as goal
 

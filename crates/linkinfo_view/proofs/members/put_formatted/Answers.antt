@@ -6,5 +6,6 @@ returns-in-FlowInfo g c =
 
 pub returns-in-SecondNames : goal.returns-in-SecondNames
 returns-in-SecondNames g c =
-    rw (c.in-SecondNames.is, ← c.first_of-in-SecondNames.ensures, ← c.second_of-in-SecondNames.ensures)
-      c.put_names-in-SecondNames.ensures
+    let first = c.first_of-in-SecondNames.ensures in
+    let second = c.second_of-in-SecondNames.ensures in
+    rw (c.in-SecondNames.is, ← first, ← second) c.put_names-in-SecondNames.ensures

@@ -1,4 +1,4 @@
-use Rattle.std.proofs.Common.{ℕ, List, ◌+◌, ◌-◌, ap, sym, ◌∙◌, arith}
+use Rattle.std.proofs.Common.{List, ◌+◌, ◌-◌, ap, sym, ◌∙◌, arith}
 use Rattle.serde_json.specs.Data.{Members}
 use Rattle.serde_json.specs.View.{members_view}
 use Rattle.linkinfo_view.proofs.Places.{options_end, options_step}
@@ -18,5 +18,6 @@ loop-place-preserved c =
 pub returns : goal.returns
 returns c =
     let done = λ (xs : List Named). put_all xs (members_view c.loop-place.map.entries) in
-    sym (ap done (options_end c.loop-place.place c.args.flags c.args.number c.args.mask (omega arith)))
+    let place = c.loop-place.place in
+    sym (ap done (options_end place c.args.flags c.args.number c.args.mask (omega arith)))
     ∙ c.loop-place.invariant
