@@ -1,3 +1,4 @@
+pub mod Answers
 pub mod ListData
 pub mod ListErrors
 pub mod MembersData

@@ -10,6 +10,7 @@ use Rattle.std.specs.Prelude.{
   not,
   if◌then◌else◌,
   nat_lt,
+  ℤ,
   bit_and,
   List,
   [],
@@ -25,7 +26,8 @@ use Rattle.std.specs.List.{flat_map}
 use Rattle.linkinfo_messages.specs.declared.link.LinkEvent.{LinkEvent}
 use Rattle.linkinfo_messages.specs.declared.link.LinkEvent.TheVariants as event
 use Rattle.linkinfo_view.specs.Text.{escaped_text}
-use Rattle.serde_json.specs.Data.{Data, array, boolean, object, string, no_members, put}
+use Rattle.serde_json.specs.Data.{Data, array, boolean, number, object, string, no_members, put}
+use Rattle.serde_json.specs.Find.{of_integer}
 use Rattle.serde_json.specs.View.{items_of}
 use Rattle.linkinfo_print.specs.MembersData.{put_some}
 
@@ -85,13 +87,18 @@ abbrev pub name_of : Option (List ℕ) → Option Data
 name_of (Some name) = Some (string (escaped_text name))
 name_of None = None
 
+abbrev pub time_of : Option (List ℕ) → Option Data
+time_of (Some time) = Some (string time)
+time_of None = None
+
 -- The object of a message: whether the link was deleted, its flags, index and name, and its list
 -- and the time of its packet, where there are any.
-abbrev pub message_data : LinkEvent → ℕ → Data → Option (List ℕ) → Option Data → Option Data → Data
+abbrev pub message_data : LinkEvent → ℕ → ℤ → Option (List ℕ) → Option Data → Option (List ℕ) →
+    Data
 message_data event flags index name list time =
-    object (put_some (codes "time") time
+    object (put_some (codes "time") (time_of time)
     (put_some (codes "linkinfo") list
     (put_some (codes "ifname") (name_of name)
-    (put (codes "ifindex") index
+    (put (codes "ifindex") (number (of_integer index))
     (put (codes "flags") (flags_data flags)
     (put (codes "deleted") (boolean (is_deleted event)) no_members))))))

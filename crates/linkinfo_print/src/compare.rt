@@ -1,11 +1,13 @@
 //! Where two lists differ first, and what of one list another does not meet, as JSON.
 
-ghost use Rattle.std.specs.Prelude.{◌≡◌, ◌++◌, Err, IfOk, IfErr, codes, option_map};
+ghost use Rattle.std.specs.Prelude.{◌≡◌, ◌≤◌, ◌++◌, false, Err, IfOk, IfErr, codes, option_map};
 ghost use Rattle.linkinfo_data.specs.BytesPeer.{bytes_peer};
 ghost use Rattle.linkinfo.specs.Difference.{strings_difference};
 ghost use Rattle.linkinfo.specs.Strings.{reading};
 ghost use Rattle.linkinfo.specs.Unmet.{strings_unmet};
+ghost use Rattle.serde_json.specs.Data.{depth};
 ghost use Rattle.serde_json.specs.View.{view};
+ghost use Rattle.serde_json.specs.Written.{has_float};
 ghost use Rattle.linkinfo_print.specs.PairData.{
   answer_key,
   first_key,
@@ -175,7 +177,7 @@ fn offset_json(offset: Option<usize>) -> Option<Value>
 
 /// The answer to a question about two lists: whether it is yes, and if not, in which attributes
 /// they differ.
-fn pair_json(
+fn pair_value(
     alloc: Global,
     question: Question,
     a: &[u8],
@@ -214,6 +216,21 @@ fn pair_json(
     put_some(&mut members, alloc, first.1, offset_json(pair.first))?;
     put_some(&mut members, alloc, second.1, offset_json(pair.second))?;
     Ok(Value::Object(members))
+}
+
+/// The same answer, with what its JSON needs to be read back.
+fn pair_json(
+    alloc: Global,
+    question: Question,
+    a: &[u8],
+    b: &[u8],
+    pair: Option<Pair>,
+) -> Result<Value, AllocError>
+    ensures value { IfOk result (λ v. view v ≡ pair_data question a.now b.now pair) }
+    ensures shallow { IfOk result (λ v. depth (view v) ≤ 6) }
+    ensures whole_numbers { IfOk result (λ v. has_float (view v) ≡ false) }
+{
+    pair_value(alloc, question, a, b, pair)
 }
 
 /// The attributes of a difference.
@@ -275,6 +292,8 @@ pub fn difference_json(alloc: Global, a: &[u8], b: &[u8]) -> Result<Value, PairE
     ensures value { IfOk result (λ v. view v
         ≡ pair_data Question.Equal a.now b.now
         (option_map pair_of_difference (strings_difference bytes_peer a.now b.now))) }
+    ensures shallow { IfOk result (λ v. depth (view v) ≤ 6) }
+    ensures whole_numbers { IfOk result (λ v. has_float (view v) ≡ false) }
     ensures error { IfErr result (IsPairError a.now b.now) }
 {
     match first_difference(a, b) {
@@ -295,6 +314,8 @@ pub fn unmet_json(alloc: Global, have: &[u8], want: &[u8]) -> Result<Value, Pair
     ensures value { IfOk result (λ v. view v
         ≡ pair_data Question.Met have.now want.now
         (option_map pair_of_unmet (strings_unmet bytes_peer have.now want.now))) }
+    ensures shallow { IfOk result (λ v. depth (view v) ≤ 6) }
+    ensures whole_numbers { IfOk result (λ v. has_float (view v) ≡ false) }
     ensures error { IfErr result (IsPairError have.now want.now) }
 {
     match first_unmet(have, want) {

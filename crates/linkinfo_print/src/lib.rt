@@ -9,6 +9,7 @@ mod message;
 mod options;
 mod plain;
 mod print;
+mod report;
 mod streams;
 mod text;
 
@@ -18,5 +19,6 @@ pub use crate::message::{flags_json, message_json};
 pub use crate::options::{Input, Options, Request, request_of};
 pub use crate::plain::PlainText;
 pub use crate::print::{MOST_BYTES, Printer};
+pub use crate::report::{Printed, Report};
 pub use crate::streams::{RunError, run};
 pub use crate::text::{push_list, push_message, push_pair};

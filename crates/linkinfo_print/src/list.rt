@@ -4,6 +4,7 @@ ghost use Rattle.std.specs.Prelude.{
   ◌≡◌,
   ◌≤◌,
   ◌++◌,
+  false,
   IfOk,
   IfErr,
   IsOk,
@@ -19,6 +20,7 @@ ghost use Rattle.linkinfo.specs.Roles.{role_of};
 ghost use Rattle.linkinfo.specs.Strings.{reading};
 ghost use Rattle.linkinfo.specs.Walks.{attribute_of_item, items_left};
 ghost use Rattle.serde_json.specs.Data.{depth, object, string};
+ghost use Rattle.serde_json.specs.Written.{has_float};
 ghost use Rattle.serde_json.specs.View.{items_view, members_view, view};
 ghost use Rattle.linkinfo_print.specs.ListData.{
   comes_again,
@@ -37,14 +39,14 @@ ghost use Rattle.linkinfo_print.specs.ListData.{
 };
 ghost use Rattle.linkinfo_print.specs.ListErrors.{IsListError};
 
-use crate::members::put_some;
+use crate::members::{put_some, text_json};
 use linkinfo::{
     Bytes, ErrorAt, IFLA_INFO_DATA, IFLA_INFO_KIND, IFLA_INFO_SLAVE_DATA, IFLA_INFO_SLAVE_KIND,
     IFLA_INFO_XSTATS, InfoDataOf, InfoPortData, KindTag, LinkInfoItem, LinkInfoWalk, PortTag,
     check_at,
 };
 use linkinfo_data::{DataFamily, PayloadFamily, PortFamily, family_of, port_family_of};
-use linkinfo_view::{Table, attributes_json, escaped_json, hex_json};
+use linkinfo_view::{Table, attributes_json, hex_json};
 use nla_frame::{Family, without_nul};
 use serde_json::{Map, Value, push, put};
 use std::alloc::{AllocError, Global};
@@ -122,7 +124,7 @@ fn rows_json(alloc: Global, table: Option<Table>, payload: &[u8]) -> Result<Valu
 fn name_json(alloc: Global, payload: &[u8]) -> Result<Value, AllocError>
     ensures { IfOk result (λ v. view v ≡ name_data payload.now) }
 {
-    escaped_json(alloc, without_nul(payload))
+    text_json(alloc, without_nul(payload))
 }
 
 /// The value of an attribute of a list, by its role under the current kinds: a name is a text, data
@@ -289,6 +291,8 @@ impl Shown {
 /// The error is that of `check_at`, or that an allocation failed.
 pub fn list_json(alloc: Global, bytes: &[u8]) -> Result<Value, ListError>
     ensures value { IfOk result (λ v. view v ≡ list_data bytes.now) }
+    ensures shallow { IfOk result (λ v. depth (view v) ≤ 5) }
+    ensures whole_numbers { IfOk result (λ v. has_float (view v) ≡ false) }
     ensures accepted { OnOk result (IsOk (reading bytes_peer bytes.now)) }
     ensures error { IfErr result (IsListError bytes.now) }
 {
@@ -300,7 +304,9 @@ pub fn list_json(alloc: Global, bytes: &[u8]) -> Result<Value, ListError>
 
 /// A list up to its first error as a JSON object.
 fn shown_list(alloc: Global, bytes: &[u8]) -> Result<Value, AllocError>
-    ensures { IfOk result (λ v. view v ≡ list_data bytes.now) }
+    ensures value { IfOk result (λ v. view v ≡ list_data bytes.now) }
+    ensures shallow { IfOk result (λ v. depth (view v) ≤ 5) }
+    ensures whole_numbers { IfOk result (λ v. has_float (view v) ≡ false) }
 {
     let mut shown = Shown::new(alloc);
     let mut walk = LinkInfoWalk::new(bytes);

@@ -1,9 +1,9 @@
 //! A link message as JSON.
 
-ghost use Rattle.std.specs.Prelude.{◌≡◌, ◌++◌, ◌∷◌, ◌<◌, [], get_or, IfOk, OnOk, map, option_map};
-ghost use Rattle.serde_json.specs.Data.{number, string};
-ghost use Rattle.serde_json.specs.Find.{of_integer};
+ghost use Rattle.std.specs.Prelude.{◌≡◌, ◌≤◌, ◌++◌, ◌∷◌, ◌<◌, [], false, get_or, IfOk, IfSome, OnOk, map, option_map, string_bytes};
+ghost use Rattle.serde_json.specs.Data.{depth, string};
 ghost use Rattle.serde_json.specs.View.{view};
+ghost use Rattle.serde_json.specs.Written.{has_float};
 ghost use Rattle.linkinfo_print.specs.MessageData.{
   flags_data,
   is_deleted,
@@ -13,12 +13,12 @@ ghost use Rattle.linkinfo_print.specs.MessageData.{
   message_data,
   no_carrier,
   one_flag,
+  time_of,
   unnamed,
 };
 
-use crate::members::put_some;
+use crate::members::{put_some, text_json};
 use linkinfo_messages::{LinkEvent, LinkMessage};
-use linkinfo_view::escaped_json;
 use serde_json::{Map, Value, push, put};
 use std::alloc::{AllocError, Global};
 
@@ -149,34 +149,43 @@ fn name_json(alloc: Global, name: Option<&[u8]>) -> Result<Option<Value>, AllocE
         ≡ Rattle.linkinfo_print.specs.MessageData.name_of (option_map (λ n. n.now) name.entry)) }
 {
     match name {
-        Some(name) => Ok(Some(escaped_json(alloc, name)?)),
+        Some(name) => Ok(Some(text_json(alloc, name)?)),
         None => Ok(None),
     }
 }
 
-/// The time of a packet as JSON, if it has one: seconds since 1970 with nine decimal places.
-pub(crate) fn time_json(
+/// The time of a packet, if it has one: seconds since 1970 with nine decimal places.
+pub(crate) fn time_text(
     alloc: Global,
     time: Option<(u32, u64)>,
-) -> Result<Option<Value>, AllocError> {
+) -> Result<Option<String>, AllocError> {
     let Some((seconds, nanoseconds)) = time else {
         return Ok(None);
     };
-    let text = format!(in alloc; "{seconds}.{nanoseconds:09}")?;
-    Ok(Some(Value::String(text)))
+    Ok(Some(format!(in alloc; "{seconds}.{nanoseconds:09}")?))
 }
 
-/// Returns a link message as a JSON object: `deleted`, `flags`, `ifindex`, and where they are there
-/// `ifname`, the list as `linkinfo`, and the time of its packet as `time`.
-pub fn message_json(
+/// A time as JSON, if it is there.
+fn time_json(time: Option<String>) -> Option<Value>
+    ensures { option_map view result ≡ time_of (option_map string_bytes time) }
+{
+    match time {
+        Some(time) => Some(Value::String(time)),
+        None => None,
+    }
+}
+
+/// The object of a message.
+fn message_value(
     alloc: Global,
     link: &LinkMessage<'_>,
     list: Option<Value>,
-    time: Option<Value>,
+    time: Option<String>,
 ) -> Result<Value, AllocError>
     ensures { IfOk result (λ v. view v
-        ≡ message_data link.now.event link.now.flags (number (of_integer link.now.index))
-        (option_map (λ n. n.now) link.now.name) (option_map view list) (option_map view time)) }
+        ≡ message_data link.now.event link.now.flags link.now.index
+        (option_map (λ n. n.now) link.now.name) (option_map view list)
+        (option_map string_bytes time)) }
 {
     let mut members = Map::new(alloc);
     put(
@@ -189,6 +198,26 @@ pub fn message_json(
     put(&mut members, alloc, "ifindex", Value::from(link.index))?;
     put_some(&mut members, alloc, "ifname", name_json(alloc, link.name)?)?;
     put_some(&mut members, alloc, "linkinfo", list)?;
-    put_some(&mut members, alloc, "time", time)?;
+    put_some(&mut members, alloc, "time", time_json(time))?;
     Ok(Value::Object(members))
+}
+
+/// Returns a link message as a JSON object: `deleted`, `flags`, `ifindex`, and where they are there
+/// `ifname`, the list as `linkinfo`, and the time of its packet as `time`.
+pub fn message_json(
+    alloc: Global,
+    link: &LinkMessage<'_>,
+    list: Option<Value>,
+    time: Option<String>,
+) -> Result<Value, AllocError>
+    requires shallow { IfSome list (λ v. depth (view v) ≤ 5) }
+    requires whole_numbers { IfSome list (λ v. has_float (view v) ≡ false) }
+    ensures value { IfOk result (λ v. view v
+        ≡ message_data link.now.event link.now.flags link.now.index
+        (option_map (λ n. n.now) link.now.name) (option_map view list)
+        (option_map string_bytes time)) }
+    ensures shallow { IfOk result (λ v. depth (view v) ≤ 6) }
+    ensures whole_numbers { IfOk result (λ v. has_float (view v) ≡ false) }
+{
+    message_value(alloc, link, list, time)
 }

@@ -1,19 +1,18 @@
 //! What is printed for each line, message or packet of an input.
 
+ghost use Rattle.std.specs.Prelude.{◌≡◌, ◌≤◌, [], true, false, IfOk, length};
+
 use crate::compare::{PairError, difference_json, unmet_json};
 use crate::list::{ListError, list_json};
-use crate::message::{message_json, time_json};
+use crate::message::{message_json, time_text};
 use crate::options::{Input, Options};
-use crate::plain::PlainText;
-use crate::text::{push_list, push_message, push_pair};
+use crate::report::{Printed, Report};
 use linkinfo_messages::{
     CaptureError, CaptureFormat, LinkMessage, LinkMessages, MessageCause, MessageError, Record,
     message_len,
 };
-use serde_json::Value;
 use std::alloc::{AllocError, Global};
 use std::fmt::Display;
-use std::io::Write;
 
 /// The maximum length of a line, a message or a record of a capture, in bytes.
 pub const MOST_BYTES: usize = 1_048_576;
@@ -25,12 +24,12 @@ const FILE_HEADER_LEN: usize = 24;
 /// packet.
 const MESSAGES_OFFSET: usize = 32;
 
-/// Prints the lines, messages or packets of an input one after another, and keeps what is printed
-/// until it is taken.
+/// Prints the lines, messages or packets of an input one after another.
 #[derive(Drop)]
 pub struct Printer {
     alloc: Global,
     options: Options,
+    report: Report,
     /// The number of the line, message or packet, from 1 on.
     number: u64,
     /// The offset of the next line, message or packet in the input.
@@ -39,77 +38,68 @@ pub struct Printer {
     skips: bool,
     /// The format of a capture, once its header has been read.
     format: Option<CaptureFormat>,
-    /// Whether the input has ended, or an error ends it.
+    /// Whether an error has ended the input.
     ended: bool,
-    /// Whether all of the input has been accepted.
-    accepted: bool,
-    /// What is printed of the input.
-    output: PlainText,
-    /// The errors.
-    errors: PlainText,
-    /// A text that is being made.
-    text: Vec<u8>,
 }
 
 impl Printer {
     /// Starts an input.
-    pub fn new(alloc: Global, options: Options) -> Printer {
+    pub fn new(alloc: Global, options: Options) -> Printer
+        ensures output { result.report.output ≡ [] }
+        ensures errors { result.report.errors ≡ [] }
+        ensures options { result.options ≡ options }
+        ensures accepted { result.report.accepted ≡ true }
+        ensures ended { result.ended ≡ false }
+    {
         Printer {
             alloc,
             options,
+            report: Report::new(alloc, options.json),
             number: 1,
             place: 0,
             skips: false,
             format: None,
             ended: false,
-            accepted: true,
-            output: PlainText::new(alloc),
-            errors: PlainText::new(alloc),
-            text: Vec::new(alloc),
         }
     }
 
-    /// What has been printed, and is to be written to standard output.
-    pub fn output(&self) -> &PlainText {
-        &self.output
-    }
-
-    /// The errors that are to be written to standard error.
-    pub fn errors(&self) -> &PlainText {
-        &self.errors
+    /// What has been printed.
+    pub fn report(&self) -> &Report
+        ensures { result.now ≡ self.now.report }
+    {
+        &self.report
     }
 
     /// Forgets what has been printed.
-    pub fn clear(&mut self) {
-        self.output.clear();
-        self.errors.clear();
+    pub fn clear(&mut self)
+        ensures output { self.new.report.output ≡ [] }
+        ensures errors { self.new.report.errors ≡ [] }
+        ensures accepted { self.new.report.accepted ≡ self.old.report.accepted }
+        ensures ended { self.new.ended ≡ self.old.ended }
+    {
+        self.report.clear();
     }
 
     /// Whether nothing more is printed, since an error ended the input.
-    pub fn has_ended(&self) -> bool {
+    pub fn has_ended(&self) -> bool
+        ensures { result ≡ self.now.ended }
+    {
         self.ended
-    }
-
-    /// Whether all of the input has been accepted so far.
-    pub fn accepts_all(&self) -> bool {
-        self.accepted
     }
 
     /// Prints the whole lines, messages or packets at the front of these bytes, or all of them at
     /// the end of the input. Returns how many bytes that were.
-    pub fn push(&mut self, bytes: &[u8], is_end: bool) -> Result<usize, AllocError> {
+    pub fn push(&mut self, bytes: &[u8], is_end: bool) -> Result<usize, AllocError>
+        ensures { IfOk result (λ taken. taken ≤ length bytes.now) }
+    {
         let mut rest = bytes;
         while !self.ended && !rest.is_empty() {
             let taken = self.step(rest, is_end)?;
             if taken == 0 {
                 break;
             }
-            let taken = taken.min(rest.len());
             self.place = self.place.saturating_add(taken);
             rest = &rest[taken..];
-        }
-        if self.ended {
-            return Ok(bytes.len());
         }
         Ok(bytes.len() - rest.len())
     }
@@ -124,7 +114,9 @@ impl Printer {
 
     /// Prints the line, message or packet at the front of these bytes, if it is whole. Returns its
     /// length, or 0.
-    fn step(&mut self, rest: &[u8], is_end: bool) -> Result<usize, AllocError> {
+    fn step(&mut self, rest: &[u8], is_end: bool) -> Result<usize, AllocError>
+        ensures { IfOk result (λ taken. taken ≤ length rest.now) }
+    {
         match self.options.input {
             Input::Lists | Input::Differences | Input::Unmet => self.step_line(rest, is_end),
             Input::Messages => self.step_message(rest, is_end),
@@ -132,7 +124,9 @@ impl Printer {
         }
     }
 
-    fn step_line(&mut self, rest: &[u8], is_end: bool) -> Result<usize, AllocError> {
+    fn step_line(&mut self, rest: &[u8], is_end: bool) -> Result<usize, AllocError>
+        ensures { IfOk result (λ taken. taken ≤ length rest.now) }
+    {
         match memchr::memchr(b'\n', rest) {
             Some(end) => {
                 self.end_line(&rest[..end])?;
@@ -156,7 +150,7 @@ impl Printer {
             return Ok(());
         }
         self.skips = true;
-        self.refuse("line", format_args!("it is longer than {MOST_BYTES} bytes"))
+        self.refuse(format_args!("it is longer than {MOST_BYTES} bytes"))
     }
 
     fn end_line(&mut self, line: &[u8]) -> Result<(), AllocError> {
@@ -166,7 +160,7 @@ impl Printer {
             self.refuse_long_line()?;
             self.skips = false;
         } else {
-            self.print_line(trimmed(line))?;
+            self.print_line(line.trim_ascii_start().trim_ascii_end())?;
         }
         self.number = self.number.saturating_add(1);
         Ok(())
@@ -180,52 +174,60 @@ impl Printer {
             return self.print_list_line(line);
         }
         let Some(space) = memchr::memchr(b' ', line) else {
-            return self.refuse("line", "two lists are needed, with a space between them");
+            return self.refuse("two lists are needed, with a space between them");
         };
-        self.print_pair_line(&line[..space], trimmed(&line[space..]))
+        self.print_pair_line(&line[..space], line[space..].trim_ascii_start())
     }
 
     fn print_list_line(&mut self, line: &[u8]) -> Result<(), AllocError> {
         let Some(bytes) = read_hex(self.alloc, line)? else {
-            return self.refuse("line", NOT_HEX);
+            return self.refuse(NOT_HEX);
         };
         match list_json(self.alloc, &bytes) {
-            Ok(list) => self.print_list(&list),
+            Ok(list) => self.report.print(self.alloc, Printed::List, &list),
             Err(ListError::Memory) => Err(AllocError),
             Err(ListError::Rejected(at)) => {
                 let error = at.error;
-                self.refuse("line", format_args!("{at} ({error})"))
+                self.refuse(format_args!("{at} ({error})"))
             }
         }
     }
 
     fn print_pair_line(&mut self, first: &[u8], second: &[u8]) -> Result<(), AllocError> {
         let Some(first) = read_hex(self.alloc, first)? else {
-            return self.refuse("line", format_args!("first list: {NOT_HEX}"));
+            return self.refuse(format_args!("first list: {NOT_HEX}"));
         };
         let Some(second) = read_hex(self.alloc, second)? else {
-            return self.refuse("line", format_args!("second list: {NOT_HEX}"));
+            return self.refuse(format_args!("second list: {NOT_HEX}"));
         };
         let compared = match self.options.input {
             Input::Unmet => unmet_json(self.alloc, &first, &second),
             _ => difference_json(self.alloc, &first, &second),
         };
         match compared {
-            Ok(pair) => self.print_pair(&pair),
+            Ok(pair) => self.report.print(self.alloc, Printed::Pair, &pair),
             Err(PairError::Memory) => Err(AllocError),
-            Err(error) => self.refuse("line", error),
+            Err(PairError::First(at)) => {
+                let error = at.error;
+                self.refuse(format_args!("first list: {at} ({error})"))
+            }
+            Err(PairError::Second(at)) => {
+                let error = at.error;
+                self.refuse(format_args!("second list: {at} ({error})"))
+            }
         }
     }
 
-    fn step_message(&mut self, rest: &[u8], is_end: bool) -> Result<usize, AllocError> {
+    fn step_message(&mut self, rest: &[u8], is_end: bool) -> Result<usize, AllocError>
+        ensures { IfOk result (λ taken. taken ≤ length rest.now) }
+    {
         let taken = match message_len(rest) {
             Ok(Some(len)) if len > MOST_BYTES => {
                 self.ended = true;
                 let place = self.place;
-                self.refuse(
-                    "message",
-                    format_args!("message at offset {place}: it is longer than {MOST_BYTES} bytes"),
-                )?;
+                self.refuse(format_args!(
+                    "message at offset {place}: it is longer than {MOST_BYTES} bytes"
+                ))?;
                 rest.len()
             }
             Ok(Some(len)) if len <= rest.len() => {
@@ -242,7 +244,9 @@ impl Printer {
         Ok(taken)
     }
 
-    fn step_record(&mut self, rest: &[u8], is_end: bool) -> Result<usize, AllocError> {
+    fn step_record(&mut self, rest: &[u8], is_end: bool) -> Result<usize, AllocError>
+        ensures { IfOk result (λ taken. taken ≤ length rest.now) }
+    {
         let Some(format) = self.format else {
             if rest.len() < FILE_HEADER_LEN && !is_end {
                 return Ok(0);
@@ -254,10 +258,9 @@ impl Printer {
             Some(len) if len > MOST_BYTES => {
                 self.ended = true;
                 let place = self.place;
-                self.refuse(
-                    "packet",
-                    format_args!("record at offset {place}: it is longer than {MOST_BYTES} bytes"),
-                )?;
+                self.refuse(format_args!(
+                    "record at offset {place}: it is longer than {MOST_BYTES} bytes"
+                ))?;
                 rest.len()
             }
             Some(len) if len <= rest.len() => {
@@ -283,8 +286,7 @@ impl Printer {
             }
             Err(error) => {
                 self.ended = true;
-                self.accepted = false;
-                self.push_error(error)
+                self.report.refuse(self.alloc, error)
             }
         }
     }
@@ -319,7 +321,7 @@ impl Printer {
             place: self.place.saturating_add(error.place),
             cause: error.cause,
         };
-        self.refuse("packet", error)
+        self.refuse(error)
     }
 
     /// Prints the link messages in these bytes, which begin at an offset of the input.
@@ -349,9 +351,8 @@ impl Printer {
             place: place.saturating_add(error.place),
             cause,
         };
-        let unit = self.unit();
         self.ended = self.options.input == Input::Messages;
-        self.refuse(unit, error)
+        self.refuse(error)
     }
 
     /// The word for what has a number.
@@ -374,83 +375,31 @@ impl Printer {
                 Ok(list) => Some(list),
                 Err(ListError::Memory) => return Err(AllocError),
                 Err(ListError::Rejected(at)) => {
-                    let unit = self.unit();
                     let error = at.error;
                     let place = place.saturating_add(info.place);
-                    return self.refuse(
-                        unit,
-                        format_args!("IFLA_LINKINFO at offset {place}: {at} ({error})"),
-                    );
+                    return self.refuse(format_args!(
+                        "IFLA_LINKINFO at offset {place}: {at} ({error})"
+                    ));
                 }
             },
             None => None,
         };
-        let time = time_json(self.alloc, time)?;
+        let time = time_text(self.alloc, time)?;
         let message = message_json(self.alloc, link, list, time)?;
-        self.print_message(&message)
-    }
-
-    fn print_list(&mut self, list: &Value) -> Result<(), AllocError> {
-        if self.options.json {
-            return self.print_json(list);
-        }
-        self.text.clear();
-        push_list(&mut self.text, list)?;
-        self.output.push(&self.text)
-    }
-
-    fn print_pair(&mut self, pair: &Value) -> Result<(), AllocError> {
-        if self.options.json {
-            return self.print_json(pair);
-        }
-        self.text.clear();
-        push_pair(&mut self.text, pair)?;
-        self.output.push(&self.text)
-    }
-
-    fn print_message(&mut self, message: &Value) -> Result<(), AllocError> {
-        if self.options.json {
-            return self.print_json(message);
-        }
-        self.text.clear();
-        push_message(&mut self.text, message)?;
-        self.output.push(&self.text)
-    }
-
-    fn print_json(&mut self, value: &Value) -> Result<(), AllocError> {
-        let line = value.to_string(self.alloc)?;
-        self.output.push(line.as_bytes())?;
-        self.output.push(b"\n")
+        self.report.print(self.alloc, Printed::Message, &message)
     }
 
     /// Notes an error of the line, message or packet with the present number.
-    fn refuse<E: Display + Drop>(&mut self, unit: &str, error: E) -> Result<(), AllocError> {
-        self.accepted = false;
+    fn refuse<E: Display + Drop>(&mut self, error: E) -> Result<(), AllocError> {
+        let unit = self.unit();
         let number = self.number;
-        self.push_error(format_args!("{unit} {number}: {error}"))
-    }
-
-    fn push_error<E: Display + Drop>(&mut self, error: E) -> Result<(), AllocError> {
-        self.text.clear();
-        writeln!(self.text, "{error}").map_err(|_| AllocError)?;
-        self.errors.push(&self.text)
+        self.report
+            .refuse(self.alloc, format_args!("{unit} {number}: {error}"))
     }
 }
 
 /// What is wrong with a word that is no list.
 const NOT_HEX: &str = "a list is an even number of hex digits, or '-' for no attributes";
-
-/// A text without the spaces and carriage returns at its ends.
-fn trimmed(text: &[u8]) -> &[u8] {
-    let mut rest = text;
-    while let [b' ' | b'\t' | b'\r', more @ ..] = rest {
-        rest = more;
-    }
-    while let [more @ .., b' ' | b'\t' | b'\r'] = rest {
-        rest = more;
-    }
-    rest
-}
 
 /// Decodes a list: hex digits, or `-` for no attributes. Returns `None` if it is neither.
 fn read_hex(alloc: Global, word: &[u8]) -> Result<Option<Vec<u8>>, AllocError> {

@@ -1,7 +1,12 @@
 //! One run of the program. It prints each line, message or packet once it has come.
 
+ghost use Rattle.std.specs.Prelude.{OnOk};
+ghost use Rattle.std.specs.Io.KnownBytes.{Appends};
+ghost use Rattle.linkinfo_print.specs.Answers.{AppendsPlain};
+
 use crate::options::Options;
 use crate::print::Printer;
+use crate::report::Report;
 use std::alloc::Global;
 use std::io::{Read, Write};
 use thiserror::Error;
@@ -35,7 +40,12 @@ pub fn run<R: Read, W: Write, E: Write>(
     input: &mut R,
     output: &mut W,
     errors: &mut E,
-) -> Result<bool, RunError> {
+) -> Result<bool, RunError>
+    ensures plain_output { OnOk result
+        (AppendsPlain (W.contents output.old) (W.contents output.new)) }
+    ensures plain_errors { OnOk result
+        (AppendsPlain (E.contents errors.old) (E.contents errors.new)) }
+{
     let mut printer = Printer::new(alloc, options);
     let mut pending = Vec::new(alloc);
     let mut buffer = [0u8; READ_LEN];
@@ -46,11 +56,10 @@ pub fn run<R: Read, W: Write, E: Write>(
             .extend_from_slice(&buffer[..len])
             .map_err(|_| RunError::Memory)?;
         take(&mut printer, &mut pending, is_end)?;
-        write_all(output, printer.output().as_bytes())?;
-        write_all(errors, printer.errors().as_bytes())?;
+        write_report(printer.report(), output, errors)?;
         printer.clear();
         if is_end || printer.has_ended() {
-            return Ok(printer.accepts_all());
+            return Ok(printer.report().accepts_all());
         }
     }
     Err(RunError::Read)
@@ -58,29 +67,35 @@ pub fn run<R: Read, W: Write, E: Write>(
 
 /// Prints what is whole of the bytes, and removes it.
 fn take(printer: &mut Printer, pending: &mut Vec<u8>, is_end: bool) -> Result<(), RunError> {
-    let taken = printer
-        .push(pending, is_end)
-        .map_err(|_| RunError::Memory)?;
+    let taken = printer.push(pending, is_end).map_err(|_| RunError::Memory)?;
     if is_end {
         printer.finish().map_err(|_| RunError::Memory)?;
     }
-    let taken = taken.min(pending.len());
     pending.copy_within(taken.., 0);
     pending.truncate(pending.len() - taken);
     Ok(())
 }
 
-/// Writes all of the bytes, and flushes them. A write that writes no byte is an error.
-fn write_all<W: Write>(writer: &mut W, bytes: &[u8]) -> Result<(), RunError> {
-    if bytes.is_empty() {
-        return Ok(());
-    }
-    let mut rest = bytes;
-    while !rest.is_empty() {
-        match writer.write(rest) {
-            Ok(0) | Err(_) => return Err(RunError::Write),
-            Ok(n) => rest = &rest[n..],
-        }
-    }
+/// Writes what has been printed.
+fn write_report<W: Write, E: Write>(
+    report: &Report,
+    output: &mut W,
+    errors: &mut E,
+) -> Result<(), RunError>
+    ensures output { OnOk result (AppendsPlain (W.contents output.old) (W.contents output.new)) }
+    ensures errors { OnOk result (AppendsPlain (E.contents errors.old) (E.contents errors.new)) }
+{
+    let values = report.output();
+    write_all(output, values)?;
+    let rejected = report.errors();
+    write_all(errors, rejected)?;
+    Ok(())
+}
+
+/// Writes all of the bytes, and flushes them.
+fn write_all<W: Write>(writer: &mut W, bytes: &[u8]) -> Result<(), RunError>
+    ensures { OnOk result (Appends (W.contents writer.old) (W.contents writer.new) bytes.now) }
+{
+    writer.write_all(bytes).map_err(|_| RunError::Write)?;
     writer.flush().map_err(|_| RunError::Write)
 }

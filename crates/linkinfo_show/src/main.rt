@@ -2,9 +2,8 @@
 #![tactic(auto)]
 
 use linkinfo_print::{Options, Request, request_of, run};
-use std::env;
-use std::io;
 use std::process::ExitCode;
+use std::{env, io};
 
 /// The version of the program.
 const VERSION: &str = "linkinfo_show 0.1";
@@ -76,8 +75,9 @@ fn answer(rt: &HostRuntime) -> io::Result<ExitCode> {
             println!(rt; "{VERSION}")?;
             Ok(ExitCode::SUCCESS)
         }
-        Err(_) => {
-            eprintln!(rt; "linkinfo_show: invalid options; try --help")?;
+        Err(index) => {
+            let word = words.get(index).map_or("", String::as_str);
+            eprintln!(rt; "linkinfo_show: '{word}' is no option, or one too many; try --help")?;
             Ok(ExitCode::from(FAILED))
         }
     }

@@ -22,9 +22,8 @@ mod tests;
 
 use crate::compat::calls::*;
 use crate::linkinfo_print::{Options, Request, request_of, run};
-use std::env;
-use std::io;
 use std::process::ExitCode;
+use std::{env, io};
 
 /// The version of the program.
 const VERSION: &str = "linkinfo_show 0.1";
@@ -95,8 +94,9 @@ fn answer() -> io::Result<ExitCode> {
             try_println!("{VERSION}")?;
             Ok(ExitCode::SUCCESS)
         }
-        Err(_) => {
-            try_eprintln!("linkinfo_show: invalid options; try --help")?;
+        Err(index) => {
+            let word = words.get(index).map_or("", String::as_str);
+            try_eprintln!("linkinfo_show: '{word}' is no option, or one too many; try --help")?;
             Ok(ExitCode::from(FAILED))
         }
     }

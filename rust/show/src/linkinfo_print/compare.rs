@@ -126,7 +126,7 @@ fn offset_json(offset: Option<usize>) -> Option<Value> {
 
 /// The answer to a question about two lists: whether it is yes, and if not, in which attributes
 /// they differ.
-fn pair_json(
+fn pair_value(
     question: Question,
     a: &[u8],
     b: &[u8],
@@ -159,6 +159,16 @@ fn pair_json(
     put_some(&mut members, first.1, offset_json(pair.first))?;
     put_some(&mut members, second.1, offset_json(pair.second))?;
     Ok(Value::Object(members))
+}
+
+/// The same answer, with what its JSON needs to be read back.
+fn pair_json(
+    question: Question,
+    a: &[u8],
+    b: &[u8],
+    pair: Option<Pair>,
+) -> Result<Value, AllocError> {
+    pair_value(question, a, b, pair)
 }
 
 /// The attributes of a difference.

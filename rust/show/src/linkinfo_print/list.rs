@@ -3,8 +3,8 @@
 use crate::compat::AllocError;
 use crate::compat::calls::*;
 use crate::compat::serde_json::{Map, Value, push, put};
-use crate::linkinfo_print::members::put_some;
-use crate::linkinfo_view::{Table, attributes_json, escaped_json, hex_json};
+use crate::linkinfo_print::members::{put_some, text_json};
+use crate::linkinfo_view::{Table, attributes_json, hex_json};
 use linkinfo::layers::data::{DataFamily, PayloadFamily, PortFamily, family_of, port_family_of};
 use linkinfo::layers::link::{
     Bytes, ErrorAt, IFLA_INFO_DATA, IFLA_INFO_KIND, IFLA_INFO_SLAVE_DATA, IFLA_INFO_SLAVE_KIND,
@@ -72,7 +72,7 @@ fn rows_json(table: Option<Table>, payload: &[u8]) -> Result<Value, AllocError> 
 
 /// The name that an attribute holds, without its closing NUL and escaped.
 fn name_json(payload: &[u8]) -> Result<Value, AllocError> {
-    escaped_json(without_nul(payload))
+    text_json(without_nul(payload))
 }
 
 /// The value of an attribute of a list, by its role under the current kinds: a name is a text, data

@@ -1,7 +1,8 @@
-//! Members of JSON objects that may be absent.
+//! Parts of JSON objects: texts from the wire, and members that may be absent.
 
 use crate::compat::AllocError;
 use crate::compat::serde_json::{Map, Value, put};
+use crate::linkinfo_view::escaped;
 
 /// Adds a member, if it is there.
 pub(crate) fn put_some(
@@ -13,4 +14,9 @@ pub(crate) fn put_some(
         Some(value) => put(members, key, value),
         None => Ok(()),
     }
+}
+
+/// Bytes from the wire as a JSON string, escaped.
+pub(crate) fn text_json(bytes: &[u8]) -> Result<Value, AllocError> {
+    Ok(Value::String(escaped(bytes)?))
 }

@@ -3,8 +3,7 @@
 use crate::compat::AllocError;
 use crate::compat::calls::*;
 use crate::compat::serde_json::{Map, Value, push, put};
-use crate::linkinfo_print::members::put_some;
-use crate::linkinfo_view::escaped_json;
+use crate::linkinfo_print::members::{put_some, text_json};
 use linkinfo::layers::messages::{LinkEvent, LinkMessage};
 
 /// The number of flags with a name.
@@ -103,26 +102,32 @@ fn is_deleted(event: LinkEvent) -> bool {
 /// The name of a link, escaped.
 fn name_json(name: Option<&[u8]>) -> Result<Option<Value>, AllocError> {
     match name {
-        Some(name) => Ok(Some(escaped_json(name)?)),
+        Some(name) => Ok(Some(text_json(name)?)),
         None => Ok(None),
     }
 }
 
-/// The time of a packet as JSON, if it has one: seconds since 1970 with nine decimal places.
-pub(crate) fn time_json(time: Option<(u32, u64)>) -> Result<Option<Value>, AllocError> {
+/// The time of a packet, if it has one: seconds since 1970 with nine decimal places.
+pub(crate) fn time_text(time: Option<(u32, u64)>) -> Result<Option<String>, AllocError> {
     let Some((seconds, nanoseconds)) = time else {
         return Ok(None);
     };
-    let text = try_format!("{seconds}.{nanoseconds:09}")?;
-    Ok(Some(Value::String(text)))
+    Ok(Some(try_format!("{seconds}.{nanoseconds:09}")?))
 }
 
-/// Returns a link message as a JSON object: `deleted`, `flags`, `ifindex`, and where they are there
-/// `ifname`, the list as `linkinfo`, and the time of its packet as `time`.
-pub fn message_json(
+/// A time as JSON, if it is there.
+fn time_json(time: Option<String>) -> Option<Value> {
+    match time {
+        Some(time) => Some(Value::String(time)),
+        None => None,
+    }
+}
+
+/// The object of a message.
+fn message_value(
     link: &LinkMessage<'_>,
     list: Option<Value>,
-    time: Option<Value>,
+    time: Option<String>,
 ) -> Result<Value, AllocError> {
     let mut members = Map::new();
     put(&mut members, "deleted", Value::from(is_deleted(link.event)))?;
@@ -130,6 +135,21 @@ pub fn message_json(
     put(&mut members, "ifindex", Value::from(link.index))?;
     put_some(&mut members, "ifname", name_json(link.name)?)?;
     put_some(&mut members, "linkinfo", list)?;
-    put_some(&mut members, "time", time)?;
+    put_some(&mut members, "time", time_json(time))?;
     Ok(Value::Object(members))
+}
+
+/// Returns a link message as a JSON object: `deleted`, `flags`, `ifindex`, and where they are there
+/// `ifname`, the list as `linkinfo`, and the time of its packet as `time`.
+///
+/// # Panics
+///
+/// May panic where a condition of the caller that is named here does not hold. Where it does
+/// not panic then, the result has no meaning.
+pub fn message_json(
+    link: &LinkMessage<'_>,
+    list: Option<Value>,
+    time: Option<String>,
+) -> Result<Value, AllocError> {
+    message_value(link, list, time)
 }

@@ -8,6 +8,7 @@ mod message;
 mod options;
 mod plain;
 mod print;
+mod report;
 mod streams;
 mod text;
 
@@ -17,5 +18,6 @@ pub use crate::linkinfo_print::message::{flags_json, message_json};
 pub use crate::linkinfo_print::options::{Input, Options, Request, request_of};
 pub use crate::linkinfo_print::plain::PlainText;
 pub use crate::linkinfo_print::print::{MOST_BYTES, Printer};
+pub use crate::linkinfo_print::report::{Printed, Report};
 pub use crate::linkinfo_print::streams::{RunError, run};
 pub use crate::linkinfo_print::text::{push_list, push_message, push_pair};

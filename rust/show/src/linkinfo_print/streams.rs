@@ -3,6 +3,7 @@
 use crate::compat::calls::*;
 use crate::linkinfo_print::options::Options;
 use crate::linkinfo_print::print::Printer;
+use crate::linkinfo_print::report::Report;
 use std::io::{Read, Write};
 use thiserror::Error;
 
@@ -45,11 +46,10 @@ pub fn run<R: Read, W: Write, E: Write>(
             .try_extend_from_slice(&buffer[..len])
             .map_err(|_| RunError::Memory)?;
         take(&mut printer, &mut pending, is_end)?;
-        write_all(output, printer.output().as_bytes())?;
-        write_all(errors, printer.errors().as_bytes())?;
+        write_report(printer.report(), output, errors)?;
         printer.clear();
         if is_end || printer.has_ended() {
-            return Ok(printer.accepts_all());
+            return Ok(printer.report().accepts_all());
         }
     }
     Err(RunError::Read)
@@ -63,23 +63,26 @@ fn take(printer: &mut Printer, pending: &mut Vec<u8>, is_end: bool) -> Result<()
     if is_end {
         printer.finish().map_err(|_| RunError::Memory)?;
     }
-    let taken = taken.min(pending.len());
     pending.copy_within(taken.., 0);
     pending.truncate(pending.len() - taken);
     Ok(())
 }
 
-/// Writes all of the bytes, and flushes them. A write that writes no byte is an error.
+/// Writes what has been printed.
+fn write_report<W: Write, E: Write>(
+    report: &Report,
+    output: &mut W,
+    errors: &mut E,
+) -> Result<(), RunError> {
+    let values = report.output();
+    write_all(output, values)?;
+    let rejected = report.errors();
+    write_all(errors, rejected)?;
+    Ok(())
+}
+
+/// Writes all of the bytes, and flushes them.
 fn write_all<W: Write>(writer: &mut W, bytes: &[u8]) -> Result<(), RunError> {
-    if bytes.is_empty() {
-        return Ok(());
-    }
-    let mut rest = bytes;
-    while !rest.is_empty() {
-        match writer.write(rest) {
-            Ok(0) | Err(_) => return Err(RunError::Write),
-            Ok(n) => rest = &rest[n..],
-        }
-    }
+    writer.write_all(bytes).map_err(|_| RunError::Write)?;
     writer.flush().map_err(|_| RunError::Write)
 }
