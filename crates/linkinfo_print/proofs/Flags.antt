@@ -34,7 +34,8 @@ pub next_flag : (n : ℕ) (fs : List (List ℕ × ℕ)) (i : ℕ) (before after 
     after ++ flat_map (one_flag n) (drop (i + 1) fs) ≡ whole
 next_flag n fs i before after whole lt pushed so_far =
     ap (λ (ds : List Data). ds ++ flat_map (one_flag n) (drop (i + 1) fs)) pushed
-    ∙ append_assoc before (one_flag n (get_or fs i ([], 0))) (flat_map (one_flag n) (drop (i + 1) fs))
+    ∙ append_assoc before (one_flag n (get_or fs i ([], 0)))
+    (flat_map (one_flag n) (drop (i + 1) fs))
     ∙ ap (λ (gs : List (List ℕ × ℕ)). before ++ flat_map (one_flag n) gs)
     (sym (drop_more fs i ([], 0) lt))
     ∙ so_far

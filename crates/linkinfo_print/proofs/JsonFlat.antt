@@ -53,7 +53,14 @@ use Rattle.linkinfo.specs.declared.role.CurrentKinds.{CurrentKinds}
 use Rattle.linkinfo.specs.declared.role.Role.{Role}
 use Rattle.linkinfo.specs.declared.role.Role.TheVariants as role
 use Rattle.linkinfo_messages.specs.declared.link.LinkEvent.{LinkEvent}
-use Rattle.linkinfo_view.proofs.Flat.{AreFlat, IsFlat, array_flat, attributes_flat, deeper, put_flat}
+use Rattle.linkinfo_view.proofs.Flat.{
+  AreFlat,
+  IsFlat,
+  array_flat,
+  attributes_flat,
+  deeper,
+  put_flat,
+}
 use Rattle.linkinfo_view.specs.Text.{escaped_text, hex_data}
 use Rattle.linkinfo_view.specs.View.{attributes_data}
 use Rattle.linkinfo_view.specs.declared.format.Table.{Table}

@@ -1,5 +1,19 @@
 -- Plain bytes.
-use Rattle.std.proofs.Common.{◌≡◌, ℕ, zero, suc, ◌<◌, List, [], ◌∷◌, ◌++◌, true, length, get_or, arith}
+use Rattle.std.proofs.Common.{
+  ◌≡◌,
+  ℕ,
+  zero,
+  suc,
+  ◌<◌,
+  List,
+  [],
+  ◌∷◌,
+  ◌++◌,
+  true,
+  length,
+  get_or,
+  arith,
+}
 use Rattle.std.proofs.lemmas.List.Elements.{All-append}
 use Rattle.linkinfo_print.specs.Plain.{IsPlain, is_plain}
 

@@ -56,8 +56,10 @@ pub members_step : (u : LinkWalk) (item : LinkInfoItem) (t : LinkWalk)
     (before after whole : Members) (name : Option (List ℕ)) →
     Moves u (Some (Ok item)) t → name ≡ shown_as (attribute_of_item item) (items_left t) →
     after
-    ≡ put_if name (role_data (role_of (kinds_of item) (masked item.raw_kind)) item.value.now) before →
-    members_on before u.kinds (items_left u) ≡ whole → members_on after t.kinds (items_left t) ≡ whole
+    ≡ put_if name (role_data (role_of (kinds_of item) (masked item.raw_kind)) item.value.now)
+    before →
+    members_on before u.kinds (items_left u) ≡ whole →
+    members_on after t.kinds (items_left t) ≡ whole
 members_step u item t before after whole name moves named put so_far =
     let a = attribute_of_item item in
     let shown = role_data (role_at u.kinds a) a.value in

@@ -1,6 +1,21 @@
 //! A link message as JSON.
 
-ghost use Rattle.std.specs.Prelude.{◌≡◌, ◌≤◌, ◌++◌, ◌∷◌, ◌<◌, [], false, get_or, IfOk, IfSome, OnOk, map, option_map, string_bytes};
+ghost use Rattle.std.specs.Prelude.{
+  ◌≡◌,
+  ◌≤◌,
+  ◌++◌,
+  ◌∷◌,
+  ◌<◌,
+  [],
+  false,
+  get_or,
+  IfOk,
+  IfSome,
+  OnOk,
+  map,
+  option_map,
+  string_bytes,
+};
 ghost use Rattle.serde_json.specs.Data.{depth, string};
 ghost use Rattle.serde_json.specs.View.{view};
 ghost use Rattle.serde_json.specs.Written.{has_float};
@@ -123,7 +138,8 @@ fn push_unnamed(alloc: Global, names: &mut Vec<Value>, flags: u32) -> Result<(),
     push(names, Value::String(format!(in alloc; "0x{bits:x}")?))
 }
 
-/// The names of a link's flags as `ip -j link` prints them, and last the bits without a name in hex.
+/// The names of a link's flags as `ip -j link` prints them, and last the bits without a name in
+/// hex.
 pub fn flags_json(alloc: Global, flags: u32) -> Result<Value, AllocError>
     ensures { IfOk result (λ v. view v ≡ flags_data flags) }
 {

@@ -47,6 +47,7 @@ impl Printer {
     pub fn new(alloc: Global, options: Options) -> Printer
         ensures output { result.report.output ≡ [] }
         ensures errors { result.report.errors ≡ [] }
+        ensures json { result.report.json ≡ options.json }
         ensures options { result.options ≡ options }
         ensures accepted { result.report.accepted ≡ true }
         ensures ended { result.ended ≡ false }
@@ -75,6 +76,7 @@ impl Printer {
         ensures output { self.new.report.output ≡ [] }
         ensures errors { self.new.report.errors ≡ [] }
         ensures accepted { self.new.report.accepted ≡ self.old.report.accepted }
+        ensures json { self.new.report.json ≡ self.old.report.json }
         ensures ended { self.new.ended ≡ self.old.ended }
     {
         self.report.clear();

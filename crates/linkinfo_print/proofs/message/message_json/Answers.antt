@@ -8,7 +8,8 @@ returns-clause-shallow c =
     value_within 6 _ c.message_value.result
     (message_flat c.args.link.now.event c.args.link.now.flags c.args.link.now.index
     (option_map (λ n. n.now) c.args.link.now.name) (option_map view c.args.list)
-    (option_map string_bytes c.args.time) (list_there c.args.list c.requires.shallow c.requires.whole_numbers))
+    (option_map string_bytes c.args.time)
+    (list_there c.args.list c.requires.shallow c.requires.whole_numbers))
     c.message_value.ensures
 
 pub returns-clause-whole_numbers : goal.returns-clause-whole_numbers
@@ -16,5 +17,6 @@ returns-clause-whole_numbers c =
     value_whole 6 _ c.message_value.result
     (message_flat c.args.link.now.event c.args.link.now.flags c.args.link.now.index
     (option_map (λ n. n.now) c.args.link.now.name) (option_map view c.args.list)
-    (option_map string_bytes c.args.time) (list_there c.args.list c.requires.shallow c.requires.whole_numbers))
+    (option_map string_bytes c.args.time)
+    (list_there c.args.list c.requires.shallow c.requires.whole_numbers))
     c.message_value.ensures
