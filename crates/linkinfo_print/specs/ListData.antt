@@ -1,5 +1,22 @@
 -- A list of link info as JSON data.
-use Rattle.std.specs.Prelude.{◌==◌, ◌||◌, ℕ, Bool, false, if◌then◌else◌, List, [], ◌∷◌, Option, Some, None, Result, Ok, Err, codes}
+use Rattle.std.specs.Prelude.{
+  ◌==◌,
+  ◌||◌,
+  ℕ,
+  Bool,
+  false,
+  if◌then◌else◌,
+  List,
+  [],
+  ◌∷◌,
+  Option,
+  Some,
+  None,
+  Result,
+  Ok,
+  Err,
+  codes,
+}
 use Rattle.nla_frame.specs.Attribute.{Attribute, masked}
 use Rattle.nla_frame.specs.NlaItems.{nla_items}
 use Rattle.nla_frame.specs.Payload.{stripped}
@@ -23,7 +40,17 @@ use Rattle.linkinfo_view.specs.Text.{escaped_text, hex_data}
 use Rattle.linkinfo_view.specs.View.{attributes_data}
 use Rattle.linkinfo_view.specs.declared.format.Table.{Table}
 use Rattle.linkinfo_view.specs.declared.format.Table.TheVariants as table
-use Rattle.serde_json.specs.Data.{Data, array, number, object, string, unsigned, Members, no_members, put}
+use Rattle.serde_json.specs.Data.{
+  Data,
+  array,
+  number,
+  object,
+  string,
+  unsigned,
+  Members,
+  no_members,
+  put,
+}
 use Rattle.serde_json.specs.View.{items_of}
 use Rattle.std.specs.Option.{option_map}
 use Rattle.linkinfo_print.specs.MembersData.{put_some}

@@ -1,5 +1,23 @@
 -- What the words of a command line ask for.
-use Rattle.std.specs.Prelude.{ℕ, ◌+◌, true, false, if◌then◌else◌, bytes_eq, List, [], ◌∷◌, Some, None, unwrap_or, is_some, Result, Ok, Err, codes}
+use Rattle.std.specs.Prelude.{
+  ℕ,
+  ◌+◌,
+  true,
+  false,
+  if◌then◌else◌,
+  bytes_eq,
+  List,
+  [],
+  ◌∷◌,
+  Some,
+  None,
+  unwrap_or,
+  is_some,
+  Result,
+  Ok,
+  Err,
+  codes,
+}
 use Rattle.linkinfo_print.specs.declared.options.Input.{Input}
 use Rattle.linkinfo_print.specs.declared.options.Input.TheVariants as input
 use Rattle.linkinfo_print.specs.declared.options.Options.{Options}
