@@ -19,10 +19,13 @@ def functions_that_require(source):
 
 class Root(unittest.TestCase):
     def test_calls_at_the_root_require_nothing(self):
-        text = (REPOSITORY / "rust/src/lib.rs").read_text(encoding="utf-8")
-        groups = re.findall(r"pub use [a-z_:]+\{([^}]*)\}", text)
-        names = {name for group in groups for name in re.findall(r"\w+", group)}
-        self.assertLessEqual({"check", "same", "canon", "canon_into", "VecLinkInfo"}, names)
+        names = set()
+        for file in ("lib.rs", "layers/messages/mod.rs"):
+            text = (REPOSITORY / "rust/src" / file).read_text(encoding="utf-8")
+            for group in re.findall(r"pub use [a-z_:]+::(\w+|\{[^}]*\});", text):
+                names |= set(re.findall(r"\w+", group))
+        known = {"check", "same", "canon", "canon_into", "VecLinkInfo", "message_len", "Capture"}
+        self.assertLessEqual(known, names)
         required = set()
         for crate in layout.LIBRARY:
             for file in (REPOSITORY / "crates" / crate / "src").rglob("*.rt"):

@@ -65,7 +65,7 @@ def library_paths(root):
     return {crate: f"{root}::layers::{module_of(crate)}" for crate in LIBRARY}
 
 
-# Names of which Rust's libraries have none, or one that does not report an allocation failure.
+# Names that Rust's libraries do not have, or that abort or panic there in place of an error.
 SHOW_PATHS = {
     "serde_json": "crate::compat::serde_json",
     "hex::encode": "crate::compat::hex",
