@@ -7,6 +7,7 @@ mod emission;
 mod flags;
 mod framing;
 mod kinds;
+mod messages;
 mod numbers;
 mod payload_numbers;
 mod payloads;

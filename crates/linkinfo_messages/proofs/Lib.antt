@@ -1,0 +1,6 @@
+pub mod Items
+pub mod Locating
+pub mod Slicing
+pub mod Linking
+pub mod Capturing
+pub mod Writing

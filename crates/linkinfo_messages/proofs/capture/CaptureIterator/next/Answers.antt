@@ -1,0 +1,53 @@
+use Rattle.std.proofs.Common.{arith}
+use Rattle.std.proofs.lemmas.List.{take_rest}
+use Rattle.linkinfo_messages.proofs.Capturing.{
+  record_room,
+  on_record,
+  on_error,
+  on_failed,
+  on_end,
+  progress,
+}
+use Rattle.linkinfo_messages.proofs.capture.CaptureIterator.next.Goals.{
+  then-self-via-then-self,
+  then-self-via-else-self+then-self-2,
+}
+use Rattle.linkinfo_messages.proofs.capture.CaptureIterator.next.Goals as goal
+
+pub returns-then-self-clause-steps : goal.returns-then-self-clause-steps
+returns-then-self-clause-steps c =
+    elim c.then-self.branch [
+      | then-self-via-then-self w ↦
+          rw (← c.self.view_is) (on_failed _ _ _ _ w.if-self.true)
+      | then-self-via-else-self+then-self-2 w ↦
+          rw (← c.self.view_is) (on_end _ _ _ _ w.if-self.false w.if-self-2.true)
+    ]
+
+pub overflow_add-self : goal.overflow_add-self
+overflow_add-self c =
+    omega (
+      arith,
+      record_room _ _ _ _ _ _ c.self.invariant
+          (take_rest c.self.inside.bytes.now c.self.inside.place) c.in-Ok.ensures,
+    )
+
+pub invariant_of-self : goal.invariant_of-self
+invariant_of-self c =
+    record_room _ _ _ _ _ _ c.self.invariant
+    (take_rest c.self.inside.bytes.now c.self.inside.place) c.in-Ok.ensures
+
+pub returns-in-Ok-clause-steps : goal.returns-in-Ok-clause-steps
+returns-in-Ok-clause-steps c =
+    rw (← c.self.view_is) (on_record _ _ _ _ _ _ _ c.if-self.false c.self.invariant
+    c.if-self-2.false (take_rest c.self.inside.bytes.now c.self.inside.place) c.in-Ok.ensures)
+
+pub returns-in-Ok-clause-goes : goal.returns-in-Ok-clause-goes
+returns-in-Ok-clause-goes c = progress _ _ _ (returns-in-Ok-clause-steps c)
+
+pub returns-in-Err-clause-steps : goal.returns-in-Err-clause-steps
+returns-in-Err-clause-steps c =
+    rw (← c.self.view_is) (on_error _ _ _ _ _ _ c.if-self.false c.self.invariant
+    c.if-self-2.false (take_rest c.self.inside.bytes.now c.self.inside.place) c.in-Err.ensures)
+
+pub returns-in-Err-clause-goes : goal.returns-in-Err-clause-goes
+returns-in-Err-clause-goes c = progress _ _ _ (returns-in-Err-clause-steps c)
