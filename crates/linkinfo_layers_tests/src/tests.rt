@@ -13,4 +13,5 @@ mod payload_numbers;
 mod payloads;
 mod rows;
 mod values;
+mod view;
 mod words;

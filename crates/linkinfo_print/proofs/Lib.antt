@@ -1,0 +1,5 @@
+pub mod Flags
+pub mod JsonFlat
+pub mod PlainBytes
+pub mod Shows
+pub mod Writing

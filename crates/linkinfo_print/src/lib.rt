@@ -1,0 +1,24 @@
+//! Lists of link info for people: as JSON, as text, and where two differ.
+#![tactic(auto)]
+
+mod compare;
+mod inline;
+mod list;
+mod members;
+mod message;
+mod options;
+mod plain;
+mod print;
+mod report;
+mod streams;
+mod text;
+
+pub use crate::compare::{Pair, PairError, Question, difference_json, unmet_json};
+pub use crate::list::{ListError, list_json, port_table_of, table_of};
+pub use crate::message::{flags_json, message_json};
+pub use crate::options::{Input, Options, Request, request_of};
+pub use crate::plain::PlainText;
+pub use crate::print::{MOST_BYTES, Printer};
+pub use crate::report::{Printed, Report};
+pub use crate::streams::{RunError, run};
+pub use crate::text::{push_list, push_message, push_pair};

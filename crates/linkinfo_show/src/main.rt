@@ -1,0 +1,93 @@
+//! Prints lists of link info for people: in hex on lines, in netlink messages, or in a capture.
+#![tactic(auto)]
+
+use linkinfo_print::{Options, Request, request_of, run};
+use std::process::ExitCode;
+use std::{env, io};
+
+/// The version of the program.
+const VERSION: &str = "linkinfo_show 0.1";
+
+/// What `--help` prints.
+const HELP: &str = "\
+Usage: linkinfo_show [--json] [--messages | --pcap | --diff | --unmet] <INPUT
+
+Prints the contents of IFLA_LINKINFO, the kind of a network link and its attributes.
+
+Input:
+                 a list in hex on each line, '-' for one without attributes
+  --messages     messages of a netlink socket, as recv returns them
+  --pcap         a capture of an nlmon device, in the format of pcap
+  --diff         two lists in hex on each line: where they differ first
+  --unmet        two lists in hex on each line: what of the second the first
+                 does not meet
+
+Output:
+  --json         one JSON object on a line, instead of text
+
+  --help         prints this
+  --version      prints the version
+
+Errors are written to standard error. The status is 0 if all of the input was
+accepted, 1 if some of it was not, and 2 for a usage error and where reading,
+writing or an allocation failed.
+";
+
+/// The status where the run itself failed.
+const FAILED: u8 = 2;
+
+/// What `main` does after the words of the command line.
+fn show(rt: &HostRuntime, options: Options) -> io::Result<ExitCode> {
+    match run(
+        rt.alloc(),
+        options,
+        &mut rt.stdin(),
+        &mut rt.stdout(),
+        &mut rt.stderr(),
+    ) {
+        Ok(true) => Ok(ExitCode::SUCCESS),
+        Ok(false) => Ok(ExitCode::FAILURE),
+        Err(error) => {
+            eprintln!(rt; "linkinfo_show: {error}")?;
+            Ok(ExitCode::from(FAILED))
+        }
+    }
+}
+
+/// The words of the command line after the program's name.
+fn words(rt: &HostRuntime) -> io::Result<Vec<String>> {
+    let mut words = Vec::new(rt.alloc());
+    for word in env::args(rt)?.skip(1) {
+        words.push(word)?;
+    }
+    Ok(words)
+}
+
+fn answer(rt: &HostRuntime) -> io::Result<ExitCode> {
+    let words = words(rt)?;
+    match request_of(&words) {
+        Ok(Request::Run(options)) => show(rt, options),
+        Ok(Request::Help) => {
+            print!(rt; "{HELP}")?;
+            Ok(ExitCode::SUCCESS)
+        }
+        Ok(Request::Version) => {
+            println!(rt; "{VERSION}")?;
+            Ok(ExitCode::SUCCESS)
+        }
+        Err(index) => {
+            let word = words.get(index).map_or("", String::as_str);
+            eprintln!(rt; "linkinfo_show: '{word}' is no option, or one too many; try --help")?;
+            Ok(ExitCode::from(FAILED))
+        }
+    }
+}
+
+/// Returns status 0 where all of the input was accepted, 1 where some of it was not, and 2 for a
+/// usage error and where reading, writing or an allocation failed.
+fn main(rt: HostRuntime) -> ExitCode {
+    match answer(&rt) {
+        Ok(code) => code,
+        Err(_) => ExitCode::from(FAILED),
+    }
+}

@@ -1,0 +1,6 @@
+pub mod Flat
+pub mod Kept
+pub mod Meant
+pub mod Places
+pub mod Printable
+pub mod Rows
