@@ -4,7 +4,6 @@ use Rattle.std.proofs.Common.{
   ℕ,
   List,
   [],
-  ◌∷◌,
   ◌++◌,
   Option,
   Some,
@@ -119,12 +118,12 @@ others_end u t before whole moves so_far =
     sym (append-nil before) ∙ ap (λ items. before ++ others_in items) (sym moves.gives.0) ∙ so_far
 
 -- the object of all attributes is the list's
-pub list_is : (s : List ℕ) (members : Members) (others : List Data) →
-    members ≡ members_on no_members no_kinds (items_left (link_walk s)) →
-    others ≡ others_in (items_left (link_walk s)) →
-    object (with_others others members) ≡ list_data s
+pub list_is : (s : List ℕ) (shown : Members) (rest : List Data) →
+    shown ≡ members_on no_members no_kinds (items_left (link_walk s)) →
+    rest ≡ others_in (items_left (link_walk s)) →
+    object (with_others rest shown) ≡ list_data s
 unfolding list_data
-list_is s members others m o =
-    ap (λ (ms : Members). object (with_others others ms)) m
+list_is s shown rest m o =
+    ap (λ (ms : Members). object (with_others rest ms)) m
     ∙ ap (λ (ds : List Data). object (with_others ds
     (members_on no_members no_kinds (items_left (link_walk s))))) o

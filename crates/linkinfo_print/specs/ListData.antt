@@ -1,6 +1,5 @@
 -- A list of link info as JSON data.
 use Rattle.std.specs.Prelude.{
-  ◌≡◌,
   ◌==◌,
   ◌||◌,
   ℕ,
@@ -17,7 +16,6 @@ use Rattle.std.specs.Prelude.{
   Ok,
   Err,
   codes,
-  is_some,
 }
 use Rattle.nla_frame.specs.Attribute.{Attribute, masked}
 use Rattle.nla_frame.specs.NlaItems.{nla_items}
@@ -50,7 +48,6 @@ use Rattle.serde_json.specs.Data.{
   string,
   unsigned,
   Members,
-  member,
   no_members,
   put,
 }

@@ -2,7 +2,6 @@
 use Rattle.std.specs.Prelude.{
   ℕ,
   ◌+◌,
-  Bool,
   true,
   false,
   if◌then◌else◌,
@@ -10,7 +9,6 @@ use Rattle.std.specs.Prelude.{
   List,
   [],
   ◌∷◌,
-  Option,
   Some,
   None,
   unwrap_or,

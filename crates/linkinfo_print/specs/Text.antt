@@ -1,7 +1,6 @@
 -- JSON data as text for people.
 use Rattle.std.specs.Prelude.{
   ℕ,
-  ◌+◌,
   Bool,
   true,
   false,
@@ -15,7 +14,6 @@ use Rattle.std.specs.Prelude.{
   Some,
   None,
   codes,
-  replicate,
 }
 use Rattle.serde_json.specs.Data.{
   Data,
