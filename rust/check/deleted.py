@@ -83,19 +83,23 @@ def deleted_drop(words, at):
 
 # The allocator, and the runtime of tests and of the program, with the types of their parameters.
 HANDED = ("alloc", "_alloc", "rt", "_rt")
-TYPES = [[":", "Global"], [":", "ident"], [":", "HostRuntime"], [":", "&", "impl", "Abort"]]
+TYPES = [
+    *([":", "Global"], [":", "ident"], [":", "HostRuntime"], [":", "&", "HostRuntime"]),
+    [":", "&", "impl", "Abort"],
+]
 
 
 def deleted_argument(words, at):
-    """A parameter `alloc: Global`, `rt: HostRuntime` or like these; an argument `alloc`, `&rt` or
-    `rt.alloc()`; the first one of a macro, `rt;`."""
+    """A parameter or a field `alloc: Global`, `rt: HostRuntime` or like these; an argument `alloc`,
+    `self.alloc`, `&rt` or `rt.alloc()`; the first one of a macro, `rt;`."""
     start, end = at - (words[at - 1].text in ("$", "&")), at + 1
+    start -= 2 * (texts(words, at - 2, 3) == ["self", ".", "alloc"])
     end += next((len(of) for of in TYPES if texts(words, end, len(of)) == of), 0)
     end += 4 * (texts(words, end, 4) == [".", "alloc", "(", ")"])
     before, after = words[start - 1].text, words[end].text
     if (before, after) == ("(", ";"):
         return "allocator or runtime", start, end + 1
-    if before not in ("(", ",") or after not in (",", ")"):
+    if before not in ("(", ",", "{") or after not in (",", ")"):
         return None
     start -= after == ")" and before == ","
     return "allocator or runtime", start, end + (after == ",")

@@ -58,6 +58,13 @@ impl<T> From<AllocFailed<T>> for AllocError {
     }
 }
 
+#[cfg(feature = "std")]
+impl<T> From<AllocFailed<T>> for std::io::Error {
+    fn from(_: AllocFailed<T>) -> std::io::Error {
+        std::io::Error::from(AllocError)
+    }
+}
+
 /// The calls of `Vec` that allocate, each with a `Result`.
 pub trait TryVec<T>: Sized {
     /// An empty `Vec` with room for this many items.
@@ -182,30 +189,41 @@ impl ToUnsigned for i32 {
     }
 }
 
-/// The number in 16 bits.
-///
-/// # Panics
-///
-/// Panics where it does not fit: where a caller broke a condition by which it does.
-#[inline(always)]
-pub fn narrow_u16<T: TryInto<u16>>(number: T) -> u16 {
-    match number.try_into() {
-        Ok(number) => number,
-        Err(_) => panic!("a number that does not fit into 16 bits"),
+/// The number of the same 32 bits: `u32::cast_signed`, which Rust has since 1.87.
+pub trait ToSigned {
+    /// The number with a sign.
+    fn to_signed(self) -> i32;
+}
+
+impl ToSigned for u32 {
+    #[inline(always)]
+    fn to_signed(self) -> i32 {
+        self as i32
     }
 }
 
-/// The number in 8 bits.
-///
-/// # Panics
-///
-/// Panics where it does not fit: where a caller broke a condition by which it does.
-#[inline(always)]
-pub fn narrow_u8<T: TryInto<u8>>(number: T) -> u8 {
-    match number.try_into() {
-        Ok(number) => number,
-        Err(_) => panic!("a number that does not fit into 8 bits"),
-    }
+/// Checked casts to fewer bits.
+macro_rules! narrow {
+    ($($name:ident, $kind:ty, $bits:literal;)*) => {$(
+        #[doc = concat!("The number in ", $bits, " bits.")]
+        ///
+        /// # Panics
+        ///
+        /// Panics where it does not fit: where a caller broke a condition by which it does.
+        #[inline(always)]
+        pub fn $name<T: TryInto<$kind>>(number: T) -> $kind {
+            match number.try_into() {
+                Ok(number) => number,
+                Err(_) => panic!(concat!("a number that does not fit into ", $bits, " bits")),
+            }
+        }
+    )*};
+}
+
+narrow! {
+    narrow_u32, u32, "32";
+    narrow_u16, u16, "16";
+    narrow_u8, u8, "8";
 }
 
 /// Zeros in place of the bytes, as `fill(0)`: without a call for the few bytes of a padding.

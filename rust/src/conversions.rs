@@ -1,5 +1,6 @@
 //! Conversions and views by the traits of Rust's library. Each is one call of translated code.
 
+use crate::layers::messages::{Capture, LinkMessages};
 use crate::layers::nla_frame::NlasIterator;
 use crate::{
     Bytes, DecodeError, ErrorIn, LinkInfoOf, LinkInfoWalk, LinkPeer, Nlas, Text, ToVecError,
@@ -116,6 +117,10 @@ impl AsRef<[u8]> for Bytes {
     }
 }
 
+impl FusedIterator for Capture<'_> {}
+
 impl FusedIterator for LinkInfoWalk<'_> {}
+
+impl FusedIterator for LinkMessages<'_> {}
 
 impl FusedIterator for NlasIterator<'_> {}

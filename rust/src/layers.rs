@@ -23,6 +23,7 @@ pub mod data;
 pub mod devices;
 pub mod link;
 pub mod lower;
+pub mod messages;
 pub mod names;
 pub mod nla_frame;
 pub mod numbers;

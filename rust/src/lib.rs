@@ -8,6 +8,7 @@
 //!   [`first_difference`] where two lists differ first.
 //! - [`canon`] and [`canon_into`] write the canonical encoding of the list that an encoding means.
 //! - [`LinkInfoWalk`] iterates over the borrowed attributes.
+//! - [`messages`] finds link info in the bytes of a netlink socket, and in captures of it.
 //!
 //! The calls at the root accept every input. Those in [`layers`] are for authors of a family of
 //! attributes or of a peer: many of them have conditions for their caller, and panic where one does
@@ -24,6 +25,27 @@
 //! assert_eq!(check(&bytes), Ok(()));
 //! assert_eq!(VecLinkInfo::try_from(bytes.as_slice())?, list);
 //! # Ok::<(), Box<dyn std::error::Error>>(())
+//! ```
+//!
+//! The links in the bytes of a netlink socket, here of one message:
+//!
+//! ```
+//! use linkinfo::messages::{LinkEvent, LinkMessages};
+//!
+//! let received = [
+//!     // struct nlmsghdr: length 44, RTM_NEWLINK
+//!     44, 0, 0, 0, 16, 0, 0, 0, 0, 0, 0, 0, 0, 0, 0, 0,
+//!     // struct ifinfomsg: index 7, IFF_UP
+//!     0, 0, 1, 0, 7, 0, 0, 0, 1, 0, 0, 0, 0, 0, 0, 0,
+//!     // IFLA_LINKINFO (18), with IFLA_INFO_KIND (1) "vrf"
+//!     12, 0, 18, 0, 8, 0, 1, 0, b'v', b'r', b'f', 0,
+//! ];
+//! for link in LinkMessages::new(&received) {
+//!     let link = link?;
+//!     assert_eq!((link.event, link.index, link.flags), (LinkEvent::New, 7, 1));
+//!     assert_eq!(link.info.map(|info| linkinfo::check(info.bytes)), Some(Ok(())));
+//! }
+//! # Ok::<(), linkinfo::messages::MessageError>(())
 //! ```
 //!
 //! Most of the crate is translated from sources that are proved against their contracts. The crate
@@ -75,6 +97,7 @@ pub use layers::link::{
 pub use layers::lower::{
     InfoBond, InfoBondPort, InfoBridge, InfoBridgePort, InfoCan, InfoDsa, InfoHsr, InfoVlan,
 };
+pub use layers::messages;
 pub use layers::names::{Explanation, attribute_name};
 pub use layers::nla_frame::{
     Bytes, Cause, DecodeError, DefaultNla, Family, Nlas, Text, ToVecError,

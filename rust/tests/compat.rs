@@ -2,7 +2,8 @@
 
 use linkinfo::AllocError;
 use linkinfo::compat::{
-    FillZeros, NextMultiple, ToUnsigned, TryFromText, TryToVec, TryVec, narrow_u8, narrow_u16,
+    FillZeros, NextMultiple, ToSigned, ToUnsigned, TryFromText, TryToVec, TryVec, narrow_u8,
+    narrow_u16, narrow_u32,
 };
 use std::error::Error;
 use std::io;
@@ -29,8 +30,11 @@ fn multiples_of_four() {
 fn numbers_that_fit() {
     assert_eq!((narrow_u8(255_usize), narrow_u8(0_u32)), (255, 0));
     assert_eq!((narrow_u16(65_535_usize), narrow_u16(0_u64)), (65_535, 0));
+    assert_eq!(narrow_u32(4_294_967_295_usize), 4_294_967_295);
     assert_eq!((-1_i32).to_unsigned(), 4_294_967_295);
     assert_eq!(i32::MIN.to_unsigned(), 2_147_483_648);
+    assert_eq!(4_294_967_295_u32.to_signed(), -1);
+    assert_eq!(2_147_483_648_u32.to_signed(), i32::MIN);
 }
 
 #[test]
@@ -43,6 +47,12 @@ fn number_above_8_bits() {
 #[should_panic(expected = "16 bits")]
 fn number_above_16_bits() {
     narrow_u16(65_536_usize);
+}
+
+#[test]
+#[should_panic(expected = "32 bits")]
+fn number_above_32_bits() {
+    narrow_u32(4_294_967_296_usize);
 }
 
 #[test]

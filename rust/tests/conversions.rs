@@ -1,6 +1,7 @@
 //! The traits of Rust's library, each compared with the call that it makes, or with the format.
 
 use linkinfo::layers::nla_frame::NlaBuffer;
+use linkinfo::messages::{Capture, CaptureFormat, LinkMessages};
 use linkinfo::{
     Bytes, Cause, DecodeError, Family, GreIOFlags, InfoData, InfoKind, InfoVxlan, Ip6TunnelFlags,
     IpVlanFlags, LinkInfo, LinkInfoWalk, Nlas, RmNetFlags, Text, ToVecError, VecLinkInfo, check,
@@ -76,15 +77,34 @@ fn errors_are_displayed() {
     );
     let unfit: Box<dyn Error> = ToVecError::Unfit.into();
     assert_eq!(unfit.to_string(), "unfit");
+    let message: Option<Box<dyn Error>> = LinkMessages::new(&[0; 15])
+        .next()
+        .and_then(|link| Some(link.err()?.into()));
+    assert_eq!(
+        message.map(|error| error.to_string()).as_deref(),
+        Some("message at offset 0: its header is cut short")
+    );
+    let capture: Box<dyn Error> = Capture::new(&[0; 23]).unwrap_err().into();
+    assert_eq!(capture.to_string(), "capture file: its header is cut short");
 }
 
-/// A walk yields each attribute, and then stays at its end.
+/// A walk yields each attribute, and the other iterators one error; then each stays at its end.
 #[test]
-fn walks_are_fused() {
+fn iterators_are_fused() {
     let mut walk = LinkInfoWalk::new(&VXLAN);
     let places: Vec<usize> = walk.by_ref().map(|item| item.unwrap().place).collect();
     assert_eq!(places, [0, 12]);
     assert_eq!((walk.next(), walk.next()), (None, None));
+    let mut links = LinkMessages::new(&[0; 15]);
+    assert!(links.next().is_some_and(|link| link.is_err()));
+    assert_eq!((links.next(), links.next()), (None, None));
+    let format = CaptureFormat {
+        big_endian: false,
+        nanoseconds: false,
+    };
+    let mut records = format.records(&[0; 15]);
+    assert!(records.next().is_some_and(|record| record.is_err()));
+    assert_eq!((records.next(), records.next()), (None, None));
 }
 
 #[test]

@@ -214,6 +214,8 @@ fn tried(rt: HostRuntime, case: Case) {
     with(case, alloc);
 }
 fn parsed(rt: &impl Abort, alloc: Global, case: &Case) -> bool { case.is(rt) }
+struct Held { alloc: Global, len: u8 }
+fn held(rt: &HostRuntime) -> Held { Held { alloc, len: of(self.alloc, x) } }
 """
         crate = """
 struct Case;
@@ -223,6 +225,8 @@ fn tried(case: Case) {
     with(case);
 }
 fn parsed(case: &Case) -> bool { case.is() }
+struct Held { len: u8 }
+fn held() -> Held { Held { len: of(x) } }
 """
         self.assertEqual(wrong_in(CRATE + crate, SOURCE + source), [])
         dropped = crate.replace("    assert!(parsed(&case));\n", "")

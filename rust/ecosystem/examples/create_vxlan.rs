@@ -4,7 +4,7 @@
 use linkinfo::{InfoData, InfoKind, InfoVxlan, LinkInfo, VecLinkInfo};
 use linkinfo_ecosystem::link_info;
 use netlink_packet_core::{
-    DefaultNla, NLM_F_CREATE, NLM_F_EXCL, NLM_F_REQUEST, NetlinkMessage, NetlinkPayload, Parseable,
+    DefaultNla, NLM_F_CREATE, NLM_F_EXCL, NLM_F_REQUEST, NetlinkMessage, NetlinkPayload,
 };
 use netlink_packet_route::RouteNetlinkMessage;
 use netlink_packet_route::link::{LinkAttribute, LinkMessage};
@@ -47,8 +47,8 @@ pub fn main() -> Result<(), Box<dyn Error>> {
     ]);
     let bytes = create_vxlan("vx42", &list)?;
     println!("{} bytes for the socket", bytes.len());
-    let attribute = link_info(&bytes)?.ok_or("no IFLA_LINKINFO")?;
-    assert_eq!(<VecLinkInfo as Parseable<_>>::parse(&attribute)?, list);
+    let contents = link_info(&bytes)?.ok_or("no IFLA_LINKINFO")?;
+    assert_eq!(VecLinkInfo::parse(contents)?, list);
     println!("read back: {list:?}");
     println!(
         "as netlink-packet-route reads it: {:?}",

@@ -8,8 +8,8 @@ use std::error::Error;
 /// The first wanted attribute that the link of the message does not meet; an error where the link
 /// info of the message is rejected or missing.
 pub fn first_missing(message: &[u8], wanted: &[u8]) -> Result<Option<Unmet>, Box<dyn Error>> {
-    let attribute = link_info(message)?.ok_or("no IFLA_LINKINFO")?;
-    Ok(first_unmet(attribute.value(), wanted)?)
+    let received = link_info(message)?.ok_or("no IFLA_LINKINFO")?;
+    Ok(first_unmet(received, wanted)?)
 }
 
 /// An xfrm interface as a kernel sends it: `struct nlmsghdr`, `struct ifinfomsg`, the name, and

@@ -6,6 +6,7 @@ mod create_vxlan;
 #[path = "../examples/received.rs"]
 mod received;
 
+use linkinfo::messages::MessageCause;
 use linkinfo::{
     DefaultNla as Opaque, Family, InfoData, InfoKind, InfoVxlan, LinkInfo, ToVecError, Unmet,
     VecLinkInfo,
@@ -115,7 +116,7 @@ fn netlink_packet_route_reads_what_is_sent() {
         ]),
     ];
     assert_eq!(attributes, wanted);
-    assert_eq!(link_info(&bytes).unwrap().unwrap().into_inner(), VXLAN);
+    assert_eq!(link_info(&bytes), Ok(Some(&VXLAN[4..])));
 }
 
 #[test]
@@ -144,8 +145,16 @@ fn received_link_info_is_checked_and_compared() {
 
 #[test]
 fn messages_without_link_info() {
-    let none = |message: &[u8]| link_info(message).unwrap().is_none();
-    assert!(none(&received::MESSAGE[..32]) && none(&received::MESSAGE[..40]));
-    assert!(link_info(&received::MESSAGE[..31]).is_err());
-    assert!(link_info(&received::MESSAGE[..42]).is_err());
+    let mut message = received::MESSAGE;
+    for (length, cause) in [
+        (32, None),
+        (40, None),
+        (31, Some(MessageCause::LinkHeader(31))),
+        (42, Some(MessageCause::Attribute(40))),
+        (77, Some(MessageCause::Long(77))),
+    ] {
+        message[0] = length;
+        let found = link_info(&message[..usize::from(length).min(76)]).map_err(|error| error.cause);
+        assert_eq!(found, cause.map_or(Ok(None), Err), "{length}");
+    }
 }

@@ -4,6 +4,7 @@
     unused_imports,
     clippy::manual_next_back,
     clippy::manual_range_contains,
+    clippy::needless_lifetimes,
     clippy::type_complexity,
     reason = "the text is that of the sources' tests"
 )]

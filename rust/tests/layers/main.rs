@@ -1,14 +1,22 @@
-//! Tests of `layers::nla_frame`, `layers::numbers` and `layers::shapes`, the layers below the
-//! families, by their public calls alone.
+//! Tests of `layers::nla_frame`, `layers::numbers`, `layers::shapes` and `linkinfo_view`, the
+//! crates below the families, by their public calls alone.
 
 #![allow(
     unused_imports,
     clippy::manual_next_back,
     clippy::manual_range_contains,
+    clippy::needless_lifetimes,
     clippy::type_complexity,
     reason = "the text is that of the sources' tests"
 )]
 
+#[macro_use]
+#[allow(dead_code, unused_imports, unused_macros)]
+#[path = "../../show/src/compat.rs"]
+mod compat;
+#[allow(dead_code, unused_imports, unused_macros)]
+#[path = "../../show/src/linkinfo_view/mod.rs"]
+mod linkinfo_view;
 #[macro_use]
 #[allow(dead_code, unused_imports, unused_macros)]
 #[path = "../support/mod.rs"]

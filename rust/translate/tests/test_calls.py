@@ -22,6 +22,11 @@ class Allocator(RuleTest):
             "fn f(a: u8) {} fn g() {} struct A { c: u8 } macro_rules! h { ($d:ident) => {} } "
             "fn main() {}",
         )
+        self.assert_written(
+            allocator.delete_arguments,
+            "fn f(rt: &HostRuntime, a: u8) { A { alloc, a }; b(self.alloc) }",
+            "fn f(a: u8) { A { a }; b() }",
+        )
 
     def test_others_stay(self):
         self.assert_kept(
@@ -88,6 +93,32 @@ class Fallible(RuleTest):
             here=["push", "to_vec"],
             anywhere=["to_vec"]), "a.push(b)?; c.to_vec(alloc)?",
         )
+        self.assert_written(
+            self.rule(here=["push"]),
+            "fn f(a: &mut Vec<u8>, b: &mut Own) { a.push(1)?; b.push(2)?; self.a.push(3)?; } "
+            "fn g(a: &mut Own) { a.push(4)?; }",
+            "fn f(a: &mut Vec<u8>, b: &mut Own) { a.try_push(1)?; b.push(2)?; self.a.push(3)?; } "
+            "fn g(a: &mut Own) { a.push(4)?; }",
+        )
+
+    def test_texts_that_grow(self):
+        self.assert_written(
+            self.rule(), "a.push_str(b)?; c.push_str(d);", "a.try_push_str(b)?; c.push_str(d);"
+        )
+
+    def test_calls_of_json_and_hex(self):
+        self.assert_kept(
+            self.rule(),
+            "Map::new(alloc); Value::try_from_str(alloc, a)?; hex::encode(alloc, b)?",
+        )
+
+    def test_printing(self):
+        self.assert_written(
+            fallible.name_printing_macros,
+            'print!(rt; "a")?; println!(rt; "b")?; eprintln!(rt; "c")?; write!(f, "d")?',
+            'try_print!(rt; "a")?; try_println!(rt; "b")?; try_eprintln!(rt; "c")?; '
+            'write!(f, "d")?',
+        )
 
     def test_macros(self):
         self.assert_written(
@@ -109,6 +140,11 @@ class Casts(RuleTest):
             casts.check_casts,
             "f(a as u16, (b + 4) as u8)",
             "f(crate::compat::narrow_u16(a), crate::compat::narrow_u8(b + 4))",
+        )
+
+    def test_narrow_casts_of_another_package(self):
+        self.assert_written(
+            lambda source: casts.check_casts(source, "a::b"), "c as u8", "a::b::narrow_u8(c)"
         )
 
     def test_wide_casts_and_numbers_of_enums(self):
@@ -133,7 +169,18 @@ class Names(RuleTest):
 
     def test_newer_calls(self):
         self.assert_written(formatting.name_octets, "Ipv4Addr::from_octets(a)", "Ipv4Addr::from(a)")
-        self.assert_written(formatting.name_unsigned, "a.cast_unsigned()", "a.to_unsigned()")
+        self.assert_written(
+            formatting.name_signs,
+            "a.cast_unsigned(); b.cast_signed()",
+            "a.to_unsigned(); b.to_signed()",
+        )
+
+    def test_attributes_of_the_formatter(self):
+        self.assert_written(
+            formatting.name_formatter_attributes,
+            "#[rattlefmt::skip] const A: u8 = 1; rattlefmt(b)",
+            "#[rustfmt::skip] const A: u8 = 1; rattlefmt(b)",
+        )
 
     def test_zeros(self):
         self.assert_written(

@@ -63,5 +63,5 @@ class Package(unittest.TestCase):
         self.assertLessEqual(
             kinds,
             {"path", "import", "derive", "fallible call", "cast", "formatter", "octets"}
-            | {"unsigned", "zeros", "multiple", "inline", "flags", "panics", "docs"},
+            | {"sign", "zeros", "multiple", "inline", "flags", "panics", "docs"},
         )

@@ -55,6 +55,21 @@ class Paths(RuleTest):
         )
         self.assertEqual(self.written_in("linkinfo_tests", text), words(wanted))
 
+    def test_the_second_program(self):
+        text = (
+            "use crate::a; use serde_json::{Map, put}; use std::{env, io}; use hex::C; "
+            "use linkinfo::D; use linkinfo_view::E; use std::alloc::AllocError; hex::encode(f); "
+            "env::args()"
+        )
+        wanted = (
+            "use crate::linkinfo_print::a; use crate::compat::serde_json::{Map, put}; "
+            "use std::{env, io}; use hex::C; use linkinfo::layers::link::D; "
+            "use crate::linkinfo_view::E; use crate::compat::AllocError; "
+            "crate::compat::hex::encode(f); crate::compat::env::args()"
+        )
+        self.assertEqual(self.written_in("linkinfo_print", text), words(wanted))
+        self.assertEqual(self.written_in("linkinfo_show", "use crate::a;"), words("use crate::a;"))
+
     def test_each_crate_has_a_module_of_its_own(self):
         self.assertEqual(len(set(library_paths("crate").values())), len(LIBRARY))
 
@@ -94,6 +109,12 @@ class Imports(RuleTest):
         )
         self.assertEqual(words(source.text()), words(wanted))
 
+    def test_traits_of_calls_in_the_second_program(self):
+        for body, wanted in (("a.try_to_text()", "use crate::compat::calls::*; "), ("b()", "")):
+            source = Source(f"fn f() {{ {body} }}", "case")
+            imports.put_imports(source, place_of("linkinfo_print"))
+            self.assertEqual(words(source.text()), words(f"{wanted}fn f() {{ {body} }}"))
+
 
 class Macros(RuleTest):
     def test_what_nothing_expands_is_deleted(self):
@@ -114,7 +135,8 @@ class Known(RuleTest):
 
     def test_names_that_are_defined_or_in_the_vocabulary(self):
         self.check("fn f() { a.b(); C::d(); e!(); $g!(); !(h); x != y }", "b", "d", "e")
-        for text in ("a.b()", "C::d", "e!()", "a.b::<u8>()"):
+        self.check("0..b::c", "c")
+        for text in ("a.b()", "C::d", "e!()", "a.b::<u8>()", "0..a.b()"):
             with self.assertRaises(Unknown):
                 self.check(text)
 

@@ -13,6 +13,7 @@ TYPES = {
     ("Global",): "allocator",
     ("ident",): "allocator",
     ("&", "impl", "Abort"): "runtime",
+    ("&", "HostRuntime"): "runtime",
     ("HostRuntime",): "runtime",
 }
 BEFORE = ("(", "[", "{", ",", "|")

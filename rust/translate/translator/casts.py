@@ -26,7 +26,7 @@ def operand_start(source, end):
     return end - 1 if source.is_word(end - 1) and source.at(end - 2) not in (".", ":") else None
 
 
-def check_casts(source):
+def check_casts(source, compat="crate::compat"):
     """Puts in `narrow_u16(..)` for `.. as u16`, and its like."""
     in_macros = [k for body in macro_bodies(source) for k in body]
     for index in source.words():
@@ -40,7 +40,7 @@ def check_casts(source):
         start = operand_start(source, index)
         if kind not in CHECKED or start is None:
             raise source.unknown(index - 1, "a cast that no rule knows")
-        name = f"crate::compat::narrow_{kind}"
+        name = f"{compat}::narrow_{kind}"
         if source.at(start) == "(":
             source.put_before(start, name, "cast")
         else:

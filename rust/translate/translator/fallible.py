@@ -14,6 +14,9 @@ BY_PATH = {
     ("Vec", "from_array"): "try_from_array",
     ("String", "with_capacity"): "try_with_room",
     ("String", "from_str"): "try_from_text",
+    ("Map", "new"): "new",
+    ("Value", "try_from_str"): "try_from_str",
+    ("hex", "encode"): "encode",
 }
 BY_NAME = {"to_vec": "try_to_vec", "to_string": "try_to_text", "repeat": "try_repeat"}
 # Calls that grow what they are called on. Room for `push_reserved` was reserved before.
@@ -26,6 +29,9 @@ GROWING = {
     "clone": "try_clone",
 }
 IN_MACROS = ("vec", "format")
+PRINTING = ("print", "println", "eprint", "eprintln")
+# The types on which a crate with a method of the same name may call one of those.
+GROWN = ("Vec", "String")
 
 
 def path_before(source, index):
@@ -60,13 +66,36 @@ def name_allocating_calls(source, own):
             raise source.unknown(index, "an allocating call that no rule knows")
 
 
+def is_grown(source, index):
+    """Whether the name at the index is a parameter of its function, a `&mut` of such a type."""
+    name, at = source.at(index), index
+    if source.at(index - 1) == ".":
+        return False
+    while at > 0 and not (source.is_word(at, "fn") and source.is_word(at + 1)):
+        at -= 1
+    return any(
+        source.reads(k, name, ":", "&", "mut") and source.at(k + 4) in GROWN
+        for k in range(at, index)
+    )
+
+
 def name_growing_calls(source, own):
     """Methods of `Vec` and `String` that may allocate."""
     for index in source.words():
         name = source.at(index)
-        if source.at(index - 1) == "." and source.at(index + 1) == "(" and name in GROWING:
-            if name not in own.here:
-                rename(source, index, GROWING[name])
+        if source.at(index - 1) != "." or source.at(index + 1) != "(":
+            continue
+        if name in GROWING and (name not in own.here or is_grown(source, index - 2)):
+            rename(source, index, GROWING[name])
+        elif name == "push_str" and source.at(source.close(index + 1) + 1) == "?":
+            rename(source, index, "try_push_str")
+
+
+def name_printing_macros(source):
+    """`println!(rt; ..)` and its like give a `Result`."""
+    for index in source.words():
+        if source.at(index) in PRINTING and source.reads(index + 1, "!", "("):
+            source.replace(index, "try_" + source.at(index), "fallible call")
 
 
 def name_allocating_macros(source):

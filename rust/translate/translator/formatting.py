@@ -1,4 +1,4 @@
-"""Rust's forms of five things that its library has another way."""
+"""Rust's forms of six things that it or its library has another way."""
 
 
 def name_formatters(source):
@@ -22,11 +22,22 @@ def name_octets(source):
             source.replace(index, "from", "octets")
 
 
-def name_unsigned(source):
-    """`i32::cast_unsigned` is newer than the oldest compiler."""
+# Methods of integers that are newer than the oldest compiler, and those of `compat`.
+SIGNS = {"cast_unsigned": "to_unsigned", "cast_signed": "to_signed"}
+
+
+def name_signs(source):
+    """`i32::cast_unsigned` and `u32::cast_signed`: the number of the same bits."""
     for index in source.words():
-        if source.at(index) == "cast_unsigned" and source.at(index - 1) == ".":
-            source.replace(index, "to_unsigned", "unsigned")
+        if source.at(index) in SIGNS and source.at(index - 1) == ".":
+            source.replace(index, SIGNS[source.at(index)], "sign")
+
+
+def name_formatter_attributes(source):
+    """`#[rattlefmt::skip]` is for the formatter, which Rust calls `rustfmt`."""
+    for index in source.words():
+        if source.at(index) == "rattlefmt" and source.at(index - 1) == "[":
+            source.replace(index, "rustfmt", "layout")
 
 
 def name_zeros(source):

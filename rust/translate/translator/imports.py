@@ -15,11 +15,12 @@ METHODS = {
     "try_to_vec": "TryToVec",
     "try_from_text": "TryFromText",
     "to_unsigned": "ToUnsigned",
+    "to_signed": "ToSigned",
     "fill_zeros": "FillZeros",
     "next_multiple_of_four": "NextMultiple",
 }
-# Those that tests alone call; the module `support` has them all.
-IN_TESTS = {"try_clone", "try_to_text", "try_repeat"}
+# Those that tests and the second program alone call; a module of each has them all.
+IN_PROGRAMS = {"try_clone", "try_to_text", "try_repeat", "try_push_str", "try_from_str"}
 
 
 def use_items(source):
@@ -93,8 +94,8 @@ def delete_unused(source, traits):
 def imports_wanted(source, place):
     """The paths to import for the words of the file."""
     has = {source.at(k) for k in source.words()}
-    if place.support:
-        return [f"{place.support}::*"] if has & (set(METHODS) | IN_TESTS) else []
+    if place.glob:
+        return [place.glob] if has & (set(METHODS) | IN_PROGRAMS) else []
     wanted = [path for name, path in PRELUDE.items() if name in has and not place.hosted]
     traits = {trait for name, trait in METHODS.items() if name in has}
     return wanted + [f"{place.compat}::{trait}" for trait in sorted(traits)]

@@ -14,10 +14,13 @@ VOCABULARY = pathlib.Path(__file__).with_name("vocabulary.txt")
 # Words of Rattle alone, and names for which a rule exists.
 FOREIGN = {
     *("ghost", "requires", "ensures", "invariant", "final", "prove", "Global", "Model", "Abort"),
-    *("HostRuntime", "AllocGlobal", "cast_unsigned", "from_octets", "push_reserved", "from_array"),
+    *("HostRuntime", "AllocGlobal", "cast_unsigned", "cast_signed", "from_octets", "push_reserved"),
+    *("from_array", "rattlefmt"),
     *("rt", "_rt", "_alloc"),
 }
-ATTRIBUTES = {"inline", "derive", "repr", "macro_export", "cfg", "test", "error", "unsafe"}
+ATTRIBUTES = {
+    *("inline", "derive", "repr", "macro_export", "cfg", "test", "error", "unsafe", "rustfmt"),
+}
 DERIVES = {"Clone", "Copy", "Debug", "PartialEq", "Eq", "Hash", "Error"}
 DEFINING = ("fn", "const", "struct", "enum", "trait", "type", "mod", "static")
 
@@ -58,7 +61,7 @@ def defined(source):
 def called_names(source):
     """The indices of methods that are called, of macros, and of names after `::`."""
     for index in source.words():
-        method = source.at(index - 1) == "." and (
+        method = source.at(index - 1) == "." != source.at(index - 2) and (
             source.at(index + 1) == "(" or source.is_path(index + 1)
         )
         macro = (

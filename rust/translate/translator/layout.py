@@ -12,6 +12,7 @@ LIBRARY = (
     "linkinfo_numbers",
     "linkinfo_shapes",
     "linkinfo_names",
+    "linkinfo_messages",
     "linkinfo_table",
     "linkinfo_lower",
     "linkinfo_devices",
@@ -22,6 +23,9 @@ LIBRARY = (
 )
 LINES = "linkinfo_lines"
 TOOL = "linkinfo_tool"
+# The second program is a package of its own, with these libraries as its modules.
+SHOWN = ("linkinfo_view", "linkinfo_print")
+SHOW = "linkinfo_show"
 TESTS = {
     "linkinfo_layers_tests": "layers",
     "linkinfo_families_tests": "families",
@@ -33,8 +37,21 @@ TEST_ROOT = """#![allow(
     unused_imports,
     clippy::manual_next_back,
     clippy::manual_range_contains,
+    clippy::needless_lifetimes,
     clippy::type_complexity,
     reason = "the text is that of the sources' tests"
+)]"""
+SHOW_ROOT = """#![forbid(unsafe_code)]
+#![allow(
+    dead_code,
+    unused_imports,
+    reason = "the text is that of proved libraries, of which this program does not use every item"
+)]
+#![allow(
+    clippy::manual_map,
+    clippy::manual_range_contains,
+    clippy::needless_range_loop,
+    reason = "the text is that of the proved source, where these forms are the ones with proofs"
 )]"""
 
 
@@ -48,16 +65,36 @@ def library_paths(root):
     return {crate: f"{root}::layers::{module_of(crate)}" for crate in LIBRARY}
 
 
+# Names of which Rust's libraries have none, or one that does not report an allocation failure.
+SHOW_PATHS = {
+    "serde_json": "crate::compat::serde_json",
+    "hex::encode": "crate::compat::hex",
+    "env::args": "crate::compat::env",
+}
+
+
+def show_place(crate):
+    """How the paths of a crate of the second program are written."""
+    paths = library_paths("linkinfo") | {name: f"crate::{name}" for name in SHOWN} | SHOW_PATHS
+    own = "crate" if crate == SHOW else paths[crate]
+    glob = "crate::compat::calls::*"
+    return Place(own, paths, "crate::compat", hosted=True, checked=True, glob=glob)
+
+
 def place_of(crate):
     """How the paths of a crate are written."""
     if crate in LIBRARY:
         paths = library_paths("crate")
-        return Place(paths[crate], paths, "crate::compat")
-    paths = library_paths("linkinfo") | {LINES: f"crate::{LINES}"}
+        return Place(paths[crate], paths, "crate::compat", checked=True)
+    if crate in (*SHOWN, SHOW):
+        return show_place(crate)
+    paths = library_paths("linkinfo") | {name: f"crate::{name}" for name in (LINES, *SHOWN)}
     if crate == LINES:
         return Place(paths[LINES], paths, "linkinfo::compat", hosted=True)
-    support = "crate::support" if crate in TESTS else None
-    return Place("crate", paths, "linkinfo::compat", hosted=True, support=support)
+    if crate not in TESTS:
+        return Place("crate", paths, "linkinfo::compat", hosted=True)
+    support, glob = "crate::support", "crate::support::*"
+    return Place("crate", paths, "linkinfo::compat", hosted=True, support=support, glob=glob)
 
 
 def read_crate(repository, name):
@@ -118,12 +155,30 @@ def program_files(lines, tool):
     return files | {"examples/linkinfo/main.rs": main}
 
 
+def show_files(libraries, program):
+    """The package of the second program, but for `compat` and its tests."""
+    files = {}
+    for crate in libraries:
+        texts = written(crate, "mod.rs")
+        files |= {f"show/src/{crate.name}/{name}": text for name, text in texts.items()}
+    modules = [SHOW_ROOT, "", "#[macro_use]", "mod compat;", *(f"mod {name};" for name in SHOWN)]
+    modules += ["#[cfg(test)]", "mod tests;"]
+    main = with_modules(written(program, "main.rs")["main.rs"], modules)
+    return files | {"show/src/main.rs": main}
+
+
 def test_files(crate, target):
     """The tests of a crate, as one target of cargo."""
     texts = written(crate, "main.rs")
-    modules = [TEST_ROOT, "", "#[macro_use]", *mounted("support", "../support/mod.rs")]
+    support = ["#[macro_use]", *mounted("support", "../support/mod.rs")]
     if any(f"crate::{LINES}" in text for text in texts.values()):
-        modules += mounted(LINES, f"../../examples/linkinfo/{LINES}/mod.rs")
+        support += mounted(LINES, f"../../examples/linkinfo/{LINES}/mod.rs")
+    shown = [name for name in SHOWN if any(f"crate::{name}" in text for text in texts.values())]
+    # Macros of `compat` have the names of those of `support`, which are the tests' own: the later.
+    before = ["#[macro_use]", *mounted("compat", "../../show/src/compat.rs")] if shown else []
+    for name in shown:
+        before += mounted(name, f"../../show/src/{name}/mod.rs")
+    modules = [TEST_ROOT, "", *before, *support]
     texts["main.rs"] = with_modules(texts["main.rs"], modules)
     return {f"tests/{target}/{name}": text for name, text in texts.items()}
 
@@ -132,12 +187,13 @@ def package_files(repository):
     """Every generated file of the package, by its path below `rust`."""
     libraries = [read_crate(repository, name) for name in LIBRARY]
     library = Translation(libraries)
-    others = [read_crate(repository, name) for name in (LINES, TOOL, *TESTS)]
+    others = [read_crate(repository, name) for name in (LINES, TOOL, *TESTS, *SHOWN, SHOW)]
     rest = Translation(others, library)
     if dead := [old for old, _ in rest.sentences if old not in library.used | rest.used]:
         raise Unknown(f"sentences.txt: no doc comment has {dead[0]!r}")
     by_name = {crate.name: crate for crate in others}
     files = library_files(libraries) | program_files(by_name[LINES], by_name[TOOL])
+    files |= show_files([by_name[name] for name in SHOWN], by_name[SHOW])
     for name, target in TESTS.items():
         files |= test_files(by_name[name], target)
     return files

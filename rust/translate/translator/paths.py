@@ -17,18 +17,24 @@ HOMES = {
 
 
 class Place:
-    """Where a crate's text goes: `own` is written for `crate`, `crates` maps the others' names.
+    """Where a crate's text goes: `own` is written for `crate`, `crates` maps the others' names, or
+    the name of a crate in front of one item, as `hex` in `hex::encode`.
 
     `compat` is the module that replaces `std::alloc`; `support`, of tests, the one that replaces
-    `std::test`. With `hosted`, everything else is Rust's `std`.
+    `std::test`. With `hosted`, everything else is Rust's `std`. With `checked`, casts are. `glob`
+    is imported where a trait of those modules is called; without it, the trait is.
     """
 
-    def __init__(self, own, crates, compat, hosted=False, support=None):
+    def __init__(
+        self, own, crates, compat, hosted=False, support=None, checked=False, glob=None
+    ):
         self.own = own
         self.crates = crates
         self.compat = compat
         self.hosted = hosted
         self.support = support
+        self.checked = checked
+        self.glob = glob
 
 
 def std_group(source, index, place):
@@ -75,7 +81,10 @@ def name_paths(source, place):
         if not source.is_path(index + 1) or source.is_path(index - 2):
             continue
         name = source.at(index)
-        if name == "std":
+        item = f"{name}::{source.at(index + 3)}"
+        if item in place.crates:
+            source.replace(index, place.crates[item], "path")
+        elif name == "std":
             std_path(source, index, place)
         elif name == "crate" and source.at(index - 1) == "$":
             macro_path(source, index, place)

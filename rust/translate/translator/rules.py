@@ -31,14 +31,16 @@ def rewrite_calls(source, own, place):
     fallible.name_allocating_macros(source)
     fallible.name_allocating_calls(source, own)
     fallible.name_growing_calls(source, own)
+    fallible.name_printing_macros(source)
     allocator.delete_macro_runtime(source)
     allocator.name_streams(source)
     allocator.delete_arguments(source)
-    if not place.hosted:
-        casts.check_casts(source)
+    if place.checked:
+        casts.check_casts(source, place.compat)
     formatting.name_formatters(source)
     formatting.name_octets(source)
-    formatting.name_unsigned(source)
+    formatting.name_signs(source)
+    formatting.name_formatter_attributes(source)
     if not place.hosted:
         formatting.name_zeros(source)
         formatting.name_multiples(source)

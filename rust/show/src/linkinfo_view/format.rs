@@ -1,0 +1,228 @@
+//! Rows, and how the value of an attribute is shown.
+
+use linkinfo::layers::nla_frame::Family;
+use linkinfo::layers::shapes::Shape;
+
+/// Which rows apply to a list of attributes.
+#[derive(Clone, Copy, Debug, PartialEq, Eq)]
+pub enum Table {
+    /// The data or port data of a family. Of `Family::IpTunnel`, the rows of `ipip` links.
+    Family(Family),
+    /// The data of `sit` links.
+    Sit,
+    /// The data of `ip6tnl` links.
+    Ip6Tunnel,
+    /// The list in `IFLA_BOND_AD_INFO`.
+    BondAdInfo,
+    /// The list in `IFLA_BR_MCAST_QUERIER_STATE`.
+    BridgeQuerier,
+    /// The list in `IFLA_CAN_TDC` and `IFLA_CAN_XL_TDC`.
+    CanDelay,
+    /// The list in `IFLA_CAN_CTRLMODE_EXT`.
+    CanModes,
+    /// The list in `IFLA_CAN_XL_PWM`.
+    CanPulse,
+}
+
+impl Table {
+    /// The table of the data of a link of this kind, a name without its NUL: that of the family,
+    /// but one of their own for `sit` and `ip6tnl` links, which name flags and protocols in other
+    /// ways.
+    pub fn of_kind(family: Family, kind: &[u8]) -> Table {
+        match family {
+            Family::IpTunnel => Table::of_tunnel(kind),
+            _ => Table::Family(family),
+        }
+    }
+
+    /// The table of a kind of tunnels over IP.
+    fn of_tunnel(kind: &[u8]) -> Table {
+        if kind == b"sit".as_slice() {
+            Table::Sit
+        } else if kind == b"ip6tnl".as_slice() {
+            Table::Ip6Tunnel
+        } else {
+            Table::Family(Family::IpTunnel)
+        }
+    }
+}
+
+/// How the attributes of one type are shown.
+#[derive(Clone, Copy, Debug, PartialEq, Eq)]
+pub struct Row {
+    /// The member's name, as `ip -j` prints it.
+    pub name: &'static str,
+    /// The layout of the payload. That of the library's own rows is the same.
+    pub shape: Shape,
+    /// How the payload's value is shown.
+    pub format: Format,
+}
+
+/// How the value of a payload is shown. A payload that the shape rejects, or that the format does
+/// not take, is shown as hex, whatever the format.
+#[derive(Clone, Copy, Debug, PartialEq, Eq)]
+pub enum Format {
+    /// By the kind of its value: a number, a boolean, an address or a text; two numbers as `low`
+    /// and `high`; a flag that is set by its presence as null; other bytes as hex. Times are
+    /// numbers in the unit that the kernel sends, for bridges hundredths of a second.
+    Plain,
+    /// True, since it is there.
+    Present,
+    /// A number as a boolean, false for 0.
+    Switch,
+    /// A number in hex, after `0x`.
+    Hex,
+    /// A number in hex, after `0x`, but `0` for 0; and as the member `group_fwd_mask_str` after
+    /// `0x`, also for 0 (`IFLA_BR_GROUP_FWD_MASK`).
+    Mask,
+    /// A number of 16 bits as four hex digits, after `0x` (`IFLA_IPOIB_PKEY`).
+    KeyHex,
+    /// A number of 16 bits as four hex digits (`IFLA_IPOIB_UMCAST`).
+    FourDigits,
+    /// The bytes of the payload in hex, in their order (`IFLA_MACSEC_SCI`).
+    Octets,
+    /// Four bytes as an IPv4 address, of a number that is no address (`IFLA_GRE_IKEY`).
+    Quad,
+    /// A number by its name, or as a number where it has none.
+    Word(Words),
+    /// An address, or `any` for the unspecified one.
+    Address,
+    /// An address, named `group` if it is multicast and `remote` if not (`IFLA_VXLAN_GROUP`).
+    Group,
+    /// An address, named `group6` if it is multicast and `remote6` if not (`IFLA_VXLAN_GROUP6`).
+    Group6,
+    /// The traffic class (eight bits) and the flow label (20 bits) of a number in hex, as the
+    /// members `tclass` and `flowlabel`; and the whole number.
+    FlowInfo,
+    /// A boolean for each flag of a number, or of the first of two; and the numbers in hex.
+    Bits(Flags),
+    /// 0 or 1 for each flag that the second number, a mask, has; and both numbers in hex (`struct
+    /// br_boolopt_multi`).
+    Options(Flags),
+    /// The names of the flags that are set in the first of two numbers; flags without a name in
+    /// hex. The second, a mask, is a member of its own.
+    Names(Flags),
+    /// The same of the second number, and the first is the mask (`struct can_ctrlmode`).
+    SecondNames(Flags),
+    /// Eight bytes, a priority and a hardware address (`struct ifla_bridge_id`).
+    BridgeId,
+    /// The eight numbers of a `struct can_bittiming`.
+    BitTiming,
+    /// A nested list of attributes that are all alike.
+    List(Elements),
+    /// A nested list of attributes with rows of their own.
+    Nested(Table),
+}
+
+/// The attribute whose numbers have names.
+#[derive(Clone, Copy, Debug, PartialEq, Eq)]
+pub enum Words {
+    /// `IFLA_BOND_AD_SELECT`.
+    AdSelect,
+    /// `IFLA_AMT_MODE`.
+    AmtMode,
+    /// `IFLA_BOND_ARP_ALL_TARGETS`.
+    ArpAllTargets,
+    /// `IFLA_BOND_ARP_VALIDATE`.
+    ArpValidate,
+    /// `IFLA_BOND_MODE`.
+    BondMode,
+    /// `IFLA_BOND_SLAVE_STATE`.
+    BondPortState,
+    /// `IFLA_BRPORT_STATE`.
+    BridgePortState,
+    /// `IFLA_CAN_STATE`.
+    CanState,
+    /// `IFLA_MACSEC_CIPHER_SUITE`.
+    CipherSuite,
+    /// `IFLA_VXLAN_DF`.
+    Df,
+    /// `IFLA_GRE_ENCAP_TYPE`.
+    EncapType,
+    /// `IFLA_GRE_ERSPAN_DIR`.
+    ErspanDirection,
+    /// `IFLA_BAREUDP_ETHERTYPE`.
+    Ethertype,
+    /// `IFLA_BOND_FAIL_OVER_MAC`.
+    FailOverMac,
+    /// `IFLA_GTP_ROLE`.
+    GtpRole,
+    /// `IFLA_IPVLAN_MODE`.
+    IpVlanMode,
+    /// `IFLA_IPOIB_MODE`.
+    IpoibMode,
+    /// `IFLA_VXLAN_LABEL_POLICY`.
+    LabelPolicy,
+    /// `IFLA_BOND_AD_LACP_RATE`.
+    LacpRate,
+    /// `IFLA_MACVLAN_MACADDR_MODE`.
+    MacAddressMode,
+    /// `IFLA_MACSEC_OFFLOAD`.
+    MacSecOffload,
+    /// `IFLA_MACSEC_VALIDATION`.
+    MacSecValidation,
+    /// `IFLA_MACVLAN_MODE`.
+    MacVlanMode,
+    /// `IFLA_BOND_SLAVE_MII_STATUS`.
+    MiiStatus,
+    /// `IFLA_NETKIT_MODE`.
+    NetkitMode,
+    /// `IFLA_NETKIT_POLICY`.
+    NetkitPolicy,
+    /// `IFLA_NETKIT_SCRUB`.
+    NetkitScrub,
+    /// `IFLA_BOND_AD_LACP_ACTIVE`.
+    OffOn,
+    /// `IFLA_BOND_PRIMARY_RESELECT`.
+    PrimaryReselect,
+    /// `IFLA_VLAN_PROTOCOL`.
+    Protocol,
+    /// `IFLA_BOND_XMIT_HASH_POLICY`.
+    TransmitHash,
+    /// `IFLA_TUN_TYPE`.
+    TunType,
+    /// `IFLA_IPTUN_PROTO` of `ip6tnl` links.
+    Tunnel6Protocol,
+    /// `IFLA_IPTUN_PROTO` of `ipip` and `sit` links.
+    TunnelProtocol,
+    /// `IFLA_BR_VLAN_PROTOCOL`.
+    VlanProtocol,
+}
+
+/// The attribute whose bits have names.
+#[derive(Clone, Copy, Debug, PartialEq, Eq)]
+pub enum Flags {
+    /// `IFLA_BR_MULTI_BOOLOPT`.
+    BridgeOptions,
+    /// `IFLA_CAN_CTRLMODE`.
+    Can,
+    /// `IFLA_GRE_ENCAP_FLAGS`.
+    Encap,
+    /// `IFLA_GRE_IFLAGS`.
+    GreInput,
+    /// `IFLA_GRE_OFLAGS`.
+    GreOutput,
+    /// `IFLA_IPTUN_FLAGS` of `ip6tnl` links, `IFLA_GRE_FLAGS`.
+    Ip6Tunnel,
+    /// `IFLA_IPVLAN_FLAGS`.
+    IpVlan,
+    /// `IFLA_MACVLAN_FLAGS`.
+    MacVlan,
+    /// `IFLA_RMNET_FLAGS`.
+    RmNet,
+    /// `IFLA_IPTUN_FLAGS` of `sit` links.
+    Sit,
+    /// `IFLA_VLAN_FLAGS`.
+    Vlan,
+}
+
+/// What the attributes of a nested list are.
+#[derive(Clone, Copy, Debug, PartialEq, Eq)]
+pub enum Elements {
+    /// Hardware addresses of type 4 (`IFLA_MACVLAN_MACADDR_DATA`).
+    HardwareAddresses,
+    /// Addresses of types 0, 1, 2 .. (`IFLA_BOND_ARP_IP_TARGET`).
+    Addresses,
+    /// Pairs of priorities, of type 1 (`IFLA_VLAN_EGRESS_QOS`).
+    PriorityPairs,
+}

@@ -1,0 +1,81 @@
+//! An iterator over the link messages of a byte string.
+
+use crate::layers::messages::error::MessageError;
+use crate::layers::messages::link::{LinkMessage, link_of};
+use crate::layers::messages::message::message_at;
+
+/// Iterates over the link messages of a byte string, in order: those of type `RTM_NEWLINK` and
+/// `RTM_DELLINK`. Messages of other types are skipped.
+///
+/// The byte string is what `recv` returns from a netlink socket, or several of them concatenated.
+/// Each message advances the offset by its length, rounded up to a multiple of four
+/// (`NLMSG_ALIGN`), so the padding of the last message may be absent or cut short. The iterator
+/// yields one error at most, and ends after it.
+///
+/// Each header of a message, and each header of an attribute of a link message, is looked at once;
+/// a name only at its last byte, and no other payload at all.
+#[derive(Debug)]
+pub struct LinkMessages<'a> {
+    bytes: &'a [u8],
+    place: usize,
+    failed: bool,
+}
+
+impl<'a> LinkMessages<'a> {
+    /// An iterator that starts at offset 0 of the bytes. It yields at most one item per sixteen
+    /// bytes, and one more.
+    pub fn new(bytes: &'a [u8]) -> LinkMessages<'a> {
+        LinkMessages {
+            bytes,
+            place: 0,
+            failed: false,
+        }
+    }
+
+    /// The offset of the next message's header: after the last message, the number of bytes; after
+    /// an error, the offset of the rejected message.
+    pub fn place(&self) -> usize {
+        self.place
+    }
+}
+
+/// The first link message from an offset on, and the offset after it.
+fn next_link<'a>(
+    bytes: &'a [u8],
+    start: usize,
+) -> Result<Option<(LinkMessage<'a>, usize)>, MessageError> {
+    let mut place = start;
+    while place < bytes.len() {
+        let (message, len) = message_at(place, &bytes[place..])?;
+        place += len;
+        if let Some(link) = link_of(&message)? {
+            return Ok(Some((link, place)));
+        }
+    }
+    Ok(None)
+}
+
+impl<'a> Iterator for LinkMessages<'a> {
+    type Item = Result<LinkMessage<'a>, MessageError>;
+
+    fn next(&mut self) -> Option<Result<LinkMessage<'a>, MessageError>> {
+        if self.failed {
+            return None;
+        }
+        match next_link(self.bytes, self.place) {
+            Ok(None) => {
+                self.place = self.bytes.len();
+                None
+            }
+            Ok(Some((link, place))) => {
+                self.place = place;
+                Some(Ok(link))
+            }
+            Err(error) => {
+                self.place = error.place;
+                self.failed = true;
+                Some(Err(error))
+            }
+        }
+    }
+}
