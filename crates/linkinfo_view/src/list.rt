@@ -166,8 +166,8 @@ impl Nesting for AsList {
 /// attribute is the member `rest`, in hex. Both are absent where there is nothing to say.
 ///
 /// Every byte string has such an object: only memory can be missing. Each header is examined at
-/// most once for each row of the table, and once more: a search for a later attribute of a type ends
-/// at the next one, and there is none for a type without a row.
+/// most once for each row of the table, and once more: a search for a later attribute of a type
+/// ends at the next one, and there is none for a type without a row.
 #[tactic(auto, unfolding(crate::specs::View::attributes_data))]
 pub fn attributes_json(alloc: Global, table: Table, payload: &[u8]) -> Result<Value, AllocError>
     ensures shown { IfOk result (λ v. view v ≡ attributes_data table payload.now) }
