@@ -64,7 +64,6 @@ use Rattle.linkinfo_view.proofs.Flat.{
 use Rattle.linkinfo_view.specs.Text.{escaped_text, hex_data}
 use Rattle.linkinfo_view.specs.View.{attributes_data}
 use Rattle.linkinfo_view.specs.declared.format.Table.{Table}
-use Rattle.linkinfo_view.specs.declared.format.Table.TheVariants as table
 use Rattle.linkinfo_print.specs.ListData.{
   if_other,
   items_data,

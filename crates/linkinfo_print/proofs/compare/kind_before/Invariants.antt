@@ -1,4 +1,4 @@
-use Rattle.std.proofs.Common.{◌≡◌, length, take}
+use Rattle.std.proofs.Common.{◌≡◌, length}
 use Rattle.linkinfo_data.specs.Difference.{first_or}
 use Rattle.linkinfo.specs.Strings.{last_kind}
 use Rattle.linkinfo_view.specs.Attributes.{attributes}
