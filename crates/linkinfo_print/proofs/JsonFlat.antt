@@ -64,7 +64,6 @@ use Rattle.linkinfo_view.proofs.Flat.{
 use Rattle.linkinfo_view.specs.Text.{escaped_text, hex_data}
 use Rattle.linkinfo_view.specs.View.{attributes_data}
 use Rattle.linkinfo_view.specs.declared.format.Table.{Table}
-use Rattle.linkinfo_view.specs.declared.format.Table.TheVariants as table
 use Rattle.linkinfo_print.specs.ListData.{
   if_other,
   items_data,
@@ -104,7 +103,9 @@ use Rattle.linkinfo_print.specs.PairData.{
   offset_data,
   pair_data,
   second_key,
+  kind_before,
   side_data,
+  table_under,
 }
 use Rattle.linkinfo_print.specs.declared.compare.Pair.{Pair}
 use Rattle.linkinfo_print.specs.declared.compare.Question.{Question}
@@ -233,23 +234,25 @@ whole_flat (Some name) a =
     (role_flat (role_at no_kinds a) a.value) (none_flat 4))
 whole_flat None a = deeper 1 5 (other_data a) (lit≤ tt) (other_flat a)
 
-front_flat : (f : Family) (rest : List ℕ) (a : Attribute) → IsFlat 5 (front_data f rest a)
-front_flat family.LinkInfo rest a = whole_flat (member_name (masked a.kind)) a
-front_flat f rest a =
-    deeper 4 5 (attributes_data (table.Family f) (take (4 + length a.value) rest)) (lit≤ tt)
-    (attributes_flat (table.Family f) (take (4 + length a.value) rest))
+front_flat : (f : Family) (t : Table) (rest : List ℕ) (a : Attribute) →
+    IsFlat 5 (front_data f t rest a)
+front_flat family.LinkInfo t rest a = whole_flat (member_name (masked a.kind)) a
+front_flat f t rest a =
+    deeper 4 5 (attributes_data t (take (4 + length a.value) rest)) (lit≤ tt)
+    (attributes_flat t (take (4 + length a.value) rest))
 
 null_flat : (n : ℕ) → IsFlat n null
 null_flat n = record { within = omega arith; whole = refl }
 
-if_attribute_flat : (r : Result Attribute DecodeError) (f : Family) (rest : List ℕ) →
-    IsFlat 5 (if_attribute r (front_data f rest))
-if_attribute_flat (Ok a) f rest = front_flat f rest a
-if_attribute_flat (Err e) f rest = null_flat 5
+if_attribute_flat : (r : Result Attribute DecodeError) (f : Family) (t : Table) (rest : List ℕ) →
+    IsFlat 5 (if_attribute r (front_data f t rest))
+if_attribute_flat (Ok a) f t rest = front_flat f t rest a
+if_attribute_flat (Err e) f t rest = null_flat 5
 
 side_flat : (f : Family) (s : List ℕ) (offset : Option ℕ) → IsFlat 5 (side_data f s offset)
 side_flat f s None = null_flat 5
-side_flat f s (Some n) = if_attribute_flat (attribute_at (drop n s)) f (drop n s)
+side_flat f s (Some n) =
+    if_attribute_flat (attribute_at (drop n s)) f (table_under f (kind_before s n)) (drop n s)
 
 offset_flat : (n : ℕ) (offset : Option ℕ) → MaybeFlat n (offset_data offset)
 offset_flat n (Some k) = number_flat n k

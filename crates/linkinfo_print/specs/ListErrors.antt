@@ -22,6 +22,7 @@ IsErrorIn a b (side.Second e) = IsOk (reading bytes_peer a) × (reading bytes_pe
 
 -- the same of an error with its offsets; out of memory may come at any lists
 abbrev pub IsPairError : List ℕ → List ℕ → PairError → Type 0
-IsPairError a b (pair.First at) = IsErrorIn a b (side.First at.error)
-IsPairError a b (pair.Second at) = IsErrorIn a b (side.Second at.error)
+IsPairError a b (pair.First at) = IsErrorAt bytes_peer a at.error at.place at.inner
+IsPairError a b (pair.Second at) =
+    IsOk (reading bytes_peer a) × IsErrorAt bytes_peer b at.error at.place at.inner
 IsPairError a b pair.Memory = Unit {0}

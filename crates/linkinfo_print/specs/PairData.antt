@@ -26,13 +26,18 @@ use Rattle.nla_frame.specs.declared.error.Family.{Family}
 use Rattle.nla_frame.specs.declared.error.Family.TheVariants as family
 use Rattle.linkinfo_data.specs.declared.difference.Difference.{Difference}
 use Rattle.linkinfo_data.specs.declared.unmet.Unmet.{Unmet}
+use Rattle.linkinfo_numbers.specs.declared.tags.KindTag.{KindTag}
+use Rattle.linkinfo_numbers.specs.declared.tags.KindTag.TheVariants as kind
 use Rattle.linkinfo.specs.Roles.{no_kinds, role_at}
+use Rattle.linkinfo.specs.Strings.{last_kind}
 use Rattle.linkinfo_print.specs.ListData.{member_name, other_data, role_data}
 use Rattle.linkinfo_print.specs.MembersData.{put_some}
 use Rattle.linkinfo_print.specs.declared.compare.Pair.{Pair}
 use Rattle.linkinfo_print.specs.declared.compare.Question.{Question}
 use Rattle.linkinfo_print.specs.declared.compare.Question.TheVariants as question
+use Rattle.linkinfo_view.specs.Attributes.{attributes}
 use Rattle.linkinfo_view.specs.View.{attributes_data}
+use Rattle.linkinfo_view.specs.declared.format.Table.{Table}
 use Rattle.linkinfo_view.specs.declared.format.Table.TheVariants as table
 use Rattle.serde_json.specs.Data.{
   Data,
@@ -57,10 +62,20 @@ member_or_other None a = other_data a
 abbrev pub whole_data : Attribute → Data
 whole_data a = member_or_other (member_name (masked a.kind)) a
 
--- an attribute at the front of these bytes, as an object: of the list itself, or of a family
-abbrev pub front_data : Family → List ℕ → Attribute → Data
-front_data family.LinkInfo rest a = whole_data a
-front_data f rest a = attributes_data (table.Family f) (take (4 + length a.value) rest)
+-- the rows of a family under a kind: `sit` and `ip6tnl` links have rows of their own
+abbrev pub table_under : Family → Option KindTag → Table
+table_under family.IpTunnel (Some kind.SitTun) = table.Sit
+table_under family.IpTunnel (Some kind.Ip6Tnl) = table.Ip6Tunnel
+table_under f tag = table.Family f
+
+-- the kind before an offset: that of the last name in the attributes there
+abbrev pub kind_before : List ℕ → ℕ → Option KindTag
+kind_before s n = last_kind (attributes (take n s))
+
+-- an attribute at the front of these bytes, as an object: of the list itself, or by rows
+abbrev pub front_data : Family → Table → List ℕ → Attribute → Data
+front_data family.LinkInfo t rest a = whole_data a
+front_data f t rest a = attributes_data t (take (4 + length a.value) rest)
 
 abbrev pub if_attribute : Result Attribute DecodeError → (Attribute → Data) → Data
 if_attribute (Ok a) data_of = data_of a
@@ -69,7 +84,9 @@ if_attribute (Err e) data_of = null
 -- the attribute at an offset of a list, or `null`
 abbrev pub side_data : Family → List ℕ → Option ℕ → Data
 side_data f s None = null
-side_data f s (Some n) = if_attribute (attribute_at (drop n s)) (front_data f (drop n s))
+side_data f s (Some n) =
+    if_attribute (attribute_at (drop n s))
+    (front_data f (table_under f (kind_before s n)) (drop n s))
 
 -- ---- the answer
 

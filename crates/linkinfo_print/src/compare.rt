@@ -12,24 +12,27 @@ ghost use Rattle.linkinfo_print.specs.PairData.{
   answer_key,
   first_key,
   front_data,
+  kind_before,
   offset_data,
   pair_data,
   pair_of_difference,
   pair_of_unmet,
   second_key,
   side_data,
+  table_under,
   whole_data,
 };
+ghost use Rattle.linkinfo.specs.Placed.{IsErrorAt};
 ghost use Rattle.linkinfo_print.specs.ListErrors.{IsErrorIn, IsPairError};
 
 use crate::list::{TYPE_MASK, item_json, member_name, other_json};
 use crate::members::put_some;
 use linkinfo::{
-    DecodeError, Difference, ErrorAt, ErrorIn, LinkInfoItem, Unmet, check_at, first_difference,
-    first_unmet,
+    DecodeError, Difference, ErrorAt, ErrorIn, IFLA_INFO_KIND, KindTag, LinkInfoItem, Unmet,
+    check_at, first_difference, first_unmet, tag_of_name,
 };
-use linkinfo_view::{Table, attributes_json};
-use nla_frame::{Family, NlaBuffer};
+use linkinfo_view::{Table, attributes_json, first_attribute};
+use nla_frame::{Family, NlaBuffer, without_nul};
 use serde_json::{Map, Value, put};
 use std::alloc::{AllocError, Global};
 use thiserror::Error;
@@ -130,20 +133,47 @@ fn whole_json(alloc: Global, nla: &NlaBuffer<'_>) -> Result<Value, AllocError>
     }
 }
 
+/// The rows of a family under a kind: `sit` and `ip6tnl` links have rows of their own.
+fn table_under(family: Family, tag: Option<KindTag>) -> Table
+    ensures { result ≡ table_under family tag }
+{
+    match (family, tag) {
+        (Family::IpTunnel, Some(KindTag::SitTun)) => Table::Sit,
+        (Family::IpTunnel, Some(KindTag::Ip6Tnl)) => Table::Ip6Tunnel,
+        _ => Table::Family(family),
+    }
+}
+
+/// The kind before an offset of a list: that of the last `IFLA_INFO_KIND` there.
+fn kind_before(bytes: &[u8], offset: usize) -> Option<KindTag>
+    ensures { result ≡ kind_before bytes.now offset }
+{
+    let mut tag = None;
+    let mut rest = &bytes[..offset.min(bytes.len())];
+    while let Some((attribute, next)) = first_attribute(rest) {
+        if attribute.kind() == IFLA_INFO_KIND {
+            tag = Some(tag_of_name(without_nul(attribute.value())));
+        }
+        rest = next;
+    }
+    tag
+}
+
 /// An attribute at the front of these bytes as an object.
 fn front_json(
     alloc: Global,
     family: Family,
+    table: Table,
     rest: &[u8],
     nla: &NlaBuffer<'_>,
 ) -> Result<Value, AllocError>
-    ensures { IfOk result (λ v. view v ≡ front_data family rest.now nla.now) }
+    ensures { IfOk result (λ v. view v ≡ front_data family table rest.now nla.now) }
 {
     if family == Family::LinkInfo {
         return whole_json(alloc, nla);
     }
     let end = rest.len().min(nla.value().len() + 4);
-    attributes_json(alloc, Table::Family(family), &rest[..end])
+    attributes_json(alloc, table, &rest[..end])
 }
 
 /// The attribute at an offset of a list as an object, or `null`.
@@ -160,7 +190,10 @@ fn side_json(
     };
     let rest = &bytes[offset.min(bytes.len())..];
     match NlaBuffer::new_checked(rest) {
-        Ok(nla) => front_json(alloc, family, rest, &nla),
+        Ok(nla) => {
+            let table = table_under(family, kind_before(bytes, offset));
+            front_json(alloc, family, table, rest, &nla)
+        }
         Err(_) => Ok(Value::Null),
     }
 }
@@ -260,7 +293,7 @@ fn pair_of_unmet(unmet: Option<Unmet>) -> Option<Pair>
 /// The error of a rejected list, with its offsets.
 fn placed(bytes: &[u8], error: DecodeError) -> ErrorAt
     requires { reading bytes_peer bytes.now ≡ Err error }
-    ensures { result.error ≡ error }
+    ensures { IsErrorAt bytes_peer bytes.now result.error result.place result.inner }
 {
     match check_at(bytes) {
         Err(at) => at,

@@ -22,3 +22,4 @@ pub use crate::print::{MOST_BYTES, Printer};
 pub use crate::report::{Printed, Report};
 pub use crate::streams::{RunError, run};
 pub use crate::text::{push_list, push_message, push_pair};
+pub use linkinfo_view::escaped;

@@ -1,7 +1,7 @@
 //! Prints lists of link info for people: in hex on lines, in netlink messages, or in a capture.
 #![tactic(auto)]
 
-use linkinfo_print::{Options, Request, request_of, run};
+use linkinfo_print::{Options, Request, escaped, request_of, run};
 use std::process::ExitCode;
 use std::{env, io};
 
@@ -77,6 +77,7 @@ fn answer(rt: &HostRuntime) -> io::Result<ExitCode> {
         }
         Err(index) => {
             let word = words.get(index).map_or("", String::as_str);
+            let word = escaped(rt.alloc(), word.as_bytes())?;
             eprintln!(rt; "linkinfo_show: '{word}' is no option, or one too many; try --help")?;
             Ok(ExitCode::from(FAILED))
         }

@@ -8,6 +8,7 @@ use Rattle.std.proofs.Common.{
   pos,
   negsuc,
   ◌≤◌,
+  ◌==◌,
   Bool,
   true,
   false,
@@ -84,6 +85,7 @@ use Rattle.linkinfo_view.specs.Values.{
   second_of,
   plain_data,
   plain_or_hex,
+  switch_data,
   with_bit,
   with_name,
   with_option,
@@ -240,13 +242,18 @@ either_flat : (n : ℕ) (b : Bool) (d e : Data) → IsFlat n d → IsFlat n e �
 either_flat n true d e h g = h
 either_flat n false d e h g = g
 
+switch_flat : (n : ℕ) → IsFlat 1 (switch_data n)
+switch_flat n =
+    either_flat 1 (n == 0) (boolean false) _ (truth_flat 1 false)
+    (either_flat 1 (n == 1) (boolean true) (number_data n) (truth_flat 1 true) (number_flat 1 n))
+
 bit_timing_flat : (payload : List ℕ) → IsFlat 1 (object (bit_timing payload))
 bit_timing_flat payload = record { within = lit≤ tt; whole = refl }
 
 format_flat : (f : Format) (v : value.Value) (payload : List ℕ) →
     IsFlat 1 (format_data f v payload)
 format_flat format.Present v payload = truth_flat 1 _
-format_flat format.Switch v payload = truth_flat 1 _
+format_flat format.Switch v payload = switch_flat (first_of v)
 format_flat format.Hex v payload = text_flat 1 _
 format_flat format.KeyHex v payload = text_flat 1 _
 format_flat format.FourDigits v payload = text_flat 1 _

@@ -7,8 +7,6 @@ use Rattle.std.proofs.Common.{
   Bool,
   true,
   false,
-  ◌||◌,
-  ◌&&◌,
   not,
   cond,
   eqb,

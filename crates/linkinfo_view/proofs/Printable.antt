@@ -23,7 +23,7 @@ use Rattle.std.proofs.Common.{
   refl,
   arith,
 }
-use Rattle.std.proofs.lemmas.Bool.{and_from, and_parts, le-leb, ltb-false, ltb-true}
+use Rattle.std.proofs.lemmas.Bool.{and_from, and_parts, le-leb, ltb-true}
 use Rattle.std.proofs.lemmas.List.Elements.{All-from_recursion}
 use Rattle.std.specs.List.{AllByRecursion, AllPass, flat_map}
 use Rattle.linkinfo_view.specs.Text.{

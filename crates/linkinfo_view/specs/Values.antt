@@ -9,7 +9,7 @@ use Rattle.std.specs.Prelude.{
   suc,
   Bool,
   true,
-  not,
+  false,
   if◌then◌else◌,
   nat_le,
   bit_and,
@@ -155,10 +155,16 @@ abbrev pub bit_timing_data : List ℕ → Data
 bit_timing_data payload = if length payload == 32 then json.object (bit_timing payload)
     else hex_data payload
 
+-- a number as a boolean if it is 0 or 1
+abbrev pub switch_data : ℕ → Data
+switch_data n = if n == 0 then json.boolean false
+    else if n == 1 then json.boolean true
+    else number_data n
+
 -- a value by a format of one member
 abbrev pub format_data : Format → Value → List ℕ → Data
 format_data format.Present value payload = json.boolean true
-format_data format.Switch value payload = json.boolean (not (first_of value == 0))
+format_data format.Switch value payload = switch_data (first_of value)
 format_data format.Hex value payload = json.string (hex_text (first_of value))
 format_data format.KeyHex value payload =
     json.string (codes "0x" ++ four_digits (first_of value))

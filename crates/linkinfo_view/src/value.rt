@@ -18,6 +18,7 @@ ghost use Rattle.linkinfo_view.specs.Values.{
   plain_as,
   plain_data,
   second_of as second_number,
+  switch_data,
   two,
 };
 ghost use Rattle.linkinfo_view.specs.Words.{word};
@@ -225,6 +226,17 @@ fn bit_timing_json(alloc: Global, payload: &[u8]) -> Result<Value, AllocError>
     Ok(Value::Object(map))
 }
 
+/// A number as a boolean if it is 0 or 1, else as the number.
+fn switch_json(number: u64) -> Value
+    ensures { view result ≡ switch_data number }
+{
+    match number {
+        0 => Value::Bool(false),
+        1 => Value::Bool(true),
+        _ => Value::from(number),
+    }
+}
+
 /// A value by a format of one member.
 pub fn format_json(
     alloc: Global,
@@ -237,7 +249,7 @@ pub fn format_json(
 {
     match format {
         Format::Present => Ok(Value::Bool(true)),
-        Format::Switch => Ok(Value::Bool(first_of(datum) != 0)),
+        Format::Switch => Ok(switch_json(first_of(datum))),
         Format::Hex => number_json(alloc, first_of(datum)),
         Format::KeyHex => key_json(alloc, first_of(datum)),
         Format::FourDigits => four_digits_json(alloc, first_of(datum)),
