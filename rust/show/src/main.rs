@@ -21,7 +21,7 @@ mod linkinfo_view;
 mod tests;
 
 use crate::compat::calls::*;
-use crate::linkinfo_print::{Options, Request, request_of, run};
+use crate::linkinfo_print::{Options, Request, escaped, request_of, run};
 use std::process::ExitCode;
 use std::{env, io};
 
@@ -96,6 +96,7 @@ fn answer() -> io::Result<ExitCode> {
         }
         Err(index) => {
             let word = words.get(index).map_or("", String::as_str);
+            let word = escaped(word.as_bytes())?;
             try_eprintln!("linkinfo_show: '{word}' is no option, or one too many; try --help")?;
             Ok(ExitCode::from(FAILED))
         }

@@ -5,12 +5,12 @@ use crate::compat::calls::*;
 use crate::compat::serde_json::{Map, Value, put};
 use crate::linkinfo_print::list::{TYPE_MASK, item_json, member_name, other_json};
 use crate::linkinfo_print::members::put_some;
-use crate::linkinfo_view::{Table, attributes_json};
+use crate::linkinfo_view::{Table, attributes_json, first_attribute};
 use linkinfo::layers::link::{
-    DecodeError, Difference, ErrorAt, ErrorIn, LinkInfoItem, Unmet, check_at, first_difference,
-    first_unmet,
+    DecodeError, Difference, ErrorAt, ErrorIn, IFLA_INFO_KIND, KindTag, LinkInfoItem, Unmet,
+    check_at, first_difference, first_unmet, tag_of_name,
 };
-use linkinfo::layers::nla_frame::{Family, NlaBuffer};
+use linkinfo::layers::nla_frame::{Family, NlaBuffer, without_nul};
 use thiserror::Error;
 
 /// What is asked of two lists.
@@ -95,13 +95,40 @@ fn whole_json(nla: &NlaBuffer<'_>) -> Result<Value, AllocError> {
     }
 }
 
+/// The rows of a family under a kind: `sit` and `ip6tnl` links have rows of their own.
+fn table_under(family: Family, tag: Option<KindTag>) -> Table {
+    match (family, tag) {
+        (Family::IpTunnel, Some(KindTag::SitTun)) => Table::Sit,
+        (Family::IpTunnel, Some(KindTag::Ip6Tnl)) => Table::Ip6Tunnel,
+        _ => Table::Family(family),
+    }
+}
+
+/// The kind before an offset of a list: that of the last `IFLA_INFO_KIND` there.
+fn kind_before(bytes: &[u8], offset: usize) -> Option<KindTag> {
+    let mut tag = None;
+    let mut rest = &bytes[..offset.min(bytes.len())];
+    while let Some((attribute, next)) = first_attribute(rest) {
+        if attribute.kind() == IFLA_INFO_KIND {
+            tag = Some(tag_of_name(without_nul(attribute.value())));
+        }
+        rest = next;
+    }
+    tag
+}
+
 /// An attribute at the front of these bytes as an object.
-fn front_json(family: Family, rest: &[u8], nla: &NlaBuffer<'_>) -> Result<Value, AllocError> {
+fn front_json(
+    family: Family,
+    table: Table,
+    rest: &[u8],
+    nla: &NlaBuffer<'_>,
+) -> Result<Value, AllocError> {
     if family == Family::LinkInfo {
         return whole_json(nla);
     }
     let end = rest.len().min(nla.value().len() + 4);
-    attributes_json(Table::Family(family), &rest[..end])
+    attributes_json(table, &rest[..end])
 }
 
 /// The attribute at an offset of a list as an object, or `null`.
@@ -111,7 +138,10 @@ fn side_json(family: Family, bytes: &[u8], offset: Option<usize>) -> Result<Valu
     };
     let rest = &bytes[offset.min(bytes.len())..];
     match NlaBuffer::new_checked(rest) {
-        Ok(nla) => front_json(family, rest, &nla),
+        Ok(nla) => {
+            let table = table_under(family, kind_before(bytes, offset));
+            front_json(family, table, rest, &nla)
+        }
         Err(_) => Ok(Value::Null),
     }
 }

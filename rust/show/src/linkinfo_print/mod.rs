@@ -21,3 +21,4 @@ pub use crate::linkinfo_print::print::{MOST_BYTES, Printer};
 pub use crate::linkinfo_print::report::{Printed, Report};
 pub use crate::linkinfo_print::streams::{RunError, run};
 pub use crate::linkinfo_print::text::{push_list, push_message, push_pair};
+pub use crate::linkinfo_view::escaped;

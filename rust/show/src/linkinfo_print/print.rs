@@ -346,9 +346,10 @@ impl Printer {
                 Err(ListError::Memory) => return Err(AllocError),
                 Err(ListError::Rejected(at)) => {
                     let error = at.error;
+                    let index = link.index;
                     let place = place.saturating_add(info.place);
                     return self.refuse(format_args!(
-                        "IFLA_LINKINFO at offset {place}: {at} ({error})"
+                        "interface {index}: IFLA_LINKINFO at offset {place}: {at} ({error})"
                     ));
                 }
             },

@@ -68,7 +68,7 @@ pub enum Format {
     Plain,
     /// True, since it is there.
     Present,
-    /// A number as a boolean, false for 0.
+    /// A number as a boolean, false for 0 and true for 1; any other as the number.
     Switch,
     /// A number in hex, after `0x`.
     Hex,

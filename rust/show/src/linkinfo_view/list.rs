@@ -12,11 +12,11 @@ use linkinfo::layers::nla_frame::NlaBuffer;
 /// The row that shows an attribute: that of its type, unless the list that follows has the type
 /// too.
 fn shown_row(table: Table, attribute: &NlaBuffer<'_>, next: &[u8]) -> Option<Row> {
+    let row = table_row(table, attribute.kind())?;
     if has_type(next, attribute.kind()) {
-        None
-    } else {
-        table_row(table, attribute.kind())
+        return None;
     }
+    Some(row)
 }
 
 /// The name of an attribute.
@@ -103,8 +103,9 @@ impl Nesting for AsList {
 /// 16-bit type, its payload in hex, and its name if its type has a row. What follows the last whole
 /// attribute is the member `rest`, in hex. Both are absent where there is nothing to say.
 ///
-/// Every byte string has such an object: only memory can be missing. Each header is looked at at
-/// most once for each row of the table, and once more.
+/// Every byte string has such an object: only memory can be missing. Each header is examined at
+/// most once for each row of the table, and once more: a search for a later attribute of a type
+/// ends at the next one, and there is none for a type without a row.
 pub fn attributes_json(table: Table, payload: &[u8]) -> Result<Value, AllocError> {
     list_json::<AsList>(table, payload)
 }

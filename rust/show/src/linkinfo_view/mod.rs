@@ -9,6 +9,7 @@ mod text;
 mod value;
 mod words;
 
+pub use attributes::first_attribute;
 pub use format::{Elements, Flags, Format, Row, Table, Words};
 pub use list::attributes_json;
 pub use table::table_row;

@@ -147,11 +147,20 @@ fn bit_timing_json(payload: &[u8]) -> Result<Value, AllocError> {
     Ok(Value::Object(map))
 }
 
+/// A number as a boolean if it is 0 or 1, else as the number.
+fn switch_json(number: u64) -> Value {
+    match number {
+        0 => Value::Bool(false),
+        1 => Value::Bool(true),
+        _ => Value::from(number),
+    }
+}
+
 /// A value by a format of one member.
 pub fn format_json(format: Format, datum: &Datum<'_>, payload: &[u8]) -> Result<Value, AllocError> {
     match format {
         Format::Present => Ok(Value::Bool(true)),
-        Format::Switch => Ok(Value::Bool(first_of(datum) != 0)),
+        Format::Switch => Ok(switch_json(first_of(datum))),
         Format::Hex => number_json(first_of(datum)),
         Format::KeyHex => key_json(first_of(datum)),
         Format::FourDigits => four_digits_json(first_of(datum)),
