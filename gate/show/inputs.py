@@ -1,5 +1,6 @@
 """Inputs made as the kernel's headers say: lists, netlink messages (include/uapi/linux/netlink.h,
-rtnetlink.h, if_link.h), and captures of an nlmon device in the format of pcap."""
+rtnetlink.h, if_link.h), and captures of an nlmon device in the format of pcap. And what any bytes
+say as messages, or as a capture, by the same headers."""
 import struct
 
 RTM_NEWLINK, RTM_DELLINK, RTM_NEWADDR, NLMSG_DONE = 16, 17, 20, 3
@@ -101,3 +102,92 @@ def pcap(order, magic, fraction):
         places.append(place)
         place += 16 + len(it)
     return capture(records, order, magic), places
+
+
+# ---- what any bytes say
+
+# The type of an attribute without its two flag bits (`NLA_TYPE_MASK`).
+NLA_TYPE_MASK = 0x3fff
+# Of the first four bytes of a capture: the byte order, and the nanoseconds of a fraction's unit.
+MAGIC = {b"\xd4\xc3\xb2\xa1": ("<", 1000), b"\x4d\x3c\xb2\xa1": ("<", 1),
+         b"\xa1\xb2\xc3\xd4": (">", 1000), b"\xa1\xb2\x3c\x4d": (">", 1)}
+
+
+
+class Damaged(Exception):
+    """A header that is cut short, or a length that it does not allow."""
+
+
+def elements(data, header, least):
+    """What `struct nlmsghdr` and `struct nlattr` frame: the values of each header, and its payload,
+    which ends at the length that is the header's first value. The next header is at the next
+    multiple of four."""
+    place = 0
+    while place < len(data):
+        if len(data) - place < least:
+            raise Damaged
+        values = struct.unpack_from(header, data, place)
+        if not least <= values[0] <= len(data) - place:
+            raise Damaged
+        yield values, data[place + least:place + values[0]]
+        place += -(-values[0] // 4) * 4
+
+
+def shown(name):
+    """A name as printable ASCII: each other byte, and the backslash, is escaped."""
+    return "".join(chr(it) if 0x20 <= it < 0x7f and it != 0x5c else f"\\x{it:02x}" for it in name)
+
+
+def links(data, time=None):
+    """What messages say, in order: a value for each link, without its flags, with the contents of
+    IFLA_LINKINFO as bytes; or None for an error, after which nothing follows."""
+    try:
+        for (_, kind, _, _, _), payload in elements(data, "<IHHII", 16):
+            if kind not in (RTM_NEWLINK, RTM_DELLINK):
+                continue
+            if len(payload) < 16:
+                raise Damaged
+            attributes = {kind & NLA_TYPE_MASK: value
+                          for (_, kind), value in elements(payload[16:], "<HH", 4)}
+            value = {"deleted": kind == RTM_DELLINK,
+                     "ifindex": struct.unpack_from("<i", payload, 4)[0]}
+            if IFLA_IFNAME in attributes:
+                value["ifname"] = shown(attributes[IFLA_IFNAME].removesuffix(b"\0"))
+            if IFLA_LINKINFO in attributes:
+                value["linkinfo"] = attributes[IFLA_LINKINFO]
+            if time is not None:
+                value["time"] = time
+            yield value
+    except Damaged:
+        yield None
+
+
+def captured(file):
+    """The same of a capture. A damaged record ends it; a packet that is cut short, or of another
+    device, is an error; those of other families are skipped."""
+    if len(file) < 24 or file[:4] not in MAGIC:
+        yield None
+        return
+    order, unit = MAGIC[file[:4]]
+    if struct.unpack_from(f"{order}I", file, 20)[0] & 0xffff != LINKTYPE_NETLINK:
+        yield None
+        return
+    place = 24
+    while place < len(file):
+        if len(file) - place < 16:
+            yield None
+            return
+        seconds, fraction, length, original = struct.unpack_from(f"{order}IIII", file, place)
+        data = file[place + 16:place + 16 + length]
+        if len(data) < length:
+            yield None
+            return
+        place += 16 + length
+        if length < max(original, 16):
+            yield None
+            continue
+        device, family = struct.unpack_from(">2xH10xH", data)
+        if device != ARPHRD_NETLINK:
+            yield None
+        elif family == NETLINK_ROUTE:
+            yield from links(data[16:], f"{seconds}.{fraction * unit:09}")
