@@ -89,6 +89,12 @@ DUMP_JSON = [
      "linkinfo": {"info_kind": "vlan", "info_data": {"id": 7}, "info_slave_kind": "bridge",
                   "info_slave_data": {"state": "forwarding"}}},
 ]
+# a link with such a kind and such a name
+HOSTILE_LINK = link(RTM_NEWLINK, 9, UP, b"\x9b1m\\", HOSTILE)
+HOSTILE_JSON = {"deleted": False, "flags": ["BROADCAST", "MULTICAST", "UP", "LOWER_UP"],
+                "ifindex": 9, "ifname": r"\x9b1m\x5c",
+                "linkinfo": {"info_kind": r"\x1b[2J\x5c\x07\xc3\xa9",
+                             "others": [{"hex": "0102", "type": 0x4007}]}}
 
 
 def pcap(order, magic, fraction):

@@ -40,7 +40,7 @@ def code_tables(code):
 
 
 def page_tables(page):
-    """The same of the page, where a title stands for the comment."""
+    """The tables of the page, by the same comments; it names other tables by their titles."""
     found, titles = {}, {}
     for title, comment, body, others in SECTION.findall(page):
         comment = words(comment)
