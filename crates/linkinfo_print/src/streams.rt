@@ -68,9 +68,6 @@ pub fn run<R: Read, W: Write, E: Write>(
 /// Prints what is whole of the bytes, and removes it.
 fn take(printer: &mut Printer, pending: &mut Vec<u8>, is_end: bool) -> Result<(), RunError> {
     let taken = printer.push(pending, is_end).map_err(|_| RunError::Memory)?;
-    if is_end {
-        printer.finish().map_err(|_| RunError::Memory)?;
-    }
     pending.copy_within(taken.., 0);
     pending.truncate(pending.len() - taken);
     Ok(())
