@@ -6,4 +6,8 @@ pub mod MessageData
 pub mod Options
 pub mod PairData
 pub mod Plain
+pub mod Printing
+pub mod Sentences
 pub mod Text
+pub mod UnitAnswers
+pub mod Units
