@@ -1,3 +1,4 @@
+pub mod Answering
 pub mod Flags
 pub mod JsonFlat
 pub mod PlainBytes
