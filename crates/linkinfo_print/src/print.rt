@@ -80,7 +80,7 @@ impl Printer {
     /// Prints a line, a message or a packet. In a stream of messages, an error ends the input.
     fn print_unit(&mut self, unit: Unit<'_>) -> Result<(), AllocError>
         ensures { OnOk result (PrintsSuch self.old
-            (AreAnswers self.old.options.input (portion_of unit)) self.new) }
+            (AreAnswers self.old.options.input (portion_of unit.entry)) self.new) }
     {
         match unit.part {
             Part::Line(line) => self.print_line(unit.number, line),
@@ -144,7 +144,7 @@ impl Printer {
         ensures { OnOk result (IfSome (E.output error)
             (λ sentence. Prints self.old (Err sentence ∷ []) self.new)) }
     {
-        if self.options.input == Input::Messages {
+        if self.options.input.ends_at_error() {
             self.cutter.end();
         }
         self.report.refuse(self.alloc, error)
