@@ -24,6 +24,8 @@ use Rattle.std.proofs.Common.{
   append_assoc,
   append-nil,
   Result,
+  Ok,
+  Err,
 }
 use Rattle.std.specs.Fmt.{decimal, format_spec, padded_integral}
 use Rattle.std.proofs.lemmas.Grind.{flat_map-append}
@@ -58,7 +60,9 @@ use Rattle.linkinfo_print.specs.UnitAnswers.{
 }
 use Rattle.linkinfo_print.specs.declared.options.Input.{Input}
 use Rattle.linkinfo_print.specs.declared.print.Printer.{Printer}
+use Rattle.linkinfo_print.specs.declared.report.Printed.{Printed}
 use Rattle.linkinfo_print.specs.declared.report.Report.{Report}
+use Rattle.serde_json.specs.Data.{Data}
 use Rattle.linkinfo_print.specs.declared.units.Cutter.{Cutter}
 
 and_true : (b : Bool) → b ≡ b && true
@@ -134,6 +138,28 @@ prints_nothing p = record {
   report = adds_nothing p.report;
   cutter = ends_not (ends_at_error p.options.input) p.cutter;
   options = refl;
+}
+
+-- one error
+pub refused : (p q : Printer) (sentence : List ℕ) → Adds p.report (Err sentence ∷ []) q.report →
+    q.options ≡ p.options →
+    q.cutter ≡ (if ends_at_error p.options.input then record p.cutter { ended = true } else p.cutter)
+    → Prints p (Err sentence ∷ []) q
+refused p q sentence report options cutter = record {
+  report = report;
+  cutter = cutter
+      ∙ ap (λ ends. if ends then record p.cutter { ended = true } else p.cutter)
+      (and_true (ends_at_error p.options.input));
+  options = options;
+}
+
+-- one value
+pub printed : (p q : Printer) (value : Printed × Data) → Adds p.report (Ok value ∷ []) q.report →
+    q.options ≡ p.options → q.cutter ≡ p.cutter → Prints p (Ok value ∷ []) q
+printed p q value report options cutter = record {
+  report = report;
+  cutter = cutter ∙ ends_not (ends_at_error p.options.input) p.cutter;
+  options = options;
 }
 
 pub prints_more : (p q r : Printer) (xs ys : List Answer) → Prints p xs q → Prints q ys r →

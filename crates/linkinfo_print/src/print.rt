@@ -140,6 +140,7 @@ impl Printer {
     }
 
     /// Notes an error. In a stream of messages it ends the input.
+    #[tactic(auto, using(crate::proofs::Answering::refused))]
     fn refuse_whole<E: Display + Drop>(&mut self, error: E) -> Result<(), AllocError>
         ensures { OnOk result (IfSome (E.output error)
             (λ sentence. Prints self.old (Err sentence ∷ []) self.new)) }
