@@ -1,5 +1,10 @@
+pub mod InputAnswering
+pub mod CutFrames
+pub mod CutLines
+pub mod Cutting
 pub mod Flags
 pub mod JsonFlat
 pub mod PlainBytes
+pub mod Running
 pub mod Shows
 pub mod Writing

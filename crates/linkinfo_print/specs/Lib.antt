@@ -1,4 +1,5 @@
 pub mod Answers
+pub mod InputAnswers
 pub mod ListData
 pub mod ListErrors
 pub mod MembersData
@@ -6,4 +7,7 @@ pub mod MessageData
 pub mod Options
 pub mod PairData
 pub mod Plain
+pub mod Printing
 pub mod Text
+pub mod UnitAnswers
+pub mod Units
