@@ -1,8 +1,9 @@
-pub mod InputAnswering
+pub mod Answering
 pub mod CutFrames
 pub mod CutLines
 pub mod Cutting
 pub mod Flags
+pub mod InputAnswering
 pub mod JsonFlat
 pub mod PlainBytes
 pub mod Running

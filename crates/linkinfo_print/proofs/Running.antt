@@ -7,6 +7,8 @@ use Rattle.std.proofs.Common.{
   ℕ,
   zero,
   suc,
+  ◌+◌,
+  ◌-◌,
   ◌<◌,
   ◌&&◌,
   Bool,
@@ -19,7 +21,8 @@ use Rattle.std.proofs.Common.{
   ◌++◌,
   length,
   get_or,
-  map,
+  take,
+  drop,
   Option,
   refl,
   sym,
@@ -30,23 +33,21 @@ use Rattle.std.proofs.Common.{
   append-nil,
   append_assoc,
 }
+use Rattle.std.specs.List.{copy_within}
+use Rattle.std.proofs.lemmas.List.{length-drop, take_at, take_rest}
 use Rattle.std.specs.Io.KnownBytes.{Appends, Consumes, IsAtEnd}
 use Rattle.std.proofs.KnownBytes.{Appends-nil, Appends-trans, Consumes-nil, Consumes-trans}
 use Rattle.linkinfo_print.specs.Answers.{AppendsPlain}
 use Rattle.linkinfo_print.specs.InputAnswers.{AnswersTo, AreAnswersRead, Begins, PrintsUpTo, Runs}
 use Rattle.linkinfo_print.specs.Plain.{IsPlain, is_plain, plain, plain_byte}
-use Rattle.linkinfo_print.specs.Printing.{Adds, Answer, all_accepted, errors, outputs}
+use Rattle.linkinfo_print.specs.Printing.{Adds, Answer, all_accepted, errors, is_accepted, outputs}
 use Rattle.linkinfo_print.specs.Units.{MayFollow, start, units_on}
 use Rattle.linkinfo_print.specs.declared.options.Options.{Options}
 use Rattle.linkinfo_print.specs.declared.print.Printer.{Printer}
 use Rattle.linkinfo_print.specs.declared.units.Cutter.{Cutter}
-use Rattle.linkinfo_print.proofs.Answering.{
-  all_accepted-append,
-  begins_more,
-  begins_nothing,
-  errors-append,
-  outputs-append,
-}
+use Rattle.std.proofs.lemmas.List.Folds.{list_all-append}
+use Rattle.linkinfo_print.proofs.Answering.{errors_append, outputs_append}
+use Rattle.linkinfo_print.proofs.InputAnswering.{begins_more, begins_nothing}
 use Rattle.linkinfo_print.proofs.CutLines.{units_on_ended}
 
 -- The answers so far are written, and their text has been removed from the printer. What is pending
@@ -130,17 +131,17 @@ so_far_more options is_end r₀ r₁ r₂ o₀ o₁ o₂ e₀ e₁ e₂ old mid 
       answers = xs ++ ys;
       reads = Consumes-trans _ _ _ h.bytes part h.reads reads;
       writes =
-          subst (Appends o₀ o₂) (sym (outputs-append options.json xs ys))
+          subst (Appends o₀ o₂) (sym (outputs_append options.json xs ys))
           (Appends-trans o₀ o₁ o₂ (outputs options.json xs) (outputs options.json ys) h.writes
           (subst (Appends o₁ o₂) output writes));
       reports =
-          subst (Appends e₀ e₂) (sym (errors-append xs ys))
+          subst (Appends e₀ e₂) (sym (errors_append xs ys))
           (Appends-trans e₀ e₁ e₂ (errors xs) (errors ys) h.reports
           (subst (Appends e₁ e₂) rejected reports));
       accepts =
           adds.accepted
           ∙ ap (λ b. b && all_accepted ys) h.accepts
-          ∙ sym (all_accepted-append xs ys);
+          ∙ sym (list_all-append is_accepted xs ys);
       no_output = refl;
       no_errors = refl;
       json = adds.json ∙ h.json;
@@ -214,3 +215,11 @@ pub plain_written : (a b : Option (List ℕ)) (bytes : List ℕ) → Appends a b
     AppendsPlain a b
 plain_written a b bytes h =
     record { bytes = plain bytes; appended = h; plain = plain_are bytes }
+
+-- ---- bytes that are done with are removed
+
+pub kept_rest : (s : List ℕ) (n : ℕ) →
+    take (length s - n) (copy_within s n (length s) 0) ≡ drop n s
+kept_rest s n =
+    ap (λ l. take (length s - n) (l ++ drop (0 + (length s - n)) s)) (take_rest s n)
+    ∙ take_at (drop n s) (drop (0 + (length s - n)) s) (length s - n) (length-drop n s)

@@ -2,7 +2,7 @@
 use Rattle.std.specs.Prelude.{◌≡◌, ◌⊎◌, ℕ, Bool, true, false, List, [], ◌∷◌, ◌++◌, Option}
 use Rattle.std.specs.Io.KnownBytes.{Appends, Consumes, IsAtEnd}
 use Rattle.linkinfo_print.specs.Printing.{Adds, Answer, all_accepted, errors, outputs}
-use Rattle.linkinfo_print.specs.UnitAnswers.{IsAnswers, ends_input}
+use Rattle.linkinfo_print.specs.UnitAnswers.{AreAnswers, ends_input}
 use Rattle.linkinfo_print.specs.Units.{MayFollow, Portion, units_of, units_on}
 use Rattle.linkinfo_print.specs.declared.options.Options.{Options}
 use Rattle.linkinfo_print.specs.declared.print.Printer.{Printer}
@@ -19,7 +19,7 @@ AnswersTo options [] answers = answers ≡ []
 AnswersTo options (unit ∷ units) answers =
     (first later : List Answer)
     × (answers ≡ first ++ later)
-    × IsAnswers options unit first
+    × AreAnswers options.input unit first
     × UnlessEnded (ends_input options.input first) later (AnswersTo options units later)
 
 -- the answers to a whole input

@@ -8,6 +8,7 @@ pub mod Options
 pub mod PairData
 pub mod Plain
 pub mod Printing
+pub mod Sentences
 pub mod Text
 pub mod UnitAnswers
 pub mod Units

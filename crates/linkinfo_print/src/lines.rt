@@ -1,6 +1,19 @@
 //! What is printed for a line.
 
-ghost use Rattle.std.specs.Prelude.{◌≡◌, IfOk};
+ghost use Rattle.std.specs.Prelude.{◌≡◌, [], ◌∷◌, IfOk, OnOk, option_map};
+ghost use Rattle.linkinfo_lines.specs.Answers.{bytes_of};
+ghost use Rattle.linkinfo_print.specs.Printing.{Answer};
+ghost use Rattle.linkinfo_print.specs.UnitAnswers.{
+  AreLineAnswers,
+  AreNumbered,
+  IsWordAnswer,
+  IsWordsAnswer,
+  Prints,
+  PrintsSuch,
+  question_of,
+  trimmed,
+  with_number,
+};
 
 use crate::compare::{PairError, difference_json, unmet_json};
 use crate::list::{ListError, list_json};
@@ -11,7 +24,11 @@ use std::alloc::{AllocError, Global};
 
 impl Printer {
     /// Prints a line, without the spaces at its ends. An empty one prints nothing.
-    pub(crate) fn print_line(&mut self, number: u64, line: &[u8]) -> Result<(), AllocError> {
+    pub(crate) fn print_line(&mut self, number: u64, line: &[u8]) -> Result<(), AllocError>
+        ensures { OnOk result (PrintsSuch self.old
+            (AreNumbered self.old.options.input number
+            (AreLineAnswers self.old.options.input (trimmed line.now))) self.new) }
+    {
         let line = line.trim_ascii_start().trim_ascii_end();
         if line.is_empty() {
             return Ok(());
@@ -25,7 +42,12 @@ impl Printer {
         self.print_pair_line(number, &line[..space], line[space..].trim_ascii_start())
     }
 
-    fn print_list_line(&mut self, number: u64, line: &[u8]) -> Result<(), AllocError> {
+    /// Prints the list whose hex a line is.
+    fn print_list_line(&mut self, number: u64, line: &[u8]) -> Result<(), AllocError>
+        ensures { OnOk result ((answer : Answer)
+            × IsWordAnswer (bytes_of line.now) answer
+            × Prints self.old (with_number self.old.options.input number answer ∷ []) self.new) }
+    {
         let Some(bytes) = read_hex(self.alloc, line)? else {
             return self.refuse(number, NOT_HEX);
         };
@@ -39,12 +61,18 @@ impl Printer {
         }
     }
 
+    /// Prints the answer to the question of the input about two lists.
     fn print_pair_line(
         &mut self,
         number: u64,
         first: &[u8],
         second: &[u8],
-    ) -> Result<(), AllocError> {
+    ) -> Result<(), AllocError>
+        ensures { OnOk result ((answer : Answer)
+            × IsWordsAnswer (question_of self.old.options.input) (bytes_of first.now)
+            (bytes_of second.now) answer
+            × Prints self.old (with_number self.old.options.input number answer ∷ []) self.new) }
+    {
         let Some(first) = read_hex(self.alloc, first)? else {
             return self.refuse(number, format_args!("first list: {NOT_HEX}"));
         };
@@ -74,7 +102,9 @@ impl Printer {
 const NOT_HEX: &str = "a list is an even number of hex digits, or '-' for no attributes";
 
 /// Decodes a list: hex digits, or `-` for no attributes. Returns `None` if it is neither.
-fn read_hex(alloc: Global, word: &[u8]) -> Result<Option<Vec<u8>>, AllocError> {
+fn read_hex(alloc: Global, word: &[u8]) -> Result<Option<Vec<u8>>, AllocError>
+    ensures { IfOk result (λ bytes. option_map (λ b. b.items) bytes ≡ bytes_of word.now) }
+{
     if word == b"-".as_slice() {
         return Ok(Some(Vec::new(alloc)));
     }

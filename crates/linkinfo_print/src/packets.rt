@@ -1,13 +1,31 @@
 //! What is printed for a message or a packet.
 
-ghost use Rattle.std.specs.Prelude.{◌≡◌, IfOk};
+ghost use Rattle.std.specs.Prelude.{◌≡◌, [], ◌∷◌, IfOk, Ok, Err, OnOk};
+ghost use Rattle.linkinfo_messages.specs.Captures.{netlink_of, record_at, record_in};
+ghost use Rattle.linkinfo_messages.specs.ErrorTexts.{capture_error_text, message_error_text};
+ghost use Rattle.linkinfo_messages.specs.Reading.{items};
+ghost use Rattle.linkinfo_messages.specs.Views.{link_in};
+ghost use Rattle.linkinfo_print.specs.Printing.{Answer};
+ghost use Rattle.linkinfo_print.specs.Sentences.{
+  capture_error_from,
+  message_error_from,
+  numbered,
+};
+ghost use Rattle.linkinfo_print.specs.UnitAnswers.{
+  AreMessageAnswers,
+  AreNumbered,
+  ArePacketAnswers,
+  AreRecordsAnswers,
+  IsLinkAnswer,
+  Prints,
+  PrintsSuch,
+  with_number,
+};
 
 use crate::list::{ListError, list_json};
 use crate::message::{message_json, time_text};
-use crate::options::Input;
 use crate::print::Printer;
 use crate::report::Printed;
-use crate::units::Unit;
 use linkinfo_messages::{
     CaptureError, CaptureFormat, LinkMessage, LinkMessages, MessageCause, MessageError, Record,
 };
@@ -18,43 +36,69 @@ use std::alloc::AllocError;
 const MESSAGES_OFFSET: usize = 32;
 
 impl Printer {
+    /// Prints the records in these bytes, which begin at an offset of the input.
     pub(crate) fn print_records(
         &mut self,
-        unit: &Unit<'_>,
+        number: u64,
+        place: usize,
         format: CaptureFormat,
         bytes: &[u8],
-    ) -> Result<(), AllocError> {
-        for record in format.records(bytes) {
+    ) -> Result<(), AllocError>
+        ensures { OnOk result (PrintsSuch self.old
+            (AreNumbered self.old.options.input number
+            (AreRecordsAnswers place (items (record_at format) 0 bytes.now))) self.new) }
+    {
+        let mut records = format.records(bytes);
+        while let Some(record) = records.next() {
             match record {
-                Ok(record) => self.print_record(unit, &record)?,
-                Err(error) => self.refuse_record(unit, error)?,
+                Ok(record) => self.print_record(number, place, &record)?,
+                Err(error) => self.refuse_record(number, place, error)?,
             }
         }
         Ok(())
     }
 
-    fn print_record(&mut self, unit: &Unit<'_>, record: &Record<'_>) -> Result<(), AllocError> {
+    /// Prints the link messages in a record of bytes that begin at an offset of the input.
+    fn print_record(
+        &mut self,
+        number: u64,
+        place: usize,
+        record: &Record<'_>,
+    ) -> Result<(), AllocError>
+        ensures { OnOk result (PrintsSuch self.old
+            (AreNumbered self.old.options.input number
+            (ArePacketAnswers place (record_in record.now)
+            (netlink_of (record_in record.now)))) self.new) }
+    {
         match record.messages() {
             Ok(Some(bytes)) => {
-                let place = unit
-                    .place
+                let place = place
                     .saturating_add(record.place)
                     .saturating_add(MESSAGES_OFFSET);
                 let time = Some((record.seconds, record.nanoseconds));
-                self.print_messages(unit.number, bytes, place, time)
+                self.print_messages(number, bytes, place, time)
             }
             Ok(None) => Ok(()),
-            Err(error) => self.refuse_record(unit, error),
+            Err(error) => self.refuse_record(number, place, error),
         }
     }
 
-    /// Notes the error of a record, whose offset is from the beginning of the input.
-    fn refuse_record(&mut self, unit: &Unit<'_>, error: CaptureError) -> Result<(), AllocError> {
+    /// Notes the error of a record in bytes that begin at an offset of the input.
+    fn refuse_record(
+        &mut self,
+        number: u64,
+        place: usize,
+        error: CaptureError,
+    ) -> Result<(), AllocError>
+        ensures { OnOk result (Prints self.old
+            (Err (numbered self.old.options.input number
+            (capture_error_text (capture_error_from place error))) ∷ []) self.new) }
+    {
         let error = CaptureError {
-            place: unit.place.saturating_add(error.place),
+            place: place.saturating_add(error.place),
             cause: error.cause,
         };
-        self.refuse(unit.number, error)
+        self.refuse(number, error)
     }
 
     /// Prints the link messages in these bytes, which begin at an offset of the input.
@@ -64,8 +108,13 @@ impl Printer {
         bytes: &[u8],
         place: usize,
         time: Option<(u32, u64)>,
-    ) -> Result<(), AllocError> {
-        for link in LinkMessages::new(bytes) {
+    ) -> Result<(), AllocError>
+        ensures { OnOk result (PrintsSuch self.old
+            (AreNumbered self.old.options.input number
+            (AreMessageAnswers place time bytes.now)) self.new) }
+    {
+        let mut links = LinkMessages::new(bytes);
+        while let Some(link) = links.next() {
             match link {
                 Ok(link) => self.print_link(number, &link, place, time)?,
                 Err(error) => self.refuse_message(number, error, place)?,
@@ -74,14 +123,17 @@ impl Printer {
         Ok(())
     }
 
-    /// Notes the error of a message, whose offsets are from the beginning of the input. In a stream
-    /// of messages it ends the input.
+    /// Notes the error of a message in bytes that begin at an offset of the input.
     pub(crate) fn refuse_message(
         &mut self,
         number: u64,
         error: MessageError,
         place: usize,
-    ) -> Result<(), AllocError> {
+    ) -> Result<(), AllocError>
+        ensures { OnOk result (Prints self.old
+            (Err (numbered self.old.options.input number
+            (message_error_text (message_error_from place error))) ∷ []) self.new) }
+    {
         let cause = match error.cause {
             MessageCause::Attribute(at) => MessageCause::Attribute(place.saturating_add(at)),
             cause => cause,
@@ -90,19 +142,21 @@ impl Printer {
             place: place.saturating_add(error.place),
             cause,
         };
-        if self.options.input == Input::Messages {
-            self.cutter.end();
-        }
         self.refuse(number, error)
     }
 
+    /// Prints a link of messages that begin at an offset of the input.
     fn print_link(
         &mut self,
         number: u64,
         link: &LinkMessage<'_>,
         place: usize,
         time: Option<(u32, u64)>,
-    ) -> Result<(), AllocError> {
+    ) -> Result<(), AllocError>
+        ensures { OnOk result ((answer : Answer)
+            × IsLinkAnswer place time (Ok (link_in link.now)) answer
+            × Prints self.old (with_number self.old.options.input number answer ∷ []) self.new) }
+    {
         let list = match link.info {
             Some(info) => match list_json(self.alloc, info.bytes) {
                 Ok(list) => Some(list),

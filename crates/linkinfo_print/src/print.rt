@@ -3,24 +3,25 @@
 ghost use Rattle.std.specs.Prelude.{
   ◌≡◌,
   ◌≤◌,
-  List,
   [],
-  if◌then◌else◌,
+  ◌∷◌,
   true,
   false,
+  Err,
   IfOk,
+  IfSome,
   OnOk,
   drop,
   length,
 };
 ghost use Rattle.linkinfo_print.specs.InputAnswers.{PrintsUpTo};
-ghost use Rattle.linkinfo_print.specs.Printing.{Adds, Answer};
-ghost use Rattle.linkinfo_print.specs.UnitAnswers.{IsAnswers, ends_input};
+ghost use Rattle.linkinfo_print.specs.Sentences.{long_text, numbered, unit_word};
+ghost use Rattle.linkinfo_print.specs.UnitAnswers.{AreAnswers, Prints, PrintsSuch};
 ghost use Rattle.linkinfo_print.specs.Units.{portion_of, start, units_on};
 
 use crate::options::{Input, Options};
 use crate::report::Report;
-use crate::units::{Cutter, MOST_BYTES, Part, Unit};
+use crate::units::{Cutter, Part, Unit};
 use std::alloc::{AllocError, Global};
 use std::fmt::Display;
 
@@ -113,44 +114,46 @@ impl Printer {
 
     /// Prints a line, a message or a packet. In a stream of messages, an error ends the input.
     fn print_unit(&mut self, unit: Unit<'_>) -> Result<(), AllocError>
-        ensures answers { OnOk result ((answers : List Answer)
-            × IsAnswers self.old.options (portion_of unit.entry) answers
-            × Adds self.old.report answers self.new.report
-            × (self.new.cutter ≡ (if ends_input self.old.options.input answers
-            then record self.old.cutter { ended = true } else self.old.cutter))) }
-        ensures options { self.new.options ≡ self.old.options }
+        ensures { OnOk result (PrintsSuch self.old
+            (AreAnswers self.old.options.input (portion_of unit.entry)) self.new) }
     {
         match unit.part {
             Part::Line(line) => self.print_line(unit.number, line),
             Part::Message(bytes) => self.print_messages(unit.number, bytes, unit.place, None),
             Part::BadMessage(error) => self.refuse_message(unit.number, error, unit.place),
-            Part::Record(format, bytes) => self.print_records(&unit, format, bytes),
-            Part::BadFile(error) => self.report.refuse(self.alloc, error),
-            Part::TooLong => self.refuse_long(&unit),
+            Part::Record(format, bytes) => {
+                self.print_records(unit.number, unit.place, format, bytes)
+            }
+            Part::BadFile(error) => self.refuse_whole(error),
+            Part::TooLong => self.refuse_long(unit.number, unit.place),
         }
     }
 
     /// Notes a line, a message or a record that is too long.
-    fn refuse_long(&mut self, unit: &Unit<'_>) -> Result<(), AllocError> {
-        let place = unit.place;
+    fn refuse_long(&mut self, number: u64, place: usize) -> Result<(), AllocError>
+        ensures { OnOk result (Prints self.old
+            (Err (numbered self.old.options.input number
+            (long_text self.old.options.input place)) ∷ []) self.new) }
+    {
         match self.options.input {
-            Input::Lists | Input::Differences | Input::Unmet => self.refuse(
-                unit.number,
-                format_args!("it is longer than {MOST_BYTES} bytes"),
-            ),
+            Input::Lists | Input::Differences | Input::Unmet => {
+                self.refuse(number, "it is longer than 1048576 bytes")
+            }
             Input::Messages => self.refuse(
-                unit.number,
-                format_args!("message at offset {place}: it is longer than {MOST_BYTES} bytes"),
+                number,
+                format_args!("message at offset {place}: it is longer than 1048576 bytes"),
             ),
             Input::Capture => self.refuse(
-                unit.number,
-                format_args!("record at offset {place}: it is longer than {MOST_BYTES} bytes"),
+                number,
+                format_args!("record at offset {place}: it is longer than 1048576 bytes"),
             ),
         }
     }
 
     /// The word for what has a number.
-    fn unit_word(&self) -> &'static str {
+    fn unit_word(&self) -> &'static str
+        ensures { result.now ≡ unit_word self.now.options.input }
+    {
         match self.options.input {
             Input::Lists | Input::Differences | Input::Unmet => "line",
             Input::Messages => "message",
@@ -163,9 +166,22 @@ impl Printer {
         &mut self,
         number: u64,
         error: E,
-    ) -> Result<(), AllocError> {
+    ) -> Result<(), AllocError>
+        ensures { OnOk result (IfSome (E.output error) (λ sentence. Prints self.old
+            (Err (numbered self.old.options.input number sentence) ∷ []) self.new)) }
+    {
         let unit = self.unit_word();
-        self.report
-            .refuse(self.alloc, format_args!("{unit} {number}: {error}"))
+        self.refuse_whole(format_args!("{unit} {number}: {error}"))
+    }
+
+    /// Notes an error. In a stream of messages it ends the input.
+    fn refuse_whole<E: Display + Drop>(&mut self, error: E) -> Result<(), AllocError>
+        ensures { OnOk result (IfSome (E.output error)
+            (λ sentence. Prints self.old (Err sentence ∷ []) self.new)) }
+    {
+        if self.options.input == Input::Messages {
+            self.cutter.end();
+        }
+        self.report.refuse(self.alloc, error)
     }
 }
