@@ -42,7 +42,7 @@ use Rattle.std.proofs.Common.{
   length-append,
 }
 use Rattle.std.specs.Prelude.{slice_index}
-use Rattle.std.proofs.lemmas.Bool.{cases_lt, ltb-false, lt-ltb}
+use Rattle.std.proofs.lemmas.Bool.{cases_lt, le-ltb, lt-ltb}
 use Rattle.std.proofs.lemmas.Bool.Decides.{nat_tests}
 use Rattle.std.proofs.lemmas.List.{get_or_append_left, length-drop, take-append-le}
 use Rattle.nla_frame.specs.Attribute.{aligned}
@@ -71,6 +71,7 @@ use Rattle.linkinfo_print.specs.Units.{
   BadMessage,
   Front,
   HasFrames,
+  IsIncomplete,
   Last,
   Piece,
   Portion,
@@ -119,7 +120,7 @@ number_grows format s more at h =
 not_short : (s more : List ℕ) (n : ℕ) → n ≤ length s →
     ltb (length (s ++ more)) n ≡ ltb (length s) n
 not_short s more n h =
-    ltb-false _ _ (omega (arith, h, length-append s more)) ∙ sym (ltb-false _ _ h)
+    le-ltb _ _ (omega (arith, h, length-append s more)) ∙ sym (le-ltb _ _ h)
 
 abbrev message_len_by : Bool → ℕ → Result (Option ℕ) MessageError
 message_len_by short len =
@@ -167,8 +168,8 @@ front_whole f s more len h small inside =
     ap (λ r. front_by_len f r (s ++ more)) (some_grows f s more len h)
     ∙ ap₂ (λ a b. cond a (Last TooLong)
     (cond b (Last (frame_piece f (s ++ more))) (Whole (frame_piece f (take len (s ++ more))) len)))
-    (ltb-false _ _ small)
-    (ltb-false _ _ (omega (arith, inside, length-append s more)))
+    (le-ltb _ _ small)
+    (le-ltb _ _ (omega (arith, inside, length-append s more)))
     ∙ ap (λ bytes. Whole (frame_piece f bytes) len) (take-append-le len s more inside)
 
 pub front_long : (f : Framing) (s more : List ℕ) (len : ℕ) → frame_len f s ≡ Ok (Some len) →
@@ -186,23 +187,20 @@ pub front_bad : (f : Framing) (s more : List ℕ) (e : MessageError) → frame_l
 unfolding front_of
 front_bad f s more e h = ap (λ r. front_by_len f r (s ++ more)) (error_grows f s more e h)
 
--- where the front is not whole
-abbrev pub IsPart : List ℕ → Option ℕ → Type 0
-IsPart s len = (n : ℕ) → len ≡ Some n → (n ≤ most_bytes) × (length s < n)
-
-pub front_part : (f : Framing) (s : List ℕ) (len : Option ℕ) → frame_len f s ≡ Ok len →
-    IsPart s len → front_of f s ≡ Last (frame_piece f s)
+-- what is incomplete
+pub front_part : (f : Framing) (s : List ℕ) → IsIncomplete (frame_len f s) s →
+    front_of f s ≡ Last (frame_piece f s)
 unfolding front_of
-front_part f s len h part = ap (λ r. front_by_len f r s) h ∙ by_len len part
+front_part f s part = by_len (frame_len f s) part
   where
-    by_len : (len : Option ℕ) → IsPart s len →
-        front_by_len f (Ok len) s ≡ Last (frame_piece f s)
-    by_len None part = refl
-    by_len (Some n) part =
-        let bounds = part n refl in
+    by_len : (r : Result (Option ℕ) MessageError) → IsIncomplete r s →
+        front_by_len f r s ≡ Last (frame_piece f s)
+    by_len (Err e) part = absurd part
+    by_len (Ok None) part = refl
+    by_len (Ok (Some n)) part =
         ap₂ (λ a b. cond a (Last TooLong)
         (cond b (Last (frame_piece f s)) (Whole (frame_piece f (take n s)) n)))
-        (ltb-false _ _ bounds.0) (lt-ltb _ _ bounds.1)
+        (le-ltb _ _ part.0) (lt-ltb _ _ part.1)
 
 -- ---- one after another
 
@@ -281,7 +279,9 @@ pub frames_last : (f : Framing) (number place : ℕ) (s : List ℕ) (piece : Pie
     0 < length s → front_of f s ≡ Last piece →
     frames f number place s ≡ portion number place piece ∷ []
 frames_last f number place s piece some h =
-    frames_first f number place s some ∙ ap (λ r. followed r number place _) h
+    frames_first f number place s some
+    ∙ ap (λ r. followed r number place
+    (λ n. frames f (saturated (number + 1)) (saturated (place + n)) (drop n s))) h
 
 pub frames_whole : (f : Framing) (number place : ℕ) (s : List ℕ) (piece : Piece) (len : ℕ) →
     front_of f s ≡ Whole piece len →

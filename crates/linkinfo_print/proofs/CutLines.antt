@@ -34,7 +34,7 @@ use Rattle.std.proofs.Common.{
   length-append,
   take-append-drop,
 }
-use Rattle.std.specs.List.{All, slice_split, onto_first}
+use Rattle.std.specs.List.{slice_split, onto_first}
 use Rattle.std.proofs.lemmas.Bool.{false_from_ne_true}
 use Rattle.std.proofs.lemmas.Bool.Decides.{nat_tests}
 use Rattle.std.proofs.lemmas.List.{drop_more, get_or_default, get_or-take, length-take}
@@ -46,6 +46,7 @@ use Rattle.linkinfo_print.specs.declared.options.Input.{Input}
 use Rattle.linkinfo_print.specs.declared.options.Input.TheVariants as input
 use Rattle.linkinfo_print.specs.declared.units.Cutter.{Cutter}
 use Rattle.linkinfo_print.specs.Units.{
+  HasNoFeed,
   IsOfLines,
   Portion,
   TooLong,
@@ -61,10 +62,6 @@ use Rattle.linkinfo_print.specs.Units.{
 
 abbrev is_feed : ℕ → Bool
 is_feed b = eqb b 10
-
--- no byte is a line feed
-abbrev pub HasNoFeed : List ℕ → Type 0
-HasNoFeed s = All (λ b. is_feed b ≡ false) s
 
 pub no_feed : (s : List ℕ) → IsFirstByte (is_byte 10) s None → HasNoFeed s
 no_feed s h k d lt =
@@ -136,6 +133,7 @@ kept_joined s ([] ∷ []) h some =
     ∙ ap (λ l. l ∷ []) (append-nil s)
 kept_joined s ((x ∷ line) ∷ []) h some =
     kept_alone (s ++ (x ∷ line)) (omega (arith, h, length-append s (x ∷ line)))
+    ∙ ap (joined s) (sym (kept_alone (x ∷ line) (omega arith)))
 kept_joined s (line ∷ next ∷ lines) h some = refl
 
 lines_joined : (s more : List ℕ) → HasNoFeed s → 0 < length s →

@@ -1,6 +1,7 @@
 -- The answers to an input, one after another.
 use Rattle.std.proofs.Common.{
   ◌≡◌,
+  inl,
   ℕ,
   Bool,
   true,
@@ -24,7 +25,7 @@ use Rattle.std.proofs.Common.{
 use Rattle.linkinfo_print.specs.InputAnswers.{AnswersTo, Begins, PrintsUpTo, UnlessEnded}
 use Rattle.linkinfo_print.specs.Printing.{Answer}
 use Rattle.linkinfo_print.specs.UnitAnswers.{AreAnswers, PrintsSuch, cutter_after, ends_input}
-use Rattle.linkinfo_print.specs.Units.{CutsOff, portion_of, portions_of, units_on}
+use Rattle.linkinfo_print.specs.Units.{CutsOff, Waits, portion_of, portions_of, units_on}
 use Rattle.linkinfo_print.specs.declared.options.Options.{Options}
 use Rattle.linkinfo_print.specs.declared.print.Printer.{Printer}
 use Rattle.linkinfo_print.specs.declared.units.Cut.{Cut}
@@ -67,12 +68,20 @@ first_answers : (o : Options) (unit : BorrowedUnit) (first later : List Answer) 
 first_answers o unit first later mid rest true e h l =
     let none : later ≡ [] =
     subst (λ units. AnswersTo o units later)
-    (units_on_ended (record mid { ended = true }) rest refl) l in
-    (first, later, refl, h,
-    subst (λ b. UnlessEnded b later (AnswersTo o (units_on mid rest) later)) (sym e) none)
-first_answers o unit first later mid rest false e h l =
-    (first, later, refl, h,
-    subst (λ b. UnlessEnded b later (AnswersTo o (units_on mid rest) later)) (sym e) l)
+    (units_on_ended (record mid { ended = true }) rest refl) l in (
+      first,
+      later,
+      refl,
+      h,
+      subst (λ b. UnlessEnded b later (AnswersTo o (units_on mid rest) later)) (sym e) none,
+    )
+first_answers o unit first later mid rest false e h l = (
+  first,
+  later,
+  refl,
+  h,
+  subst (λ b. UnlessEnded b later (AnswersTo o (units_on mid rest) later)) (sym e) l,
+)
 
 -- a line, message or packet is cut off, and its answers are printed
 pub begins_unit : (o : Options) (is_end : Bool) (old mid new : Cutter) (s : List ℕ) (cut : Cut)
@@ -149,3 +158,15 @@ none_left old new next s Are printed none =
     by_end : (ends : Bool) → units_on (cutter_by ends next) s ≡ []
     by_end true = units_on_ended (record next { ended = true }) s refl
     by_end false = none
+
+-- after the answers to one, more bytes are needed still
+pub still_waits : (old new : Printer) (next : Cutter) (s : List ℕ) (Are : List Answer → Type 0) →
+    PrintsSuch (record old { cutter = next }) Are new → Waits next s → Waits new.cutter s
+still_waits old new next s Are printed waits =
+    let (answers, are, prints) = printed in
+    subst (λ c. Waits c s) (sym prints.cutter)
+    (by_end (ends_input old.options.input answers))
+  where
+    by_end : (ends : Bool) → Waits (cutter_by ends next) s
+    by_end true = inl refl
+    by_end false = waits

@@ -182,12 +182,14 @@ so_far_all options is_end r₀ r₁ o₀ o₁ e₀ e₁ printer pending accepted
         ⊎ ((is_end ≡ false) × (printer.cutter.ended ≡ true)) →
         AreAnswersRead options r₁ h.bytes h.answers
     answered (inl all) =
-        inl (all.1,
-        subst (λ s. AnswersTo options (units_on (start options.input) s) h.answers)
-        (append-nil h.bytes)
-        (answers_all options is_end (start options.input) printer.cutter h.bytes pending []
-        h.answers h.begins (λ _. refl)
-        (ap (units_on printer.cutter) (append-nil pending) ∙ all.2)))
+        inl (
+          all.1,
+          subst (λ s. AnswersTo options (units_on (start options.input) s) h.answers)
+              (append-nil h.bytes)
+              (answers_all options is_end (start options.input) printer.cutter h.bytes pending []
+              h.answers h.begins (λ _. refl)
+              (ap (units_on printer.cutter) (append-nil pending) ∙ all.2)),
+        )
     answered (inr ended) =
         inr (λ more.
         answers_all options is_end (start options.input) printer.cutter h.bytes pending more

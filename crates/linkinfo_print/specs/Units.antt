@@ -7,7 +7,10 @@ use Rattle.std.specs.Prelude.{
   ◌+◌,
   ◌-◌,
   ◌^◌,
+  ◌<◌,
   ◌≤◌,
+  ◌==◌,
+  ◌⊎◌,
   ⊤,
   min,
   nat_lt,
@@ -29,6 +32,7 @@ use Rattle.std.specs.Prelude.{
   Ok,
   Err,
 }
+use Rattle.std.specs.List.{All}
 use Rattle.linkinfo_lines.specs.Lines.{lines_of}
 use Rattle.linkinfo_messages.specs.Captures.{format_of, record_len}
 use Rattle.linkinfo_messages.specs.Messages.{message_len}
@@ -205,12 +209,34 @@ HasFrames c (framing.Records format) =
 abbrev pub MayFollow : Bool → List ℕ → Type 0
 MayFollow is_end more = is_end ≡ true → more ≡ []
 
--- What is cut off is first among what the input has left, whatever follows the bytes. Where nothing
--- is taken at the end of the input, nothing is left.
+-- no byte is a line feed
+abbrev pub HasNoFeed : List ℕ → Type 0
+HasNoFeed s = All (λ b. (b == 10) ≡ false) s
+
+-- a message or a record at the front lacks bytes: of its header, or up to its length
+abbrev pub IsIncomplete : Result (Option ℕ) MessageError → List ℕ → Type 0
+IsIncomplete (Err error) s = ⊥
+IsIncomplete (Ok None) s = ⊤
+IsIncomplete (Ok (Some len)) s = (len ≤ most_bytes) × (length s < len)
+
+-- The bytes have no whole line, message, record or file header, and nothing that is too long.
+abbrev pub LacksBytes : Input → Option CaptureFormat → List ℕ → Type 0
+LacksBytes input.Messages format s = IsIncomplete (frame_len framing.Messages s) s
+LacksBytes input.Capture None s = length s < 24
+LacksBytes input.Capture (Some format) s = IsIncomplete (frame_len (framing.Records format) s) s
+LacksBytes kind format s = HasNoFeed s × (length s ≤ most_bytes)
+
+-- nothing is cut off until more bytes come, or ever
+abbrev pub Waits : Cutter → List ℕ → Type 0
+Waits c s = (c.ended ≡ true) ⊎ LacksBytes c.input c.format s
+
+-- What is cut off is first among what the input has left, whatever follows the bytes. Nothing is
+-- taken only where nothing is whole, and at the end of the input only where nothing is left.
 pub record CutsOff (old : Cutter) (bytes : List ℕ) (is_end : Bool) (cut : Cut) (new : Cutter) :
     Type 0 where
   pub within : cut.taken ≤ length bytes
   pub first : (more : List ℕ) → MayFollow is_end more →
       units_on old (bytes ++ more)
       ≡ portions_of cut.unit ++ units_on new (drop cut.taken bytes ++ more)
+  pub waits : cut.taken ≡ 0 → Waits new bytes
   pub all : is_end ≡ true → cut.taken ≡ 0 → units_on new bytes ≡ []

@@ -17,7 +17,7 @@ ghost use Rattle.std.specs.Prelude.{
 ghost use Rattle.linkinfo_print.specs.InputAnswers.{PrintsUpTo};
 ghost use Rattle.linkinfo_print.specs.Sentences.{long_text, numbered, unit_word};
 ghost use Rattle.linkinfo_print.specs.UnitAnswers.{AreAnswers, Prints, PrintsSuch};
-ghost use Rattle.linkinfo_print.specs.Units.{portion_of, start, units_on};
+ghost use Rattle.linkinfo_print.specs.Units.{Waits, portion_of, start, units_on};
 
 use crate::options::{Input, Options};
 use crate::report::Report;
@@ -82,6 +82,8 @@ impl Printer {
         ensures within { IfOk result (λ taken. taken ≤ length bytes.now) }
         ensures prints { IfOk result
             (λ taken. PrintsUpTo self.old bytes.now is_end self.new (drop taken bytes.now)) }
+        ensures waits { IfOk result
+            (λ taken. Waits self.new.cutter (drop taken bytes.now)) }
         ensures all { IfOk result (λ taken. is_end ≡ true →
             units_on self.new.cutter (drop taken bytes.now) ≡ []) }
     {
@@ -101,6 +103,7 @@ impl Printer {
         ensures within { IfOk result (λ taken. taken ≤ length bytes.now) }
         ensures prints { IfOk result
             (λ taken. PrintsUpTo self.old bytes.now is_end self.new (drop taken bytes.now)) }
+        ensures waits { IfOk result (λ taken. taken ≡ 0 → Waits self.new.cutter bytes.now) }
         ensures all { IfOk result (λ taken. is_end ≡ true → taken ≡ 0 →
             units_on self.new.cutter bytes.now ≡ []) }
     {

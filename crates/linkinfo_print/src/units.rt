@@ -10,12 +10,17 @@ ghost use Rattle.std.specs.Prelude.{
   if◌then◌else◌,
   true,
   false,
+  Ok,
+  Some,
+  None,
   length,
 };
 ghost use Rattle.linkinfo_messages.specs.Captures.{format_of};
 ghost use Rattle.linkinfo_print.specs.Units.{
   CutsOff,
   HasFrames,
+  HasNoFeed,
+  IsIncomplete,
   IsOfLines,
   TooLong,
   frame_len,
@@ -222,10 +227,27 @@ impl Cutter {
     {
         match memchr::memchr(b'\n', bytes) {
             Some(end) => self.end_line(&bytes[..end], end + 1),
-            None if is_end && !bytes.is_empty() => self.end_line(bytes, bytes.len()),
-            None if bytes.len() > MOST_BYTES => self.begin_long_line(bytes.len()),
-            None => Cut::nothing(),
+            None => self.cut_open_line(bytes, is_end),
         }
+    }
+
+    /// Cuts off a line without a line feed, if it is the last one or too long.
+    fn cut_open_line<'a>(&mut self, bytes: &'a [u8], is_end: bool) -> Cut<'a>
+        requires goes_on { self.old.ended ≡ false }
+        requires lines { IsOfLines self.old.input }
+        requires no_feed { HasNoFeed bytes.now }
+        ensures { CutsOff self.old bytes.now is_end result self.new }
+    {
+        if bytes.is_empty() {
+            return Cut::nothing();
+        }
+        if is_end {
+            return self.end_line(bytes, bytes.len());
+        }
+        if bytes.len() > MOST_BYTES {
+            return self.begin_long_line(bytes.len());
+        }
+        Cut::nothing()
     }
 
     /// Cuts off a line, which ends here.
@@ -283,11 +305,45 @@ impl Cutter {
     {
         match framing.len(bytes) {
             Err(error) => self.take_last(Part::BadMessage(error), bytes),
-            Ok(Some(len)) if len > MOST_BYTES => self.take_last(Part::TooLong, bytes),
-            Ok(Some(len)) if len <= bytes.len() => self.take(framing.part(&bytes[..len]), len),
-            Ok(_) if is_end && !bytes.is_empty() => self.take_last(framing.part(bytes), bytes),
-            Ok(_) => Cut::nothing(),
+            Ok(Some(len)) => self.cut_frame_of(framing, len, bytes, is_end),
+            Ok(None) => self.cut_part(framing, bytes, is_end),
         }
+    }
+
+    /// Cuts off a message or a record of this length.
+    fn cut_frame_of<'a>(
+        &mut self,
+        framing: Framing,
+        len: usize,
+        bytes: &'a [u8],
+        is_end: bool,
+    ) -> Cut<'a>
+        requires frames { HasFrames self.old framing }
+        requires len { frame_len framing bytes.now ≡ Ok (Some len) }
+        ensures { CutsOff self.old bytes.now is_end result self.new }
+    {
+        if len > MOST_BYTES {
+            return self.take_last(Part::TooLong, bytes);
+        }
+        if len > bytes.len() {
+            return self.cut_part(framing, bytes, is_end);
+        }
+        self.take(framing.part(&bytes[..len]), len)
+    }
+
+    /// Cuts off a message or a record that is not whole, if the input ends here.
+    fn cut_part<'a>(&mut self, framing: Framing, bytes: &'a [u8], is_end: bool) -> Cut<'a>
+        requires frames { HasFrames self.old framing }
+        requires part { IsIncomplete (frame_len framing bytes.now) bytes.now }
+        ensures { CutsOff self.old bytes.now is_end result self.new }
+    {
+        if bytes.is_empty() {
+            return Cut::nothing();
+        }
+        if is_end {
+            return self.take_last(framing.part(bytes), bytes);
+        }
+        Cut::nothing()
     }
 
     /// Reads the header of a capture file, which is required even of an empty input.
