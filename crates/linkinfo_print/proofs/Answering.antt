@@ -73,16 +73,16 @@ and_assoc : (a b c : Bool) → (a && b) && c ≡ a && (b && c)
 and_assoc true b c = refl
 and_assoc false b c = refl
 
-outputs_append : (json : Bool) (xs ys : List Answer) →
+pub outputs_append : (json : Bool) (xs ys : List Answer) →
     outputs json (xs ++ ys) ≡ outputs json xs ++ outputs json ys
 outputs_append json xs ys =
     ap (map plain_byte) (flat_map-append (output_of json) xs ys) ∙ map-append plain_byte _ _
 
-errors_append : (xs ys : List Answer) → errors (xs ++ ys) ≡ errors xs ++ errors ys
+pub errors_append : (xs ys : List Answer) → errors (xs ++ ys) ≡ errors xs ++ errors ys
 errors_append xs ys =
     ap (map plain_byte) (flat_map-append error_of xs ys) ∙ map-append plain_byte _ _
 
-adds_nothing : (r : Report) → Adds r [] r
+pub adds_nothing : (r : Report) → Adds r [] r
 adds_nothing r = record {
   output = sym (append-nil r.output);
   errors = sym (append-nil r.errors);
@@ -90,7 +90,7 @@ adds_nothing r = record {
   json = refl;
 }
 
-adds_more : (r s t : Report) (xs ys : List Answer) → Adds r xs s → Adds s ys t → Adds r (xs ++ ys) t
+pub adds_more : (r s t : Report) (xs ys : List Answer) → Adds r xs s → Adds s ys t → Adds r (xs ++ ys) t
 adds_more r s t xs ys a b = record {
   output = b.output
       ∙ ap (λ json. s.output ++ outputs json ys) a.json

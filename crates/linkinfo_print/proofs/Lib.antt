@@ -1,6 +1,11 @@
 pub mod Answering
+pub mod CutFrames
+pub mod CutLines
+pub mod Cutting
 pub mod Flags
+pub mod InputAnswering
 pub mod JsonFlat
 pub mod PlainBytes
+pub mod Running
 pub mod Shows
 pub mod Writing

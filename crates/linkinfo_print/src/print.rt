@@ -11,11 +11,13 @@ ghost use Rattle.std.specs.Prelude.{
   IfOk,
   IfSome,
   OnOk,
+  drop,
   length,
 };
+ghost use Rattle.linkinfo_print.specs.InputAnswers.{PrintsUpTo};
 ghost use Rattle.linkinfo_print.specs.Sentences.{long_text, numbered, unit_word};
 ghost use Rattle.linkinfo_print.specs.UnitAnswers.{AreAnswers, Prints, PrintsSuch};
-ghost use Rattle.linkinfo_print.specs.Units.{portion_of};
+ghost use Rattle.linkinfo_print.specs.Units.{Waits, portion_of, start, units_on};
 
 use crate::options::{Input, Options};
 use crate::report::Report;
@@ -35,7 +37,14 @@ pub struct Printer {
 
 impl Printer {
     /// Starts an input.
-    pub fn new(alloc: Global, options: Options) -> Printer {
+    pub fn new(alloc: Global, options: Options) -> Printer
+        ensures output { result.report.output ≡ [] }
+        ensures errors { result.report.errors ≡ [] }
+        ensures accepted { result.report.accepted ≡ true }
+        ensures json { result.report.json ≡ options.json }
+        ensures options { result.options ≡ options }
+        ensures input { result.cutter ≡ start options.input }
+    {
         Printer {
             alloc,
             options,
@@ -52,29 +61,58 @@ impl Printer {
     }
 
     /// Forgets what has been printed.
-    pub fn clear(&mut self) {
+    pub fn clear(&mut self)
+        ensures { self.new ≡ record self.old {
+          report = record self.old.report { output = []; errors = [] };
+        } }
+    {
         self.report.clear();
     }
 
     /// Whether nothing more is printed, since an error ended the input.
-    pub fn has_ended(&self) -> bool {
+    pub fn has_ended(&self) -> bool
+        ensures { result ≡ self.now.cutter.ended }
+    {
         self.cutter.has_ended()
     }
 
     /// Prints the whole lines, messages or packets at the front of these bytes, or all of them at
     /// the end of the input. Returns how many bytes that were.
-    pub fn push(&mut self, bytes: &[u8], is_end: bool) -> Result<usize, AllocError> {
+    pub fn push(&mut self, bytes: &[u8], is_end: bool) -> Result<usize, AllocError>
+        ensures within { IfOk result (λ taken. taken ≤ length bytes.now) }
+        ensures prints { IfOk result
+            (λ taken. PrintsUpTo self.old bytes.now is_end self.new (drop taken bytes.now)) }
+        ensures waits { IfOk result
+            (λ taken. Waits self.new.cutter (drop taken bytes.now)) }
+        ensures all { IfOk result (λ taken. is_end ≡ true →
+            units_on self.new.cutter (drop taken bytes.now) ≡ []) }
+    {
         let mut rest = bytes;
         loop {
-            let cut = self.cutter.cut(rest, is_end);
-            if let Some(unit) = cut.unit {
-                self.print_unit(unit)?;
-            }
-            if cut.taken == 0 {
+            let taken = self.print_next(rest, is_end)?;
+            if taken == 0 {
                 return Ok(bytes.len() - rest.len());
             }
-            rest = &rest[cut.taken..];
+            rest = &rest[taken..];
         }
+    }
+
+    /// Prints the line, message or packet at the front of these bytes, if it is whole or at the end
+    /// of the input. Returns how many bytes are done with, or 0.
+    fn print_next(&mut self, bytes: &[u8], is_end: bool) -> Result<usize, AllocError>
+        ensures within { IfOk result (λ taken. taken ≤ length bytes.now) }
+        ensures prints { IfOk result
+            (λ taken. PrintsUpTo self.old bytes.now is_end self.new (drop taken bytes.now)) }
+        ensures waits { IfOk result (λ taken. taken ≡ 0 → Waits self.new.cutter bytes.now) }
+        ensures all { IfOk result (λ taken. is_end ≡ true → taken ≡ 0 →
+            units_on self.new.cutter bytes.now ≡ []) }
+    {
+        let cut = self.cutter.cut(bytes, is_end);
+        let Some(unit) = cut.unit else {
+            return Ok(cut.taken);
+        };
+        self.print_unit(unit)?;
+        Ok(cut.taken)
     }
 
     /// Prints a line, a message or a packet. In a stream of messages, an error ends the input.

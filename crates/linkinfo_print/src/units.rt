@@ -1,5 +1,38 @@
 //! An input, cut into lines, messages or packets as it comes.
 
+ghost use Rattle.std.specs.Prelude.{
+  ◌≡◌,
+  ◌≤◌,
+  ◌+◌,
+  List,
+  [],
+  ◌∷◌,
+  if◌then◌else◌,
+  true,
+  false,
+  Ok,
+  Some,
+  None,
+  length,
+};
+ghost use Rattle.linkinfo_messages.specs.Captures.{format_of};
+ghost use Rattle.linkinfo_print.specs.Units.{
+  CutsOff,
+  HasFrames,
+  HasNoFeed,
+  IsIncomplete,
+  IsOfLines,
+  TooLong,
+  frame_len,
+  frame_piece,
+  line_piece,
+  piece_of,
+  portion,
+  portions_of,
+  saturated,
+  start,
+};
+
 use crate::options::Input;
 use linkinfo_messages::{CaptureError, CaptureFormat, MessageError, message_len};
 
@@ -62,9 +95,21 @@ pub(crate) struct Cutter {
     ended: bool,
 }
 
+/// How an input is cut that has no lines.
+#[derive(Clone, Copy)]
+enum Framing {
+    /// Into netlink messages.
+    Messages,
+    /// Into the records of a capture.
+    Records(CaptureFormat),
+}
+
 impl<'a> Cut<'a> {
     /// Nothing is whole.
-    fn nothing() -> Cut<'a> {
+    fn nothing() -> Cut<'a>
+        ensures unit { portions_of result.unit ≡ [] }
+        ensures taken { result.taken ≡ 0 }
+    {
         Cut {
             unit: None,
             taken: 0,
@@ -72,9 +117,33 @@ impl<'a> Cut<'a> {
     }
 }
 
+impl Framing {
+    /// The length of the message or record at the front of the bytes, if its header is there.
+    fn len(self, bytes: &[u8]) -> Result<Option<usize>, MessageError>
+        ensures { result ≡ frame_len self bytes.now }
+    {
+        match self {
+            Framing::Messages => message_len(bytes),
+            Framing::Records(format) => Ok(format.record_len(bytes)),
+        }
+    }
+
+    /// A message or a record that has these bytes.
+    fn part<'a>(self, bytes: &'a [u8]) -> Part<'a>
+        ensures { piece_of result ≡ frame_piece self bytes.now }
+    {
+        match self {
+            Framing::Messages => Part::Message(bytes),
+            Framing::Records(format) => Part::Record(format, bytes),
+        }
+    }
+}
+
 impl Cutter {
     /// Starts an input.
-    pub(crate) fn new(input: Input) -> Cutter {
+    pub(crate) fn new(input: Input) -> Cutter
+        ensures { result ≡ start input }
+    {
         Cutter {
             input,
             number: 1,
@@ -86,30 +155,47 @@ impl Cutter {
     }
 
     /// Whether nothing more is cut off.
-    pub(crate) fn has_ended(&self) -> bool {
+    pub(crate) fn has_ended(&self) -> bool
+        ensures { result ≡ self.now.ended }
+    {
         self.ended
     }
 
     /// Ends the input.
-    pub(crate) fn end(&mut self) {
+    pub(crate) fn end(&mut self)
+        ensures { self.new ≡ record self.old { ended = true } }
+    {
         self.ended = true;
     }
 
     /// Cuts off what is at the front of the bytes, if it is whole. At the end of the input, what is
     /// left is taken as it is.
-    pub(crate) fn cut<'a>(&mut self, bytes: &'a [u8], is_end: bool) -> Cut<'a> {
+    pub(crate) fn cut<'a>(&mut self, bytes: &'a [u8], is_end: bool) -> Cut<'a>
+        ensures { CutsOff self.old bytes.now is_end result self.new }
+    {
         if self.ended {
             return Cut::nothing();
         }
-        match self.input {
-            Input::Lists | Input::Differences | Input::Unmet => self.cut_line(bytes, is_end),
-            Input::Messages => self.cut_message(bytes, is_end),
-            Input::Capture => self.cut_record(bytes, is_end),
+        match (self.input, self.format) {
+            (Input::Messages, _) => self.cut_frame(Framing::Messages, bytes, is_end),
+            (Input::Capture, None) => self.cut_file_header(bytes, is_end),
+            (Input::Capture, Some(format)) => {
+                self.cut_frame(Framing::Records(format), bytes, is_end)
+            }
+            _ => self.cut_line(bytes, is_end),
         }
     }
 
     /// Cuts off a unit of this length.
-    fn take<'a>(&mut self, part: Part<'a>, len: usize) -> Cut<'a> {
+    fn take<'a>(&mut self, part: Part<'a>, len: usize) -> Cut<'a>
+        ensures unit { portions_of result.unit
+            ≡ portion self.old.number self.old.place (piece_of part.entry) ∷ [] }
+        ensures taken { result.taken ≡ len }
+        ensures next { self.new ≡ record self.old {
+          number = saturated (self.old.number + 1);
+          place = saturated (self.old.place + len);
+        } }
+    {
         let unit = Unit {
             number: self.number,
             place: self.place,
@@ -124,22 +210,57 @@ impl Cutter {
     }
 
     /// Cuts off a last unit, which takes all of the bytes.
-    fn take_last<'a>(&mut self, part: Part<'a>, bytes: &'a [u8]) -> Cut<'a> {
+    fn take_last<'a>(&mut self, part: Part<'a>, bytes: &'a [u8]) -> Cut<'a>
+        ensures unit { portions_of result.unit
+            ≡ portion self.old.number self.old.place (piece_of part.entry) ∷ [] }
+        ensures taken { result.taken ≡ length bytes.now }
+        ensures ended { self.new.ended ≡ true }
+    {
         self.ended = true;
         self.take(part, bytes.len())
     }
 
-    fn cut_line<'a>(&mut self, bytes: &'a [u8], is_end: bool) -> Cut<'a> {
+    fn cut_line<'a>(&mut self, bytes: &'a [u8], is_end: bool) -> Cut<'a>
+        requires goes_on { self.old.ended ≡ false }
+        requires lines { IsOfLines self.old.input }
+        ensures { CutsOff self.old bytes.now is_end result self.new }
+    {
         match memchr::memchr(b'\n', bytes) {
             Some(end) => self.end_line(&bytes[..end], end + 1),
-            None if is_end && !bytes.is_empty() => self.end_line(bytes, bytes.len()),
-            None if bytes.len() > MOST_BYTES => self.begin_long_line(bytes.len()),
-            None => Cut::nothing(),
+            None => self.cut_open_line(bytes, is_end),
         }
     }
 
+    /// Cuts off a line without a line feed, if it is the last one or too long.
+    fn cut_open_line<'a>(&mut self, bytes: &'a [u8], is_end: bool) -> Cut<'a>
+        requires goes_on { self.old.ended ≡ false }
+        requires lines { IsOfLines self.old.input }
+        requires no_feed { HasNoFeed bytes.now }
+        ensures { CutsOff self.old bytes.now is_end result self.new }
+    {
+        if bytes.is_empty() {
+            return Cut::nothing();
+        }
+        if is_end {
+            return self.end_line(bytes, bytes.len());
+        }
+        if bytes.len() > MOST_BYTES {
+            return self.begin_long_line(bytes.len());
+        }
+        Cut::nothing()
+    }
+
     /// Cuts off a line, which ends here.
-    fn end_line<'a>(&mut self, line: &'a [u8], len: usize) -> Cut<'a> {
+    fn end_line<'a>(&mut self, line: &'a [u8], len: usize) -> Cut<'a>
+        ensures unit { portions_of result.unit ≡ (if self.old.skips then []
+            else portion self.old.number self.old.place (line_piece line.now) ∷ []) }
+        ensures taken { result.taken ≡ len }
+        ensures next { self.new ≡ record self.old {
+          number = saturated (self.old.number + 1);
+          place = saturated (self.old.place + len);
+          skips = false;
+        } }
+    {
         let part = if line.len() > MOST_BYTES {
             Part::TooLong
         } else {
@@ -157,7 +278,15 @@ impl Cutter {
     }
 
     /// Cuts off the beginning of a line that is too long. Its rest is skipped.
-    fn begin_long_line<'a>(&mut self, len: usize) -> Cut<'a> {
+    fn begin_long_line<'a>(&mut self, len: usize) -> Cut<'a>
+        ensures unit { portions_of result.unit ≡ (if self.old.skips then []
+            else portion self.old.number self.old.place TooLong ∷ []) }
+        ensures taken { result.taken ≡ len }
+        ensures next { self.new ≡ record self.old {
+          place = saturated (self.old.place + len);
+          skips = true;
+        } }
+    {
         let unit = Unit {
             number: self.number,
             place: self.place,
@@ -169,34 +298,61 @@ impl Cutter {
         Cut { unit, taken: len }
     }
 
-    fn cut_message<'a>(&mut self, bytes: &'a [u8], is_end: bool) -> Cut<'a> {
-        match message_len(bytes) {
+    /// Cuts off a message or a record.
+    fn cut_frame<'a>(&mut self, framing: Framing, bytes: &'a [u8], is_end: bool) -> Cut<'a>
+        requires { HasFrames self.old framing }
+        ensures { CutsOff self.old bytes.now is_end result self.new }
+    {
+        match framing.len(bytes) {
             Err(error) => self.take_last(Part::BadMessage(error), bytes),
-            Ok(Some(len)) if len > MOST_BYTES => self.take_last(Part::TooLong, bytes),
-            Ok(Some(len)) if len <= bytes.len() => self.take(Part::Message(&bytes[..len]), len),
-            Ok(_) if is_end && !bytes.is_empty() => self.take_last(Part::Message(bytes), bytes),
-            Ok(_) => Cut::nothing(),
+            Ok(Some(len)) => self.cut_frame_of(framing, len, bytes, is_end),
+            Ok(None) => self.cut_part(framing, bytes, is_end),
         }
     }
 
-    fn cut_record<'a>(&mut self, bytes: &'a [u8], is_end: bool) -> Cut<'a> {
-        let Some(format) = self.format else {
-            return self.cut_file_header(bytes, is_end);
-        };
-        match format.record_len(bytes) {
-            Some(len) if len > MOST_BYTES => self.take_last(Part::TooLong, bytes),
-            Some(len) if len <= bytes.len() => {
-                self.take(Part::Record(format, &bytes[..len]), len)
-            }
-            _ if is_end && !bytes.is_empty() => {
-                self.take_last(Part::Record(format, bytes), bytes)
-            }
-            _ => Cut::nothing(),
+    /// Cuts off a message or a record of this length.
+    fn cut_frame_of<'a>(
+        &mut self,
+        framing: Framing,
+        len: usize,
+        bytes: &'a [u8],
+        is_end: bool,
+    ) -> Cut<'a>
+        requires frames { HasFrames self.old framing }
+        requires len { frame_len framing bytes.now ≡ Ok (Some len) }
+        ensures { CutsOff self.old bytes.now is_end result self.new }
+    {
+        if len > MOST_BYTES {
+            return self.take_last(Part::TooLong, bytes);
         }
+        if len > bytes.len() {
+            return self.cut_part(framing, bytes, is_end);
+        }
+        self.take(framing.part(&bytes[..len]), len)
+    }
+
+    /// Cuts off a message or a record that is not whole, if the input ends here.
+    fn cut_part<'a>(&mut self, framing: Framing, bytes: &'a [u8], is_end: bool) -> Cut<'a>
+        requires frames { HasFrames self.old framing }
+        requires part { IsIncomplete (frame_len framing bytes.now) bytes.now }
+        ensures { CutsOff self.old bytes.now is_end result self.new }
+    {
+        if bytes.is_empty() {
+            return Cut::nothing();
+        }
+        if is_end {
+            return self.take_last(framing.part(bytes), bytes);
+        }
+        Cut::nothing()
     }
 
     /// Reads the header of a capture file, which is required even of an empty input.
-    fn cut_file_header<'a>(&mut self, bytes: &'a [u8], is_end: bool) -> Cut<'a> {
+    fn cut_file_header<'a>(&mut self, bytes: &'a [u8], is_end: bool) -> Cut<'a>
+        requires goes_on { self.old.ended ≡ false }
+        requires capture { self.old.input ≡ Input.Capture }
+        requires header { self.old.format ≡ None }
+        ensures { CutsOff self.old bytes.now is_end result self.new }
+    {
         if bytes.len() < FILE_HEADER_LEN && !is_end {
             return Cut::nothing();
         }
