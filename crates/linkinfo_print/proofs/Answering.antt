@@ -27,7 +27,8 @@ use Rattle.std.proofs.Common.{
   Ok,
   Err,
 }
-use Rattle.std.specs.Fmt.{decimal, format_spec, padded_integral}
+use native.Mathlib.Numerals.{unary_clauses}
+use Rattle.std.specs.Fmt.{char_count, decimal, format_spec, padded_integral}
 use Rattle.std.proofs.lemmas.Grind.{flat_map-append}
 use Rattle.std.proofs.lemmas.List.{map-append}
 use Rattle.std.proofs.lemmas.List.Folds.{list_all-append}
@@ -110,7 +111,7 @@ adds_more r s t xs ys a b = record {
 
 -- ---- the cutter
 
-end_unless : Bool → Bool → Cutter → Cutter
+abbrev end_unless : Bool → Bool → Cutter → Cutter
 end_unless ends all cutter = if ends && not all then record cutter { ended = true } else cutter
 
 ends_once : (ends a b : Bool) (c : Cutter) →
@@ -214,5 +215,7 @@ records_more place (x ∷ records) answers r more (front, back, is-front, is-bac
 
 pub nine_padded : (n : ℕ) →
     padded_integral (format_spec 32 0 4 9 (2 ^ 64 - 1)) false [] (decimal n) ≡ nine_digits n
-unfolding padded_integral
-nine_padded n = ap (λ text. replicate (9 - length (decimal n)) 48 ++ text) (append-nil (decimal n))
+unfolding padded_integral char_count
+nine_padded n =
+    simp unary_clauses
+    (ap (λ text. replicate (9 - length (decimal n)) 48 ++ text) (append-nil (decimal n)))

@@ -178,14 +178,11 @@ impl Printer {
     }
 
     /// Notes an error. In a stream of messages it ends the input.
-    #[tactic(auto, using(crate::proofs::Answering::refused))]
     fn refuse_whole<E: Display + Drop>(&mut self, error: E) -> Result<(), AllocError>
         ensures { OnOk result (IfSome (E.output error)
             (λ sentence. Prints self.old (Err sentence ∷ []) self.new)) }
     {
-        if self.options.input.ends_at_error() {
-            self.cutter.end();
-        }
+        self.cutter.end_if(self.options.input.ends_at_error());
         self.report.refuse(self.alloc, error)
     }
 }
