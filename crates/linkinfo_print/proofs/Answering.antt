@@ -14,6 +14,8 @@ use Rattle.std.proofs.Common.{
   [],
   ◌∷◌,
   ◌++◌,
+  length,
+  replicate,
   map,
   sym,
   ap,
@@ -22,8 +24,11 @@ use Rattle.std.proofs.Common.{
   append_assoc,
   append-nil,
   Result,
+  Ok,
+  Err,
 }
-use Rattle.std.specs.Fmt.{decimal, format_spec, padded_integral}
+use native.Mathlib.Numerals.{unary_clauses}
+use Rattle.std.specs.Fmt.{char_count, decimal, format_spec, padded_integral}
 use Rattle.std.proofs.lemmas.Grind.{flat_map-append}
 use Rattle.std.proofs.lemmas.List.{map-append}
 use Rattle.std.proofs.lemmas.List.Folds.{list_all-append}
@@ -51,12 +56,14 @@ use Rattle.linkinfo_print.specs.UnitAnswers.{
   Prints,
   Time,
   cutter_after,
+  ends_at_error,
   with_number,
 }
 use Rattle.linkinfo_print.specs.declared.options.Input.{Input}
-use Rattle.linkinfo_print.specs.declared.options.Input.TheVariants as input
 use Rattle.linkinfo_print.specs.declared.print.Printer.{Printer}
+use Rattle.linkinfo_print.specs.declared.report.Printed.{Printed}
 use Rattle.linkinfo_print.specs.declared.report.Report.{Report}
+use Rattle.serde_json.specs.Data.{Data}
 use Rattle.linkinfo_print.specs.declared.units.Cutter.{Cutter}
 
 and_true : (b : Bool) → b ≡ b && true
@@ -104,39 +111,56 @@ adds_more r s t xs ys a b = record {
 
 -- ---- the cutter
 
-end_unless : Bool → Cutter → Cutter
-end_unless all cutter = if not all then record cutter { ended = true } else cutter
+abbrev end_unless : Bool → Bool → Cutter → Cutter
+end_unless ends all cutter = if ends && not all then record cutter { ended = true } else cutter
 
-ends_once : (a b : Bool) (c : Cutter) → end_unless b (end_unless a c) ≡ end_unless (a && b) c
-ends_once true true c = refl
-ends_once true false c = refl
-ends_once false true c = refl
-ends_once false false c = refl
+ends_once : (ends a b : Bool) (c : Cutter) →
+    end_unless ends b (end_unless ends a c) ≡ end_unless ends (a && b) c
+ends_once false a b c = refl
+ends_once true true true c = refl
+ends_once true true false c = refl
+ends_once true false true c = refl
+ends_once true false false c = refl
 
 cutter_after_all : (what : Input) (xs ys : List Answer) (c : Cutter) →
     cutter_after what ys (cutter_after what xs c) ≡ cutter_after what (xs ++ ys) c
-cutter_after_all input.Messages xs ys c =
-    ends_once (all_accepted xs) (all_accepted ys) c
-    ∙ ap (λ all. end_unless all c) (sym (list_all-append is_accepted xs ys))
-cutter_after_all input.Lists xs ys c = refl
-cutter_after_all input.Differences xs ys c = refl
-cutter_after_all input.Unmet xs ys c = refl
-cutter_after_all input.Capture xs ys c = refl
+cutter_after_all what xs ys c =
+    ends_once (ends_at_error what) (all_accepted xs) (all_accepted ys) c
+    ∙ ap (λ all. end_unless (ends_at_error what) all c) (sym (list_all-append is_accepted xs ys))
 
-cutter_after_none : (what : Input) (c : Cutter) → c ≡ cutter_after what [] c
-cutter_after_none input.Messages c = refl
-cutter_after_none input.Lists c = refl
-cutter_after_none input.Differences c = refl
-cutter_after_none input.Unmet c = refl
-cutter_after_none input.Capture c = refl
+ends_not : (ends : Bool) (c : Cutter) → c ≡ end_unless ends true c
+ends_not true c = refl
+ends_not false c = refl
 
 -- ---- the printer
 
 pub prints_nothing : (p : Printer) → Prints p [] p
 prints_nothing p = record {
   report = adds_nothing p.report;
-  cutter = cutter_after_none p.options.input p.cutter;
+  cutter = ends_not (ends_at_error p.options.input) p.cutter;
   options = refl;
+}
+
+-- one error
+pub refused : (p q : Printer) (sentence : List ℕ) → Adds p.report (Err sentence ∷ []) q.report →
+    q.options ≡ p.options →
+    q.cutter ≡ (if ends_at_error p.options.input then record p.cutter { ended = true } else p.cutter)
+    → Prints p (Err sentence ∷ []) q
+refused p q sentence report options cutter = record {
+  report = report;
+  cutter = cutter
+      ∙ ap (λ ends. if ends then record p.cutter { ended = true } else p.cutter)
+      (and_true (ends_at_error p.options.input));
+  options = options;
+}
+
+-- one value
+pub printed : (p q : Printer) (value : Printed × Data) → Adds p.report (Ok value ∷ []) q.report →
+    q.options ≡ p.options → q.cutter ≡ p.cutter → Prints p (Ok value ∷ []) q
+printed p q value report options cutter = record {
+  report = report;
+  cutter = cutter ∙ ends_not (ends_at_error p.options.input) p.cutter;
+  options = options;
 }
 
 pub prints_more : (p q r : Printer) (xs ys : List Answer) → Prints p xs q → Prints q ys r →
@@ -164,10 +188,13 @@ pub links_more : (place : ℕ) (time : Time) (links : List (Result Link MessageE
     AreLinkAnswers place time (links ++ link ∷ []) (answers ++ answer ∷ [])
 links_more place time [] answers link answer refl is =
     (answer, [], is, refl, refl)
-links_more place time (l ∷ links) answers link answer (first, others, is-first, are, e) is =
-    (first, others ++ answer ∷ [], is-first,
-    links_more place time links others link answer are is,
-    ap (λ as. as ++ answer ∷ []) e)
+links_more place time (l ∷ links) answers link answer (first, others, is-first, are, e) is = (
+  first,
+  others ++ answer ∷ [],
+  is-first,
+  links_more place time links others link answer are is,
+  ap (λ xs. xs ++ answer ∷ []) e,
+)
 
 -- more records after those that are answered
 pub records_more : (place : ℕ) (records : List (Result RecordParts CaptureError))
@@ -176,13 +203,19 @@ pub records_more : (place : ℕ) (records : List (Result RecordParts CaptureErro
     AreRecordsAnswers place (records ++ r ∷ []) (answers ++ more)
 records_more place [] answers r more refl are =
     (more, [], are, refl, sym (append-nil more))
-records_more place (x ∷ records) answers r more (front, back, is-front, is-back, e) are =
-    (front, back ++ more, is-front,
-    records_more place records back r more is-back are,
-    ap (λ as. as ++ more) e ∙ append_assoc front back more)
+records_more place (x ∷ records) answers r more (front, back, is-front, is-back, e) are = (
+  front,
+  back ++ more,
+  is-front,
+  records_more place records back r more is-back are,
+  ap (λ xs. xs ++ more) e ∙ append_assoc front back more,
+)
 
 -- ---- nine digits of nanoseconds
 
 pub nine_padded : (n : ℕ) →
     padded_integral (format_spec 32 0 4 9 (2 ^ 64 - 1)) false [] (decimal n) ≡ nine_digits n
-nine_padded n = search (unfolding padded_integral)
+unfolding padded_integral char_count
+nine_padded n =
+    simp unary_clauses
+    (ap (λ text. replicate (9 - length (decimal n)) 48 ++ text) (append-nil (decimal n)))

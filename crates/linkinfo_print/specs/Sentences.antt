@@ -41,14 +41,15 @@ not_hex = codes "a list is an even number of hex digits, or '-' for no attribute
 abbrev pub one_word : List ℕ
 one_word = codes "two lists are needed, with a space between them"
 
-abbrev pub too_long : List ℕ
-too_long = codes "it is longer than 1048576 bytes"
-
 -- what has too many bytes, which begins at an offset
 abbrev pub long_text : Input → ℕ → List ℕ
-long_text input.Messages place = codes "message at offset " ++ decimal place ++ codes ": " ++ too_long
-long_text input.Capture place = codes "record at offset " ++ decimal place ++ codes ": " ++ too_long
-long_text _ place = too_long
+long_text input.Lists place = codes "it is longer than 1048576 bytes"
+long_text input.Differences place = codes "it is longer than 1048576 bytes"
+long_text input.Unmet place = codes "it is longer than 1048576 bytes"
+long_text input.Messages place =
+    codes "message at offset " ++ decimal place ++ codes ": it is longer than 1048576 bytes"
+long_text input.Capture place =
+    codes "record at offset " ++ decimal place ++ codes ": it is longer than 1048576 bytes"
 
 -- which list it is that has an error: that of a link, in a message
 abbrev pub list_of_link : ℤ → ℕ → List ℕ

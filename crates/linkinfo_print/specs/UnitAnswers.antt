@@ -5,6 +5,7 @@ use Rattle.std.specs.Prelude.{
   ℕ,
   ◌-◌,
   ◌==◌,
+  ◌&&◌,
   Bool,
   false,
   not,
@@ -260,9 +261,12 @@ AreAnswers what portion answers =
     AreAnswersIn what portion.number portion.place portion.piece answers
 
 -- in a stream of messages, an error ends the input
+abbrev pub ends_at_error : Input → Bool
+ends_at_error input.Messages = true
+ends_at_error _ = false
+
 abbrev pub ends_input : Input → List Answer → Bool
-ends_input input.Messages answers = not (all_accepted answers)
-ends_input _ answers = false
+ends_input what answers = ends_at_error what && not (all_accepted answers)
 
 -- ---- the printer
 

@@ -2,6 +2,7 @@
 
 ghost use Rattle.std.specs.Prelude.{◌≡◌, map, string_bytes};
 ghost use Rattle.linkinfo_print.specs.Options.{options_of, request_of, step_of, with_input};
+ghost use Rattle.linkinfo_print.specs.UnitAnswers.{ends_at_error};
 
 /// What the input is, and what is written of it.
 #[derive(Clone, Copy, Debug, PartialEq, Eq)]
@@ -16,6 +17,19 @@ pub enum Input {
     Messages,
     /// A capture of an nlmon device (a pcap file).
     Capture,
+}
+
+impl Input {
+    /// Whether an error ends the input: that of a message does, since nothing says where the next
+    /// one begins.
+    pub(crate) fn ends_at_error(self) -> bool
+        ensures { result ≡ ends_at_error self }
+    {
+        match self {
+            Input::Messages => true,
+            Input::Lists | Input::Differences | Input::Unmet | Input::Capture => false,
+        }
+    }
 }
 
 /// How a run reads and writes.

@@ -182,9 +182,7 @@ impl Printer {
         ensures { OnOk result (IfSome (E.output error)
             (λ sentence. Prints self.old (Err sentence ∷ []) self.new)) }
     {
-        if self.options.input == Input::Messages {
-            self.cutter.end();
-        }
+        self.cutter.end_if(self.options.input.ends_at_error());
         self.report.refuse(self.alloc, error)
     }
 }

@@ -161,11 +161,13 @@ impl Cutter {
         self.ended
     }
 
-    /// Ends the input.
-    pub(crate) fn end(&mut self)
-        ensures { self.new ≡ record self.old { ended = true } }
+    /// Ends the input, if it is to end.
+    pub(crate) fn end_if(&mut self, ends: bool)
+        ensures { self.new ≡ (if ends then record self.old { ended = true } else self.old) }
     {
-        self.ended = true;
+        if ends {
+            self.ended = true;
+        }
     }
 
     /// Cuts off what is at the front of the bytes, if it is whole. At the end of the input, what is
