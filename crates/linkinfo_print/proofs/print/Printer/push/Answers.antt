@@ -23,12 +23,12 @@ loop-taken-preserved c =
       taken = before.taken + n;
       rest = take_rest rest n ∙ ap (drop n) before.rest ∙ drop-drop n before.taken bytes;
       within = omega (
-          arith,
-          before.within,
-          ap length before.rest,
-          length-drop before.taken bytes,
-          c.in_ok-taken.ensures.within,
-          );
+        arith,
+        before.within,
+        ap length before.rest,
+        length-drop before.taken bytes,
+        c.in_ok-taken.ensures.within,
+      );
       prints = subst (PrintsUpTo c.args.self.now bytes c.args.is_end c.print_next.new.self)
           (sym (take_rest rest n))
           (up_to_more c.args.self.now c.loop-taken.self c.print_next.new.self bytes rest
