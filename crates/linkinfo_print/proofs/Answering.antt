@@ -186,8 +186,8 @@ pub links_more : (place : ℕ) (time : Time) (links : List (Result Link MessageE
     (answers : List Answer) (link : Result Link MessageError) (answer : Answer) →
     AreLinkAnswers place time links answers → IsLinkAnswer place time link answer →
     AreLinkAnswers place time (links ++ link ∷ []) (answers ++ answer ∷ [])
-links_more place time [] answers link answer e is =
-    (answer, [], is, refl, ap (λ xs. xs ++ answer ∷ []) e)
+links_more place time [] answers link answer none is =
+    (answer, [], is, refl, ap (λ xs. xs ++ answer ∷ []) none)
 links_more place time (l ∷ links) answers link answer (first, others, is-first, are, e) is = (
   first,
   others ++ answer ∷ [],
@@ -201,8 +201,8 @@ pub records_more : (place : ℕ) (records : List (Result RecordParts CaptureErro
     (answers : List Answer) (r : Result RecordParts CaptureError) (more : List Answer) →
     AreRecordsAnswers place records answers → AreRecordAnswers place r more →
     AreRecordsAnswers place (records ++ r ∷ []) (answers ++ more)
-records_more place [] answers r more e are =
-    (more, [], are, refl, ap (λ xs. xs ++ more) e ∙ sym (append-nil more))
+records_more place [] answers r more none are =
+    (more, [], are, refl, ap (λ xs. xs ++ more) none ∙ sym (append-nil more))
 records_more place (x ∷ records) answers r more (front, back, is-front, is-back, e) are = (
   front,
   back ++ more,

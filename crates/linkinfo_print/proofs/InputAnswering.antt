@@ -3,6 +3,8 @@ use Rattle.std.proofs.Common.{
   ◌≡◌,
   inl,
   ℕ,
+  ◌-◌,
+  ◌≤◌,
   Bool,
   true,
   false,
@@ -11,6 +13,7 @@ use Rattle.std.proofs.Common.{
   [],
   ◌∷◌,
   ◌++◌,
+  length,
   drop,
   Option,
   Some,
@@ -20,7 +23,9 @@ use Rattle.std.proofs.Common.{
   ap,
   ◌∙◌,
   subst,
+  arith,
   append_assoc,
+  length-drop,
 }
 use Rattle.linkinfo_print.specs.InputAnswers.{AnswersTo, Begins, PrintsUpTo, UnlessEnded}
 use Rattle.linkinfo_print.specs.Printing.{Answer}
@@ -170,3 +175,16 @@ still_waits old new next s Are printed waits =
     by_end : (ends : Bool) → Waits (cutter_by ends next) s
     by_end true = inl refl
     by_end false = waits
+
+-- the bytes taken are those before the rest
+taken_before_rest : (s t : List ℕ) (n : ℕ) → t ≡ drop n s → n ≤ length s → length s - length t ≡ n
+taken_before_rest s t n h within = omega (arith, within, ap length h, length-drop n s)
+
+pub up_to_rest : (a b c : Printer) (s t : List ℕ) (is_end : Bool) (n taken : ℕ) → t ≡ drop n s →
+    n ≤ length s → PrintsUpTo a s is_end b t → PrintsUpTo b t is_end c (drop taken t) →
+    taken ≡ 0 → PrintsUpTo a s is_end c (drop (length s - length t) s)
+up_to_rest a b c s t is_end n taken h within first second none =
+    let whole : drop taken t ≡ drop (length s - length t) s =
+    ap (λ k. drop k t) none ∙ h ∙ ap (λ k. drop k s) (sym (taken_before_rest s t n h within)) in
+    subst (λ l. PrintsUpTo a s is_end c l) whole
+    (up_to_more a b c s t (drop taken t) is_end first second)

@@ -7,8 +7,6 @@ use Rattle.std.proofs.Common.{
   ℕ,
   zero,
   suc,
-  ◌+◌,
-  ◌-◌,
   ◌<◌,
   ◌&&◌,
   Bool,
@@ -21,8 +19,6 @@ use Rattle.std.proofs.Common.{
   ◌++◌,
   length,
   get_or,
-  take,
-  drop,
   Option,
   refl,
   sym,
@@ -33,17 +29,26 @@ use Rattle.std.proofs.Common.{
   append-nil,
   append_assoc,
 }
-use Rattle.std.specs.List.{copy_within}
-use Rattle.std.proofs.lemmas.List.{length-drop, take_at, take_rest}
+use Rattle.std.specs.List.{flat_map}
 use Rattle.std.specs.Io.KnownBytes.{Appends, Consumes, IsAtEnd}
 use Rattle.std.proofs.KnownBytes.{Appends-nil, Appends-trans, Consumes-nil, Consumes-trans}
 use Rattle.linkinfo_print.specs.Answers.{AppendsPlain}
 use Rattle.linkinfo_print.specs.InputAnswers.{AnswersTo, AreAnswersRead, Begins, PrintsUpTo, Runs}
 use Rattle.linkinfo_print.specs.Plain.{IsPlain, is_plain, plain, plain_byte}
-use Rattle.linkinfo_print.specs.Printing.{Adds, Answer, all_accepted, errors, is_accepted, outputs}
+use Rattle.linkinfo_print.specs.Printing.{
+  Adds,
+  Answer,
+  all_accepted,
+  error_of,
+  errors,
+  is_accepted,
+  output_of,
+  outputs,
+}
 use Rattle.linkinfo_print.specs.Units.{MayFollow, start, units_on}
 use Rattle.linkinfo_print.specs.declared.options.Options.{Options}
 use Rattle.linkinfo_print.specs.declared.print.Printer.{Printer}
+use Rattle.linkinfo_print.specs.declared.report.Report.{Report}
 use Rattle.linkinfo_print.specs.declared.units.Cutter.{Cutter}
 use Rattle.std.proofs.lemmas.List.Folds.{list_all-append}
 use Rattle.linkinfo_print.proofs.Answering.{errors_append, outputs_append}
@@ -102,24 +107,25 @@ begins_on o is_end a b s t part xs h = λ more later may l.
 -- one read, and what is printed and written after it
 pub so_far_more : (options : Options) (is_end : Bool)
     (r₀ r₁ r₂ o₀ o₁ o₂ e₀ e₁ e₂ : Option (List ℕ)) (old mid new : Printer)
-    (part before pending after : List ℕ) →
+    (written : Report) (part before pending after : List ℕ) →
     SoFar options false r₀ r₁ o₀ o₁ e₀ e₁ old before →
     Consumes r₁ r₂ part →
     pending ≡ before ++ part →
     PrintsUpTo old pending is_end mid after →
-    Appends o₁ o₂ mid.report.output →
-    Appends e₁ e₂ mid.report.errors →
+    written ≡ mid.report →
+    Appends o₁ o₂ written.output →
+    Appends e₁ e₂ written.errors →
     new ≡ record mid { report = record mid.report { output = []; errors = [] } } →
     SoFar options is_end r₀ r₂ o₀ o₂ e₀ e₂ new after
-so_far_more options is_end r₀ r₁ r₂ o₀ o₁ o₂ e₀ e₁ e₂ old mid new part before pending after
-    h reads on prints writes reports cleared =
+so_far_more options is_end r₀ r₁ r₂ o₀ o₁ o₂ e₀ e₁ e₂ old mid new written part before pending after
+    h reads on prints same writes reports cleared =
     let xs = h.answers in
     let ys = prints.answers in
     let adds = prints.adds in
-    let output : mid.report.output ≡ outputs options.json ys =
-    adds.output ∙ (λ i. h.no_output i ++ outputs (h.json i) ys) in
-    let rejected : mid.report.errors ≡ errors ys =
-    adds.errors ∙ (λ i. h.no_errors i ++ errors ys) in
+    let output : written.output ≡ outputs options.json ys =
+    ap (λ r. r.output) same ∙ adds.output ∙ (λ i. h.no_output i ++ outputs (h.json i) ys) in
+    let rejected : written.errors ≡ errors ys =
+    ap (λ r. r.errors) same ∙ adds.errors ∙ (λ i. h.no_errors i ++ errors ys) in
     let second : Begins options is_end old.cutter (before ++ part) ys mid.cutter after =
     subst (λ o. Begins o is_end old.cutter (before ++ part) ys mid.cutter after) h.options_kept
     (subst (λ s. Begins old.options is_end old.cutter s ys mid.cutter after) on prints.begins) in
@@ -213,15 +219,17 @@ plain_are [] k d lt = absurd (omega arith)
 plain_are (b ∷ bytes) zero d lt = plain_is b
 plain_are (b ∷ bytes) (suc k) d lt = plain_are bytes k d (omega arith)
 
-pub plain_written : (a b : Option (List ℕ)) (bytes : List ℕ) → Appends a b (plain bytes) →
+plain_written : (a b : Option (List ℕ)) (bytes : List ℕ) → Appends a b (plain bytes) →
     AppendsPlain a b
 plain_written a b bytes h =
     record { bytes = plain bytes; appended = h; plain = plain_are bytes }
 
--- ---- bytes that are done with are removed
+pub plain_values : (options : Options) (r₀ r₁ o₀ o₁ e₀ e₁ : Option (List ℕ)) (accepted : Bool) →
+    Runs options r₀ r₁ o₀ o₁ e₀ e₁ accepted → AppendsPlain o₀ o₁
+plain_values options r₀ r₁ o₀ o₁ e₀ e₁ accepted h =
+    plain_written o₀ o₁ (flat_map (output_of options.json) h.answers) h.writes
 
-pub kept_rest : (s : List ℕ) (n : ℕ) →
-    take (length s - n) (copy_within s n (length s) 0) ≡ drop n s
-kept_rest s n =
-    ap (λ l. take (length s - n) (l ++ drop (0 + (length s - n)) s)) (take_rest s n)
-    ∙ take_at (drop n s) (drop (0 + (length s - n)) s) (length s - n) (length-drop n s)
+pub plain_errors : (options : Options) (r₀ r₁ o₀ o₁ e₀ e₁ : Option (List ℕ)) (accepted : Bool) →
+    Runs options r₀ r₁ o₀ o₁ e₀ e₁ accepted → AppendsPlain e₀ e₁
+plain_errors options r₀ r₁ o₀ o₁ e₀ e₁ accepted h =
+    plain_written e₀ e₁ (flat_map error_of h.answers) h.reports
