@@ -1,5 +1,6 @@
 pub mod Flags
 pub mod JsonFlat
+pub mod Kept
 pub mod PlainBytes
 pub mod Shows
 pub mod Writing

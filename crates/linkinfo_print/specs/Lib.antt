@@ -1,4 +1,5 @@
 pub mod Answers
+pub mod Laws
 pub mod ListData
 pub mod ListErrors
 pub mod MembersData
