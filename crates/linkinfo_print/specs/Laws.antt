@@ -1,7 +1,8 @@
--- What holds of the JSON of every list: no attribute is hidden.
+-- What holds of what is printed of every list: no attribute is hidden, and it is plain.
 use Rattle.std.specs.Prelude.{
   ◌≡◌,
   ℕ,
+  Bool,
   List,
   [],
   ◌∷◌,
@@ -21,7 +22,10 @@ use Rattle.linkinfo.specs.Roles.{no_kinds, role_at}
 use Rattle.linkinfo.specs.Strings.{kinds_after_all, reading}
 use Rattle.linkinfo.specs.Walks.{walk_items}
 use Rattle.linkinfo_view.specs.Attributes.{attributes}
+use Rattle.linkinfo_print.specs.Answers.{answer_text}
 use Rattle.linkinfo_print.specs.ListData.{list_data, other_data, others_in, role_data, shown_as}
+use Rattle.linkinfo_print.specs.Plain.{plain}
+use Rattle.linkinfo_print.specs.declared.report.Printed.{Printed}
 use Rattle.serde_json.specs.Data.{Data, array}
 use Rattle.serde_json.specs.Find.{get}
 use Rattle.serde_json.specs.View.{items_of}
@@ -57,3 +61,7 @@ KeepsOthers s =
     ((before : List Data) × (others_in (items_in s)
     ≡ before ++ other_data a ∷ others_in later))
     × (get (codes "others") (list_data s) ≡ Some (array (items_of (others_in (items_in s)))))
+
+-- What is printed of a value is plain, as JSON and as text: `plain` changes nothing in it.
+abbrev pub PrintsUnchanged : Printed → Data → Type 0
+PrintsUnchanged what d = (json : Bool) → plain (answer_text json what d) ≡ answer_text json what d

@@ -619,7 +619,13 @@ members_printable nested all name format.FlowInfo v payload p h g = (
       known_passes (codes "tclass") refl,
       passes (class_text (first_of v / 0x100000)) (class_printable (first_of v / 0x100000)),
     ),
-    ((known_passes (codes "flowlabel") refl, passes (label_text (first_of v)) (label_printable (first_of v))), tt),
+    (
+      (
+        known_passes (codes "flowlabel") refl,
+        passes (label_text (first_of v)) (label_printable (first_of v)),
+      ),
+      tt,
+    ),
   ),
 )
 members_printable nested all name format.Group v payload p h g = (
@@ -631,7 +637,8 @@ members_printable nested all name format.Group v payload p h g = (
 )
 members_printable nested all name format.Group6 v payload p h g = (
   (
-    either_name (is_multicast payload) name (codes "remote6") p (known_passes (codes "remote6") refl),
+    either_name (is_multicast payload) name (codes "remote6") p
+        (known_passes (codes "remote6") refl),
     plain_printable v g,
   ),
   tt,
