@@ -30,13 +30,12 @@ use Rattle.std.proofs.Common.{
   drop,
   take,
   refl,
-  ap,
   subst,
   sym,
 }
 use Rattle.std.proofs.lemmas.Bool.{and_parts}
 use Rattle.std.specs.Fmt.{digits}
-use Rattle.std.specs.List.{AllByRecursion, AllPass, flat_map, list_all}
+use Rattle.std.specs.List.{AllByRecursion, flat_map, list_all}
 use Rattle.std.specs.Option.{IfSome, option_map}
 use Rattle.nla_frame.specs.Attribute.{Attribute, IsAttribute, IsBytes, masked}
 use Rattle.nla_frame.specs.Error.{family_name}
@@ -53,17 +52,10 @@ use Rattle.linkinfo.specs.declared.role.CurrentKinds.{CurrentKinds}
 use Rattle.linkinfo.specs.declared.role.Role.{Role}
 use Rattle.linkinfo.specs.declared.role.Role.TheVariants as role
 use Rattle.linkinfo_messages.specs.declared.link.LinkEvent.{LinkEvent}
-use Rattle.linkinfo_view.specs.Printable.{IsPrintable, ItemsArePrintable, MembersArePrintable}
-use Rattle.linkinfo_view.specs.Text.{escaped_text, hex_data, hex_text, is_printable}
-use Rattle.linkinfo_view.specs.View.{attributes_data}
+use Rattle.linkinfo_view.specs.Printable.{IsPrintable, MembersArePrintable}
+use Rattle.linkinfo_view.specs.Text.{hex_data, hex_text, is_printable}
 use Rattle.linkinfo_view.specs.declared.format.Table.{Table}
-use Rattle.linkinfo_view.proofs.Printable.{
-  both_printable,
-  escaped_printable,
-  hex_printable,
-  known_passes,
-  passes,
-}
+use Rattle.linkinfo_view.proofs.Printable.{escaped_printable, hex_printable, known_passes, passes}
 use Rattle.linkinfo_view.proofs.PrintableData.{
   AllPrintable,
   HaveBytes,
@@ -130,9 +122,7 @@ use Rattle.serde_json.specs.Data.{
   array,
   boolean,
   no_members,
-  null,
   number,
-  object,
   put,
   string,
   unsigned,

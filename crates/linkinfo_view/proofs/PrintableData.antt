@@ -7,7 +7,6 @@ use Rattle.std.proofs.Common.{
   ◌+◌,
   ◌/◌,
   ◌==◌,
-  ◌&&◌,
   Bool,
   true,
   false,
@@ -15,7 +14,6 @@ use Rattle.std.proofs.Common.{
   length,
   eqb,
   IfOk,
-  IsTrue,
   List,
   [],
   ◌∷◌,
@@ -159,7 +157,6 @@ use Rattle.linkinfo_view.specs.declared.format.Words.{Words}
 use Rattle.linkinfo_view.specs.declared.format.Words.TheVariants as words
 use Rattle.linkinfo_view.proofs.Printable.{
   AreSegments,
-  Printable,
   are_segments,
   bridge_printable,
   both_printable,
