@@ -1,4 +1,5 @@
 pub mod Answers
+pub mod InputAnswers
 pub mod Laws
 pub mod ListData
 pub mod ListErrors
@@ -7,4 +8,8 @@ pub mod MessageData
 pub mod Options
 pub mod PairData
 pub mod Plain
+pub mod Printing
+pub mod Sentences
 pub mod Text
+pub mod UnitAnswers
+pub mod Units

@@ -2,6 +2,7 @@
 use Rattle.std.specs.Prelude.{
   ℕ,
   ◌*◌,
+  ◌-◌,
   ◌/◌,
   ◌&&◌,
   Bool,
@@ -16,12 +17,14 @@ use Rattle.std.specs.Prelude.{
   [],
   ◌∷◌,
   ◌++◌,
+  length,
+  replicate,
   Option,
   Some,
   None,
   codes,
 }
-use Rattle.std.specs.Fmt.{digits}
+use Rattle.std.specs.Fmt.{decimal, digits}
 use Rattle.std.specs.List.{flat_map}
 use Rattle.linkinfo_messages.specs.declared.link.LinkEvent.{LinkEvent}
 use Rattle.linkinfo_messages.specs.declared.link.LinkEvent.TheVariants as event
@@ -90,6 +93,15 @@ name_of None = None
 abbrev pub time_of : Option (List ℕ) → Option Data
 time_of (Some time) = Some (string time)
 time_of None = None
+
+-- nine digits of nanoseconds below 10 ^ 9
+abbrev pub nine_digits : ℕ → List ℕ
+nine_digits n = replicate (9 - length (decimal n)) 48 ++ decimal n
+
+-- a time: seconds, and nanoseconds as nine decimal places
+abbrev pub time_text : ℕ × ℕ → List ℕ
+time_text (seconds, nanoseconds) =
+    decimal seconds ++ (codes "." ++ nine_digits nanoseconds)
 
 -- The object of a message: whether the link was deleted, its flags, index and name, and its list
 -- and the time of its packet, where there are any.

@@ -29,6 +29,7 @@ ghost use Rattle.linkinfo_print.specs.MessageData.{
   no_carrier,
   one_flag,
   time_of,
+  time_text,
   unnamed,
 };
 
@@ -174,7 +175,9 @@ fn name_json(alloc: Global, name: Option<&[u8]>) -> Result<Option<Value>, AllocE
 pub(crate) fn time_text(
     alloc: Global,
     time: Option<(u32, u64)>,
-) -> Result<Option<String>, AllocError> {
+) -> Result<Option<String>, AllocError>
+    ensures { IfOk result (λ text. option_map string_bytes text ≡ option_map time_text time) }
+{
     let Some((seconds, nanoseconds)) = time else {
         return Ok(None);
     };

@@ -1,12 +1,26 @@
 //! What is printed, until it is written.
 
-ghost use Rattle.std.specs.Prelude.{◌≡◌, ◌≤◌, ◌++◌, [], true, false, OnOk, Some};
+ghost use Rattle.std.specs.Prelude.{
+  ◌≡◌,
+  ◌≤◌,
+  ◌++◌,
+  [],
+  ◌∷◌,
+  true,
+  false,
+  OnOk,
+  IfSome,
+  Some,
+  Ok,
+  Err,
+};
 ghost use Rattle.serde_json.specs.View.{view};
 ghost use Rattle.serde_json.specs.Data.{depth};
 ghost use Rattle.serde_json.specs.Read.{max_depth, read};
 ghost use Rattle.serde_json.specs.Written.{compact_text, has_float};
 ghost use Rattle.linkinfo_print.specs.Answers.{answer_text, text_of};
-ghost use Rattle.linkinfo_print.specs.Plain.{IsPlain, plain};
+ghost use Rattle.linkinfo_print.specs.Plain.{IsPlain};
+ghost use Rattle.linkinfo_print.specs.Printing.{Adds};
 
 use crate::plain::PlainText;
 use crate::text::{push_list, push_message, push_pair};
@@ -122,11 +136,10 @@ impl Report {
     pub fn print(&mut self, alloc: Global, what: Printed, value: &Value) -> Result<(), AllocError>
         requires shallow { depth (view value.now) ≤ max_depth }
         requires whole_numbers { has_float (view value.now) ≡ false }
-        ensures output { OnOk result (self.new.output
-            ≡ self.old.output ++ plain (answer_text self.old.json what (view value.now))) }
+        ensures adds { OnOk result
+            (Adds self.old (Ok (what, view value.now) ∷ []) self.new) }
         ensures reads_back { OnOk result (self.old.json ≡ true →
             read (compact_text (view value.now)) ≡ Some (view value.now)) }
-        ensures accepted { self.new.accepted ≡ self.old.accepted }
         ensures json { self.new.json ≡ self.old.json }
     {
         let mut text = Vec::new(alloc);
@@ -136,6 +149,8 @@ impl Report {
 
     /// Notes an error. Nothing is printed of what has it.
     pub fn refuse<E: Display + Drop>(&mut self, alloc: Global, error: E) -> Result<(), AllocError>
+        ensures adds { OnOk result (IfSome (E.output error)
+            (λ sentence. Adds self.old (Err sentence ∷ []) self.new)) }
         ensures output { self.new.output ≡ self.old.output }
         ensures accepted { self.new.accepted ≡ false }
         ensures json { self.new.json ≡ self.old.json }

@@ -1,8 +1,10 @@
 //! One run of the program. It prints each line, message or packet once it has come.
 
-ghost use Rattle.std.specs.Prelude.{OnOk};
+ghost use Rattle.std.specs.Prelude.{◌≡◌, [], true, IfOk, OnOk};
 ghost use Rattle.std.specs.Io.KnownBytes.{Appends};
 ghost use Rattle.linkinfo_print.specs.Answers.{AppendsPlain};
+ghost use Rattle.linkinfo_print.specs.InputAnswers.{PrintsUpTo, Runs};
+ghost use Rattle.linkinfo_print.specs.Units.{units_on};
 
 use crate::options::Options;
 use crate::print::Printer;
@@ -41,6 +43,10 @@ pub fn run<R: Read, W: Write, E: Write>(
     output: &mut W,
     errors: &mut E,
 ) -> Result<bool, RunError>
+    ensures answered { IfOk result (λ accepted. Runs options
+        (R.remaining input.old) (R.remaining input.new)
+        (W.contents output.old) (W.contents output.new)
+        (E.contents errors.old) (E.contents errors.new) accepted) }
     ensures plain_output { OnOk result
         (AppendsPlain (W.contents output.old) (W.contents output.new)) }
     ensures plain_errors { OnOk result
@@ -65,12 +71,14 @@ pub fn run<R: Read, W: Write, E: Write>(
     Err(RunError::Read)
 }
 
-/// Prints what is whole of the bytes, and removes it.
-fn take(printer: &mut Printer, pending: &mut Vec<u8>, is_end: bool) -> Result<(), RunError> {
+/// PrintsUpTo what is whole of the bytes, and removes it.
+fn take(printer: &mut Printer, pending: &mut Vec<u8>, is_end: bool) -> Result<(), RunError>
+    ensures prints { OnOk result
+        (PrintsUpTo printer.old pending.old.items is_end printer.new pending.new.items) }
+    ensures all { OnOk result
+        (is_end ≡ true → units_on printer.new.cutter pending.new.items ≡ []) }
+{
     let taken = printer.push(pending, is_end).map_err(|_| RunError::Memory)?;
-    if is_end {
-        printer.finish().map_err(|_| RunError::Memory)?;
-    }
     pending.copy_within(taken.., 0);
     pending.truncate(pending.len() - taken);
     Ok(())
@@ -82,8 +90,10 @@ fn write_report<W: Write, E: Write>(
     output: &mut W,
     errors: &mut E,
 ) -> Result<(), RunError>
-    ensures output { OnOk result (AppendsPlain (W.contents output.old) (W.contents output.new)) }
-    ensures errors { OnOk result (AppendsPlain (E.contents errors.old) (E.contents errors.new)) }
+    ensures output { OnOk result
+        (Appends (W.contents output.old) (W.contents output.new) report.now.output) }
+    ensures errors { OnOk result
+        (Appends (E.contents errors.old) (E.contents errors.new) report.now.errors) }
 {
     let values = report.output();
     write_all(output, values)?;

@@ -1,0 +1,188 @@
+-- Answers that are printed one after another.
+use Rattle.std.proofs.Common.{
+  ◌≡◌,
+  ℕ,
+  ◌&&◌,
+  ◌-◌,
+  ◌^◌,
+  Bool,
+  if◌then◌else◌,
+  true,
+  false,
+  not,
+  List,
+  [],
+  ◌∷◌,
+  ◌++◌,
+  map,
+  sym,
+  ap,
+  refl,
+  ◌∙◌,
+  append_assoc,
+  append-nil,
+  Result,
+}
+use Rattle.std.specs.Fmt.{decimal, format_spec, padded_integral}
+use Rattle.std.proofs.lemmas.Grind.{flat_map-append}
+use Rattle.std.proofs.lemmas.List.{map-append}
+use Rattle.std.proofs.lemmas.List.Folds.{list_all-append}
+use Rattle.linkinfo_print.specs.Plain.{plain_byte}
+use Rattle.linkinfo_print.specs.Printing.{
+  Adds,
+  Answer,
+  all_accepted,
+  error_of,
+  errors,
+  is_accepted,
+  output_of,
+  outputs,
+}
+use Rattle.linkinfo_messages.specs.Captures.{RecordParts}
+use Rattle.linkinfo_messages.specs.Links.{Link}
+use Rattle.linkinfo_messages.specs.declared.capture_error.CaptureError.{CaptureError}
+use Rattle.linkinfo_messages.specs.declared.error.MessageError.{MessageError}
+use Rattle.linkinfo_print.specs.MessageData.{nine_digits}
+use Rattle.linkinfo_print.specs.UnitAnswers.{
+  AreLinkAnswers,
+  AreRecordAnswers,
+  AreRecordsAnswers,
+  IsLinkAnswer,
+  Prints,
+  Time,
+  cutter_after,
+  with_number,
+}
+use Rattle.linkinfo_print.specs.declared.options.Input.{Input}
+use Rattle.linkinfo_print.specs.declared.options.Input.TheVariants as input
+use Rattle.linkinfo_print.specs.declared.print.Printer.{Printer}
+use Rattle.linkinfo_print.specs.declared.report.Report.{Report}
+use Rattle.linkinfo_print.specs.declared.units.Cutter.{Cutter}
+
+and_true : (b : Bool) → b ≡ b && true
+and_true true = refl
+and_true false = refl
+
+and_assoc : (a b c : Bool) → (a && b) && c ≡ a && (b && c)
+and_assoc true b c = refl
+and_assoc false b c = refl
+
+pub outputs_append : (json : Bool) (xs ys : List Answer) →
+    outputs json (xs ++ ys) ≡ outputs json xs ++ outputs json ys
+outputs_append json xs ys =
+    ap (map plain_byte) (flat_map-append (output_of json) xs ys) ∙ map-append plain_byte _ _
+
+pub errors_append : (xs ys : List Answer) → errors (xs ++ ys) ≡ errors xs ++ errors ys
+errors_append xs ys =
+    ap (map plain_byte) (flat_map-append error_of xs ys) ∙ map-append plain_byte _ _
+
+pub adds_nothing : (r : Report) → Adds r [] r
+adds_nothing r = record {
+  output = sym (append-nil r.output);
+  errors = sym (append-nil r.errors);
+  accepted = and_true r.accepted;
+  json = refl;
+}
+
+pub adds_more : (r s t : Report) (xs ys : List Answer) → Adds r xs s → Adds s ys t → Adds r (xs ++ ys) t
+adds_more r s t xs ys a b = record {
+  output = b.output
+      ∙ ap (λ json. s.output ++ outputs json ys) a.json
+      ∙ ap (λ text. text ++ outputs r.json ys) a.output
+      ∙ append_assoc r.output (outputs r.json xs) (outputs r.json ys)
+      ∙ ap (λ text. r.output ++ text) (sym (outputs_append r.json xs ys));
+  errors = b.errors
+      ∙ ap (λ text. text ++ errors ys) a.errors
+      ∙ append_assoc r.errors (errors xs) (errors ys)
+      ∙ ap (λ text. r.errors ++ text) (sym (errors_append xs ys));
+  accepted = b.accepted
+      ∙ ap (λ all. all && all_accepted ys) a.accepted
+      ∙ and_assoc r.accepted (all_accepted xs) (all_accepted ys)
+      ∙ ap (λ all. r.accepted && all) (sym (list_all-append is_accepted xs ys));
+  json = b.json ∙ a.json;
+}
+
+-- ---- the cutter
+
+end_unless : Bool → Cutter → Cutter
+end_unless all cutter = if not all then record cutter { ended = true } else cutter
+
+ends_once : (a b : Bool) (c : Cutter) → end_unless b (end_unless a c) ≡ end_unless (a && b) c
+ends_once true true c = refl
+ends_once true false c = refl
+ends_once false true c = refl
+ends_once false false c = refl
+
+cutter_after_all : (what : Input) (xs ys : List Answer) (c : Cutter) →
+    cutter_after what ys (cutter_after what xs c) ≡ cutter_after what (xs ++ ys) c
+cutter_after_all input.Messages xs ys c =
+    ends_once (all_accepted xs) (all_accepted ys) c
+    ∙ ap (λ all. end_unless all c) (sym (list_all-append is_accepted xs ys))
+cutter_after_all input.Lists xs ys c = refl
+cutter_after_all input.Differences xs ys c = refl
+cutter_after_all input.Unmet xs ys c = refl
+cutter_after_all input.Capture xs ys c = refl
+
+cutter_after_none : (what : Input) (c : Cutter) → c ≡ cutter_after what [] c
+cutter_after_none input.Messages c = refl
+cutter_after_none input.Lists c = refl
+cutter_after_none input.Differences c = refl
+cutter_after_none input.Unmet c = refl
+cutter_after_none input.Capture c = refl
+
+-- ---- the printer
+
+pub prints_nothing : (p : Printer) → Prints p [] p
+prints_nothing p = record {
+  report = adds_nothing p.report;
+  cutter = cutter_after_none p.options.input p.cutter;
+  options = refl;
+}
+
+pub prints_more : (p q r : Printer) (xs ys : List Answer) → Prints p xs q → Prints q ys r →
+    Prints p (xs ++ ys) r
+prints_more p q r xs ys a b = record {
+  report = adds_more p.report q.report r.report xs ys a.report b.report;
+  cutter = b.cutter
+      ∙ ap (λ options. cutter_after options.input ys q.cutter) a.options
+      ∙ ap (cutter_after p.options.input ys) a.cutter
+      ∙ cutter_after_all p.options.input xs ys p.cutter;
+  options = b.options ∙ a.options;
+}
+
+-- ---- answers with numbers
+
+pub number_append : (what : Input) (n : ℕ) (xs ys : List Answer) →
+    map (with_number what n) (xs ++ ys)
+    ≡ map (with_number what n) xs ++ map (with_number what n) ys
+number_append what n xs ys = map-append (with_number what n) xs ys
+
+-- more links after those that are answered
+pub links_more : (place : ℕ) (time : Time) (links : List (Result Link MessageError))
+    (answers : List Answer) (link : Result Link MessageError) (answer : Answer) →
+    AreLinkAnswers place time links answers → IsLinkAnswer place time link answer →
+    AreLinkAnswers place time (links ++ link ∷ []) (answers ++ answer ∷ [])
+links_more place time [] answers link answer refl is =
+    (answer, [], is, refl, refl)
+links_more place time (l ∷ links) answers link answer (first, others, is-first, are, e) is =
+    (first, others ++ answer ∷ [], is-first,
+    links_more place time links others link answer are is,
+    ap (λ as. as ++ answer ∷ []) e)
+
+-- more records after those that are answered
+pub records_more : (place : ℕ) (records : List (Result RecordParts CaptureError))
+    (answers : List Answer) (r : Result RecordParts CaptureError) (more : List Answer) →
+    AreRecordsAnswers place records answers → AreRecordAnswers place r more →
+    AreRecordsAnswers place (records ++ r ∷ []) (answers ++ more)
+records_more place [] answers r more refl are =
+    (more, [], are, refl, sym (append-nil more))
+records_more place (x ∷ records) answers r more (front, back, is-front, is-back, e) are =
+    (front, back ++ more, is-front,
+    records_more place records back r more is-back are,
+    ap (λ as. as ++ more) e ∙ append_assoc front back more)
+
+-- ---- nine digits of nanoseconds
+
+pub nine_padded : (n : ℕ) →
+    padded_integral (format_spec 32 0 4 9 (2 ^ 64 - 1)) false [] (decimal n) ≡ nine_digits n
+nine_padded n = search (unfolding padded_integral)
