@@ -2,6 +2,9 @@
 use Rattle.std.proofs.Common.{
   ◌≡◌,
   ℕ,
+  zero,
+  suc,
+  ◌-◌,
   ◌*◌,
   ◌+◌,
   ◌/◌,
@@ -27,7 +30,9 @@ use Rattle.std.proofs.Common.{
   Ok,
   Err,
   codes,
+  decimal,
   drop,
+  replicate,
   take,
   refl,
   subst,
@@ -55,7 +60,15 @@ use Rattle.linkinfo_messages.specs.declared.link.LinkEvent.{LinkEvent}
 use Rattle.linkinfo_view.specs.Printable.{IsPrintable, MembersArePrintable}
 use Rattle.linkinfo_view.specs.Text.{hex_data, hex_text, is_printable}
 use Rattle.linkinfo_view.specs.declared.format.Table.{Table}
-use Rattle.linkinfo_view.proofs.Printable.{escaped_printable, hex_printable, known_passes, passes}
+use Rattle.linkinfo_view.proofs.Printable.{
+  Printable,
+  both_printable,
+  decimal_printable,
+  escaped_printable,
+  hex_printable,
+  known_passes,
+  passes,
+}
 use Rattle.linkinfo_view.proofs.PrintableData.{
   AllPrintable,
   HaveBytes,
@@ -95,9 +108,11 @@ use Rattle.linkinfo_print.specs.MessageData.{
   link_flags,
   message_data,
   name_of,
+  nine_digits,
   no_carrier,
   one_flag,
   time_of,
+  time_text,
   unnamed,
 }
 use Rattle.linkinfo_print.specs.PairData.{
@@ -372,9 +387,25 @@ name_printable : (name : Option (List ℕ)) → IfSome (name_of name) IsPrintabl
 name_printable (Some s) = escaped_printable s
 name_printable None = tt
 
-time_printable : (time : Option (List ℕ)) → IfSome time Passes → IfSome (time_of time) IsPrintable
-time_printable (Some s) h = h
-time_printable None h = tt
+zeros_printable : (n : ℕ) → Printable (replicate n 48)
+zeros_printable zero = tt
+zeros_printable (suc n) = (refl, zeros_printable n)
+
+digits_printable : (n : ℕ) → Printable (nine_digits n)
+digits_printable n =
+    both_printable (replicate (9 - length (decimal n)) 48) (decimal n)
+    (zeros_printable (9 - length (decimal n))) (decimal_printable n)
+
+time_passes : (time : ℕ × ℕ) → Passes (time_text time)
+time_passes (seconds, nanoseconds) =
+    passes (decimal seconds ++ (codes "." ++ nine_digits nanoseconds))
+    (both_printable (decimal seconds) (codes "." ++ nine_digits nanoseconds)
+    (decimal_printable seconds) (refl, digits_printable nanoseconds))
+
+time_printable : (time : Option (ℕ × ℕ)) →
+    IfSome (time_of (option_map time_text time)) IsPrintable
+time_printable (Some t) = time_passes t
+time_printable None = tt
 
 integer_printable : (z : ℤ) → IsPrintable (number (of_integer z))
 integer_printable (pos n) = tt
@@ -385,17 +416,18 @@ maybe_list : (list : Option (List ℕ)) → IfSome list IsBytes →
 maybe_list (Some s) h = list_printable s h
 maybe_list None h = tt
 
-pub message_printable : (event : LinkEvent) (flags : ℕ) (index : ℤ) (name list time
-    : Option (List ℕ)) → IfSome list IsBytes → IfSome time Passes →
-    IsPrintable (message_data event flags index name (option_map list_data list) time)
-message_printable event flags index name list time h g =
+pub message_printable : (event : LinkEvent) (flags : ℕ) (index : ℤ) (name list : Option (List ℕ))
+    (time : Option (ℕ × ℕ)) → IfSome list IsBytes →
+    IsPrintable (message_data event flags index name (option_map list_data list)
+    (option_map time_text time))
+message_printable event flags index name list time h =
     let one = put (codes "deleted") (boolean (is_deleted event)) no_members in
     let two = put (codes "flags") (flags_data flags) one in
     let three = put (codes "ifindex") (number (of_integer index)) two in
     let four = put_some (codes "ifname") (name_of name) three in
     let five = put_some (codes "linkinfo") (option_map list_data list) four in
-    put_some_printable (codes "time") (time_of time) five (known_passes (codes "time") refl)
-    (time_printable time g)
+    put_some_printable (codes "time") (time_of (option_map time_text time)) five
+    (known_passes (codes "time") refl) (time_printable time)
     (put_some_printable (codes "linkinfo") (option_map list_data list) four
     (known_passes (codes "linkinfo") refl) (maybe_list list h)
     (put_some_printable (codes "ifname") (name_of name) three (known_passes (codes "ifname") refl)

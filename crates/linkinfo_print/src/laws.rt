@@ -1,14 +1,12 @@
 //! Laws of what is printed. They have no code: their contracts are what they are there for.
 
 ghost use Rattle.std.specs.Prelude.{IfSome, List, Option, option_map, ℕ, ℤ};
-ghost use Rattle.std.specs.List.{AllPass};
 ghost use Rattle.nla_frame.specs.Attribute.{IsBytes};
 ghost use Rattle.linkinfo_messages.specs.declared.link.LinkEvent.{LinkEvent};
 ghost use Rattle.linkinfo_view.specs.Printable.{IsPrintable};
-ghost use Rattle.linkinfo_view.specs.Text.{is_printable};
 ghost use Rattle.linkinfo_print.specs.Laws.{HasEach, KeepsOthers, KeepsShown, PrintsUnchanged};
 ghost use Rattle.linkinfo_print.specs.ListData.{list_data};
-ghost use Rattle.linkinfo_print.specs.MessageData.{message_data};
+ghost use Rattle.linkinfo_print.specs.MessageData.{message_data, time_text};
 ghost use Rattle.linkinfo_print.specs.PairData.{pair_data};
 ghost use Rattle.linkinfo_print.specs.declared.compare.Pair.{Pair};
 ghost use Rattle.linkinfo_print.specs.declared.compare.Question.{Question};
@@ -27,15 +25,15 @@ pub fn nothing_hidden()
 
 /// What is printed is printable ASCII and line feeds, as JSON and as text, so that
 /// `Report::print` writes it unchanged: of data whose texts are printable, and so of each list, of
-/// each pair of two lists, and of each message whose time is printable.
+/// each pair of two lists, and of each message with the time of its packet.
 pub fn printable()
     ensures data { (what : Printed) (d : Data) → IsPrintable d → PrintsUnchanged what d }
     ensures list { (s : List ℕ) → IsBytes s → PrintsUnchanged printed.List (list_data s) }
     ensures pair { (q : Question) (a b : List ℕ) (pair : Option Pair) → IsBytes a → IsBytes b →
         PrintsUnchanged printed.Pair (pair_data q a b pair) }
-    ensures message { (event : LinkEvent) (flags : ℕ) (index : ℤ) (name list time
-        : Option (List ℕ)) →
-        IfSome list IsBytes → IfSome time (AllPass is_printable) →
+    ensures message { (event : LinkEvent) (flags : ℕ) (index : ℤ) (name list : Option (List ℕ))
+        (time : Option (ℕ × ℕ)) → IfSome list IsBytes →
         PrintsUnchanged printed.Message
-        (message_data event flags index name (option_map list_data list) time) }
+        (message_data event flags index name (option_map list_data list)
+        (option_map time_text time)) }
 {}
