@@ -5,7 +5,10 @@ pub mod Cutting
 pub mod Flags
 pub mod InputAnswering
 pub mod JsonFlat
+pub mod Kept
 pub mod PlainBytes
+pub mod PrintableAnswers
+pub mod PrintableTexts
 pub mod Running
 pub mod Shows
 pub mod Writing

@@ -1,5 +1,6 @@
 pub mod Answers
 pub mod InputAnswers
+pub mod Laws
 pub mod ListData
 pub mod ListErrors
 pub mod MembersData

@@ -3,6 +3,7 @@
 
 mod compare;
 mod inline;
+pub mod laws;
 mod lines;
 mod list;
 mod members;

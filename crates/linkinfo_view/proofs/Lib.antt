@@ -3,4 +3,5 @@ pub mod Kept
 pub mod Meant
 pub mod Places
 pub mod Printable
+pub mod PrintableData
 pub mod Rows

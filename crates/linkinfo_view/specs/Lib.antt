@@ -1,6 +1,7 @@
 pub mod Attributes
 pub mod Laws
 pub mod Lines
+pub mod Printable
 pub mod Table
 pub mod Text
 pub mod Values

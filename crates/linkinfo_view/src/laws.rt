@@ -2,6 +2,7 @@
 
 ghost use Rattle.std.specs.Prelude.{IsTrue, List, ℕ};
 ghost use Rattle.std.specs.List.{AllPass};
+ghost use Rattle.nla_frame.specs.Attribute.{IsBytes};
 ghost use Rattle.nla_frame.specs.declared.error.Family.{Family};
 ghost use Rattle.nla_frame.specs.declared.error.Family.TheVariants as family;
 ghost use Rattle.linkinfo_view.specs.Laws.{
@@ -12,7 +13,9 @@ ghost use Rattle.linkinfo_view.specs.Laws.{
   are_distinct,
   member_names,
 };
+ghost use Rattle.linkinfo_view.specs.Printable.{IsPrintable};
 ghost use Rattle.linkinfo_view.specs.Text.{escaped_text, is_printable};
+ghost use Rattle.linkinfo_view.specs.View.{attributes_data};
 ghost use Rattle.linkinfo_view.specs.declared.format.Table.{Table};
 ghost use Rattle.linkinfo_view.specs.declared.format.Table.TheVariants as table;
 
@@ -42,4 +45,10 @@ pub fn nothing_hidden()
 /// An escaped text is printable ASCII, whatever its bytes.
 pub fn escaped_texts()
     ensures { (bytes : List ℕ) → AllPass is_printable (escaped_text bytes) }
+{}
+
+/// All texts of the object of a list are printable ASCII, by the rows of every table: names of
+/// members, words, and texts, addresses and hex of the bytes.
+pub fn printable()
+    ensures { (t : Table) (s : List ℕ) → IsBytes s → IsPrintable (attributes_data t s) }
 {}
