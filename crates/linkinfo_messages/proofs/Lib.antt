@@ -4,3 +4,4 @@ pub mod Slicing
 pub mod Linking
 pub mod Capturing
 pub mod Writing
+pub mod Streaming
