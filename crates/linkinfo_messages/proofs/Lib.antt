@@ -5,3 +5,4 @@ pub mod Linking
 pub mod Capturing
 pub mod Writing
 pub mod Streaming
+pub mod Moving

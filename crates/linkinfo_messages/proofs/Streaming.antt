@@ -1,5 +1,32 @@
 -- A stream is cut after an item: the parts have the items of the whole.
-use Rattle.std.proofs.Common.{◌≡◌, ℕ, ◌+◌, ◌-◌, ◌≤◌, ◌<◌, cond, ltb, List, [], ◌∷◌, ◌++◌, length, take, drop, refl, sym, ap, ◌∙◌, arith, Option, Some, None, Result, Ok, Err}
+use Rattle.std.proofs.Common.{
+  ◌≡◌,
+  ℕ,
+  ◌+◌,
+  ◌-◌,
+  ◌≤◌,
+  ◌<◌,
+  cond,
+  ltb,
+  List,
+  [],
+  ◌∷◌,
+  ◌++◌,
+  length,
+  take,
+  drop,
+  refl,
+  sym,
+  ap,
+  ◌∙◌,
+  arith,
+  Option,
+  Some,
+  None,
+  Result,
+  Ok,
+  Err,
+}
 use Rattle.std.specs.Prelude.{slice_index, slice_range}
 use Rattle.std.proofs.lemmas.Bool.{ltb-false, le-ltb}
 use Rattle.std.proofs.lemmas.List.{
@@ -99,7 +126,8 @@ same_range n u s k same least room =
 -- ---- any items
 
 -- the item at the front takes n bytes, and it is that of each byte string that begins with them
-pub record Leads {X E : Type 0} (read : Reader X E) (place n : ℕ) (s : List ℕ) (x : X) : Type 0 where
+pub record Leads {X E : Type 0} (read : Reader X E) (place n : ℕ) (s : List ℕ)
+    (x : X) : Type 0 where
   pub some : 0 < n
   pub within : n ≤ length s
   pub reads : (u : List ℕ) → take n u ≡ take n s → n ≤ length u → read place u ≡ Ok (x, n)
@@ -163,7 +191,8 @@ message_leads place n s len room =
       within = room;
       reads =
           λ u same enough.
-          reads place (le16 s 4) u payload k (same_le32 n u s 0 same (omega (arith, w.len, w.least)))
+          reads place (le16 s 4) u payload k
+          (same_le32 n u s 0 same (omega (arith, w.len, w.least)))
           (same_le16 n u s 4 same (omega (arith, w.len, w.least)))
           (same_range n u s k same w.least (omega (arith, w.len)))
           (omega (arith, w.len, w.least, enough)) w.least (omega (arith, w.len, enough))
@@ -176,7 +205,8 @@ pub messages_cut : (place n : ℕ) (s more : List ℕ) → message_len s ≡ Ok 
     ≡ messages place (take n s) ++ messages (place + n) (drop n s ++ more)
 messages_cut place n s more len room =
     items_cut message_at takes_some place n s more
-    (message_in place (le16 s 4) (slice_range s 16 (length_of s))) (message_leads place n s len room)
+    (message_in place (le16 s 4) (slice_range s 16 (length_of s)))
+    (message_leads place n s len room)
 
 links_before-joined : (r : Result (Option Link) MessageError)
     (l next : List (Result Link MessageError)) →

@@ -11,6 +11,7 @@ ghost use Rattle.std.specs.Prelude.{
   ◌∷◌,
   ◌++◌,
   length,
+  map,
   take,
   drop,
   Some,
@@ -27,6 +28,14 @@ ghost use Rattle.linkinfo_messages.specs.Messages.{
   message_len,
   message_string,
   messages,
+};
+ghost use Rattle.linkinfo_messages.specs.Offsets.{
+  capture_error_moved,
+  error_moved,
+  link_moved,
+  message_moved,
+  moved,
+  record_moved,
 };
 ghost use Rattle.linkinfo_messages.specs.Reading.{joined};
 
@@ -72,4 +81,19 @@ pub fn record_stream()
     ensures records_split { (format : CaptureFormat) (place n : ℕ) (s more : List ℕ) →
         record_len format s ≡ Some n → n ≤ length s → records format place (s ++ more)
         ≡ records format place (take n s) ++ records format (place + n) (drop n s ++ more) }
+{}
+
+/// Bytes have the same messages and links wherever they begin, offsets aside: those of bytes that
+/// begin later have greater offsets.
+pub fn message_offsets()
+    ensures messages_moved { (by place : ℕ) (s : List ℕ) → messages (by + place) s
+        ≡ map (moved (message_moved by) (error_moved by)) (messages place s) }
+    ensures links_moved { (by place : ℕ) (s : List ℕ) → links_of (messages (by + place) s)
+        ≡ map (moved (link_moved by) (error_moved by)) (links_of (messages place s)) }
+{}
+
+/// Bytes have the same records wherever they begin, offsets aside.
+pub fn record_offsets()
+    ensures { (format : CaptureFormat) (by place : ℕ) (s : List ℕ) → records format (by + place) s
+        ≡ map (moved (record_moved by) (capture_error_moved by)) (records format place s) }
 {}
