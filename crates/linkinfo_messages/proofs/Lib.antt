@@ -4,3 +4,5 @@ pub mod Slicing
 pub mod Linking
 pub mod Capturing
 pub mod Writing
+pub mod Streaming
+pub mod Moving

@@ -32,12 +32,12 @@ use Rattle.std.specs.Option.{option_or}
 use Rattle.std.proofs.lemmas.Bool.{cases_lt}
 use Rattle.std.proofs.lemmas.List.{drop_all, length-drop}
 use Rattle.nla_frame.specs.Attribute.{Attribute, aligned, masked}
-use Rattle.nla_frame.specs.NlaItems.{nla_items, split, split_up_to}
+use Rattle.nla_frame.specs.NlaItems.{nla_items, headers_in, split, split_up_to}
 use Rattle.nla_frame.specs.Payload.{stripped}
 use Rattle.linkinfo_messages.specs.Links.{located, damaged_at, last_of, name_in, info_in}
-use Rattle.nla_frame.specs.Walk.{Walk, unread, Passes}
+use Rattle.nla_frame.specs.Walk.{Walk, unread, headers_left, Passes, Fails}
 
-no_items : nla_items [] ≡ []
+pub no_items : nla_items [] ≡ []
 unfolding nla_items split split_up_to
 no_items = refl
 
@@ -124,3 +124,24 @@ info_moves l l' place a old new all e n h =
     ap (option_or (info_in l')) n
     ∙ latest (λ x. (x.0 + 4, x.1.value)) (last_of 18 l') (eqb (masked a.kind) 18) (place, a) old
     ∙ ap (λ x. option_or (info_in x) old) (sym e) ∙ h
+
+-- ---- the headers examined
+
+-- at the end all are counted
+pub counted_at_end : (s t : Walk) (n : ℕ) → t ≡ s → nla_items (unread s) ≡ [] →
+    s.examined + headers_left s ≡ n → t.examined ≡ n
+counted_at_end s t n same none h =
+    let e : t.examined ≡ s.examined = ap (λ (w : Walk). w.examined) same in
+    omega (arith, e, ap headers_in none, h)
+
+-- and so they are where a header is not accepted
+pub counted_at_damage : (s t : Walk) (n : ℕ) → Fails s t → s.examined + headers_left s ≡ n →
+    t.examined ≡ n
+counted_at_damage s t n h e = omega (arith, h.examined, ap headers_in h.nla_items_are, e)
+
+-- a message too short for `struct ifinfomsg` has none
+pub no_headers : (payload : List ℕ) → length payload < 16 →
+    headers_in (nla_items (drop 16 payload)) ≡ 0
+no_headers payload h =
+    ap (λ l. headers_in (nla_items l)) (drop_all 16 payload (omega (arith, h)))
+    ∙ ap headers_in no_items

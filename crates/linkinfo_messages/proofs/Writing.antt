@@ -39,7 +39,7 @@ use Rattle.linkinfo_messages.proofs.Items.{items_first}
 use Rattle.linkinfo_messages.proofs.Linking.{takes_some}
 
 -- the message at the front, where its three fields are known
-reads : (place kind : ℕ) (s payload : List ℕ) (n : ℕ) → length_of s ≡ n → le16 s 4 ≡ kind →
+pub reads : (place kind : ℕ) (s payload : List ℕ) (n : ℕ) → length_of s ≡ n → le16 s 4 ≡ kind →
     slice_range s 16 n ≡ payload → 16 ≤ length s → 16 ≤ n → n ≤ length s → aligned n ≤ length s →
     message_at place s ≡ Ok (message_in place kind payload, aligned n)
 unfolding message_at

@@ -13,6 +13,7 @@ use Rattle.std.specs.Prelude.{
   nat_lt,
   List,
   [],
+  ◌∷◌,
   length,
   drop,
   slice_range,
@@ -107,6 +108,25 @@ record_at format place s =
       16 + captured_len format s,
     )
 
+-- the records of the bytes that begin at an offset
+abbrev pub records : CaptureFormat → ℕ → List ℕ → List (Result RecordParts CaptureError)
+records format place s = items (record_at format) place s
+
+-- the headers examined of a record that is rejected: one, unless it is cut short
+abbrev pub rejected_headers : CaptureCause → ℕ
+rejected_headers cause.RecordHeader = 0
+rejected_headers _ = 1
+
+-- the headers examined to read a record
+abbrev pub record_headers : {X : Type 0} → Result X CaptureError → ℕ
+record_headers (Ok x) = 1
+record_headers (Err e) = rejected_headers e.cause
+
+-- .. and to read records
+abbrev pub headers_of : List (Result RecordParts CaptureError) → ℕ
+headers_of [] = 0
+headers_of (r ∷ more) = record_headers r + headers_of more
+
 -- the length of the record at the front, if its header is there
 abbrev pub record_len : CaptureFormat → List ℕ → Option ℕ
 record_len format s =
@@ -149,23 +169,28 @@ netlink_seen (Err e) = Err e
 
 -- ---- the iterator
 
--- its byte string, how numbers are written, the offset of the next header, and whether there was an
--- error
+-- its byte string, how numbers are written, the offset of the next header, the headers examined so
+-- far, and whether there was an error
 pub record Walk : Type 0 where
   pub source : List ℕ
   pub format : CaptureFormat
   pub place : ℕ
+  pub examined : ℕ
   pub failed : Bool
 
 -- a capture before its first record
 abbrev pub capture_seen : List ℕ → Result CaptureFormat CaptureError → Result Walk CaptureError
-capture_seen s (Ok format) = Ok (record { source = s; format = format; place = 24; failed = false })
+capture_seen s (Ok format) =
+    Ok (record { source = s; format = format; place = 24; examined = 0; failed = false })
 capture_seen s (Err e) = Err e
 
--- the items to come
+-- the items to come, and the headers to be examined for them
 abbrev pub records_left : Walk → List (Result RecordParts CaptureError)
 records_left w =
-    if w.failed then [] else items (record_at w.format) w.place (drop w.place w.source)
+    if w.failed then [] else records w.format w.place (drop w.place w.source)
+
+abbrev pub headers_left : Walk → ℕ
+headers_left w = headers_of (records_left w)
 
 -- A record is at the offset, and its packet a slice of the source; the next one is after it. After
 -- an error the offset is that of the rejected record.
@@ -180,9 +205,11 @@ StepsBy s None t = t ≡ s
 StepsBy s (Some (Ok r)) t = IsNext s r t
 StepsBy s (Some (Err e)) t = (e.place ≡ s.place) × (t.place ≡ s.place) × (t.failed ≡ true)
 
--- one call yields the first of the items left, and keeps its byte string and its format
+-- one call yields the first of the items left, keeps its byte string and its format, and counts
+-- each header that it examines
 pub record Moves (s : Walk) (r : Option (Result Record CaptureError)) (t : Walk) : Type 0 where
   pub gives : YieldsFirstBy record_seen records_left s r t
   pub source : t.source ≡ s.source
   pub format : t.format ≡ s.format
+  pub counted : t.examined + headers_left t ≡ s.examined + headers_left s
   pub steps : StepsBy s r t

@@ -6,4 +6,5 @@ pub mod Slices
 pub mod Views
 pub mod Walks
 pub mod Captures
+pub mod Offsets
 pub mod ErrorTexts

@@ -4,6 +4,7 @@ use Rattle.std.specs.Prelude.{
   ℤ,
   ◌+◌,
   ◌==◌,
+  ◌||◌,
   if◌then◌else◌,
   nat_lt,
   List,
@@ -22,7 +23,7 @@ use Rattle.std.specs.Prelude.{
 use Rattle.std.specs.Option.{option_or}
 use Rattle.std.specs.Int.{w32, cast_signed}
 use Rattle.nla_frame.specs.Attribute.{Attribute, aligned, masked}
-use Rattle.nla_frame.specs.NlaItems.{nla_items}
+use Rattle.nla_frame.specs.NlaItems.{nla_items, headers_in}
 use Rattle.nla_frame.specs.Payload.{stripped}
 use Rattle.linkinfo_messages.specs.declared.error.MessageCause.TheVariants.{
   LinkHeader,
@@ -32,7 +33,7 @@ use Rattle.linkinfo_messages.specs.declared.error.MessageError.{MessageError}
 use Rattle.linkinfo_messages.specs.declared.link.LinkEvent.{LinkEvent}
 use Rattle.linkinfo_messages.specs.declared.link.LinkEvent.TheVariants.{New, Deleted}
 use Rattle.linkinfo_messages.specs.Integers.{le32}
-use Rattle.linkinfo_messages.specs.Messages.{Message, message_error}
+use Rattle.linkinfo_messages.specs.Messages.{Message, message_error, rejected_headers}
 
 -- ---- the attributes of a link
 
@@ -122,3 +123,25 @@ abbrev pub links_of : List (Result Message MessageError) → List (Result Link M
 links_of [] = []
 links_of ((Ok m) ∷ more) = links_before (link_of m) (links_of more)
 links_of ((Err e) ∷ more) = Err e ∷ []
+
+-- ---- the headers examined
+
+-- those of the attributes after `struct ifinfomsg`
+abbrev pub link_headers : Message → ℕ
+link_headers m = headers_in (nla_items (drop 16 m.payload))
+
+-- those of the attributes of a message, which are examined if it is a link message
+unfoldable pub attribute_headers : Message → ℕ
+attribute_headers m = if m.kind == 16 || m.kind == 17 then link_headers m else 0
+
+-- those of the messages after a message, unless it is rejected
+abbrev pub headers_after : Result (Option Link) MessageError → ℕ → ℕ
+headers_after (Ok link) n = n
+headers_after (Err e) n = 0
+
+-- those of messages and of the attributes of link messages, up to the first error
+abbrev pub headers_of : List (Result Message MessageError) → ℕ
+headers_of [] = 0
+headers_of ((Ok m) ∷ more) =
+    1 + (attribute_headers m + headers_after (link_of m) (headers_of more))
+headers_of ((Err e) ∷ more) = rejected_headers e.cause

@@ -64,6 +64,16 @@ message_in place kind payload = record { place = place; kind = kind; payload = p
 abbrev pub messages : ℕ → List ℕ → List (Result Message MessageError)
 messages place s = items message_at place s
 
+-- the headers examined of a message that is rejected: one, unless it is cut short
+abbrev pub rejected_headers : MessageCause → ℕ
+rejected_headers Header = 0
+rejected_headers _ = 1
+
+-- the headers examined to read a message
+abbrev pub message_headers : {X : Type 0} → Result X MessageError → ℕ
+message_headers (Ok x) = 1
+message_headers (Err e) = rejected_headers e.cause
+
 -- the length of the message at the front with its padding, if its header is there
 abbrev pub message_len : List ℕ → Result (Option ℕ) MessageError
 message_len s =

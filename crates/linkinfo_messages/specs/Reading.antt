@@ -36,3 +36,9 @@ items_up_to read (suc n) place (b ∷ s) =
 -- bytes
 unfoldable pub items : {X E : Type 0} → Reader X E → ℕ → List ℕ → List (Result X E)
 items read place s = items_up_to read (length s) place s
+
+-- the items of a byte string and then those of the next one; an error is the last
+abbrev pub joined : {X E : Type 0} → List (Result X E) → List (Result X E) → List (Result X E)
+joined [] next = next
+joined ((Ok x) ∷ more) next = Ok x ∷ joined more next
+joined ((Err e) ∷ more) next = Err e ∷ []

@@ -1,15 +1,27 @@
 //! The attributes of a link message.
 
-ghost use Rattle.std.specs.Prelude.{◌≡◌, ◌+◌, ◌<◌, ◌^◌, ◌==◌, if◌then◌else◌, Some, length, IfOk};
+ghost use Rattle.std.specs.Prelude.{
+  ◌≡◌,
+  ◌+◌,
+  ◌*◌,
+  ◌<◌,
+  ◌≤◌,
+  ◌^◌,
+  ◌==◌,
+  if◌then◌else◌,
+  Some,
+  length,
+  IfOk,
+};
 ghost use Rattle.nla_frame.specs.Attribute.{aligned, masked};
-ghost use Rattle.nla_frame.specs.NlaItems.{nla_items};
+ghost use Rattle.nla_frame.specs.NlaItems.{nla_items, headers_in};
 ghost use Rattle.nla_frame.specs.Payload.{stripped};
 ghost use Rattle.linkinfo_messages.specs.Slices.{AreSlices};
 ghost use Rattle.linkinfo_messages.specs.Views.{HasAttributes, info_seen};
 ghost use Rattle.std.specs.Prelude.{option_copied};
 
 use crate::link::LinkContents;
-use nla_frame::{NlaBuffer, NlasIterator, without_nul};
+use nla_frame::{HeaderCount, NlaBuffer, NlasIterator, without_nul};
 
 /// The type of the attribute that has the name of a link.
 const IFLA_IFNAME: u16 = 3;
@@ -53,13 +65,20 @@ impl<'a> LinkAttributes<'a> {
     }
 }
 
-/// Reads the attributes of a byte string that begins at offset `start`. The error is the offset of
-/// the first header that is not accepted.
-pub(crate) fn attributes_of<'a>(start: usize, bytes: &'a [u8]) -> Result<LinkAttributes<'a>, usize>
-    requires { start + length bytes.now < 2 ^ 64 }
+/// Reads the attributes of a byte string that begins at offset `start`, and adds the number of
+/// their headers to `examined`. The error is the offset of the first header that is not accepted.
+pub(crate) fn attributes_of<'a>(
+    start: usize,
+    bytes: &'a [u8],
+    examined: &mut HeaderCount,
+) -> Result<LinkAttributes<'a>, usize>
+    requires end { start + length bytes.now < 2 ^ 64 }
+    requires count { examined.old + length bytes.now < 2 ^ 64 }
     ensures attributes { HasAttributes result start (nla_items bytes.now) }
     ensures slices { IfOk result (λ attributes. AreSlices (option_copied attributes.name)
         (info_seen attributes.info) bytes.now start) }
+    ensures counted { examined.new ≡ examined.old + headers_in (nla_items bytes.now) }
+    ensures quarter { 4 * examined.new ≤ 4 * examined.old + length bytes.now }
 {
     let mut attributes = LinkAttributes {
         name: None,
@@ -69,10 +88,12 @@ pub(crate) fn attributes_of<'a>(start: usize, bytes: &'a [u8]) -> Result<LinkAtt
     let mut place = start;
     while let Some(item) = nlas.next() {
         let Ok(nla) = item else {
+            examined.add(nlas.examined());
             return Err(place);
         };
         attributes = attributes.with(place, &nla);
         place = start + nlas.place();
     }
+    examined.add(nlas.examined());
     Ok(attributes)
 }

@@ -9,6 +9,7 @@ ghost use Rattle.linkinfo_messages.specs.Captures.{
   netlink_of,
   netlink_seen,
   record_at,
+  record_headers,
   record_in,
   record_len,
   records_left,
@@ -17,6 +18,7 @@ ghost use Rattle.linkinfo_messages.specs.Captures.{
 
 use crate::capture_error::{CaptureCause, CaptureError};
 use crate::integers::{be_u16, le_u32, u32_in};
+use nla_frame::HeaderCount;
 use std::marker::Model;
 
 /// The length of the header of a capture file in bytes: a magic number, a version, two unused
@@ -101,13 +103,20 @@ impl CaptureFormat {
     /// Iterates over the records in bytes that follow the header of a capture file.
     pub fn records<'a>(self, bytes: &'a [u8]) -> Capture<'a>
         ensures start { result
-            ≡ record { source = bytes.now; format = self; place = 0; failed = false } }
+            ≡ record {
+              source = bytes.now;
+              format = self;
+              place = 0;
+              examined = 0;
+              failed = false;
+            } }
         ensures item_bound { 16 * length (records_left result) ≤ length bytes.now + 15 }
     {
         Capture {
             bytes,
             format: self,
             place: 0,
+            examined: HeaderCount::new(),
             failed: false,
         }
     }
@@ -168,17 +177,19 @@ impl<'a> Record<'a> {
 }
 
 /// Iterates over the records of a capture file, in order. It yields one error at most, and ends
-/// after it. Each header of a record is looked at once, and no packet.
+/// after it. Each header of a record is looked at once, and no packet. `examined` counts these
+/// headers.
 #[derive(Debug, Drop)]
 pub struct Capture<'a> {
     bytes: &'a [u8],
     format: CaptureFormat,
     place: usize,
+    examined: HeaderCount,
     failed: bool,
 }
 
 impl<'a> Model for Capture<'a> {
-    ghost use Rattle.std.specs.Prelude.{◌≤◌, length};
+    ghost use Rattle.std.specs.Prelude.{◌≡◌, ◌*◌, ◌≤◌, false, length};
     ghost use Rattle.linkinfo_messages.specs.Captures.{Walk};
 
     ghost Value = { Walk };
@@ -187,10 +198,13 @@ impl<'a> Model for Capture<'a> {
       source = w.bytes.now;
       format = w.format;
       place = w.place;
+      examined = w.examined;
       failed = w.failed;
     } };
 
-    ghost invariant = { λ w. w.place ≤ length w.bytes.now };
+    ghost invariant = { λ w. (w.place ≤ length w.bytes.now)
+        × (16 * w.examined ≤ length w.bytes.now)
+        × (w.failed ≡ false → 16 * w.examined ≤ w.place) };
 }
 
 impl<'a> Capture<'a> {
@@ -206,8 +220,18 @@ impl<'a> Capture<'a> {
             bytes,
             format,
             place: FILE_HEADER_LEN,
+            examined: HeaderCount::new(),
             failed: false,
         })
+    }
+
+    /// The number of headers of records examined so far, those of which all 16 bytes are there. It
+    /// is at most a sixteenth of the number of bytes.
+    pub fn examined(&self) -> usize
+        ensures count { result ≡ self.now.examined }
+        ensures sixteenth { 16 * result ≤ length self.now.source }
+    {
+        self.examined.get()
     }
 
     /// The offset of the next record's header: after the last record, the number of bytes; after
@@ -221,14 +245,17 @@ impl<'a> Capture<'a> {
 }
 
 /// Reads the record at the front of the bytes, which begin at offset `place`. Returns it with its
-/// length, header included.
+/// length, header included. The header is counted as examined if its 16 bytes are there.
 #[tactic(auto, unfolding(crate::specs::Captures::record_at))]
 fn record_at<'a>(
     format: CaptureFormat,
     place: usize,
     bytes: &'a [u8],
+    examined: &mut HeaderCount,
 ) -> Result<(Record<'a>, usize), CaptureError>
-    ensures { record_result result ≡ record_at format place bytes.now }
+    requires { examined.old + length bytes.now < 2 ^ 64 }
+    ensures reads { record_result result ≡ record_at format place bytes.now }
+    ensures counted { examined.new ≡ examined.old + record_headers result }
 {
     if bytes.len() < RECORD_HEADER_LEN {
         return Err(CaptureError {
@@ -236,6 +263,7 @@ fn record_at<'a>(
             cause: CaptureCause::RecordHeader,
         });
     }
+    examined.add(1);
     let captured = u32_in(format.big_endian, bytes, 8);
     let end = RECORD_HEADER_LEN + captured as usize;
     if bytes.len() < end {
@@ -270,7 +298,8 @@ impl<'a> Iterator for Capture<'a> {
         if self.failed || self.place == self.bytes.len() {
             return None;
         }
-        match record_at(self.format, self.place, &self.bytes[self.place..]) {
+        let unread = &self.bytes[self.place..];
+        match record_at(self.format, self.place, unread, &mut self.examined) {
             Ok((record, len)) => {
                 self.place += len;
                 Some(Ok(record))

@@ -1,13 +1,14 @@
 //! One link message.
 
-ghost use Rattle.std.specs.Prelude.{◌≡◌, ◌+◌, ◌<◌, ◌^◌, length, IfOk, IfSome};
-ghost use Rattle.linkinfo_messages.specs.Links.{link_as, link_of};
+ghost use Rattle.std.specs.Prelude.{◌≡◌, ◌+◌, ◌*◌, ◌<◌, ◌≤◌, ◌^◌, length, IfOk, IfSome};
+ghost use Rattle.linkinfo_messages.specs.Links.{link_as, link_of, link_headers, attribute_headers};
 ghost use Rattle.linkinfo_messages.specs.Views.{HasSlices, link_seen};
 
 use crate::attributes::attributes_of;
 use crate::error::{MessageCause, MessageError};
 use crate::integers::le_u32;
 use crate::message::Message;
+use nla_frame::HeaderCount;
 
 /// The length of the header of link messages in bytes: a family, a device type, an interface index,
 /// flags and a mask of changed flags (`struct ifinfomsg`, include/uapi/linux/rtnetlink.h).
@@ -55,30 +56,42 @@ pub struct LinkMessage<'a> {
     pub info: Option<LinkContents<'a>>,
 }
 
-/// Reads a message as a link message. Returns `None` if it is of another type.
-#[tactic(auto, unfolding(crate::specs::Links::link_of))]
+/// Reads a message as a link message, and adds the number of its attributes' headers to `examined`.
+/// Returns `None` if it is of another type.
+#[tactic(auto, unfolding(crate::specs::Links::link_of, crate::specs::Links::attribute_headers))]
 #[inline(always)]
-pub(crate) fn link_of<'a>(message: &Message<'a>) -> Result<Option<LinkMessage<'a>>, MessageError>
+pub(crate) fn link_of<'a>(
+    message: &Message<'a>,
+    examined: &mut HeaderCount,
+) -> Result<Option<LinkMessage<'a>>, MessageError>
+    requires { examined.old + length message.now.payload < 2 ^ 64 }
     ensures link { link_seen result ≡ link_of message.now }
     ensures slices { IfOk result (λ link. IfSome link (λ link.
         HasSlices link message.now.payload (message.now.place + 16))) }
+    ensures counted { examined.new ≡ examined.old + attribute_headers message.now }
+    ensures quarter { 4 * examined.new ≤ 4 * examined.old + length message.now.payload }
 {
     match message.kind() {
-        NEW_LINK => link_as(LinkEvent::New, message),
-        DELETED_LINK => link_as(LinkEvent::Deleted, message),
+        NEW_LINK => link_as(LinkEvent::New, message, examined),
+        DELETED_LINK => link_as(LinkEvent::Deleted, message, examined),
         _ => Ok(None),
     }
 }
 
-/// Reads a link message of this event.
+/// Reads a link message of this event, and adds the number of its attributes' headers to
+/// `examined`.
 #[tactic(auto, unfolding(crate::specs::Links::link_as))]
 fn link_as<'a>(
     event: LinkEvent,
     message: &Message<'a>,
+    examined: &mut HeaderCount,
 ) -> Result<Option<LinkMessage<'a>>, MessageError>
+    requires { examined.old + length message.now.payload < 2 ^ 64 }
     ensures link { link_seen result ≡ link_as event message.now }
     ensures slices { IfOk result (λ link. IfSome link (λ link.
         HasSlices link message.now.payload (message.now.place + 16))) }
+    ensures counted { examined.new ≡ examined.old + link_headers message.now }
+    ensures quarter { 4 * examined.new ≤ 4 * examined.old + length message.now.payload }
 {
     let place = message.place();
     let payload = message.payload();
@@ -86,7 +99,7 @@ fn link_as<'a>(
         let cause = MessageCause::LinkHeader(message.len());
         return Err(MessageError { place, cause });
     }
-    match attributes_of(place + 32, &payload[LINK_HEADER_LEN..]) {
+    match attributes_of(place + 32, &payload[LINK_HEADER_LEN..], examined) {
         Ok(attributes) => Ok(Some(LinkMessage {
             place,
             event,

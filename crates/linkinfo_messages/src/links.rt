@@ -7,6 +7,7 @@ ghost use Rattle.linkinfo_messages.specs.Walks.{Finds, Moves, links_left};
 use crate::error::MessageError;
 use crate::link::{LinkMessage, link_of};
 use crate::message::message_at;
+use nla_frame::HeaderCount;
 use std::marker::Model;
 
 /// Iterates over the link messages of a byte string, in order: those of type `RTM_NEWLINK` and
@@ -18,37 +19,57 @@ use std::marker::Model;
 /// yields one error at most, and ends after it.
 ///
 /// Each header of a message, and each header of an attribute of a link message, is looked at once;
-/// a name only at its last byte, and no other payload at all.
+/// `examined` counts them. Of payloads only `ifinfomsg` and the last byte of a name are looked at.
 #[derive(Debug, Drop)]
 pub struct LinkMessages<'a> {
     bytes: &'a [u8],
     place: usize,
+    examined: HeaderCount,
     failed: bool,
 }
 
 impl<'a> Model for LinkMessages<'a> {
-    ghost use Rattle.std.specs.Prelude.{◌≤◌, length};
+    ghost use Rattle.std.specs.Prelude.{◌≡◌, ◌*◌, ◌≤◌, false, length};
     ghost use Rattle.linkinfo_messages.specs.Walks.{Walk};
 
     ghost Value = { Walk };
 
-    ghost view = { λ w. record { source = w.bytes.now; place = w.place; failed = w.failed } };
+    ghost view = { λ w. record {
+      source = w.bytes.now;
+      place = w.place;
+      examined = w.examined;
+      failed = w.failed;
+    } };
 
-    ghost invariant = { λ w. w.place ≤ length w.bytes.now };
+    ghost invariant = { λ w. (w.place ≤ length w.bytes.now)
+        × (4 * w.examined ≤ length w.bytes.now)
+        × (w.failed ≡ false → 4 * w.examined ≤ w.place) };
 }
 
 impl<'a> LinkMessages<'a> {
     /// An iterator that starts at offset 0 of the bytes. It yields at most one item per sixteen
     /// bytes, and one more.
     pub fn new(bytes: &'a [u8]) -> LinkMessages<'a>
-        ensures start { result ≡ record { source = bytes.now; place = 0; failed = false } }
+        ensures start { result
+            ≡ record { source = bytes.now; place = 0; examined = 0; failed = false } }
         ensures item_bound { 16 * length (links_left result) ≤ length bytes.now + 15 }
     {
         LinkMessages {
             bytes,
             place: 0,
+            examined: HeaderCount::new(),
             failed: false,
         }
+    }
+
+    /// The number of headers examined so far: those of messages of which all 16 bytes are there,
+    /// and those of attributes of link messages of which all four bytes are there. It is at most a
+    /// quarter of the number of bytes.
+    pub fn examined(&self) -> usize
+        ensures count { result ≡ self.now.examined }
+        ensures quarter { 4 * result ≤ length self.now.source }
+    {
+        self.examined.get()
     }
 
     /// The offset of the next message's header: after the last message, the number of bytes; after
@@ -61,19 +82,22 @@ impl<'a> LinkMessages<'a> {
     }
 }
 
-/// The first link message from an offset on, and the offset after it.
+/// The first link message from an offset on, and the offset after it. The number of headers that
+/// are examined for it is added to `examined`.
 fn next_link<'a>(
     bytes: &'a [u8],
     start: usize,
+    examined: &mut HeaderCount,
 ) -> Result<Option<(LinkMessage<'a>, usize)>, MessageError>
-    requires { start ≤ length bytes.now }
-    ensures { Finds bytes.now start result }
+    requires within { start ≤ length bytes.now }
+    requires count { 4 * examined.old ≤ start }
+    ensures { Finds bytes.now start examined.old examined.new result }
 {
     let mut place = start;
     while place < bytes.len() {
-        let (message, len) = message_at(place, &bytes[place..])?;
+        let (message, len) = message_at(place, &bytes[place..], examined)?;
         place += len;
-        if let Some(link) = link_of(&message)? {
+        if let Some(link) = link_of(&message, examined)? {
             return Ok(Some((link, place)));
         }
     }
@@ -91,7 +115,7 @@ impl<'a> Iterator for LinkMessages<'a> {
         if self.failed {
             return None;
         }
-        match next_link(self.bytes, self.place) {
+        match next_link(self.bytes, self.place, &mut self.examined) {
             Ok(None) => {
                 self.place = self.bytes.len();
                 None

@@ -1,10 +1,11 @@
 //! One netlink message in borrowed bytes.
 
 ghost use Rattle.std.specs.Prelude.{◌≡◌, ◌+◌, ◌<◌, ◌^◌, length, IfOk};
-ghost use Rattle.linkinfo_messages.specs.Messages.{message_at, message_len};
+ghost use Rattle.linkinfo_messages.specs.Messages.{message_at, message_headers, message_len};
 
 use crate::error::{MessageCause, MessageError};
 use crate::integers::{le_u16, le_u32};
+use nla_frame::HeaderCount;
 use std::marker::Model;
 
 /// The length of a message header in bytes: a 32-bit length, a 16-bit type, 16 bits of flags, a
@@ -32,15 +33,18 @@ impl<'a> Model for Message<'a> {
 }
 
 /// Reads the message at the front of the bytes, which begin at offset `place`. Returns it with its
-/// length, padding included.
+/// length, padding included. Its header is counted as examined if its 16 bytes are there.
 #[tactic(auto, unfolding(crate::specs::Messages::message_at))]
 #[inline(always)]
 pub(crate) fn message_at<'a>(
     place: usize,
     bytes: &'a [u8],
+    examined: &mut HeaderCount,
 ) -> Result<(Message<'a>, usize), MessageError>
-    requires { place + length bytes.now < 2 ^ 64 }
-    ensures { result ≡ message_at place bytes.now }
+    requires end { place + length bytes.now < 2 ^ 64 }
+    requires count { examined.old + length bytes.now < 2 ^ 64 }
+    ensures reads { result ≡ message_at place bytes.now }
+    ensures counted { examined.new ≡ examined.old + message_headers result }
 {
     if bytes.len() < HEADER_LEN {
         return Err(MessageError {
@@ -48,6 +52,7 @@ pub(crate) fn message_at<'a>(
             cause: MessageCause::Header,
         });
     }
+    examined.add(1);
     let length = le_u32(bytes, 0);
     if length < 16 {
         return Err(MessageError {

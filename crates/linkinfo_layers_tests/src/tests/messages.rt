@@ -91,6 +91,45 @@ fn links_of_a_dump(rt: HostRuntime) {
     assert_is(&rt, "after the end", links.next(), None);
 }
 
+/// The headers of the dump are at 0 and, of attributes, 32, 40 and 48; at 60 and, of attributes, 92
+/// and 100; at 108; and at 124.
+#[test]
+fn headers_examined(rt: HostRuntime) {
+    let mut links = LinkMessages::new(&DUMP);
+    assert_is(&rt, "start", links.examined(), 0);
+    let _ = links.next();
+    assert_is(&rt, "first", links.examined(), 4);
+    let _ = links.next();
+    assert_is(&rt, "second", links.examined(), 7);
+    let _ = links.next();
+    assert_is(&rt, "end", links.examined(), 9);
+    let _ = links.next();
+    assert_is(&rt, "after the end", links.examined(), 9);
+    let cases = [
+        ("header cut short", examined_in(&DUMP[..75]), 4),
+        ("short", examined_in(&changed(DUMP, 60, 15)), 5),
+        ("long", examined_in(&DUMP[..106]), 5),
+        ("no ifinfomsg", examined_in(&changed(DUMP, 60, 31)), 5),
+        ("rejected attribute", examined_in(&changed(DUMP, 40, 21)), 3),
+        // Of the attribute at offset 48 the message has two bytes.
+        ("attribute cut short", examined_in(&changed(DUMP, 0, 50)), 3),
+        // A message of another type has no attributes that are examined.
+        ("other type", examined_in(&changed(DUMP, 4, 20)), 6),
+    ];
+    for (case, examined, wanted) in cases {
+        assert_is(&rt, case, examined, wanted);
+    }
+}
+
+/// The number of headers examined after three calls, of which the last yields nothing.
+fn examined_in(bytes: &[u8]) -> usize {
+    let mut links = LinkMessages::new(bytes);
+    let _ = links.next();
+    let _ = links.next();
+    let _ = links.next();
+    links.examined()
+}
+
 /// A prefix is accepted where it ends after a message, with or without the padding.
 #[test]
 fn prefixes_of_a_dump(rt: HostRuntime) {
@@ -291,6 +330,34 @@ fn errors_of_captures(rt: HostRuntime) {
     ];
     for (case, (bytes, wanted)) in cases.iter().enumerate() {
         assert_is(&rt, case, capture_error_in(bytes), *wanted);
+    }
+}
+
+/// The number of headers of records examined after two calls, of which the last yields nothing.
+fn record_headers_in(rt: &impl Abort, bytes: &[u8]) -> usize {
+    let mut capture = Capture::new(bytes).expect(rt, "a capture");
+    let _ = capture.next();
+    let _ = capture.next();
+    capture.examined()
+}
+
+/// The record is at offset 24, and 92 bytes long.
+#[test]
+fn record_headers_examined(rt: HostRuntime) {
+    let bytes = capture(&rt, rt.alloc(), 0xa1b2_c3d4, false, [0, 0]);
+    let mut capture = Capture::new(&bytes).expect(&rt, "a capture");
+    assert_is(&rt, "start", capture.examined(), 0);
+    let _ = capture.next();
+    assert_is(&rt, "first", capture.examined(), 1);
+    let cases = [
+        ("none", 24, 0),
+        ("header cut short", 39, 0),
+        ("packet cut short", 115, 1),
+        ("whole", 116, 1),
+    ];
+    for (case, len, wanted) in cases {
+        let examined = record_headers_in(&rt, before(&rt, &bytes, len));
+        assert_is(&rt, case, examined, wanted);
     }
 }
 

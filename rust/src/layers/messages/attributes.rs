@@ -1,7 +1,7 @@
 //! The attributes of a link message.
 
 use crate::layers::messages::link::LinkContents;
-use crate::layers::nla_frame::{NlaBuffer, NlasIterator, without_nul};
+use crate::layers::nla_frame::{HeaderCount, NlaBuffer, NlasIterator, without_nul};
 
 /// The type of the attribute that has the name of a link.
 const IFLA_IFNAME: u16 = 3;
@@ -39,11 +39,12 @@ impl<'a> LinkAttributes<'a> {
     }
 }
 
-/// Reads the attributes of a byte string that begins at offset `start`. The error is the offset of
-/// the first header that is not accepted.
+/// Reads the attributes of a byte string that begins at offset `start`, and adds the number of
+/// their headers to `examined`. The error is the offset of the first header that is not accepted.
 pub(crate) fn attributes_of<'a>(
     start: usize,
     bytes: &'a [u8],
+    examined: &mut HeaderCount,
 ) -> Result<LinkAttributes<'a>, usize> {
     let mut attributes = LinkAttributes {
         name: None,
@@ -53,10 +54,12 @@ pub(crate) fn attributes_of<'a>(
     let mut place = start;
     while let Some(item) = nlas.next() {
         let Ok(nla) = item else {
+            examined.add(nlas.examined());
             return Err(place);
         };
         attributes = attributes.with(place, &nla);
         place = start + nlas.place();
     }
+    examined.add(nlas.examined());
     Ok(attributes)
 }

@@ -2,6 +2,7 @@
 
 use crate::layers::messages::capture_error::{CaptureCause, CaptureError};
 use crate::layers::messages::integers::{be_u16, le_u32, u32_in};
+use crate::layers::nla_frame::HeaderCount;
 
 /// The length of the header of a capture file in bytes: a magic number, a version, two unused
 /// fields, a limit of captured lengths, and the link type.
@@ -85,6 +86,7 @@ impl CaptureFormat {
             bytes,
             format: self,
             place: 0,
+            examined: HeaderCount::new(),
             failed: false,
         }
     }
@@ -142,12 +144,14 @@ impl<'a> Record<'a> {
 }
 
 /// Iterates over the records of a capture file, in order. It yields one error at most, and ends
-/// after it. Each header of a record is looked at once, and no packet.
+/// after it. Each header of a record is looked at once, and no packet. `examined` counts these
+/// headers.
 #[derive(Debug)]
 pub struct Capture<'a> {
     bytes: &'a [u8],
     format: CaptureFormat,
     place: usize,
+    examined: HeaderCount,
     failed: bool,
 }
 
@@ -160,8 +164,15 @@ impl<'a> Capture<'a> {
             bytes,
             format,
             place: FILE_HEADER_LEN,
+            examined: HeaderCount::new(),
             failed: false,
         })
+    }
+
+    /// The number of headers of records examined so far, those of which all 16 bytes are there. It
+    /// is at most a sixteenth of the number of bytes.
+    pub fn examined(&self) -> usize {
+        self.examined.get()
     }
 
     /// The offset of the next record's header: after the last record, the number of bytes; after an
@@ -172,11 +183,12 @@ impl<'a> Capture<'a> {
 }
 
 /// Reads the record at the front of the bytes, which begin at offset `place`. Returns it with its
-/// length, header included.
+/// length, header included. The header is counted as examined if its 16 bytes are there.
 fn record_at<'a>(
     format: CaptureFormat,
     place: usize,
     bytes: &'a [u8],
+    examined: &mut HeaderCount,
 ) -> Result<(Record<'a>, usize), CaptureError> {
     if bytes.len() < RECORD_HEADER_LEN {
         return Err(CaptureError {
@@ -184,6 +196,7 @@ fn record_at<'a>(
             cause: CaptureCause::RecordHeader,
         });
     }
+    examined.add(1);
     let captured = u32_in(format.big_endian, bytes, 8);
     let end = RECORD_HEADER_LEN + captured as usize;
     if bytes.len() < end {
@@ -214,7 +227,8 @@ impl<'a> Iterator for Capture<'a> {
         if self.failed || self.place == self.bytes.len() {
             return None;
         }
-        match record_at(self.format, self.place, &self.bytes[self.place..]) {
+        let unread = &self.bytes[self.place..];
+        match record_at(self.format, self.place, unread, &mut self.examined) {
             Ok((record, len)) => {
                 self.place += len;
                 Some(Ok(record))

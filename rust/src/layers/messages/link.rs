@@ -5,6 +5,7 @@ use crate::layers::messages::attributes::attributes_of;
 use crate::layers::messages::error::{MessageCause, MessageError};
 use crate::layers::messages::integers::le_u32;
 use crate::layers::messages::message::Message;
+use crate::layers::nla_frame::HeaderCount;
 
 /// The length of the header of link messages in bytes: a family, a device type, an interface index,
 /// flags and a mask of changed flags (`struct ifinfomsg`, include/uapi/linux/rtnetlink.h).
@@ -52,20 +53,26 @@ pub struct LinkMessage<'a> {
     pub info: Option<LinkContents<'a>>,
 }
 
-/// Reads a message as a link message. Returns `None` if it is of another type.
+/// Reads a message as a link message, and adds the number of its attributes' headers to `examined`.
+/// Returns `None` if it is of another type.
 #[inline(always)]
-pub(crate) fn link_of<'a>(message: &Message<'a>) -> Result<Option<LinkMessage<'a>>, MessageError> {
+pub(crate) fn link_of<'a>(
+    message: &Message<'a>,
+    examined: &mut HeaderCount,
+) -> Result<Option<LinkMessage<'a>>, MessageError> {
     match message.kind() {
-        NEW_LINK => link_as(LinkEvent::New, message),
-        DELETED_LINK => link_as(LinkEvent::Deleted, message),
+        NEW_LINK => link_as(LinkEvent::New, message, examined),
+        DELETED_LINK => link_as(LinkEvent::Deleted, message, examined),
         _ => Ok(None),
     }
 }
 
-/// Reads a link message of this event.
+/// Reads a link message of this event, and adds the number of its attributes' headers to
+/// `examined`.
 fn link_as<'a>(
     event: LinkEvent,
     message: &Message<'a>,
+    examined: &mut HeaderCount,
 ) -> Result<Option<LinkMessage<'a>>, MessageError> {
     let place = message.place();
     let payload = message.payload();
@@ -73,7 +80,7 @@ fn link_as<'a>(
         let cause = MessageCause::LinkHeader(message.len());
         return Err(MessageError { place, cause });
     }
-    match attributes_of(place + 32, &payload[LINK_HEADER_LEN..]) {
+    match attributes_of(place + 32, &payload[LINK_HEADER_LEN..], examined) {
         Ok(attributes) => Ok(Some(LinkMessage {
             place,
             event,

@@ -3,6 +3,7 @@
 use crate::layers::messages::error::MessageError;
 use crate::layers::messages::link::{LinkMessage, link_of};
 use crate::layers::messages::message::message_at;
+use crate::layers::nla_frame::HeaderCount;
 
 /// Iterates over the link messages of a byte string, in order: those of type `RTM_NEWLINK` and
 /// `RTM_DELLINK`. Messages of other types are skipped.
@@ -13,11 +14,12 @@ use crate::layers::messages::message::message_at;
 /// yields one error at most, and ends after it.
 ///
 /// Each header of a message, and each header of an attribute of a link message, is looked at once;
-/// a name only at its last byte, and no other payload at all.
+/// `examined` counts them. Of payloads only `ifinfomsg` and the last byte of a name are looked at.
 #[derive(Debug)]
 pub struct LinkMessages<'a> {
     bytes: &'a [u8],
     place: usize,
+    examined: HeaderCount,
     failed: bool,
 }
 
@@ -28,8 +30,16 @@ impl<'a> LinkMessages<'a> {
         LinkMessages {
             bytes,
             place: 0,
+            examined: HeaderCount::new(),
             failed: false,
         }
+    }
+
+    /// The number of headers examined so far: those of messages of which all 16 bytes are there,
+    /// and those of attributes of link messages of which all four bytes are there. It is at most a
+    /// quarter of the number of bytes.
+    pub fn examined(&self) -> usize {
+        self.examined.get()
     }
 
     /// The offset of the next message's header: after the last message, the number of bytes; after
@@ -39,16 +49,18 @@ impl<'a> LinkMessages<'a> {
     }
 }
 
-/// The first link message from an offset on, and the offset after it.
+/// The first link message from an offset on, and the offset after it. The number of headers that
+/// are examined for it is added to `examined`.
 fn next_link<'a>(
     bytes: &'a [u8],
     start: usize,
+    examined: &mut HeaderCount,
 ) -> Result<Option<(LinkMessage<'a>, usize)>, MessageError> {
     let mut place = start;
     while place < bytes.len() {
-        let (message, len) = message_at(place, &bytes[place..])?;
+        let (message, len) = message_at(place, &bytes[place..], examined)?;
         place += len;
-        if let Some(link) = link_of(&message)? {
+        if let Some(link) = link_of(&message, examined)? {
             return Ok(Some((link, place)));
         }
     }
@@ -62,7 +74,7 @@ impl<'a> Iterator for LinkMessages<'a> {
         if self.failed {
             return None;
         }
-        match next_link(self.bytes, self.place) {
+        match next_link(self.bytes, self.place, &mut self.examined) {
             Ok(None) => {
                 self.place = self.bytes.len();
                 None

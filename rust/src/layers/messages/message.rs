@@ -3,6 +3,7 @@
 use crate::compat::NextMultiple;
 use crate::layers::messages::error::{MessageCause, MessageError};
 use crate::layers::messages::integers::{le_u16, le_u32};
+use crate::layers::nla_frame::HeaderCount;
 
 /// The length of a message header in bytes: a 32-bit length, a 16-bit type, 16 bits of flags, a
 /// 32-bit sequence number and a 32-bit port (`struct nlmsghdr`, include/uapi/linux/netlink.h).
@@ -17,11 +18,12 @@ pub(crate) struct Message<'a> {
 }
 
 /// Reads the message at the front of the bytes, which begin at offset `place`. Returns it with its
-/// length, padding included.
+/// length, padding included. Its header is counted as examined if its 16 bytes are there.
 #[inline(always)]
 pub(crate) fn message_at<'a>(
     place: usize,
     bytes: &'a [u8],
+    examined: &mut HeaderCount,
 ) -> Result<(Message<'a>, usize), MessageError> {
     if bytes.len() < HEADER_LEN {
         return Err(MessageError {
@@ -29,6 +31,7 @@ pub(crate) fn message_at<'a>(
             cause: MessageCause::Header,
         });
     }
+    examined.add(1);
     let length = le_u32(bytes, 0);
     if length < 16 {
         return Err(MessageError {

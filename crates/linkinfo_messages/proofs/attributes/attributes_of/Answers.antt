@@ -1,6 +1,14 @@
 use Rattle.std.proofs.Common.{refl, ap, ◌∙◌, arith, length}
-use Rattle.nla_frame.specs.Walk.{Passes}
-use Rattle.linkinfo_messages.proofs.Locating.{room, moved, damage_moves, name_moves, info_moves}
+use Rattle.nla_frame.specs.Walk.{Passes, Fails}
+use Rattle.linkinfo_messages.proofs.Locating.{
+  room,
+  moved,
+  damage_moves,
+  name_moves,
+  info_moves,
+  counted_at_end,
+  counted_at_damage,
+}
 use Rattle.linkinfo_messages.proofs.Slicing.{slices_with}
 use Rattle.linkinfo_messages.proofs.attributes.attributes_of.Goals as goal
 
@@ -32,4 +40,75 @@ loop-item-preserved c =
       slices =
           slices_with _ _ _ _ _ _ _ _ _ _ _ _ h kept.source kept.place
           c.with-attributes.ensures.name c.with-attributes.ensures.info kept.slices;
+      examined = kept.examined;
+      counted = steps.counted ∙ kept.counted;
     })
+
+pub add-requires : goal.add-requires
+add-requires c =
+    let kept = c.loop-item.invariant in
+    omega (
+      arith,
+      c.examined.ensures.quarter,
+      ap length (c.in-Some.ensures.steps.source ∙ kept.source),
+      kept.examined,
+      c.requires.count,
+    )
+
+pub returns-in_default-item-clause-counted : goal.returns-in_default-item-clause-counted
+returns-in_default-item-clause-counted c =
+    let steps = rw c.in_default-item.is at c.in-Some.ensures.steps in
+    let h : Fails c.loop-item.nlas c.next.new.self = steps.steps in
+    let kept = c.loop-item.invariant in
+    omega (
+      arith,
+      counted_at_damage _ _ _ h kept.counted,
+      c.examined.ensures.count,
+      c.add.ensures,
+      kept.examined,
+    )
+
+pub returns-in_default-item-clause-quarter : goal.returns-in_default-item-clause-quarter
+returns-in_default-item-clause-quarter c =
+    let kept = c.loop-item.invariant in
+    omega (
+      arith,
+      c.examined.ensures.quarter,
+      ap length (c.in-Some.ensures.steps.source ∙ kept.source),
+      c.add.ensures,
+      kept.examined,
+    )
+
+pub add-requires-2 : goal.add-requires-2
+add-requires-2 c =
+    let kept = c.loop-item.invariant in
+    omega (
+      arith,
+      c.examined-2.ensures.quarter,
+      ap length (c.in_default.ensures.steps.source ∙ kept.source),
+      kept.examined,
+      c.requires.count,
+    )
+
+pub returns-clause-counted : goal.returns-clause-counted
+returns-clause-counted c =
+    let steps = c.in_default.ensures.steps.steps in
+    let kept = c.loop-item.invariant in
+    omega (
+      arith,
+      counted_at_end _ _ _ steps.0 steps.1 kept.counted,
+      c.examined-2.ensures.count,
+      c.add-2.ensures,
+      kept.examined,
+    )
+
+pub returns-clause-quarter : goal.returns-clause-quarter
+returns-clause-quarter c =
+    let kept = c.loop-item.invariant in
+    omega (
+      arith,
+      c.examined-2.ensures.quarter,
+      ap length (c.in_default.ensures.steps.source ∙ kept.source),
+      c.add-2.ensures,
+      kept.examined,
+    )

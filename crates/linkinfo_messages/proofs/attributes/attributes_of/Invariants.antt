@@ -1,7 +1,7 @@
 use Rattle.std.proofs.Common.{◌≡◌, ◌+◌, option_copied}
 use Rattle.std.specs.Option.{option_or}
-use Rattle.nla_frame.specs.NlaItems.{nla_items}
-use Rattle.nla_frame.specs.Walk.{unread}
+use Rattle.nla_frame.specs.NlaItems.{nla_items, headers_in}
+use Rattle.nla_frame.specs.Walk.{unread, headers_left}
 use Rattle.linkinfo_messages.specs.Links.{located, damaged_at, name_in, info_in}
 use Rattle.linkinfo_messages.specs.Slices.{AreSlices}
 use Rattle.linkinfo_messages.specs.Views.{info_seen}
@@ -23,4 +23,6 @@ invariant-loop-item l = record {
       ≡ info_in (located l.start (nla_items l.bytes));
   slices : AreSlices (option_copied l.attributes.name) (info_seen l.attributes.info)
       l.bytes l.start;
+  examined : l.examined ≡ l.fn.examined;
+  counted : l.nlas.examined + headers_left l.nlas ≡ headers_in (nla_items l.bytes);
 }

@@ -1,14 +1,10 @@
-use Rattle.std.proofs.Common.{length, ◌-◌, ◌≡◌, ◌≤◌}
-use Rattle.linkinfo_messages.specs.Walks.{links_from}
+use Rattle.std.proofs.Common.{length, ◌-◌}
+use Rattle.linkinfo_messages.proofs.Linking.{Passed}
 use Rattle.linkinfo_messages.proofs.links.next_link.Given as goal
 
--- the links that are left are those from the start on
+-- there is no link between the start and the offset, and the headers between them are counted
 abbrev pub invariant-loop-place : goal.invariant-loop-place
-invariant-loop-place l = record {
-  from : l.start ≤ l.place;
-  within : l.place ≤ length l.bytes;
-  links : links_from l.bytes l.place ≡ links_from l.bytes l.start;
-}
+invariant-loop-place l = Passed l.bytes l.start l.fn.examined l.place l.examined
 
 abbrev pub decreases-loop-place : goal.decreases-loop-place
 decreases-loop-place l = length l.bytes - l.place

@@ -6,8 +6,10 @@ use Rattle.linkinfo_messages.proofs.capture.Capture.new.Goals as goal
 
 pub invariant_of-result : goal.invariant_of-result
 invariant_of-result c =
+    let room : 24 ≤ length c.args.bytes.now =
     subst (λ r. IfOk r (λ _. 24 ≤ length c.args.bytes.now)) (sym c.in_ok-format.ensures)
-    (format_room c.args.bytes.now)
+    (format_room c.args.bytes.now) in
+    (room, omega arith, λ _. omega arith)
 
 pub returns-clause-item_bound : goal.returns-clause-item_bound
 returns-clause-item_bound c =
