@@ -1,6 +1,7 @@
 -- Answers that are printed one after another.
 use Rattle.std.proofs.Common.{
   ◌≡◌,
+  ◌<◌,
   ℕ,
   ◌&&◌,
   ◌-◌,
@@ -17,6 +18,12 @@ use Rattle.std.proofs.Common.{
   length,
   replicate,
   map,
+  Option,
+  arith,
+  subst,
+  Some,
+  None,
+  option_map,
   sym,
   ap,
   refl,
@@ -32,6 +39,10 @@ use Rattle.std.specs.Fmt.{char_count, decimal, format_spec, padded_integral}
 use Rattle.std.proofs.lemmas.Grind.{flat_map-append}
 use Rattle.std.proofs.lemmas.List.{map-append}
 use Rattle.std.proofs.lemmas.List.Folds.{list_all-append}
+use Rattle.std.specs.Option.{option_copied}
+use denote.Ref.{Bor}
+use Rattle.linkinfo_lines.specs.Answers.{bytes_of}
+use Rattle.memchr.specs.Find.{IsFirstByte, is_byte}
 use Rattle.linkinfo_print.specs.Plain.{plain_byte}
 use Rattle.linkinfo_print.specs.Printing.{
   Adds,
@@ -52,13 +63,21 @@ use Rattle.linkinfo_print.specs.UnitAnswers.{
   AreLinkAnswers,
   AreRecordAnswers,
   AreRecordsAnswers,
+  AreLineAnswers,
+  IsLineAnswer,
   IsLinkAnswer,
+  IsListOrPair,
+  IsPairLine,
+  IsWordsAnswer,
   Prints,
   Time,
   cutter_after,
   ends_at_error,
+  has_single_lists,
+  question_of,
   with_number,
 }
+use Rattle.linkinfo_print.specs.declared.compare.Question.{Question}
 use Rattle.linkinfo_print.specs.declared.options.Input.{Input}
 use Rattle.linkinfo_print.specs.declared.print.Printer.{Printer}
 use Rattle.linkinfo_print.specs.declared.report.Printed.{Printed}
@@ -174,12 +193,31 @@ prints_more p q r xs ys a b = record {
   options = b.options ∙ a.options;
 }
 
+pub prints_data : (p q : Printer) (what : Printed) {d e : Data} → d ≡ e →
+    Adds p.report (Ok (what, d) ∷ []) q.report → q.options ≡ p.options → q.cutter ≡ p.cutter →
+    Prints p (Ok (what, e) ∷ []) q
+prints_data p q what {d = d} same adds options cutter =
+    subst (λ v. Prints p (Ok (what, v) ∷ []) q) same (printed p q (what, d) adds options cutter)
+
 -- ---- answers with numbers
 
 pub number_append : (what : Input) (n : ℕ) (xs ys : List Answer) →
     map (with_number what n) (xs ++ ys)
     ≡ map (with_number what n) xs ++ map (with_number what n) ys
 number_append what n xs ys = map-append (with_number what n) xs ys
+
+pub prints_as : (q r : Printer) {xs ys : List Answer} → xs ≡ ys → Prints q xs r → Prints q ys r
+prints_as q r same prints = subst (λ answers. Prints q answers r) same prints
+
+-- more answers with the same number
+pub prints_numbered : (p q r : Printer) (n : ℕ) (xs ys : List Answer) →
+    Prints p (map (with_number p.options.input n) xs) q →
+    Prints q (map (with_number q.options.input n) ys) r →
+    Prints p (map (with_number p.options.input n) (xs ++ ys)) r
+prints_numbered p q r n xs ys a b =
+    subst (λ answers. Prints p answers r) (sym (number_append p.options.input n xs ys))
+    (prints_more p q r _ _ a
+    (subst (λ options. Prints q (map (with_number options.input n) ys) r) a.options b))
 
 -- more links after those that are answered
 pub links_more : (place : ℕ) (time : Time) (links : List (Result Link MessageError))
@@ -210,6 +248,46 @@ records_more place (x ∷ records) answers r more (front, back, is-front, is-bac
   records_more place records back r more is-back are,
   ap (λ xs. xs ++ more) e ∙ append_assoc front back more,
 )
+
+-- what an iterator has left, after one more of its items
+pub one_further : {X : Type 0} (all front left later : List X) (x : X) → all ≡ front ++ left →
+    left ≡ x ∷ later → all ≡ (front ++ x ∷ []) ++ later
+one_further all front left later x split first =
+    split ∙ ap (λ xs. front ++ xs) first ∙ sym (append_assoc front (x ∷ []) later)
+
+-- a name in memory
+pub copied_is : (name : Option (Bor (List ℕ))) → option_map (λ n. n.now) name ≡ option_copied name
+copied_is None = refl
+copied_is (Some name) = refl
+
+-- ---- lines
+
+-- the answer for two words, if these are the bytes of both
+pub both_words : {first second a b : Option (List ℕ)} (q : Question) (answer : Answer) →
+    a ≡ first → b ≡ second → IsWordsAnswer q a b answer → IsWordsAnswer q first second answer
+both_words {second = second} {a = a} q answer is-first is-second is =
+    subst (λ w. IsWordsAnswer q w second answer) is-first
+    (subst (λ w. IsWordsAnswer q a w answer) is-second is)
+
+-- .. where the second word is the rest of a line without the white space at its front
+pub second_word : (first : Option (List ℕ)) {rest second : List ℕ} (q : Question) (answer : Answer) →
+    second ≡ rest → IsWordsAnswer q first (bytes_of second) answer →
+    IsWordsAnswer q first (bytes_of rest) answer
+second_word first q answer same is =
+    subst (λ w. IsWordsAnswer q first (bytes_of w) answer) same is
+
+-- the answer for a line of two lists, whose first space is here
+pub pair_line : (what : Input) (line : List ℕ) (answer : Answer) (space : Option ℕ) →
+    has_single_lists what ≡ false → IsFirstByte (is_byte 32) line space →
+    IsPairLine (question_of what) line space answer → IsLineAnswer what line answer
+pair_line what line answer space single first is =
+    subst (λ b. IsListOrPair b what line answer) (sym single) (space, first, is)
+
+-- the answers for a line that has one
+pub one_answer : (what : Input) (line : List ℕ) (answer : Answer) → 0 < length line →
+    IsLineAnswer what line answer → AreLineAnswers what line (answer ∷ [])
+one_answer what [] answer some is = absurd (omega (arith, some))
+one_answer what (b ∷ line) answer some is = (answer, is, refl)
 
 -- ---- nine digits of nanoseconds
 

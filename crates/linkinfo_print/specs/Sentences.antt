@@ -54,8 +54,9 @@ long_text input.Capture place =
 -- which list it is that has an error: that of a link, in a message
 abbrev pub list_of_link : ℤ → ℕ → List ℕ
 list_of_link index place =
-    codes "interface " ++ signed_decimal index ++ codes ": IFLA_LINKINFO at offset "
-    ++ decimal place ++ codes ": "
+    codes "interface "
+    ++ (signed_decimal index
+    ++ (codes ": IFLA_LINKINFO at offset " ++ (decimal place ++ codes ": ")))
 
 -- an error of bytes that begin at an offset of the input
 abbrev pub cause_from : ℕ → MessageCause → MessageCause

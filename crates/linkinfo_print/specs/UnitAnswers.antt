@@ -4,7 +4,6 @@ use Rattle.std.specs.Prelude.{
   ◌⊎◌,
   ℕ,
   ◌-◌,
-  ◌==◌,
   ◌&&◌,
   Bool,
   false,
@@ -19,7 +18,6 @@ use Rattle.std.specs.Prelude.{
   take,
   drop,
   map,
-  position,
   Option,
   Some,
   None,
@@ -39,15 +37,15 @@ use Rattle.linkinfo.specs.Placed.{IsErrorAt}
 use Rattle.linkinfo.specs.Strings.{reading}
 use Rattle.linkinfo.specs.Unmet.{strings_unmet}
 use Rattle.linkinfo_lines.specs.Answers.{bytes_of}
-use Rattle.linkinfo_messages.specs.Captures.{RecordParts, netlink_of, record_at}
+use Rattle.linkinfo_messages.specs.Captures.{RecordParts, netlink_of, records}
 use Rattle.linkinfo_messages.specs.ErrorTexts.{capture_error_text, message_error_text}
 use Rattle.linkinfo_messages.specs.Links.{Link, links_of}
 use Rattle.linkinfo_messages.specs.Messages.{messages}
-use Rattle.linkinfo_messages.specs.Reading.{items}
 use Rattle.linkinfo_messages.specs.declared.capture.CaptureFormat.{CaptureFormat}
 use Rattle.linkinfo_messages.specs.declared.capture_error.CaptureError.{CaptureError}
 use Rattle.linkinfo_messages.specs.declared.error.MessageError.{MessageError}
 use Rattle.serde_json.specs.Data.{Data}
+use Rattle.memchr.specs.Find.{IsFirstByte, is_byte}
 use Rattle.linkinfo_print.specs.ListData.{list_data}
 use Rattle.linkinfo_print.specs.MessageData.{message_data, time_text}
 use Rattle.linkinfo_print.specs.PairData.{pair_data, pair_of_difference, pair_of_unmet}
@@ -155,7 +153,9 @@ has_single_lists _ = false
 abbrev pub IsListOrPair : Bool → Input → List ℕ → Answer → Type 0
 IsListOrPair true what line answer = IsWordAnswer (bytes_of line) answer
 IsListOrPair false what line answer =
-    IsPairLine (question_of what) line (position (λ b. b == 32) line) answer
+    (space : Option ℕ)
+    × IsFirstByte (is_byte 32) line space
+    × IsPairLine (question_of what) line space answer
 
 abbrev pub IsLineAnswer : Input → List ℕ → Answer → Type 0
 IsLineAnswer what line answer = IsListOrPair (has_single_lists what) what line answer
@@ -242,7 +242,7 @@ AreAnswersOf what place (Message s) answers = AreMessageAnswers place None s ans
 AreAnswersOf what place (BadMessage error) answers =
     answers ≡ Err (message_error_text (message_error_from place error)) ∷ []
 AreAnswersOf what place (Record format s) answers =
-    AreRecordsAnswers place (items (record_at format) 0 s) answers
+    AreRecordsAnswers place (records format 0 s) answers
 AreAnswersOf what place (BadFile error) answers = answers ≡ Err (capture_error_text error) ∷ []
 AreAnswersOf what place TooLong answers = answers ≡ Err (long_text what place) ∷ []
 

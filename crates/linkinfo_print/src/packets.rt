@@ -1,9 +1,23 @@
 //! What is printed for a message or a packet.
 
-ghost use Rattle.std.specs.Prelude.{◌≡◌, [], ◌∷◌, IfOk, Ok, Err, OnOk};
-ghost use Rattle.linkinfo_messages.specs.Captures.{netlink_of, record_at, record_in};
+ghost use Rattle.std.specs.Prelude.{
+  ◌≡◌,
+  ◌≤◌,
+  [],
+  ◌∷◌,
+  false,
+  IfSome,
+  Ok,
+  Err,
+  OnOk,
+  Some,
+  option_map,
+};
+ghost use Rattle.serde_json.specs.Data.{depth};
+ghost use Rattle.serde_json.specs.View.{view};
+ghost use Rattle.serde_json.specs.Written.{has_float};
+ghost use Rattle.linkinfo_messages.specs.Captures.{netlink_of, record_in, records};
 ghost use Rattle.linkinfo_messages.specs.ErrorTexts.{capture_error_text, message_error_text};
-ghost use Rattle.linkinfo_messages.specs.Reading.{items};
 ghost use Rattle.linkinfo_messages.specs.Views.{link_in};
 ghost use Rattle.linkinfo_print.specs.Printing.{Answer};
 ghost use Rattle.linkinfo_print.specs.Sentences.{
@@ -16,9 +30,11 @@ ghost use Rattle.linkinfo_print.specs.UnitAnswers.{
   AreNumbered,
   ArePacketAnswers,
   AreRecordsAnswers,
+  IsContentsAnswer,
   IsLinkAnswer,
   Prints,
   PrintsSuch,
+  link_data,
   with_number,
 };
 
@@ -27,13 +43,39 @@ use crate::message::{message_json, time_text};
 use crate::print::Printer;
 use crate::report::Printed;
 use linkinfo_messages::{
-    CaptureError, CaptureFormat, LinkMessage, LinkMessages, MessageCause, MessageError, Record,
+    CaptureError, CaptureFormat, LinkContents, LinkMessage, LinkMessages, MessageCause,
+    MessageError, Record,
 };
+use serde_json::Value;
 use std::alloc::AllocError;
+use std::fmt;
 
 /// Where the netlink messages of a record begin: after the header of the record and that of the
 /// packet.
 const MESSAGES_OFFSET: usize = 32;
+
+/// Which list it is that has an error: that of a link in a message.
+#[derive(Clone, Copy)]
+struct ListOfLink {
+    /// The interface index.
+    index: i32,
+    /// The offset of the list in the input.
+    place: usize,
+}
+
+/// Writes the beginning of a sentence: `interface 5: IFLA_LINKINFO at offset 48: `.
+impl fmt::Display for ListOfLink {
+    ghost use Rattle.std.specs.Prelude.{Some};
+    ghost use Rattle.linkinfo_print.specs.Sentences.{list_of_link};
+
+    ghost output = { λ list. Some (list_of_link list.index list.place) };
+
+    fn fmt<W: fmt::Write>(&self, f: &mut fmt::Formatter<W>) -> fmt::Result {
+        let index = self.index;
+        let place = self.place;
+        write!(f, "interface {index}: IFLA_LINKINFO at offset {place}: ")
+    }
+}
 
 impl Printer {
     /// Prints the records in these bytes, which begin at an offset of the input.
@@ -46,7 +88,7 @@ impl Printer {
     ) -> Result<(), AllocError>
         ensures { OnOk result (PrintsSuch self.old
             (AreNumbered self.old.options.input number
-            (AreRecordsAnswers place (items (record_at format) 0 bytes.now))) self.new) }
+            (AreRecordsAnswers place (records format 0 bytes.now))) self.new) }
     {
         let mut records = format.records(bytes);
         while let Some(record) = records.next() {
@@ -157,19 +199,50 @@ impl Printer {
             × IsLinkAnswer place time (Ok (link_in link.now)) answer
             × Prints self.old (with_number self.old.options.input number answer ∷ []) self.new) }
     {
-        let list = match link.info {
-            Some(info) => match list_json(self.alloc, info.bytes) {
-                Ok(list) => Some(list),
-                Err(ListError::Memory) => return Err(AllocError),
-                Err(ListError::Rejected(at)) => {
-                    let index = link.index;
-                    let place = place.saturating_add(info.place);
-                    let list = format_args!("interface {index}: IFLA_LINKINFO at offset {place}: ");
-                    return self.refuse_list(number, list, at);
-                }
-            },
-            None => None,
-        };
+        match link.info {
+            Some(info) => self.print_contents(number, link, info, place, time),
+            None => self.print_message(link, None, time),
+        }
+    }
+
+    /// Prints a link with these contents of its `IFLA_LINKINFO`.
+    fn print_contents(
+        &mut self,
+        number: u64,
+        link: &LinkMessage<'_>,
+        info: LinkContents<'_>,
+        place: usize,
+        time: Option<(u32, u64)>,
+    ) -> Result<(), AllocError>
+        ensures { OnOk result ((answer : Answer)
+            × IsContentsAnswer place time (link_in link.now)
+            (Some (info.entry.place, info.entry.bytes.now)) answer
+            × Prints self.old (with_number self.old.options.input number answer ∷ []) self.new) }
+    {
+        match list_json(self.alloc, info.bytes) {
+            Ok(list) => self.print_message(link, Some(list), time),
+            Err(ListError::Memory) => Err(AllocError),
+            Err(ListError::Rejected(at)) => {
+                let index = link.index;
+                let place = place.saturating_add(info.place);
+                self.refuse_list(number, ListOfLink { index, place }, at)
+            }
+        }
+    }
+
+    /// Prints the object of a link with this list.
+    fn print_message(
+        &mut self,
+        link: &LinkMessage<'_>,
+        list: Option<Value>,
+        time: Option<(u32, u64)>,
+    ) -> Result<(), AllocError>
+        requires shallow { IfSome list (λ v. depth (view v) ≤ 5) }
+        requires whole_numbers { IfSome list (λ v. has_float (view v) ≡ false) }
+        ensures { OnOk result (Prints self.old
+            (Ok (Printed.Message, link_data time (link_in link.now) (option_map view list)) ∷ [])
+            self.new) }
+    {
         let time = time_text(self.alloc, time)?;
         let message = message_json(self.alloc, link, list, time)?;
         self.report.print(self.alloc, Printed::Message, &message)

@@ -71,7 +71,7 @@ pub fn run<R: Read, W: Write, E: Write>(
     Err(RunError::Read)
 }
 
-/// PrintsUpTo what is whole of the bytes, and removes it.
+/// Prints what is whole of the bytes, and removes it.
 fn take(printer: &mut Printer, pending: &mut Vec<u8>, is_end: bool) -> Result<(), RunError>
     ensures prints { OnOk result
         (PrintsUpTo printer.old pending.old.items is_end printer.new pending.new.items) }
