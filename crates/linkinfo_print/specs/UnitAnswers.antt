@@ -146,11 +146,19 @@ abbrev pub question_of : Input → Question
 question_of input.Unmet = question.Met
 question_of _ = question.Equal
 
--- the answer for a line of an input that is not empty
-abbrev pub IsLineAnswer : Input → List ℕ → Answer → Type 0
-IsLineAnswer input.Lists line answer = IsWordAnswer (bytes_of line) answer
-IsLineAnswer what line answer =
+-- whether each line is one list
+abbrev pub has_single_lists : Input → Bool
+has_single_lists input.Lists = true
+has_single_lists _ = false
+
+-- the answer for a line that is not empty: that of one list, or that of two
+abbrev pub IsListOrPair : Bool → Input → List ℕ → Answer → Type 0
+IsListOrPair true what line answer = IsWordAnswer (bytes_of line) answer
+IsListOrPair false what line answer =
     IsPairLine (question_of what) line (position (λ b. b == 32) line) answer
+
+abbrev pub IsLineAnswer : Input → List ℕ → Answer → Type 0
+IsLineAnswer what line answer = IsListOrPair (has_single_lists what) what line answer
 
 -- a line of white space alone has no answer
 abbrev pub AreLineAnswers : Input → List ℕ → List Answer → Type 0

@@ -1,6 +1,18 @@
 //! Where two lists differ first, and what of one list another does not meet, as JSON.
 
-ghost use Rattle.std.specs.Prelude.{◌≡◌, ◌≤◌, ◌++◌, false, Err, IfOk, IfErr, codes, option_map};
+ghost use Rattle.std.specs.Prelude.{
+  ◌≡◌,
+  ◌≤◌,
+  ◌++◌,
+  false,
+  Err,
+  IfOk,
+  IfErr,
+  IsOk,
+  OnOk,
+  codes,
+  option_map,
+};
 ghost use Rattle.linkinfo_data.specs.BytesPeer.{bytes_peer};
 ghost use Rattle.linkinfo.specs.Difference.{strings_difference};
 ghost use Rattle.linkinfo.specs.Strings.{reading};
@@ -327,6 +339,8 @@ pub fn difference_json(alloc: Global, a: &[u8], b: &[u8]) -> Result<Value, PairE
         (option_map pair_of_difference (strings_difference bytes_peer a.now b.now))) }
     ensures shallow { IfOk result (λ v. depth (view v) ≤ 6) }
     ensures whole_numbers { IfOk result (λ v. has_float (view v) ≡ false) }
+    ensures accepted { OnOk result
+        (IsOk (reading bytes_peer a.now) × IsOk (reading bytes_peer b.now)) }
     ensures error { IfErr result (IsPairError a.now b.now) }
 {
     match first_difference(a, b) {
@@ -349,6 +363,8 @@ pub fn unmet_json(alloc: Global, have: &[u8], want: &[u8]) -> Result<Value, Pair
         (option_map pair_of_unmet (strings_unmet bytes_peer have.now want.now))) }
     ensures shallow { IfOk result (λ v. depth (view v) ≤ 6) }
     ensures whole_numbers { IfOk result (λ v. has_float (view v) ≡ false) }
+    ensures accepted { OnOk result
+        (IsOk (reading bytes_peer have.now) × IsOk (reading bytes_peer want.now)) }
     ensures error { IfErr result (IsPairError have.now want.now) }
 {
     match first_unmet(have, want) {

@@ -1,25 +1,46 @@
 //! What is printed for a line.
 
-ghost use Rattle.std.specs.Prelude.{◌≡◌, [], ◌∷◌, IfOk, OnOk, option_map};
+ghost use Rattle.std.specs.Prelude.{
+  ◌≡◌,
+  ◌≤◌,
+  [],
+  ◌∷◌,
+  false,
+  IfErr,
+  IfOk,
+  IsOk,
+  OnOk,
+  option_map,
+};
+ghost use Rattle.linkinfo.specs.Strings.{reading};
+ghost use Rattle.linkinfo_data.specs.BytesPeer.{bytes_peer};
+ghost use Rattle.serde_json.specs.Data.{depth};
+ghost use Rattle.serde_json.specs.View.{view};
+ghost use Rattle.serde_json.specs.Written.{has_float};
+ghost use Rattle.linkinfo_print.specs.ListErrors.{IsPairError};
 ghost use Rattle.linkinfo_lines.specs.Answers.{bytes_of};
 ghost use Rattle.linkinfo_print.specs.Printing.{Answer};
 ghost use Rattle.linkinfo_print.specs.UnitAnswers.{
   AreLineAnswers,
   AreNumbered,
+  IsLineAnswer,
   IsWordAnswer,
   IsWordsAnswer,
   Prints,
   PrintsSuch,
+  answer_data,
   question_of,
   trimmed,
   with_number,
+  without_front,
 };
 
-use crate::compare::{PairError, difference_json, unmet_json};
+use crate::compare::{PairError, Question, difference_json, unmet_json};
 use crate::list::{ListError, list_json};
 use crate::options::Input;
 use crate::print::Printer;
 use crate::report::Printed;
+use serde_json::Value;
 use std::alloc::{AllocError, Global};
 
 impl Printer {
@@ -29,17 +50,26 @@ impl Printer {
             (AreNumbered self.old.options.input number
             (AreLineAnswers self.old.options.input (trimmed line.now))) self.new) }
     {
-        let line = line.trim_ascii_start().trim_ascii_end();
+        let line = trimmed(line);
         if line.is_empty() {
             return Ok(());
         }
-        if self.options.input == Input::Lists {
+        self.print_trimmed(number, line)
+    }
+
+    /// Prints a line without spaces at its ends, which is not empty.
+    fn print_trimmed(&mut self, number: u64, line: &[u8]) -> Result<(), AllocError>
+        ensures { OnOk result ((answer : Answer)
+            × IsLineAnswer self.old.options.input line.now answer
+            × Prints self.old (with_number self.old.options.input number answer ∷ []) self.new) }
+    {
+        if self.options.input.has_single_lists() {
             return self.print_list_line(number, line);
         }
         let Some(space) = memchr::memchr(b' ', line) else {
-            return self.refuse(number, "two lists are needed, with a space between them");
+            return self.refuse(number, ONE_WORD);
         };
-        self.print_pair_line(number, &line[..space], line[space..].trim_ascii_start())
+        self.print_pair_line(number, &line[..space], without_front(&line[space..]))
     }
 
     /// Prints the list whose hex a line is.
@@ -54,10 +84,7 @@ impl Printer {
         match list_json(self.alloc, &bytes) {
             Ok(list) => self.report.print(self.alloc, Printed::List, &list),
             Err(ListError::Memory) => Err(AllocError),
-            Err(ListError::Rejected(at)) => {
-                let error = at.error;
-                self.refuse(number, format_args!("{at} ({error})"))
-            }
+            Err(ListError::Rejected(at)) => self.refuse_list(number, "", at),
         }
     }
 
@@ -79,24 +106,57 @@ impl Printer {
         let Some(second) = read_hex(self.alloc, second)? else {
             return self.refuse(number, format_args!("second list: {NOT_HEX}"));
         };
-        let compared = match self.options.input {
-            Input::Unmet => unmet_json(self.alloc, &first, &second),
-            _ => difference_json(self.alloc, &first, &second),
-        };
-        match compared {
+        let question = question_of(self.options.input);
+        match answer_json(self.alloc, question, &first, &second) {
             Ok(pair) => self.report.print(self.alloc, Printed::Pair, &pair),
             Err(PairError::Memory) => Err(AllocError),
-            Err(PairError::First(at)) => {
-                let error = at.error;
-                self.refuse(number, format_args!("first list: {at} ({error})"))
-            }
-            Err(PairError::Second(at)) => {
-                let error = at.error;
-                self.refuse(number, format_args!("second list: {at} ({error})"))
-            }
+            Err(PairError::First(at)) => self.refuse_list(number, "first list: ", at),
+            Err(PairError::Second(at)) => self.refuse_list(number, "second list: ", at),
         }
     }
 }
+
+/// Some bytes without the white space at their front.
+fn without_front(bytes: &[u8]) -> &[u8]
+    ensures { result.now ≡ without_front bytes.now }
+{
+    bytes.trim_ascii_start()
+}
+
+/// Some bytes without the white space at their ends.
+fn trimmed(bytes: &[u8]) -> &[u8]
+    ensures { result.now ≡ trimmed bytes.now }
+{
+    without_front(bytes).trim_ascii_end()
+}
+
+/// What an input asks of two lists.
+fn question_of(input: Input) -> Question
+    ensures { result ≡ question_of input }
+{
+    match input {
+        Input::Unmet => Question::Met,
+        Input::Lists | Input::Differences | Input::Messages | Input::Capture => Question::Equal,
+    }
+}
+
+/// The answer to a question about two lists as JSON.
+fn answer_json(alloc: Global, question: Question, a: &[u8], b: &[u8]) -> Result<Value, PairError>
+    ensures value { IfOk result (λ v. view v ≡ answer_data question a.now b.now) }
+    ensures shallow { IfOk result (λ v. depth (view v) ≤ 6) }
+    ensures whole_numbers { IfOk result (λ v. has_float (view v) ≡ false) }
+    ensures accepted { OnOk result
+        (IsOk (reading bytes_peer a.now) × IsOk (reading bytes_peer b.now)) }
+    ensures error { IfErr result (IsPairError a.now b.now) }
+{
+    match question {
+        Question::Equal => difference_json(alloc, a, b),
+        Question::Met => unmet_json(alloc, a, b),
+    }
+}
+
+/// What is wrong with a line of two lists that has no space.
+const ONE_WORD: &str = "two lists are needed, with a space between them";
 
 /// What is wrong with a word that is no list.
 const NOT_HEX: &str = "a list is an even number of hex digits, or '-' for no attributes";

@@ -2,7 +2,7 @@
 
 ghost use Rattle.std.specs.Prelude.{◌≡◌, map, string_bytes};
 ghost use Rattle.linkinfo_print.specs.Options.{options_of, request_of, step_of, with_input};
-ghost use Rattle.linkinfo_print.specs.UnitAnswers.{ends_at_error};
+ghost use Rattle.linkinfo_print.specs.UnitAnswers.{ends_at_error, has_single_lists};
 
 /// What the input is, and what is written of it.
 #[derive(Clone, Copy, Debug, PartialEq, Eq)]
@@ -20,6 +20,16 @@ pub enum Input {
 }
 
 impl Input {
+    /// Whether each line is one list.
+    pub(crate) fn has_single_lists(self) -> bool
+        ensures { result ≡ has_single_lists self }
+    {
+        match self {
+            Input::Lists => true,
+            Input::Differences | Input::Unmet | Input::Messages | Input::Capture => false,
+        }
+    }
+
     /// Whether an error ends the input: that of a message does, since nothing says where the next
     /// one begins.
     pub(crate) fn ends_at_error(self) -> bool

@@ -63,19 +63,19 @@ impl Printer {
         &mut self,
         number: u64,
         place: usize,
-        record: &Record<'_>,
+        packet: &Record<'_>,
     ) -> Result<(), AllocError>
         ensures { OnOk result (PrintsSuch self.old
             (AreNumbered self.old.options.input number
-            (ArePacketAnswers place (record_in record.now)
-            (netlink_of (record_in record.now)))) self.new) }
+            (ArePacketAnswers place (record_in packet.now)
+            (netlink_of (record_in packet.now)))) self.new) }
     {
-        match record.messages() {
+        match packet.messages() {
             Ok(Some(bytes)) => {
                 let place = place
-                    .saturating_add(record.place)
+                    .saturating_add(packet.place)
                     .saturating_add(MESSAGES_OFFSET);
-                let time = Some((record.seconds, record.nanoseconds));
+                let time = Some((packet.seconds, packet.nanoseconds));
                 self.print_messages(number, bytes, place, time)
             }
             Ok(None) => Ok(()),
@@ -162,15 +162,10 @@ impl Printer {
                 Ok(list) => Some(list),
                 Err(ListError::Memory) => return Err(AllocError),
                 Err(ListError::Rejected(at)) => {
-                    let error = at.error;
                     let index = link.index;
                     let place = place.saturating_add(info.place);
-                    return self.refuse(
-                        number,
-                        format_args!(
-                            "interface {index}: IFLA_LINKINFO at offset {place}: {at} ({error})"
-                        ),
-                    );
+                    let list = format_args!("interface {index}: IFLA_LINKINFO at offset {place}: ");
+                    return self.refuse_list(number, list, at);
                 }
             },
             None => None,

@@ -3,6 +3,7 @@
 ghost use Rattle.std.specs.Prelude.{
   ◌≡◌,
   ◌≤◌,
+  ◌++◌,
   [],
   ◌∷◌,
   true,
@@ -15,13 +16,14 @@ ghost use Rattle.std.specs.Prelude.{
   length,
 };
 ghost use Rattle.linkinfo_print.specs.InputAnswers.{PrintsUpTo};
-ghost use Rattle.linkinfo_print.specs.Sentences.{long_text, numbered, unit_word};
+ghost use Rattle.linkinfo_print.specs.Sentences.{list_error_text, long_text, numbered, unit_word};
 ghost use Rattle.linkinfo_print.specs.UnitAnswers.{AreAnswers, Prints, PrintsSuch};
 ghost use Rattle.linkinfo_print.specs.Units.{Waits, portion_of, start, units_on};
 
 use crate::options::{Input, Options};
 use crate::report::Report;
 use crate::units::{Cutter, Part, Unit};
+use linkinfo::ErrorAt;
 use std::alloc::{AllocError, Global};
 use std::fmt::Display;
 
@@ -175,6 +177,21 @@ impl Printer {
     {
         let unit = self.unit_word();
         self.refuse_whole(format_args!("{unit} {number}: {error}"))
+    }
+
+    /// Notes that a list is rejected with this error, after words about which list it is.
+    pub(crate) fn refuse_list<W: Display + Drop>(
+        &mut self,
+        number: u64,
+        which: W,
+        at: ErrorAt,
+    ) -> Result<(), AllocError>
+        ensures { OnOk result (IfSome (W.output which) (λ before. Prints self.old
+            (Err (numbered self.old.options.input number
+            (before ++ list_error_text at.error at.inner)) ∷ []) self.new)) }
+    {
+        let error = at.error;
+        self.refuse(number, format_args!("{which}{at} ({error})"))
     }
 
     /// Notes an error. In a stream of messages it ends the input.
