@@ -110,7 +110,8 @@ adds_nothing r = record {
   json = refl;
 }
 
-pub adds_more : (r s t : Report) (xs ys : List Answer) → Adds r xs s → Adds s ys t → Adds r (xs ++ ys) t
+pub adds_more : (r s t : Report) (xs ys : List Answer) → Adds r xs s → Adds s ys t →
+    Adds r (xs ++ ys) t
 adds_more r s t xs ys a b = record {
   output = b.output
       ∙ ap (λ json. s.output ++ outputs json ys) a.json

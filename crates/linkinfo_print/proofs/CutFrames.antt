@@ -23,7 +23,6 @@ use Rattle.std.proofs.Common.{
   ◌∷◌,
   ◌++◌,
   length,
-  get_or,
   take,
   drop,
   Option,
@@ -37,7 +36,6 @@ use Rattle.std.proofs.Common.{
   ap,
   ap₂,
   ◌∙◌,
-  subst,
   arith,
   length-append,
 }
@@ -51,16 +49,13 @@ use Rattle.linkinfo_messages.specs.Captures.{
   captured_len,
   format_by,
   format_of,
-  link_type,
   number,
   of_netlink,
-  record_len,
 }
-use Rattle.linkinfo_messages.specs.Integers.{be16, be32, le16, le32}
-use Rattle.linkinfo_messages.specs.Messages.{length_of, message_error, message_len}
+use Rattle.linkinfo_messages.specs.Integers.{be32, le32}
+use Rattle.linkinfo_messages.specs.Messages.{length_of, message_error}
 use Rattle.linkinfo_messages.specs.declared.capture.CaptureFormat.{CaptureFormat}
 use Rattle.linkinfo_messages.specs.declared.capture_error.CaptureCause.TheVariants as cause
-use Rattle.linkinfo_messages.specs.declared.capture_error.CaptureError.{CaptureError}
 use Rattle.linkinfo_messages.specs.declared.error.MessageCause.TheVariants.{Short}
 use Rattle.linkinfo_messages.specs.declared.error.MessageError.{MessageError}
 use Rattle.linkinfo_print.specs.declared.options.Input.TheVariants as input

@@ -15,7 +15,6 @@ use Rattle.std.proofs.Common.{
   ◌++◌,
   length,
   drop,
-  Option,
   Some,
   None,
   refl,

@@ -7,7 +7,6 @@ use Rattle.std.proofs.Common.{
   ℕ,
   zero,
   suc,
-  ◌<◌,
   ◌&&◌,
   Bool,
   true,
@@ -17,9 +16,10 @@ use Rattle.std.proofs.Common.{
   [],
   ◌∷◌,
   ◌++◌,
-  length,
-  get_or,
   Option,
+  Some,
+  None,
+  IfSome,
   refl,
   sym,
   ap,
@@ -33,10 +33,16 @@ use Rattle.std.specs.List.{flat_map}
 use Rattle.std.specs.Io.KnownBytes.{Appends, Consumes, IsAtEnd}
 use Rattle.std.proofs.KnownBytes.{Appends-nil, Appends-trans, Consumes-nil, Consumes-trans}
 use Rattle.linkinfo_print.specs.Answers.{AppendsPlain}
-use Rattle.linkinfo_print.specs.InputAnswers.{AnswersTo, AreAnswersRead, Begins, PrintsUpTo, Runs}
+use Rattle.linkinfo_print.specs.InputAnswers.{
+  AnswersTo,
+  AreAnswersRead,
+  AreInputAnswers,
+  Begins,
+  PrintsUpTo,
+  Runs,
+}
 use Rattle.linkinfo_print.specs.Plain.{IsPlain, is_plain, plain, plain_byte}
 use Rattle.linkinfo_print.specs.Printing.{
-  Adds,
   Answer,
   all_accepted,
   error_of,
@@ -164,6 +170,17 @@ answers_all o is_end a b s t more xs h may none =
     subst (AnswersTo o (units_on a (s ++ more))) (append-nil xs)
     (h more [] may (subst (λ units. AnswersTo o units []) (sym none) refl))
 
+-- the answers to what was read are those to all that the reader had
+answers_whole : (o : Options) (a b : Option (List ℕ)) (s : List ℕ) (xs : List Answer) →
+    Consumes a b s → AreAnswersRead o b s xs → IfSome a (λ all. AreInputAnswers o all xs)
+answers_whole o None b s xs reads h = tt
+answers_whole o (Some all) None s xs reads h = absurd reads
+answers_whole o (Some all) (Some left) s xs reads (inl end) =
+    subst (λ l. AreInputAnswers o l xs)
+    (sym (reads ∙ ap (λ l. s ++ l) end.0 ∙ append-nil s)) end.1
+answers_whole o (Some all) (Some left) s xs reads (inr ended) =
+    subst (λ l. AreInputAnswers o l xs) (sym reads) (ended left)
+
 -- the run ends at the end of the input, or after an error that ended it
 pub so_far_all : (options : Options) (is_end : Bool)
     (r₀ r₁ o₀ o₁ e₀ e₁ : Option (List ℕ)) (printer : Printer) (pending : List ℕ)
@@ -182,6 +199,7 @@ so_far_all options is_end r₀ r₁ o₀ o₁ e₀ e₁ printer pending accepted
       writes = h.writes;
       reports = h.reports;
       accepts = a ∙ h.accepts;
+      whole = answers_whole options r₀ r₁ h.bytes h.answers h.reads (answered ends);
     }
   where
     answered : ((is_end ≡ true) × IsAtEnd r₁ × (units_on printer.cutter pending ≡ []))

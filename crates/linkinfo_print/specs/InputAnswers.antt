@@ -1,5 +1,5 @@
 -- What is printed for an input.
-use Rattle.std.specs.Prelude.{◌≡◌, ◌⊎◌, ℕ, Bool, true, false, List, [], ◌∷◌, ◌++◌, Option}
+use Rattle.std.specs.Prelude.{◌≡◌, ◌⊎◌, ℕ, Bool, true, false, List, [], ◌∷◌, ◌++◌, Option, IfSome}
 use Rattle.std.specs.Io.KnownBytes.{Appends, Consumes, IsAtEnd}
 use Rattle.linkinfo_print.specs.Printing.{Adds, Answer, all_accepted, errors, outputs}
 use Rattle.linkinfo_print.specs.UnitAnswers.{AreAnswers, ends_input}
@@ -26,8 +26,8 @@ AnswersTo options (unit ∷ units) answers =
 abbrev pub AreInputAnswers : Options → List ℕ → List Answer → Type 0
 AreInputAnswers options s answers = AnswersTo options (units_of options.input s) answers
 
--- The answers to the front of an input: whatever follows the bytes, these are the first answers, and
--- then come those to what is left.
+-- The answers to the front of an input: whatever follows the bytes, these are the first answers,
+-- and those to what is left come next.
 abbrev pub Begins : Options → Bool → Cutter → List ℕ → List Answer → Cutter → List ℕ → Type 0
 Begins options is_end old bytes answers new rest =
     (more : List ℕ) (later : List Answer) → MayFollow is_end more →
@@ -50,13 +50,16 @@ AreAnswersRead options reader bytes answers =
     ⊎ ((more : List ℕ) → AreInputAnswers options (bytes ++ more) answers)
 
 -- A run over what a reader gave: the answers are written, values to one writer and errors to the
--- other, and it returns whether there is no error.
-pub record Runs (options : Options) (reader reader' output output' errors' errors'' : Option (List ℕ))
-    (accepted : Bool) : Type 0 where
+-- other, and it returns whether there is no error. If the reader tells what it has, the answers are
+-- those to all of it.
+pub record Runs (options : Options)
+    (reader reader' output output' rejected rejected' : Option (List ℕ)) (accepted : Bool) :
+    Type 0 where
   pub bytes : List ℕ
   pub answers : List Answer
   pub reads : Consumes reader reader' bytes
   pub answered : AreAnswersRead options reader' bytes answers
   pub writes : Appends output output' (outputs options.json answers)
-  pub reports : Appends errors' errors'' (errors answers)
+  pub reports : Appends rejected rejected' (errors answers)
   pub accepts : accepted ≡ all_accepted answers
+  pub whole : IfSome reader (λ s. AreInputAnswers options s answers)

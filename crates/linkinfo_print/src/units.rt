@@ -1,21 +1,6 @@
 //! An input, cut into lines, messages or packets as it comes.
 
-ghost use Rattle.std.specs.Prelude.{
-  ◌≡◌,
-  ◌≤◌,
-  ◌+◌,
-  List,
-  [],
-  ◌∷◌,
-  if◌then◌else◌,
-  true,
-  false,
-  Ok,
-  Some,
-  None,
-  length,
-};
-ghost use Rattle.linkinfo_messages.specs.Captures.{format_of};
+ghost use Rattle.std.specs.Prelude.{◌≡◌, ◌+◌, [], ◌∷◌, if◌then◌else◌, true, false, length};
 ghost use Rattle.linkinfo_print.specs.Units.{
   CutsOff,
   HasFrames,

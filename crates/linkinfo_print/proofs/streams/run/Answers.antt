@@ -1,7 +1,6 @@
 use Rattle.std.proofs.Common.{
   ◌≡◌,
   ◌⊎◌,
-  ◌==◌,
   ◌++◌,
   ◌∙◌,
   [],
@@ -18,9 +17,8 @@ use Rattle.std.proofs.Common.{
   take,
   true,
 }
-use Rattle.std.specs.Io.KnownBytes.{Appends, Consumes, IsAtEnd}
+use Rattle.std.specs.Io.KnownBytes.{Consumes, IsAtEnd}
 use Rattle.linkinfo_print.specs.InputAnswers.{PrintsUpTo}
-use Rattle.linkinfo_print.specs.Printing.{errors, outputs}
 use Rattle.linkinfo_print.specs.Units.{units_on}
 use Rattle.linkinfo_print.proofs.Running.{
   plain_errors,
@@ -50,8 +48,8 @@ loop-preserved g c =
     part = search rules in
     let on : c.extend_from_slice.new.self.items ≡ c.loop.pending.items ++ part = search rules in
     so_far_more c.args.options false _ _ _ _ _ _ _ _ _ c.loop.printer c.take.new.printer
-    c.clear.new.self c.report.result.now part c.loop.pending.items c.extend_from_slice.new.self.items
-    c.take.new.pending.items c.loop.invariant reads on
+    c.clear.new.self c.report.result.now part c.loop.pending.items
+    c.extend_from_slice.new.self.items c.take.new.pending.items c.loop.invariant reads on
     (subst (λ is_end. PrintsUpTo c.loop.printer c.extend_from_slice.new.self.items is_end
     c.take.new.printer c.take.new.pending.items) (ne_eqb n 0 c.if-is_end.false)
     c.in_ok-take.ensures.prints)

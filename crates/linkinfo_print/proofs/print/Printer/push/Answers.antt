@@ -1,4 +1,4 @@
-use Rattle.std.proofs.Common.{◌+◌, ◌-◌, ◌∙◌, ap, arith, drop, length, length-drop, refl, subst, sym}
+use Rattle.std.proofs.Common.{◌+◌, ◌∙◌, ap, arith, drop, length, length-drop, refl, subst, sym}
 use Rattle.std.proofs.lemmas.List.{drop-drop, take_rest}
 use Rattle.linkinfo_print.specs.InputAnswers.{PrintsUpTo}
 use Rattle.linkinfo_print.proofs.InputAnswering.{up_to_more, up_to_nothing, up_to_rest}

@@ -1,4 +1,4 @@
-use Rattle.std.proofs.Common.{◌≤◌, ◌≡◌, ◌⊎◌, true, length, arith, inl, inr, refl, rules, sym}
+use Rattle.std.proofs.Common.{◌≤◌, ◌≡◌, ◌⊎◌, true, length, inl, inr, refl, rules, sym}
 use Rattle.linkinfo_print.proofs.Cutting.{cuts_bad_file, cuts_header}
 use Rattle.linkinfo_print.proofs.units.Cutter.cut_file_header.Goals as goal
 use Rattle.linkinfo_print.proofs.units.Cutter.cut_file_header.Goals.{

@@ -1,4 +1,4 @@
-use Rattle.std.proofs.Common.{◌≡◌, sym}
+use Rattle.std.proofs.Common.{sym}
 use Rattle.linkinfo_print.proofs.Cutting.{cuts_bad_message}
 use Rattle.linkinfo_print.proofs.units.Cutter.cut_frame.Goals as goal
 

@@ -1,5 +1,5 @@
-use Rattle.std.proofs.Common.{◌≡◌, ◌∷◌, [], arith, ap, refl, rules, sym, ◌∙◌, subst}
-use Rattle.linkinfo_print.specs.Units.{IsIncomplete, portion}
+use Rattle.std.proofs.Common.{◌∷◌, [], ap, ◌∙◌}
+use Rattle.linkinfo_print.specs.Units.{portion}
 use Rattle.linkinfo_print.proofs.Cutting.{cuts_long_frame, cuts_whole_frame}
 use Rattle.linkinfo_print.proofs.units.Cutter.cut_frame_of.Goals as goal
 

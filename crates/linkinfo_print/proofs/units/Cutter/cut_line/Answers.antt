@@ -1,5 +1,3 @@
-use Rattle.std.proofs.Common.{◌≡◌, arith, ap, refl, rules, sym, ◌∙◌}
-use Rattle.linkinfo_print.proofs.CutLines.{line_unit}
 use Rattle.linkinfo_print.proofs.Cutting.{cuts_ended_line}
 use Rattle.linkinfo_print.proofs.units.Cutter.cut_line.Goals as goal
 

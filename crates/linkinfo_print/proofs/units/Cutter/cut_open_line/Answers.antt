@@ -1,4 +1,4 @@
-use Rattle.std.proofs.Common.{◌≡◌, ◌<◌, [], length, arith, ap, refl, rules, sym, ◌∙◌}
+use Rattle.std.proofs.Common.{length, arith, ap, sym, ◌∙◌}
 use Rattle.std.proofs.lemmas.Bool.{eqb-false, eqb-true}
 use Rattle.std.proofs.lemmas.List.{nil_from_length}
 use Rattle.linkinfo_print.proofs.Cutting.{cuts_last_line, cuts_long_line, cuts_no_line}
@@ -15,7 +15,8 @@ pub returns-then-is_end : goal.returns-then-is_end
 returns-then-is_end c =
     cuts_last_line c.args.self.now c.args.bytes.now c.args.is_end c.end_line.result
     c.end_line.new.self c.requires.goes_on c.requires.lines c.requires.no_feed c.if-is_end.true
-    (omega (arith, eqb-false _ _ (sym c.is_empty.ensures ∙ c.if-is_empty.false))) c.end_line.ensures.unit c.end_line.ensures.taken c.end_line.ensures.next
+    (omega (arith, eqb-false _ _ (sym c.is_empty.ensures ∙ c.if-is_empty.false)))
+    c.end_line.ensures.unit c.end_line.ensures.taken c.end_line.ensures.next
 
 pub returns-then-bytes-gt-MOST_BYTES : goal.returns-then-bytes-gt-MOST_BYTES
 returns-then-bytes-gt-MOST_BYTES c =

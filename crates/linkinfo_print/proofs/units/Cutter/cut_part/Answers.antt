@@ -1,4 +1,4 @@
-use Rattle.std.proofs.Common.{◌≡◌, ◌∷◌, [], arith, ap, refl, rules, sym, ◌∙◌}
+use Rattle.std.proofs.Common.{◌∷◌, [], arith, ap, sym, ◌∙◌}
 use Rattle.linkinfo_print.specs.Units.{portion}
 use Rattle.std.proofs.lemmas.Bool.{eqb-false, eqb-true}
 use Rattle.std.proofs.lemmas.List.{nil_from_length}
@@ -17,9 +17,9 @@ returns-then-is_end c =
     let old = c.args.self.now in
     cuts_part old c.args.bytes.now c.args.is_end c.take_last.result c.take_last.new.self
     c.args.framing c.requires.frames c.requires.part c.if-is_end.true
-    (omega (arith, eqb-false _ _ (sym c.is_empty.ensures ∙ c.if-is_empty.false))) c.take_last.ensures.ended
-    (c.take_last.ensures.unit
-    ∙ ap (λ p. portion old.number old.place p ∷ []) c.part.ensures)
+    (omega (arith, eqb-false _ _ (sym c.is_empty.ensures ∙ c.if-is_empty.false)))
+    c.take_last.ensures.ended
+    (c.take_last.ensures.unit ∙ ap (λ p. portion old.number old.place p ∷ []) c.part.ensures)
     c.take_last.ensures.taken
 
 pub returns : goal.returns
