@@ -164,7 +164,8 @@ prints_nothing p = record {
 -- one error
 pub refused : (p q : Printer) (sentence : List ℕ) → Adds p.report (Err sentence ∷ []) q.report →
     q.options ≡ p.options →
-    q.cutter ≡ (if ends_at_error p.options.input then record p.cutter { ended = true } else p.cutter)
+    q.cutter
+    ≡ (if ends_at_error p.options.input then record p.cutter { ended = true } else p.cutter)
     → Prints p (Err sentence ∷ []) q
 refused p q sentence report options cutter = record {
   report = report;
@@ -271,8 +272,8 @@ both_words {second = second} {a = a} q answer is-first is-second is =
     (subst (λ w. IsWordsAnswer q a w answer) is-second is)
 
 -- .. where the second word is the rest of a line without the white space at its front
-pub second_word : (first : Option (List ℕ)) {rest second : List ℕ} (q : Question) (answer : Answer) →
-    second ≡ rest → IsWordsAnswer q first (bytes_of second) answer →
+pub second_word : (first : Option (List ℕ)) {rest second : List ℕ} (q : Question)
+    (answer : Answer) → second ≡ rest → IsWordsAnswer q first (bytes_of second) answer →
     IsWordsAnswer q first (bytes_of rest) answer
 second_word first q answer same is =
     subst (λ w. IsWordsAnswer q first (bytes_of w) answer) same is

@@ -260,7 +260,8 @@ AreNumbered what number Are answers =
 
 -- the answers for a line, message or packet of an input; the header of a file has no number
 abbrev pub AreAnswersIn : Input → ℕ → ℕ → Piece → List Answer → Type 0
-AreAnswersIn what number place (BadFile error) answers = AreAnswersOf what place (BadFile error) answers
+AreAnswersIn what number place (BadFile error) answers =
+    AreAnswersOf what place (BadFile error) answers
 AreAnswersIn what number place piece answers =
     AreNumbered what number (AreAnswersOf what place piece) answers
 

@@ -56,22 +56,21 @@ const MESSAGES_OFFSET: usize = 32;
 
 /// Which list it is that has an error: that of a link in a message.
 #[derive(Clone, Copy)]
-struct ListOfLink {
-    /// The interface index.
-    index: i32,
+struct ListOfLink<'a> {
+    link: &'a LinkMessage<'a>,
     /// The offset of the list in the input.
     place: usize,
 }
 
 /// Writes the beginning of a sentence: `interface 5: IFLA_LINKINFO at offset 48: `.
-impl fmt::Display for ListOfLink {
+impl<'a> fmt::Display for ListOfLink<'a> {
     ghost use Rattle.std.specs.Prelude.{Some};
     ghost use Rattle.linkinfo_print.specs.Sentences.{list_of_link};
 
-    ghost output = { λ list. Some (list_of_link list.index list.place) };
+    ghost output = { λ list. Some (list_of_link list.link.now.index list.place) };
 
     fn fmt<W: fmt::Write>(&self, f: &mut fmt::Formatter<W>) -> fmt::Result {
-        let index = self.index;
+        let index = self.link.index;
         let place = self.place;
         write!(f, "interface {index}: IFLA_LINKINFO at offset {place}: ")
     }
@@ -223,9 +222,8 @@ impl Printer {
             Ok(list) => self.print_message(link, Some(list), time),
             Err(ListError::Memory) => Err(AllocError),
             Err(ListError::Rejected(at)) => {
-                let index = link.index;
                 let place = place.saturating_add(info.place);
-                self.refuse_list(number, ListOfLink { index, place }, at)
+                self.refuse_list(number, ListOfLink { link, place }, at)
             }
         }
     }

@@ -2,7 +2,7 @@ use Rattle.std.proofs.Common.{◌++◌, Some, Ok, Err, ap, refl}
 use Rattle.std.proofs.lemmas.Result.{on_ok_weaker}
 use Rattle.serde_json.specs.View.{view}
 use Rattle.linkinfo_messages.specs.Views.{link_in}
-use Rattle.linkinfo_print.specs.Sentences.{list_error_text, list_of_link, offset_after}
+use Rattle.linkinfo_print.specs.Sentences.{list_error_text, list_of_link}
 use Rattle.linkinfo_print.specs.UnitAnswers.{link_data}
 use Rattle.linkinfo_print.specs.declared.report.Printed.TheVariants as printed
 use Rattle.linkinfo_print.proofs.print.Printer.print_contents.Goals as goal
@@ -25,7 +25,8 @@ returns-in-Err-Rejected c =
     let at = c.in-Err-Rejected.at in
     let index = c.args.link.now.index in
     let is_error = rw c.in-Err-Rejected.field-0-is at c.in-Err-Rejected.ensures.error in
-    let place = offset_after c.args.place c.args.info.place in
+    let place = c.saturating_add-place.result in
+    let refused = rw c.in-Err-Rejected.field-0-is at c.refuse_list.ensures in
     on_ok_weaker c.refuse_list.result
     (λ prints. (
       Err (list_of_link index place ++ list_error_text at.error at.inner),
@@ -34,7 +35,8 @@ returns-in-Err-Rejected c =
         place = at.place;
         inner = at.inner;
         is_error = is_error;
-        is = refl;
+        is = ap (λ offset. list_of_link index offset ++ list_error_text at.error at.inner)
+            c.saturating_add-place.ensures;
       },
       prints,
-    )) c.refuse_list.ensures
+    )) refused

@@ -21,4 +21,5 @@ returns c =
     message_data link.event link.flags link.index name list (option_map time_text c.args.time))
     (copied_is link.name) in
     on_ok_weaker c.print.result
-    (λ adds. prints_data c.args.self.now _ printed.Message value adds refl refl) c.print.ensures.adds
+    (λ adds. prints_data c.args.self.now _ printed.Message value adds refl refl)
+    c.print.ensures.adds

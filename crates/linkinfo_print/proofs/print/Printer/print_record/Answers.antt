@@ -10,14 +10,13 @@ pub returns-in-Err : goal.returns-in-Err
 returns-in-Err c =
     let messages = rw c.in-Err.is at c.messages.ensures in
     let answer = Err (capture_error_text (capture_error_from c.args.place c.in-Err.error)) in
+    let r = record_in c.args.packet.now in
     on_ok_weaker c.refuse_record.result
     (λ prints. (
       with_number c.args.self.now.options.input c.args.number answer ∷ [],
       (
         answer ∷ [],
-        subst
-            (λ m. ArePacketAnswers c.args.place (record_in c.args.packet.now) m (answer ∷ [])) messages
-            refl,
+        subst (λ m. ArePacketAnswers c.args.place r m (answer ∷ [])) messages refl,
         refl,
       ),
       prints,
