@@ -94,6 +94,7 @@ def deleted_argument(words, at):
     `self.alloc`, `&rt` or `rt.alloc()`; the first one of a macro, `rt;`."""
     start, end = at - (words[at - 1].text in ("$", "&")), at + 1
     start -= 2 * (texts(words, at - 2, 3) == ["self", ".", "alloc"])
+    start -= 4 * (texts(words, at - 4, 4) == ["pub", "(", "crate", ")"])
     end += next((len(of) for of in TYPES if texts(words, end, len(of)) == of), 0)
     end += 4 * (texts(words, end, 4) == [".", "alloc", "(", ")"])
     before, after = words[start - 1].text, words[end].text

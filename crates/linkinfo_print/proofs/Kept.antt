@@ -39,7 +39,7 @@ use Rattle.linkinfo.specs.Walks.{item_or_error, walk_items}
 use Rattle.linkinfo.specs.declared.role.CurrentKinds.{CurrentKinds}
 use Rattle.linkinfo.proofs.Pairs.{front}
 use Rattle.linkinfo.proofs.Steps.{after_is, meaning_is, own_error_is}
-use Rattle.linkinfo_view.specs.Attributes.{attributes, whole}
+use Rattle.linkinfo_view.specs.Attributes.{whole}
 use Rattle.linkinfo_print.specs.Laws.{HasEach, KeepsOthers, KeepsShown, accepted, items_in}
 use Rattle.linkinfo_print.specs.ListData.{
   comes_again,

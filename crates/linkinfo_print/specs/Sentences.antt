@@ -3,7 +3,6 @@ use Rattle.std.specs.Prelude.{ℕ, ◌+◌, ◌-◌, ◌^◌, min, ℤ, List, �
 use Rattle.std.specs.Fmt.{decimal, signed_decimal}
 use Rattle.nla_frame.specs.Error.{error_text}
 use Rattle.nla_frame.specs.declared.error.DecodeError.{DecodeError}
-use Rattle.linkinfo_messages.specs.ErrorTexts.{capture_error_text, message_error_text}
 use Rattle.linkinfo_messages.specs.declared.capture_error.CaptureError.{CaptureError}
 use Rattle.linkinfo_messages.specs.declared.error.MessageCause.{MessageCause}
 use Rattle.linkinfo_messages.specs.declared.error.MessageCause.TheVariants as cause

@@ -41,7 +41,6 @@ use Rattle.linkinfo_messages.specs.Captures.{RecordParts, netlink_of, records}
 use Rattle.linkinfo_messages.specs.ErrorTexts.{capture_error_text, message_error_text}
 use Rattle.linkinfo_messages.specs.Links.{Link, links_of}
 use Rattle.linkinfo_messages.specs.Messages.{messages}
-use Rattle.linkinfo_messages.specs.declared.capture.CaptureFormat.{CaptureFormat}
 use Rattle.linkinfo_messages.specs.declared.capture_error.CaptureError.{CaptureError}
 use Rattle.linkinfo_messages.specs.declared.error.MessageError.{MessageError}
 use Rattle.serde_json.specs.Data.{Data}

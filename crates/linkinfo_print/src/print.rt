@@ -30,11 +30,11 @@ use std::fmt::Display;
 /// Prints the lines, messages or packets of an input one after another.
 #[derive(Drop)]
 pub struct Printer {
-    pub(crate) alloc: Global,
     pub(crate) options: Options,
     pub(crate) report: Report,
     /// What comes next of the input.
     pub(crate) cutter: Cutter,
+    pub(crate) alloc: Global,
 }
 
 impl Printer {
@@ -48,10 +48,10 @@ impl Printer {
         ensures input { result.cutter ≡ start options.input }
     {
         Printer {
-            alloc,
             options,
             report: Report::new(alloc, options.json),
             cutter: Cutter::new(options.input),
+            alloc,
         }
     }
 

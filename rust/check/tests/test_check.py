@@ -215,6 +215,7 @@ fn tried(rt: HostRuntime, case: Case) {
 }
 fn parsed(rt: &impl Abort, alloc: Global, case: &Case) -> bool { case.is(rt) }
 struct Held { alloc: Global, len: u8 }
+struct Shared { pub(crate) len: u8, pub(crate) alloc: Global }
 fn held(rt: &HostRuntime) -> Held { Held { alloc, len: of(self.alloc, x) } }
 """
         crate = """
@@ -226,6 +227,7 @@ fn tried(case: Case) {
 }
 fn parsed(case: &Case) -> bool { case.is() }
 struct Held { len: u8 }
+struct Shared { pub(crate) len: u8 }
 fn held() -> Held { Held { len: of(x) } }
 """
         self.assertEqual(wrong_in(CRATE + crate, SOURCE + source), [])

@@ -17,10 +17,11 @@ class Allocator(RuleTest):
         self.assert_written(
             allocator.delete_arguments,
             "fn f(rt: &impl Abort, alloc: Global, a: u8) {} fn g(_alloc: Global) {} struct A { "
-            "/// B.\n alloc: Global, c: u8 }"
+            "/// B.\n alloc: Global, c: u8 } "
+            "struct D { pub(crate) alloc: Global, pub(crate) e: u8 }"
             " macro_rules! h { ($alloc:ident, $d:ident) => {} } fn main(rt: HostRuntime) {}",
-            "fn f(a: u8) {} fn g() {} struct A { c: u8 } macro_rules! h { ($d:ident) => {} } "
-            "fn main() {}",
+            "fn f(a: u8) {} fn g() {} struct A { c: u8 } struct D { pub(crate) e: u8 } "
+            "macro_rules! h { ($d:ident) => {} } fn main() {}",
         )
         self.assert_written(
             allocator.delete_arguments,

@@ -48,15 +48,21 @@ def declared_end(source, end):
     return end, None
 
 
+def whole_front(source, index):
+    """The index of the visibility of a field, `pub(crate)`, or that of the field."""
+    return index - 4 if source.reads(index - 4, "pub", "(", "crate", ")") else index
+
+
 def whole_argument(source, index):
-    """The end and the kind of an argument, parameter or field that is the allocator or runtime."""
-    if source.at(index - 1) not in BEFORE and source.kind(index - 1) != "doc":
+    """The ends and the kind of an argument, parameter or field that is the allocator or runtime."""
+    start = whole_front(source, index)
+    if source.at(start - 1) not in BEFORE and source.kind(start - 1) != "doc":
         return None
     found = expression_end(source, index)
     if not found:
         return None
     end, declared = declared_end(source, found[0])
-    return (end, declared or found[1]) if source.at(end) in AFTER else None
+    return (start, end, declared or found[1]) if source.at(end) in AFTER else None
 
 
 def delete_argument(source, start, end, kind):
@@ -77,8 +83,8 @@ def delete_arguments(source):
         in_use = source.is_word(index, "use") or (in_use and source.at(index) != ";")
         found = None if in_use else whole_argument(source, index)
         if found:
-            delete_argument(source, index, *found)
-            index = max(index - 2, 0)
+            delete_argument(source, *found)
+            index = max(found[0] - 2, 0)
         else:
             index += 1
 

@@ -15,6 +15,25 @@ pub enum Input {
     Capture,
 }
 
+impl Input {
+    /// Whether each line is one list.
+    pub(crate) fn has_single_lists(self) -> bool {
+        match self {
+            Input::Lists => true,
+            Input::Differences | Input::Unmet | Input::Messages | Input::Capture => false,
+        }
+    }
+
+    /// Whether an error ends the input: that of a message does, since nothing says where the next
+    /// one begins.
+    pub(crate) fn ends_at_error(self) -> bool {
+        match self {
+            Input::Messages => true,
+            Input::Lists | Input::Differences | Input::Unmet | Input::Capture => false,
+        }
+    }
+}
+
 /// How a run reads and writes.
 #[derive(Clone, Copy, Debug, PartialEq, Eq)]
 pub struct Options {

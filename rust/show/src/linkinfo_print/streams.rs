@@ -60,9 +60,6 @@ fn take(printer: &mut Printer, pending: &mut Vec<u8>, is_end: bool) -> Result<()
     let taken = printer
         .push(pending, is_end)
         .map_err(|_| RunError::Memory)?;
-    if is_end {
-        printer.finish().map_err(|_| RunError::Memory)?;
-    }
     pending.copy_within(taken.., 0);
     pending.truncate(pending.len() - taken);
     Ok(())

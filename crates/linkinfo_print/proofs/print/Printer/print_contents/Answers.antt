@@ -1,4 +1,4 @@
-use Rattle.std.proofs.Common.{◌++◌, Some, Ok, Err, ap, refl}
+use Rattle.std.proofs.Common.{◌++◌, Some, Ok, Err, ap}
 use Rattle.std.proofs.lemmas.Result.{on_ok_weaker}
 use Rattle.serde_json.specs.View.{view}
 use Rattle.linkinfo_messages.specs.Views.{link_in}

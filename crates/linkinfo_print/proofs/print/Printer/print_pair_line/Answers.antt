@@ -1,9 +1,7 @@
-use Rattle.std.proofs.Common.{◌++◌, Some, Ok, Err, ap, codes, inl, inr, refl, subst}
+use Rattle.std.proofs.Common.{◌++◌, Ok, Err, ap, codes, inl, inr, refl}
 use Rattle.std.proofs.lemmas.Result.{on_ok_weaker}
 use Rattle.serde_json.specs.View.{view}
-use Rattle.linkinfo_lines.specs.Answers.{bytes_of}
 use Rattle.linkinfo_print.specs.Sentences.{list_error_text, not_hex}
-use Rattle.linkinfo_print.specs.UnitAnswers.{IsWordsAnswer, question_of}
 use Rattle.linkinfo_print.specs.declared.report.Printed.TheVariants as printed
 use Rattle.linkinfo_print.proofs.Answering.{both_words, printed as prints_value}
 use Rattle.linkinfo_print.proofs.print.Printer.print_pair_line.Goals as goal
