@@ -215,7 +215,7 @@ fn tried(rt: HostRuntime, case: Case) {
 }
 fn parsed(rt: &impl Abort, alloc: Global, case: &Case) -> bool { case.is(rt) }
 struct Held { alloc: Global, len: u8 }
-struct Shared { pub(crate) len: u8, pub(crate) alloc: Global }
+struct Shared { pub(crate) alloc: Global, pub(crate) len: u8 }
 fn held(rt: &HostRuntime) -> Held { Held { alloc, len: of(self.alloc, x) } }
 """
         crate = """
