@@ -48,9 +48,13 @@ use Rattle.linkinfo_print.specs.Printing.{
   Adds,
   Answer,
   all_accepted,
+  Refusal,
+  all_go_on,
   error_of,
   errors,
+  goes_on,
   is_accepted,
+  refusal,
   output_of,
   outputs,
 }
@@ -145,8 +149,8 @@ ends_once true false false c = refl
 cutter_after_all : (what : Input) (xs ys : List Answer) (c : Cutter) →
     cutter_after what ys (cutter_after what xs c) ≡ cutter_after what (xs ++ ys) c
 cutter_after_all what xs ys c =
-    ends_once (ends_at_error what) (all_accepted xs) (all_accepted ys) c
-    ∙ ap (λ all. end_unless (ends_at_error what) all c) (sym (list_all-append is_accepted xs ys))
+    ends_once (ends_at_error what) (all_go_on xs) (all_go_on ys) c
+    ∙ ap (λ all. end_unless (ends_at_error what) all c) (sym (list_all-append goes_on xs ys))
 
 ends_not : (ends : Bool) (c : Cutter) → c ≡ end_unless ends true c
 ends_not true c = refl
@@ -161,17 +165,27 @@ prints_nothing p = record {
   options = refl;
 }
 
+breaks_is : (ends breaks : Bool) → ends && breaks ≡ ends && not (not breaks && true)
+breaks_is ends true = refl
+breaks_is ends false = refl
+
 -- one error
-pub refused : (p q : Printer) (sentence : List ℕ) → Adds p.report (Err sentence ∷ []) q.report →
-    q.options ≡ p.options →
+pub refused : (p q : Printer) (r : Refusal) →
+    Adds p.report (Err (refusal r.sentence) ∷ []) q.report → q.options ≡ p.options →
     q.cutter
-    ≡ (if ends_at_error p.options.input then record p.cutter { ended = true } else p.cutter)
-    → Prints p (Err sentence ∷ []) q
-refused p q sentence report options cutter = record {
-  report = report;
+    ≡ (if ends_at_error p.options.input && r.breaks then record p.cutter { ended = true }
+    else p.cutter) →
+    Prints p (Err r ∷ []) q
+refused p q r report options cutter = record {
+  report = record {
+    output = report.output;
+    errors = report.errors;
+    accepted = report.accepted;
+    json = report.json;
+  };
   cutter = cutter
       ∙ ap (λ ends. if ends then record p.cutter { ended = true } else p.cutter)
-      (and_true (ends_at_error p.options.input));
+      (breaks_is (ends_at_error p.options.input) r.breaks);
   options = options;
 }
 

@@ -6,6 +6,7 @@ use Rattle.std.specs.Prelude.{
   Bool,
   true,
   false,
+  not,
   List,
   [],
   ◌∷◌,
@@ -21,22 +22,38 @@ use Rattle.linkinfo_print.specs.Plain.{plain}
 use Rattle.linkinfo_print.specs.declared.report.Printed.{Printed}
 use Rattle.linkinfo_print.specs.declared.report.Report.{Report}
 
--- an answer: a value and what it is printed as, or the sentence of an error
+-- why something is not printed: the sentence of its error, and whether the error breaks a stream of
+-- messages, since nothing says where the next one begins
+pub record Refusal : Type 0 where
+  pub sentence : List ℕ
+  pub breaks : Bool
+
+abbrev pub refusal : List ℕ → Refusal
+refusal sentence = record { sentence = sentence; breaks = false }
+
+abbrev pub breaking : List ℕ → Refusal
+breaking sentence = record { sentence = sentence; breaks = true }
+
+-- an answer: a value and what it is printed as, or why there is none
 abbrev pub Answer : Type 0
-Answer = Result (Printed × Data) (List ℕ)
+Answer = Result (Printed × Data) Refusal
 
 -- what is written to standard output and to standard error for an answer, before `plain`
 abbrev pub output_of : Bool → Answer → List ℕ
 output_of json (Ok value) = answer_text json value.0 value.1
-output_of json (Err sentence) = []
+output_of json (Err refused) = []
 
 abbrev pub error_of : Answer → List ℕ
 error_of (Ok value) = []
-error_of (Err sentence) = sentence ++ 10 ∷ []
+error_of (Err refused) = refused.sentence ++ 10 ∷ []
 
 abbrev pub is_accepted : Answer → Bool
 is_accepted (Ok value) = true
-is_accepted (Err sentence) = false
+is_accepted (Err refused) = false
+
+abbrev pub goes_on : Answer → Bool
+goes_on (Ok value) = true
+goes_on (Err refused) = not refused.breaks
 
 -- the output, the errors, and whether there is none, for answers in order
 abbrev pub outputs : Bool → List Answer → List ℕ
@@ -47,6 +64,10 @@ errors answers = plain (flat_map error_of answers)
 
 abbrev pub all_accepted : List Answer → Bool
 all_accepted answers = list_all is_accepted answers
+
+-- no error breaks a stream of messages
+abbrev pub all_go_on : List Answer → Bool
+all_go_on answers = list_all goes_on answers
 
 -- a report with answers added
 pub record Adds (old : Report) (answers : List Answer) (new : Report) : Type 0 where

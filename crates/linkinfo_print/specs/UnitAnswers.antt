@@ -48,7 +48,7 @@ use Rattle.memchr.specs.Find.{IsFirstByte, is_byte}
 use Rattle.linkinfo_print.specs.ListData.{list_data}
 use Rattle.linkinfo_print.specs.MessageData.{message_data, time_text}
 use Rattle.linkinfo_print.specs.PairData.{pair_data, pair_of_difference, pair_of_unmet}
-use Rattle.linkinfo_print.specs.Printing.{Adds, Answer, all_accepted}
+use Rattle.linkinfo_print.specs.Printing.{Adds, Answer, Refusal, all_go_on, breaking, refusal}
 use Rattle.linkinfo_print.specs.Sentences.{
   capture_error_from,
   list_error_text,
@@ -81,17 +81,17 @@ use Rattle.linkinfo_print.specs.declared.units.Cutter.{Cutter}
 -- ---- one list, and two
 
 -- the sentence of a rejected list, after some words about which list it is
-pub record IsListSentence (s before sentence : List ℕ) : Type 0 where
+pub record IsListSentence (s before : List ℕ) (refused : Refusal) : Type 0 where
   pub error : DecodeError
   pub place : ℕ
   pub inner : ℕ
   pub is_error : IsErrorAt bytes_peer s error place inner
-  pub is : sentence ≡ before ++ list_error_text error inner
+  pub is : refused ≡ refusal (before ++ list_error_text error inner)
 
 -- an accepted list is its JSON data, and any other the sentence of its error
 abbrev pub IsListAnswer : List ℕ → Answer → Type 0
 IsListAnswer s (Ok value) = IsOk (reading bytes_peer s) × (value ≡ (printed.List, list_data s))
-IsListAnswer s (Err sentence) = IsListSentence s [] sentence
+IsListAnswer s (Err refused) = IsListSentence s [] refused
 
 -- the answer to a question about two accepted lists
 abbrev pub answer_data : Question → List ℕ → List ℕ → Data
@@ -105,9 +105,9 @@ IsPairAnswer q a b (Ok value) =
     IsOk (reading bytes_peer a)
     × IsOk (reading bytes_peer b)
     × (value ≡ (printed.Pair, answer_data q a b))
-IsPairAnswer q a b (Err sentence) =
-    IsListSentence a (codes "first list: ") sentence
-    ⊎ (IsOk (reading bytes_peer a) × IsListSentence b (codes "second list: ") sentence)
+IsPairAnswer q a b (Err refused) =
+    IsListSentence a (codes "first list: ") refused
+    ⊎ (IsOk (reading bytes_peer a) × IsListSentence b (codes "second list: ") refused)
 
 -- ---- lines
 
@@ -124,19 +124,19 @@ trimmed s = without_back (without_front s)
 -- the answer for a word, if it is the hex of a list
 abbrev pub IsWordAnswer : Option (List ℕ) → Answer → Type 0
 IsWordAnswer (Some s) answer = IsListAnswer s answer
-IsWordAnswer None answer = answer ≡ Err not_hex
+IsWordAnswer None answer = answer ≡ Err (refusal not_hex)
 
 -- the answer for two words
 abbrev pub IsWordsAnswer : Question → Option (List ℕ) → Option (List ℕ) → Answer → Type 0
 IsWordsAnswer q (Some a) (Some b) answer = IsPairAnswer q a b answer
-IsWordsAnswer q (Some a) None answer = answer ≡ Err (codes "second list: " ++ not_hex)
-IsWordsAnswer q None second answer = answer ≡ Err (codes "first list: " ++ not_hex)
+IsWordsAnswer q (Some a) None answer = answer ≡ Err (refusal (codes "second list: " ++ not_hex))
+IsWordsAnswer q None second answer = answer ≡ Err (refusal (codes "first list: " ++ not_hex))
 
 -- the answer for a line whose first space is at an index: the words are before and after it
 abbrev pub IsPairLine : Question → List ℕ → Option ℕ → Answer → Type 0
 IsPairLine q line (Some at) answer =
     IsWordsAnswer q (bytes_of (take at line)) (bytes_of (without_front (drop at line))) answer
-IsPairLine q line None answer = answer ≡ Err one_word
+IsPairLine q line None answer = answer ≡ Err (refusal one_word)
 
 -- what an input asks of two lists
 abbrev pub question_of : Input → Question
@@ -183,13 +183,13 @@ IsContentsAnswer place time link None answer =
 IsContentsAnswer place time link (Some info) (Ok value) =
     IsOk (reading bytes_peer info.1)
     × (value ≡ (printed.Message, link_data time link (Some (list_data info.1))))
-IsContentsAnswer place time link (Some info) (Err sentence) =
-    IsListSentence info.1 (list_of_link link.index (offset_after place info.0)) sentence
+IsContentsAnswer place time link (Some info) (Err refused) =
+    IsListSentence info.1 (list_of_link link.index (offset_after place info.0)) refused
 
 abbrev pub IsLinkAnswer : ℕ → Time → Result Link MessageError → Answer → Type 0
 IsLinkAnswer place time (Ok link) answer = IsContentsAnswer place time link link.info answer
 IsLinkAnswer place time (Err error) answer =
-    answer ≡ Err (message_error_text (message_error_from place error))
+    answer ≡ Err (breaking (message_error_text (message_error_from place error)))
 
 -- an answer for each link
 abbrev pub AreLinkAnswers : ℕ → Time → List (Result Link MessageError) → List Answer → Type 0
@@ -216,12 +216,12 @@ ArePacketAnswers place r (Ok (Some s)) answers =
     (Some (r.seconds, r.nanoseconds)) s answers
 ArePacketAnswers place r (Ok None) answers = answers ≡ []
 ArePacketAnswers place r (Err error) answers =
-    answers ≡ Err (capture_error_text (capture_error_from place error)) ∷ []
+    answers ≡ Err (refusal (capture_error_text (capture_error_from place error))) ∷ []
 
 abbrev pub AreRecordAnswers : ℕ → Result RecordParts CaptureError → List Answer → Type 0
 AreRecordAnswers place (Ok r) answers = ArePacketAnswers place r (netlink_of r) answers
 AreRecordAnswers place (Err error) answers =
-    answers ≡ Err (capture_error_text (capture_error_from place error)) ∷ []
+    answers ≡ Err (refusal (capture_error_text (capture_error_from place error))) ∷ []
 
 -- the answers for records that begin at an offset of the input
 abbrev pub AreRecordsAnswers : ℕ → List (Result RecordParts CaptureError) → List Answer → Type 0
@@ -239,16 +239,18 @@ abbrev pub AreAnswersOf : Input → ℕ → Piece → List Answer → Type 0
 AreAnswersOf what place (Line s) answers = AreLineAnswers what (trimmed s) answers
 AreAnswersOf what place (Message s) answers = AreMessageAnswers place None s answers
 AreAnswersOf what place (BadMessage error) answers =
-    answers ≡ Err (message_error_text (message_error_from place error)) ∷ []
+    answers ≡ Err (breaking (message_error_text (message_error_from place error))) ∷ []
 AreAnswersOf what place (Record format s) answers =
     AreRecordsAnswers place (records format 0 s) answers
-AreAnswersOf what place (BadFile error) answers = answers ≡ Err (capture_error_text error) ∷ []
-AreAnswersOf what place TooLong answers = answers ≡ Err (long_text what place) ∷ []
+AreAnswersOf what place (BadFile error) answers =
+    answers ≡ Err (refusal (capture_error_text error)) ∷ []
+AreAnswersOf what place TooLong answers = answers ≡ Err (refusal (long_text what place)) ∷ []
 
 -- an answer about the line, message or packet with a number: errors have the number
 abbrev pub with_number : Input → ℕ → Answer → Answer
 with_number what number (Ok value) = Ok value
-with_number what number (Err sentence) = Err (numbered what number sentence)
+with_number what number (Err refused) =
+    Err (record refused { sentence = numbered what number refused.sentence })
 
 -- these are such answers, with a number
 abbrev pub AreNumbered : Input → ℕ → (List Answer → Type 0) → List Answer → Type 0
@@ -268,13 +270,13 @@ abbrev pub AreAnswers : Input → Portion → List Answer → Type 0
 AreAnswers what portion answers =
     AreAnswersIn what portion.number portion.place portion.piece answers
 
--- in a stream of messages, an error ends the input
+-- a stream of messages ends at an error of a message
 abbrev pub ends_at_error : Input → Bool
 ends_at_error input.Messages = true
 ends_at_error _ = false
 
 abbrev pub ends_input : Input → List Answer → Bool
-ends_input what answers = ends_at_error what && not (all_accepted answers)
+ends_input what answers = ends_at_error what && not (all_go_on answers)
 
 -- ---- the printer
 

@@ -1,6 +1,6 @@
 //! The options of the program.
 
-ghost use Rattle.std.specs.Prelude.{◌≡◌, map, string_bytes};
+ghost use Rattle.std.specs.Prelude.{◌≡◌, ◌&&◌, map, string_bytes};
 ghost use Rattle.linkinfo_print.specs.Options.{options_of, request_of, step_of, with_input};
 ghost use Rattle.linkinfo_print.specs.UnitAnswers.{ends_at_error, has_single_lists};
 
@@ -30,13 +30,12 @@ impl Input {
         }
     }
 
-    /// Whether an error ends the input: that of a message does, since nothing says where the next
-    /// one begins.
-    pub(crate) fn ends_at_error(self) -> bool
-        ensures { result ≡ ends_at_error self }
+    /// Whether an error ends the input, given whether it breaks a stream of messages.
+    pub(crate) fn ends_at_error(self, breaks: bool) -> bool
+        ensures { result ≡ ends_at_error self && breaks }
     {
         match self {
-            Input::Messages => true,
+            Input::Messages => breaks,
             Input::Lists | Input::Differences | Input::Unmet | Input::Capture => false,
         }
     }

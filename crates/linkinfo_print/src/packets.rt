@@ -19,7 +19,7 @@ ghost use Rattle.serde_json.specs.Written.{has_float};
 ghost use Rattle.linkinfo_messages.specs.Captures.{netlink_of, record_in, records};
 ghost use Rattle.linkinfo_messages.specs.ErrorTexts.{capture_error_text, message_error_text};
 ghost use Rattle.linkinfo_messages.specs.Views.{link_in};
-ghost use Rattle.linkinfo_print.specs.Printing.{Answer};
+ghost use Rattle.linkinfo_print.specs.Printing.{Answer, breaking, refusal};
 ghost use Rattle.linkinfo_print.specs.Sentences.{
   capture_error_from,
   message_error_from,
@@ -132,8 +132,8 @@ impl Printer {
         error: CaptureError,
     ) -> Result<(), AllocError>
         ensures { OnOk result (Prints self.old
-            (Err (numbered self.old.options.input number
-            (capture_error_text (capture_error_from place error))) ∷ []) self.new) }
+            (Err (refusal (numbered self.old.options.input number
+            (capture_error_text (capture_error_from place error)))) ∷ []) self.new) }
     {
         let error = CaptureError {
             place: place.saturating_add(error.place),
@@ -172,8 +172,8 @@ impl Printer {
         place: usize,
     ) -> Result<(), AllocError>
         ensures { OnOk result (Prints self.old
-            (Err (numbered self.old.options.input number
-            (message_error_text (message_error_from place error))) ∷ []) self.new) }
+            (Err (breaking (numbered self.old.options.input number
+            (message_error_text (message_error_from place error)))) ∷ []) self.new) }
     {
         let cause = match error.cause {
             MessageCause::Attribute(at) => MessageCause::Attribute(place.saturating_add(at)),
@@ -183,7 +183,7 @@ impl Printer {
             place: place.saturating_add(error.place),
             cause,
         };
-        self.refuse(number, error)
+        self.refuse_as(number, true, error)
     }
 
     /// Prints a link of messages that begin at an offset of the input.

@@ -16,6 +16,7 @@ ghost use Rattle.std.specs.Prelude.{
   length,
 };
 ghost use Rattle.linkinfo_print.specs.InputAnswers.{PrintsUpTo};
+ghost use Rattle.linkinfo_print.specs.Printing.{refusal};
 ghost use Rattle.linkinfo_print.specs.Sentences.{list_error_text, long_text, numbered, unit_word};
 ghost use Rattle.linkinfo_print.specs.UnitAnswers.{AreAnswers, Prints, PrintsSuch};
 ghost use Rattle.linkinfo_print.specs.Units.{Waits, portion_of, start, units_on};
@@ -117,7 +118,7 @@ impl Printer {
         Ok(cut.taken)
     }
 
-    /// Prints a line, a message or a packet. In a stream of messages, an error ends the input.
+    /// Prints a line, a message or a packet. An error of a message ends a stream of messages.
     fn print_unit(&mut self, unit: Unit<'_>) -> Result<(), AllocError>
         ensures { OnOk result (PrintsSuch self.old
             (AreAnswers self.old.options.input (portion_of unit.entry)) self.new) }
@@ -129,7 +130,7 @@ impl Printer {
             Part::Record(format, bytes) => {
                 self.print_records(unit.number, unit.place, format, bytes)
             }
-            Part::BadFile(error) => self.refuse_whole(error),
+            Part::BadFile(error) => self.refuse_whole(false, error),
             Part::TooLong => self.refuse_long(unit.number, unit.place),
         }
     }
@@ -137,8 +138,8 @@ impl Printer {
     /// Notes a line, a message or a record that is too long.
     fn refuse_long(&mut self, number: u64, place: usize) -> Result<(), AllocError>
         ensures { OnOk result (Prints self.old
-            (Err (numbered self.old.options.input number
-            (long_text self.old.options.input place)) ∷ []) self.new) }
+            (Err (refusal (numbered self.old.options.input number
+            (long_text self.old.options.input place))) ∷ []) self.new) }
     {
         match self.options.input {
             Input::Lists | Input::Differences | Input::Unmet => {
@@ -173,10 +174,27 @@ impl Printer {
         error: E,
     ) -> Result<(), AllocError>
         ensures { OnOk result (IfSome (E.output error) (λ sentence. Prints self.old
-            (Err (numbered self.old.options.input number sentence) ∷ []) self.new)) }
+            (Err (refusal (numbered self.old.options.input number sentence)) ∷ []) self.new)) }
+    {
+        self.refuse_as(number, false, error)
+    }
+
+    /// Notes an error of the line, message or packet with this number, which may break a stream of
+    /// messages.
+    pub(crate) fn refuse_as<E: Display + Drop>(
+        &mut self,
+        number: u64,
+        breaks: bool,
+        error: E,
+    ) -> Result<(), AllocError>
+        ensures { OnOk result (IfSome (E.output error) (λ sentence. Prints self.old
+            (Err (record {
+              sentence = numbered self.old.options.input number sentence;
+              breaks = breaks;
+            }) ∷ []) self.new)) }
     {
         let unit = self.unit_word();
-        self.refuse_whole(format_args!("{unit} {number}: {error}"))
+        self.refuse_whole(breaks, format_args!("{unit} {number}: {error}"))
     }
 
     /// Notes that a list is rejected with this error, after words about which list it is.
@@ -187,19 +205,19 @@ impl Printer {
         at: ErrorAt,
     ) -> Result<(), AllocError>
         ensures { OnOk result (IfSome (W.output which) (λ before. Prints self.old
-            (Err (numbered self.old.options.input number
-            (before ++ list_error_text at.error at.inner)) ∷ []) self.new)) }
+            (Err (refusal (numbered self.old.options.input number
+            (before ++ list_error_text at.error at.inner))) ∷ []) self.new)) }
     {
         let error = at.error;
         self.refuse(number, format_args!("{which}{at} ({error})"))
     }
 
-    /// Notes an error. In a stream of messages it ends the input.
-    fn refuse_whole<E: Display + Drop>(&mut self, error: E) -> Result<(), AllocError>
-        ensures { OnOk result (IfSome (E.output error)
-            (λ sentence. Prints self.old (Err sentence ∷ []) self.new)) }
+    /// Notes an error. One that breaks a stream of messages ends it.
+    fn refuse_whole<E: Display + Drop>(&mut self, breaks: bool, error: E) -> Result<(), AllocError>
+        ensures { OnOk result (IfSome (E.output error) (λ sentence. Prints self.old
+            (Err (record { sentence = sentence; breaks = breaks }) ∷ []) self.new)) }
     {
-        self.cutter.end_if(self.options.input.ends_at_error());
+        self.cutter.end_if(self.options.input.ends_at_error(breaks));
         self.report.refuse(self.alloc, error)
     }
 }

@@ -20,7 +20,7 @@ ghost use Rattle.serde_json.specs.Read.{max_depth, read};
 ghost use Rattle.serde_json.specs.Written.{compact_text, has_float};
 ghost use Rattle.linkinfo_print.specs.Answers.{answer_text, text_of};
 ghost use Rattle.linkinfo_print.specs.Plain.{IsPlain};
-ghost use Rattle.linkinfo_print.specs.Printing.{Adds};
+ghost use Rattle.linkinfo_print.specs.Printing.{Adds, refusal};
 
 use crate::plain::PlainText;
 use crate::text::{push_list, push_message, push_pair};
@@ -150,7 +150,7 @@ impl Report {
     /// Notes an error. Nothing is printed of what has it.
     pub fn refuse<E: Display + Drop>(&mut self, alloc: Global, error: E) -> Result<(), AllocError>
         ensures adds { OnOk result (IfSome (E.output error)
-            (λ sentence. Adds self.old (Err sentence ∷ []) self.new)) }
+            (λ sentence. Adds self.old (Err (refusal sentence) ∷ []) self.new)) }
         ensures output { self.new.output ≡ self.old.output }
         ensures accepted { self.new.accepted ≡ false }
         ensures json { self.new.json ≡ self.old.json }

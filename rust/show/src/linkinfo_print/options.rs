@@ -24,11 +24,10 @@ impl Input {
         }
     }
 
-    /// Whether an error ends the input: that of a message does, since nothing says where the next
-    /// one begins.
-    pub(crate) fn ends_at_error(self) -> bool {
+    /// Whether an error ends the input, given whether it breaks a stream of messages.
+    pub(crate) fn ends_at_error(self, breaks: bool) -> bool {
         match self {
-            Input::Messages => true,
+            Input::Messages => breaks,
             Input::Lists | Input::Differences | Input::Unmet | Input::Capture => false,
         }
     }

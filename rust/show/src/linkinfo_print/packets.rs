@@ -119,7 +119,7 @@ impl Printer {
             place: place.saturating_add(error.place),
             cause,
         };
-        self.refuse(number, error)
+        self.refuse_as(number, true, error)
     }
 
     /// Prints a link of messages that begin at an offset of the input.

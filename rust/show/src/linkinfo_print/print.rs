@@ -64,7 +64,7 @@ impl Printer {
         Ok(cut.taken)
     }
 
-    /// Prints a line, a message or a packet. In a stream of messages, an error ends the input.
+    /// Prints a line, a message or a packet. An error of a message ends a stream of messages.
     fn print_unit(&mut self, unit: Unit<'_>) -> Result<(), AllocError> {
         match unit.part {
             Part::Line(line) => self.print_line(unit.number, line),
@@ -73,7 +73,7 @@ impl Printer {
             Part::Record(format, bytes) => {
                 self.print_records(unit.number, unit.place, format, bytes)
             }
-            Part::BadFile(error) => self.refuse_whole(error),
+            Part::BadFile(error) => self.refuse_whole(false, error),
             Part::TooLong => self.refuse_long(unit.number, unit.place),
         }
     }
@@ -106,8 +106,19 @@ impl Printer {
 
     /// Notes an error of the line, message or packet with this number.
     pub(crate) fn refuse<E: Display>(&mut self, number: u64, error: E) -> Result<(), AllocError> {
+        self.refuse_as(number, false, error)
+    }
+
+    /// Notes an error of the line, message or packet with this number, which may break a stream of
+    /// messages.
+    pub(crate) fn refuse_as<E: Display>(
+        &mut self,
+        number: u64,
+        breaks: bool,
+        error: E,
+    ) -> Result<(), AllocError> {
         let unit = self.unit_word();
-        self.refuse_whole(format_args!("{unit} {number}: {error}"))
+        self.refuse_whole(breaks, format_args!("{unit} {number}: {error}"))
     }
 
     /// Notes that a list is rejected with this error, after words about which list it is.
@@ -121,9 +132,9 @@ impl Printer {
         self.refuse(number, format_args!("{which}{at} ({error})"))
     }
 
-    /// Notes an error. In a stream of messages it ends the input.
-    fn refuse_whole<E: Display>(&mut self, error: E) -> Result<(), AllocError> {
-        self.cutter.end_if(self.options.input.ends_at_error());
+    /// Notes an error. One that breaks a stream of messages ends it.
+    fn refuse_whole<E: Display>(&mut self, breaks: bool, error: E) -> Result<(), AllocError> {
+        self.cutter.end_if(self.options.input.ends_at_error(breaks));
         self.report.refuse(error)
     }
 }

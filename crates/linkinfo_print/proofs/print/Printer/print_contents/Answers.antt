@@ -2,6 +2,7 @@ use Rattle.std.proofs.Common.{◌++◌, Some, Ok, Err, ap}
 use Rattle.std.proofs.lemmas.Result.{on_ok_weaker}
 use Rattle.serde_json.specs.View.{view}
 use Rattle.linkinfo_messages.specs.Views.{link_in}
+use Rattle.linkinfo_print.specs.Printing.{refusal}
 use Rattle.linkinfo_print.specs.Sentences.{list_error_text, list_of_link}
 use Rattle.linkinfo_print.specs.UnitAnswers.{link_data}
 use Rattle.linkinfo_print.specs.declared.report.Printed.TheVariants as printed
@@ -29,13 +30,14 @@ returns-in-Err-Rejected c =
     let refused = rw c.in-Err-Rejected.field-0-is at c.refuse_list.ensures in
     on_ok_weaker c.refuse_list.result
     (λ prints. (
-      Err (list_of_link index place ++ list_error_text at.error at.inner),
+      Err (refusal (list_of_link index place ++ list_error_text at.error at.inner)),
       record {
         error = at.error;
         place = at.place;
         inner = at.inner;
         is_error = is_error;
-        is = ap (λ offset. list_of_link index offset ++ list_error_text at.error at.inner)
+        is = ap
+            (λ offset. refusal (list_of_link index offset ++ list_error_text at.error at.inner))
             c.saturating_add-place.ensures;
       },
       prints,

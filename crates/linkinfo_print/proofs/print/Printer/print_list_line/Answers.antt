@@ -1,6 +1,7 @@
 use Rattle.std.proofs.Common.{Ok, Err, ap, refl, subst}
 use Rattle.std.proofs.lemmas.Result.{on_ok_weaker}
 use Rattle.serde_json.specs.View.{view}
+use Rattle.linkinfo_print.specs.Printing.{refusal}
 use Rattle.linkinfo_print.specs.Sentences.{list_error_text, not_hex}
 use Rattle.linkinfo_print.specs.UnitAnswers.{IsWordAnswer}
 use Rattle.linkinfo_print.specs.declared.report.Printed.TheVariants as printed
@@ -11,7 +12,11 @@ pub returns-in_default : goal.returns-in_default
 returns-in_default c =
     let word = rw c.in_default.is at c.in_ok-bytes.ensures in
     on_ok_weaker c.refuse.result
-    (λ prints. (Err not_hex, subst (λ w. IsWordAnswer w (Err not_hex)) word refl, prints))
+    (λ prints. (
+      Err (refusal not_hex),
+      subst (λ w. IsWordAnswer w (Err (refusal not_hex))) word refl,
+      prints,
+    ))
     c.refuse.ensures
 
 pub returns-in-Ok : goal.returns-in-Ok
@@ -33,7 +38,7 @@ returns c =
     let at = c.in-Err-Rejected.at in
     let rejected = rw c.deref.ensures.value at c.in-Err-Rejected.ensures.error in
     let is_error = rw c.in-Err-Rejected.field-0-is at rejected in
-    let answer = Err (list_error_text at.error at.inner) in
+    let answer = Err (refusal (list_error_text at.error at.inner)) in
     on_ok_weaker c.refuse_list.result
     (λ prints. (
       answer,

@@ -1,6 +1,7 @@
 use Rattle.std.proofs.Common.{[], ◌∷◌, ◌++◌, Ok, Err, refl}
 use Rattle.linkinfo_messages.specs.ErrorTexts.{message_error_text}
 use Rattle.linkinfo_messages.specs.Views.{link_in}
+use Rattle.linkinfo_print.specs.Printing.{breaking}
 use Rattle.linkinfo_print.specs.Sentences.{message_error_from}
 use Rattle.linkinfo_print.proofs.Answering.{links_more, one_further, prints_numbered}
 use Rattle.linkinfo_print.proofs.print.Printer.print_messages.Goals as goal
@@ -22,7 +23,7 @@ loop-link-preserved c =
     let moves = rw c.in-Err.is at c.in-Some.ensures.steps in
     let (front, answers, split, are, prints) = c.loop-link.invariant in
     let error = c.in-Err.error in
-    let answer = Err (message_error_text (message_error_from c.args.place error)) in (
+    let answer = Err (breaking (message_error_text (message_error_from c.args.place error))) in (
       front ++ Err error ∷ [],
       answers ++ answer ∷ [],
       one_further _ front _ _ _ split moves.gives,

@@ -1,6 +1,7 @@
 use Rattle.std.proofs.Common.{[], ◌∷◌, ◌++◌, Ok, Err, refl}
 use Rattle.linkinfo_messages.specs.Captures.{record_in}
 use Rattle.linkinfo_messages.specs.ErrorTexts.{capture_error_text}
+use Rattle.linkinfo_print.specs.Printing.{refusal}
 use Rattle.linkinfo_print.specs.Sentences.{capture_error_from}
 use Rattle.linkinfo_print.proofs.Answering.{one_further, prints_as, prints_numbered, records_more}
 use Rattle.linkinfo_print.proofs.print.Printer.print_records.Goals as goal
@@ -23,7 +24,7 @@ loop-record-preserved c =
     let moves = rw c.in-Err.is at c.in-Some.ensures.steps in
     let (front, answers, split, are, prints) = c.loop-record.invariant in
     let error = c.in-Err.error in
-    let answer = Err (capture_error_text (capture_error_from c.args.place error)) in (
+    let answer = Err (refusal (capture_error_text (capture_error_from c.args.place error))) in (
       front ++ Err error ∷ [],
       answers ++ answer ∷ [],
       one_further _ front _ _ _ split moves.gives,

@@ -1,6 +1,7 @@
 use Rattle.std.proofs.Common.{None, Some, Err, ap, refl, sym, ◌∙◌}
 use Rattle.std.proofs.lemmas.List.{take_rest}
 use Rattle.std.proofs.lemmas.Result.{on_ok_weaker}
+use Rattle.linkinfo_print.specs.Printing.{refusal}
 use Rattle.linkinfo_print.specs.Sentences.{one_word}
 use Rattle.linkinfo_print.specs.UnitAnswers.{without_front}
 use Rattle.linkinfo_print.proofs.Answering.{pair_line, second_word}
@@ -11,7 +12,8 @@ returns-in_default c =
     let single = sym c.has_single_lists.ensures ∙ c.if-has_single_lists.false in
     let space = rw c.in_default.is at c.memchr.ensures in
     on_ok_weaker c.refuse.result
-    (λ prints. (Err one_word, pair_line _ _ _ None single space refl, prints)) c.refuse.ensures
+    (λ prints. (Err (refusal one_word), pair_line _ _ _ None single space refl, prints))
+    c.refuse.ensures
 
 pub returns : goal.returns
 returns c =

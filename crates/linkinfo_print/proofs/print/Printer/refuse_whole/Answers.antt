@@ -10,4 +10,6 @@ returns g c =
     on_ok_weaker c.refuse.result
     (λ said.
     IfSome_then (g.E.Display.output c.args.error) said
-    (λ sentence adds. refused c.args.self.now _ sentence adds refl cutter)) c.refuse.ensures.adds
+    (λ sentence adds.
+    refused c.args.self.now _ (record { sentence = sentence; breaks = c.args.breaks }) adds refl
+    cutter)) c.refuse.ensures.adds
