@@ -22,8 +22,8 @@ use Rattle.linkinfo_print.specs.Plain.{plain}
 use Rattle.linkinfo_print.specs.declared.report.Printed.{Printed}
 use Rattle.linkinfo_print.specs.declared.report.Report.{Report}
 
--- why something is not printed: the sentence of its error, and whether the error breaks a stream of
--- messages, since nothing says where the next one begins
+-- why something is not printed: the sentence of its error, and whether it is an error of a message,
+-- which ends a stream of messages, as it ends `LinkMessages`
 pub record Refusal : Type 0 where
   pub sentence : List ℕ
   pub breaks : Bool

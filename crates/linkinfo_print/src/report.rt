@@ -140,6 +140,8 @@ impl Report {
             (Adds self.old (Ok (what, view value.now) ∷ []) self.new) }
         ensures reads_back { OnOk result (self.old.json ≡ true →
             read (compact_text (view value.now)) ≡ Some (view value.now)) }
+        ensures accepted { self.new.accepted ≡ self.old.accepted }
+        ensures errors { self.new.errors ≡ self.old.errors }
         ensures json { self.new.json ≡ self.old.json }
     {
         let mut text = Vec::new(alloc);

@@ -1,10 +1,10 @@
 //! One run of the program. It prints each line, message or packet once it has come.
 
-ghost use Rattle.std.specs.Prelude.{◌≡◌, [], true, IfOk, OnOk};
+ghost use Rattle.std.specs.Prelude.{◌≡◌, [], true, Err, IfOk, OnOk};
 ghost use Rattle.std.specs.Io.KnownBytes.{Appends};
 ghost use Rattle.linkinfo_print.specs.Answers.{AppendsPlain};
-ghost use Rattle.linkinfo_print.specs.InputAnswers.{PrintsUpTo, Runs};
-ghost use Rattle.linkinfo_print.specs.Units.{units_on};
+ghost use Rattle.linkinfo_print.specs.InputAnswers.{PrintsUpTo, Runs, Stops};
+ghost use Rattle.linkinfo_print.specs.Units.{Waits, units_on};
 
 use crate::options::Options;
 use crate::print::Printer;
@@ -16,7 +16,7 @@ use thiserror::Error;
 /// Why a run ended before its input.
 #[derive(Clone, Copy, Debug, PartialEq, Eq, Error)]
 pub enum RunError {
-    /// A read failed.
+    /// A read failed, or the input did not end within the most reads that 64 bits count.
     #[error("reading standard input failed")]
     Read,
     /// A write failed, or wrote no byte.
@@ -47,6 +47,9 @@ pub fn run<R: Read, W: Write, E: Write>(
         (R.remaining input.old) (R.remaining input.new)
         (W.contents output.old) (W.contents output.new)
         (E.contents errors.old) (E.contents errors.new) accepted) }
+    ensures read { result ≡ Err RunError.Read → Stops options (R.remaining input.old)
+        (W.contents output.old) (W.contents output.new)
+        (E.contents errors.old) (E.contents errors.new) }
     ensures plain_output { OnOk result
         (AppendsPlain (W.contents output.old) (W.contents output.new)) }
     ensures plain_errors { OnOk result
@@ -77,6 +80,7 @@ fn take(printer: &mut Printer, pending: &mut Vec<u8>, is_end: bool) -> Result<()
         (PrintsUpTo printer.old pending.old.items is_end printer.new pending.new.items) }
     ensures all { OnOk result
         (is_end ≡ true → units_on printer.new.cutter pending.new.items ≡ []) }
+    ensures waits { OnOk result (Waits printer.new.cutter pending.new.items) }
 {
     let taken = printer.push(pending, is_end).map_err(|_| RunError::Memory)?;
     pending.copy_within(taken.., 0);
