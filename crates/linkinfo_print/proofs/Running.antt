@@ -40,7 +40,6 @@ use Rattle.linkinfo_print.specs.InputAnswers.{
   Begins,
   PrintsUpTo,
   Runs,
-  Stops,
 }
 use Rattle.linkinfo_print.specs.Plain.{IsPlain, is_plain, plain, plain_byte}
 use Rattle.linkinfo_print.specs.Printing.{
@@ -52,9 +51,7 @@ use Rattle.linkinfo_print.specs.Printing.{
   output_of,
   outputs,
 }
-use Rattle.linkinfo_print.specs.Units.{MayFollow, Waits, start, units_on}
-use Rattle.linkinfo_print.specs.declared.options.Input.{Input}
-use Rattle.linkinfo_print.specs.declared.options.Input.TheVariants as input
+use Rattle.linkinfo_print.specs.Units.{MayFollow, start, units_on}
 use Rattle.linkinfo_print.specs.declared.options.Options.{Options}
 use Rattle.linkinfo_print.specs.declared.print.Printer.{Printer}
 use Rattle.linkinfo_print.specs.declared.report.Report.{Report}
@@ -80,14 +77,6 @@ pub record SoFar (options : Options) (is_end : Bool)
   pub json : printer.report.json ≡ options.json
   pub options_kept : printer.options ≡ options
   pub begins : Begins options is_end (start options.input) bytes answers printer.cutter pending
-  pub waits : Waits printer.cutter pending
-
-waits_first : (what : Input) → Waits (start what) []
-waits_first input.Lists = inr (λ k d lt. absurd (omega arith), omega arith)
-waits_first input.Differences = inr (λ k d lt. absurd (omega arith), omega arith)
-waits_first input.Unmet = inr (λ k d lt. absurd (omega arith), omega arith)
-waits_first input.Messages = inr tt
-waits_first input.Capture = inr (omega arith)
 
 pub so_far_nothing : (options : Options) (reader output rejected : Option (List ℕ))
     (printer : Printer) (pending : List ℕ) → pending ≡ [] →
@@ -111,9 +100,6 @@ so_far_nothing options reader output rejected printer pending none o e a j k c =
           subst (λ s. Begins options false (start options.input) [] [] printer.cutter s) (sym none)
           (subst (λ x. Begins options false (start options.input) [] [] x []) (sym c)
           (begins_nothing options false (start options.input) []));
-      waits =
-          subst (Waits printer.cutter) (sym none)
-          (subst (λ cutter. Waits cutter []) (sym c) (waits_first options.input));
     }
 
 -- bytes that a read adds to what is pending
@@ -132,14 +118,13 @@ pub so_far_more : (options : Options) (is_end : Bool)
     Consumes r₁ r₂ part →
     pending ≡ before ++ part →
     PrintsUpTo old pending is_end mid after →
-    Waits mid.cutter after →
     written ≡ mid.report →
     Appends o₁ o₂ written.output →
     Appends e₁ e₂ written.errors →
     new ≡ record mid { report = record mid.report { output = []; errors = [] } } →
     SoFar options is_end r₀ r₂ o₀ o₂ e₀ e₂ new after
 so_far_more options is_end r₀ r₁ r₂ o₀ o₁ o₂ e₀ e₁ e₂ old mid new written part before pending after
-    h reads on prints waits same writes reports cleared =
+    h reads on prints same writes reports cleared =
     let xs = h.answers in
     let ys = prints.answers in
     let adds = prints.adds in
@@ -175,25 +160,7 @@ so_far_more options is_end r₀ r₁ r₂ o₀ o₁ o₂ e₀ e₁ e₂ old mid 
       options_kept = prints.options ∙ h.options_kept;
       begins = begins_more options is_end (start options.input) old.cutter mid.cutter
           (h.bytes ++ part) (before ++ part) after xs ys first second;
-      waits = waits;
     })
-
--- where a read fails, the answers so far are written
-pub so_far_stops : (options : Options) (r₀ r₁ o₀ o₁ e₀ e₁ : Option (List ℕ)) (printer : Printer)
-    (pending : List ℕ) → SoFar options false r₀ r₁ o₀ o₁ e₀ e₁ printer pending →
-    Stops options r₀ o₀ o₁ e₀ e₁
-so_far_stops options r₀ r₁ o₀ o₁ e₀ e₁ printer pending h = record {
-  reader' = r₁;
-  bytes = h.bytes;
-  answers = h.answers;
-  cutter = printer.cutter;
-  rest = pending;
-  reads = h.reads;
-  begins = h.begins;
-  waits = h.waits;
-  writes = h.writes;
-  reports = h.reports;
-}
 
 -- where nothing is left, the answers are those to the bytes
 answers_all : (o : Options) (is_end : Bool) (a b : Cutter) (s t more : List ℕ) (xs : List Answer) →

@@ -3,7 +3,7 @@ use Rattle.std.specs.Prelude.{◌≡◌, ◌⊎◌, ℕ, Bool, true, false, List
 use Rattle.std.specs.Io.KnownBytes.{Appends, Consumes, IsAtEnd}
 use Rattle.linkinfo_print.specs.Printing.{Adds, Answer, all_accepted, errors, outputs}
 use Rattle.linkinfo_print.specs.UnitAnswers.{AreAnswers, ends_input}
-use Rattle.linkinfo_print.specs.Units.{MayFollow, Portion, Waits, start, units_of, units_on}
+use Rattle.linkinfo_print.specs.Units.{MayFollow, Portion, units_of, units_on}
 use Rattle.linkinfo_print.specs.declared.options.Options.{Options}
 use Rattle.linkinfo_print.specs.declared.print.Printer.{Printer}
 use Rattle.linkinfo_print.specs.declared.units.Cutter.{Cutter}
@@ -63,18 +63,3 @@ pub record Runs (options : Options)
   pub reports : Appends rejected rejected' (errors answers)
   pub accepts : accepted ≡ all_accepted answers
   pub whole : IfSome reader (λ s. AreInputAnswers options s answers)
-
--- A read failed: the answers to what was read before are written, but for bytes that have no whole
--- line, message, record or file header.
-pub record Stops (options : Options) (reader output output' rejected rejected' : Option (List ℕ)) :
-    Type 0 where
-  pub reader' : Option (List ℕ)
-  pub bytes : List ℕ
-  pub answers : List Answer
-  pub cutter : Cutter
-  pub rest : List ℕ
-  pub reads : Consumes reader reader' bytes
-  pub begins : Begins options false (start options.input) bytes answers cutter rest
-  pub waits : Waits cutter rest
-  pub writes : Appends output output' (outputs options.json answers)
-  pub reports : Appends rejected rejected' (errors answers)

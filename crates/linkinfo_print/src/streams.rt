@@ -1,9 +1,9 @@
 //! One run of the program. It prints each line, message or packet once it has come.
 
-ghost use Rattle.std.specs.Prelude.{◌≡◌, [], true, Err, IfOk, OnOk};
+ghost use Rattle.std.specs.Prelude.{◌≡◌, [], true, IfOk, OnOk};
 ghost use Rattle.std.specs.Io.KnownBytes.{Appends};
 ghost use Rattle.linkinfo_print.specs.Answers.{AppendsPlain};
-ghost use Rattle.linkinfo_print.specs.InputAnswers.{PrintsUpTo, Runs, Stops};
+ghost use Rattle.linkinfo_print.specs.InputAnswers.{PrintsUpTo, Runs};
 ghost use Rattle.linkinfo_print.specs.Units.{Waits, units_on};
 
 use crate::options::Options;
@@ -47,9 +47,6 @@ pub fn run<R: Read, W: Write, E: Write>(
         (R.remaining input.old) (R.remaining input.new)
         (W.contents output.old) (W.contents output.new)
         (E.contents errors.old) (E.contents errors.new) accepted) }
-    ensures read { result ≡ Err RunError.Read → Stops options (R.remaining input.old)
-        (W.contents output.old) (W.contents output.new)
-        (E.contents errors.old) (E.contents errors.new) }
     ensures plain_output { OnOk result
         (AppendsPlain (W.contents output.old) (W.contents output.new)) }
     ensures plain_errors { OnOk result

@@ -10,7 +10,7 @@ use thiserror::Error;
 /// Why a run ended before its input.
 #[derive(Clone, Copy, Debug, PartialEq, Eq, Error)]
 pub enum RunError {
-    /// A read failed.
+    /// A read failed, or the input did not end within the most reads that 64 bits count.
     #[error("reading standard input failed")]
     Read,
     /// A write failed, or wrote no byte.
