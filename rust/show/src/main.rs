@@ -10,6 +10,7 @@
     clippy::manual_map,
     clippy::manual_range_contains,
     clippy::needless_range_loop,
+    clippy::while_let_on_iterator,
     reason = "the text is that of the proved source, where these forms are the ones with proofs"
 )]
 

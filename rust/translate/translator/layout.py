@@ -51,6 +51,7 @@ SHOW_ROOT = """#![forbid(unsafe_code)]
     clippy::manual_map,
     clippy::manual_range_contains,
     clippy::needless_range_loop,
+    clippy::while_let_on_iterator,
     reason = "the text is that of the proved source, where these forms are the ones with proofs"
 )]"""
 
