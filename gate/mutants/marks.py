@@ -52,8 +52,9 @@ class Marks:
         parts = [" ".join(self.crates[name])]
         for path in self.files(name, "src"):
             text = self.read(name, path)
-            here = {it[0] for it in sources.bodies_of(name, path, text)}
-            parts += [path, sources.visible(name, path, text, frozenset(here & shown))]
+            here = {it[0] for it in sources.bodies_of(name, path, text)
+                    if any(sources.may_be(it[0], function) for function in shown)}
+            parts += [path, sources.visible(name, path, text, frozenset(here))]
         for path in sorted({*self.files(name, "specs"), *proofs}):
             parts += [path, self.uncommented(name, path)]
         return parts

@@ -70,10 +70,17 @@ def bodies_of(crate, path, text):
     return bodies
 
 
+def may_be(name, function):
+    """Whether a function of a file may be the one that a check names so: it names a method by the
+    module of its type, which may be another than that of the impl."""
+    return name.split("::")[-2:] == function.split("::")[-2:]
+
+
 def body_of(crate, path, text, function):
     """Where the body of that function starts and ends, or twice the start of the file."""
-    spans = (it[1:3] for it in bodies_of(crate, path, text) if it[0] == function)
-    return next(spans, (0, 0))
+    bodies = bodies_of(crate, path, text)
+    named = [it for it in bodies if it[0] == function]
+    return next((it[1:3] for it in named or bodies if may_be(it[0], function)), (0, 0))
 
 
 def body_span(lines, number, at, indent):

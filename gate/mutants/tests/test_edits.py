@@ -5,7 +5,7 @@ import unittest
 
 from mutants.crates import BadEdit
 from mutants.edits import Edit
-from mutants.sources import block_name, bodies_of, visible
+from mutants.sources import block_name, bodies_of, body_of, visible
 from mutants.steps import are_moved
 
 SOURCE = """//! A module.
@@ -66,6 +66,12 @@ class Edits(unittest.TestCase):
     def test_bodies(self):
         found = bodies_of("one", "src/count.rt", SOURCE)
         self.assertEqual([it[0] for it in found], [FROM, NEXT, "one::count::Count::zero"])
+
+    def test_methods_of_a_type_of_another_module(self):
+        for name, body in ((NEXT, "self.n + 1"), ("one::other::Count::next", "self.n + 1"),
+                           ("one::other::Sum::next", "")):
+            found = body_of("one", "src/count.rt", SOURCE, name)
+            self.assertEqual(SOURCE[slice(*found)].strip(), body)
 
     def test_names_of_blocks(self):
         for header, name in {
