@@ -235,7 +235,7 @@ prints_numbered p q r n xs ys a b =
     (prints_more p q r _ _ a
     (subst (λ options. Prints q (map (with_number options.input n) ys) r) a.options b))
 
--- more links after those that are answered
+-- one more link after those that are printed
 pub links_more : (place : ℕ) (time : Time) (links : List (Result Link MessageError))
     (answers : List Answer) (link : Result Link MessageError) (answer : Answer) →
     AreLinkAnswers place time links answers → IsLinkAnswer place time link answer →
@@ -250,7 +250,7 @@ links_more place time (l ∷ links) answers link answer (first, others, is-first
   ap (λ xs. xs ++ answer ∷ []) e,
 )
 
--- more records after those that are answered
+-- one more record after those that are printed
 pub records_more : (place : ℕ) (records : List (Result RecordParts CaptureError))
     (answers : List Answer) (r : Result RecordParts CaptureError) (more : List Answer) →
     AreRecordsAnswers place records answers → AreRecordAnswers place r more →

@@ -34,8 +34,8 @@ const READ_LEN: usize = 65_536;
 /// `errors` what is rejected. Both are written and flushed after each read. Returns whether all of
 /// the input was accepted.
 ///
-/// Memory is in proportion to the longest line, message or packet, at most `MOST_BYTES` and what
-/// one read returns.
+/// Memory is in proportion to the longest line, message or packet, which has at most `MOST_BYTES`,
+/// and to what one read returns.
 pub fn run<R: Read, W: Write, E: Write>(
     alloc: Global,
     options: Options,
