@@ -16,6 +16,7 @@ use Rattle.std.proofs.Common.{
   [],
   ◌∷◌,
   ◌++◌,
+  length,
   Option,
   Some,
   None,
@@ -30,8 +31,9 @@ use Rattle.std.proofs.Common.{
   append_assoc,
 }
 use Rattle.std.specs.List.{flat_map}
-use Rattle.std.specs.Io.KnownBytes.{Appends, Consumes, IsAtEnd}
+use Rattle.std.specs.Io.KnownBytes.{Appends, Consumes, IsAtEnd, Keeps}
 use Rattle.std.proofs.KnownBytes.{Appends-nil, Appends-trans, Consumes-nil, Consumes-trans}
+use Rattle.linkinfo_lines.specs.Streams.{AppendsBeginning}
 use Rattle.linkinfo_print.specs.Answers.{AppendsPlain}
 use Rattle.linkinfo_print.specs.InputAnswers.{
   AnswersTo,
@@ -40,6 +42,10 @@ use Rattle.linkinfo_print.specs.InputAnswers.{
   Begins,
   PrintsUpTo,
   Runs,
+  Stops,
+  WritesBefore,
+  WritesPrefix,
+  read_len,
 }
 use Rattle.linkinfo_print.specs.Plain.{IsPlain, is_plain, plain, plain_byte}
 use Rattle.linkinfo_print.specs.Printing.{
@@ -51,10 +57,14 @@ use Rattle.linkinfo_print.specs.Printing.{
   output_of,
   outputs,
 }
-use Rattle.linkinfo_print.specs.Units.{MayFollow, start, units_on}
+use Rattle.linkinfo_print.specs.Units.{MayFollow, Waits, start, units_on}
+use Rattle.linkinfo_print.specs.declared.options.Input.{Input}
+use Rattle.linkinfo_print.specs.declared.options.Input.TheVariants as input
 use Rattle.linkinfo_print.specs.declared.options.Options.{Options}
 use Rattle.linkinfo_print.specs.declared.print.Printer.{Printer}
 use Rattle.linkinfo_print.specs.declared.report.Report.{Report}
+use Rattle.linkinfo_print.specs.declared.streams.RunError.{RunError}
+use Rattle.linkinfo_print.specs.declared.streams.RunError.TheVariants as error
 use Rattle.linkinfo_print.specs.declared.units.Cutter.{Cutter}
 use Rattle.std.proofs.lemmas.List.Folds.{list_all-append}
 use Rattle.linkinfo_print.proofs.Answering.{errors_append, outputs_append}
@@ -77,6 +87,14 @@ pub record SoFar (options : Options) (is_end : Bool)
   pub json : printer.report.json ≡ options.json
   pub options_kept : printer.options ≡ options
   pub begins : Begins options is_end (start options.input) bytes answers printer.cutter pending
+  pub waits : Waits printer.cutter pending
+
+waits_first : (what : Input) → Waits (start what) []
+waits_first input.Lists = inr (λ k d lt. absurd (omega arith), omega arith)
+waits_first input.Differences = inr (λ k d lt. absurd (omega arith), omega arith)
+waits_first input.Unmet = inr (λ k d lt. absurd (omega arith), omega arith)
+waits_first input.Messages = inr tt
+waits_first input.Capture = inr (omega arith)
 
 pub so_far_nothing : (options : Options) (reader output rejected : Option (List ℕ))
     (printer : Printer) (pending : List ℕ) → pending ≡ [] →
@@ -100,6 +118,9 @@ so_far_nothing options reader output rejected printer pending none o e a j k c =
           subst (λ s. Begins options false (start options.input) [] [] printer.cutter s) (sym none)
           (subst (λ x. Begins options false (start options.input) [] [] x []) (sym c)
           (begins_nothing options false (start options.input) []));
+      waits =
+          subst (Waits printer.cutter) (sym none)
+          (subst (λ cutter. Waits cutter []) (sym c) (waits_first options.input));
     }
 
 -- bytes that a read adds to what is pending
@@ -110,6 +131,46 @@ begins_on o is_end a b s t part xs h = λ more later may l.
     (h (part ++ more) later (λ e. cc e)
     (subst (λ u. AnswersTo o (units_on b u) later) (append_assoc t part more) l))
 
+-- what is printed after one read
+record AfterRead (options : Options) (is_end : Bool) (bytes : List ℕ) (answers : List Answer)
+    (mid : Printer) (after : List ℕ) : Type 0 where
+  pub added : List Answer
+  pub output : mid.report.output ≡ outputs options.json added
+  pub rejected : mid.report.errors ≡ errors added
+  pub accepted : mid.report.accepted ≡ all_accepted (answers ++ added)
+  pub json : mid.report.json ≡ options.json
+  pub options_kept : mid.options ≡ options
+  pub begins : Begins options is_end (start options.input) bytes (answers ++ added) mid.cutter after
+
+printed : (options : Options) (is_end : Bool) (r₀ r₁ o₀ o₁ e₀ e₁ : Option (List ℕ))
+    (old mid : Printer) (part before pending after : List ℕ) →
+    (h : SoFar options false r₀ r₁ o₀ o₁ e₀ e₁ old before) →
+    pending ≡ before ++ part →
+    PrintsUpTo old pending is_end mid after →
+    AfterRead options is_end (h.bytes ++ part) h.answers mid after
+printed options is_end r₀ r₁ o₀ o₁ e₀ e₁ old mid part before pending after h on prints =
+    let xs = h.answers in
+    let ys = prints.answers in
+    let adds = prints.adds in
+    let second : Begins options is_end old.cutter (before ++ part) ys mid.cutter after =
+    subst (λ o. Begins o is_end old.cutter (before ++ part) ys mid.cutter after) h.options_kept
+    (subst (λ s. Begins old.options is_end old.cutter s ys mid.cutter after) on prints.begins) in
+    let first = begins_on options is_end (start options.input) old.cutter h.bytes before part xs
+    h.begins in
+    record {
+      added = ys;
+      output = adds.output ∙ (λ i. h.no_output i ++ outputs (h.json i) ys);
+      rejected = adds.errors ∙ (λ i. h.no_errors i ++ errors ys);
+      accepted =
+          adds.accepted
+          ∙ ap (λ b. b && all_accepted ys) h.accepts
+          ∙ sym (list_all-append is_accepted xs ys);
+      json = adds.json ∙ h.json;
+      options_kept = prints.options ∙ h.options_kept;
+      begins = begins_more options is_end (start options.input) old.cutter mid.cutter
+          (h.bytes ++ part) (before ++ part) after xs ys first second;
+    }
+
 -- one read, and what is printed and written after it
 pub so_far_more : (options : Options) (is_end : Bool)
     (r₀ r₁ r₂ o₀ o₁ o₂ e₀ e₁ e₂ : Option (List ℕ)) (old mid new : Printer)
@@ -118,25 +179,18 @@ pub so_far_more : (options : Options) (is_end : Bool)
     Consumes r₁ r₂ part →
     pending ≡ before ++ part →
     PrintsUpTo old pending is_end mid after →
+    Waits mid.cutter after →
     written ≡ mid.report →
     Appends o₁ o₂ written.output →
     Appends e₁ e₂ written.errors →
     new ≡ record mid { report = record mid.report { output = []; errors = [] } } →
     SoFar options is_end r₀ r₂ o₀ o₂ e₀ e₂ new after
 so_far_more options is_end r₀ r₁ r₂ o₀ o₁ o₂ e₀ e₁ e₂ old mid new written part before pending after
-    h reads on prints same writes reports cleared =
+    h reads on prints waits same writes reports cleared =
     let xs = h.answers in
-    let ys = prints.answers in
-    let adds = prints.adds in
-    let output : written.output ≡ outputs options.json ys =
-    ap (λ r. r.output) same ∙ adds.output ∙ (λ i. h.no_output i ++ outputs (h.json i) ys) in
-    let rejected : written.errors ≡ errors ys =
-    ap (λ r. r.errors) same ∙ adds.errors ∙ (λ i. h.no_errors i ++ errors ys) in
-    let second : Begins options is_end old.cutter (before ++ part) ys mid.cutter after =
-    subst (λ o. Begins o is_end old.cutter (before ++ part) ys mid.cutter after) h.options_kept
-    (subst (λ s. Begins old.options is_end old.cutter s ys mid.cutter after) on prints.begins) in
-    let first = begins_on options is_end (start options.input) old.cutter h.bytes before part xs
-    h.begins in
+    let more = printed options is_end r₀ r₁ o₀ o₁ e₀ e₁ old mid part before pending after h on
+    prints in
+    let ys = more.added in
     subst (λ p. SoFar options is_end r₀ r₂ o₀ o₂ e₀ e₂ p after) (sym cleared)
     (record {
       bytes = h.bytes ++ part;
@@ -145,21 +199,108 @@ so_far_more options is_end r₀ r₁ r₂ o₀ o₁ o₂ e₀ e₁ e₂ old mid 
       writes =
           subst (Appends o₀ o₂) (sym (outputs_append options.json xs ys))
           (Appends-trans o₀ o₁ o₂ (outputs options.json xs) (outputs options.json ys) h.writes
-          (subst (Appends o₁ o₂) output writes));
+          (subst (Appends o₁ o₂) (ap (λ r. r.output) same ∙ more.output) writes));
       reports =
           subst (Appends e₀ e₂) (sym (errors_append xs ys))
           (Appends-trans e₀ e₁ e₂ (errors xs) (errors ys) h.reports
-          (subst (Appends e₁ e₂) rejected reports));
-      accepts =
-          adds.accepted
-          ∙ ap (λ b. b && all_accepted ys) h.accepts
-          ∙ sym (list_all-append is_accepted xs ys);
+          (subst (Appends e₁ e₂) (ap (λ r. r.errors) same ∙ more.rejected) reports));
+      accepts = more.accepted;
       no_output = refl;
       no_errors = refl;
-      json = adds.json ∙ h.json;
-      options_kept = prints.options ∙ h.options_kept;
-      begins = begins_more options is_end (start options.input) old.cutter mid.cutter
-          (h.bytes ++ part) (before ++ part) after xs ys first second;
+      json = more.json;
+      options_kept = more.options_kept;
+      begins = more.begins;
+      waits = waits;
+    })
+
+-- ---- where an error ends the run
+
+kept_consumes : (a b : Option (List ℕ)) → Keeps a b → Consumes a b []
+kept_consumes None b kept = tt
+kept_consumes (Some xs) None kept = absurd kept
+kept_consumes (Some xs) (Some ys) kept = sym kept
+
+so_far_before : (options : Options) (r₀ r₁ r₂ o₀ o₁ e₀ e₁ : Option (List ℕ)) (printer : Printer)
+    (pending last : List ℕ) → SoFar options false r₀ r₁ o₀ o₁ e₀ e₁ printer pending →
+    Consumes r₁ r₂ last → WritesBefore last options r₀ r₂ o₀ o₁ e₀ e₁
+so_far_before options r₀ r₁ r₂ o₀ o₁ e₀ e₁ printer pending last h reads = record {
+  bytes = h.bytes;
+  answers = h.answers;
+  reads = Consumes-trans r₀ r₁ r₂ h.bytes last h.reads reads;
+  answered = record {
+    cutter = printer.cutter;
+    rest = pending;
+    begins = h.begins;
+    waits = h.waits;
+  };
+  writes = h.writes;
+  reports = h.reports;
+}
+
+pub read_failed : (options : Options) (e : RunError) (r₀ r₁ r₂ o₀ o₁ e₀ e₁ : Option (List ℕ))
+    (printer : Printer) (pending : List ℕ) →
+    SoFar options false r₀ r₁ o₀ o₁ e₀ e₁ printer pending → Keeps r₁ r₂ → e ≡ error.Read →
+    Stops options e r₀ r₂ o₀ o₁ e₀ e₁
+read_failed options e r₀ r₁ r₂ o₀ o₁ e₀ e₁ printer pending h kept is =
+    subst (λ e. Stops options e r₀ r₂ o₀ o₁ e₀ e₁) (sym is)
+    (so_far_before options r₀ r₁ r₂ o₀ o₁ e₀ e₁ printer pending [] h (kept_consumes r₁ r₂ kept))
+
+pub memory_failed : (options : Options) (e : RunError) (r₀ r₁ r₂ o₀ o₁ e₀ e₁ : Option (List ℕ))
+    (printer : Printer) (pending last : List ℕ) →
+    SoFar options false r₀ r₁ o₀ o₁ e₀ e₁ printer pending → Consumes r₁ r₂ last →
+    length last ≤ read_len → e ≡ error.Memory → Stops options e r₀ r₂ o₀ o₁ e₀ e₁
+memory_failed options e r₀ r₁ r₂ o₀ o₁ e₀ e₁ printer pending last h reads short is =
+    subst (λ e. Stops options e r₀ r₂ o₀ o₁ e₀ e₁) (sym is) (
+      last,
+      short,
+      so_far_before options r₀ r₁ r₂ o₀ o₁ e₀ e₁ printer pending last h reads,
+    )
+
+beginning_on : (a b c : Option (List ℕ)) (s t all : List ℕ) → all ≡ s ++ t → Appends a b s →
+    AppendsBeginning b c t → AppendsBeginning a c all
+beginning_on a b c s t all e first (front, rest, split, second) = (
+  s ++ front,
+  rest,
+  e ∙ ap (λ l. s ++ l) split ∙ sym (append_assoc s front rest),
+  Appends-trans a b c s front first second,
+)
+
+pub write_failed : (options : Options) (is_end : Bool) (e : RunError)
+    (r₀ r₁ r₂ o₀ o₁ o₂ e₀ e₁ e₂ : Option (List ℕ)) (old mid : Printer)
+    (written : Report) (part before pending after : List ℕ) →
+    SoFar options false r₀ r₁ o₀ o₁ e₀ e₁ old before →
+    Consumes r₁ r₂ part →
+    (is_end ≡ true → IsAtEnd r₂) →
+    pending ≡ before ++ part →
+    PrintsUpTo old pending is_end mid after →
+    Waits mid.cutter after →
+    written ≡ mid.report →
+    (e ≡ error.Write)
+    × AppendsBeginning o₁ o₂ written.output
+    × AppendsBeginning e₁ e₂ written.errors →
+    Stops options e r₀ r₂ o₀ o₂ e₀ e₂
+write_failed options is_end e r₀ r₁ r₂ o₀ o₁ o₂ e₀ e₁ e₂ old mid written part before pending after
+    h reads ends on prints waits same (is, writes, reports) =
+    let xs = h.answers in
+    let more = printed options is_end r₀ r₁ o₀ o₁ e₀ e₁ old mid part before pending after h on
+    prints in
+    let ys = more.added in
+    subst (λ e. Stops options e r₀ r₂ o₀ o₂ e₀ e₂) (sym is)
+    (record {
+      bytes = h.bytes ++ part;
+      answers = xs ++ ys;
+      is_end = is_end;
+      reads = Consumes-trans _ _ _ h.bytes part h.reads reads;
+      ends = ends;
+      answered = record { cutter = mid.cutter; rest = after; begins = more.begins; waits = waits };
+      writes =
+          beginning_on o₀ o₁ o₂ (outputs options.json xs) (outputs options.json ys)
+          (outputs options.json (xs ++ ys)) (outputs_append options.json xs ys) h.writes
+          (subst (AppendsBeginning o₁ o₂) (ap (λ r. r.output) same ∙ more.output) writes);
+      reports =
+          beginning_on e₀ e₁ e₂ (errors xs) (errors ys) (errors (xs ++ ys)) (errors_append xs ys)
+          h.reports
+          (subst (AppendsBeginning e₁ e₂) (ap (λ r. r.errors) same ∙ more.rejected) reports);
     })
 
 -- where nothing is left, the answers are those to the bytes

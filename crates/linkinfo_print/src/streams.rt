@@ -1,28 +1,31 @@
 //! One run of the program. It prints each line, message or packet once it has come.
 
-ghost use Rattle.std.specs.Prelude.{◌≡◌, [], true, IfOk, OnOk};
+ghost use Rattle.std.specs.Prelude.{◌≡◌, [], true, IfErr, IfOk, OnOk};
 ghost use Rattle.std.specs.Io.KnownBytes.{Appends};
+ghost use Rattle.linkinfo_lines.specs.Streams.{AppendsBeginning};
 ghost use Rattle.linkinfo_print.specs.Answers.{AppendsPlain};
-ghost use Rattle.linkinfo_print.specs.InputAnswers.{PrintsUpTo, Runs};
+ghost use Rattle.linkinfo_print.specs.InputAnswers.{PrintsUpTo, Runs, Stops};
 ghost use Rattle.linkinfo_print.specs.Units.{Waits, units_on};
 
 use crate::options::Options;
 use crate::print::Printer;
 use crate::report::Report;
-use std::alloc::Global;
+use linkinfo_lines::write_output;
+use std::alloc::{AllocError, Global};
 use std::io::{Read, Write};
 use thiserror::Error;
 
 /// Why a run ended before its input.
 #[derive(Clone, Copy, Debug, PartialEq, Eq, Error)]
 pub enum RunError {
-    /// A read failed, or the input did not end within the most reads that 64 bits count.
+    /// A read failed, or the input did not end within the most reads that 64 bits count. The
+    /// answers to what was read are written.
     #[error("reading standard input failed")]
     Read,
-    /// A write failed, or wrote no byte.
+    /// A write failed, or wrote no byte. What was written is a prefix of the answers.
     #[error("writing failed")]
     Write,
-    /// An allocation failed.
+    /// An allocation failed. The answers to what was read are written, but for the last read.
     #[error("out of memory")]
     Memory,
 }
@@ -47,6 +50,10 @@ pub fn run<R: Read, W: Write, E: Write>(
         (R.remaining input.old) (R.remaining input.new)
         (W.contents output.old) (W.contents output.new)
         (E.contents errors.old) (E.contents errors.new) accepted) }
+    ensures stopped { IfErr result (λ error. Stops options error
+        (R.remaining input.old) (R.remaining input.new)
+        (W.contents output.old) (W.contents output.new)
+        (E.contents errors.old) (E.contents errors.new)) }
     ensures plain_output { OnOk result
         (AppendsPlain (W.contents output.old) (W.contents output.new)) }
     ensures plain_errors { OnOk result
@@ -61,7 +68,7 @@ pub fn run<R: Read, W: Write, E: Write>(
         pending
             .extend_from_slice(&buffer[..len])
             .map_err(|_| RunError::Memory)?;
-        take(&mut printer, &mut pending, is_end)?;
+        take(&mut printer, &mut pending, is_end).map_err(|_| RunError::Memory)?;
         write_report(printer.report(), output, errors)?;
         printer.clear();
         if is_end || printer.has_ended() {
@@ -72,14 +79,14 @@ pub fn run<R: Read, W: Write, E: Write>(
 }
 
 /// Prints what is whole of the bytes, and removes it.
-fn take(printer: &mut Printer, pending: &mut Vec<u8>, is_end: bool) -> Result<(), RunError>
+fn take(printer: &mut Printer, pending: &mut Vec<u8>, is_end: bool) -> Result<(), AllocError>
     ensures prints { OnOk result
         (PrintsUpTo printer.old pending.old.items is_end printer.new pending.new.items) }
     ensures all { OnOk result
         (is_end ≡ true → units_on printer.new.cutter pending.new.items ≡ []) }
     ensures waits { OnOk result (Waits printer.new.cutter pending.new.items) }
 {
-    let taken = printer.push(pending, is_end).map_err(|_| RunError::Memory)?;
+    let taken = printer.push(pending, is_end)?;
     pending.copy_within(taken.., 0);
     pending.truncate(pending.len() - taken);
     Ok(())
@@ -95,18 +102,20 @@ fn write_report<W: Write, E: Write>(
         (Appends (W.contents output.old) (W.contents output.new) report.now.output) }
     ensures errors { OnOk result
         (Appends (E.contents errors.old) (E.contents errors.new) report.now.errors) }
+    ensures err { IfErr result (λ error. (error ≡ RunError.Write)
+        × AppendsBeginning (W.contents output.old) (W.contents output.new) report.now.output
+        × AppendsBeginning (E.contents errors.old) (E.contents errors.new) report.now.errors) }
 {
-    let values = report.output();
-    write_all(output, values)?;
-    let rejected = report.errors();
-    write_all(errors, rejected)?;
-    Ok(())
+    write_now(output, report.output())?;
+    write_now(errors, report.errors())
 }
 
 /// Writes all of the bytes, and flushes them.
-fn write_all<W: Write>(writer: &mut W, bytes: &[u8]) -> Result<(), RunError>
-    ensures { OnOk result (Appends (W.contents writer.old) (W.contents writer.new) bytes.now) }
+fn write_now<W: Write>(writer: &mut W, bytes: &[u8]) -> Result<(), RunError>
+    ensures ok { OnOk result (Appends (W.contents writer.old) (W.contents writer.new) bytes.now) }
+    ensures err { IfErr result (λ error. (error ≡ RunError.Write)
+        × AppendsBeginning (W.contents writer.old) (W.contents writer.new) bytes.now) }
 {
-    writer.write_all(bytes).map_err(|_| RunError::Write)?;
+    write_output(writer, bytes).map_err(|_| RunError::Write)?;
     writer.flush().map_err(|_| RunError::Write)
 }

@@ -53,6 +53,7 @@ loop-preserved g c =
     (subst (λ is_end. PrintsUpTo c.loop.printer c.extend_from_slice.new.self.items is_end
     c.take.new.printer c.take.new.pending.items) (ne_eqb n 0 c.if-is_end.false)
     c.in_ok-take.ensures.prints)
+    c.in_ok-take.ensures.waits
     c.report.ensures written.output written.errors
     c.clear.ensures
 
@@ -67,7 +68,7 @@ returns-then-is_end-clause-answered g c =
     let so_far = so_far_more c.args.options (eqb n 0) _ _ _ _ _ _ _ _ _ c.loop.printer
     c.take.new.printer c.clear.new.self c.report.result.now part c.loop.pending.items
     c.extend_from_slice.new.self.items c.take.new.pending.items c.loop.invariant reads on
-    c.in_ok-take.ensures.prints
+    c.in_ok-take.ensures.prints c.in_ok-take.ensures.waits
     c.report.ensures written.output written.errors
     c.clear.ensures in
     let ends : ((eqb n 0 ≡ true) × IsAtEnd (g.R.Read.remaining c.read.new.self)
