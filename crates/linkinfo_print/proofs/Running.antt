@@ -17,6 +17,7 @@ use Rattle.std.proofs.Common.{
   ◌∷◌,
   ◌++◌,
   length,
+  ◌≤◌,
   Option,
   Some,
   None,
@@ -35,18 +36,7 @@ use Rattle.std.specs.Io.KnownBytes.{Appends, Consumes, IsAtEnd, Keeps}
 use Rattle.std.proofs.KnownBytes.{Appends-nil, Appends-trans, Consumes-nil, Consumes-trans}
 use Rattle.linkinfo_lines.specs.Streams.{AppendsBeginning}
 use Rattle.linkinfo_print.specs.Answers.{AppendsPlain}
-use Rattle.linkinfo_print.specs.InputAnswers.{
-  AnswersTo,
-  AreAnswersRead,
-  AreInputAnswers,
-  Begins,
-  PrintsUpTo,
-  Runs,
-  Stops,
-  WritesBefore,
-  WritesPrefix,
-  read_len,
-}
+use Rattle.linkinfo_print.specs.InputAnswers.{AnswersTo, AreAnswersRead, AreInputAnswers, Begins, PrintsUpTo, Runs, Stops, WritesBefore, read_len}
 use Rattle.linkinfo_print.specs.Plain.{IsPlain, is_plain, plain, plain_byte}
 use Rattle.linkinfo_print.specs.Printing.{
   Answer,
@@ -143,18 +133,17 @@ record AfterRead (options : Options) (is_end : Bool) (bytes : List ℕ) (answers
   pub begins : Begins options is_end (start options.input) bytes (answers ++ added) mid.cutter after
 
 printed : (options : Options) (is_end : Bool) (r₀ r₁ o₀ o₁ e₀ e₁ : Option (List ℕ))
-    (old mid : Printer) (part before pending after : List ℕ) →
+    (old mid : Printer) (part before after : List ℕ) →
     (h : SoFar options false r₀ r₁ o₀ o₁ e₀ e₁ old before) →
-    pending ≡ before ++ part →
-    PrintsUpTo old pending is_end mid after →
+    PrintsUpTo old (before ++ part) is_end mid after →
     AfterRead options is_end (h.bytes ++ part) h.answers mid after
-printed options is_end r₀ r₁ o₀ o₁ e₀ e₁ old mid part before pending after h on prints =
+printed options is_end r₀ r₁ o₀ o₁ e₀ e₁ old mid part before after h prints =
     let xs = h.answers in
     let ys = prints.answers in
     let adds = prints.adds in
     let second : Begins options is_end old.cutter (before ++ part) ys mid.cutter after =
     subst (λ o. Begins o is_end old.cutter (before ++ part) ys mid.cutter after) h.options_kept
-    (subst (λ s. Begins old.options is_end old.cutter s ys mid.cutter after) on prints.begins) in
+    prints.begins in
     let first = begins_on options is_end (start options.input) old.cutter h.bytes before part xs
     h.begins in
     record {
@@ -174,22 +163,20 @@ printed options is_end r₀ r₁ o₀ o₁ e₀ e₁ old mid part before pending
 -- one read, and what is printed and written after it
 pub so_far_more : (options : Options) (is_end : Bool)
     (r₀ r₁ r₂ o₀ o₁ o₂ e₀ e₁ e₂ : Option (List ℕ)) (old mid new : Printer)
-    (written : Report) (part before pending after : List ℕ) →
+    (written : Report) (part before after : List ℕ) →
     SoFar options false r₀ r₁ o₀ o₁ e₀ e₁ old before →
     Consumes r₁ r₂ part →
-    pending ≡ before ++ part →
-    PrintsUpTo old pending is_end mid after →
+    PrintsUpTo old (before ++ part) is_end mid after →
     Waits mid.cutter after →
     written ≡ mid.report →
     Appends o₁ o₂ written.output →
     Appends e₁ e₂ written.errors →
     new ≡ record mid { report = record mid.report { output = []; errors = [] } } →
     SoFar options is_end r₀ r₂ o₀ o₂ e₀ e₂ new after
-so_far_more options is_end r₀ r₁ r₂ o₀ o₁ o₂ e₀ e₁ e₂ old mid new written part before pending after
-    h reads on prints waits same writes reports cleared =
+so_far_more options is_end r₀ r₁ r₂ o₀ o₁ o₂ e₀ e₁ e₂ old mid new written part before after
+    h reads prints waits same writes reports cleared =
     let xs = h.answers in
-    let more = printed options is_end r₀ r₁ o₀ o₁ e₀ e₁ old mid part before pending after h on
-    prints in
+    let more = printed options is_end r₀ r₁ o₀ o₁ e₀ e₁ old mid part before after h prints in
     let ys = more.added in
     subst (λ p. SoFar options is_end r₀ r₂ o₀ o₂ e₀ e₂ p after) (sym cleared)
     (record {
@@ -267,23 +254,21 @@ beginning_on a b c s t all e first (front, rest, split, second) = (
 
 pub write_failed : (options : Options) (is_end : Bool) (e : RunError)
     (r₀ r₁ r₂ o₀ o₁ o₂ e₀ e₁ e₂ : Option (List ℕ)) (old mid : Printer)
-    (written : Report) (part before pending after : List ℕ) →
+    (written : Report) (part before after : List ℕ) →
     SoFar options false r₀ r₁ o₀ o₁ e₀ e₁ old before →
     Consumes r₁ r₂ part →
     (is_end ≡ true → IsAtEnd r₂) →
-    pending ≡ before ++ part →
-    PrintsUpTo old pending is_end mid after →
+    PrintsUpTo old (before ++ part) is_end mid after →
     Waits mid.cutter after →
     written ≡ mid.report →
     (e ≡ error.Write)
     × AppendsBeginning o₁ o₂ written.output
     × AppendsBeginning e₁ e₂ written.errors →
     Stops options e r₀ r₂ o₀ o₂ e₀ e₂
-write_failed options is_end e r₀ r₁ r₂ o₀ o₁ o₂ e₀ e₁ e₂ old mid written part before pending after
-    h reads ends on prints waits same (is, writes, reports) =
+write_failed options is_end e r₀ r₁ r₂ o₀ o₁ o₂ e₀ e₁ e₂ old mid written part before after
+    h reads ends prints waits same (is, writes, reports) =
     let xs = h.answers in
-    let more = printed options is_end r₀ r₁ o₀ o₁ e₀ e₁ old mid part before pending after h on
-    prints in
+    let more = printed options is_end r₀ r₁ o₀ o₁ e₀ e₁ old mid part before after h prints in
     let ys = more.added in
     subst (λ e. Stops options e r₀ r₂ o₀ o₂ e₀ e₂) (sym is)
     (record {

@@ -1,6 +1,6 @@
 //! One run of the program. It prints each line, message or packet once it has come.
 
-ghost use Rattle.std.specs.Prelude.{◌≡◌, [], true, IfErr, IfOk, OnOk};
+ghost use Rattle.std.specs.Prelude.{◌≡◌, [], ◌++◌, true, IfErr, IfOk, OnOk};
 ghost use Rattle.std.specs.Io.KnownBytes.{Appends};
 ghost use Rattle.linkinfo_lines.specs.Streams.{AppendsBeginning};
 ghost use Rattle.linkinfo_print.specs.Answers.{AppendsPlain};
@@ -11,7 +11,7 @@ use crate::options::Options;
 use crate::print::Printer;
 use crate::report::Report;
 use linkinfo_lines::write_output;
-use std::alloc::{AllocError, Global};
+use std::alloc::Global;
 use std::io::{Read, Write};
 use thiserror::Error;
 
@@ -65,10 +65,7 @@ pub fn run<R: Read, W: Write, E: Write>(
     for _ in 0..u64::MAX {
         let len = input.read(&mut buffer).map_err(|_| RunError::Read)?;
         let is_end = len == 0;
-        pending
-            .extend_from_slice(&buffer[..len])
-            .map_err(|_| RunError::Memory)?;
-        take(&mut printer, &mut pending, is_end).map_err(|_| RunError::Memory)?;
+        take(&mut printer, &mut pending, &buffer[..len], is_end)?;
         write_report(printer.report(), output, errors)?;
         printer.clear();
         if is_end || printer.has_ended() {
@@ -78,15 +75,24 @@ pub fn run<R: Read, W: Write, E: Write>(
     Err(RunError::Read)
 }
 
-/// Prints what is whole of the bytes, and removes it.
-fn take(printer: &mut Printer, pending: &mut Vec<u8>, is_end: bool) -> Result<(), AllocError>
-    ensures prints { OnOk result
-        (PrintsUpTo printer.old pending.old.items is_end printer.new pending.new.items) }
+/// Appends the bytes to those that are pending, prints what is whole of them, and removes it.
+fn take(
+    printer: &mut Printer,
+    pending: &mut Vec<u8>,
+    bytes: &[u8],
+    is_end: bool,
+) -> Result<(), RunError>
+    ensures prints { OnOk result (PrintsUpTo printer.old (pending.old.items ++ bytes.now) is_end
+        printer.new pending.new.items) }
     ensures all { OnOk result
         (is_end ≡ true → units_on printer.new.cutter pending.new.items ≡ []) }
     ensures waits { OnOk result (Waits printer.new.cutter pending.new.items) }
+    ensures err { IfErr result (λ error. error ≡ RunError.Memory) }
 {
-    let taken = printer.push(pending, is_end)?;
+    pending
+        .extend_from_slice(bytes)
+        .map_err(|_| RunError::Memory)?;
+    let taken = printer.push(pending, is_end).map_err(|_| RunError::Memory)?;
     pending.copy_within(taken.., 0);
     pending.truncate(pending.len() - taken);
     Ok(())

@@ -7,9 +7,12 @@ use Rattle.std.proofs.Common.{
   ap,
   eq-eqb,
   eqb,
+  eqb-true,
   false,
   inl,
   inr,
+  length,
+  ◌≤◌,
   ne_eqb,
   rules,
   subst,
@@ -17,15 +20,20 @@ use Rattle.std.proofs.Common.{
   take,
   true,
 }
-use Rattle.std.specs.Io.KnownBytes.{Consumes, IsAtEnd}
+use Rattle.std.specs.Io.KnownBytes.{Consumes, IsAtEnd, Keeps}
+use Rattle.std.proofs.lemmas.Result.{err_from_is_err_and}
 use Rattle.linkinfo_print.specs.InputAnswers.{PrintsUpTo}
 use Rattle.linkinfo_print.specs.Units.{units_on}
+use Rattle.linkinfo_print.specs.declared.streams.RunError.TheVariants as error
 use Rattle.linkinfo_print.proofs.Running.{
+  memory_failed,
   plain_errors,
   plain_values,
+  read_failed,
   so_far_all,
   so_far_more,
   so_far_nothing,
+  write_failed,
 }
 use Rattle.linkinfo_print.proofs.streams.run.Goals as goal
 use Rattle.linkinfo_print.proofs.streams.run.Goals.{
@@ -46,11 +54,10 @@ loop-preserved g c =
     let written = c.in_ok-write_report.ensures in
     let reads : Consumes (g.R.Read.remaining c.loop.input) (g.R.Read.remaining c.read.new.self)
     part = search rules in
-    let on : c.extend_from_slice.new.self.items ≡ c.loop.pending.items ++ part = search rules in
     so_far_more c.args.options false _ _ _ _ _ _ _ _ _ c.loop.printer c.take.new.printer
-    c.clear.new.self c.report.result.now part c.loop.pending.items
-    c.extend_from_slice.new.self.items c.take.new.pending.items c.loop.invariant reads on
-    (subst (λ is_end. PrintsUpTo c.loop.printer c.extend_from_slice.new.self.items is_end
+    c.clear.new.self c.report.result.now part c.loop.pending.items c.take.new.pending.items
+    c.loop.invariant reads
+    (subst (λ is_end. PrintsUpTo c.loop.printer (c.loop.pending.items ++ part) is_end
     c.take.new.printer c.take.new.pending.items) (ne_eqb n 0 c.if-is_end.false)
     c.in_ok-take.ensures.prints)
     c.in_ok-take.ensures.waits
@@ -64,10 +71,9 @@ returns-then-is_end-clause-answered g c =
     let written = c.in_ok-write_report.ensures in
     let reads : Consumes (g.R.Read.remaining c.loop.input) (g.R.Read.remaining c.read.new.self)
     part = search rules in
-    let on : c.extend_from_slice.new.self.items ≡ c.loop.pending.items ++ part = search rules in
     let so_far = so_far_more c.args.options (eqb n 0) _ _ _ _ _ _ _ _ _ c.loop.printer
     c.take.new.printer c.clear.new.self c.report.result.now part c.loop.pending.items
-    c.extend_from_slice.new.self.items c.take.new.pending.items c.loop.invariant reads on
+    c.take.new.pending.items c.loop.invariant reads
     c.in_ok-take.ensures.prints c.in_ok-take.ensures.waits
     c.report.ensures written.output written.errors
     c.clear.ensures in
@@ -98,3 +104,40 @@ returns-then-is_end-clause-plain_output g c =
 pub returns-then-is_end-clause-plain_errors : goal.returns-then-is_end-clause-plain_errors
 returns-then-is_end-clause-plain_errors g c =
     plain_errors _ _ _ _ _ _ _ _ (returns-then-is_end-clause-answered g c)
+
+pub returns-in_err-len-clause-stopped : goal.returns-in_err-len-clause-stopped
+returns-in_err-len-clause-stopped g c =
+    let p = err_from_is_err_and c.from_residual.result c.from_residual.ensures.1 in
+    let is : p.0 ≡ error.Read = search (rules, p.2) in
+    let kept : Keeps (g.R.Read.remaining c.loop.input) (g.R.Read.remaining c.read.new.self) =
+    search rules in
+    rw p.1 (read_failed c.args.options p.0 _ _ _ _ _ _ _ c.loop.printer c.loop.pending.items
+    c.loop.invariant kept is)
+
+pub returns-in_err-take-clause-stopped : goal.returns-in_err-take-clause-stopped
+returns-in_err-take-clause-stopped g c =
+    let p = err_from_is_err_and c.from_residual-in_err-take.result
+    c.from_residual-in_err-take.ensures.1 in
+    let is : p.0 ≡ error.Memory = search (rules, p.2) in
+    let part = take c.in_ok-len.len c.read.new.buf in
+    let reads : Consumes (g.R.Read.remaining c.loop.input) (g.R.Read.remaining c.read.new.self)
+    part = search rules in
+    let short : length part ≤ 65536 = search rules in
+    rw p.1 (memory_failed c.args.options p.0 _ _ _ _ _ _ _ c.loop.printer c.loop.pending.items part
+    c.loop.invariant reads short is)
+
+pub returns-in_err-write_report-clause-stopped : goal.returns-in_err-write_report-clause-stopped
+returns-in_err-write_report-clause-stopped g c =
+    let p = err_from_is_err_and c.from_residual-in_err-write_report.result
+    c.from_residual-in_err-write_report.ensures.1 in
+    let n = c.in_ok-len.len in
+    let part = take n c.read.new.buf in
+    let reads : Consumes (g.R.Read.remaining c.loop.input) (g.R.Read.remaining c.read.new.self)
+    part = search rules in
+    let ends : eqb n 0 ≡ true → IsAtEnd (g.R.Read.remaining c.read.new.self) =
+    λ e. let none : n ≡ 0 = eqb-true n 0 e in search (rules, none) in
+    let failed = c.in_err-write_report.ensures.err in
+    rw p.1 (write_failed c.args.options (eqb n 0) p.0 _ _ _ _ _ _ _ _ _ c.loop.printer
+    c.take.new.printer c.report.result.now part c.loop.pending.items c.take.new.pending.items
+    c.loop.invariant reads ends c.in_ok-take.ensures.prints c.in_ok-take.ensures.waits
+    c.report.ensures (p.2 ∙ failed.0, failed.1, failed.2))
