@@ -36,7 +36,17 @@ use Rattle.std.specs.Io.KnownBytes.{Appends, Consumes, IsAtEnd, Keeps}
 use Rattle.std.proofs.KnownBytes.{Appends-nil, Appends-trans, Consumes-nil, Consumes-trans}
 use Rattle.linkinfo_lines.specs.Streams.{AppendsBeginning}
 use Rattle.linkinfo_print.specs.Answers.{AppendsPlain}
-use Rattle.linkinfo_print.specs.InputAnswers.{AnswersTo, AreAnswersRead, AreInputAnswers, Begins, PrintsUpTo, Runs, Stops, WritesBefore, read_len}
+use Rattle.linkinfo_print.specs.InputAnswers.{
+  AnswersTo,
+  AreAnswersRead,
+  AreInputAnswers,
+  Begins,
+  PrintsUpTo,
+  Runs,
+  Stops,
+  WritesBefore,
+  read_len,
+}
 use Rattle.linkinfo_print.specs.Plain.{IsPlain, is_plain, plain, plain_byte}
 use Rattle.linkinfo_print.specs.Printing.{
   Answer,

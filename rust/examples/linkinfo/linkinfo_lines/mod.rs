@@ -6,4 +6,4 @@ mod answers;
 mod lines;
 mod streams;
 
-pub use crate::linkinfo_lines::streams::{MOST_READS, RunError, run};
+pub use crate::linkinfo_lines::streams::{MOST_READS, RunError, run, write_output};

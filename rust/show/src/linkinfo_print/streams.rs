@@ -4,19 +4,21 @@ use crate::compat::calls::*;
 use crate::linkinfo_print::options::Options;
 use crate::linkinfo_print::print::Printer;
 use crate::linkinfo_print::report::Report;
+use linkinfo_lines::write_output;
 use std::io::{Read, Write};
 use thiserror::Error;
 
 /// Why a run ended before its input.
 #[derive(Clone, Copy, Debug, PartialEq, Eq, Error)]
 pub enum RunError {
-    /// A read failed, or the input did not end within the most reads that 64 bits count.
+    /// A read failed, or the input did not end within the most reads that 64 bits count. The
+    /// answers to what was read are written.
     #[error("reading standard input failed")]
     Read,
-    /// A write failed, or wrote no byte.
+    /// A write failed, or wrote no byte. What was written is a prefix of the answers.
     #[error("writing failed")]
     Write,
-    /// An allocation failed.
+    /// An allocation failed. The answers to what was read are written, but for the last read.
     #[error("out of memory")]
     Memory,
 }
@@ -42,10 +44,7 @@ pub fn run<R: Read, W: Write, E: Write>(
     for _ in 0..u64::MAX {
         let len = input.read(&mut buffer).map_err(|_| RunError::Read)?;
         let is_end = len == 0;
-        pending
-            .try_extend_from_slice(&buffer[..len])
-            .map_err(|_| RunError::Memory)?;
-        take(&mut printer, &mut pending, is_end)?;
+        take(&mut printer, &mut pending, &buffer[..len], is_end)?;
         write_report(printer.report(), output, errors)?;
         printer.clear();
         if is_end || printer.has_ended() {
@@ -55,8 +54,16 @@ pub fn run<R: Read, W: Write, E: Write>(
     Err(RunError::Read)
 }
 
-/// Prints what is whole of the bytes, and removes it.
-fn take(printer: &mut Printer, pending: &mut Vec<u8>, is_end: bool) -> Result<(), RunError> {
+/// Appends the bytes to those that are pending, prints what is whole of them, and removes it.
+fn take(
+    printer: &mut Printer,
+    pending: &mut Vec<u8>,
+    bytes: &[u8],
+    is_end: bool,
+) -> Result<(), RunError> {
+    pending
+        .try_extend_from_slice(bytes)
+        .map_err(|_| RunError::Memory)?;
     let taken = printer
         .push(pending, is_end)
         .map_err(|_| RunError::Memory)?;
@@ -71,15 +78,12 @@ fn write_report<W: Write, E: Write>(
     output: &mut W,
     errors: &mut E,
 ) -> Result<(), RunError> {
-    let values = report.output();
-    write_all(output, values)?;
-    let rejected = report.errors();
-    write_all(errors, rejected)?;
-    Ok(())
+    write_now(output, report.output())?;
+    write_now(errors, report.errors())
 }
 
 /// Writes all of the bytes, and flushes them.
-fn write_all<W: Write>(writer: &mut W, bytes: &[u8]) -> Result<(), RunError> {
-    writer.write_all(bytes).map_err(|_| RunError::Write)?;
+fn write_now<W: Write>(writer: &mut W, bytes: &[u8]) -> Result<(), RunError> {
+    write_output(writer, bytes).map_err(|_| RunError::Write)?;
     writer.flush().map_err(|_| RunError::Write)
 }
