@@ -8,4 +8,4 @@ pub mod laws;
 mod lines;
 mod streams;
 
-pub use crate::streams::{MOST_READS, RunError, run, write_output};
+pub use crate::streams::{MOST_READS, RunError, run};

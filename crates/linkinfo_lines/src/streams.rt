@@ -77,8 +77,8 @@ fn answer_input<R: Read>(alloc: Global, reader: &mut R) -> Result<Vec<u8>, RunEr
 }
 
 /// Writes all of the bytes. Each error of the writer ends it, and so does a write that writes no
-/// byte: the error is `RunError::Write`, and what was written is a prefix of the bytes.
-pub fn write_output<W: Write>(writer: &mut W, bytes: &[u8]) -> Result<(), RunError>
+/// byte.
+fn write_output<W: Write>(writer: &mut W, bytes: &[u8]) -> Result<(), RunError>
     ensures ok { OnOk result (Appends (W.contents writer.old) (W.contents writer.new) bytes.now) }
     ensures err { IfErr result (λ e. (e ≡ RunError.Write)
         × AppendsBeginning (W.contents writer.old) (W.contents writer.new) bytes.now) }

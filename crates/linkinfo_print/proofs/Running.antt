@@ -34,7 +34,6 @@ use Rattle.std.proofs.Common.{
 use Rattle.std.specs.List.{flat_map}
 use Rattle.std.specs.Io.KnownBytes.{Appends, Consumes, IsAtEnd, Keeps}
 use Rattle.std.proofs.KnownBytes.{Appends-nil, Appends-trans, Consumes-nil, Consumes-trans}
-use Rattle.linkinfo_lines.specs.Streams.{AppendsBeginning}
 use Rattle.linkinfo_print.specs.Answers.{AppendsPlain}
 use Rattle.linkinfo_print.specs.InputAnswers.{
   AnswersTo,
@@ -253,50 +252,10 @@ memory_failed options e r₀ r₁ r₂ o₀ o₁ e₀ e₁ printer pending last 
       so_far_before options r₀ r₁ r₂ o₀ o₁ e₀ e₁ printer pending last h reads,
     )
 
-beginning_on : (a b c : Option (List ℕ)) (s t all : List ℕ) → all ≡ s ++ t → Appends a b s →
-    AppendsBeginning b c t → AppendsBeginning a c all
-beginning_on a b c s t all e first (front, rest, split, second) = (
-  s ++ front,
-  rest,
-  e ∙ ap (λ l. s ++ l) split ∙ sym (append_assoc s front rest),
-  Appends-trans a b c s front first second,
-)
-
-pub write_failed : (options : Options) (is_end : Bool) (e : RunError)
-    (r₀ r₁ r₂ o₀ o₁ o₂ e₀ e₁ e₂ : Option (List ℕ)) (old mid : Printer)
-    (written : Report) (part before after : List ℕ) →
-    SoFar options false r₀ r₁ o₀ o₁ e₀ e₁ old before →
-    Consumes r₁ r₂ part →
-    (is_end ≡ true → IsAtEnd r₂) →
-    PrintsUpTo old (before ++ part) is_end mid after →
-    Waits mid.cutter after →
-    written ≡ mid.report →
-    (e ≡ error.Write)
-    × AppendsBeginning o₁ o₂ written.output
-    × AppendsBeginning e₁ e₂ written.errors →
-    Stops options e r₀ r₂ o₀ o₂ e₀ e₂
-write_failed options is_end e r₀ r₁ r₂ o₀ o₁ o₂ e₀ e₁ e₂ old mid written part before after
-    h reads ends prints waits same (is, writes, reports) =
-    let xs = h.answers in
-    let more = printed options is_end r₀ r₁ o₀ o₁ e₀ e₁ old mid part before after h prints in
-    let ys = more.added in
-    subst (λ e. Stops options e r₀ r₂ o₀ o₂ e₀ e₂) (sym is)
-    (record {
-      bytes = h.bytes ++ part;
-      answers = xs ++ ys;
-      is_end = is_end;
-      reads = Consumes-trans _ _ _ h.bytes part h.reads reads;
-      ends = ends;
-      answered = record { cutter = mid.cutter; rest = after; begins = more.begins; waits = waits };
-      writes =
-          beginning_on o₀ o₁ o₂ (outputs options.json xs) (outputs options.json ys)
-          (outputs options.json (xs ++ ys)) (outputs_append options.json xs ys) h.writes
-          (subst (AppendsBeginning o₁ o₂) (ap (λ r. r.output) same ∙ more.output) writes);
-      reports =
-          beginning_on e₀ e₁ e₂ (errors xs) (errors ys) (errors (xs ++ ys)) (errors_append xs ys)
-          h.reports
-          (subst (AppendsBeginning e₁ e₂) (ap (λ r. r.errors) same ∙ more.rejected) reports);
-    })
+pub write_failed : (options : Options) (e : RunError) (r₀ r₁ o₀ o₁ e₀ e₁ : Option (List ℕ)) →
+    e ≡ error.Write → Stops options e r₀ r₁ o₀ o₁ e₀ e₁
+write_failed options e r₀ r₁ o₀ o₁ e₀ e₁ is =
+    subst (λ e. Stops options e r₀ r₁ o₀ o₁ e₀ e₁) (sym is) tt
 
 -- where nothing is left, the answers are those to the bytes
 answers_all : (o : Options) (is_end : Bool) (a b : Cutter) (s t more : List ℕ) (xs : List Answer) →

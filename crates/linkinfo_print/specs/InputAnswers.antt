@@ -3,6 +3,7 @@ use Rattle.std.specs.Prelude.{
   ◌≡◌,
   ◌⊎◌,
   ◌≤◌,
+  ⊤,
   ℕ,
   Bool,
   true,
@@ -16,7 +17,6 @@ use Rattle.std.specs.Prelude.{
   IfSome,
 }
 use Rattle.std.specs.Io.KnownBytes.{Appends, Consumes, IsAtEnd}
-use Rattle.linkinfo_lines.specs.Streams.{AppendsBeginning}
 use Rattle.linkinfo_print.specs.Printing.{Adds, Answer, all_accepted, errors, outputs}
 use Rattle.linkinfo_print.specs.UnitAnswers.{AreAnswers, ends_input}
 use Rattle.linkinfo_print.specs.Units.{MayFollow, Portion, Waits, start, units_of, units_on}
@@ -86,11 +86,10 @@ pub record Runs (options : Options)
 
 -- The answers to bytes at the front of an input, but for a rest that has no whole line, message,
 -- record or file header.
-pub record AnswersWhole (options : Options) (is_end : Bool) (bytes : List ℕ)
-    (answers : List Answer) : Type 0 where
+pub record AnswersWhole (options : Options) (bytes : List ℕ) (answers : List Answer) : Type 0 where
   pub cutter : Cutter
   pub rest : List ℕ
-  pub begins : Begins options is_end (start options.input) bytes answers cutter rest
+  pub begins : Begins options false (start options.input) bytes answers cutter rest
   pub waits : Waits cutter rest
 
 -- The answers to what the reader gave are written, but for its last bytes.
@@ -99,31 +98,19 @@ pub record WritesBefore (last : List ℕ) (options : Options)
   pub bytes : List ℕ
   pub answers : List Answer
   pub reads : Consumes reader reader' (bytes ++ last)
-  pub answered : AnswersWhole options false bytes answers
+  pub answered : AnswersWhole options bytes answers
   pub writes : Appends output output' (outputs options.json answers)
   pub reports : Appends rejected rejected' (errors answers)
-
--- A prefix of the answers to what the reader gave is written.
-pub record WritesPrefix (options : Options)
-    (reader reader' output output' rejected rejected' : Option (List ℕ)) : Type 0 where
-  pub bytes : List ℕ
-  pub answers : List Answer
-  pub is_end : Bool
-  pub reads : Consumes reader reader' bytes
-  pub ends : is_end ≡ true → IsAtEnd reader'
-  pub answered : AnswersWhole options is_end bytes answers
-  pub writes : AppendsBeginning output output' (outputs options.json answers)
-  pub reports : AppendsBeginning rejected rejected' (errors answers)
 
 -- the maximum number of bytes of one read
 abbrev pub read_len : ℕ
 read_len = 65536
 
 -- What is written where an error ends a run: if a read failed, the answers to all that was read; if
--- there was no memory, those to all but the last read; if a write failed, a prefix of them.
+-- there was no memory, those to all but the last read. Of a failed write nothing is said.
 abbrev pub Stops : Options → RunError → (reader reader' output output' rejected rejected'
     : Option (List ℕ)) → Type 0
 Stops options error.Read r r' o o' e e' = WritesBefore [] options r r' o o' e e'
 Stops options error.Memory r r' o o' e e' =
     (last : List ℕ) × (length last ≤ read_len) × WritesBefore last options r r' o o' e e'
-Stops options error.Write r r' o o' e e' = WritesPrefix options r r' o o' e e'
+Stops options error.Write r r' o o' e e' = ⊤

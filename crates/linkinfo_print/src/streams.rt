@@ -2,7 +2,6 @@
 
 ghost use Rattle.std.specs.Prelude.{◌≡◌, [], ◌++◌, true, IfErr, IfOk, OnOk};
 ghost use Rattle.std.specs.Io.KnownBytes.{Appends};
-ghost use Rattle.linkinfo_lines.specs.Streams.{AppendsBeginning};
 ghost use Rattle.linkinfo_print.specs.Answers.{AppendsPlain};
 ghost use Rattle.linkinfo_print.specs.InputAnswers.{PrintsUpTo, Runs, Stops};
 ghost use Rattle.linkinfo_print.specs.Units.{Waits, units_on};
@@ -10,7 +9,6 @@ ghost use Rattle.linkinfo_print.specs.Units.{Waits, units_on};
 use crate::options::Options;
 use crate::print::Printer;
 use crate::report::Report;
-use linkinfo_lines::write_output;
 use std::alloc::Global;
 use std::io::{Read, Write};
 use thiserror::Error;
@@ -22,7 +20,7 @@ pub enum RunError {
     /// answers to what was read are written.
     #[error("reading standard input failed")]
     Read,
-    /// A write failed, or wrote no byte. What was written is a prefix of the answers.
+    /// A write failed, or wrote no byte.
     #[error("writing failed")]
     Write,
     /// An allocation failed. The answers to what was read are written, but for the last read.
@@ -108,9 +106,7 @@ fn write_report<W: Write, E: Write>(
         (Appends (W.contents output.old) (W.contents output.new) report.now.output) }
     ensures errors { OnOk result
         (Appends (E.contents errors.old) (E.contents errors.new) report.now.errors) }
-    ensures err { IfErr result (λ error. (error ≡ RunError.Write)
-        × AppendsBeginning (W.contents output.old) (W.contents output.new) report.now.output
-        × AppendsBeginning (E.contents errors.old) (E.contents errors.new) report.now.errors) }
+    ensures err { IfErr result (λ error. error ≡ RunError.Write) }
 {
     write_now(output, report.output())?;
     write_now(errors, report.errors())
@@ -119,9 +115,8 @@ fn write_report<W: Write, E: Write>(
 /// Writes all of the bytes, and flushes them.
 fn write_now<W: Write>(writer: &mut W, bytes: &[u8]) -> Result<(), RunError>
     ensures ok { OnOk result (Appends (W.contents writer.old) (W.contents writer.new) bytes.now) }
-    ensures err { IfErr result (λ error. (error ≡ RunError.Write)
-        × AppendsBeginning (W.contents writer.old) (W.contents writer.new) bytes.now) }
+    ensures err { IfErr result (λ error. error ≡ RunError.Write) }
 {
-    write_output(writer, bytes).map_err(|_| RunError::Write)?;
+    writer.write_all(bytes).map_err(|_| RunError::Write)?;
     writer.flush().map_err(|_| RunError::Write)
 }

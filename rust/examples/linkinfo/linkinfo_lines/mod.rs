@@ -6,4 +6,4 @@ mod answers;
 mod lines;
 mod streams;
 
-pub use crate::linkinfo_lines::streams::{MOST_READS, RunError, run, write_output};
+pub use crate::linkinfo_lines::streams::{MOST_READS, RunError, run};

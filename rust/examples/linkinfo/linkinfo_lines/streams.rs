@@ -51,8 +51,8 @@ fn answer_input<R: Read>(reader: &mut R) -> Result<Vec<u8>, RunError> {
 }
 
 /// Writes all of the bytes. Each error of the writer ends it, and so does a write that writes no
-/// byte: the error is `RunError::Write`, and what was written is a prefix of the bytes.
-pub fn write_output<W: Write>(writer: &mut W, bytes: &[u8]) -> Result<(), RunError> {
+/// byte.
+fn write_output<W: Write>(writer: &mut W, bytes: &[u8]) -> Result<(), RunError> {
     let mut rest = bytes;
     while !rest.is_empty() {
         match writer.write(rest) {

@@ -4,7 +4,6 @@ use crate::compat::calls::*;
 use crate::linkinfo_print::options::Options;
 use crate::linkinfo_print::print::Printer;
 use crate::linkinfo_print::report::Report;
-use linkinfo_lines::write_output;
 use std::io::{Read, Write};
 use thiserror::Error;
 
@@ -15,7 +14,7 @@ pub enum RunError {
     /// answers to what was read are written.
     #[error("reading standard input failed")]
     Read,
-    /// A write failed, or wrote no byte. What was written is a prefix of the answers.
+    /// A write failed, or wrote no byte.
     #[error("writing failed")]
     Write,
     /// An allocation failed. The answers to what was read are written, but for the last read.
@@ -84,6 +83,6 @@ fn write_report<W: Write, E: Write>(
 
 /// Writes all of the bytes, and flushes them.
 fn write_now<W: Write>(writer: &mut W, bytes: &[u8]) -> Result<(), RunError> {
-    write_output(writer, bytes).map_err(|_| RunError::Write)?;
+    writer.write_all(bytes).map_err(|_| RunError::Write)?;
     writer.flush().map_err(|_| RunError::Write)
 }

@@ -7,7 +7,6 @@ use Rattle.std.proofs.Common.{
   ap,
   eq-eqb,
   eqb,
-  eqb-true,
   false,
   inl,
   inr,
@@ -130,14 +129,4 @@ pub returns-in_err-write_report-clause-stopped : goal.returns-in_err-write_repor
 returns-in_err-write_report-clause-stopped g c =
     let p = err_from_is_err_and c.from_residual-in_err-write_report.result
     c.from_residual-in_err-write_report.ensures.1 in
-    let n = c.in_ok-len.len in
-    let part = take n c.read.new.buf in
-    let reads : Consumes (g.R.Read.remaining c.loop.input) (g.R.Read.remaining c.read.new.self)
-    part = search rules in
-    let ends : eqb n 0 ≡ true → IsAtEnd (g.R.Read.remaining c.read.new.self) =
-    λ e. let none : n ≡ 0 = eqb-true n 0 e in search (rules, none) in
-    let failed = c.in_err-write_report.ensures.err in
-    rw p.1 (write_failed c.args.options (eqb n 0) p.0 _ _ _ _ _ _ _ _ _ c.loop.printer
-    c.take.new.printer c.report.result.now part c.loop.pending.items c.take.new.pending.items
-    c.loop.invariant reads ends c.in_ok-take.ensures.prints c.in_ok-take.ensures.waits
-    c.report.ensures (p.2 ∙ failed.0, failed.1, failed.2))
+    rw p.1 (write_failed c.args.options p.0 _ _ _ _ _ _ (p.2 ∙ c.in_err-write_report.ensures.err))
