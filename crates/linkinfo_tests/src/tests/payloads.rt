@@ -1,7 +1,8 @@
 //! Data, port data and statistics that are parsed by themselves.
 
 use super::assertions::{
-    HEADER_ERROR, assert_equal, assert_holds, copied, default_nla, nlas, text_of,
+    HEADER_ERROR, assert_data, assert_equal, assert_holds, assert_value, copied, default_nla, nlas,
+    text_of,
 };
 use linkinfo::{
     BitPeer, Bytes, Cause, DecodeError, Emitable, Family, InfoData, InfoDataOf, InfoKind,
@@ -23,11 +24,6 @@ fn length_error(family: Family) -> DecodeError {
     }
 }
 
-/// Parses a payload as data of a kind.
-fn read_data(alloc: Global, payload: &[u8], kind: &InfoKind) -> Result<InfoData, DecodeError> {
-    InfoData::parse_with_param(alloc, payload, kind)
-}
-
 /// Parses a payload as data of a port kind.
 fn read_port_data(
     alloc: Global,
@@ -35,12 +31,6 @@ fn read_port_data(
     kind: &InfoPortKind,
 ) -> Result<InfoPortData, DecodeError> {
     InfoPortData::parse_with_param(alloc, payload, kind)
-}
-
-/// Asserts that a payload parses as this data of a link of the kind.
-fn assert_data(rt: &impl Abort, alloc: Global, payload: &[u8], kind: InfoKind, data: InfoData) {
-    let read = read_data(alloc, payload, &kind).expect(rt, "data");
-    assert_holds(rt, &payload, read == data);
 }
 
 #[test]
@@ -63,7 +53,7 @@ fn data_of_bits(rt: HostRuntime) {
     let bit = [5, 0, 1, 0, 7];
     let read = InfoDataOf::<BitPeer>::parse_with_param(rt.alloc(), &bit, &InfoKind::Veth);
     let wanted = InfoDataOf::Veth(InfoVethOf::Peer(BitPeer(true)));
-    assert_holds(&rt, &bit, read.expect(&rt, "data") == wanted);
+    assert_value(&rt, &bit, read, wanted);
 }
 
 /// Asserts that a payload of five bytes is kept as bytes under a kind without a family.
@@ -89,7 +79,7 @@ fn assert_error(
     kind: &InfoKind,
     error: DecodeError,
 ) {
-    let found = read_data(alloc, payload, kind).err();
+    let found = InfoData::parse_with_param(alloc, payload, kind).err();
     assert_equal(rt, &payload, &found, &Some(error));
 }
 
@@ -112,9 +102,10 @@ fn assert_port_data(
     kind: InfoPortKind,
     data: InfoPortData,
 ) {
-    let read = read_port_data(alloc, payload, &kind).expect(rt, "data");
-    assert_holds(rt, &payload, is_equal(&read, &data));
-    assert_holds(rt, &payload, read == data);
+    let read = read_port_data(alloc, payload, &kind);
+    let are_equal = read.as_ref().is_ok_and(|read| is_equal(read, &data));
+    assert_holds(rt, &payload, are_equal);
+    assert_value(rt, &payload, read, data);
 }
 
 /// Asserts that a payload of one byte is kept as bytes under a port kind of an unknown name.

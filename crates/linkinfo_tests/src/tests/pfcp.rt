@@ -1,11 +1,11 @@
 //! Links of the kind pfcp, whose data is attributes of a family without rows.
 
 use super::assertions::{
-    HEADER_ERROR, assert_built, assert_equal, assert_holds, assert_reads, assert_refused, bytes_of,
-    copied, default_nla, link, nlas, parsed,
+    HEADER_ERROR, assert_built, assert_data, assert_equal, assert_holds, assert_reads,
+    assert_refused, bytes_of, copied, default_nla, link, nlas, parsed,
 };
 use super::worked::{PFCP_ATTRIBUTE, PFCP_EMPTY, PFCP_MARKED, PFCP_NOT_FRAMED, PFCP_SHORT};
-use linkinfo::{DecodeError, InfoData, InfoKind, InfoPfcp, LinkInfo, Nlas};
+use linkinfo::{InfoData, InfoKind, InfoPfcp, LinkInfo, Nlas};
 use std::alloc::Global;
 use std::process::Abort;
 
@@ -62,22 +62,13 @@ fn writes_bytes_under_pfcp(rt: HostRuntime) {
     assert_read_otherwise(&rt, alloc, &string, pfcp_of_bytes(&rt, alloc, &payload));
 }
 
-/// Data that bytes, once kept as the data of pfcp, parse as now.
-fn moved(alloc: Global, payload: &[u8]) -> Result<InfoData, DecodeError> {
-    InfoData::parse_with_param(alloc, payload, &InfoKind::Pfcp)
-}
-
-/// Asserts that bytes, once kept, parse as one attribute now.
-fn assert_moved(rt: &impl Abort, alloc: Global, payload: &[u8], attribute: InfoData) {
-    let read = moved(alloc, payload).expect(rt, "data");
-    assert_holds(rt, &payload, read == attribute);
-}
-
+/// Bytes that once were kept as the data of pfcp parse as one attribute, or are rejected.
 #[test]
 fn parses_kept_bytes_under_pfcp(rt: HostRuntime) {
     let alloc = rt.alloc();
     let attribute = kept(&rt, alloc, 0x8001, &[1, 0, 0, 0]);
-    assert_moved(&rt, alloc, &[8, 0, 1, 0x80, 1, 0, 0, 0], attribute);
-    let error = moved(alloc, &[1, 2, 3]).err();
+    let payload = [8, 0, 1, 0x80, 1, 0, 0, 0];
+    assert_data(&rt, alloc, &payload, InfoKind::Pfcp, attribute);
+    let error = InfoData::parse_with_param(alloc, &[1, 2, 3], &InfoKind::Pfcp).err();
     assert_equal(&rt, &"three bytes", &error, &Some(HEADER_ERROR));
 }
