@@ -27,11 +27,11 @@ pub fn assert_holds<C: Debug>(rt: &impl Abort, case: &C, holds: bool) {
     assert!(rt; holds, "{case:?}");
 }
 
-/// Asserts that a result is this value, by `==`.
+/// Asserts that what was parsed is this value, by `==`.
 ///
 /// Here the type is a parameter: where it is a large enum, each drop of a value is proved with an
 /// arm for each variant.
-pub fn assert_value<C: Debug, T: PartialEq + Drop>(
+pub fn assert_parsed<C: Debug, T: PartialEq + Drop>(
     rt: &impl Abort,
     case: &C,
     found: Result<T, DecodeError>,
@@ -44,7 +44,7 @@ pub fn assert_value<C: Debug, T: PartialEq + Drop>(
 /// Asserts that a payload parses as this data of a link of the kind.
 pub fn assert_data(rt: &impl Abort, alloc: Global, payload: &[u8], kind: InfoKind, data: InfoData) {
     let found = InfoData::parse_with_param(alloc, payload, &kind);
-    assert_value(rt, &payload, found, data);
+    assert_parsed(rt, &payload, found, data);
 }
 
 /// The error of a header that is not accepted.

@@ -1,8 +1,8 @@
 //! Data, port data and statistics that are parsed by themselves.
 
 use super::assertions::{
-    HEADER_ERROR, assert_data, assert_equal, assert_holds, assert_value, copied, default_nla, nlas,
-    text_of,
+    HEADER_ERROR, assert_data, assert_equal, assert_holds, assert_parsed, copied, default_nla,
+    nlas, text_of,
 };
 use linkinfo::{
     BitPeer, Bytes, Cause, DecodeError, Emitable, Family, InfoData, InfoDataOf, InfoKind,
@@ -53,7 +53,7 @@ fn data_of_bits(rt: HostRuntime) {
     let bit = [5, 0, 1, 0, 7];
     let read = InfoDataOf::<BitPeer>::parse_with_param(rt.alloc(), &bit, &InfoKind::Veth);
     let wanted = InfoDataOf::Veth(InfoVethOf::Peer(BitPeer(true)));
-    assert_value(&rt, &bit, read, wanted);
+    assert_parsed(&rt, &bit, read, wanted);
 }
 
 /// Asserts that a payload of five bytes is kept as bytes under a kind without a family.
@@ -105,7 +105,7 @@ fn assert_port_data(
     let read = read_port_data(alloc, payload, &kind);
     let are_equal = read.as_ref().is_ok_and(|read| is_equal(read, &data));
     assert_holds(rt, &payload, are_equal);
-    assert_value(rt, &payload, read, data);
+    assert_parsed(rt, &payload, read, data);
 }
 
 /// Asserts that a payload of one byte is kept as bytes under a port kind of an unknown name.
