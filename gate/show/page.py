@@ -1,10 +1,13 @@
-"""The tables of docs/SHOW.md beside the rows of the code, crates/linkinfo_view/src/table.rt."""
+"""The tables of docs/SHOW.md beside the rows of the code: entries.rt has them, and table.rt says
+which table has the rows of another one as well (both in crates/linkinfo_view/src)."""
 import re
 
-TABLE = re.compile(r"((?:^/// .*\n)+)^fn (\w+)\(kind: u16\).*\n(?: +ensures .*\n)?\{\n"
-                   r"    row! \{ kind;\n((?:        .*\n)+)    \}\n", re.M)
+TABLE = re.compile(r"((?:^/// .*\n)+)^pub\(crate\) const (\w+): &\[Entry\] = rows! \{\n"
+                   r"((?:    .*\n)+)\};\n", re.M)
 ROW = re.compile(r'\((\d+), "(\w+)", (\w+), (\w+)(?:\(\w+::(\w+)\))?\),')
-OTHERS = re.compile(r"else (\w+)\(kind\)")
+# In table.rt: the rows of a table or a family, and the rows that some tables share.
+OWN = re.compile(r"^ +(?:Family|Table)::(\w+) => (\w+),$", re.M)
+SHARED = re.compile(r"^fn shared_rows\(.*?^ +(Table::.*?) => (\w+),$", re.M | re.S)
 SECTION = re.compile(r"^\*\*([^*]+)\*\*: ((?:.+\n)+)\n\| type \| member \| shape \| format \|\n"
                      r"\|---\|---\|---\|---\|\n((?:\|.*\n)+)(?:\nAnd those of (.+)\.\n)?", re.M)
 COUNTS = re.compile(r"^(\d+) rows in (\d+) tables\.", re.M)
@@ -16,24 +19,29 @@ def words(text):
     return " ".join(text.split())
 
 
+def shared_rows(code):
+    """The constants whose tables have the rows of another constant as well, each with that one."""
+    tables, shared = SHARED.search(code).groups()
+    own = dict(OWN.findall(code))
+    return {own[re.findall(r"\w+", it)[-1]]: shared for it in tables.split(" | ")}
+
+
 def code_tables(code):
     """The tables of the code: the comment of each, its rows, and the comment of the table whose
     rows it has as well."""
-    found, comments = {}, {}
+    found, comments, shared = {}, {}, shared_rows(code)
     for comment, name, body in TABLE.findall(code):
         comments[name] = words(comment.replace("/// ", ""))
-        rows, others = [], None
+        rows = []
         for line in body.splitlines():
-            if row := ROW.fullmatch(line.strip()):
-                number, member, shape, form, part = row.groups()
-                form = "" if form == "Plain" else f"{form} {part}" if part else form
-                rows.append((number, f"`{member}`", shape, form))
-            elif other := OTHERS.fullmatch(line.strip()):
-                others = other[1]
-            else:
+            row = ROW.fullmatch(line.strip())
+            if not row:
                 raise ValueError(f"this is no row: {line}")
-        found[comments[name]] = rows, others
-    if len(found) != code.count("row! { kind;"):
+            number, member, shape, form, part = row.groups()
+            form = "" if form == "Plain" else f"{form} {part}" if part else form
+            rows.append((number, f"`{member}`", shape, form))
+        found[comments[name]] = rows, shared.get(name)
+    if len(found) != code.count("= rows! {"):
         raise ValueError("a table of the code was not found")
     return {comment: (rows, comments[others] if others else None)
             for comment, (rows, others) in found.items()}

@@ -29,7 +29,17 @@ use Rattle.std.specs.List.{flat_map}
 use Rattle.linkinfo_messages.specs.declared.link.LinkEvent.{LinkEvent}
 use Rattle.linkinfo_messages.specs.declared.link.LinkEvent.TheVariants as event
 use Rattle.linkinfo_view.specs.Text.{escaped_text}
-use Rattle.serde_json.specs.Data.{Data, array, boolean, number, object, string, no_members, put}
+use Rattle.serde_json.specs.Data.{
+  Data,
+  Members,
+  array,
+  boolean,
+  no_members,
+  number,
+  object,
+  put,
+  string,
+}
 use Rattle.serde_json.specs.Find.{of_integer}
 use Rattle.serde_json.specs.View.{items_of}
 use Rattle.linkinfo_print.specs.MembersData.{put_some}
@@ -103,14 +113,18 @@ abbrev pub time_text : ℕ × ℕ → List ℕ
 time_text (seconds, nanoseconds) =
     decimal seconds ++ (codes "." ++ nine_digits nanoseconds)
 
--- The object of a message: whether the link was deleted, its flags, index and name, and its list
--- and the time of its packet, where there are any.
+-- the members that a message has by itself: whether the link was deleted, its flags, index and name
+abbrev pub link_members : LinkEvent → ℕ → ℤ → Option (List ℕ) → Members
+link_members event flags index name =
+    put_some (codes "ifname") (name_of name)
+    (put (codes "ifindex") (number (of_integer index))
+    (put (codes "flags") (flags_data flags)
+    (put (codes "deleted") (boolean (is_deleted event)) no_members)))
+
+-- The object of a message: its own members, its list and the time of its packet, where there are
+-- any.
 abbrev pub message_data : LinkEvent → ℕ → ℤ → Option (List ℕ) → Option Data → Option (List ℕ) →
     Data
 message_data event flags index name list time =
     object (put_some (codes "time") (time_of time)
-    (put_some (codes "linkinfo") list
-    (put_some (codes "ifname") (name_of name)
-    (put (codes "ifindex") (number (of_integer index))
-    (put (codes "flags") (flags_data flags)
-    (put (codes "deleted") (boolean (is_deleted event)) no_members))))))
+    (put_some (codes "linkinfo") list (link_members event flags index name)))

@@ -17,7 +17,7 @@ ghost use Rattle.std.specs.Prelude.{
   string_bytes,
 };
 ghost use Rattle.serde_json.specs.Data.{depth, string};
-ghost use Rattle.serde_json.specs.View.{view};
+ghost use Rattle.serde_json.specs.View.{members_view, view};
 ghost use Rattle.serde_json.specs.Written.{has_float};
 ghost use Rattle.linkinfo_print.specs.MessageData.{
   flags_data,
@@ -25,6 +25,7 @@ ghost use Rattle.linkinfo_print.specs.MessageData.{
   is_set,
   lacks_carrier,
   link_flags,
+  link_members,
   message_data,
   no_carrier,
   one_flag,
@@ -194,6 +195,25 @@ fn time_json(time: Option<String>) -> Option<Value>
     }
 }
 
+/// The members that a message has by itself.
+fn link_members(alloc: Global, link: &LinkMessage<'_>) -> Result<Map<String, Value>, AllocError>
+    ensures { IfOk result (λ members. members_view members.entries
+        ≡ link_members link.now.event link.now.flags link.now.index
+        (option_map (λ n. n.now) link.now.name)) }
+{
+    let mut members = Map::new(alloc);
+    put(
+        &mut members,
+        alloc,
+        "deleted",
+        Value::from(is_deleted(link.event)),
+    )?;
+    put(&mut members, alloc, "flags", flags_json(alloc, link.flags)?)?;
+    put(&mut members, alloc, "ifindex", Value::from(link.index))?;
+    put_some(&mut members, alloc, "ifname", name_json(alloc, link.name)?)?;
+    Ok(members)
+}
+
 /// The object of a message.
 fn message_value(
     alloc: Global,
@@ -206,16 +226,7 @@ fn message_value(
         (option_map (λ n. n.now) link.now.name) (option_map view list)
         (option_map string_bytes time)) }
 {
-    let mut members = Map::new(alloc);
-    put(
-        &mut members,
-        alloc,
-        "deleted",
-        Value::from(is_deleted(link.event)),
-    )?;
-    put(&mut members, alloc, "flags", flags_json(alloc, link.flags)?)?;
-    put(&mut members, alloc, "ifindex", Value::from(link.index))?;
-    put_some(&mut members, alloc, "ifname", name_json(alloc, link.name)?)?;
+    let mut members = link_members(alloc, link)?;
     put_some(&mut members, alloc, "linkinfo", list)?;
     put_some(&mut members, alloc, "time", time_json(time))?;
     Ok(Value::Object(members))

@@ -1,4 +1,5 @@
 pub mod Flat
+pub mod Found
 pub mod Kept
 pub mod Meant
 pub mod Places

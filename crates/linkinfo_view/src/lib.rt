@@ -2,6 +2,7 @@
 #![tactic(auto)]
 
 mod attributes;
+mod entries;
 mod format;
 pub mod laws;
 mod list;

@@ -1,827 +1,106 @@
-//! The rows of all tables: how each attribute is shown to people.
+//! The row of each type, by table.
 
 ghost use Rattle.std.specs.Prelude.{◌≡◌, option_map};
-ghost use Rattle.linkinfo_view.specs.Lines.{line_of};
-ghost use Rattle.linkinfo_view.specs.Table.{found, row_of};
-ghost use Rattle.linkinfo_view.specs.Table.{
-  amt_rows,
-  bare_udp_rows,
-  bat_adv_rows,
-  geneve_rows,
-  gre_rows,
-  gre6_rows,
-  gtp_rows,
-  ipoib_rows,
-  ip_tunnel_rows,
-  sit_rows,
-  ip6_tunnel_rows,
-  ip_vlan_rows,
-  mac_vlan_rows,
-  mac_sec_rows,
-  netkit_rows,
-  rm_net_rows,
-  veth_rows,
-  vrf_rows,
-  wwan_rows,
-  xfrm_rows,
-  vti_rows,
-  vxlan_rows,
-  bond_rows,
-  bond_port_rows,
-  bridge_rows,
-  bridge_port_rows,
-  vlan_rows,
-  can_rows,
-  dsa_rows,
-  hsr_rows,
-  tun_rows,
-  tunnel_rows,
-  bond_ad_info_rows,
-  bridge_querier_rows,
-  can_delay_rows,
-  can_modes_rows,
-  can_pulse_rows,
-};
+ghost use Rattle.linkinfo_view.specs.Lines.{line_of, slice_lines};
+ghost use Rattle.linkinfo_view.specs.Table.{family_rows, found, own_rows, row_of, shared_rows};
 
-use crate::format::{Elements, Flags, Format, Row, Table, Words};
-use linkinfo_shapes::Shape;
+use crate::entries::{
+    AMT, BARE_UDP, BAT_ADV, BOND, BOND_AD_INFO, BOND_PORT, BRIDGE, BRIDGE_PORT, BRIDGE_QUERIER,
+    CAN, CAN_DELAY, CAN_MODES, CAN_PULSE, DSA, Entry, GENEVE, GRE, GRE6, GTP, HSR, IP_TUNNEL,
+    IP_VLAN, IP6_TUNNEL, IPOIB, MAC_SEC, MAC_VLAN, NETKIT, RM_NET, SIT, TUN, TUNNEL, VETH, VLAN,
+    VRF, VTI, VXLAN, WWAN, XFRM,
+};
+use crate::format::{Row, Table};
 use nla_frame::Family;
 
-/// The row of a type, from a list of rows: type, member, shape and format.
-macro_rules! row {
-    (
-        $kind:ident;
-        $(($number:literal, $name:literal, $shape:ident, $format:ident $(($part:path))?),)*
-        $(else $other:expr)?
-    ) => {
-        match $kind {
-            $($number => Some(Row {
-                name: $name,
-                shape: Shape::$shape,
-                format: Format::$format $(($part))?,
-            }),)*
-            _ => row!(@or $($other)?),
-        }
-    };
-    (@or) => {
-        None
-    };
-    (@or $other:expr) => {
-        $other
-    };
-}
-
-/// `IFLA_AMT_*`.
-fn amt(kind: u16) -> Option<Row>
-    ensures { option_map line_of result ≡ found amt_rows kind }
-{
-    row! { kind;
-        (1, "mode", Le32, Word(Words::AmtMode)),
-        (2, "relay_port", Be16, Plain),
-        (3, "gateway_port", Be16, Plain),
-        (4, "link", Le32, Plain),
-        (5, "local", Ip, Plain),
-        (6, "remote", Ip, Plain),
-        (7, "discovery", Ip, Plain),
-        (8, "max_tunnels", Le32, Plain),
-    }
-}
-
-/// `IFLA_BAREUDP_*`.
-fn bare_udp(kind: u16) -> Option<Row>
-    ensures { option_map line_of result ≡ found bare_udp_rows kind }
-{
-    row! { kind;
-        (1, "dstport", Be16, Plain),
-        (2, "ethertype", Be16, Word(Words::Ethertype)),
-        (3, "srcportmin", Le16, Plain),
-        (4, "multiproto", Mark, Present),
-    }
-}
-
-/// `IFLA_BATADV_*` (include/uapi/linux/batman_adv.h).
-fn bat_adv(kind: u16) -> Option<Row>
-    ensures { option_map line_of result ≡ found bat_adv_rows kind }
-{
-    row! { kind;
-        (1, "algo", Name, Plain),
-    }
-}
-
-/// `IFLA_GENEVE_*`.
-fn geneve(kind: u16) -> Option<Row>
-    ensures { option_map line_of result ≡ found geneve_rows kind }
-{
-    row! { kind;
-        (1, "id", Le32, Plain),
-        (2, "remote", GeneveV4, Plain),
-        (3, "ttl", U8, Plain),
-        (4, "tos", U8, Hex),
-        (5, "port", Be16, Plain),
-        (6, "external", Mark, Present),
-        (7, "remote6", GeneveV6, Plain),
-        (8, "udp_csum", Truth, Plain),
-        (9, "udp_zero_csum6_tx", Truth, Plain),
-        (10, "udp_zero_csum6_rx", Truth, Plain),
-        (11, "label", Be32, Hex),
-        (12, "ttl_inherit", Truth, Plain),
-        (13, "df", U8, Word(Words::Df)),
-        (14, "inner_proto_inherit", Mark, Present),
-        (17, "local", GeneveV4, Plain),
-        (18, "local6", GeneveV6, Plain),
-    }
-}
-
-/// `IFLA_GRE_*` (include/uapi/linux/if_tunnel.h), over IPv4.
-fn gre(kind: u16) -> Option<Row>
-    ensures { option_map line_of result ≡ found gre_rows kind }
-{
-    row! { kind;
-        (1, "link", Le32, Plain),
-        (2, "iflags", Be16, Bits(Flags::GreInput)),
-        (3, "oflags", Be16, Bits(Flags::GreOutput)),
-        (4, "ikey", Be32, Quad),
-        (5, "okey", Be32, Quad),
-        (6, "local", V4, Address),
-        (7, "remote", V4, Address),
-        (8, "ttl", U8, Plain),
-        (9, "tos", U8, Hex),
-        (10, "pmtudisc", TruthOne, Plain),
-        (14, "encap_type", Le16, Word(Words::EncapType)),
-        (15, "encap_flags", Le16, Bits(Flags::Encap)),
-        (16, "encap_sport", Be16, Plain),
-        (17, "encap_dport", Be16, Plain),
-        (18, "external", Mark, Present),
-        (19, "ignore_df", U8, Switch),
-        (20, "fwmark", Le32, Hex),
-        (21, "erspan_index", Le32, Plain),
-        (22, "erspan_ver", U8, Plain),
-        (23, "erspan_dir", U8, Word(Words::ErspanDirection)),
-        (24, "erspan_hwid", Le16, Hex),
-    }
-}
-
-/// `IFLA_GRE_*` (include/uapi/linux/if_tunnel.h), over IPv6.
-fn gre6(kind: u16) -> Option<Row>
-    ensures { option_map line_of result ≡ found gre6_rows kind }
-{
-    row! { kind;
-        (1, "link", Le32, Plain),
-        (2, "iflags", Be16, Bits(Flags::GreInput)),
-        (3, "oflags", Be16, Bits(Flags::GreOutput)),
-        (4, "ikey", Be32, Quad),
-        (5, "okey", Be32, Quad),
-        (6, "local", V6, Address),
-        (7, "remote", V6, Address),
-        (8, "ttl", U8, Plain),
-        (9, "tos", U8, Hex),
-        (11, "encap_limit", U8, Plain),
-        (12, "flowinfo", Be32, FlowInfo),
-        (13, "flags", Le32, Bits(Flags::Ip6Tunnel)),
-        (14, "encap_type", Le16, Word(Words::EncapType)),
-        (15, "encap_flags", Le16, Bits(Flags::Encap)),
-        (16, "encap_sport", Be16, Plain),
-        (17, "encap_dport", Be16, Plain),
-        (18, "external", Mark, Present),
-        (19, "ignore_df", U8, Switch),
-        (20, "fwmark", Le32, Hex),
-        (21, "erspan_index", Le32, Plain),
-        (22, "erspan_ver", U8, Plain),
-        (23, "erspan_dir", U8, Word(Words::ErspanDirection)),
-        (24, "erspan_hwid", Le16, Hex),
-    }
-}
-
-/// `IFLA_GTP_*`.
-fn gtp(kind: u16) -> Option<Row>
-    ensures { option_map line_of result ≡ found gtp_rows kind }
-{
-    row! { kind;
-        (1, "fd0", Le32, Plain),
-        (2, "fd1", Le32, Plain),
-        (3, "hsize", Le32, Plain),
-        (4, "role", Le32, Word(Words::GtpRole)),
-        (5, "create_sockets", Truth, Plain),
-        (6, "restart_count", U8, Plain),
-        (7, "local", V4, Plain),
-        (8, "local6", V6, Plain),
-    }
-}
-
-/// `IFLA_IPOIB_*`.
-fn ipoib(kind: u16) -> Option<Row>
-    ensures { option_map line_of result ≡ found ipoib_rows kind }
-{
-    row! { kind;
-        (1, "key", Le16, KeyHex),
-        (2, "mode", Le16, Word(Words::IpoibMode)),
-        (3, "umcast", Le16, FourDigits),
-    }
-}
-
-/// `IFLA_IPTUN_*` (include/uapi/linux/if_tunnel.h) of `ipip` links.
-fn ip_tunnel(kind: u16) -> Option<Row>
-    ensures { option_map line_of result ≡ found ip_tunnel_rows kind }
-{
-    row! { kind;
-        (8, "flags", Be16, Hex),
-        (9, "proto", U8, Word(Words::TunnelProtocol)),
-        else tunnel(kind)
-    }
-}
-
-/// `IFLA_IPTUN_*` that are the same of all tunnels over IP.
-fn tunnel(kind: u16) -> Option<Row>
-    ensures { option_map line_of result ≡ found tunnel_rows kind }
-{
-    row! { kind;
-        (1, "link", Le32, Plain),
-        (2, "local", Ip, Address),
-        (3, "remote", Ip, Address),
-        (4, "ttl", U8, Plain),
-        (5, "tos", U8, Hex),
-        (6, "encap_limit", U8, Plain),
-        (7, "flowinfo", Be32, FlowInfo),
-        (10, "pmtudisc", Truth, Plain),
-        (11, "prefix", V6, Plain),
-        (12, "relay_prefix", V4, Plain),
-        (13, "prefixlen", Le16, Plain),
-        (14, "relay_prefixlen", Le16, Plain),
-        (15, "encap_type", Le16, Word(Words::EncapType)),
-        (16, "encap_flags", Le16, Bits(Flags::Encap)),
-        (17, "encap_sport", Be16, Plain),
-        (18, "encap_dport", Be16, Plain),
-        (19, "external", Mark, Present),
-        (20, "fwmark", Le32, Hex),
-    }
-}
-
-/// `IFLA_IPTUN_*` of `sit` links.
-fn sit(kind: u16) -> Option<Row>
-    ensures { option_map line_of result ≡ found sit_rows kind }
-{
-    row! { kind;
-        (8, "flags", Be16, Bits(Flags::Sit)),
-        (9, "proto", U8, Word(Words::TunnelProtocol)),
-        else tunnel(kind)
-    }
-}
-
-/// `IFLA_IPTUN_*` of `ip6tnl` links.
-fn ip6_tunnel(kind: u16) -> Option<Row>
-    ensures { option_map line_of result ≡ found ip6_tunnel_rows kind }
-{
-    row! { kind;
-        (8, "flags", Le32, Bits(Flags::Ip6Tunnel)),
-        (9, "proto", U8, Word(Words::Tunnel6Protocol)),
-        else tunnel(kind)
-    }
-}
-
-/// `IFLA_IPVLAN_*`.
-fn ip_vlan(kind: u16) -> Option<Row>
-    ensures { option_map line_of result ≡ found ip_vlan_rows kind }
-{
-    row! { kind;
-        (1, "mode", Le16, Word(Words::IpVlanMode)),
-        (2, "flags", Le16, Bits(Flags::IpVlan)),
-    }
-}
-
-/// `IFLA_MACVLAN_*`.
-fn mac_vlan(kind: u16) -> Option<Row>
-    ensures { option_map line_of result ≡ found mac_vlan_rows kind }
-{
-    row! { kind;
-        (1, "mode", Le32, Word(Words::MacVlanMode)),
-        (2, "flags", Le16, Bits(Flags::MacVlan)),
-        (3, "macaddr_mode", Le32, Word(Words::MacAddressMode)),
-        (4, "macaddr", Mac, Plain),
-        (5, "macaddr_data", SelfList, List(Elements::HardwareAddresses)),
-        (6, "macaddr_count", Le32, Plain),
-        (7, "bcqueuelen", Le32, Plain),
-        (8, "usedbcqueuelen", Le32, Plain),
-        (9, "bclim", I32, Plain),
-    }
-}
-
-/// `IFLA_MACSEC_*`.
-fn mac_sec(kind: u16) -> Option<Row>
-    ensures { option_map line_of result ≡ found mac_sec_rows kind }
-{
-    row! { kind;
-        (1, "sci", Le64, Octets),
-        (2, "port", Be16, Plain),
-        (3, "icv_len", U8, Plain),
-        (4, "cipher_suite", Le64, Word(Words::CipherSuite)),
-        (5, "window", Le32, Plain),
-        (6, "encoding_sa", U8, Plain),
-        (7, "encrypt", U8, Switch),
-        (8, "protect", U8, Switch),
-        (9, "inc_sci", U8, Switch),
-        (10, "es", U8, Switch),
-        (11, "scb", U8, Switch),
-        (12, "replay_protect", U8, Switch),
-        (13, "validation", U8, Word(Words::MacSecValidation)),
-        (15, "offload", U8, Word(Words::MacSecOffload)),
-    }
-}
-
-/// `IFLA_NETKIT_*`.
-fn netkit(kind: u16) -> Option<Row>
-    ensures { option_map line_of result ≡ found netkit_rows kind }
-{
-    row! { kind;
-        (1, "peer_info", Peer, Plain),
-        (2, "primary", Truth, Plain),
-        (3, "policy", Le32, Word(Words::NetkitPolicy)),
-        (4, "peer_policy", Le32, Word(Words::NetkitPolicy)),
-        (5, "mode", Le32, Word(Words::NetkitMode)),
-        (6, "scrub", Scrub, Word(Words::NetkitScrub)),
-        (7, "peer_scrub", Scrub, Word(Words::NetkitScrub)),
-        (8, "headroom", Le16, Plain),
-        (9, "tailroom", Le16, Plain),
-    }
-}
-
-/// `IFLA_RMNET_*`.
-fn rm_net(kind: u16) -> Option<Row>
-    ensures { option_map line_of result ≡ found rm_net_rows kind }
-{
-    row! { kind;
-        (1, "mux_id", Le16, Plain),
-        (2, "flags", FlagPair, Bits(Flags::RmNet)),
-    }
-}
-
-/// `VETH_INFO_PEER` and `VXCAN_INFO_PEER`.
-fn veth(kind: u16) -> Option<Row>
-    ensures { option_map line_of result ≡ found veth_rows kind }
-{
-    row! { kind;
-        (1, "peer", Peer, Plain),
-    }
-}
-
-/// `IFLA_VRF_*`, and `IFLA_VRF_PORT_*`.
-fn vrf(kind: u16) -> Option<Row>
-    ensures { option_map line_of result ≡ found vrf_rows kind }
-{
-    row! { kind;
-        (1, "table", Le32, Plain),
-    }
-}
-
-/// `IFLA_WWAN_*` (include/uapi/linux/wwan.h).
-fn wwan(kind: u16) -> Option<Row>
-    ensures { option_map line_of result ≡ found wwan_rows kind }
-{
-    row! { kind;
-        (1, "linkid", Le32, Plain),
-    }
-}
-
-/// `IFLA_XFRM_*`.
-fn xfrm(kind: u16) -> Option<Row>
-    ensures { option_map line_of result ≡ found xfrm_rows kind }
-{
-    row! { kind;
-        (1, "link", Le32, Plain),
-        (2, "if_id", Le32, Hex),
-        (3, "external", Mark, Present),
-    }
-}
-
-/// `IFLA_VTI_*` (include/uapi/linux/if_tunnel.h).
-fn vti(kind: u16) -> Option<Row>
-    ensures { option_map line_of result ≡ found vti_rows kind }
-{
-    row! { kind;
-        (1, "link", Le32, Plain),
-        (2, "ikey", Be32, Quad),
-        (3, "okey", Be32, Quad),
-        (4, "local", Ip, Address),
-        (5, "remote", Ip, Address),
-        (6, "fwmark", Le32, Hex),
-    }
-}
-
-/// `IFLA_VXLAN_*`.
-fn vxlan(kind: u16) -> Option<Row>
-    ensures { option_map line_of result ≡ found vxlan_rows kind }
-{
-    row! { kind;
-        (1, "id", Le32, Plain),
-        (2, "group", V4, Group),
-        (3, "link", Le32, Plain),
-        (4, "local", V4, Plain),
-        (5, "ttl", U8, Plain),
-        (6, "tos", U8, Hex),
-        (7, "learning", Truth, Plain),
-        (8, "ageing", Le32, Plain),
-        (9, "limit", Le32, Plain),
-        (10, "port_range", BePair, Plain),
-        (11, "proxy", Truth, Plain),
-        (12, "rsc", Truth, Plain),
-        (13, "l2miss", Truth, Plain),
-        (14, "l3miss", Truth, Plain),
-        (15, "port", Be16, Plain),
-        (16, "group6", V6, Group6),
-        (17, "local6", V6, Plain),
-        (18, "udp_csum", Truth, Plain),
-        (19, "udp_zero_csum6_tx", Truth, Plain),
-        (20, "udp_zero_csum6_rx", Truth, Plain),
-        (21, "remcsum_tx", Truth, Plain),
-        (22, "remcsum_rx", Truth, Plain),
-        (23, "gbp", Mark, Plain),
-        (24, "remcsum_nopartial", Mark, Plain),
-        (25, "external", Truth, Plain),
-        (26, "label", Be32, Hex),
-        (27, "gpe", Mark, Plain),
-        (28, "ttl_inherit", EmptyOrByte, Plain),
-        (29, "df", U8, Word(Words::Df)),
-        (30, "vnifilter", Truth, Plain),
-        (31, "localbypass", Truth, Plain),
-        (32, "label_policy", Le32, Word(Words::LabelPolicy)),
-        (33, "reserved_bits", Be64, Hex),
-        (34, "mcroute", Truth, Plain),
-    }
-}
-
-/// `IFLA_BOND_*`.
-fn bond(kind: u16) -> Option<Row>
-    ensures { option_map line_of result ≡ found bond_rows kind }
-{
-    row! { kind;
-        (1, "mode", U8, Word(Words::BondMode)),
-        (2, "active_slave", Le32, Plain),
-        (3, "miimon", Le32, Plain),
-        (4, "updelay", Le32, Plain),
-        (5, "downdelay", Le32, Plain),
-        (6, "use_carrier", U8, Plain),
-        (7, "arp_interval", Le32, Plain),
-        (8, "arp_ip_target", Raw, List(Elements::Addresses)),
-        (9, "arp_validate", Le32, Word(Words::ArpValidate)),
-        (10, "arp_all_targets", Le32, Word(Words::ArpAllTargets)),
-        (11, "primary", Le32, Plain),
-        (12, "primary_reselect", U8, Word(Words::PrimaryReselect)),
-        (13, "fail_over_mac", U8, Word(Words::FailOverMac)),
-        (14, "xmit_hash_policy", U8, Word(Words::TransmitHash)),
-        (15, "resend_igmp", Le32, Plain),
-        (16, "num_peer_notif", U8, Plain),
-        (17, "all_slaves_active", U8, Plain),
-        (18, "min_links", Le32, Plain),
-        (19, "lp_interval", Le32, Plain),
-        (20, "packets_per_slave", Le32, Plain),
-        (21, "ad_lacp_rate", U8, Word(Words::LacpRate)),
-        (22, "ad_select", U8, Word(Words::AdSelect)),
-        (23, "ad_info", Raw, Nested(Table::BondAdInfo)),
-        (24, "ad_actor_sys_prio", Le16, Plain),
-        (25, "ad_user_port_key", Le16, Plain),
-        (26, "ad_actor_system", Mac, Plain),
-        (27, "tlb_dynamic_lb", U8, Plain),
-        (28, "peer_notify_delay", Le32, Plain),
-        (29, "ad_lacp_active", U8, Word(Words::OffOn)),
-        (30, "arp_missed_max", U8, Plain),
-        (31, "ns_ip6_target", Raw, List(Elements::Addresses)),
-        (32, "coupled_control", U8, Switch),
-        (33, "broadcast_neighbor", U8, Switch),
-    }
-}
-
-/// `IFLA_BOND_SLAVE_*`.
-fn bond_port(kind: u16) -> Option<Row>
-    ensures { option_map line_of result ≡ found bond_port_rows kind }
-{
-    row! { kind;
-        (1, "state", U8, Word(Words::BondPortState)),
-        (2, "mii_status", U8, Word(Words::MiiStatus)),
-        (3, "link_failure_count", Le32, Plain),
-        (4, "perm_hwaddr", Mac, Plain),
-        (5, "queue_id", Le16, Plain),
-        (6, "ad_aggregator_id", Le16, Plain),
-        (7, "ad_actor_oper_port_state", U8, Plain),
-        (8, "ad_partner_oper_port_state", Le16, Plain),
-        (9, "prio", I32, Plain),
-        (10, "actor_port_prio", Le16, Plain),
-        (11, "churn_actor_state", U8, Plain),
-        (12, "churn_partner_state", U8, Plain),
-    }
-}
-
-/// `IFLA_BR_*`.
-fn bridge(kind: u16) -> Option<Row>
-    ensures { option_map line_of result ≡ found bridge_rows kind }
-{
-    row! { kind;
-        (1, "forward_delay", Le32, Plain),
-        (2, "hello_time", Le32, Plain),
-        (3, "max_age", Le32, Plain),
-        (4, "ageing_time", Le32, Plain),
-        (5, "stp_state", Le32, Plain),
-        (6, "priority", Le16, Plain),
-        (7, "vlan_filtering", U8, Plain),
-        (8, "vlan_protocol", Be16, Word(Words::VlanProtocol)),
-        (9, "group_fwd_mask", Le16, Mask),
-        (10, "root_id", Raw, BridgeId),
-        (11, "bridge_id", Raw, BridgeId),
-        (12, "root_port", Le16, Plain),
-        (13, "root_path_cost", Le32, Plain),
-        (14, "topology_change", U8, Plain),
-        (15, "topology_change_detected", U8, Plain),
-        (16, "hello_timer", Le64, Plain),
-        (17, "tcn_timer", Le64, Plain),
-        (18, "topology_change_timer", Le64, Plain),
-        (19, "gc_timer", Le64, Plain),
-        (20, "group_addr", Mac, Plain),
-        (21, "fdb_flush", Mark, Present),
-        (22, "mcast_router", U8, Plain),
-        (23, "mcast_snooping", U8, Plain),
-        (24, "mcast_query_use_ifaddr", U8, Plain),
-        (25, "mcast_querier", U8, Plain),
-        (26, "mcast_hash_elasticity", Le32, Plain),
-        (27, "mcast_hash_max", Le32, Plain),
-        (28, "mcast_last_member_cnt", Le32, Plain),
-        (29, "mcast_startup_query_cnt", Le32, Plain),
-        (30, "mcast_last_member_intvl", Le64, Plain),
-        (31, "mcast_membership_intvl", Le64, Plain),
-        (32, "mcast_querier_intvl", Le64, Plain),
-        (33, "mcast_query_intvl", Le64, Plain),
-        (34, "mcast_query_response_intvl", Le64, Plain),
-        (35, "mcast_startup_query_intvl", Le64, Plain),
-        (36, "nf_call_iptables", U8, Plain),
-        (37, "nf_call_ip6tables", U8, Plain),
-        (38, "nf_call_arptables", U8, Plain),
-        (39, "vlan_default_pvid", Le16, Plain),
-        (41, "vlan_stats_enabled", U8, Plain),
-        (42, "mcast_stats_enabled", U8, Plain),
-        (43, "mcast_igmp_version", U8, Plain),
-        (44, "mcast_mld_version", U8, Plain),
-        (45, "vlan_stats_per_port", U8, Plain),
-        (46, "multi_boolopt", FlagPair, Options(Flags::BridgeOptions)),
-        (47, "mcast_querier_state", Raw, Nested(Table::BridgeQuerier)),
-        (48, "fdb_n_learned", Le32, Plain),
-        (49, "fdb_max_learned", Le32, Plain),
-    }
-}
-
-/// `IFLA_BRPORT_*`.
-fn bridge_port(kind: u16) -> Option<Row>
-    ensures { option_map line_of result ≡ found bridge_port_rows kind }
-{
-    row! { kind;
-        (1, "state", U8, Word(Words::BridgePortState)),
-        (2, "priority", Le16, Plain),
-        (3, "cost", Le32, Plain),
-        (4, "hairpin", U8, Switch),
-        (5, "guard", U8, Switch),
-        (6, "root_block", U8, Switch),
-        (7, "fastleave", U8, Switch),
-        (8, "learning", U8, Switch),
-        (9, "flood", U8, Switch),
-        (10, "proxy_arp", U8, Switch),
-        (11, "learning_sync", U8, Switch),
-        (12, "proxy_arp_wifi", U8, Switch),
-        (13, "root_id", Raw, BridgeId),
-        (14, "bridge_id", Raw, BridgeId),
-        (15, "designated_port", Le16, Plain),
-        (16, "designated_cost", Le16, Plain),
-        (17, "id", Le16, Hex),
-        (18, "no", Le16, Hex),
-        (19, "topology_change_ack", U8, Plain),
-        (20, "config_pending", U8, Plain),
-        (21, "message_age_timer", Le64, Plain),
-        (22, "forward_delay_timer", Le64, Plain),
-        (23, "hold_timer", Le64, Plain),
-        (24, "flush", Mark, Present),
-        (25, "multicast_router", U8, Plain),
-        (27, "mcast_flood", U8, Switch),
-        (28, "mcast_to_unicast", U8, Switch),
-        (29, "vlan_tunnel", U8, Switch),
-        (30, "bcast_flood", U8, Switch),
-        (31, "group_fwd_mask", Le16, Mask),
-        (32, "neigh_suppress", U8, Switch),
-        (33, "isolated", U8, Switch),
-        (34, "backup_port", Le32, Plain),
-        (35, "mrp_ring_open", U8, Switch),
-        (36, "mrp_in_open", U8, Switch),
-        (37, "mcast_eht_hosts_limit", Le32, Plain),
-        (38, "mcast_eht_hosts_cnt", Le32, Plain),
-        (39, "locked", U8, Switch),
-        (40, "mab", U8, Switch),
-        (41, "mcast_n_groups", Le32, Plain),
-        (42, "mcast_max_groups", Le32, Plain),
-        (43, "neigh_vlan_suppress", U8, Switch),
-        (44, "backup_nhid", Le32, Plain),
-    }
-}
-
-/// `IFLA_VLAN_*`.
-fn vlan(kind: u16) -> Option<Row>
-    ensures { option_map line_of result ≡ found vlan_rows kind }
-{
-    row! { kind;
-        (1, "id", Le16, Plain),
-        (2, "flags", FlagPair, Names(Flags::Vlan)),
-        (3, "egress_qos", Raw, List(Elements::PriorityPairs)),
-        (4, "ingress_qos", Raw, List(Elements::PriorityPairs)),
-        (5, "protocol", Be16, Word(Words::Protocol)),
-    }
-}
-
-/// `IFLA_CAN_*` (include/uapi/linux/can/netlink.h).
-fn can(kind: u16) -> Option<Row>
-    ensures { option_map line_of result ≡ found can_rows kind }
-{
-    row! { kind;
-        (1, "bittiming", Raw, BitTiming),
-        (2, "bittiming_const", Raw, Plain),
-        (3, "clock", Le32, Plain),
-        (4, "state", Le32, Word(Words::CanState)),
-        (5, "ctrlmode", FlagPair, SecondNames(Flags::Can)),
-        (6, "restart_ms", Le32, Plain),
-        (7, "restart", Le32, Plain),
-        (8, "berr_counter", Raw, Plain),
-        (9, "data_bittiming", Raw, BitTiming),
-        (10, "data_bittiming_const", Raw, Plain),
-        (11, "termination", Le16, Plain),
-        (12, "termination_const", Raw, Plain),
-        (13, "bitrate_const", Raw, Plain),
-        (14, "data_bitrate_const", Raw, Plain),
-        (15, "bitrate_max", Le32, Plain),
-        (16, "tdc", Raw, Nested(Table::CanDelay)),
-        (17, "ctrlmode_ext", Raw, Nested(Table::CanModes)),
-        (18, "xl_data_bittiming", Raw, BitTiming),
-        (19, "xl_data_bittiming_const", Raw, Plain),
-        (20, "xl_data_bitrate_const", Raw, Plain),
-        (21, "xl_tdc", Raw, Nested(Table::CanDelay)),
-        (22, "xl_pwm", Raw, Nested(Table::CanPulse)),
-    }
-}
-
-/// `IFLA_DSA_*`.
-fn dsa(kind: u16) -> Option<Row>
-    ensures { option_map line_of result ≡ found dsa_rows kind }
-{
-    row! { kind;
-        (1, "conduit", Le32, Plain),
-    }
-}
-
-/// `IFLA_HSR_*`.
-fn hsr(kind: u16) -> Option<Row>
-    ensures { option_map line_of result ≡ found hsr_rows kind }
-{
-    row! { kind;
-        (1, "slave1", Le32, Plain),
-        (2, "slave2", Le32, Plain),
-        (3, "multicast_spec", U8, Plain),
-        (4, "supervision_addr", Mac, Plain),
-        (5, "seq_nr", Le16, Plain),
-        (6, "version", U8, Plain),
-        (7, "proto", U8, Plain),
-        (8, "interlink", Le32, Plain),
-    }
-}
-
-/// `IFLA_TUN_*`.
-fn tun(kind: u16) -> Option<Row>
-    ensures { option_map line_of result ≡ found tun_rows kind }
-{
-    row! { kind;
-        (1, "user", Le32, Plain),
-        (2, "group", Le32, Plain),
-        (3, "type", U8, Word(Words::TunType)),
-        (4, "pi", U8, Switch),
-        (5, "vnet_hdr", U8, Switch),
-        (6, "persist", U8, Switch),
-        (7, "multi_queue", U8, Switch),
-        (8, "numqueues", Le32, Plain),
-        (9, "numdisabled", Le32, Plain),
-    }
-}
-
-/// `IFLA_BOND_AD_INFO_*`, inside `IFLA_BOND_AD_INFO`.
-fn bond_ad_info(kind: u16) -> Option<Row>
-    ensures { option_map line_of result ≡ found bond_ad_info_rows kind }
-{
-    row! { kind;
-        (1, "aggregator", Le16, Plain),
-        (2, "num_ports", Le16, Plain),
-        (3, "actor_key", Le16, Plain),
-        (4, "partner_key", Le16, Plain),
-        (5, "partner_mac", Mac, Plain),
-    }
-}
-
-/// `BRIDGE_QUERIER_*` (include/uapi/linux/if_bridge.h), inside `IFLA_BR_MCAST_QUERIER_STATE`.
-fn bridge_querier(kind: u16) -> Option<Row>
-    ensures { option_map line_of result ≡ found bridge_querier_rows kind }
-{
-    row! { kind;
-        (1, "mcast_querier_ipv4_addr", V4, Plain),
-        (2, "mcast_querier_ipv4_port", Le32, Plain),
-        (3, "mcast_querier_ipv4_other_timer", Le64, Plain),
-        (5, "mcast_querier_ipv6_addr", V6, Plain),
-        (6, "mcast_querier_ipv6_port", Le32, Plain),
-        (7, "mcast_querier_ipv6_other_timer", Le64, Plain),
-    }
-}
-
-/// `IFLA_CAN_TDC_*` (include/uapi/linux/can/netlink.h), inside `IFLA_CAN_TDC`.
-fn can_delay(kind: u16) -> Option<Row>
-    ensures { option_map line_of result ≡ found can_delay_rows kind }
-{
-    row! { kind;
-        (1, "tdcv_min", Le32, Plain),
-        (2, "tdcv_max", Le32, Plain),
-        (3, "tdco_min", Le32, Plain),
-        (4, "tdco_max", Le32, Plain),
-        (5, "tdcf_min", Le32, Plain),
-        (6, "tdcf_max", Le32, Plain),
-        (7, "tdcv", Le32, Plain),
-        (8, "tdco", Le32, Plain),
-        (9, "tdcf", Le32, Plain),
-    }
-}
-
-/// `IFLA_CAN_CTRLMODE_*` (include/uapi/linux/can/netlink.h), inside `IFLA_CAN_CTRLMODE_EXT`.
-fn can_modes(kind: u16) -> Option<Row>
-    ensures { option_map line_of result ≡ found can_modes_rows kind }
-{
-    row! { kind;
-        (1, "supported", Le32, Hex),
-    }
-}
-
-/// `IFLA_CAN_PWM_*` (include/uapi/linux/can/netlink.h), inside `IFLA_CAN_XL_PWM`.
-fn can_pulse(kind: u16) -> Option<Row>
-    ensures { option_map line_of result ≡ found can_pulse_rows kind }
-{
-    row! { kind;
-        (1, "pwms_min", Le32, Plain),
-        (2, "pwms_max", Le32, Plain),
-        (3, "pwml_min", Le32, Plain),
-        (4, "pwml_max", Le32, Plain),
-        (5, "pwmo_min", Le32, Plain),
-        (6, "pwmo_max", Le32, Plain),
-        (7, "pwms", Le32, Plain),
-        (8, "pwml", Le32, Plain),
-        (9, "pwmo", Le32, Plain),
-    }
-}
-
 /// The row of a type without its two flag bits, if the table has one.
+#[tactic(auto, using(crate::proofs::Found::found_second))]
 pub fn table_row(table: Table, kind: u16) -> Option<Row>
     ensures { option_map line_of result ≡ row_of table kind }
 {
+    if let Some(row) = row_among(own_rows(table), kind) {
+        return Some(row);
+    }
+    row_among(shared_rows(table), kind)
+}
+
+/// The row of a type among rows.
+fn row_among(rows: &[Entry], kind: u16) -> Option<Row>
+    ensures { option_map line_of result ≡ found (slice_lines rows.now) kind }
+{
+    for &(number, name, shape, format) in rows {
+        if number == kind {
+            return Some(Row {
+                name,
+                shape,
+                format,
+            });
+        }
+    }
+    None
+}
+
+/// The rows of a table, but for those that it shares with other tables.
+fn own_rows(table: Table) -> &'static [Entry]
+    ensures { slice_lines result.now ≡ own_rows table }
+{
     match table {
-        Table::Family(family) => family_row(family, kind),
-        Table::Sit => sit(kind),
-        Table::Ip6Tunnel => ip6_tunnel(kind),
-        Table::BondAdInfo => bond_ad_info(kind),
-        Table::BridgeQuerier => bridge_querier(kind),
-        Table::CanDelay => can_delay(kind),
-        Table::CanModes => can_modes(kind),
-        Table::CanPulse => can_pulse(kind),
+        Table::Family(family) => family_rows(family),
+        Table::Sit => SIT,
+        Table::Ip6Tunnel => IP6_TUNNEL,
+        Table::BondAdInfo => BOND_AD_INFO,
+        Table::BridgeQuerier => BRIDGE_QUERIER,
+        Table::CanDelay => CAN_DELAY,
+        Table::CanModes => CAN_MODES,
+        Table::CanPulse => CAN_PULSE,
     }
 }
 
-/// The row of a type in a family.
-fn family_row(family: Family, kind: u16) -> Option<Row>
-    ensures { option_map line_of result ≡ row_of (Table.Family family) kind }
+/// The rows that a table shares with other tables: those of tunnels.
+fn shared_rows(table: Table) -> &'static [Entry]
+    ensures { slice_lines result.now ≡ shared_rows table }
+{
+    match table {
+        Table::Family(Family::IpTunnel) | Table::Sit | Table::Ip6Tunnel => TUNNEL,
+        _ => &[],
+    }
+}
+
+/// The rows of a family, but for those that it shares with others.
+fn family_rows(family: Family) -> &'static [Entry]
+    ensures { slice_lines result.now ≡ family_rows family }
 {
     match family {
-        Family::Amt => amt(kind),
-        Family::BareUdp => bare_udp(kind),
-        Family::BatAdv => bat_adv(kind),
-        Family::Geneve => geneve(kind),
-        Family::Gre => gre(kind),
-        Family::Gre6 => gre6(kind),
-        Family::Gtp => gtp(kind),
-        Family::Ipoib => ipoib(kind),
-        Family::IpTunnel => ip_tunnel(kind),
-        Family::IpVlan | Family::IpVtap => ip_vlan(kind),
-        Family::MacVlan | Family::MacVtap => mac_vlan(kind),
-        Family::MacSec => mac_sec(kind),
-        Family::Netkit => netkit(kind),
-        Family::RmNet => rm_net(kind),
-        Family::Veth | Family::Vxcan => veth(kind),
-        Family::Vrf => vrf(kind),
-        Family::Wwan => wwan(kind),
-        Family::Xfrm => xfrm(kind),
-        Family::Vti => vti(kind),
-        Family::Vxlan => vxlan(kind),
-        Family::Bond => bond(kind),
-        Family::BondPort => bond_port(kind),
-        Family::Bridge => bridge(kind),
-        Family::BridgePort => bridge_port(kind),
-        Family::Vlan => vlan(kind),
-        Family::Can => can(kind),
-        Family::Dsa => dsa(kind),
-        Family::Hsr => hsr(kind),
-        Family::Tun => tun(kind),
+        Family::Amt => AMT,
+        Family::BareUdp => BARE_UDP,
+        Family::BatAdv => BAT_ADV,
+        Family::Geneve => GENEVE,
+        Family::Gre => GRE,
+        Family::Gre6 => GRE6,
+        Family::Gtp => GTP,
+        Family::Ipoib => IPOIB,
+        Family::IpTunnel => IP_TUNNEL,
+        Family::IpVlan | Family::IpVtap => IP_VLAN,
+        Family::MacVlan | Family::MacVtap => MAC_VLAN,
+        Family::MacSec => MAC_SEC,
+        Family::Netkit => NETKIT,
+        Family::RmNet => RM_NET,
+        Family::Veth | Family::Vxcan => VETH,
+        Family::Vrf => VRF,
+        Family::Wwan => WWAN,
+        Family::Xfrm => XFRM,
+        Family::Vti => VTI,
+        Family::Vxlan => VXLAN,
+        Family::Bond => BOND,
+        Family::BondPort => BOND_PORT,
+        Family::Bridge => BRIDGE,
+        Family::BridgePort => BRIDGE_PORT,
+        Family::Vlan => VLAN,
+        Family::Can => CAN,
+        Family::Dsa => DSA,
+        Family::Hsr => HSR,
+        Family::Tun => TUN,
         Family::Frame | Family::LinkInfo | Family::Pfcp | Family::TeamPort | Family::Wireguard =>
-            None,
+            &[],
     }
 }

@@ -29,8 +29,7 @@ pub fn assert_holds<C: Debug>(rt: &impl Abort, case: &C, holds: bool) {
 
 /// Asserts that what was parsed is this value, by `==`.
 ///
-/// Here the type is a parameter: where it is a large enum, each drop of a value is proved with an
-/// arm for each variant.
+/// The type is a parameter, so that no drop of a large enum has an arm for each variant here.
 pub fn assert_parsed<C: Debug, T: PartialEq + Drop>(
     rt: &impl Abort,
     case: &C,

@@ -123,17 +123,23 @@ fn time_json(time: Option<String>) -> Option<Value> {
     }
 }
 
+/// The members that a message has by itself.
+fn link_members(link: &LinkMessage<'_>) -> Result<Map<String, Value>, AllocError> {
+    let mut members = Map::new();
+    put(&mut members, "deleted", Value::from(is_deleted(link.event)))?;
+    put(&mut members, "flags", flags_json(link.flags)?)?;
+    put(&mut members, "ifindex", Value::from(link.index))?;
+    put_some(&mut members, "ifname", name_json(link.name)?)?;
+    Ok(members)
+}
+
 /// The object of a message.
 fn message_value(
     link: &LinkMessage<'_>,
     list: Option<Value>,
     time: Option<String>,
 ) -> Result<Value, AllocError> {
-    let mut members = Map::new();
-    put(&mut members, "deleted", Value::from(is_deleted(link.event)))?;
-    put(&mut members, "flags", flags_json(link.flags)?)?;
-    put(&mut members, "ifindex", Value::from(link.index))?;
-    put_some(&mut members, "ifname", name_json(link.name)?)?;
+    let mut members = link_members(link)?;
     put_some(&mut members, "linkinfo", list)?;
     put_some(&mut members, "time", time_json(time))?;
     Ok(Value::Object(members))

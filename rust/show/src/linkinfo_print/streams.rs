@@ -11,13 +11,13 @@ use thiserror::Error;
 #[derive(Clone, Copy, Debug, PartialEq, Eq, Error)]
 pub enum RunError {
     /// A read failed, or the input did not end within the most reads that 64 bits count. The
-    /// answers to what was read are written.
+    /// results for what was read are written.
     #[error("reading standard input failed")]
     Read,
     /// A write failed, or wrote no byte.
     #[error("writing failed")]
     Write,
-    /// An allocation failed. The answers to what was read are written, but for the last read.
+    /// An allocation failed. The results for what was read are written, but for the last read.
     #[error("out of memory")]
     Memory,
 }

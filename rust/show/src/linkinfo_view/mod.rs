@@ -1,6 +1,7 @@
 //! What an attribute of link info is for a reader: names and values, as JSON.
 
 mod attributes;
+mod entries;
 mod format;
 mod list;
 mod members;

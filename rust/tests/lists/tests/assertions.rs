@@ -18,6 +18,20 @@ pub fn assert_holds<C: Debug>(case: &C, holds: bool) {
     assert!(holds, "{case:?}");
 }
 
+/// Asserts that what was parsed is this value, by `==`.
+///
+/// The type is a parameter, so that no drop of a large enum has an arm for each variant here.
+pub fn assert_parsed<C: Debug, T: PartialEq>(case: &C, found: Result<T, DecodeError>, wanted: T) {
+    let found = found.expect("a value");
+    assert_holds(case, found == wanted);
+}
+
+/// Asserts that a payload parses as this data of a link of the kind.
+pub fn assert_data(payload: &[u8], kind: InfoKind, data: InfoData) {
+    let found = InfoData::parse_with_param(payload, &kind);
+    assert_parsed(&payload, found, data);
+}
+
 /// The error of a header that is not accepted.
 pub const HEADER_ERROR: DecodeError = DecodeError {
     family: Family::Frame,

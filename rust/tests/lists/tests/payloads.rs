@@ -1,7 +1,8 @@
 //! Data, port data and statistics that are parsed by themselves.
 
 use super::assertions::{
-    HEADER_ERROR, assert_equal, assert_holds, copied, default_nla, nlas, text_of,
+    HEADER_ERROR, assert_data, assert_equal, assert_holds, assert_parsed, copied, default_nla,
+    nlas, text_of,
 };
 use crate::support::*;
 use linkinfo::layers::link::{
@@ -22,20 +23,9 @@ fn length_error(family: Family) -> DecodeError {
     }
 }
 
-/// Parses a payload as data of a kind.
-fn read_data(payload: &[u8], kind: &InfoKind) -> Result<InfoData, DecodeError> {
-    InfoData::parse_with_param(payload, kind)
-}
-
 /// Parses a payload as data of a port kind.
 fn read_port_data(payload: &[u8], kind: &InfoPortKind) -> Result<InfoPortData, DecodeError> {
     InfoPortData::parse_with_param(payload, kind)
-}
-
-/// Asserts that a payload parses as this data of a link of the kind.
-fn assert_data(payload: &[u8], kind: InfoKind, data: InfoData) {
-    let read = read_data(payload, &kind).expect("data");
-    assert_holds(&payload, read == data);
 }
 
 #[test]
@@ -57,7 +47,7 @@ fn data_of_bits() {
     let bit = [5, 0, 1, 0, 7];
     let read = InfoDataOf::<BitPeer>::parse_with_param(&bit, &InfoKind::Veth);
     let wanted = InfoDataOf::Veth(InfoVethOf::Peer(BitPeer(true)));
-    assert_holds(&bit, read.expect("data") == wanted);
+    assert_parsed(&bit, read, wanted);
 }
 
 /// Asserts that a payload of five bytes is kept as bytes under a kind without a family.
@@ -76,7 +66,7 @@ fn data_without_a_family() {
 
 /// Asserts that a payload is rejected with this error as data of a kind.
 fn assert_error(payload: &[u8], kind: &InfoKind, error: DecodeError) {
-    let found = read_data(payload, kind).err();
+    let found = InfoData::parse_with_param(payload, kind).err();
     assert_equal(&payload, &found, &Some(error));
 }
 
@@ -92,9 +82,10 @@ fn errors_of_data() {
 
 /// Asserts that a payload parses as this data of a port of the kind.
 fn assert_port_data(payload: &[u8], kind: InfoPortKind, data: InfoPortData) {
-    let read = read_port_data(payload, &kind).expect("data");
-    assert_holds(&payload, is_equal(&read, &data));
-    assert_holds(&payload, read == data);
+    let read = read_port_data(payload, &kind);
+    let are_equal = read.as_ref().is_ok_and(|read| is_equal(read, &data));
+    assert_holds(&payload, are_equal);
+    assert_parsed(&payload, read, data);
 }
 
 /// Asserts that a payload of one byte is kept as bytes under a port kind of an unknown name.

@@ -1,11 +1,11 @@
 //! Links of the kind pfcp, whose data is attributes of a family without rows.
 
 use super::assertions::{
-    HEADER_ERROR, assert_built, assert_equal, assert_holds, assert_reads, assert_refused, bytes_of,
-    copied, default_nla, link, nlas, parsed,
+    HEADER_ERROR, assert_built, assert_data, assert_equal, assert_holds, assert_reads,
+    assert_refused, bytes_of, copied, default_nla, link, nlas, parsed,
 };
 use super::worked::{PFCP_ATTRIBUTE, PFCP_EMPTY, PFCP_MARKED, PFCP_NOT_FRAMED, PFCP_SHORT};
-use linkinfo::layers::link::{DecodeError, InfoData, InfoKind, InfoPfcp, LinkInfo, Nlas};
+use linkinfo::layers::link::{InfoData, InfoKind, InfoPfcp, LinkInfo, Nlas};
 
 /// A pfcp link with its data.
 fn pfcp(data: InfoData) -> [LinkInfo; 2] {
@@ -57,21 +57,12 @@ fn writes_bytes_under_pfcp() {
     assert_read_otherwise(&string, pfcp_of_bytes(&payload));
 }
 
-/// Data that bytes, once kept as the data of pfcp, parse as now.
-fn moved(payload: &[u8]) -> Result<InfoData, DecodeError> {
-    InfoData::parse_with_param(payload, &InfoKind::Pfcp)
-}
-
-/// Asserts that bytes, once kept, parse as one attribute now.
-fn assert_moved(payload: &[u8], attribute: InfoData) {
-    let read = moved(payload).expect("data");
-    assert_holds(&payload, read == attribute);
-}
-
+/// Bytes that once were kept as the data of pfcp parse as one attribute, or are rejected.
 #[test]
 fn parses_kept_bytes_under_pfcp() {
     let attribute = kept(0x8001, &[1, 0, 0, 0]);
-    assert_moved(&[8, 0, 1, 0x80, 1, 0, 0, 0], attribute);
-    let error = moved(&[1, 2, 3]).err();
+    let payload = [8, 0, 1, 0x80, 1, 0, 0, 0];
+    assert_data(&payload, InfoKind::Pfcp, attribute);
+    let error = InfoData::parse_with_param(&[1, 2, 3], &InfoKind::Pfcp).err();
     assert_equal(&"three bytes", &error, &Some(HEADER_ERROR));
 }
