@@ -136,7 +136,7 @@ pub(crate) const IP_TUNNEL: &[Entry] = rows! {
     (9, "proto", U8, Word(Words::TunnelProtocol)),
 };
 
-/// `IFLA_IPTUN_*` that are the same of all tunnels over IP.
+/// `IFLA_IPTUN_*` that all tunnels over IP have.
 pub(crate) const TUNNEL: &[Entry] = rows! {
     (1, "link", Le32, Plain),
     (2, "local", Ip, Address),
