@@ -2,6 +2,7 @@
 //! kind chooses.
 #![tactic(auto)]
 
+mod calls;
 mod data;
 mod devices;
 mod difference;

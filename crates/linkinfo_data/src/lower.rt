@@ -3,11 +3,11 @@
 ghost use Rattle.std.specs.Prelude.{None};
 ghost use Rattle.linkinfo_data.specs.LowerData.{lower_data_of, lower_listed, lower_nest};
 
+use crate::calls::{canonical_len, check, listing, read, same, write_canonical};
 use crate::info_data::InfoDataOf;
 use crate::payload_family::PayloadFamily;
-use crate::written::read_nlas;
 use linkinfo_table::lower::{InfoBond, InfoBridge, InfoCan, InfoDsa, InfoHsr, InfoVlan};
-use linkinfo_table::{LinkPeer, list_canonical_len, list_check, list_same, list_write_canonical};
+use linkinfo_table::LinkPeer;
 use nla_frame::{DecodeError, ExactEq, Family, HeaderCount};
 use std::alloc::Global;
 
@@ -35,6 +35,21 @@ impl ExactEq for LowerFamily {
     ghost exact = { Prim.search rules };
 }
 
+/// Matches each family here once: how its data is written in
+/// `calls`.
+macro_rules! of_lower {
+    ($family:expr, $call:ident $given:tt) => {
+        match $family {
+            LowerFamily::Bridge => $call!(list(InfoDataOf::Bridge, InfoBridge, ()) $given),
+            LowerFamily::Vlan => $call!(list(InfoDataOf::Vlan, InfoVlan, ()) $given),
+            LowerFamily::Bond => $call!(list(InfoDataOf::Bond, InfoBond, ()) $given),
+            LowerFamily::Hsr => $call!(list(InfoDataOf::Hsr, InfoHsr, ()) $given),
+            LowerFamily::Can => $call!(list(InfoDataOf::Can, InfoCan, ()) $given),
+            LowerFamily::Dsa => $call!(list(InfoDataOf::Dsa, InfoDsa, ()) $given),
+        }
+    };
+}
+
 impl<P: LinkPeer> PayloadFamily<InfoDataOf<P>> for LowerFamily {
     ghost data_of = { λ family. lower_data_of family };
 
@@ -45,14 +60,7 @@ impl<P: LinkPeer> PayloadFamily<InfoDataOf<P>> for LowerFamily {
     ghost nests = { λ family. lower_nest _ family };
 
     fn listing(self) -> Option<Family> {
-        match self {
-            LowerFamily::Bridge => Some(Family::Bridge),
-            LowerFamily::Vlan => Some(Family::Vlan),
-            LowerFamily::Bond => Some(Family::Bond),
-            LowerFamily::Hsr => Some(Family::Hsr),
-            LowerFamily::Can => Some(Family::Can),
-            LowerFamily::Dsa => Some(Family::Dsa),
-        }
+        of_lower!(self, listing())
     }
 
     fn nested(self) -> Option<(u16, Self)> {
@@ -65,58 +73,23 @@ impl<P: LinkPeer> PayloadFamily<InfoDataOf<P>> for LowerFamily {
         payload: &[u8],
         count: &mut HeaderCount,
     ) -> Result<InfoDataOf<P>, DecodeError> {
-        Ok(match self {
-            LowerFamily::Bridge => InfoDataOf::Bridge(read_nlas(alloc, payload, (), count)?),
-            LowerFamily::Vlan => InfoDataOf::Vlan(read_nlas(alloc, payload, (), count)?),
-            LowerFamily::Bond => InfoDataOf::Bond(read_nlas(alloc, payload, (), count)?),
-            LowerFamily::Hsr => InfoDataOf::Hsr(read_nlas(alloc, payload, (), count)?),
-            LowerFamily::Can => InfoDataOf::Can(read_nlas(alloc, payload, (), count)?),
-            LowerFamily::Dsa => InfoDataOf::Dsa(read_nlas(alloc, payload, (), count)?),
-        })
+        Ok(of_lower!(self, read(alloc, payload, count)))
     }
 
     #[inline(always)]
     fn check(self, payload: &[u8], count: &mut HeaderCount) -> Result<(), DecodeError> {
-        match self {
-            LowerFamily::Bridge => list_check::<InfoBridge>(payload, (), count),
-            LowerFamily::Vlan => list_check::<InfoVlan>(payload, (), count),
-            LowerFamily::Bond => list_check::<InfoBond>(payload, (), count),
-            LowerFamily::Hsr => list_check::<InfoHsr>(payload, (), count),
-            LowerFamily::Can => list_check::<InfoCan>(payload, (), count),
-            LowerFamily::Dsa => list_check::<InfoDsa>(payload, (), count),
-        }
+        of_lower!(self, check(payload, count))
     }
 
     fn same(self, a: &[u8], b: &[u8], count: &mut HeaderCount) -> bool {
-        match self {
-            LowerFamily::Bridge => list_same::<InfoBridge>(a, b, (), count),
-            LowerFamily::Vlan => list_same::<InfoVlan>(a, b, (), count),
-            LowerFamily::Bond => list_same::<InfoBond>(a, b, (), count),
-            LowerFamily::Hsr => list_same::<InfoHsr>(a, b, (), count),
-            LowerFamily::Can => list_same::<InfoCan>(a, b, (), count),
-            LowerFamily::Dsa => list_same::<InfoDsa>(a, b, (), count),
-        }
+        of_lower!(self, same(a, b, count))
     }
 
     fn canonical_len(self, payload: &[u8]) -> Option<usize> {
-        match self {
-            LowerFamily::Bridge => list_canonical_len::<InfoBridge>(payload, ()),
-            LowerFamily::Vlan => list_canonical_len::<InfoVlan>(payload, ()),
-            LowerFamily::Bond => list_canonical_len::<InfoBond>(payload, ()),
-            LowerFamily::Hsr => list_canonical_len::<InfoHsr>(payload, ()),
-            LowerFamily::Can => list_canonical_len::<InfoCan>(payload, ()),
-            LowerFamily::Dsa => list_canonical_len::<InfoDsa>(payload, ()),
-        }
+        of_lower!(self, canonical_len(payload))
     }
 
     fn write_canonical(self, payload: &[u8], buffer: &mut [u8]) -> usize {
-        match self {
-            LowerFamily::Bridge => list_write_canonical::<InfoBridge>(payload, (), buffer),
-            LowerFamily::Vlan => list_write_canonical::<InfoVlan>(payload, (), buffer),
-            LowerFamily::Bond => list_write_canonical::<InfoBond>(payload, (), buffer),
-            LowerFamily::Hsr => list_write_canonical::<InfoHsr>(payload, (), buffer),
-            LowerFamily::Can => list_write_canonical::<InfoCan>(payload, (), buffer),
-            LowerFamily::Dsa => list_write_canonical::<InfoDsa>(payload, (), buffer),
-        }
+        of_lower!(self, write_canonical(payload, buffer))
     }
 }

@@ -3,17 +3,14 @@
 ghost use Rattle.std.specs.Prelude.{None};
 ghost use Rattle.linkinfo_data.specs.PeerData.{peers_data_of, peers_listed, peers_nest};
 
+use crate::calls::{canonical_len, check, listing, read, same, write_canonical};
 use crate::families::DataFamilies;
 use crate::info_data::InfoDataOf;
 use crate::payload_family::PayloadFamily;
-use crate::written::read_nlas;
 use linkinfo_peers::{
     InfoBatAdv, InfoNetkitOf, InfoPfcp, InfoTun, InfoVethOf, InfoVxcanOf, InfoWireguard, InfoWwan,
 };
-use linkinfo_table::{
-    LinkPeer, first_canonical_len, first_check, first_read, first_same, first_write_canonical,
-    list_canonical_len, list_check, list_same, list_write_canonical,
-};
+use linkinfo_table::LinkPeer;
 use nla_frame::{DecodeError, ExactEq, Family, HeaderCount};
 use std::alloc::Global;
 
@@ -45,6 +42,23 @@ impl ExactEq for PeeredFamily {
     ghost exact = { Prim.search rules };
 }
 
+/// Matches each family here once: how its data is written in
+/// `calls`.
+macro_rules! of_peered {
+    ($family:expr, $call:ident $given:tt) => {
+        match $family {
+            PeeredFamily::Tun => $call!(list(InfoDataOf::Tun, InfoTun, ()) $given),
+            PeeredFamily::Veth => $call!(first(InfoDataOf::Veth, InfoVethOf<P>, ()) $given),
+            PeeredFamily::Wireguard => $call!(list(InfoDataOf::Wireguard, InfoWireguard, ()) $given),
+            PeeredFamily::Netkit => $call!(list(InfoDataOf::Netkit, InfoNetkitOf<P>, ()) $given),
+            PeeredFamily::Vxcan => $call!(first(InfoDataOf::Vxcan, InfoVxcanOf<P>, ()) $given),
+            PeeredFamily::BatAdv => $call!(list(InfoDataOf::BatAdv, InfoBatAdv, ()) $given),
+            PeeredFamily::Wwan => $call!(list(InfoDataOf::Wwan, InfoWwan, ()) $given),
+            PeeredFamily::Pfcp => $call!(list(InfoDataOf::Pfcp, InfoPfcp, ()) $given),
+        }
+    };
+}
+
 impl<P: LinkPeer> PayloadFamily<InfoDataOf<P>> for PeeredFamily {
     ghost data_of = { λ family. peers_data_of ⟦<P as DataFamilies>⟧.families family };
 
@@ -55,16 +69,7 @@ impl<P: LinkPeer> PayloadFamily<InfoDataOf<P>> for PeeredFamily {
     ghost nests = { λ family. peers_nest ⟦<P as DataFamilies>⟧.families family };
 
     fn listing(self) -> Option<Family> {
-        match self {
-            PeeredFamily::Tun => Some(Family::Tun),
-            PeeredFamily::Veth => None,
-            PeeredFamily::Wireguard => Some(Family::Wireguard),
-            PeeredFamily::Netkit => Some(Family::Netkit),
-            PeeredFamily::Vxcan => None,
-            PeeredFamily::BatAdv => Some(Family::BatAdv),
-            PeeredFamily::Wwan => Some(Family::Wwan),
-            PeeredFamily::Pfcp => Some(Family::Pfcp),
-        }
+        of_peered!(self, listing())
     }
 
     fn nested(self) -> Option<(u16, Self)> {
@@ -77,68 +82,23 @@ impl<P: LinkPeer> PayloadFamily<InfoDataOf<P>> for PeeredFamily {
         payload: &[u8],
         count: &mut HeaderCount,
     ) -> Result<InfoDataOf<P>, DecodeError> {
-        Ok(match self {
-            PeeredFamily::Tun => InfoDataOf::Tun(read_nlas(alloc, payload, (), count)?),
-            PeeredFamily::Veth => InfoDataOf::Veth(first_read(alloc, payload, (), count)?),
-            PeeredFamily::Wireguard => InfoDataOf::Wireguard(read_nlas(alloc, payload, (), count)?),
-            PeeredFamily::Netkit => InfoDataOf::Netkit(read_nlas(alloc, payload, (), count)?),
-            PeeredFamily::Vxcan => InfoDataOf::Vxcan(first_read(alloc, payload, (), count)?),
-            PeeredFamily::BatAdv => InfoDataOf::BatAdv(read_nlas(alloc, payload, (), count)?),
-            PeeredFamily::Wwan => InfoDataOf::Wwan(read_nlas(alloc, payload, (), count)?),
-            PeeredFamily::Pfcp => InfoDataOf::Pfcp(read_nlas(alloc, payload, (), count)?),
-        })
+        Ok(of_peered!(self, read(alloc, payload, count)))
     }
 
     #[inline(always)]
     fn check(self, payload: &[u8], count: &mut HeaderCount) -> Result<(), DecodeError> {
-        match self {
-            PeeredFamily::Tun => list_check::<InfoTun>(payload, (), count),
-            PeeredFamily::Veth => first_check::<InfoVethOf<P>>(payload, (), count),
-            PeeredFamily::Wireguard => list_check::<InfoWireguard>(payload, (), count),
-            PeeredFamily::Netkit => list_check::<InfoNetkitOf<P>>(payload, (), count),
-            PeeredFamily::Vxcan => first_check::<InfoVxcanOf<P>>(payload, (), count),
-            PeeredFamily::BatAdv => list_check::<InfoBatAdv>(payload, (), count),
-            PeeredFamily::Wwan => list_check::<InfoWwan>(payload, (), count),
-            PeeredFamily::Pfcp => list_check::<InfoPfcp>(payload, (), count),
-        }
+        of_peered!(self, check(payload, count))
     }
 
     fn same(self, a: &[u8], b: &[u8], count: &mut HeaderCount) -> bool {
-        match self {
-            PeeredFamily::Tun => list_same::<InfoTun>(a, b, (), count),
-            PeeredFamily::Veth => first_same::<InfoVethOf<P>>(a, b, (), count),
-            PeeredFamily::Wireguard => list_same::<InfoWireguard>(a, b, (), count),
-            PeeredFamily::Netkit => list_same::<InfoNetkitOf<P>>(a, b, (), count),
-            PeeredFamily::Vxcan => first_same::<InfoVxcanOf<P>>(a, b, (), count),
-            PeeredFamily::BatAdv => list_same::<InfoBatAdv>(a, b, (), count),
-            PeeredFamily::Wwan => list_same::<InfoWwan>(a, b, (), count),
-            PeeredFamily::Pfcp => list_same::<InfoPfcp>(a, b, (), count),
-        }
+        of_peered!(self, same(a, b, count))
     }
 
     fn canonical_len(self, payload: &[u8]) -> Option<usize> {
-        match self {
-            PeeredFamily::Tun => list_canonical_len::<InfoTun>(payload, ()),
-            PeeredFamily::Veth => first_canonical_len::<InfoVethOf<P>>(payload, ()),
-            PeeredFamily::Wireguard => list_canonical_len::<InfoWireguard>(payload, ()),
-            PeeredFamily::Netkit => list_canonical_len::<InfoNetkitOf<P>>(payload, ()),
-            PeeredFamily::Vxcan => first_canonical_len::<InfoVxcanOf<P>>(payload, ()),
-            PeeredFamily::BatAdv => list_canonical_len::<InfoBatAdv>(payload, ()),
-            PeeredFamily::Wwan => list_canonical_len::<InfoWwan>(payload, ()),
-            PeeredFamily::Pfcp => list_canonical_len::<InfoPfcp>(payload, ()),
-        }
+        of_peered!(self, canonical_len(payload))
     }
 
     fn write_canonical(self, payload: &[u8], buffer: &mut [u8]) -> usize {
-        match self {
-            PeeredFamily::Tun => list_write_canonical::<InfoTun>(payload, (), buffer),
-            PeeredFamily::Veth => first_write_canonical::<InfoVethOf<P>>(payload, (), buffer),
-            PeeredFamily::Wireguard => list_write_canonical::<InfoWireguard>(payload, (), buffer),
-            PeeredFamily::Netkit => list_write_canonical::<InfoNetkitOf<P>>(payload, (), buffer),
-            PeeredFamily::Vxcan => first_write_canonical::<InfoVxcanOf<P>>(payload, (), buffer),
-            PeeredFamily::BatAdv => list_write_canonical::<InfoBatAdv>(payload, (), buffer),
-            PeeredFamily::Wwan => list_write_canonical::<InfoWwan>(payload, (), buffer),
-            PeeredFamily::Pfcp => list_write_canonical::<InfoPfcp>(payload, (), buffer),
-        }
+        of_peered!(self, write_canonical(payload, buffer))
     }
 }

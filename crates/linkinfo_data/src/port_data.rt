@@ -10,13 +10,13 @@ ghost use Rattle.linkinfo_data.specs.PortData.{
   port_nest,
 };
 
+use crate::calls::{canonical_len, check, listing, read, same, write_canonical};
 use crate::payload_family::PayloadFamily;
-use crate::written::{list_fit_len, read_nlas, write_list};
+use crate::written::{list_fit_len, write_list};
 use linkinfo_devices::InfoVrfPort;
 use linkinfo_numbers::{IFLA_INFO_SLAVE_DATA, InfoPortKind, PortTag};
 use linkinfo_peers::InfoTeamPort;
 use linkinfo_table::lower::{InfoBondPort, InfoBridgePort};
-use linkinfo_table::{list_canonical_len, list_check, list_same, list_write_canonical};
 use nla_frame::{
     Bytes, DecodeError, ExactEq, Family, HeaderCount, Nla, Nlas, fitting, write_bytes,
 };
@@ -72,6 +72,20 @@ pub enum InfoPortData {
     Other(Bytes),
 }
 
+/// Matches each family of ports once: how its data is written in
+/// `calls`.
+macro_rules! of_port {
+    ($family:expr, $call:ident $given:tt) => {
+        match $family {
+            PortFamily::Bond => $call!(list(InfoPortData::BondPort, InfoBondPort, ()) $given),
+            PortFamily::Bridge => $call!(list(InfoPortData::BridgePort, InfoBridgePort, ()) $given),
+            PortFamily::Vrf => $call!(list(InfoPortData::VrfPort, InfoVrfPort, ()) $given),
+            PortFamily::Team => $call!(list(InfoPortData::TeamPort, InfoTeamPort, ()) $given),
+            PortFamily::Raw => $call!(bytes(InfoPortData::Other) $given),
+        }
+    };
+}
+
 impl PayloadFamily<InfoPortData> for PortFamily {
     ghost data_of = { port_data_of };
 
@@ -82,13 +96,7 @@ impl PayloadFamily<InfoPortData> for PortFamily {
     ghost nests = { port_nest };
 
     fn listing(self) -> Option<Family> {
-        match self {
-            PortFamily::Bond => Some(Family::BondPort),
-            PortFamily::Bridge => Some(Family::BridgePort),
-            PortFamily::Vrf => Some(Family::Vrf),
-            PortFamily::Team => Some(Family::TeamPort),
-            PortFamily::Raw => None,
-        }
+        of_port!(self, listing())
     }
 
     fn nested(self) -> Option<(u16, Self)> {
@@ -101,54 +109,24 @@ impl PayloadFamily<InfoPortData> for PortFamily {
         payload: &[u8],
         count: &mut HeaderCount,
     ) -> Result<InfoPortData, DecodeError> {
-        Ok(match self {
-            PortFamily::Bond => InfoPortData::BondPort(read_nlas(alloc, payload, (), count)?),
-            PortFamily::Bridge => InfoPortData::BridgePort(read_nlas(alloc, payload, (), count)?),
-            PortFamily::Vrf => InfoPortData::VrfPort(read_nlas(alloc, payload, (), count)?),
-            PortFamily::Team => InfoPortData::TeamPort(read_nlas(alloc, payload, (), count)?),
-            PortFamily::Raw => InfoPortData::Other(Bytes::copy_of(alloc, payload)?),
-        })
+        Ok(of_port!(self, read(alloc, payload, count)))
     }
 
     #[inline(always)]
     fn check(self, payload: &[u8], count: &mut HeaderCount) -> Result<(), DecodeError> {
-        match self {
-            PortFamily::Bond => list_check::<InfoBondPort>(payload, (), count),
-            PortFamily::Bridge => list_check::<InfoBridgePort>(payload, (), count),
-            PortFamily::Vrf => list_check::<InfoVrfPort>(payload, (), count),
-            PortFamily::Team => list_check::<InfoTeamPort>(payload, (), count),
-            PortFamily::Raw => Ok(()),
-        }
+        of_port!(self, check(payload, count))
     }
 
     fn same(self, a: &[u8], b: &[u8], count: &mut HeaderCount) -> bool {
-        match self {
-            PortFamily::Bond => list_same::<InfoBondPort>(a, b, (), count),
-            PortFamily::Bridge => list_same::<InfoBridgePort>(a, b, (), count),
-            PortFamily::Vrf => list_same::<InfoVrfPort>(a, b, (), count),
-            PortFamily::Team => list_same::<InfoTeamPort>(a, b, (), count),
-            PortFamily::Raw => a == b,
-        }
+        of_port!(self, same(a, b, count))
     }
 
     fn canonical_len(self, payload: &[u8]) -> Option<usize> {
-        match self {
-            PortFamily::Bond => list_canonical_len::<InfoBondPort>(payload, ()),
-            PortFamily::Bridge => list_canonical_len::<InfoBridgePort>(payload, ()),
-            PortFamily::Vrf => list_canonical_len::<InfoVrfPort>(payload, ()),
-            PortFamily::Team => list_canonical_len::<InfoTeamPort>(payload, ()),
-            PortFamily::Raw => fitting(payload.len()),
-        }
+        of_port!(self, canonical_len(payload))
     }
 
     fn write_canonical(self, payload: &[u8], buffer: &mut [u8]) -> usize {
-        match self {
-            PortFamily::Bond => list_write_canonical::<InfoBondPort>(payload, (), buffer),
-            PortFamily::Bridge => list_write_canonical::<InfoBridgePort>(payload, (), buffer),
-            PortFamily::Vrf => list_write_canonical::<InfoVrfPort>(payload, (), buffer),
-            PortFamily::Team => list_write_canonical::<InfoTeamPort>(payload, (), buffer),
-            PortFamily::Raw => write_bytes(payload, buffer),
-        }
+        of_port!(self, write_canonical(payload, buffer))
     }
 }
 
