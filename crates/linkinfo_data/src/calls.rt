@@ -1,22 +1,10 @@
-//! What each call of `PayloadFamily` does with a payload of one family. A family is written as
-//! `list(VARIANT, ATTRIBUTE, CONTEXT)`, if its data is a list of attributes, as
-//! `first(VARIANT, ATTRIBUTE, CONTEXT)`, if it is the first attribute alone, or as `bytes(VARIANT)`.
+//! The bodies of the calls of `PayloadFamily` for the data of one family.
+//!
+//! That data is written `list(VARIANT, ATTRIBUTE, CONTEXT)`, if it is a list of attributes of this
+//! type, parsed with this context, `first(VARIANT, ATTRIBUTE, CONTEXT)`, if it is the first
+//! attribute alone, or `bytes(VARIANT)`.
 
-/// The family of the attributes.
-macro_rules! listing {
-    (list($variant:path, $nla:ty, $ctx:expr) ()) => {{
-        let _ = $ctx;
-        Some(<$nla as linkinfo_table::LinkFamily>::FAMILY)
-    }};
-    (first($variant:path, $nla:ty, $ctx:expr) ()) => {
-        None
-    };
-    (bytes($variant:path) ()) => {
-        None
-    };
-}
-
-/// The data.
+/// Parses a payload.
 macro_rules! read {
     (list($variant:path, $nla:ty, $ctx:expr) ($alloc:expr, $payload:expr, $count:expr)) => {
         $variant(crate::written::read_nlas($alloc, $payload, $ctx, $count)?)
@@ -29,7 +17,7 @@ macro_rules! read {
     };
 }
 
-/// Whether the payload is accepted.
+/// Validates a payload.
 macro_rules! check {
     (list($variant:path, $nla:ty, $ctx:expr) ($payload:expr, $count:expr)) => {
         linkinfo_table::list_check::<$nla>($payload, $ctx, $count)
@@ -42,7 +30,7 @@ macro_rules! check {
     };
 }
 
-/// Whether two payloads are equivalent.
+/// Compares two payloads.
 macro_rules! same {
     (list($variant:path, $nla:ty, $ctx:expr) ($a:expr, $b:expr, $count:expr)) => {
         linkinfo_table::list_same::<$nla>($a, $b, $ctx, $count)
@@ -55,7 +43,7 @@ macro_rules! same {
     };
 }
 
-/// The length of the canonical payload.
+/// The length of the canonical payload that a payload parses as.
 macro_rules! canonical_len {
     (list($variant:path, $nla:ty, $ctx:expr) ($payload:expr)) => {
         linkinfo_table::list_canonical_len::<$nla>($payload, $ctx)
@@ -68,7 +56,7 @@ macro_rules! canonical_len {
     };
 }
 
-/// Writes the canonical payload.
+/// Writes the canonical payload that a payload parses as.
 macro_rules! write_canonical {
     (list($variant:path, $nla:ty, $ctx:expr) ($payload:expr, $buffer:expr)) => {
         linkinfo_table::list_write_canonical::<$nla>($payload, $ctx, $buffer)
@@ -81,4 +69,8 @@ macro_rules! write_canonical {
     };
 }
 
-pub(crate) use {canonical_len, check, listing, read, same, write_canonical};
+pub(crate) use canonical_len;
+pub(crate) use check;
+pub(crate) use read;
+pub(crate) use same;
+pub(crate) use write_canonical;

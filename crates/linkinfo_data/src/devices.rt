@@ -7,7 +7,7 @@ ghost use Rattle.linkinfo_data.specs.DeviceData.{
   devices_nested_in,
 };
 
-use crate::calls::{canonical_len, check, listing, read, same, write_canonical};
+use crate::calls::{canonical_len, check, read, same, write_canonical};
 use crate::info_data::InfoDataOf;
 use crate::payload_family::PayloadFamily;
 use linkinfo_devices::{
@@ -50,8 +50,7 @@ impl ExactEq for DeviceFamily {
     ghost exact = { Prim.search rules };
 }
 
-/// Matches each family of devices once: how its data is written in
-/// `calls`.
+/// Matches a family of devices, and expands `$call!`, of `calls`, for its data.
 macro_rules! of_device {
     ($family:expr, $call:ident $given:tt) => {
         match $family {
@@ -78,7 +77,17 @@ impl<P: LinkPeer> PayloadFamily<InfoDataOf<P>> for DeviceFamily {
     ghost nests = { λ family. devices_nest _ family };
 
     fn listing(self) -> Option<Family> {
-        of_device!(self, listing())
+        match self {
+            DeviceFamily::IpVlan => Some(Family::IpVlan),
+            DeviceFamily::IpVtap => Some(Family::IpVtap),
+            DeviceFamily::MacVlan(_) => Some(Family::MacVlan),
+            DeviceFamily::MacVtap(_) => Some(Family::MacVtap),
+            DeviceFamily::Vrf => Some(Family::Vrf),
+            DeviceFamily::Ipoib => Some(Family::Ipoib),
+            DeviceFamily::Xfrm => Some(Family::Xfrm),
+            DeviceFamily::MacSec => Some(Family::MacSec),
+            DeviceFamily::RmNet => Some(Family::RmNet),
+        }
     }
 
     fn nested(self) -> Option<(u16, Self)> {

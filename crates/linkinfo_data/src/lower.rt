@@ -3,11 +3,11 @@
 ghost use Rattle.std.specs.Prelude.{None};
 ghost use Rattle.linkinfo_data.specs.LowerData.{lower_data_of, lower_listed, lower_nest};
 
-use crate::calls::{canonical_len, check, listing, read, same, write_canonical};
+use crate::calls::{canonical_len, check, read, same, write_canonical};
 use crate::info_data::InfoDataOf;
 use crate::payload_family::PayloadFamily;
-use linkinfo_table::lower::{InfoBond, InfoBridge, InfoCan, InfoDsa, InfoHsr, InfoVlan};
 use linkinfo_table::LinkPeer;
+use linkinfo_table::lower::{InfoBond, InfoBridge, InfoCan, InfoDsa, InfoHsr, InfoVlan};
 use nla_frame::{DecodeError, ExactEq, Family, HeaderCount};
 use std::alloc::Global;
 
@@ -35,8 +35,7 @@ impl ExactEq for LowerFamily {
     ghost exact = { Prim.search rules };
 }
 
-/// Matches each family here once: how its data is written in
-/// `calls`.
+/// Matches a family, and expands `$call!`, of `calls`, for its data.
 macro_rules! of_lower {
     ($family:expr, $call:ident $given:tt) => {
         match $family {
@@ -60,7 +59,14 @@ impl<P: LinkPeer> PayloadFamily<InfoDataOf<P>> for LowerFamily {
     ghost nests = { λ family. lower_nest _ family };
 
     fn listing(self) -> Option<Family> {
-        of_lower!(self, listing())
+        match self {
+            LowerFamily::Bridge => Some(Family::Bridge),
+            LowerFamily::Vlan => Some(Family::Vlan),
+            LowerFamily::Bond => Some(Family::Bond),
+            LowerFamily::Hsr => Some(Family::Hsr),
+            LowerFamily::Can => Some(Family::Can),
+            LowerFamily::Dsa => Some(Family::Dsa),
+        }
     }
 
     fn nested(self) -> Option<(u16, Self)> {

@@ -3,7 +3,7 @@
 ghost use Rattle.std.specs.Prelude.{None};
 ghost use Rattle.linkinfo_data.specs.PeerData.{peers_data_of, peers_listed, peers_nest};
 
-use crate::calls::{canonical_len, check, listing, read, same, write_canonical};
+use crate::calls::{canonical_len, check, read, same, write_canonical};
 use crate::families::DataFamilies;
 use crate::info_data::InfoDataOf;
 use crate::payload_family::PayloadFamily;
@@ -42,14 +42,15 @@ impl ExactEq for PeeredFamily {
     ghost exact = { Prim.search rules };
 }
 
-/// Matches each family here once: how its data is written in
-/// `calls`.
+/// Matches a family, and expands `$call!`, of `calls`, for its data.
 macro_rules! of_peered {
     ($family:expr, $call:ident $given:tt) => {
         match $family {
             PeeredFamily::Tun => $call!(list(InfoDataOf::Tun, InfoTun, ()) $given),
             PeeredFamily::Veth => $call!(first(InfoDataOf::Veth, InfoVethOf<P>, ()) $given),
-            PeeredFamily::Wireguard => $call!(list(InfoDataOf::Wireguard, InfoWireguard, ()) $given),
+            PeeredFamily::Wireguard => {
+                $call!(list(InfoDataOf::Wireguard, InfoWireguard, ()) $given)
+            }
             PeeredFamily::Netkit => $call!(list(InfoDataOf::Netkit, InfoNetkitOf<P>, ()) $given),
             PeeredFamily::Vxcan => $call!(first(InfoDataOf::Vxcan, InfoVxcanOf<P>, ()) $given),
             PeeredFamily::BatAdv => $call!(list(InfoDataOf::BatAdv, InfoBatAdv, ()) $given),
@@ -69,7 +70,16 @@ impl<P: LinkPeer> PayloadFamily<InfoDataOf<P>> for PeeredFamily {
     ghost nests = { λ family. peers_nest ⟦<P as DataFamilies>⟧.families family };
 
     fn listing(self) -> Option<Family> {
-        of_peered!(self, listing())
+        match self {
+            PeeredFamily::Tun => Some(Family::Tun),
+            PeeredFamily::Veth => None,
+            PeeredFamily::Wireguard => Some(Family::Wireguard),
+            PeeredFamily::Netkit => Some(Family::Netkit),
+            PeeredFamily::Vxcan => None,
+            PeeredFamily::BatAdv => Some(Family::BatAdv),
+            PeeredFamily::Wwan => Some(Family::Wwan),
+            PeeredFamily::Pfcp => Some(Family::Pfcp),
+        }
     }
 
     fn nested(self) -> Option<(u16, Self)> {

@@ -10,7 +10,7 @@ ghost use Rattle.linkinfo_data.specs.PortData.{
   port_nest,
 };
 
-use crate::calls::{canonical_len, check, listing, read, same, write_canonical};
+use crate::calls::{canonical_len, check, read, same, write_canonical};
 use crate::payload_family::PayloadFamily;
 use crate::written::{list_fit_len, write_list};
 use linkinfo_devices::InfoVrfPort;
@@ -72,8 +72,7 @@ pub enum InfoPortData {
     Other(Bytes),
 }
 
-/// Matches each family of ports once: how its data is written in
-/// `calls`.
+/// Matches a family of ports, and expands `$call!`, of `calls`, for its data.
 macro_rules! of_port {
     ($family:expr, $call:ident $given:tt) => {
         match $family {
@@ -96,7 +95,13 @@ impl PayloadFamily<InfoPortData> for PortFamily {
     ghost nests = { port_nest };
 
     fn listing(self) -> Option<Family> {
-        of_port!(self, listing())
+        match self {
+            PortFamily::Bond => Some(Family::BondPort),
+            PortFamily::Bridge => Some(Family::BridgePort),
+            PortFamily::Vrf => Some(Family::Vrf),
+            PortFamily::Team => Some(Family::TeamPort),
+            PortFamily::Raw => None,
+        }
     }
 
     fn nested(self) -> Option<(u16, Self)> {

@@ -3,7 +3,7 @@
 ghost use Rattle.std.specs.Prelude.{None};
 ghost use Rattle.linkinfo_data.specs.TunnelData.{tunnels_data_of, tunnels_listed, tunnels_nest};
 
-use crate::calls::{canonical_len, check, listing, read, same, write_canonical};
+use crate::calls::{canonical_len, check, read, same, write_canonical};
 use crate::info_data::InfoDataOf;
 use crate::payload_family::PayloadFamily;
 use linkinfo_numbers::KindTag;
@@ -70,15 +70,16 @@ impl ExactEq for TunnelFamily {
         & tt) };
 }
 
-/// Matches each family of tunnels once: how its data is written in
-/// `calls`.
+/// Matches a family of tunnels, and expands `$call!`, of `calls`, for its data.
 macro_rules! of_tunnel {
     ($family:expr, $call:ident $given:tt) => {
         match $family {
             TunnelFamily::Vxlan => $call!(list(InfoDataOf::Vxlan, InfoVxlan, ()) $given),
             TunnelFamily::GreTap => $call!(list(InfoDataOf::GreTap, InfoGre, ()) $given),
             TunnelFamily::GreTap6 => $call!(list(InfoDataOf::GreTap6, InfoGre6, ()) $given),
-            TunnelFamily::IpTunnel(tag) => $call!(list(InfoDataOf::IpTunnel, InfoIpTunnel, tag) $given),
+            TunnelFamily::IpTunnel(tag) => {
+                $call!(list(InfoDataOf::IpTunnel, InfoIpTunnel, tag) $given)
+            }
             TunnelFamily::GreTun => $call!(list(InfoDataOf::GreTun, InfoGre, ()) $given),
             TunnelFamily::GreTun6 => $call!(list(InfoDataOf::GreTun6, InfoGre6, ()) $given),
             TunnelFamily::Vti => $call!(list(InfoDataOf::Vti, InfoVti, ()) $given),
@@ -102,7 +103,21 @@ impl<P: LinkPeer> PayloadFamily<InfoDataOf<P>> for TunnelFamily {
     ghost nests = { λ family. tunnels_nest _ family };
 
     fn listing(self) -> Option<Family> {
-        of_tunnel!(self, listing())
+        match self {
+            TunnelFamily::Vxlan => Some(Family::Vxlan),
+            TunnelFamily::GreTap => Some(Family::Gre),
+            TunnelFamily::GreTap6 => Some(Family::Gre6),
+            TunnelFamily::IpTunnel(_) => Some(Family::IpTunnel),
+            TunnelFamily::GreTun => Some(Family::Gre),
+            TunnelFamily::GreTun6 => Some(Family::Gre6),
+            TunnelFamily::Vti => Some(Family::Vti),
+            TunnelFamily::Gtp => Some(Family::Gtp),
+            TunnelFamily::Geneve => Some(Family::Geneve),
+            TunnelFamily::Amt => Some(Family::Amt),
+            TunnelFamily::BareUdp => Some(Family::BareUdp),
+            TunnelFamily::ErSpan => Some(Family::Gre),
+            TunnelFamily::Ip6ErSpan => Some(Family::Gre6),
+        }
     }
 
     fn nested(self) -> Option<(u16, Self)> {
