@@ -8,8 +8,12 @@ from .crates import BadEdit
 from .rooms import check, room_for
 from .tally import Tally
 
-# Functions that are proved unchanged at the end of a lane.
+# How many functions are proved unchanged at the end of a lane, if it has more edits than FEW; all
+# functions of a lane with fewer.
 SAMPLE = 5
+FEW = 30
+# Crates with a function that is not proved with half of a search's counts.
+NEED_WHOLE_COUNTS = {"linkinfo_view"}
 
 
 def reached(path, folder):
@@ -70,13 +74,16 @@ class Lane:
         self.folder, self.top = room_for(crates, crate, top, stamps), top
         # Right after `rt ci` the copy has no kept work: only the edits' functions are checked.
         self.by_function, self.tally = bool(stamps), Tally(crate)
+        # A search for a goal that is false ends at its counts: half of them are half of the time.
+        # A proof with them is a proof; that correct bodies are proved with them, `try_all` shows.
+        self.flags = [] if crate in NEED_WHOLE_COUNTS else ["--margin"]
 
     def check(self, texts, edits):
         """Checks with these texts: the crate, or only the functions that must reject these edits. A
         check cannot be limited to an impl."""
         names = [it.function for it in edits]
         is_limited = self.by_function and not any(names_impl(it) for it in edits)
-        said = check(self.folder, texts, names if is_limited else ())
+        said = check(self.folder, texts, self.flags, names if is_limited else ())
         self.tally.checks += 1
         self.tally.seconds += said.seconds
         return said
@@ -124,13 +131,14 @@ class Lane:
             tally.failed(edit, f"NOT REFUSED by its function: {line}{proved}")
 
     def try_all(self, edits, draw):
-        """Tries all edits, and then proves a drawn sample of their functions unchanged over the
-        same kept work."""
+        """Tries all edits, and then proves their functions unchanged over the same kept work: all
+        of them if they are few, else a drawn sample."""
         for kind in sorted({it.kind() for it in edits}):
             for edit in self.try_together([it for it in edits if it.kind() == kind]):
                 self.try_alone(edit)
         sample = [it for it in edits if not names_impl(it)]
-        sample = draw.sample(sample, min(SAMPLE, len(sample)))
+        if len(sample) > FEW:
+            sample = draw.sample(sample, SAMPLE)
         if not self.check({}, sample).is_proved:
             told = ", ".join(it.function for it in sample) or "the crate"
             told = f"not proved unchanged after the mutants: {told}"
