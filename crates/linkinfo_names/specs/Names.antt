@@ -67,7 +67,7 @@ names_of _ = []
 -- the name in the row of a type, if there is one
 abbrev pub named : List (ℕ × List ℕ) → ℕ → Option (List ℕ)
 named [] number = None
-named (row ∷ rows) number = if number == row.0 then Some row.1 else named rows number
+named (row ∷ more) number = if number == row.0 then Some row.1 else named more number
 
 abbrev pub attribute_name : Family → ℕ → Option (List ℕ)
 attribute_name f number = named (names_of f) number
