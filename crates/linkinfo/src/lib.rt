@@ -110,6 +110,7 @@ pub use nla_frame::fitting;
 // Laws, by layer: functions without code, each for its contract. Those of the list are `laws`.
 pub use linkinfo_data::laws as data_laws;
 pub use linkinfo_devices::laws as device_laws;
+pub use linkinfo_names::laws as name_laws;
 pub use linkinfo_numbers::laws as number_laws;
 pub use linkinfo_peers::laws as peer_laws;
 pub use linkinfo_shapes::laws as shape_laws;

@@ -2,7 +2,9 @@
 //! error says of it.
 #![tactic(auto)]
 
+mod entries;
 mod explanation;
+pub mod laws;
 mod names;
 
 pub use explanation::{Explanation, problem};

@@ -1,6 +1,7 @@
 //! Names and sentences for people: the name that the kernel gives to an attribute, and what an
 //! error says of it.
 
+mod entries;
 mod explanation;
 mod names;
 
