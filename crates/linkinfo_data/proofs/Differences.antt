@@ -41,28 +41,15 @@ use Rattle.nla_frame.specs.declared.error.DecodeError.{DecodeError}
 use Rattle.nla_frame.specs.declared.error.Family.{Family}
 use Rattle.linkinfo_table.proofs.Lasts.{moved, stands_within}
 use Rattle.linkinfo_table.specs.Last.{StandsIn, attributes_of, placed_from}
-use Rattle.linkinfo_table.specs.Lists.{◌>>=◌, alike_pairs, alike_under, values_under}
+use Rattle.linkinfo_table.specs.Lists.{◌>>=◌, alike_under, values_under}
 use Rattle.linkinfo_table.specs.declared.last.PlacedNla.{PlacedNla}
-use Rattle.linkinfo_data.specs.Difference.{
-  IsWithin,
-  differ,
-  error_offset,
-  family_inside,
-  family_inside_both,
-}
+use Rattle.linkinfo_data.specs.Difference.{IsWithin, error_offset, family_inside}
+use Rattle.linkinfo_data.specs.Difference.{family_inside_both}
 use Rattle.linkinfo_data.specs.Difference.{first_or, inner_difference, list_difference, list_error}
 use Rattle.linkinfo_data.specs.Difference.{nested_difference, nested_error, own_error}
 use Rattle.linkinfo_data.specs.Difference.{pair_difference, pairs_difference, payload_error}
 use Rattle.linkinfo_data.specs.Difference.{payloads_difference, stays}
-use Rattle.linkinfo_data.specs.Listed.{
-  IsListed,
-  IsNest,
-  IsNested,
-  KeepsListing,
-  Nests,
-  accepted_under,
-}
-use Rattle.linkinfo_data.specs.Listed.{each_accepted}
+use Rattle.linkinfo_data.specs.Listed.{IsListed, IsNested, KeepsListing, Nests, accepted_under}
 use Rattle.linkinfo_data.specs.Listing.{
   HoldsLists,
   HoldsNone,

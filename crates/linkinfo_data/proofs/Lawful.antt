@@ -2,15 +2,16 @@
 use Rattle.std.specs.Prelude.{◌≡◌, ℕ, List, [], Some, refl}
 use Rattle.std.specs.Prelude.{◌↔◌, true}
 use denote.RattleType.{RattleType}
-use Rattle.nla_frame.specs.Attribute.{IsBytes}
+use Rattle.nla_frame.specs.Attribute.{Attribute, IsBytes}
 use Rattle.nla_frame.specs.NlaItems.{nla_items}
+use Rattle.nla_frame.specs.declared.default_nla.DefaultNla.{DefaultNla}
 use Rattle.nla_frame.specs.declared.error.Family.TheVariants as family
 use Rattle.nla_frame.specs.declared.error.Family.{Family}
 use Rattle.linkinfo_numbers.specs.declared.tags.KindTag.{KindTag}
 use Rattle.linkinfo_table.specs.ByRows.{members_by_rows, rows_are_family, rows_name}
 use Rattle.linkinfo_table.specs.ByRows.{rows_name_first, table_is_family, table_names}
 use Rattle.linkinfo_table.specs.Conditions.{opaque_attribute}
-use Rattle.linkinfo_table.specs.FamilyRows.{RowOwes}
+use Rattle.linkinfo_table.specs.FamilyRows.{EachKeeps, FamilyRow, IsUnnested, PlainRow, RowOwes}
 use Rattle.linkinfo_table.specs.FamilyRows.{lookup_of, row_of, table_row}
 use Rattle.linkinfo_table.specs.ErrorNames.{EachNames, names_list}
 use Rattle.linkinfo_table.specs.FlatLaws.{none_inside}
@@ -23,7 +24,6 @@ use Rattle.linkinfo_table.specs.declared.opaque.Opaque.TheVariants as opaque
 use Rattle.linkinfo_table.specs.declared.opaque.Opaque.{Opaque}
 use Rattle.linkinfo_devices.specs.Ipoib.{ipoib_attribute, ipoib_keeps, ipoib_rows}
 use Rattle.linkinfo_devices.specs.Ipvlan.{ip_vlan_attribute, ip_vlan_keeps, ip_vlan_rows}
-use Rattle.linkinfo_devices.specs.Ipvtap.{ip_vtap_attribute, ip_vtap_keeps, ip_vtap_rows}
 use Rattle.linkinfo_devices.specs.Macsec.{mac_sec_attribute, mac_sec_keeps, mac_sec_rows}
 use Rattle.linkinfo_devices.specs.Macvlan.{mac_vlan_attribute, mac_vlan_keep, mac_vlan_owes}
 use Rattle.linkinfo_devices.specs.Macvlan.{mac_vlan_rows, mac_vlan_says}
@@ -34,8 +34,7 @@ use Rattle.linkinfo_devices.specs.Rmnet.{rm_net_attribute, rm_net_keeps, rm_net_
 use Rattle.linkinfo_devices.specs.Vrf.{vrf_attribute, vrf_keeps, vrf_rows}
 use Rattle.linkinfo_devices.specs.Xfrm.{xfrm_attribute, xfrm_keeps, xfrm_rows}
 use Rattle.linkinfo_devices.specs.declared.ipoib.InfoIpoib.TheVariants as ipoib
-use Rattle.linkinfo_devices.specs.declared.ipvlan.InfoIpVlan.TheVariants as ip_vlan
-use Rattle.linkinfo_devices.specs.declared.ipvtap.InfoIpVtap.TheVariants as ip_vtap
+use Rattle.linkinfo_devices.specs.declared.ipvlan.InfoIpVlanOf.TheVariants as ip_vlan
 use Rattle.linkinfo_devices.specs.declared.macsec.InfoMacSec.TheVariants as mac_sec
 use Rattle.linkinfo_devices.specs.declared.macvlan.InfoMacVlan as macvlan
 use Rattle.linkinfo_devices.specs.declared.macvtap.InfoMacVtap as macvtap
@@ -62,264 +61,182 @@ use Rattle.linkinfo_tunnels.specs.declared.ip_tunnel.InfoIpTunnel.TheVariants as
 use Rattle.linkinfo_tunnels.specs.declared.vti.InfoVti.TheVariants as vti
 use Rattle.linkinfo_tunnels.specs.declared.vxlan.InfoVxlan.TheVariants as vxlan
 use Rattle.linkinfo_peers.specs.Batadv.{batadv_attribute, batadv_keeps, batadv_rows}
-use Rattle.linkinfo_peers.specs.Netkit.{netkit_attribute, netkit_keeps, netkit_plain, netkit_rows}
-use Rattle.linkinfo_peers.specs.PeerRows.{peer_owes, peer_unnested}
-use Rattle.linkinfo_peers.specs.Veth.{veth_attribute, veth_keeps, veth_plain, veth_rows}
-use Rattle.linkinfo_peers.specs.Vxcan.{vxcan_attribute, vxcan_rows}
+use Rattle.linkinfo_peers.specs.PeerRows.{peer_owes, peer_rows, peer_unnested}
 use Rattle.linkinfo_peers.specs.Wwan.{wwan_attribute, wwan_keeps, wwan_rows}
 use Rattle.linkinfo_peers.specs.declared.batadv.InfoBatAdv.TheVariants as batadv
-use Rattle.linkinfo_peers.specs.declared.netkit.InfoNetkitOf.TheVariants as netkit
-use Rattle.linkinfo_peers.specs.declared.veth.InfoVethOf.TheVariants as veth
-use Rattle.linkinfo_peers.specs.declared.vxcan.InfoVxcanOf.TheVariants as vxcan
 use Rattle.linkinfo_peers.specs.declared.wwan.InfoWwan.TheVariants as wwan
+use Rattle.linkinfo_data.specs.Plain.{plain}
 
--- ---- ipvlan
+-- ---- ipvlan and ipvtap
 
-pub ip_vlan_is : IsFamily
-    (members_by_rows family.IpVlan (λ d. ip_vlan.Other d) ip_vlan_attribute
+pub ip_vlan_is : {tap : ℕ} (f : Family) → IsFamily
+    (members_by_rows f (λ d. ip_vlan.Other d) (ip_vlan_attribute {tap = tap})
     (λ n. table_row ip_vlan_rows n) (λ _. 0))
-ip_vlan_is = table_is_family family.IpVlan
-    (λ d. ip_vlan.Other d) ip_vlan_attribute ip_vlan_rows ip_vlan_keeps (λ _. refl)
+ip_vlan_is f = table_is_family f
+    (λ d. ip_vlan.Other d) ip_vlan_attribute ip_vlan_rows (ip_vlan_keeps _) (λ _. refl)
 
-pub ip_vlan_names : (s : List ℕ) → EachNames family.IpVlan
-    (values (meaning_in family.IpVlan (λ d. ip_vlan.Other d)
-    (λ n. row_of (table_row ip_vlan_rows n))) (nla_items s))
-ip_vlan_names s = table_names family.IpVlan
-    (λ d. ip_vlan.Other d) ip_vlan_attribute ip_vlan_rows ip_vlan_keeps s
-
--- ---- ipvtap
-
-pub ip_vtap_is : IsFamily
-    (members_by_rows family.IpVtap (λ d. ip_vtap.Other d) ip_vtap_attribute
-    (λ n. table_row ip_vtap_rows n) (λ _. 0))
-ip_vtap_is = table_is_family family.IpVtap
-    (λ d. ip_vtap.Other d) ip_vtap_attribute ip_vtap_rows ip_vtap_keeps (λ _. refl)
-
-pub ip_vtap_names : (s : List ℕ) → EachNames family.IpVtap
-    (values (meaning_in family.IpVtap (λ d. ip_vtap.Other d)
-    (λ n. row_of (table_row ip_vtap_rows n))) (nla_items s))
-ip_vtap_names s = table_names family.IpVtap
-    (λ d. ip_vtap.Other d) ip_vtap_attribute ip_vtap_rows ip_vtap_keeps s
+pub ip_vlan_names : {tap : ℕ} (f : Family) (s : List ℕ) → EachNames f
+    (values (meaning_in f (λ d. ip_vlan.Other d)
+    (λ n. row_of (table_row (ip_vlan_rows {tap = tap}) n))) (nla_items s))
+ip_vlan_names f s = table_names f
+    (λ d. ip_vlan.Other d) ip_vlan_attribute ip_vlan_rows (ip_vlan_keeps _) s
 
 -- ---- vrf
 
-pub vrf_is : IsFamily
-    (members_by_rows family.Vrf (λ d. vrf.Other d) vrf_attribute (λ n. table_row vrf_rows n)
-    (λ _. 0))
+pub vrf_is : IsFamily plain.vrf
 vrf_is = table_is_family family.Vrf (λ d. vrf.Other d) vrf_attribute vrf_rows vrf_keeps (λ _. refl)
 
-pub vrf_names : (s : List ℕ) → EachNames family.Vrf
-    (values (meaning_in family.Vrf (λ d. vrf.Other d) (λ n. row_of (table_row vrf_rows n)))
-    (nla_items s))
+pub vrf_names : (s : List ℕ) → EachNames family.Vrf (values plain.vrf.meaning (nla_items s))
 vrf_names s = table_names family.Vrf (λ d. vrf.Other d) vrf_attribute vrf_rows vrf_keeps s
 
 -- ---- ipoib
 
-pub ipoib_is : IsFamily
-    (members_by_rows family.Ipoib (λ d. ipoib.Other d) ipoib_attribute
-    (λ n. table_row ipoib_rows n) (λ _. 0))
+pub ipoib_is : IsFamily plain.ipoib
 ipoib_is = table_is_family family.Ipoib (λ d. ipoib.Other d) ipoib_attribute ipoib_rows ipoib_keeps
     (λ _. refl)
 
-pub ipoib_names : (s : List ℕ) → EachNames family.Ipoib
-    (values (meaning_in family.Ipoib (λ d. ipoib.Other d) (λ n. row_of (table_row ipoib_rows n)))
-    (nla_items s))
+pub ipoib_names : (s : List ℕ) → EachNames family.Ipoib (values plain.ipoib.meaning (nla_items s))
 ipoib_names s = table_names family.Ipoib
     (λ d. ipoib.Other d) ipoib_attribute ipoib_rows ipoib_keeps s
 
 -- ---- xfrm
 
-pub xfrm_is : IsFamily
-    (members_by_rows family.Xfrm (λ d. xfrm.Other d) xfrm_attribute (λ n. table_row xfrm_rows n)
-    (λ _. 0))
+pub xfrm_is : IsFamily plain.xfrm
 xfrm_is = table_is_family family.Xfrm (λ d. xfrm.Other d) xfrm_attribute xfrm_rows xfrm_keeps
     (λ _. refl)
 
-pub xfrm_names : (s : List ℕ) → EachNames family.Xfrm
-    (values (meaning_in family.Xfrm (λ d. xfrm.Other d) (λ n. row_of (table_row xfrm_rows n)))
-    (nla_items s))
+pub xfrm_names : (s : List ℕ) → EachNames family.Xfrm (values plain.xfrm.meaning (nla_items s))
 xfrm_names s = table_names family.Xfrm (λ d. xfrm.Other d) xfrm_attribute xfrm_rows xfrm_keeps s
 
 -- ---- macsec
 
-pub mac_sec_is : IsFamily
-    (members_by_rows family.MacSec (λ d. mac_sec.Other d) mac_sec_attribute
-    (λ n. table_row mac_sec_rows n) (λ _. 0))
+pub mac_sec_is : IsFamily plain.mac_sec
 mac_sec_is = table_is_family family.MacSec
     (λ d. mac_sec.Other d) mac_sec_attribute mac_sec_rows mac_sec_keeps (λ _. refl)
 
-pub mac_sec_names : (s : List ℕ) → EachNames family.MacSec
-    (values (meaning_in family.MacSec (λ d. mac_sec.Other d)
-    (λ n. row_of (table_row mac_sec_rows n))) (nla_items s))
+pub mac_sec_names : (s : List ℕ) →
+    EachNames family.MacSec (values plain.mac_sec.meaning (nla_items s))
 mac_sec_names s = table_names family.MacSec
     (λ d. mac_sec.Other d) mac_sec_attribute mac_sec_rows mac_sec_keeps s
 
 -- ---- rmnet
 
-pub rm_net_is : IsFamily
-    (members_by_rows family.RmNet (λ d. rm_net.Other d) rm_net_attribute
-    (λ n. table_row rm_net_rows n) (λ _. 0))
+pub rm_net_is : IsFamily plain.rm_net
 rm_net_is = table_is_family family.RmNet
     (λ d. rm_net.Other d) rm_net_attribute rm_net_rows rm_net_keeps (λ _. refl)
 
-pub rm_net_names : (s : List ℕ) → EachNames family.RmNet
-    (values (meaning_in family.RmNet (λ d. rm_net.Other d) (λ n. row_of (table_row rm_net_rows n)))
-    (nla_items s))
+pub rm_net_names : (s : List ℕ) → EachNames family.RmNet (values plain.rm_net.meaning (nla_items s))
 rm_net_names s = table_names family.RmNet
     (λ d. rm_net.Other d) rm_net_attribute rm_net_rows rm_net_keeps s
 
 -- ---- amt
 
-pub amt_is : IsFamily
-    (members_by_rows family.Amt (λ d. amt.Other d) amt_attribute (λ n. table_row amt_rows n)
-    (λ _. 0))
+pub amt_is : IsFamily plain.amt
 amt_is = table_is_family family.Amt (λ d. amt.Other d) amt_attribute amt_rows amt_keeps (λ _. refl)
 
-pub amt_names : (s : List ℕ) → EachNames family.Amt
-    (values (meaning_in family.Amt (λ d. amt.Other d) (λ n. row_of (table_row amt_rows n)))
-    (nla_items s))
+pub amt_names : (s : List ℕ) → EachNames family.Amt (values plain.amt.meaning (nla_items s))
 amt_names s = table_names family.Amt (λ d. amt.Other d) amt_attribute amt_rows amt_keeps s
 
 -- ---- bareudp
 
-pub bare_udp_is : IsFamily
-    (members_by_rows family.BareUdp (λ d. bare_udp.Other d) bare_udp_attribute
-    (λ n. table_row bare_udp_rows n) (λ _. 0))
+pub bare_udp_is : IsFamily plain.bare_udp
 bare_udp_is = table_is_family family.BareUdp
     (λ d. bare_udp.Other d) bare_udp_attribute bare_udp_rows bare_udp_keeps (λ _. refl)
 
 pub bare_udp_names : (s : List ℕ) →
-    EachNames family.BareUdp
-    (values (meaning_in family.BareUdp (λ d. bare_udp.Other d)
-    (λ n. row_of (table_row bare_udp_rows n))) (nla_items s))
+    EachNames family.BareUdp (values plain.bare_udp.meaning (nla_items s))
 bare_udp_names s = table_names family.BareUdp
     (λ d. bare_udp.Other d) bare_udp_attribute bare_udp_rows bare_udp_keeps s
 
 -- ---- geneve
 
-pub geneve_is : IsFamily
-    (members_by_rows family.Geneve (λ d. geneve.Other d) geneve_attribute
-    (λ n. table_row geneve_rows n) (λ _. 0))
+pub geneve_is : IsFamily plain.geneve
 geneve_is = table_is_family family.Geneve
     (λ d. geneve.Other d) geneve_attribute geneve_rows geneve_keeps (λ _. refl)
 
-pub geneve_names : (s : List ℕ) → EachNames family.Geneve
-    (values (meaning_in family.Geneve (λ d. geneve.Other d)
-    (λ n. row_of (table_row geneve_rows n))) (nla_items s))
+pub geneve_names : (s : List ℕ) →
+    EachNames family.Geneve (values plain.geneve.meaning (nla_items s))
 geneve_names s = table_names family.Geneve
     (λ d. geneve.Other d) geneve_attribute geneve_rows geneve_keeps s
 
 -- ---- gre, gretap and erspan
 
-pub gre_is : IsFamily
-    (members_by_rows family.Gre (λ d. gre.Other d) gre_attribute (λ n. table_row gre_rows n)
-    (λ _. 0))
+pub gre_is : IsFamily plain.gre
 gre_is = table_is_family family.Gre (λ d. gre.Other d) gre_attribute gre_rows gre_keeps (λ _. refl)
 
-pub gre_names : (s : List ℕ) → EachNames family.Gre
-    (values (meaning_in family.Gre (λ d. gre.Other d) (λ n. row_of (table_row gre_rows n)))
-    (nla_items s))
+pub gre_names : (s : List ℕ) → EachNames family.Gre (values plain.gre.meaning (nla_items s))
 gre_names s = table_names family.Gre (λ d. gre.Other d) gre_attribute gre_rows gre_keeps s
 
 -- ---- ip6gre, ip6gretap and ip6erspan
 
-pub gre6_is : IsFamily
-    (members_by_rows family.Gre6 (λ d. gre6.Other d) gre6_attribute (λ n. table_row gre6_rows n)
-    (λ _. 0))
+pub gre6_is : IsFamily plain.gre6
 gre6_is = table_is_family family.Gre6 (λ d. gre6.Other d) gre6_attribute gre6_rows gre6_keeps
     (λ _. refl)
 
-pub gre6_names : (s : List ℕ) → EachNames family.Gre6
-    (values (meaning_in family.Gre6 (λ d. gre6.Other d) (λ n. row_of (table_row gre6_rows n)))
-    (nla_items s))
+pub gre6_names : (s : List ℕ) → EachNames family.Gre6 (values plain.gre6.meaning (nla_items s))
 gre6_names s = table_names family.Gre6 (λ d. gre6.Other d) gre6_attribute gre6_rows gre6_keeps s
 
 -- ---- gtp
 
-pub gtp_is : IsFamily
-    (members_by_rows family.Gtp (λ d. gtp.Other d) gtp_attribute (λ n. table_row gtp_rows n)
-    (λ _. 0))
+pub gtp_is : IsFamily plain.gtp
 gtp_is = table_is_family family.Gtp (λ d. gtp.Other d) gtp_attribute gtp_rows gtp_keeps (λ _. refl)
 
-pub gtp_names : (s : List ℕ) → EachNames family.Gtp
-    (values (meaning_in family.Gtp (λ d. gtp.Other d) (λ n. row_of (table_row gtp_rows n)))
-    (nla_items s))
+pub gtp_names : (s : List ℕ) → EachNames family.Gtp (values plain.gtp.meaning (nla_items s))
 gtp_names s = table_names family.Gtp (λ d. gtp.Other d) gtp_attribute gtp_rows gtp_keeps s
 
 -- ---- vti and vti6
 
-pub vti_is : IsFamily
-    (members_by_rows family.Vti (λ d. vti.Other d) vti_attribute (λ n. table_row vti_rows n)
-    (λ _. 0))
+pub vti_is : IsFamily plain.vti
 vti_is = table_is_family family.Vti (λ d. vti.Other d) vti_attribute vti_rows vti_keeps (λ _. refl)
 
-pub vti_names : (s : List ℕ) → EachNames family.Vti
-    (values (meaning_in family.Vti (λ d. vti.Other d) (λ n. row_of (table_row vti_rows n)))
-    (nla_items s))
+pub vti_names : (s : List ℕ) → EachNames family.Vti (values plain.vti.meaning (nla_items s))
 vti_names s = table_names family.Vti (λ d. vti.Other d) vti_attribute vti_rows vti_keeps s
 
 -- ---- vxlan
 
-pub vxlan_is : IsFamily
-    (members_by_rows family.Vxlan (λ d. vxlan.Other d) vxlan_attribute
-    (λ n. table_row vxlan_rows n) (λ _. 0))
+pub vxlan_is : IsFamily plain.vxlan
 vxlan_is = table_is_family family.Vxlan (λ d. vxlan.Other d) vxlan_attribute vxlan_rows vxlan_keeps
     (λ _. refl)
 
-pub vxlan_names : (s : List ℕ) → EachNames family.Vxlan
-    (values (meaning_in family.Vxlan (λ d. vxlan.Other d) (λ n. row_of (table_row vxlan_rows n)))
-    (nla_items s))
+pub vxlan_names : (s : List ℕ) → EachNames family.Vxlan (values plain.vxlan.meaning (nla_items s))
 vxlan_names s = table_names family.Vxlan
     (λ d. vxlan.Other d) vxlan_attribute vxlan_rows vxlan_keeps s
 
 -- ---- batadv
 
-pub batadv_is : IsFamily
-    (members_by_rows family.BatAdv (λ d. batadv.Other d) batadv_attribute
-    (λ n. table_row batadv_rows n) (λ _. 0))
+pub batadv_is : IsFamily plain.bat_adv
 batadv_is = table_is_family family.BatAdv
     (λ d. batadv.Other d) batadv_attribute batadv_rows batadv_keeps (λ _. refl)
 
-pub batadv_names : (s : List ℕ) → EachNames family.BatAdv
-    (values (meaning_in family.BatAdv (λ d. batadv.Other d)
-    (λ n. row_of (table_row batadv_rows n))) (nla_items s))
+pub batadv_names : (s : List ℕ) →
+    EachNames family.BatAdv (values plain.bat_adv.meaning (nla_items s))
 batadv_names s = table_names family.BatAdv
     (λ d. batadv.Other d) batadv_attribute batadv_rows batadv_keeps s
 
 -- ---- wwan
 
-pub wwan_is : IsFamily
-    (members_by_rows family.Wwan (λ d. wwan.Other d) wwan_attribute (λ n. table_row wwan_rows n)
-    (λ _. 0))
+pub wwan_is : IsFamily plain.wwan
 wwan_is = table_is_family family.Wwan (λ d. wwan.Other d) wwan_attribute wwan_rows wwan_keeps
     (λ _. refl)
 
-pub wwan_names : (s : List ℕ) → EachNames family.Wwan
-    (values (meaning_in family.Wwan (λ d. wwan.Other d) (λ n. row_of (table_row wwan_rows n)))
-    (nla_items s))
+pub wwan_names : (s : List ℕ) → EachNames family.Wwan (values plain.wwan.meaning (nla_items s))
 wwan_names s = table_names family.Wwan (λ d. wwan.Other d) wwan_attribute wwan_rows wwan_keeps s
 
 -- ---- ipip, ip6tnl and sit
 
-pub ip_tunnel_is : (tag : KindTag) →
-    IsFamily (members_by_rows family.IpTunnel (λ d. ip_tunnel.Other d) ip_tunnel_attribute
-    (ip_tunnel_row tag) (λ _. 0))
+pub ip_tunnel_is : (tag : KindTag) → IsFamily (plain.ip_tunnel tag)
 ip_tunnel_is tag = rows_are_family family.IpTunnel (λ d. ip_tunnel.Other d) ip_tunnel_attribute
     (ip_tunnel_row tag) (ip_tunnel_owes tag) (λ _. refl) (λ _. 0) none_inside
 
 pub ip_tunnel_names : (tag : KindTag) (s : List ℕ) →
-    EachNames family.IpTunnel
-    (values (meaning_in family.IpTunnel (λ d. ip_tunnel.Other d)
-    (λ n. row_of (ip_tunnel_row tag n))) (nla_items s))
+    EachNames family.IpTunnel (values (plain.ip_tunnel tag).meaning (nla_items s))
 ip_tunnel_names tag s = rows_name family.IpTunnel (λ d. ip_tunnel.Other d) ip_tunnel_attribute
     (ip_tunnel_row tag) (ip_tunnel_owes tag)
     (λ n. flat_unnested (ip_tunnel_row tag n) (ip_tunnel_flat tag n)) s
 
 -- ---- macvlan links, whose attributes may hold lists
 
-pub mac_vlan_is : (lists : ℕ) → IsFamily
-    (members_by_rows family.MacVlan (λ d. macvlan.Other d) mac_vlan_attribute
-    (λ n. mac_vlan_rows lists n) (headers_inside (λ n. row_of (mac_vlan_rows lists n))))
+pub mac_vlan_is : (lists : ℕ) → IsFamily (plain.mac_vlan lists)
 mac_vlan_is lists = rows_are_family family.MacVlan (λ d. macvlan.Other d) mac_vlan_attribute
     (λ n. mac_vlan_rows lists n) (mac_vlan_owes lists) mac_vlan_keep.other
     (headers_inside (λ n. row_of (mac_vlan_rows lists n)))
@@ -327,9 +244,7 @@ mac_vlan_is lists = rows_are_family family.MacVlan (λ d. macvlan.Other d) mac_v
     (λ n. mac_vlan_rows lists n) (mac_vlan_owes lists) mac_vlan_keep.other a)
 
 pub mac_vlan_names : (lists : ℕ) (s : List ℕ) →
-    EachNames family.MacVlan
-    (values (meaning_in family.MacVlan (λ d. macvlan.Other d) (λ n. row_of (mac_vlan_rows lists n)))
-    (nla_items s))
+    EachNames family.MacVlan (values (plain.mac_vlan lists).meaning (nla_items s))
 mac_vlan_names lists s = names_list family.MacVlan (λ d. macvlan.Other d) mac_vlan_attribute
     (λ c n. lookup_of (mac_vlan_rows c n))
     (λ c a. meaning_in family.MacVlan (λ d. macvlan.Other d)
@@ -337,9 +252,7 @@ mac_vlan_names lists s = names_list family.MacVlan (λ d. macvlan.Other d) mac_v
 
 -- ---- macvtap links, whose attributes may hold lists
 
-pub mac_vtap_is : (lists : ℕ) → IsFamily
-    (members_by_rows family.MacVtap (λ d. macvtap.Other d) mac_vtap_attribute
-    (λ n. mac_vtap_rows lists n) (headers_inside (λ n. row_of (mac_vtap_rows lists n))))
+pub mac_vtap_is : (lists : ℕ) → IsFamily (plain.mac_vtap lists)
 mac_vtap_is lists = rows_are_family family.MacVtap (λ d. macvtap.Other d) mac_vtap_attribute
     (λ n. mac_vtap_rows lists n) (mac_vtap_owes lists) mac_vtap_keep.other
     (headers_inside (λ n. row_of (mac_vtap_rows lists n)))
@@ -347,9 +260,7 @@ mac_vtap_is lists = rows_are_family family.MacVtap (λ d. macvtap.Other d) mac_v
     (λ n. mac_vtap_rows lists n) (mac_vtap_owes lists) mac_vtap_keep.other a)
 
 pub mac_vtap_names : (lists : ℕ) (s : List ℕ) →
-    EachNames family.MacVtap
-    (values (meaning_in family.MacVtap (λ d. macvtap.Other d) (λ n. row_of (mac_vtap_rows lists n)))
-    (nla_items s))
+    EachNames family.MacVtap (values (plain.mac_vtap lists).meaning (nla_items s))
 mac_vtap_names lists s = names_list family.MacVtap (λ d. macvtap.Other d) mac_vtap_attribute
     (λ c n. lookup_of (mac_vtap_rows c n))
     (λ c a. meaning_in family.MacVtap (λ d. macvtap.Other d)
@@ -381,69 +292,31 @@ module _ (P : RattleType) (peer : Ghosts P.Denot)
     (meaning_well : (p : List ℕ) (x : P.Denot) → IsBytes p → peer.meaning p ≡ Some x → peer.well x)
     (well_means : (x : P.Denot) → peer.well x → peer.meaning (peer.canonical x) ≡ Some x)
     (well_bytes : (x : P.Denot) → peer.well x → IsBytes (peer.canonical x)) where
-  veth_owes : (n : ℕ) → RowOwes (veth_attribute peer.canonical) n
-      (row_of (veth_rows peer.meaning peer.alike peer.canonical peer.well n))
-  veth_owes n = peer_owes peer.meaning peer.alike peer.canonical peer.well (λ z. veth.Peer z)
-      (veth_attribute peer.canonical) veth_plain
-      (veth_keeps peer.canonical) alike_is meaning_well well_means well_bytes (λ _. refl) n
+  module _ {F : Type 0} (f : Family) (value : P.Denot → F) (other : DefaultNla → F)
+      (attribute : F → Attribute) (plain_rows : List (PlainRow F))
+      (keeps : EachKeeps attribute plain_rows)
+      (shown : (x : P.Denot) →
+      attribute (value x) ≡ record { kind = 1; value = peer.canonical x })
+      (keeps_other : (d : DefaultNla) →
+      attribute (other d) ≡ record { kind = d.kind; value = d.value }) where
+    abbrev rows : ℕ → FamilyRow F
+    rows n = peer_rows peer.meaning peer.alike peer.canonical peer.well value plain_rows n
 
-  pub veth_is : IsFamily
-      (members_by_rows family.Veth (λ d. veth.Other d) (veth_attribute peer.canonical)
-      (λ n. veth_rows peer.meaning peer.alike peer.canonical peer.well n) (λ _. 0))
-  veth_is = rows_are_family family.Veth (λ d. veth.Other d) (veth_attribute peer.canonical)
-      (λ n. veth_rows peer.meaning peer.alike peer.canonical peer.well n) veth_owes (λ _. refl)
-      (λ _. 0) none_inside
+    owes : (n : ℕ) → RowOwes attribute n (row_of (rows n))
+    owes n = peer_owes peer.meaning peer.alike peer.canonical peer.well value attribute plain_rows
+        keeps alike_is meaning_well well_means well_bytes shown n
 
-  pub veth_names : (s : List ℕ) → EachNames family.Veth
-      (first_meaning
-      (meaning_in family.Veth (λ d. veth.Other d)
-      (λ n. row_of (veth_rows peer.meaning peer.alike peer.canonical peer.well n))) (nla_items s))
-  veth_names s = rows_name_first family.Veth (λ d. veth.Other d) (veth_attribute peer.canonical)
-      (λ n. veth_rows peer.meaning peer.alike peer.canonical peer.well n) veth_owes
-      (λ n. peer_unnested peer.meaning peer.alike peer.canonical peer.well (λ z. veth.Peer z)
-      (veth_attribute peer.canonical) veth_plain (veth_keeps peer.canonical) n) s
+    unnested : (n : ℕ) → IsUnnested (rows n)
+    unnested n = peer_unnested peer.meaning peer.alike peer.canonical peer.well value attribute
+        plain_rows keeps n
 
-  netkit_owes : (n : ℕ) → RowOwes (netkit_attribute peer.canonical) n
-      (row_of (netkit_rows peer.meaning peer.alike peer.canonical peer.well n))
-  netkit_owes n = peer_owes peer.meaning peer.alike peer.canonical peer.well (λ z. netkit.Peer z)
-      (netkit_attribute peer.canonical) netkit_plain
-      (netkit_keeps peer.canonical) alike_is meaning_well well_means well_bytes (λ _. refl) n
+    pub peer_is : IsFamily (members_by_rows f other attribute (λ n. rows n) (λ _. 0))
+    peer_is = rows_are_family f other attribute (λ n. rows n) owes keeps_other (λ _. 0) none_inside
 
-  pub netkit_is : IsFamily
-      (members_by_rows family.Netkit (λ d. netkit.Other d) (netkit_attribute peer.canonical)
-      (λ n. netkit_rows peer.meaning peer.alike peer.canonical peer.well n) (λ _. 0))
-  netkit_is = rows_are_family family.Netkit (λ d. netkit.Other d) (netkit_attribute peer.canonical)
-      (λ n. netkit_rows peer.meaning peer.alike peer.canonical peer.well n) netkit_owes (λ _. refl)
-      (λ _. 0) none_inside
+    pub peer_names : (s : List ℕ) →
+        EachNames f (values (meaning_in f other (λ n. row_of (rows n))) (nla_items s))
+    peer_names s = rows_name f other attribute (λ n. rows n) owes unnested s
 
-  pub netkit_names : (s : List ℕ) →
-      EachNames family.Netkit
-      (values (meaning_in family.Netkit (λ d. netkit.Other d)
-      (λ n. row_of (netkit_rows peer.meaning peer.alike peer.canonical peer.well n))) (nla_items s))
-  netkit_names s = rows_name family.Netkit (λ d. netkit.Other d) (netkit_attribute peer.canonical)
-      (λ n. netkit_rows peer.meaning peer.alike peer.canonical peer.well n) netkit_owes
-      (λ n. peer_unnested peer.meaning peer.alike peer.canonical peer.well (λ z. netkit.Peer z)
-      (netkit_attribute peer.canonical) netkit_plain (netkit_keeps peer.canonical) n) s
-
-  vxcan_owes : (n : ℕ) → RowOwes (vxcan_attribute peer.canonical) n
-      (row_of (vxcan_rows peer.meaning peer.alike peer.canonical peer.well n))
-  vxcan_owes n = peer_owes peer.meaning peer.alike peer.canonical peer.well (λ z. vxcan.Peer z)
-      (vxcan_attribute peer.canonical) [] tt alike_is meaning_well well_means well_bytes
-      (λ _. refl) n
-
-  pub vxcan_is : IsFamily
-      (members_by_rows family.Vxcan (λ d. vxcan.Other d) (vxcan_attribute peer.canonical)
-      (λ n. vxcan_rows peer.meaning peer.alike peer.canonical peer.well n) (λ _. 0))
-  vxcan_is = rows_are_family family.Vxcan (λ d. vxcan.Other d) (vxcan_attribute peer.canonical)
-      (λ n. vxcan_rows peer.meaning peer.alike peer.canonical peer.well n) vxcan_owes (λ _. refl)
-      (λ _. 0) none_inside
-
-  pub vxcan_names : (s : List ℕ) → EachNames family.Vxcan
-      (first_meaning
-      (meaning_in family.Vxcan (λ d. vxcan.Other d)
-      (λ n. row_of (vxcan_rows peer.meaning peer.alike peer.canonical peer.well n))) (nla_items s))
-  vxcan_names s = rows_name_first family.Vxcan (λ d. vxcan.Other d)
-      (vxcan_attribute peer.canonical)
-      (λ n. vxcan_rows peer.meaning peer.alike peer.canonical peer.well n) vxcan_owes
-      (λ n. peer_unnested peer.meaning peer.alike peer.canonical peer.well (λ z. vxcan.Peer z)
-      (vxcan_attribute peer.canonical) [] tt n) s
+    pub peer_names_first : (s : List ℕ) →
+        EachNames f (first_meaning (meaning_in f other (λ n. row_of (rows n))) (nla_items s))
+    peer_names_first s = rows_name_first f other attribute (λ n. rows n) owes unnested s

@@ -3,7 +3,7 @@
 use Rattle.std.specs.Prelude.{◌↔◌, List}
 use Rattle.std.specs.List.{AllByRecursion}
 use Rattle.nla_frame.specs.Attribute.{IsBytes}
-use Rattle.linkinfo_devices.specs.Conditions.{ip_vlan_conditions, ip_vtap_conditions}
+use Rattle.linkinfo_devices.specs.Conditions.{ip_vlan_conditions}
 use Rattle.linkinfo_devices.specs.Conditions.{ipoib_conditions, mac_sec_conditions}
 use Rattle.linkinfo_devices.specs.Conditions.{mac_vlan_conditions, mac_vtap_conditions}
 use Rattle.linkinfo_devices.specs.Conditions.{rm_net_conditions, vrf_conditions, xfrm_conditions}
@@ -54,7 +54,7 @@ lower_conditions lower.Dsa d = IsListOf (λ xs. info.Dsa xs) opaque_conditions d
 
 abbrev pub device_conditions : {P : Type 0} → DeviceFamily → InfoDataOf P → Type 0
 device_conditions device.IpVlan d = IsListOf (λ xs. info.IpVlan xs) ip_vlan_conditions d
-device_conditions device.IpVtap d = IsListOf (λ xs. info.IpVtap xs) ip_vtap_conditions d
+device_conditions device.IpVtap d = IsListOf (λ xs. info.IpVtap xs) ip_vlan_conditions d
 device_conditions (device.MacVlan lists) d =
     IsListOf (λ xs. info.MacVlan xs) (mac_vlan_conditions lists) d
 device_conditions (device.MacVtap lists) d =

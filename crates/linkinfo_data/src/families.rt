@@ -1,8 +1,7 @@
 //! Specifications of the attributes of each family of data and of port data, a line a family.
 
 ghost use Rattle.std.specs.Prelude.{ℕ};
-ghost use Rattle.linkinfo_devices.specs.declared.ipvlan.InfoIpVlan.{InfoIpVlan};
-ghost use Rattle.linkinfo_devices.specs.declared.ipvtap.InfoIpVtap.{InfoIpVtap};
+ghost use Rattle.linkinfo_devices.specs.declared.ipvlan.InfoIpVlanOf.{InfoIpVlanOf};
 ghost use Rattle.linkinfo_devices.specs.declared.macvlan.InfoMacVlan.{InfoMacVlan};
 ghost use Rattle.linkinfo_devices.specs.declared.macvtap.InfoMacVtap.{InfoMacVtap};
 ghost use Rattle.linkinfo_devices.specs.declared.vrf.InfoVrf.{InfoVrf};
@@ -61,9 +60,9 @@ pub trait PlainFamilies {
 
     ghost bond_port: { Members (Opaque 2) };
 
-    ghost ip_vlan: { Members InfoIpVlan };
+    ghost ip_vlan: { Members (InfoIpVlanOf 0) };
 
-    ghost ip_vtap: { Members InfoIpVtap };
+    ghost ip_vtap: { Members (InfoIpVlanOf 1) };
 
     ghost mac_vlan: { ℕ → Members InfoMacVlan };
 

@@ -221,10 +221,6 @@ impl<P: ExactEq> ExactEq for InfoDataOf<P> {
     ghost use Rattle.linkinfo_data.specs.DataVariants.{by_variants};
     ghost use Rattle.nla_frame.specs.Pairs.{◌&◌};
     ghost use Rattle.linkinfo_tunnels.specs.contracts.vxlan.InfoVxlanExactEq.TheImpl.Laws as vxlan;
-    ghost use Rattle.linkinfo_devices.specs.contracts.ipvlan.InfoIpVlanExactEq.TheImpl.Laws
-        as ip_vlan;
-    ghost use Rattle.linkinfo_devices.specs.contracts.ipvtap.InfoIpVtapExactEq.TheImpl.Laws
-        as ip_vtap;
     ghost use Rattle.linkinfo_devices.specs.contracts.macvlan.InfoMacVlanExactEq.TheImpl.Laws
         as mac_vlan;
     ghost use Rattle.linkinfo_devices.specs.contracts.macvtap.InfoMacVtapExactEq.TheImpl.Laws
@@ -258,8 +254,8 @@ impl<P: ExactEq> ExactEq for InfoDataOf<P> {
         & one_field (λ x y. Prim.search (rules, P.exact))
         & one_field (pointwise_decides vxlan.exact-law)
         & one_field (pointwise_decides (λ a b. Prim.search rules))
-        & one_field (pointwise_decides ip_vlan.exact-law)
-        & one_field (pointwise_decides ip_vtap.exact-law)
+        & one_field (pointwise_decides (λ a b. Prim.search rules))
+        & one_field (pointwise_decides (λ a b. Prim.search rules))
         & one_field (pointwise_decides mac_vlan.exact-law)
         & one_field (pointwise_decides mac_vtap.exact-law)
         & one_field (pointwise_decides gre.exact-law)

@@ -19,11 +19,8 @@ use Rattle.linkinfo_devices.specs.Ipoib.{ipoib_attribute, ipoib_rows}
 use Rattle.linkinfo_devices.specs.declared.ipoib.InfoIpoib.{InfoIpoib}
 use Rattle.linkinfo_devices.specs.declared.ipoib.InfoIpoib.TheVariants as ipoib
 use Rattle.linkinfo_devices.specs.Ipvlan.{ip_vlan_attribute, ip_vlan_rows}
-use Rattle.linkinfo_devices.specs.declared.ipvlan.InfoIpVlan.{InfoIpVlan}
-use Rattle.linkinfo_devices.specs.declared.ipvlan.InfoIpVlan.TheVariants as ip_vlan
-use Rattle.linkinfo_devices.specs.Ipvtap.{ip_vtap_attribute, ip_vtap_rows}
-use Rattle.linkinfo_devices.specs.declared.ipvtap.InfoIpVtap.{InfoIpVtap}
-use Rattle.linkinfo_devices.specs.declared.ipvtap.InfoIpVtap.TheVariants as ip_vtap
+use Rattle.linkinfo_devices.specs.declared.ipvlan.InfoIpVlanOf.{InfoIpVlanOf}
+use Rattle.linkinfo_devices.specs.declared.ipvlan.InfoIpVlanOf.TheVariants as ip_vlan
 use Rattle.linkinfo_devices.specs.Macsec.{mac_sec_attribute, mac_sec_rows}
 use Rattle.linkinfo_devices.specs.declared.macsec.InfoMacSec.{InfoMacSec}
 use Rattle.linkinfo_devices.specs.declared.macsec.InfoMacSec.TheVariants as mac_sec
@@ -61,52 +58,29 @@ use Rattle.linkinfo_devices.specs.declared.macvtap.InfoMacVtap.TheViews.{out-rol
 use Rattle.linkinfo_devices.specs.declared.macvtap.InfoMacVtap.TheViews.{roll-InfoMacVtap}
 use Rattle.linkinfo_devices.specs.declared.macvtap.InfoMacVtap.TheViews.{roll-out-InfoMacVtap}
 
--- ---- `ipvlan` links
+-- ---- `ipvlan` and `ipvtap` links
 
-abbrev pub ip_vlan_conditions : InfoIpVlan → Type 0
+abbrev pub ip_vlan_conditions : {tap : ℕ} → InfoIpVlanOf tap → Type 0
 ip_vlan_conditions (ip_vlan.Mode mode) = IsNumber ip_vlan_mode_table (2 ^ 16) mode
 ip_vlan_conditions (ip_vlan.Flags flags) = flags.0 < 2 ^ 16
-ip_vlan_conditions (ip_vlan.Other d) = IsUnknown ip_vlan_rows d
+ip_vlan_conditions {tap = tap} (ip_vlan.Other d) = IsUnknown (ip_vlan_rows {tap = tap}) d
 
-abbrev ip_vlan_is_other : InfoIpVlan → Bool
+abbrev ip_vlan_is_other : {tap : ℕ} → InfoIpVlanOf tap → Bool
 ip_vlan_is_other (ip_vlan.Other d) = true
 ip_vlan_is_other _ = false
 
-pub ip_vlan_stated : (x : InfoIpVlan) →
+pub ip_vlan_stated : {tap : ℕ} (x : InfoIpVlanOf tap) →
     WellFormed (λ d. ip_vlan.Other d) ip_vlan_attribute
     (λ n. row_of (table_row ip_vlan_rows n)) x ↔ ip_vlan_conditions x
 unfolding WellFormed
-ip_vlan_stated = elim [
+ip_vlan_stated {tap = tap} = elim [
   | ip_vlan.Mode x ↦ number_label ip_vlan_mode_table_holds (2 ^ 16)
       (λ y. ip_vlan.Mode y) ip_vlan_conditions (λ _ is. is) (λ _ is. is) x
   | ip_vlan.Other d ↦ unknown_label
-      (λ z. ip_vlan.Other z) ip_vlan_attribute ip_vlan_rows ip_vlan_is_other (λ _. refl) (λ _. refl)
-      (are_typed ip_vlan_is_other ip_vlan_rows refl) d
+      (λ z. ip_vlan.Other z) ip_vlan_attribute ip_vlan_rows (ip_vlan_is_other {tap = tap})
+      (λ _. refl) (λ _. refl)
+      (are_typed (ip_vlan_is_other {tap = tap}) ip_vlan_rows refl) d
   | _ ↦ (λ w. subst ip_vlan_conditions w.2 w.1, λ h. (_, h, refl))
-]
-
--- ---- `ipvtap` links
-
-abbrev pub ip_vtap_conditions : InfoIpVtap → Type 0
-ip_vtap_conditions (ip_vtap.Mode mode) = IsNumber ip_vlan_mode_table (2 ^ 16) mode
-ip_vtap_conditions (ip_vtap.Flags flags) = flags.0 < 2 ^ 16
-ip_vtap_conditions (ip_vtap.Other d) = IsUnknown ip_vtap_rows d
-
-abbrev ip_vtap_is_other : InfoIpVtap → Bool
-ip_vtap_is_other (ip_vtap.Other d) = true
-ip_vtap_is_other _ = false
-
-pub ip_vtap_stated : (x : InfoIpVtap) →
-    WellFormed (λ d. ip_vtap.Other d) ip_vtap_attribute
-    (λ n. row_of (table_row ip_vtap_rows n)) x ↔ ip_vtap_conditions x
-unfolding WellFormed
-ip_vtap_stated = elim [
-  | ip_vtap.Mode x ↦ number_label ip_vlan_mode_table_holds (2 ^ 16)
-      (λ y. ip_vtap.Mode y) ip_vtap_conditions (λ _ is. is) (λ _ is. is) x
-  | ip_vtap.Other d ↦ unknown_label
-      (λ z. ip_vtap.Other z) ip_vtap_attribute ip_vtap_rows ip_vtap_is_other (λ _. refl) (λ _. refl)
-      (are_typed ip_vtap_is_other ip_vtap_rows refl) d
-  | _ ↦ (λ w. subst ip_vtap_conditions w.2 w.1, λ h. (_, h, refl))
 ]
 
 -- ---- `ipoib` links

@@ -1,7 +1,6 @@
 pub mod Conditions
 pub mod Ipoib
 pub mod Ipvlan
-pub mod Ipvtap
 pub mod MacConditions
 pub mod MacRows
 pub mod Macsec
@@ -9,7 +8,6 @@ pub mod Macvlan
 pub mod MacvlanEqual
 pub mod Macvtap
 pub mod MacvtapEqual
-pub mod ModeAndFlags
 pub mod Nested
 pub mod Rmnet
 pub mod Vrf

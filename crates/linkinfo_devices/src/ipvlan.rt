@@ -1,15 +1,15 @@
-//! Links of kind `ipvlan`.
+//! Links of kinds `ipvlan` and `ipvtap`.
 
-ghost use Rattle.linkinfo_devices.specs.declared.ipvlan.InfoIpVlan.TheVariants.{Other};
+ghost use Rattle.linkinfo_devices.specs.declared.ipvlan.InfoIpVlanOf.TheVariants.{Other};
 ghost use Rattle.linkinfo_devices.specs.Ipvlan.{
   ip_vlan_attribute,
+  ip_vlan_family,
   ip_vlan_keeps,
   ip_vlan_lookup,
   ip_vlan_rows,
 };
 ghost use Rattle.linkinfo_table.specs.FamilyRows.{row_of, table_row};
 ghost use Rattle.linkinfo_table.specs.Rows.{meaning_in, memory_in};
-ghost use Rattle.nla_frame.specs.declared.error.Family.TheVariants as family;
 ghost use Rattle.std.specs.Prelude.{◌≡◌, refl};
 
 use bitflags::Flags;
@@ -22,10 +22,12 @@ use linkinfo_table::{
 use nla_frame::{DecodeError, DefaultNla, ExactEq, Family, Nla, NlaBuffer, Parseable};
 use std::alloc::{AllocError, Global};
 
-/// An attribute in the data of an `ipvlan` link, an IPVLAN interface
-/// (include/uapi/linux/if_link.h).
+/// An attribute in the data of an `ipvlan` or an `ipvtap` link, an IPVLAN interface or a TAP device
+/// on one (include/uapi/linux/if_link.h).
+///
+/// `TAP` selects the family: `Family::IpVtap` if it is true, else `Family::IpVlan`.
 #[derive(Debug, PartialEq, Eq, Drop)]
-pub enum InfoIpVlan {
+pub enum InfoIpVlanOf<const TAP: bool> {
     /// Mode: `l2`, `l3` or `l3s` (`IFLA_IPVLAN_MODE`), little-endian.
     Mode(IpVlanMode),
     /// Flags `private` and `vepa` (`IFLA_IPVLAN_FLAGS`), little-endian.
@@ -34,9 +36,24 @@ pub enum InfoIpVlan {
     Other(DefaultNla),
 }
 
+/// An attribute in the data of an `ipvlan` link, an IPVLAN interface
+/// (include/uapi/linux/if_link.h).
+pub type InfoIpVlan = InfoIpVlanOf<false>;
+
+/// An attribute in the data of an `ipvtap` link, a TAP device on an IPVLAN interface
+/// (include/uapi/linux/if_link.h).
+pub type InfoIpVtap = InfoIpVlanOf<true>;
+
+/// The family of `ipvtap` links, or else of `ipvlan` links.
+const fn family_of(tap: bool) -> Family
+    ensures { result ≡ ip_vlan_family tap }
+{
+    if tap { Family::IpVtap } else { Family::IpVlan }
+}
+
 macro_rules! rows {
     ($body:ident $given:tt) => {
-        $body! { InfoIpVlan $given;
+        $body! { InfoIpVlanOf $given;
             (1, le16, Mode as IpVlanMode),
             (2, le16, Flags as flags IpVlanFlags),
         }
@@ -44,18 +61,18 @@ macro_rules! rows {
 }
 
 /// A clone is equal to its source.
-impl Clone for InfoIpVlan {
+impl<const TAP: bool> Clone for InfoIpVlanOf<TAP> {
     ghost is_clone = { λ source copy. copy ≡ source };
 
-    fn clone(&self) -> Result<InfoIpVlan, AllocError> {
+    fn clone(&self) -> Result<InfoIpVlanOf<TAP>, AllocError> {
         rows!(clone_by_rows self)
     }
 }
 
-impl TableFamily for InfoIpVlan {
-    const FAMILY: Family = Family::IpVlan;
+impl<const TAP: bool> TableFamily for InfoIpVlanOf<TAP> {
+    const FAMILY: Family = family_of(TAP);
 
-    ghost FAMILY = { family.IpVlan };
+    ghost FAMILY = { ip_vlan_family TAP };
 
     ghost table = { ip_vlan_rows };
 
@@ -63,14 +80,14 @@ impl TableFamily for InfoIpVlan {
 
     ghost canonical = { ip_vlan_attribute };
 
-    ghost keeps = { ip_vlan_keeps };
+    ghost keeps = { ip_vlan_keeps _ };
 
     ghost keeps_other = { λ _. refl };
 
-    ghost in_table = { ip_vlan_lookup };
+    ghost in_table = { ip_vlan_lookup _ TAP };
 
     #[inline(always)]
-    fn store_decoded<P: Slot<InfoIpVlan>>(
+    fn store_decoded<P: Slot<InfoIpVlanOf<TAP>>>(
         slot: &mut P,
         alloc: Global,
         decoded: Decoded<'_>,
@@ -84,7 +101,7 @@ impl TableFamily for InfoIpVlan {
     }
 }
 
-impl Nla for InfoIpVlan {
+impl<const TAP: bool> Nla for InfoIpVlanOf<TAP> {
     ghost attribute = { ip_vlan_attribute };
 
     fn value_len(&self) -> usize {
@@ -108,23 +125,26 @@ impl Nla for InfoIpVlan {
     }
 }
 
-impl WrittenByTable for InfoIpVlan {
+impl<const TAP: bool> WrittenByTable for InfoIpVlanOf<TAP> {
     ghost written = { λ _. refl };
 }
 
-/// Reads the attribute. A payload of invalid length is rejected as `(IpVlan, type, Length)`.
-impl<'a> Parseable<NlaBuffer<'a>> for InfoIpVlan {
+/// Reads the attribute. A payload of invalid length is rejected as `(IpVlan, type, Length)` or
+/// `(IpVtap, type, Length)`, by the family.
+impl<'a, const TAP: bool> Parseable<NlaBuffer<'a>> for InfoIpVlanOf<TAP> {
     ghost meaning = { λ nla.
-        meaning_in family.IpVlan (λ d. Other d) (λ n. row_of (table_row ip_vlan_rows n)) nla };
+        meaning_in (ip_vlan_family TAP) (λ d. Other d)
+        (λ n. row_of (table_row ip_vlan_rows n)) nla };
 
-    ghost needs_memory = { λ nla. memory_in (λ n. row_of (table_row ip_vlan_rows n)) nla };
+    ghost needs_memory = { λ nla.
+        memory_in (λ n. row_of (table_row ⟦<InfoIpVlanOf<TAP> as TableFamily>⟧.table n)) nla };
 
-    fn parse(alloc: Global, buffer: &NlaBuffer<'a>) -> Result<InfoIpVlan, DecodeError> {
+    fn parse(alloc: Global, buffer: &NlaBuffer<'a>) -> Result<InfoIpVlanOf<TAP>, DecodeError> {
         row_read(alloc, buffer, ())
     }
 }
 
-impl ExactEq for InfoIpVlan {
+impl<const TAP: bool> ExactEq for InfoIpVlanOf<TAP> {
     ghost use Rattle.std.proofs.Common.{rules};
 
     ghost exact = { Prim.search rules };

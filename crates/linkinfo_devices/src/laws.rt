@@ -3,7 +3,6 @@
 ghost use Rattle.std.specs.Prelude.{◌≡◌, ◌↔◌, ℕ, ◌-◌, ◌≤◌};
 ghost use Rattle.linkinfo_devices.specs.Conditions.{
   ip_vlan_conditions,
-  ip_vtap_conditions,
   ipoib_conditions,
   mac_sec_conditions,
   mac_vlan_conditions,
@@ -16,11 +15,11 @@ ghost use Rattle.linkinfo_devices.specs.Conditions.{
   vrf_conditions,
   xfrm_conditions,
 };
+ghost use Rattle.linkinfo_devices.specs.declared.ipvlan.InfoIpVlanOf.{InfoIpVlanOf};
 ghost use Rattle.nla_frame.specs.declared.error.Family.TheVariants as family;
 
 use crate::ipoib::InfoIpoib;
-use crate::ipvlan::InfoIpVlan;
-use crate::ipvtap::InfoIpVtap;
+use crate::ipvlan::{InfoIpVlan, InfoIpVtap};
 use crate::macsec::InfoMacSec;
 use crate::macvlan::InfoMacVlan;
 use crate::macvtap::InfoMacVtap;
@@ -48,10 +47,10 @@ pub fn named()
 /// `macvlan` and `macvtap`, which is a list or is rejected. Each number and each address is in the
 /// range of its type. Lists are no deeper than `depths` allows.
 pub fn well_formed()
-    ensures ip_vlan { (x : InfoIpVlan) →
+    ensures ip_vlan { (x : InfoIpVlanOf 0) →
         ⟦<InfoIpVlan as LinkFamily>⟧.well tt x ↔ ip_vlan_conditions x }
-    ensures ip_vtap { (x : InfoIpVtap) →
-        ⟦<InfoIpVtap as LinkFamily>⟧.well tt x ↔ ip_vtap_conditions x }
+    ensures ip_vtap { (x : InfoIpVlanOf 1) →
+        ⟦<InfoIpVtap as LinkFamily>⟧.well tt x ↔ ip_vlan_conditions x }
     ensures ipoib { (x : InfoIpoib) → ⟦<InfoIpoib as LinkFamily>⟧.well tt x ↔ ipoib_conditions x }
     ensures mac_sec { (x : InfoMacSec) →
         ⟦<InfoMacSec as LinkFamily>⟧.well tt x ↔ mac_sec_conditions x }

@@ -4,7 +4,6 @@
 
 mod ipoib;
 mod ipvlan;
-mod ipvtap;
 pub mod laws;
 mod mac_rows;
 mod macsec;
@@ -19,8 +18,7 @@ mod vrf;
 mod xfrm;
 
 pub use ipoib::InfoIpoib;
-pub use ipvlan::InfoIpVlan;
-pub use ipvtap::InfoIpVtap;
+pub use ipvlan::{InfoIpVlan, InfoIpVlanOf, InfoIpVtap};
 pub use macsec::InfoMacSec;
 pub use macvlan::InfoMacVlan;
 pub use macvtap::InfoMacVtap;

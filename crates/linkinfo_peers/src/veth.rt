@@ -1,18 +1,12 @@
 //! Veth links, which come in pairs: `VETH_INFO_*` (include/uapi/linux/veth.h).
 
 ghost use Rattle.linkinfo_peers.specs.PeerRows.{flat_elsewhere, peer_owes, peer_unnested};
-ghost use Rattle.linkinfo_peers.specs.Veth.{
-  veth_attribute,
-  veth_is_custom,
-  veth_keeps,
-  veth_plain,
-  veth_rows,
-};
+ghost use Rattle.linkinfo_peers.specs.Veth.{veth_attribute, veth_is_custom, veth_rows};
 ghost use Rattle.linkinfo_peers.specs.declared.veth.InfoVethOf.TheVariants as veth;
 ghost use Rattle.linkinfo_table.specs.FamilyRows.{row_of};
 ghost use Rattle.linkinfo_table.specs.Rows.{meaning_in, memory_in};
 ghost use Rattle.nla_frame.specs.declared.error.Family.TheVariants as family;
-ghost use Rattle.std.specs.Prelude.{refl};
+ghost use Rattle.std.specs.Prelude.{[], refl};
 
 use crate::peer_calls::{
     peer_check, peer_emit_payload, peer_emit_value, peer_fit_len, peer_kind, peer_read, peer_same,
@@ -55,8 +49,8 @@ impl<P: LinkPeer> RowFamily for InfoVethOf<P> {
 
     ghost owes = { λ _ n.
         peer_owes P.meaning P.alike P.canonical P.well (λ peer. veth.Peer peer)
-        (veth_attribute P.canonical) veth_plain (veth_keeps P.canonical) P.alike_is P.meaning_well
-        P.well_means P.well_bytes (λ _. refl) n };
+        (veth_attribute P.canonical) [] tt P.alike_is P.meaning_well P.well_means P.well_bytes
+        (λ _. refl) n };
 
     ghost keeps_other = { λ _. refl };
 
@@ -102,7 +96,7 @@ impl<P: LinkPeer> PeerFamily for InfoVethOf<P> {
 
     ghost flat_elsewhere = { λ _ n.
         flat_elsewhere P.meaning P.alike P.canonical P.well (λ peer. veth.Peer peer)
-        (veth_attribute P.canonical) veth_plain (veth_keeps P.canonical) n };
+        (veth_attribute P.canonical) [] tt n };
 
     fn from_peer(peer: P) -> InfoVethOf<P> {
         InfoVethOf::Peer(peer)
@@ -159,7 +153,7 @@ impl<P: LinkPeer> UnnestedFamily for InfoVethOf<P> {
 
     ghost unnested = { λ _ n.
         peer_unnested P.meaning P.alike P.canonical P.well (λ peer. veth.Peer peer)
-        (veth_attribute P.canonical) veth_plain (veth_keeps P.canonical) n };
+        (veth_attribute P.canonical) [] tt n };
 
     fn read_by_row(
         alloc: Global,

@@ -1,9 +1,5 @@
-use Rattle.std.specs.Prelude.{IsOk}
-use Rattle.std.proofs.Common.{arith, ap, refl, sym, ◌∙◌, ◌-◌, ◌≡◌, length, ℕ}
-use Rattle.std.specs.Option.{option_map}
-use Rattle.linkinfo_table.specs.declared.last.PlacedNla.{PlacedNla}
+use Rattle.std.proofs.Common.{arith, ap, refl, sym, ◌∙◌, length}
 use Rattle.linkinfo_table.proofs.Lasts.{all_stand, left_at_attribute, left_at_start, stands_within}
-use Rattle.linkinfo_data.specs.Difference.{inner_difference}
 use Rattle.linkinfo_data.proofs.Differences.{
   inner_accepted,
   inner_listed,

@@ -1,7 +1,4 @@
-use Rattle.std.specs.Prelude.{IsOk}
 use Rattle.std.proofs.Common.{arith, ap, refl, sym, ◌∙◌, ◌-◌, ◌≡◌, length, ℕ}
-use Rattle.std.specs.Option.{option_map}
-use Rattle.linkinfo_table.specs.declared.last.PlacedNla.{PlacedNla}
 use Rattle.linkinfo_table.proofs.Lasts.{all_stand, left_at_attribute, left_at_start, stands_within}
 use Rattle.nla_frame.specs.NlaItems.{nla_items}
 use Rattle.linkinfo_data.proofs.Differences.{error_left, error_nested, error_passes}

@@ -1,12 +1,18 @@
-use Rattle.std.specs.Prelude.{◌≡◌, Some}
+use Rattle.std.specs.Prelude.{◌≡◌, [], Some, refl}
 use Rattle.nla_frame.specs.declared.error.Family.TheVariants as family
 use Rattle.nla_frame.specs.declared.error.Family.{Family}
+use Rattle.linkinfo_peers.specs.Netkit.{netkit_attribute, netkit_keeps, netkit_plain}
+use Rattle.linkinfo_peers.specs.Veth.{veth_attribute}
+use Rattle.linkinfo_peers.specs.Vxcan.{vxcan_attribute}
+use Rattle.linkinfo_peers.specs.declared.netkit.InfoNetkitOf.TheVariants as netkit
+use Rattle.linkinfo_peers.specs.declared.veth.InfoVethOf.TheVariants as veth
+use Rattle.linkinfo_peers.specs.declared.vxcan.InfoVxcanOf.TheVariants as vxcan
 use Rattle.linkinfo_data.proofs.Lawful.{amt_names, bare_udp_names, batadv_names, geneve_names}
 use Rattle.linkinfo_data.proofs.Lawful.{gre6_names, gre_names, gtp_names, ip_tunnel_names}
-use Rattle.linkinfo_data.proofs.Lawful.{ip_vlan_names, ip_vtap_names, ipoib_names, mac_sec_names}
-use Rattle.linkinfo_data.proofs.Lawful.{mac_vlan_names, mac_vtap_names, netkit_names, rm_net_names}
-use Rattle.linkinfo_data.proofs.Lawful.{opaque_names, veth_names, vrf_names, vti_names}
-use Rattle.linkinfo_data.proofs.Lawful.{vxcan_names, vxlan_names, wwan_names, xfrm_names}
+use Rattle.linkinfo_data.proofs.Lawful.{ip_vlan_names, ipoib_names, mac_sec_names}
+use Rattle.linkinfo_data.proofs.Lawful.{mac_vlan_names, mac_vtap_names, opaque_names}
+use Rattle.linkinfo_data.proofs.Lawful.{peer_names, peer_names_first, rm_net_names, vrf_names}
+use Rattle.linkinfo_data.proofs.Lawful.{vti_names, vxlan_names, wwan_names, xfrm_names}
 use Rattle.linkinfo_data.proofs.laws.errors_named.Goals as goal
 use Rattle.linkinfo_data.specs.Data.{data_of}
 use Rattle.linkinfo_data.specs.DeviceData.{devices_data_of}
@@ -60,9 +66,9 @@ returns g c =
     let device_ones : (f : DeviceFamily) →
     ErrorsName (device_name f) (devices_data_of {P = g.row.P.Denot} f) = elim [
       | device.IpVlan ↦ list_errors_name family.IpVlan plain.ip_vlan
-          (λ xs. info.IpVlan xs) ip_vlan_names
+          (λ xs. info.IpVlan xs) (ip_vlan_names family.IpVlan)
       | device.IpVtap ↦ list_errors_name family.IpVtap plain.ip_vtap
-          (λ xs. info.IpVtap xs) ip_vtap_names
+          (λ xs. info.IpVtap xs) (ip_vlan_names family.IpVtap)
       | device.MacVlan lists ↦ list_errors_name family.MacVlan (plain.mac_vlan lists)
           (λ xs. info.MacVlan xs) (mac_vlan_names lists)
       | device.MacVtap lists ↦ list_errors_name family.MacVtap (plain.mac_vtap lists)
@@ -106,12 +112,18 @@ returns g c =
           (λ xs. info.BatAdv xs) batadv_names
       | peered.Wwan ↦ list_errors_name family.Wwan plain.wwan (λ xs. info.Wwan xs) wwan_names
       | peered.Veth ↦ first_errors_name family.Veth families.veth (λ x. info.Veth x)
-          (veth_names g.row.P peer laws.alike_is laws.meaning_well laws.well_means laws.well_bytes)
+          (peer_names_first g.row.P peer laws.alike_is laws.meaning_well laws.well_means
+          laws.well_bytes family.Veth (λ z. veth.Peer z) (λ d. veth.Other d)
+          (veth_attribute peer.canonical) [] tt (λ _. refl) (λ _. refl))
       | peered.Vxcan ↦ first_errors_name family.Vxcan families.vxcan (λ x. info.Vxcan x)
-          (vxcan_names g.row.P peer laws.alike_is laws.meaning_well laws.well_means laws.well_bytes)
+          (peer_names_first g.row.P peer laws.alike_is laws.meaning_well laws.well_means
+          laws.well_bytes family.Vxcan (λ z. vxcan.Peer z) (λ d. vxcan.Other d)
+          (vxcan_attribute peer.canonical) [] tt (λ _. refl) (λ _. refl))
       | peered.Netkit ↦ list_errors_name family.Netkit families.netkit (λ xs. info.Netkit xs)
-          (netkit_names g.row.P peer laws.alike_is laws.meaning_well laws.well_means
-          laws.well_bytes)
+          (peer_names g.row.P peer laws.alike_is laws.meaning_well laws.well_means
+          laws.well_bytes family.Netkit (λ z. netkit.Peer z) (λ d. netkit.Other d)
+          (netkit_attribute peer.canonical) netkit_plain (netkit_keeps peer.canonical) (λ _. refl)
+          (λ _. refl))
     ] in
     let ports : (f : PortFamily) (name : Family) → port_data_name f ≡ Some name →
     ErrorsName name (port_data_of f) = elim [

@@ -1,9 +1,15 @@
-use Rattle.std.specs.Prelude.{refl}
+use Rattle.std.specs.Prelude.{[], refl}
 use Rattle.nla_frame.specs.declared.error.Family.TheVariants as family
+use Rattle.linkinfo_peers.specs.Netkit.{netkit_attribute, netkit_keeps, netkit_plain}
+use Rattle.linkinfo_peers.specs.Veth.{veth_attribute}
+use Rattle.linkinfo_peers.specs.Vxcan.{vxcan_attribute}
+use Rattle.linkinfo_peers.specs.declared.netkit.InfoNetkitOf.TheVariants as netkit
+use Rattle.linkinfo_peers.specs.declared.veth.InfoVethOf.TheVariants as veth
+use Rattle.linkinfo_peers.specs.declared.vxcan.InfoVxcanOf.TheVariants as vxcan
 use Rattle.linkinfo_data.proofs.Lawful.{amt_is, bare_udp_is, batadv_is, geneve_is, gre6_is, gre_is}
-use Rattle.linkinfo_data.proofs.Lawful.{gtp_is, ip_tunnel_is, ip_vlan_is, ip_vtap_is, ipoib_is}
-use Rattle.linkinfo_data.proofs.Lawful.{mac_sec_is, mac_vlan_is, mac_vtap_is, netkit_is, rm_net_is}
-use Rattle.linkinfo_data.proofs.Lawful.{opaque_is, veth_is, vrf_is, vti_is, vxcan_is, vxlan_is}
+use Rattle.linkinfo_data.proofs.Lawful.{gtp_is, ip_tunnel_is, ip_vlan_is, ipoib_is}
+use Rattle.linkinfo_data.proofs.Lawful.{mac_sec_is, mac_vlan_is, mac_vtap_is, opaque_is, peer_is}
+use Rattle.linkinfo_data.proofs.Lawful.{rm_net_is, vrf_is, vti_is, vxlan_is}
 use Rattle.linkinfo_data.proofs.Lawful.{wwan_is, xfrm_is}
 use Rattle.linkinfo_data.proofs.laws.families_lawful.Goals as goal
 use Rattle.linkinfo_data.specs.DeviceData.{devices_data_of, mac_vlan_lists, mac_vtap_lists}
@@ -53,10 +59,10 @@ returns g c =
     ] in
     let device_ones : (f : DeviceFamily) →
     IsLawful (devices_data_of {P = g.row.P.Denot} f) (data_payload families) = elim [
-      | device.IpVlan ↦ as_list_is_lawful plain.ip_vlan ip_vlan_is (λ xs. info.IpVlan xs)
-          (data_payload families) (λ _. refl) (λ x y e. cc)
-      | device.IpVtap ↦ as_list_is_lawful plain.ip_vtap ip_vtap_is (λ xs. info.IpVtap xs)
-          (data_payload families) (λ _. refl) (λ x y e. cc)
+      | device.IpVlan ↦ as_list_is_lawful plain.ip_vlan (ip_vlan_is family.IpVlan)
+          (λ xs. info.IpVlan xs) (data_payload families) (λ _. refl) (λ x y e. cc)
+      | device.IpVtap ↦ as_list_is_lawful plain.ip_vtap (ip_vlan_is family.IpVtap)
+          (λ xs. info.IpVtap xs) (data_payload families) (λ _. refl) (λ x y e. cc)
       | device.MacVlan lists ↦ as_lists_is_lawful (plain.mac_vlan lists) (mac_vlan_is lists)
           (mac_vlan_lists lists) (λ xs. info.MacVlan xs)
           (data_payload families) (λ _. refl) (λ x y e. cc)
@@ -116,13 +122,20 @@ returns g c =
       | peered.Wwan ↦ as_list_is_lawful plain.wwan wwan_is (λ xs. info.Wwan xs)
           (data_payload families) (λ _. refl) (λ x y e. cc)
       | peered.Veth ↦ as_first_is_lawful families.veth
-          (veth_is g.row.P peer laws.alike_is laws.meaning_well laws.well_means laws.well_bytes)
+          (peer_is g.row.P peer laws.alike_is laws.meaning_well laws.well_means laws.well_bytes
+          family.Veth (λ z. veth.Peer z) (λ d. veth.Other d) (veth_attribute peer.canonical)
+          [] tt (λ _. refl) (λ _. refl))
           (λ x. info.Veth x) (data_payload families) (λ _. refl) (λ x y e. cc)
       | peered.Vxcan ↦ as_first_is_lawful families.vxcan
-          (vxcan_is g.row.P peer laws.alike_is laws.meaning_well laws.well_means laws.well_bytes)
+          (peer_is g.row.P peer laws.alike_is laws.meaning_well laws.well_means laws.well_bytes
+          family.Vxcan (λ z. vxcan.Peer z) (λ d. vxcan.Other d) (vxcan_attribute peer.canonical)
+          [] tt (λ _. refl) (λ _. refl))
           (λ x. info.Vxcan x) (data_payload families) (λ _. refl) (λ x y e. cc)
       | peered.Netkit ↦ as_list_is_lawful families.netkit
-          (netkit_is g.row.P peer laws.alike_is laws.meaning_well laws.well_means laws.well_bytes)
+          (peer_is g.row.P peer laws.alike_is laws.meaning_well laws.well_means laws.well_bytes
+          family.Netkit (λ z. netkit.Peer z) (λ d. netkit.Other d)
+          (netkit_attribute peer.canonical) netkit_plain (netkit_keeps peer.canonical) (λ _. refl)
+          (λ _. refl))
           (λ xs. info.Netkit xs) (data_payload families) (λ _. refl) (λ x y e. cc)
     ] in
     let ports : (f : PortFamily) → IsLawful (port_data_of f) port_data_payload = elim [

@@ -1,4 +1,4 @@
-use Rattle.std.specs.Prelude.{ℕ, None}
+use Rattle.std.specs.Prelude.{None}
 use Rattle.linkinfo_data.specs.Data.{data_listed, data_nest, data_nested_in, data_of}
 use Rattle.linkinfo_data.specs.PeerFamilies.{families_of}
 use Rattle.linkinfo_data.specs.PortData.{port_data_of, port_listed, port_nest}

@@ -1,6 +1,6 @@
 use Rattle.linkinfo_devices.specs.Conditions.{ip_vlan_conditions, ip_vlan_stated}
-use Rattle.linkinfo_devices.specs.Conditions.{ip_vtap_conditions, ip_vtap_stated, ipoib_conditions}
-use Rattle.linkinfo_devices.specs.Conditions.{ipoib_stated, mac_sec_conditions, mac_sec_stated}
+use Rattle.linkinfo_devices.specs.Conditions.{ipoib_conditions, ipoib_stated, mac_sec_conditions}
+use Rattle.linkinfo_devices.specs.Conditions.{mac_sec_stated}
 use Rattle.linkinfo_devices.specs.Conditions.{mac_vlan_conditions, mac_vlan_stated}
 use Rattle.linkinfo_devices.specs.Conditions.{mac_vtap_conditions, mac_vtap_stated}
 use Rattle.linkinfo_devices.specs.Conditions.{rm_net_conditions, rm_net_stated, vrf_conditions}
@@ -61,7 +61,7 @@ returns g c =
       | device.IpVlan ↦ list_stated plain.ip_vlan
           (λ xs. info.IpVlan xs) ip_vlan_conditions ip_vlan_stated
       | device.IpVtap ↦ list_stated plain.ip_vtap
-          (λ xs. info.IpVtap xs) ip_vtap_conditions ip_vtap_stated
+          (λ xs. info.IpVtap xs) ip_vlan_conditions ip_vlan_stated
       | device.MacVlan lists ↦ list_stated (plain.mac_vlan lists) (λ xs. info.MacVlan xs)
           (mac_vlan_conditions lists) (mac_vlan_stated lists)
       | device.MacVtap lists ↦ list_stated (plain.mac_vtap lists) (λ xs. info.MacVtap xs)

@@ -1,5 +1,5 @@
 use Rattle.linkinfo_devices.proofs.laws.well_formed.Goals as goal
-use Rattle.linkinfo_devices.specs.Conditions.{ip_vlan_stated, ip_vtap_stated, ipoib_stated}
+use Rattle.linkinfo_devices.specs.Conditions.{ip_vlan_stated, ipoib_stated}
 use Rattle.linkinfo_devices.specs.Conditions.{mac_sec_stated, mac_vlan_stated, mac_vtap_stated}
 use Rattle.linkinfo_devices.specs.Conditions.{rm_net_stated, vrf_stated, xfrm_stated}
 
@@ -7,7 +7,7 @@ pub returns-clause-ip_vlan : goal.returns-clause-ip_vlan
 returns-clause-ip_vlan c = ip_vlan_stated
 
 pub returns-clause-ip_vtap : goal.returns-clause-ip_vtap
-returns-clause-ip_vtap c = ip_vtap_stated
+returns-clause-ip_vtap c = ip_vlan_stated
 
 pub returns-clause-ipoib : goal.returns-clause-ipoib
 returns-clause-ipoib c = ipoib_stated
