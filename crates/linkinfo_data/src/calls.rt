@@ -6,13 +6,13 @@
 
 /// Parses a payload.
 macro_rules! read {
-    (list($variant:path, $nla:ty, $ctx:expr) ($alloc:expr, $payload:expr, $count:expr)) => {
+    (list($variant:path, $nla:ty, $ctx:expr) ($alloc:ident, $payload:expr, $count:expr)) => {
         $variant(crate::written::read_nlas($alloc, $payload, $ctx, $count)?)
     };
-    (first($variant:path, $nla:ty, $ctx:expr) ($alloc:expr, $payload:expr, $count:expr)) => {
+    (first($variant:path, $nla:ty, $ctx:expr) ($alloc:ident, $payload:expr, $count:expr)) => {
         $variant(linkinfo_table::first_read($alloc, $payload, $ctx, $count)?)
     };
-    (bytes($variant:path) ($alloc:expr, $payload:expr, $count:expr)) => {
+    (bytes($variant:path) ($alloc:ident, $payload:expr, $count:expr)) => {
         $variant(nla_frame::Bytes::copy_of($alloc, $payload)?)
     };
 }

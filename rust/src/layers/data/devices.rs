@@ -1,16 +1,14 @@
 //! Data of ipvlan, ipvtap, macvlan, macvtap, vrf, ipoib, xfrm, macsec and rmnet links.
 
+use crate::layers::data::calls::{canonical_len, check, read, same, write_canonical};
 use crate::layers::data::info_data::InfoDataOf;
 use crate::layers::data::payload_family::PayloadFamily;
-use crate::layers::data::written::read_nlas;
 use crate::layers::devices::{
     InfoIpVlan, InfoIpVtap, InfoIpoib, InfoMacSec, InfoMacVlan, InfoMacVtap, InfoRmNet, InfoVrf,
     InfoXfrm, LIST_TYPE, MOST_LISTS,
 };
 use crate::layers::nla_frame::{DecodeError, ExactEq, Family, HeaderCount};
-use crate::layers::table::{
-    LinkPeer, list_canonical_len, list_check, list_same, list_write_canonical,
-};
+use crate::layers::table::LinkPeer;
 
 /// The families of data of ipvlan, ipvtap, macvlan, macvtap, vrf, ipoib, xfrm, macsec and rmnet
 /// links.
@@ -40,6 +38,23 @@ pub enum DeviceFamily {
 
 impl ExactEq for DeviceFamily {}
 
+/// Matches a family of devices, and expands `$call!`, of `calls`, for its data.
+macro_rules! of_device {
+    ($family:expr, $call:ident $given:tt) => {
+        match $family {
+            DeviceFamily::IpVlan => $call!(list(InfoDataOf::IpVlan, InfoIpVlan, ()) $given),
+            DeviceFamily::IpVtap => $call!(list(InfoDataOf::IpVtap, InfoIpVtap, ()) $given),
+            DeviceFamily::MacVlan(n) => $call!(list(InfoDataOf::MacVlan, InfoMacVlan, n) $given),
+            DeviceFamily::MacVtap(n) => $call!(list(InfoDataOf::MacVtap, InfoMacVtap, n) $given),
+            DeviceFamily::Vrf => $call!(list(InfoDataOf::Vrf, InfoVrf, ()) $given),
+            DeviceFamily::Ipoib => $call!(list(InfoDataOf::Ipoib, InfoIpoib, ()) $given),
+            DeviceFamily::Xfrm => $call!(list(InfoDataOf::Xfrm, InfoXfrm, ()) $given),
+            DeviceFamily::MacSec => $call!(list(InfoDataOf::MacSec, InfoMacSec, ()) $given),
+            DeviceFamily::RmNet => $call!(list(InfoDataOf::RmNet, InfoRmNet, ()) $given),
+        }
+    };
+}
+
 impl<P: LinkPeer> PayloadFamily<InfoDataOf<P>> for DeviceFamily {
     fn listing(self) -> Option<Family> {
         match self {
@@ -68,73 +83,23 @@ impl<P: LinkPeer> PayloadFamily<InfoDataOf<P>> for DeviceFamily {
     }
 
     fn read(self, payload: &[u8], count: &mut HeaderCount) -> Result<InfoDataOf<P>, DecodeError> {
-        Ok(match self {
-            DeviceFamily::IpVlan => InfoDataOf::IpVlan(read_nlas(payload, (), count)?),
-            DeviceFamily::IpVtap => InfoDataOf::IpVtap(read_nlas(payload, (), count)?),
-            DeviceFamily::MacVlan(n) => InfoDataOf::MacVlan(read_nlas(payload, n, count)?),
-            DeviceFamily::MacVtap(n) => InfoDataOf::MacVtap(read_nlas(payload, n, count)?),
-            DeviceFamily::Vrf => InfoDataOf::Vrf(read_nlas(payload, (), count)?),
-            DeviceFamily::Ipoib => InfoDataOf::Ipoib(read_nlas(payload, (), count)?),
-            DeviceFamily::Xfrm => InfoDataOf::Xfrm(read_nlas(payload, (), count)?),
-            DeviceFamily::MacSec => InfoDataOf::MacSec(read_nlas(payload, (), count)?),
-            DeviceFamily::RmNet => InfoDataOf::RmNet(read_nlas(payload, (), count)?),
-        })
+        Ok(of_device!(self, read(payload, count)))
     }
 
     #[inline(always)]
     fn check(self, payload: &[u8], count: &mut HeaderCount) -> Result<(), DecodeError> {
-        match self {
-            DeviceFamily::IpVlan => list_check::<InfoIpVlan>(payload, (), count),
-            DeviceFamily::IpVtap => list_check::<InfoIpVtap>(payload, (), count),
-            DeviceFamily::MacVlan(n) => list_check::<InfoMacVlan>(payload, n, count),
-            DeviceFamily::MacVtap(n) => list_check::<InfoMacVtap>(payload, n, count),
-            DeviceFamily::Vrf => list_check::<InfoVrf>(payload, (), count),
-            DeviceFamily::Ipoib => list_check::<InfoIpoib>(payload, (), count),
-            DeviceFamily::Xfrm => list_check::<InfoXfrm>(payload, (), count),
-            DeviceFamily::MacSec => list_check::<InfoMacSec>(payload, (), count),
-            DeviceFamily::RmNet => list_check::<InfoRmNet>(payload, (), count),
-        }
+        of_device!(self, check(payload, count))
     }
 
     fn same(self, a: &[u8], b: &[u8], count: &mut HeaderCount) -> bool {
-        match self {
-            DeviceFamily::IpVlan => list_same::<InfoIpVlan>(a, b, (), count),
-            DeviceFamily::IpVtap => list_same::<InfoIpVtap>(a, b, (), count),
-            DeviceFamily::MacVlan(n) => list_same::<InfoMacVlan>(a, b, n, count),
-            DeviceFamily::MacVtap(n) => list_same::<InfoMacVtap>(a, b, n, count),
-            DeviceFamily::Vrf => list_same::<InfoVrf>(a, b, (), count),
-            DeviceFamily::Ipoib => list_same::<InfoIpoib>(a, b, (), count),
-            DeviceFamily::Xfrm => list_same::<InfoXfrm>(a, b, (), count),
-            DeviceFamily::MacSec => list_same::<InfoMacSec>(a, b, (), count),
-            DeviceFamily::RmNet => list_same::<InfoRmNet>(a, b, (), count),
-        }
+        of_device!(self, same(a, b, count))
     }
 
     fn canonical_len(self, payload: &[u8]) -> Option<usize> {
-        match self {
-            DeviceFamily::IpVlan => list_canonical_len::<InfoIpVlan>(payload, ()),
-            DeviceFamily::IpVtap => list_canonical_len::<InfoIpVtap>(payload, ()),
-            DeviceFamily::MacVlan(n) => list_canonical_len::<InfoMacVlan>(payload, n),
-            DeviceFamily::MacVtap(n) => list_canonical_len::<InfoMacVtap>(payload, n),
-            DeviceFamily::Vrf => list_canonical_len::<InfoVrf>(payload, ()),
-            DeviceFamily::Ipoib => list_canonical_len::<InfoIpoib>(payload, ()),
-            DeviceFamily::Xfrm => list_canonical_len::<InfoXfrm>(payload, ()),
-            DeviceFamily::MacSec => list_canonical_len::<InfoMacSec>(payload, ()),
-            DeviceFamily::RmNet => list_canonical_len::<InfoRmNet>(payload, ()),
-        }
+        of_device!(self, canonical_len(payload))
     }
 
     fn write_canonical(self, payload: &[u8], buffer: &mut [u8]) -> usize {
-        match self {
-            DeviceFamily::IpVlan => list_write_canonical::<InfoIpVlan>(payload, (), buffer),
-            DeviceFamily::IpVtap => list_write_canonical::<InfoIpVtap>(payload, (), buffer),
-            DeviceFamily::MacVlan(n) => list_write_canonical::<InfoMacVlan>(payload, n, buffer),
-            DeviceFamily::MacVtap(n) => list_write_canonical::<InfoMacVtap>(payload, n, buffer),
-            DeviceFamily::Vrf => list_write_canonical::<InfoVrf>(payload, (), buffer),
-            DeviceFamily::Ipoib => list_write_canonical::<InfoIpoib>(payload, (), buffer),
-            DeviceFamily::Xfrm => list_write_canonical::<InfoXfrm>(payload, (), buffer),
-            DeviceFamily::MacSec => list_write_canonical::<InfoMacSec>(payload, (), buffer),
-            DeviceFamily::RmNet => list_write_canonical::<InfoRmNet>(payload, (), buffer),
-        }
+        of_device!(self, write_canonical(payload, buffer))
     }
 }

@@ -1,13 +1,11 @@
 //! Data of bridge, vlan, bond, hsr, can and dsa links.
 
+use crate::layers::data::calls::{canonical_len, check, read, same, write_canonical};
 use crate::layers::data::info_data::InfoDataOf;
 use crate::layers::data::payload_family::PayloadFamily;
-use crate::layers::data::written::read_nlas;
 use crate::layers::nla_frame::{DecodeError, ExactEq, Family, HeaderCount};
+use crate::layers::table::LinkPeer;
 use crate::layers::table::lower::{InfoBond, InfoBridge, InfoCan, InfoDsa, InfoHsr, InfoVlan};
-use crate::layers::table::{
-    LinkPeer, list_canonical_len, list_check, list_same, list_write_canonical,
-};
 
 /// The families of data of bridge, vlan, bond, hsr, can and dsa links, whose attributes are kept
 /// verbatim.
@@ -29,6 +27,20 @@ pub enum LowerFamily {
 
 impl ExactEq for LowerFamily {}
 
+/// Matches a family, and expands `$call!`, of `calls`, for its data.
+macro_rules! of_lower {
+    ($family:expr, $call:ident $given:tt) => {
+        match $family {
+            LowerFamily::Bridge => $call!(list(InfoDataOf::Bridge, InfoBridge, ()) $given),
+            LowerFamily::Vlan => $call!(list(InfoDataOf::Vlan, InfoVlan, ()) $given),
+            LowerFamily::Bond => $call!(list(InfoDataOf::Bond, InfoBond, ()) $given),
+            LowerFamily::Hsr => $call!(list(InfoDataOf::Hsr, InfoHsr, ()) $given),
+            LowerFamily::Can => $call!(list(InfoDataOf::Can, InfoCan, ()) $given),
+            LowerFamily::Dsa => $call!(list(InfoDataOf::Dsa, InfoDsa, ()) $given),
+        }
+    };
+}
+
 impl<P: LinkPeer> PayloadFamily<InfoDataOf<P>> for LowerFamily {
     fn listing(self) -> Option<Family> {
         match self {
@@ -46,58 +58,23 @@ impl<P: LinkPeer> PayloadFamily<InfoDataOf<P>> for LowerFamily {
     }
 
     fn read(self, payload: &[u8], count: &mut HeaderCount) -> Result<InfoDataOf<P>, DecodeError> {
-        Ok(match self {
-            LowerFamily::Bridge => InfoDataOf::Bridge(read_nlas(payload, (), count)?),
-            LowerFamily::Vlan => InfoDataOf::Vlan(read_nlas(payload, (), count)?),
-            LowerFamily::Bond => InfoDataOf::Bond(read_nlas(payload, (), count)?),
-            LowerFamily::Hsr => InfoDataOf::Hsr(read_nlas(payload, (), count)?),
-            LowerFamily::Can => InfoDataOf::Can(read_nlas(payload, (), count)?),
-            LowerFamily::Dsa => InfoDataOf::Dsa(read_nlas(payload, (), count)?),
-        })
+        Ok(of_lower!(self, read(payload, count)))
     }
 
     #[inline(always)]
     fn check(self, payload: &[u8], count: &mut HeaderCount) -> Result<(), DecodeError> {
-        match self {
-            LowerFamily::Bridge => list_check::<InfoBridge>(payload, (), count),
-            LowerFamily::Vlan => list_check::<InfoVlan>(payload, (), count),
-            LowerFamily::Bond => list_check::<InfoBond>(payload, (), count),
-            LowerFamily::Hsr => list_check::<InfoHsr>(payload, (), count),
-            LowerFamily::Can => list_check::<InfoCan>(payload, (), count),
-            LowerFamily::Dsa => list_check::<InfoDsa>(payload, (), count),
-        }
+        of_lower!(self, check(payload, count))
     }
 
     fn same(self, a: &[u8], b: &[u8], count: &mut HeaderCount) -> bool {
-        match self {
-            LowerFamily::Bridge => list_same::<InfoBridge>(a, b, (), count),
-            LowerFamily::Vlan => list_same::<InfoVlan>(a, b, (), count),
-            LowerFamily::Bond => list_same::<InfoBond>(a, b, (), count),
-            LowerFamily::Hsr => list_same::<InfoHsr>(a, b, (), count),
-            LowerFamily::Can => list_same::<InfoCan>(a, b, (), count),
-            LowerFamily::Dsa => list_same::<InfoDsa>(a, b, (), count),
-        }
+        of_lower!(self, same(a, b, count))
     }
 
     fn canonical_len(self, payload: &[u8]) -> Option<usize> {
-        match self {
-            LowerFamily::Bridge => list_canonical_len::<InfoBridge>(payload, ()),
-            LowerFamily::Vlan => list_canonical_len::<InfoVlan>(payload, ()),
-            LowerFamily::Bond => list_canonical_len::<InfoBond>(payload, ()),
-            LowerFamily::Hsr => list_canonical_len::<InfoHsr>(payload, ()),
-            LowerFamily::Can => list_canonical_len::<InfoCan>(payload, ()),
-            LowerFamily::Dsa => list_canonical_len::<InfoDsa>(payload, ()),
-        }
+        of_lower!(self, canonical_len(payload))
     }
 
     fn write_canonical(self, payload: &[u8], buffer: &mut [u8]) -> usize {
-        match self {
-            LowerFamily::Bridge => list_write_canonical::<InfoBridge>(payload, (), buffer),
-            LowerFamily::Vlan => list_write_canonical::<InfoVlan>(payload, (), buffer),
-            LowerFamily::Bond => list_write_canonical::<InfoBond>(payload, (), buffer),
-            LowerFamily::Hsr => list_write_canonical::<InfoHsr>(payload, (), buffer),
-            LowerFamily::Can => list_write_canonical::<InfoCan>(payload, (), buffer),
-            LowerFamily::Dsa => list_write_canonical::<InfoDsa>(payload, (), buffer),
-        }
+        of_lower!(self, write_canonical(payload, buffer))
     }
 }

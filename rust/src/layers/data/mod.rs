@@ -1,6 +1,7 @@
 //! Data of links (`IFLA_INFO_DATA`) and of ports (`IFLA_INFO_SLAVE_DATA`), by the family that the
 //! kind chooses.
 
+mod calls;
 mod data;
 mod devices;
 mod difference;

@@ -1,16 +1,13 @@
 //! Data of veth, vxcan, netkit, tun, wireguard, batadv, wwan and pfcp links.
 
+use crate::layers::data::calls::{canonical_len, check, read, same, write_canonical};
 use crate::layers::data::info_data::InfoDataOf;
 use crate::layers::data::payload_family::PayloadFamily;
-use crate::layers::data::written::read_nlas;
 use crate::layers::nla_frame::{DecodeError, ExactEq, Family, HeaderCount};
 use crate::layers::peers::{
     InfoBatAdv, InfoNetkitOf, InfoPfcp, InfoTun, InfoVethOf, InfoVxcanOf, InfoWireguard, InfoWwan,
 };
-use crate::layers::table::{
-    LinkPeer, first_canonical_len, first_check, first_read, first_same, first_write_canonical,
-    list_canonical_len, list_check, list_same, list_write_canonical,
-};
+use crate::layers::table::LinkPeer;
 
 /// The families of data of links with a peer (veth, vxcan and netkit), and of tun, wireguard,
 /// batadv, wwan and pfcp links.
@@ -36,6 +33,24 @@ pub enum PeeredFamily {
 
 impl ExactEq for PeeredFamily {}
 
+/// Matches a family, and expands `$call!`, of `calls`, for its data.
+macro_rules! of_peered {
+    ($family:expr, $call:ident $given:tt) => {
+        match $family {
+            PeeredFamily::Tun => $call!(list(InfoDataOf::Tun, InfoTun, ()) $given),
+            PeeredFamily::Veth => $call!(first(InfoDataOf::Veth, InfoVethOf<P>, ()) $given),
+            PeeredFamily::Wireguard => {
+                $call!(list(InfoDataOf::Wireguard, InfoWireguard, ()) $given)
+            }
+            PeeredFamily::Netkit => $call!(list(InfoDataOf::Netkit, InfoNetkitOf<P>, ()) $given),
+            PeeredFamily::Vxcan => $call!(first(InfoDataOf::Vxcan, InfoVxcanOf<P>, ()) $given),
+            PeeredFamily::BatAdv => $call!(list(InfoDataOf::BatAdv, InfoBatAdv, ()) $given),
+            PeeredFamily::Wwan => $call!(list(InfoDataOf::Wwan, InfoWwan, ()) $given),
+            PeeredFamily::Pfcp => $call!(list(InfoDataOf::Pfcp, InfoPfcp, ()) $given),
+        }
+    };
+}
+
 impl<P: LinkPeer> PayloadFamily<InfoDataOf<P>> for PeeredFamily {
     fn listing(self) -> Option<Family> {
         match self {
@@ -55,68 +70,23 @@ impl<P: LinkPeer> PayloadFamily<InfoDataOf<P>> for PeeredFamily {
     }
 
     fn read(self, payload: &[u8], count: &mut HeaderCount) -> Result<InfoDataOf<P>, DecodeError> {
-        Ok(match self {
-            PeeredFamily::Tun => InfoDataOf::Tun(read_nlas(payload, (), count)?),
-            PeeredFamily::Veth => InfoDataOf::Veth(first_read(payload, (), count)?),
-            PeeredFamily::Wireguard => InfoDataOf::Wireguard(read_nlas(payload, (), count)?),
-            PeeredFamily::Netkit => InfoDataOf::Netkit(read_nlas(payload, (), count)?),
-            PeeredFamily::Vxcan => InfoDataOf::Vxcan(first_read(payload, (), count)?),
-            PeeredFamily::BatAdv => InfoDataOf::BatAdv(read_nlas(payload, (), count)?),
-            PeeredFamily::Wwan => InfoDataOf::Wwan(read_nlas(payload, (), count)?),
-            PeeredFamily::Pfcp => InfoDataOf::Pfcp(read_nlas(payload, (), count)?),
-        })
+        Ok(of_peered!(self, read(payload, count)))
     }
 
     #[inline(always)]
     fn check(self, payload: &[u8], count: &mut HeaderCount) -> Result<(), DecodeError> {
-        match self {
-            PeeredFamily::Tun => list_check::<InfoTun>(payload, (), count),
-            PeeredFamily::Veth => first_check::<InfoVethOf<P>>(payload, (), count),
-            PeeredFamily::Wireguard => list_check::<InfoWireguard>(payload, (), count),
-            PeeredFamily::Netkit => list_check::<InfoNetkitOf<P>>(payload, (), count),
-            PeeredFamily::Vxcan => first_check::<InfoVxcanOf<P>>(payload, (), count),
-            PeeredFamily::BatAdv => list_check::<InfoBatAdv>(payload, (), count),
-            PeeredFamily::Wwan => list_check::<InfoWwan>(payload, (), count),
-            PeeredFamily::Pfcp => list_check::<InfoPfcp>(payload, (), count),
-        }
+        of_peered!(self, check(payload, count))
     }
 
     fn same(self, a: &[u8], b: &[u8], count: &mut HeaderCount) -> bool {
-        match self {
-            PeeredFamily::Tun => list_same::<InfoTun>(a, b, (), count),
-            PeeredFamily::Veth => first_same::<InfoVethOf<P>>(a, b, (), count),
-            PeeredFamily::Wireguard => list_same::<InfoWireguard>(a, b, (), count),
-            PeeredFamily::Netkit => list_same::<InfoNetkitOf<P>>(a, b, (), count),
-            PeeredFamily::Vxcan => first_same::<InfoVxcanOf<P>>(a, b, (), count),
-            PeeredFamily::BatAdv => list_same::<InfoBatAdv>(a, b, (), count),
-            PeeredFamily::Wwan => list_same::<InfoWwan>(a, b, (), count),
-            PeeredFamily::Pfcp => list_same::<InfoPfcp>(a, b, (), count),
-        }
+        of_peered!(self, same(a, b, count))
     }
 
     fn canonical_len(self, payload: &[u8]) -> Option<usize> {
-        match self {
-            PeeredFamily::Tun => list_canonical_len::<InfoTun>(payload, ()),
-            PeeredFamily::Veth => first_canonical_len::<InfoVethOf<P>>(payload, ()),
-            PeeredFamily::Wireguard => list_canonical_len::<InfoWireguard>(payload, ()),
-            PeeredFamily::Netkit => list_canonical_len::<InfoNetkitOf<P>>(payload, ()),
-            PeeredFamily::Vxcan => first_canonical_len::<InfoVxcanOf<P>>(payload, ()),
-            PeeredFamily::BatAdv => list_canonical_len::<InfoBatAdv>(payload, ()),
-            PeeredFamily::Wwan => list_canonical_len::<InfoWwan>(payload, ()),
-            PeeredFamily::Pfcp => list_canonical_len::<InfoPfcp>(payload, ()),
-        }
+        of_peered!(self, canonical_len(payload))
     }
 
     fn write_canonical(self, payload: &[u8], buffer: &mut [u8]) -> usize {
-        match self {
-            PeeredFamily::Tun => list_write_canonical::<InfoTun>(payload, (), buffer),
-            PeeredFamily::Veth => first_write_canonical::<InfoVethOf<P>>(payload, (), buffer),
-            PeeredFamily::Wireguard => list_write_canonical::<InfoWireguard>(payload, (), buffer),
-            PeeredFamily::Netkit => list_write_canonical::<InfoNetkitOf<P>>(payload, (), buffer),
-            PeeredFamily::Vxcan => first_write_canonical::<InfoVxcanOf<P>>(payload, (), buffer),
-            PeeredFamily::BatAdv => list_write_canonical::<InfoBatAdv>(payload, (), buffer),
-            PeeredFamily::Wwan => list_write_canonical::<InfoWwan>(payload, (), buffer),
-            PeeredFamily::Pfcp => list_write_canonical::<InfoPfcp>(payload, (), buffer),
-        }
+        of_peered!(self, write_canonical(payload, buffer))
     }
 }

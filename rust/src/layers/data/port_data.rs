@@ -1,7 +1,8 @@
 //! The data of a port: `IFLA_INFO_SLAVE_DATA`, include/uapi/linux/if_link.h.
 
+use crate::layers::data::calls::{canonical_len, check, read, same, write_canonical};
 use crate::layers::data::payload_family::PayloadFamily;
-use crate::layers::data::written::{list_fit_len, read_nlas, write_list};
+use crate::layers::data::written::{list_fit_len, write_list};
 use crate::layers::devices::InfoVrfPort;
 use crate::layers::nla_frame::{
     Bytes, DecodeError, ExactEq, Family, HeaderCount, Nla, Nlas, fitting, write_bytes,
@@ -9,7 +10,6 @@ use crate::layers::nla_frame::{
 use crate::layers::numbers::{IFLA_INFO_SLAVE_DATA, InfoPortKind, PortTag};
 use crate::layers::peers::InfoTeamPort;
 use crate::layers::table::lower::{InfoBondPort, InfoBridgePort};
-use crate::layers::table::{list_canonical_len, list_check, list_same, list_write_canonical};
 
 /// The family of the attributes in `IFLA_INFO_SLAVE_DATA`, which the kind of the port chooses.
 #[derive(Clone, Copy, Debug, PartialEq, Eq)]
@@ -55,6 +55,19 @@ pub enum InfoPortData {
     Other(Bytes),
 }
 
+/// Matches a family of ports, and expands `$call!`, of `calls`, for its data.
+macro_rules! of_port {
+    ($family:expr, $call:ident $given:tt) => {
+        match $family {
+            PortFamily::Bond => $call!(list(InfoPortData::BondPort, InfoBondPort, ()) $given),
+            PortFamily::Bridge => $call!(list(InfoPortData::BridgePort, InfoBridgePort, ()) $given),
+            PortFamily::Vrf => $call!(list(InfoPortData::VrfPort, InfoVrfPort, ()) $given),
+            PortFamily::Team => $call!(list(InfoPortData::TeamPort, InfoTeamPort, ()) $given),
+            PortFamily::Raw => $call!(bytes(InfoPortData::Other) $given),
+        }
+    };
+}
+
 impl PayloadFamily<InfoPortData> for PortFamily {
     fn listing(self) -> Option<Family> {
         match self {
@@ -71,54 +84,24 @@ impl PayloadFamily<InfoPortData> for PortFamily {
     }
 
     fn read(self, payload: &[u8], count: &mut HeaderCount) -> Result<InfoPortData, DecodeError> {
-        Ok(match self {
-            PortFamily::Bond => InfoPortData::BondPort(read_nlas(payload, (), count)?),
-            PortFamily::Bridge => InfoPortData::BridgePort(read_nlas(payload, (), count)?),
-            PortFamily::Vrf => InfoPortData::VrfPort(read_nlas(payload, (), count)?),
-            PortFamily::Team => InfoPortData::TeamPort(read_nlas(payload, (), count)?),
-            PortFamily::Raw => InfoPortData::Other(Bytes::copy_of(payload)?),
-        })
+        Ok(of_port!(self, read(payload, count)))
     }
 
     #[inline(always)]
     fn check(self, payload: &[u8], count: &mut HeaderCount) -> Result<(), DecodeError> {
-        match self {
-            PortFamily::Bond => list_check::<InfoBondPort>(payload, (), count),
-            PortFamily::Bridge => list_check::<InfoBridgePort>(payload, (), count),
-            PortFamily::Vrf => list_check::<InfoVrfPort>(payload, (), count),
-            PortFamily::Team => list_check::<InfoTeamPort>(payload, (), count),
-            PortFamily::Raw => Ok(()),
-        }
+        of_port!(self, check(payload, count))
     }
 
     fn same(self, a: &[u8], b: &[u8], count: &mut HeaderCount) -> bool {
-        match self {
-            PortFamily::Bond => list_same::<InfoBondPort>(a, b, (), count),
-            PortFamily::Bridge => list_same::<InfoBridgePort>(a, b, (), count),
-            PortFamily::Vrf => list_same::<InfoVrfPort>(a, b, (), count),
-            PortFamily::Team => list_same::<InfoTeamPort>(a, b, (), count),
-            PortFamily::Raw => a == b,
-        }
+        of_port!(self, same(a, b, count))
     }
 
     fn canonical_len(self, payload: &[u8]) -> Option<usize> {
-        match self {
-            PortFamily::Bond => list_canonical_len::<InfoBondPort>(payload, ()),
-            PortFamily::Bridge => list_canonical_len::<InfoBridgePort>(payload, ()),
-            PortFamily::Vrf => list_canonical_len::<InfoVrfPort>(payload, ()),
-            PortFamily::Team => list_canonical_len::<InfoTeamPort>(payload, ()),
-            PortFamily::Raw => fitting(payload.len()),
-        }
+        of_port!(self, canonical_len(payload))
     }
 
     fn write_canonical(self, payload: &[u8], buffer: &mut [u8]) -> usize {
-        match self {
-            PortFamily::Bond => list_write_canonical::<InfoBondPort>(payload, (), buffer),
-            PortFamily::Bridge => list_write_canonical::<InfoBridgePort>(payload, (), buffer),
-            PortFamily::Vrf => list_write_canonical::<InfoVrfPort>(payload, (), buffer),
-            PortFamily::Team => list_write_canonical::<InfoTeamPort>(payload, (), buffer),
-            PortFamily::Raw => write_bytes(payload, buffer),
-        }
+        of_port!(self, write_canonical(payload, buffer))
     }
 }
 
