@@ -1,4 +1,4 @@
-//! Links of kind `ipvlan`.
+//! Links of kinds `ipvlan` and `ipvtap`.
 
 use crate::compat::AllocError;
 use crate::layers::nla_frame::{
@@ -11,10 +11,12 @@ use crate::layers::table::{
 };
 use bitflags::Flags;
 
-/// An attribute in the data of an `ipvlan` link, an IPVLAN interface
-/// (include/uapi/linux/if_link.h).
+/// An attribute in the data of an `ipvlan` or an `ipvtap` link, an IPVLAN interface or a TAP device
+/// on one (include/uapi/linux/if_link.h).
+///
+/// `TAP` selects the family: `Family::IpVtap` if it is true, else `Family::IpVlan`.
 #[derive(Debug, PartialEq, Eq, Clone)]
-pub enum InfoIpVlan {
+pub enum InfoIpVlanOf<const TAP: bool> {
     /// Mode: `l2`, `l3` or `l3s` (`IFLA_IPVLAN_MODE`), little-endian.
     Mode(IpVlanMode),
     /// Flags `private` and `vepa` (`IFLA_IPVLAN_FLAGS`), little-endian.
@@ -23,20 +25,33 @@ pub enum InfoIpVlan {
     Other(DefaultNla),
 }
 
+/// An attribute in the data of an `ipvlan` link, an IPVLAN interface
+/// (include/uapi/linux/if_link.h).
+pub type InfoIpVlan = InfoIpVlanOf<false>;
+
+/// An attribute in the data of an `ipvtap` link, a TAP device on an IPVLAN interface
+/// (include/uapi/linux/if_link.h).
+pub type InfoIpVtap = InfoIpVlanOf<true>;
+
+/// The family of `ipvtap` links, or else of `ipvlan` links.
+const fn family_of(tap: bool) -> Family {
+    if tap { Family::IpVtap } else { Family::IpVlan }
+}
+
 macro_rules! rows {
     ($body:ident $given:tt) => {
-        $body! { InfoIpVlan $given;
+        $body! { InfoIpVlanOf $given;
             (1, le16, Mode as IpVlanMode),
             (2, le16, Flags as flags IpVlanFlags),
         }
     };
 }
 
-impl TableFamily for InfoIpVlan {
-    const FAMILY: Family = Family::IpVlan;
+impl<const TAP: bool> TableFamily for InfoIpVlanOf<TAP> {
+    const FAMILY: Family = family_of(TAP);
 
     #[inline(always)]
-    fn store_decoded<P: Slot<InfoIpVlan>>(
+    fn store_decoded<P: Slot<InfoIpVlanOf<TAP>>>(
         slot: &mut P,
         decoded: Decoded<'_>,
     ) -> Result<(), AllocError> {
@@ -49,7 +64,7 @@ impl TableFamily for InfoIpVlan {
     }
 }
 
-impl Nla for InfoIpVlan {
+impl<const TAP: bool> Nla for InfoIpVlanOf<TAP> {
     #[inline]
     fn value_len(&self) -> usize {
         row_value_len(self)
@@ -76,14 +91,15 @@ impl Nla for InfoIpVlan {
     }
 }
 
-impl WrittenByTable for InfoIpVlan {}
+impl<const TAP: bool> WrittenByTable for InfoIpVlanOf<TAP> {}
 
-/// Reads the attribute. A payload of invalid length is rejected as `(IpVlan, type, Length)`.
-impl<'a> Parseable<NlaBuffer<'a>> for InfoIpVlan {
+/// Reads the attribute. A payload of invalid length is rejected as `(IpVlan, type, Length)` or
+/// `(IpVtap, type, Length)`, by the family.
+impl<'a, const TAP: bool> Parseable<NlaBuffer<'a>> for InfoIpVlanOf<TAP> {
     #[inline]
-    fn parse(buffer: &NlaBuffer<'a>) -> Result<InfoIpVlan, DecodeError> {
+    fn parse(buffer: &NlaBuffer<'a>) -> Result<InfoIpVlanOf<TAP>, DecodeError> {
         row_read(buffer, ())
     }
 }
 
-impl ExactEq for InfoIpVlan {}
+impl<const TAP: bool> ExactEq for InfoIpVlanOf<TAP> {}

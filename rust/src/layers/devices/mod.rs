@@ -3,7 +3,6 @@
 
 mod ipoib;
 mod ipvlan;
-mod ipvtap;
 mod mac_rows;
 mod macsec;
 mod macvlan;
@@ -17,8 +16,7 @@ mod vrf;
 mod xfrm;
 
 pub use ipoib::InfoIpoib;
-pub use ipvlan::InfoIpVlan;
-pub use ipvtap::InfoIpVtap;
+pub use ipvlan::{InfoIpVlan, InfoIpVlanOf, InfoIpVtap};
 pub use macsec::InfoMacSec;
 pub use macvlan::InfoMacVlan;
 pub use macvtap::InfoMacVtap;
