@@ -49,8 +49,8 @@ pub use xstats::LinkXstats;
 // flags (`Flags` has their bits).
 pub use bitflags::Flags;
 pub use linkinfo_devices::{
-    InfoIpVlan, InfoIpVtap, InfoIpoib, InfoMacSec, InfoMacVlan, InfoMacVtap, InfoRmNet, InfoVrf,
-    InfoVrfPort, InfoXfrm,
+    InfoIpVlan, InfoIpVlanOf, InfoIpVtap, InfoIpoib, InfoMacSec, InfoMacVlan, InfoMacVtap,
+    InfoRmNet, InfoVrf, InfoVrfPort, InfoXfrm,
 };
 pub use linkinfo_numbers::{
     AmtMode, ErSpanDir, EthernetProtocol, GeneveDf, GreEncapFlags, GreEncapType, GreIOFlags,

@@ -45,8 +45,8 @@ pub use xstats::LinkXstats;
 // Values of the data of links and of ports: the attributes of each family, their numbers and their
 // flags (`Flags` has their bits).
 pub use crate::layers::devices::{
-    InfoIpVlan, InfoIpVtap, InfoIpoib, InfoMacSec, InfoMacVlan, InfoMacVtap, InfoRmNet, InfoVrf,
-    InfoVrfPort, InfoXfrm,
+    InfoIpVlan, InfoIpVlanOf, InfoIpVtap, InfoIpoib, InfoMacSec, InfoMacVlan, InfoMacVtap,
+    InfoRmNet, InfoVrf, InfoVrfPort, InfoXfrm,
 };
 pub use crate::layers::numbers::{
     AmtMode, ErSpanDir, EthernetProtocol, GeneveDf, GreEncapFlags, GreEncapType, GreIOFlags,
