@@ -40,7 +40,6 @@ use Rattle.linkinfo_table.specs.Rows.{labelled, meaning_in, row_meaning}
 use Rattle.linkinfo_table.specs.SelfList.{inside}
 use Rattle.linkinfo_devices.specs.Ipoib.{ipoib_rows}
 use Rattle.linkinfo_devices.specs.Ipvlan.{ip_vlan_rows}
-use Rattle.linkinfo_devices.specs.Ipvtap.{ip_vtap_rows}
 use Rattle.linkinfo_devices.specs.Macsec.{mac_sec_rows}
 use Rattle.linkinfo_devices.specs.Macvlan.{mac_vlan_attribute, mac_vlan_plain_rows, mac_vlan_rows}
 use Rattle.linkinfo_devices.specs.Macvtap.{mac_vtap_attribute, mac_vtap_plain_rows, mac_vtap_rows}
@@ -60,8 +59,8 @@ use Rattle.linkinfo_tunnels.specs.Vti.{vti_rows}
 use Rattle.linkinfo_tunnels.specs.Vxlan.{vxlan_rows}
 use Rattle.linkinfo_peers.specs.Batadv.{batadv_rows}
 use Rattle.linkinfo_peers.specs.Netkit.{netkit_plain}
-use Rattle.linkinfo_peers.specs.Veth.{veth_plain}
 use Rattle.linkinfo_peers.specs.Wwan.{wwan_rows}
+use Rattle.linkinfo_peers.specs.declared.veth.InfoVethOf.{InfoVethOf}
 use Rattle.linkinfo_peers.specs.declared.vxcan.InfoVxcanOf.{InfoVxcanOf}
 use Rattle.linkinfo_data.specs.BytesPeer.{bytes_peer}
 use Rattle.linkinfo_data.specs.Data.{data_of, family_of}
@@ -183,7 +182,7 @@ devices_errors device.IpVlan p =
     (table_errors _ _ ip_vlan_rows p)
 devices_errors device.IpVtap p =
     variant_errors (λ xs. info.IpVtap xs) (values plain.ip_vtap.meaning (nla_items p))
-    (table_errors _ _ ip_vtap_rows p)
+    (table_errors _ _ ip_vlan_rows p)
 devices_errors (device.MacVlan around) p =
     variant_errors (λ xs. info.MacVlan xs) (values (plain.mac_vlan around).meaning (nla_items p))
     (list_errors (plain.mac_vlan around).meaning
@@ -291,9 +290,10 @@ peers_errors peered.Veth p =
     variant_errors (λ x. info.Veth x) (first_meaning bytes_peer.veth.meaning (nla_items p))
     (first_errors bytes_peer.veth.meaning
     (λ a.
-    rows_errors family.Veth _ _ (λ n.
-    row_if_each (n == 1) _ (table_row (veth_plain {P = Bytes}) n) (λ q. sure _)
-    (table_rows (veth_plain {P = Bytes}) n)) a) (nla_items p))
+    rows_errors family.Veth _ _
+    (λ n.
+    row_if_each (n == 1) _ (table_row [] n) (λ q. sure _) (table_rows {F = InfoVethOf Bytes} [] n))
+    a) (nla_items p))
 peers_errors peered.Wireguard p =
     variant_errors (λ xs. info.Wireguard xs) (values plain.wireguard.meaning (nla_items p))
     (table_errors _ _ [] p)
