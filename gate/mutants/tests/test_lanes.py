@@ -1,0 +1,160 @@
+"""Tests of lanes: what is decided of a mutant alone, what is proved unchanged after the mutants, and
+what is concluded of all lanes."""
+import contextlib
+import io
+import random
+import tempfile
+import types
+import unittest
+from unittest import mock
+
+from mutants import main, seen
+from mutants.batches import FEW, SAMPLE, Lane, batch_of
+from mutants.judging import Report
+from mutants.tally import Tally
+
+
+class Planted(Lane):
+    """A lane in which each mutant is rejected, and whose functions are proved with these flags."""
+
+    def __init__(self, flags, proving):
+        self.flags, self.proving, self.unchanged = flags, proving, []
+        self.top, self.tally = tempfile.mkdtemp(), Tally("a_crate")
+
+    def try_together(self, edits):
+        for it in edits:
+            self.tally.rejected(it, "returns")
+        return []
+
+    def check(self, texts, edits):
+        self.unchanged.append((list(self.flags), len(edits)))
+        self.tally.checks += 1
+        return types.SimpleNamespace(is_proved=self.flags in self.proving)
+
+
+def edits(number):
+    """So many mutants, each of another function."""
+    return [types.SimpleNamespace(function=f"a_crate::f{it}", label=f"f{it}", is_control=False,
+                                  is_outside=False, kind=lambda: (False, False))
+            for it in range(number)]
+
+
+def tried(lane, number):
+    return lane.try_all(edits(number), random.Random(1))
+
+
+class Unchanged(unittest.TestCase):
+    HALF, WHOLE = ["--margin"], []
+
+    def test_all_functions_of_a_short_lane(self):
+        lane = Planted(self.HALF, [self.HALF])
+        tally = tried(lane, FEW)
+        self.assertEqual(lane.unchanged, [(self.HALF, FEW)])
+        self.assertEqual((tally.passes, tally.failures, len(tally.seen)), (FEW, 0, FEW))
+
+    def test_a_draw_of_a_long_lane(self):
+        lane = Planted(self.HALF, [self.HALF])
+        tried(lane, FEW + 1)
+        self.assertEqual(lane.unchanged, [(self.HALF, SAMPLE)])
+
+    def test_again_with_whole_counts(self):
+        lane = Planted(self.HALF, [self.WHOLE])
+        tally = tried(lane, 3)
+        self.assertEqual(lane.unchanged, [(self.HALF, 3), (self.WHOLE, 3)])
+        # (each mutant is counted once, by the checks that judge)
+        self.assertEqual((tally.passes, tally.failures, len(tally.seen)), (3, 0, 3))
+        self.assertEqual(tally.checks, 2)
+
+    def test_not_proved_at_all(self):
+        tally = tried(Planted(self.HALF, []), 3)
+        self.assertEqual((tally.failures, tally.seen), (1, []))
+
+
+class Alone(unittest.TestCase):
+    """A mutant in a check of its own, which prints this."""
+
+    def tried(self, printed, status, **edit):
+        lane = Planted([], [[]])
+        lane.check = lambda texts, edits: Report(printed, status)
+        lane.folder = types.SimpleNamespace(read=None)
+        given = {"function": "a_crate::f", "label": "a_crate/wrong/f.edit", "is_control": False,
+                 "moves_steps": False, "is_outside": False, "is_constant": False,
+                 "is_recursive": False, "has_loop": False, "applied": lambda read: {}}
+        lane.try_alone(types.SimpleNamespace(**{**given, **edit}))
+        return lane.tally.passes, lane.tally.failures, lane.tally.lines[0]
+
+    PROVED = "fn a_crate::f: proved\nonly=1 proved=1"
+    OPEN = "fn a_crate::f: no proof; `search` did not prove `returns`\nonly=1 proved=0"
+
+    def test_a_correct_body_is_found(self):
+        passes, failures, line = self.tried(self.PROVED, 0)
+        self.assertEqual((passes, failures), (0, 1))
+        self.assertIn("NOT REFUSED", line)
+
+    def test_a_mutant_is_rejected(self):
+        passes, failures, line = self.tried(self.OPEN, 1)
+        self.assertEqual((passes, failures), (1, 0))
+        self.assertIn("refused: ", line)
+
+    def test_a_correct_body_that_counts_as_rejected(self):
+        self.assertEqual(self.tried(self.OPEN, 1, is_control=True)[:2], (0, 1))
+        self.assertEqual(self.tried(self.PROVED, 0, is_control=True)[:2], (1, 0))
+
+    def test_steps_that_explicit_proofs_name(self):
+        moved = self.OPEN.replace("`returns`", "`f-requires`")
+        self.assertIn("NOT JUDGED", self.tried(moved, 1, moves_steps=True)[2])
+
+    def test_a_check_without_a_verdict(self):
+        self.assertIn("does not compile", self.tried("error: no such name", 1)[2])
+
+
+class Together(unittest.TestCase):
+    def test_one_mutant_of_a_function_in_a_check(self):
+        given = {"is_constant": False, "is_outside": False, "applied": lambda read: {}}
+        first, second, third = [types.SimpleNamespace(function=it, mutated=it, **given)
+                                for it in ("a_crate::f", "a_crate::g", "a_crate::f")]
+        batch, _, left = batch_of([first, second, third], types.SimpleNamespace(read=None))
+        self.assertEqual((batch, left), ([first, second], [third]))
+
+    def test_an_edit_outside_all_bodies_alone(self):
+        given = {"is_constant": False, "applied": lambda read: {}}
+        first = types.SimpleNamespace(function="f", mutated="f", is_outside=True, **given)
+        second = types.SimpleNamespace(function="g", mutated="g", is_outside=False, **given)
+        batch, _, left = batch_of([first, second], types.SimpleNamespace(read=None))
+        self.assertEqual((batch, left), ([first], [second]))
+
+
+class Conclusion(unittest.TestCase):
+    def concluded(self, tally, drawn, is_all=False, left=1):
+        with contextlib.redirect_stdout(io.StringIO()) as said:
+            status = main.conclude({"a_crate": tally}, [], [], (1, drawn, left), is_all)
+        return status, said.getvalue()
+
+    def test_a_drawn_mutant_that_is_not_rejected(self):
+        tally, drawn = Tally("a_crate"), edits(1)
+        tally.failed(drawn[0], "NOT REFUSED by its function")
+        status, said = self.concluded(tally, drawn)
+        self.assertEqual(status, 1)
+        self.assertIn("wrong.seen is void: drawn and not rejected: f0", said)
+        self.assertTrue(said.endswith("0 passed, 1 failed\n"))
+
+    def test_a_drawn_mutant_that_is_rejected(self):
+        tally, drawn = Tally("a_crate"), edits(1)
+        tally.rejected(drawn[0], "returns")
+        status, said = self.concluded(tally, drawn)
+        self.assertEqual(status, 0)
+        self.assertNotIn("void", said)
+
+    def test_only_a_run_without_failures_writes(self):
+        good, bad = Tally("a_crate"), Tally("a_crate")
+        good.controls = set(main.CONTROLS)
+        bad.failed(edits(1)[0], "NOT REFUSED")
+        with mock.patch.object(seen, "write_seen", return_value=True) as written:
+            self.assertEqual(self.concluded(bad, [], True, 0)[0], 1)
+            written.assert_not_called()
+            self.assertEqual(self.concluded(good, [], True, 0)[0], 0)
+            written.assert_called_once()
+
+
+if __name__ == "__main__":
+    unittest.main()
