@@ -1,5 +1,5 @@
-"""Tests of lanes: what is decided of a mutant alone, what is proved unchanged after the mutants, and
-what is concluded of all lanes."""
+"""Tests of lanes: what is decided of a mutant alone, what is proved unchanged after the mutants,
+and what is concluded of all lanes."""
 import contextlib
 import io
 import random
