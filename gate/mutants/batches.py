@@ -8,12 +8,8 @@ from .crates import BadEdit
 from .rooms import check, room_for
 from .tally import Tally
 
-# How many functions are proved unchanged at the end of a lane, if it has more edits than FEW; all
-# functions of a lane with fewer.
-SAMPLE = 5
-FEW = 30
 # Crates with a function that is not proved with half of a search's counts.
-NEED_WHOLE_COUNTS = {"linkinfo_view"}
+NEED_WHOLE_COUNTS = {"linkinfo_c", "linkinfo_view"}
 
 
 def reached(path, folder):
@@ -130,26 +126,20 @@ class Lane:
             proved = "; the crate is still proved" if said.is_proved else ""
             tally.failed(edit, f"NOT REFUSED by its function: {line}{proved}")
 
-    def try_all(self, edits, draw):
-        """Tries all edits, and then proves their functions unchanged over the same kept work: all
-        of them if they are few, else a drawn sample."""
+    def try_all(self, edits):
+        """Tries all edits, and then proves their functions unchanged over the same kept work."""
         for kind in sorted({it.kind() for it in edits}):
             for edit in self.try_together([it for it in edits if it.kind() == kind]):
                 self.try_alone(edit)
-        sample = [it for it in edits if not names_impl(it)]
-        if len(sample) > FEW:
-            sample = draw.sample(sample, SAMPLE)
-        if not self.check({}, sample).is_proved:
+        if not self.check({}, [it for it in edits if not names_impl(it)]).is_proved:
             if self.flags:
-                return self.with_whole_counts(edits, draw)
-            told = ", ".join(it.function for it in sample) or "the crate"
-            told = f"not proved unchanged after the mutants: {told}"
-            self.tally.say(self.tally.crate, told, False)
+                return self.with_whole_counts(edits)
+            self.tally.say(self.tally.crate, "not proved unchanged after the mutants", False)
             self.tally.seen = []
         shutil.rmtree(self.top)
         return self.tally
 
-    def with_whole_counts(self, edits, draw):
+    def with_whole_counts(self, edits):
         """Tries all edits once more, with the whole counts of a search: half of them do not prove
         the functions unchanged, so they judge nothing."""
         print(f"wrong: {self.tally.crate}: tried again, with the whole counts of a search",
@@ -157,7 +147,7 @@ class Lane:
         self.flags, spent = [], self.tally
         self.tally = Tally(spent.crate)
         self.tally.checks, self.tally.seconds = spent.checks, spent.seconds
-        return self.try_all(edits, draw)
+        return self.try_all(edits)
 
 
 def names_impl(edit):

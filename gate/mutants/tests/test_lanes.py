@@ -2,14 +2,13 @@
 and what is concluded of all lanes."""
 import contextlib
 import io
-import random
 import tempfile
 import types
 import unittest
 from unittest import mock
 
 from mutants import main, seen
-from mutants.batches import FEW, SAMPLE, Lane, batch_of
+from mutants.batches import Lane, batch_of
 from mutants.judging import Report
 from mutants.tally import Tally
 
@@ -40,22 +39,17 @@ def edits(number):
 
 
 def tried(lane, number):
-    return lane.try_all(edits(number), random.Random(1))
+    return lane.try_all(edits(number))
 
 
 class Unchanged(unittest.TestCase):
     HALF, WHOLE = ["--margin"], []
 
-    def test_all_functions_of_a_short_lane(self):
+    def test_all_functions(self):
         lane = Planted(self.HALF, [self.HALF])
-        tally = tried(lane, FEW)
-        self.assertEqual(lane.unchanged, [(self.HALF, FEW)])
-        self.assertEqual((tally.passes, tally.failures, len(tally.seen)), (FEW, 0, FEW))
-
-    def test_a_draw_of_a_long_lane(self):
-        lane = Planted(self.HALF, [self.HALF])
-        tried(lane, FEW + 1)
-        self.assertEqual(lane.unchanged, [(self.HALF, SAMPLE)])
+        tally = tried(lane, 40)
+        self.assertEqual(lane.unchanged, [(self.HALF, 40)])
+        self.assertEqual((tally.passes, tally.failures, len(tally.seen)), (40, 0, 40))
 
     def test_again_with_whole_counts(self):
         lane = Planted(self.HALF, [self.WHOLE])
