@@ -8,8 +8,8 @@ from .crates import BadEdit
 from .rooms import check, room_for
 from .tally import Tally
 
-# Crates with a function that is not proved with half of a search's counts.
-NEED_WHOLE_COUNTS = {"linkinfo_c", "linkinfo_view"}
+# Crates with a function that half of a search's counts do not prove.
+NEED_WHOLE_COUNTS = {"linkinfo_c", "linkinfo_names", "linkinfo_view"}
 
 
 def reached(path, folder):
