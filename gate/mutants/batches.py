@@ -70,8 +70,8 @@ class Lane:
         self.folder, self.top = room_for(crates, crate, top, stamps), top
         # Right after `rt ci` the copy has no kept work: only the edits' functions are checked.
         self.by_function, self.tally = bool(stamps), Tally(crate)
-        # A search for a goal that is false ends at its counts: half of them are half of the time.
-        # A proof with them is a proof; that correct bodies are proved with them, `try_all` shows.
+        # A search for a goal that is false ends at its counts, so half of them save time. A proof
+        # with them is a proof; that correct bodies are proved with them, `try_all` shows.
         self.flags = [] if crate in NEED_WHOLE_COUNTS else ["--margin"]
 
     def check(self, texts, edits):
@@ -131,10 +131,15 @@ class Lane:
         for kind in sorted({it.kind() for it in edits}):
             for edit in self.try_together([it for it in edits if it.kind() == kind]):
                 self.try_alone(edit)
-        if not self.check({}, [it for it in edits if not names_impl(it)]).is_proved:
+        unchanged = [it for it in edits if not names_impl(it)]
+        said = self.check({}, unchanged)
+        if not said.is_proved:
             if self.flags:
                 return self.with_whole_counts(edits)
-            self.tally.say(self.tally.crate, "not proved unchanged after the mutants", False)
+            names = sorted({it.function for it in unchanged
+                            if not said.is_proved_line(it.function)})
+            told = f"not proved unchanged after the mutants: {', '.join(names) or 'the crate'}"
+            self.tally.say(self.tally.crate, told, False)
             self.tally.seen = []
         shutil.rmtree(self.top)
         return self.tally

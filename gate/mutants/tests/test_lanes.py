@@ -28,7 +28,8 @@ class Planted(Lane):
     def check(self, texts, edits):
         self.unchanged.append((list(self.flags), len(edits)))
         self.tally.checks += 1
-        return types.SimpleNamespace(is_proved=self.flags in self.proving)
+        return types.SimpleNamespace(is_proved=self.flags in self.proving,
+                                     is_proved_line=lambda it: it != "a_crate::f1")
 
 
 def edits(number):
@@ -62,6 +63,7 @@ class Unchanged(unittest.TestCase):
     def test_not_proved_at_all(self):
         tally = tried(Planted(self.HALF, []), 3)
         self.assertEqual((tally.failures, tally.seen), (1, []))
+        self.assertTrue(tally.lines[-1].endswith("after the mutants: a_crate::f1"))
 
 
 class Alone(unittest.TestCase):
