@@ -1,6 +1,6 @@
 """Mutants as files.
 
-A file crates/NAME/wrong/NAME.edit has these lines:
+A file crates/NAME/wrong/MODULE/NAME.edit has these lines:
 
     fn: PATH         the function whose contract must reject the mutant, as the check prints it
     file: src/X.rt   the file that is changed
@@ -63,6 +63,8 @@ class Edit:
             raise BadEdit("it has no pair of lines 'old:' and 'new:'")
         if self.stray:
             raise BadEdit(f"an edit has no such line, or not there: {self.stray}")
+        if self.path.rpartition("/")[0] != self.place():
+            raise BadEdit(f"it belongs in {self.place()}/")
         texts = {}
         for path, old, new in self.pairs:
             if not re.fullmatch(r"src/[\w/]+\.rt", path) or not old:
@@ -71,6 +73,13 @@ class Edit:
             start, end = self.span(path, text, old)
             texts[path] = text[:start] + text[start:end].replace(old, new) + text[end:]
         return texts
+
+    def place(self):
+        """The folder that the edit belongs in: that of the module of its function."""
+        if self.is_control or self.path.startswith("must-fail/"):
+            return self.path.rpartition("/")[0]
+        _, *inside, _ = self.function.split("::")
+        return f"wrong/{inside[0] if inside else 'lib'}"
 
     def look(self, folder):
         """Notes whether the edit can be applied, whether it moves steps that explicit proofs may

@@ -10,7 +10,7 @@ from .batches import Lane
 from .crates import (
     PARTS, ROOT, BadEdit, below, crates_of, folder_of, jobs, toolchain, write
 )
-from .edits import CONTROL, Edit
+from .edits import Edit
 from .marks import Marks
 from .proving import prove
 from .rooms import leave_stamps, stamps_of
@@ -26,26 +26,25 @@ CONTROLS = {"still proved", "names lost", "steps moved", "recursion", "loop", "c
 FOLDERS = {*PARTS, "wrong", "must-fail", "out", "data"}
 
 
-def edits_of(crate, tally, folders=("wrong", CONTROL)):
+def edits_of(crate, tally, folders=("wrong",)):
     """The edits of a crate that can be applied. Anything else in their folders counts as failed. Of
     must-fail/, which the toolchain's gate tries, those are read that name a function."""
     edits, folder = [], folder_of(crate)
     for name in folder.names("."):
         if name not in FOLDERS and os.path.isdir(f"{folder.top}/{name}"):
             tally.say(f"{crate}/{name}", "no folder of that name is read", False)
-    for at in folders:
-        for name in folder.names(at):
-            if name.endswith(".edit"):
-                edit = Edit(crate, f"{at}/{name}")
-                if at == "must-fail" and not edit.function:
-                    continue
-                try:
-                    edit.look(folder)
-                    edits.append(edit)
-                except BadEdit as why:
-                    tally.failed(edit, str(why))
-            elif f"{at}/{name}" != CONTROL:
-                tally.say(f"{crate}/{at}/{name}", "it is no file NAME.edit", False)
+    for path in [path for it in folders for path in folder.files(it)]:
+        if not path.endswith(".edit"):
+            tally.say(f"{crate}/{path}", "it is no file NAME.edit", False)
+            continue
+        edit = Edit(crate, path)
+        if path.startswith("must-fail/") and not edit.function:
+            continue
+        try:
+            edit.look(folder)
+            edits.append(edit)
+        except BadEdit as why:
+            tally.failed(edit, str(why))
     if has_contracts(folder) and all(it.is_control for it in edits):
         tally.say(f"{crate}/wrong", "there is no mutant of this crate", False)
     return edits
@@ -126,7 +125,7 @@ def main(words):
     if "--stamps" in flags:
         return leave_stamps(crates)
     tallies = {it: Tally(it) for it in crates if not named or it in named}
-    folders = ["wrong", CONTROL] + ["must-fail"] * bool(named)
+    folders = ["wrong"] + ["must-fail"] * bool(named)
     edits = [edit for it, tally in tallies.items() for edit in edits_of(it, tally, folders)]
     drawn, left = [], 0
     if named:

@@ -50,18 +50,19 @@ class Edits(unittest.TestCase):
     def setUp(self):
         self.top = tempfile.TemporaryDirectory()
         self.addCleanup(self.top.cleanup)
-        os.makedirs(f"{self.top.name}/crates/one/wrong/control")
+        for name in ("control", "count"):
+            os.makedirs(f"{self.top.name}/crates/one/wrong/{name}")
 
-    def applied(self, text, name="wrong/it.edit"):
+    def applied(self, text, name="wrong/count/it.edit"):
         """The file as the edit makes it, and the edit."""
         with open(f"{self.top.name}/crates/one/{name}", "w", encoding="utf-8") as it:
             it.write(text)
         edit = Edit("one", name, self.top.name)
         return edit.applied(lambda path: SOURCE)["src/count.rt"], edit
 
-    def is_bad(self, text):
+    def is_bad(self, text, name="wrong/count/it.edit"):
         with self.assertRaises(BadEdit):
-            self.applied(text)
+            self.applied(text, name)
 
     def test_bodies(self):
         found = bodies_of("one", "src/count.rt", SOURCE)
@@ -114,6 +115,11 @@ class Edits(unittest.TestCase):
         self.is_bad(f"fn: {NEXT}\nfile: src/count.rt\nold: n + 1\n")
         self.is_bad(f"fn: {NEXT}\nfile: specs/X.antt\nold: n + 1\nnew: n\n")
         self.is_bad(f"fn: {NEXT}\nfile: src/count.rt\nold: n + 1\nnew: n\nmore\n")
+
+    def test_folder_of_another_module(self):
+        text = "fn: {}\nfile: src/count.rt\nold: n + 1\nnew: n\n"
+        self.is_bad(text.format("one::next"))
+        self.is_bad(text.format(NEXT), "wrong/it.edit")
 
     def test_control(self):
         text = f"fn: {FROM}\nin: {NEXT}\nfile: src/count.rt\nold: n + 1\nnew: n + 1 + 0\n"

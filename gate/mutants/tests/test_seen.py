@@ -31,9 +31,9 @@ HIGH = """pub fn four_times(n: u8) -> u16
 }
 """
 EDITS = {
-    "low/wrong/twice.edit": "fn: low::twice\nfile: src/lib.rt\nold: 2 * u16\nnew: 3 * u16\n",
-    "low/wrong/once.edit": "fn: low::once\nfile: src/lib.rt\nold: n\nnew: 0\n",
-    "high/wrong/four.edit": "fn: high::four_times\nfile: src/lib.rt\nold: 2 *\nnew: 3 *\n",
+    "low/wrong/lib/twice.edit": "fn: low::twice\nfile: src/lib.rt\nold: 2 * u16\nnew: 3 * u16\n",
+    "low/wrong/lib/once.edit": "fn: low::once\nfile: src/lib.rt\nold: n\nnew: 0\n",
+    "high/wrong/lib/four.edit": "fn: high::four_times\nfile: src/lib.rt\nold: 2 *\nnew: 3 *\n",
 }
 
 
@@ -89,7 +89,7 @@ class Seen(unittest.TestCase):
                  if os.path.exists(f"{self.root}/crates/{path}")]
         with mock.patch.object(seen, "DRAWN", drawn):
             chosen, _, _, self.said = seen.chosen(edits)
-        return sorted(it.path[len("wrong/") : -len(".edit")] for it in chosen)
+        return sorted(it.path[len("wrong/lib/") : -len(".edit")] for it in chosen)
 
     def test_nothing_changed(self):
         self.assertEqual(self.tried(), [])
@@ -126,19 +126,19 @@ class Seen(unittest.TestCase):
 
     def test_right_bodies_of_crates_that_are_tried(self):
         control = self.control()
-        other = Edit("high", "wrong/four.edit", self.root)
+        other = Edit("high", "wrong/lib/four.edit", self.root)
         with mock.patch.object(seen, "DRAWN", 0):
-            own = Edit("low", "wrong/once.edit", self.root)
+            own = Edit("low", "wrong/lib/once.edit", self.root)
             self.assertEqual(seen.chosen([control, own, other])[0::2], ([], 2))
-            self.change("crates/low/wrong/once.edit", "new: 0", "new: 1")
-            own = Edit("low", "wrong/once.edit", self.root)
+            self.change("crates/low/wrong/lib/once.edit", "new: 0", "new: 1")
+            own = Edit("low", "wrong/lib/once.edit", self.root)
             self.assertEqual(seen.chosen([control, own, other])[0::2], ([control, own], 1))
 
     def test_right_body_that_changed(self):
         self.control()
         self.change("crates/low/wrong/control/sum.edit", "n + 0", "0 + n")
         changed = Edit("low", "wrong/control/sum.edit", self.root)
-        own = Edit("low", "wrong/once.edit", self.root)
+        own = Edit("low", "wrong/lib/once.edit", self.root)
         with mock.patch.object(seen, "DRAWN", 0):
             self.assertEqual(seen.chosen([changed, own])[0::2], ([changed], 1))
 
@@ -164,7 +164,7 @@ class Seen(unittest.TestCase):
         self.assertEqual(self.tried(), ["four", "once", "twice"])
 
     def test_edit(self):
-        self.change("crates/low/wrong/once.edit", "new: 0", "new: 1")
+        self.change("crates/low/wrong/lib/once.edit", "new: 0", "new: 1")
         self.assertEqual(self.tried(), ["once"])
 
     def test_code_that_judges(self):
@@ -197,9 +197,9 @@ class Seen(unittest.TestCase):
 
     def test_same_marks_of_the_same_state(self):
         a, b = marks.Marks(self.root), marks.Marks(self.root)
-        edit = Edit("high", "wrong/four.edit", self.root)
+        edit = Edit("high", "wrong/lib/four.edit", self.root)
         self.assertEqual(a.mark(edit), b.mark(edit))
-        self.assertEqual(a.of_label("high", "wrong/none.edit"), "")
+        self.assertEqual(a.of_label("high", "wrong/lib/none.edit"), "")
 
 
 if __name__ == "__main__":
