@@ -8,8 +8,8 @@ from .crates import BadEdit
 from .rooms import check, room_for
 from .tally import Tally
 
-# Crates with a function that half of a search's counts do not prove.
-NEED_WHOLE_COUNTS = {"linkinfo_c", "linkinfo_names", "linkinfo_view"}
+# Functions that are proved unchanged at the end of a lane.
+SAMPLE = 5
 
 
 def reached(path, folder):
@@ -70,16 +70,13 @@ class Lane:
         self.folder, self.top = room_for(crates, crate, top, stamps), top
         # Right after `rt ci` the copy has no kept work: only the edits' functions are checked.
         self.by_function, self.tally = bool(stamps), Tally(crate)
-        # A search for a goal that is false ends at its counts, so half of them save time. A proof
-        # with them is a proof; that correct bodies are proved with them, `try_all` shows.
-        self.flags = [] if crate in NEED_WHOLE_COUNTS else ["--margin"]
 
     def check(self, texts, edits):
         """Checks with these texts: the crate, or only the functions that must reject these edits. A
         check cannot be limited to an impl."""
         names = [it.function for it in edits]
         is_limited = self.by_function and not any(names_impl(it) for it in edits)
-        said = check(self.folder, texts, self.flags, names if is_limited else ())
+        said = check(self.folder, texts, names if is_limited else ())
         self.tally.checks += 1
         self.tally.seconds += said.seconds
         return said
@@ -126,33 +123,22 @@ class Lane:
             proved = "; the crate is still proved" if said.is_proved else ""
             tally.failed(edit, f"NOT REFUSED by its function: {line}{proved}")
 
-    def try_all(self, edits):
-        """Tries all edits, and then proves their functions unchanged over the same kept work."""
+    def try_all(self, edits, draw):
+        """Tries all edits, and then proves a drawn sample of their functions unchanged over the
+        same kept work."""
         for kind in sorted({it.kind() for it in edits}):
             for edit in self.try_together([it for it in edits if it.kind() == kind]):
                 self.try_alone(edit)
-        unchanged = [it for it in edits if not names_impl(it)]
-        said = self.check({}, unchanged)
+        sample = [it for it in edits if not names_impl(it)]
+        sample = draw.sample(sample, min(SAMPLE, len(sample)))
+        said = self.check({}, sample)
         if not said.is_proved:
-            if self.flags:
-                return self.with_whole_counts(edits)
-            names = sorted({it.function for it in unchanged
-                            if not said.is_proved_line(it.function)})
+            names = sorted({it.function for it in sample if not said.is_proved_line(it.function)})
             told = f"not proved unchanged after the mutants: {', '.join(names) or 'the crate'}"
             self.tally.say(self.tally.crate, told, False)
             self.tally.seen = []
         shutil.rmtree(self.top)
         return self.tally
-
-    def with_whole_counts(self, edits):
-        """Tries all edits once more, with the whole counts of a search: half of them do not prove
-        the functions unchanged, so they judge nothing."""
-        print(f"wrong: {self.tally.crate}: tried again, with the whole counts of a search",
-              flush=True)
-        self.flags, spent = [], self.tally
-        self.tally = Tally(spent.crate)
-        self.tally.checks, self.tally.seconds = spent.checks, spent.seconds
-        return self.try_all(edits)
 
 
 def names_impl(edit):

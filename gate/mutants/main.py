@@ -62,7 +62,7 @@ def try_crate(crates, edits, tally, top, stamps, lanes):
     with ThreadPoolExecutor(lanes or 1) as pool:
         shares = [edits[at::lanes] for at in range(lanes)]
         tried = pool.map(lambda at: Lane(crates, tally.crate, f"{top}/{tally.crate}-{at}", stamps)
-                         .try_all(shares[at]), range(lanes))
+                         .try_all(shares[at], seen.draw()), range(lanes))
         for it in tried:
             tally.add(it)
     print("\n".join([*tally.lines, tally.summary()]), flush=True)

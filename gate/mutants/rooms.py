@@ -11,15 +11,15 @@ from .crates import PARTS, ROOT, below, folder_of, write
 from .judging import Report
 
 
-def check(folder, texts, flags, only=()):
-    """Checks the crate in that folder with these texts instead of its files, and these flags: all
-    of it, or only these functions and those that they call."""
+def check(folder, texts, only=()):
+    """Checks the crate in that folder with these texts instead of its files: all of it, or only
+    these functions and those that they call."""
     own = {path: folder.read(path) for path in texts}
     for path, text in texts.items():
         write(f"{folder.top}/{path}", text)
     try:
         words = [word for it in sorted({*only}) for word in ("--only", it.partition("::")[2])]
-        return run(folder.top, [*flags, *words])
+        return run(folder.top, words)
     finally:
         for path, text in own.items():
             write(f"{folder.top}/{path}", text)

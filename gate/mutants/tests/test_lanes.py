@@ -2,22 +2,23 @@
 and what is concluded of all lanes."""
 import contextlib
 import io
+import random
 import tempfile
 import types
 import unittest
 from unittest import mock
 
 from mutants import main, seen
-from mutants.batches import Lane, batch_of
+from mutants.batches import SAMPLE, Lane, batch_of
 from mutants.judging import Report
 from mutants.tally import Tally
 
 
 class Planted(Lane):
-    """A lane in which each mutant is rejected, and whose functions are proved with these flags."""
+    """A lane in which each mutant is rejected, and whose functions are proved, or none is."""
 
-    def __init__(self, flags, proving):
-        self.flags, self.proving, self.unchanged = flags, proving, []
+    def __init__(self, is_proved):
+        self.is_proved, self.unchanged = is_proved, []
         self.top, self.tally = tempfile.mkdtemp(), Tally("a_crate")
 
     def try_together(self, edits):
@@ -26,9 +27,9 @@ class Planted(Lane):
         return []
 
     def check(self, texts, edits):
-        self.unchanged.append((list(self.flags), len(edits)))
+        self.unchanged.append(sorted(it.label for it in edits))
         self.tally.checks += 1
-        return types.SimpleNamespace(is_proved=self.flags in self.proving,
+        return types.SimpleNamespace(is_proved=self.is_proved,
                                      is_proved_line=lambda it: it != "a_crate::f1")
 
 
@@ -40,28 +41,24 @@ def edits(number):
 
 
 def tried(lane, number):
-    return lane.try_all(edits(number))
+    return lane.try_all(edits(number), random.Random(1))
 
 
 class Unchanged(unittest.TestCase):
-    HALF, WHOLE = ["--margin"], []
+    def test_all_functions_of_a_short_lane(self):
+        lane = Planted(True)
+        tally = tried(lane, 3)
+        self.assertEqual(lane.unchanged, [["f0", "f1", "f2"]])
+        self.assertEqual((tally.passes, tally.failures, len(tally.seen)), (3, 0, 3))
 
-    def test_all_functions(self):
-        lane = Planted(self.HALF, [self.HALF])
+    def test_a_draw_of_a_long_lane(self):
+        lane = Planted(True)
         tally = tried(lane, 40)
-        self.assertEqual(lane.unchanged, [(self.HALF, 40)])
+        self.assertEqual([len(it) for it in lane.unchanged], [SAMPLE])
         self.assertEqual((tally.passes, tally.failures, len(tally.seen)), (40, 0, 40))
 
-    def test_again_with_whole_counts(self):
-        lane = Planted(self.HALF, [self.WHOLE])
-        tally = tried(lane, 3)
-        self.assertEqual(lane.unchanged, [(self.HALF, 3), (self.WHOLE, 3)])
-        # (each mutant is counted once, by the checks that judge)
-        self.assertEqual((tally.passes, tally.failures, len(tally.seen)), (3, 0, 3))
-        self.assertEqual(tally.checks, 2)
-
-    def test_not_proved_at_all(self):
-        tally = tried(Planted(self.HALF, []), 3)
+    def test_not_proved_unchanged(self):
+        tally = tried(Planted(False), 3)
         self.assertEqual((tally.failures, tally.seen), (1, []))
         self.assertTrue(tally.lines[-1].endswith("after the mutants: a_crate::f1"))
 
@@ -70,7 +67,7 @@ class Alone(unittest.TestCase):
     """A mutant in a check of its own, which prints this."""
 
     def tried(self, printed, status, **edit):
-        lane = Planted([], [[]])
+        lane = Planted(True)
         lane.check = lambda texts, edits: Report(printed, status)
         lane.folder = types.SimpleNamespace(read=None)
         given = {"function": "a_crate::f", "label": "a_crate/wrong/f.edit", "is_control": False,
