@@ -3,16 +3,17 @@
 ghost use Rattle.std.specs.Prelude.{None};
 ghost use Rattle.linkinfo_data.specs.LowerData.{lower_data_of, lower_listed, lower_nest};
 
-use crate::calls::{canonical_len, check, read, same, write_canonical};
 use crate::info_data::InfoDataOf;
 use crate::payload_family::PayloadFamily;
-use linkinfo_table::LinkPeer;
-use linkinfo_table::lower::{InfoBond, InfoBridge, InfoCan, InfoDsa, InfoHsr, InfoVlan};
+use crate::written::read_nlas;
+use linkinfo_table::lower::InfoBridge;
+use linkinfo_table::{LinkPeer, list_canonical_len, list_check, list_same, list_write_canonical};
 use nla_frame::{DecodeError, ExactEq, Family, HeaderCount};
 use std::alloc::Global;
 
 /// The families of data of bridge, vlan, bond, hsr, can and dsa links, whose attributes are kept
-/// verbatim.
+/// verbatim. So what is checked, compared and written of a list does not depend on its family: one
+/// of them stands for all.
 #[derive(Clone, Copy, Debug, PartialEq, Eq)]
 pub enum LowerFamily {
     /// Attributes of `bridge` links (`IFLA_BR_*`).
@@ -33,20 +34,6 @@ impl ExactEq for LowerFamily {
     ghost use Rattle.std.proofs.Common.{rules};
 
     ghost exact = { Prim.search rules };
-}
-
-/// Matches a family, and expands `$call!`, of `calls`, for its data.
-macro_rules! of_lower {
-    ($family:expr, $call:ident $given:tt) => {
-        match $family {
-            LowerFamily::Bridge => $call!(list(InfoDataOf::Bridge, InfoBridge, ()) $given),
-            LowerFamily::Vlan => $call!(list(InfoDataOf::Vlan, InfoVlan, ()) $given),
-            LowerFamily::Bond => $call!(list(InfoDataOf::Bond, InfoBond, ()) $given),
-            LowerFamily::Hsr => $call!(list(InfoDataOf::Hsr, InfoHsr, ()) $given),
-            LowerFamily::Can => $call!(list(InfoDataOf::Can, InfoCan, ()) $given),
-            LowerFamily::Dsa => $call!(list(InfoDataOf::Dsa, InfoDsa, ()) $given),
-        }
-    };
 }
 
 impl<P: LinkPeer> PayloadFamily<InfoDataOf<P>> for LowerFamily {
@@ -79,23 +66,30 @@ impl<P: LinkPeer> PayloadFamily<InfoDataOf<P>> for LowerFamily {
         payload: &[u8],
         count: &mut HeaderCount,
     ) -> Result<InfoDataOf<P>, DecodeError> {
-        Ok(of_lower!(self, read(alloc, payload, count)))
+        Ok(match self {
+            LowerFamily::Bridge => InfoDataOf::Bridge(read_nlas(alloc, payload, (), count)?),
+            LowerFamily::Vlan => InfoDataOf::Vlan(read_nlas(alloc, payload, (), count)?),
+            LowerFamily::Bond => InfoDataOf::Bond(read_nlas(alloc, payload, (), count)?),
+            LowerFamily::Hsr => InfoDataOf::Hsr(read_nlas(alloc, payload, (), count)?),
+            LowerFamily::Can => InfoDataOf::Can(read_nlas(alloc, payload, (), count)?),
+            LowerFamily::Dsa => InfoDataOf::Dsa(read_nlas(alloc, payload, (), count)?),
+        })
     }
 
     #[inline(always)]
     fn check(self, payload: &[u8], count: &mut HeaderCount) -> Result<(), DecodeError> {
-        of_lower!(self, check(payload, count))
+        list_check::<InfoBridge>(payload, (), count)
     }
 
     fn same(self, a: &[u8], b: &[u8], count: &mut HeaderCount) -> bool {
-        of_lower!(self, same(a, b, count))
+        list_same::<InfoBridge>(a, b, (), count)
     }
 
     fn canonical_len(self, payload: &[u8]) -> Option<usize> {
-        of_lower!(self, canonical_len(payload))
+        list_canonical_len::<InfoBridge>(payload, ())
     }
 
     fn write_canonical(self, payload: &[u8], buffer: &mut [u8]) -> usize {
-        of_lower!(self, write_canonical(payload, buffer))
+        list_write_canonical::<InfoBridge>(payload, (), buffer)
     }
 }
