@@ -85,7 +85,8 @@ module _ (number : ℕ) (f : Family) where
   strings_joined d (Err h) (Ok ys) same e = absurd cc
   strings_joined d (Err h) (Err i) same e = refl
 
-  writes : (ps : List (Result Attribute ℕ)) → attributes_for members.attribute (values members.meaning ps)
+  writes : (ps : List (Result Attribute ℕ)) →
+      attributes_for members.attribute (values members.meaning ps)
       ≡ attributes_for plain.bridge.attribute (values plain.bridge.meaning ps)
   unfolding meaning_in
   writes [] = refl

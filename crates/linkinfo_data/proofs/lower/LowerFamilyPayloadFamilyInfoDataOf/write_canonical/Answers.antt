@@ -1,6 +1,7 @@
 -- The canonical payload is that of a list of attributes of bridge.
 use Rattle.linkinfo_data.proofs.Opaques.{lower_is, ok_alike}
-use Rattle.linkinfo_data.proofs.lower.LowerFamilyPayloadFamilyInfoDataOf.write_canonical.Goals as goal
+use Rattle.linkinfo_data.proofs.lower.LowerFamilyPayloadFamilyInfoDataOf.write_canonical.Goals
+    as goal
 
 pub list_write_canonical-requires-clause-accepted :
     goal.list_write_canonical-requires-clause-accepted
