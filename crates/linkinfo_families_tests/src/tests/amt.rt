@@ -1,6 +1,6 @@
 //! Rows of AMT tunnels.
 
-use super::rows::{UNLISTED, has_rows, has_rows_of, is_rejected, keeps_unlisted, unlisted};
+use super::rows::{UNLISTED, has_rows_and_others, has_rows_of, is_rejected, unlisted};
 use linkinfo_numbers::AmtMode;
 use linkinfo_tunnels::InfoAmt;
 use nla_frame::Cause;
@@ -36,7 +36,8 @@ const ADDRESSES: &[&[u8]] = &[
 #[test]
 fn rows_of_amt(rt: HostRuntime) {
     let alloc = rt.alloc();
-    has_rows(&rt, alloc, &ROWS);
+    let other = InfoAmt::Other(unlisted(&rt, alloc));
+    has_rows_and_others(&rt, alloc, &ROWS, &UNLISTED, other);
     let v4 = IpAddr::V4(Ipv4Addr::new(10, 0, 0, 1));
     let v6 = IpAddr::V6(Ipv6Addr::new(0xfe80, 0, 0, 0, 0, 0, 0, 2));
     let addresses = [
@@ -50,11 +51,4 @@ fn rows_of_amt(rt: HostRuntime) {
     has_rows_of(&rt, alloc, ADDRESSES, addresses);
     let short = [6, 0, 5, 0, 1, 2, 0, 0];
     is_rejected::<InfoAmt>(&rt, alloc, (), &short, Cause::Length);
-    keeps_unlisted(
-        &rt,
-        alloc,
-        (),
-        &UNLISTED,
-        InfoAmt::Other(unlisted(&rt, alloc)),
-    );
 }

@@ -1,6 +1,6 @@
 //! Rows of bare UDP tunnels.
 
-use super::rows::{UNLISTED, has_marks, has_rows, is_list, is_rejected, keeps_unlisted, unlisted};
+use super::rows::{UNLISTED, has_marks, has_rows_and_others, is_list, is_rejected, unlisted};
 use linkinfo_numbers::EthernetProtocol;
 use linkinfo_tunnels::InfoBareUdp;
 use nla_frame::Cause;
@@ -21,7 +21,8 @@ const MARKS: [(&[u8], InfoBareUdp); 1] = [(&[4, 0, 4, 0], InfoBareUdp::Multiprot
 #[test]
 fn rows_of_bare_udp(rt: HostRuntime) {
     let alloc = rt.alloc();
-    has_rows(&rt, alloc, &ROWS);
+    let other = InfoBareUdp::Other(unlisted(&rt, alloc));
+    has_rows_and_others(&rt, alloc, &ROWS, &UNLISTED, other);
     has_marks(&rt, alloc, &MARKS);
     let short = [5, 0, 3, 0, 7, 0, 0, 0];
     is_rejected::<InfoBareUdp>(&rt, alloc, (), &short, Cause::Length);
@@ -31,11 +32,4 @@ fn rows_of_bare_udp(rt: HostRuntime) {
         InfoBareUdp::Ethertype(EthernetProtocol::MplsUc),
     ];
     is_list(&rt, alloc, (), &data, wanted);
-    keeps_unlisted(
-        &rt,
-        alloc,
-        (),
-        &UNLISTED,
-        InfoBareUdp::Other(unlisted(&rt, alloc)),
-    );
 }

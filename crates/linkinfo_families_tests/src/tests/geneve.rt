@@ -1,8 +1,6 @@
 //! Rows of Geneve tunnels.
 
-use super::rows::{
-    UNLISTED, has_marks, has_rows, has_rows_of, is_rejected, keeps_unlisted, unlisted,
-};
+use super::rows::{UNLISTED, has_marks, has_rows_and_others, has_rows_of, is_rejected, unlisted};
 use linkinfo_numbers::GeneveDf;
 use linkinfo_tunnels::InfoGeneve;
 use nla_frame::Cause;
@@ -43,7 +41,8 @@ const MARKS: [(&[u8], InfoGeneve); 2] = [
 #[test]
 fn rows_of_geneve(rt: HostRuntime) {
     let alloc = rt.alloc();
-    has_rows(&rt, alloc, &ROWS);
+    let other = InfoGeneve::Other(unlisted(&rt, alloc));
+    has_rows_and_others(&rt, alloc, &ROWS, &UNLISTED, other);
     has_marks(&rt, alloc, &MARKS);
     let v4 = Ipv4Addr::new(10, 0, 0, 1);
     let v6 = Ipv6Addr::new(0xfe80, 0, 0, 0, 0, 0, 0, 2);
@@ -54,13 +53,6 @@ fn rows_of_geneve(rt: HostRuntime) {
         InfoGeneve::Local6(v6),
     ];
     has_rows_of(&rt, alloc, ADDRESSES, addresses);
-    keeps_unlisted(
-        &rt,
-        alloc,
-        (),
-        &UNLISTED,
-        InfoGeneve::Other(unlisted(&rt, alloc)),
-    );
 }
 
 #[test]

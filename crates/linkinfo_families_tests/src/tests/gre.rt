@@ -1,8 +1,7 @@
 //! Rows of GRE tunnels over IPv4.
 
 use super::rows::{
-    UNLISTED, has_marks, has_rows, has_rows_of, is_rewritten, keeps_unlisted, kept, parses,
-    unlisted,
+    UNLISTED, has_marks, has_rows_and_others, has_rows_of, is_rewritten, kept, parses, unlisted,
 };
 use linkinfo_numbers::{ErSpanDir, GreEncapFlags, GreEncapType, GreIOFlags};
 use linkinfo_tunnels::InfoGre;
@@ -50,7 +49,8 @@ const ADDRESSES: &[&[u8]] = &[&[8, 0, 6, 0, 10, 0, 0, 1], &[8, 0, 7, 0, 10, 0, 0
 #[test]
 fn rows_of_gre(rt: HostRuntime) {
     let alloc = rt.alloc();
-    has_rows(&rt, alloc, &ROWS);
+    let other = InfoGre::Other(unlisted(&rt, alloc));
+    has_rows_and_others(&rt, alloc, &ROWS, &UNLISTED, other);
     has_marks(&rt, alloc, &MARKS);
     let v4 = Ipv4Addr::new(10, 0, 0, 1);
     let addresses = [InfoGre::Local(v4), InfoGre::Remote(v4)];
@@ -64,11 +64,4 @@ fn rows_of_gre(rt: HostRuntime) {
         let kept = kept(&rt, alloc, u16::from(kind), &[]);
         parses(&rt, alloc, &[4, 0, kind, 0], InfoGre::Other(kept));
     }
-    keeps_unlisted(
-        &rt,
-        alloc,
-        (),
-        &UNLISTED,
-        InfoGre::Other(unlisted(&rt, alloc)),
-    );
 }

@@ -1,8 +1,6 @@
 //! Rows of GRE tunnels over IPv6.
 
-use super::rows::{
-    UNLISTED, has_marks, has_rows, has_rows_of, keeps_unlisted, kept, parses, unlisted,
-};
+use super::rows::{UNLISTED, has_marks, has_rows_and_others, has_rows_of, kept, parses, unlisted};
 use linkinfo_numbers::{ErSpanDir, GreEncapFlags, GreEncapType, GreIOFlags};
 use linkinfo_tunnels::InfoGre6;
 use std::net::Ipv6Addr;
@@ -66,7 +64,8 @@ const ADDRESSES: &[&[u8]] = &[
 #[test]
 fn rows_of_gre6(rt: HostRuntime) {
     let alloc = rt.alloc();
-    has_rows(&rt, alloc, &ROWS);
+    let other = InfoGre6::Other(unlisted(&rt, alloc));
+    has_rows_and_others(&rt, alloc, &ROWS, &UNLISTED, other);
     has_marks(&rt, alloc, &MARKS);
     let v6 = Ipv6Addr::new(0xfe80, 0, 0, 0, 0, 0, 0, 2);
     let addresses = [InfoGre6::Local(v6), InfoGre6::Remote(v6)];
@@ -78,12 +77,5 @@ fn rows_of_gre6(rt: HostRuntime) {
         alloc,
         &discovery,
         InfoGre6::Other(kept(&rt, alloc, 10, &[1])),
-    );
-    keeps_unlisted(
-        &rt,
-        alloc,
-        (),
-        &UNLISTED,
-        InfoGre6::Other(unlisted(&rt, alloc)),
     );
 }

@@ -1,6 +1,6 @@
 //! Rows of GTP tunnels.
 
-use super::rows::{UNLISTED, has_rows, has_rows_of, is_list, keeps_unlisted, unlisted};
+use super::rows::{UNLISTED, has_rows_and_others, has_rows_of, is_list, unlisted};
 use linkinfo_numbers::GtpRole;
 use linkinfo_tunnels::InfoGtp;
 use std::net::{Ipv4Addr, Ipv6Addr};
@@ -26,7 +26,8 @@ const ADDRESSES: &[&[u8]] = &[
 #[test]
 fn rows_of_gtp(rt: HostRuntime) {
     let alloc = rt.alloc();
-    has_rows(&rt, alloc, &ROWS);
+    let other = InfoGtp::Other(unlisted(&rt, alloc));
+    has_rows_and_others(&rt, alloc, &ROWS, &UNLISTED, other);
     let v4 = Ipv4Addr::new(10, 0, 0, 1);
     let v6 = Ipv6Addr::new(0xfe80, 0, 0, 0, 0, 0, 0, 2);
     let addresses = [InfoGtp::Local(v4), InfoGtp::Local6(v6)];
@@ -40,11 +41,4 @@ fn rows_of_gtp(rt: HostRuntime) {
         InfoGtp::PdpHashsize(1024),
     ];
     is_list(&rt, alloc, (), &data, wanted);
-    keeps_unlisted(
-        &rt,
-        alloc,
-        (),
-        &UNLISTED,
-        InfoGtp::Other(unlisted(&rt, alloc)),
-    );
 }

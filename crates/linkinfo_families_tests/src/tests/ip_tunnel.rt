@@ -1,7 +1,8 @@
 //! Rows of IP tunnels, and their flags by the kind of the link.
 
 use super::rows::{
-    UNLISTED, attribute, error, has_one_length, is_kept, is_mark, is_rejected, is_row, unlisted,
+    UNLISTED, assert_is, attribute, error, has_one_length, is_kept, is_mark, is_rejected, is_row,
+    unlisted,
 };
 use bitflags::Flags;
 use linkinfo_numbers::{
@@ -25,7 +26,7 @@ fn parsed(
 /// Asserts that the attribute is read as the value in a link of this kind.
 fn is_parsed(rt: &impl Abort, alloc: Global, kind: &InfoKind, bytes: &[u8], value: &InfoIpTunnel) {
     let read = parsed(rt, alloc, bytes, kind).expect(rt, "a value");
-    assert_eq!(rt; (bytes, read == *value), (bytes, true));
+    assert_is(rt, ("parsed", bytes), read == *value, true);
 }
 
 /// Asserts that the attribute is the canonical one of the value under every kind, and that payloads
@@ -169,7 +170,8 @@ fn flags_by_kind(rt: HostRuntime) {
 /// Asserts that the flags are rejected in a link of this kind.
 fn refuses_flags(rt: &impl Abort, alloc: Global, kind: InfoKind, bytes: &[u8], cause: Cause) {
     let expected = error(Family::IpTunnel, 8, cause);
-    assert_eq!(rt; parsed(rt, alloc, bytes, &kind).err(), Some(expected));
+    let found = parsed(rt, alloc, bytes, &kind).err();
+    assert_is(rt, ("not parsed", bytes), found, Some(expected));
     is_rejected::<InfoIpTunnel>(rt, alloc, kind.tag(), bytes, cause);
 }
 

@@ -1,6 +1,6 @@
 //! Rows of `macsec` links.
 
-use super::rows::{UNLISTED, has_rows, is_list, keeps_unlisted, parses, unlisted};
+use super::rows::{UNLISTED, has_rows_and_others, is_list, parses, unlisted};
 use linkinfo_devices::InfoMacSec;
 use linkinfo_numbers::{MacSecCipherId, MacSecOffload, MacSecValidate};
 use nla_frame::DefaultNla;
@@ -54,7 +54,8 @@ const ROWS: [(&[u8], InfoMacSec); 18] = [
 #[test]
 fn rows_of_macsec(rt: HostRuntime) {
     let alloc = rt.alloc();
-    has_rows(&rt, alloc, &ROWS);
+    let other = InfoMacSec::Other(unlisted(&rt, alloc));
+    has_rows_and_others(&rt, alloc, &ROWS, &UNLISTED, other);
     let suite = [12, 0, 4, 0, 1, 0, 0, 1, 0, 0xc2, 0x80, 0];
     let suites = [InfoMacSec::CipherSuite(MacSecCipherId::GcmAes128)];
     is_list(&rt, alloc, (), &suite, suites);
@@ -63,11 +64,4 @@ fn rows_of_macsec(rt: HostRuntime) {
     parses(&rt, alloc, &[4, 0, 14, 0], kept);
     let kept = InfoMacSec::Other(DefaultNla::new(14, Vec::new(alloc)));
     is_list(&rt, alloc, (), &[4, 0, 14, 0], [kept]);
-    keeps_unlisted(
-        &rt,
-        alloc,
-        (),
-        &UNLISTED,
-        InfoMacSec::Other(unlisted(&rt, alloc)),
-    );
 }

@@ -13,7 +13,7 @@ use linkinfo_lower::{
 use linkinfo_peers::{InfoPfcp, InfoTeamPort, InfoTun, InfoWireguard, laws as peer_laws};
 use linkinfo_table::{LinkFamily, Opaque, laws};
 use linkinfo_tunnels::laws as tunnel_laws;
-use nla_frame::{Bytes, Cause, DefaultNla, Family};
+use nla_frame::{Bytes, Cause, DefaultNla, ExactEq, Family, NlaBuffer, Parseable};
 use std::alloc::Global;
 use std::process::Abort;
 
@@ -32,6 +32,17 @@ const LIST: [u8; 16] = [8, 0, 1, 0, 1, 2, 3, 4, 5, 0, 2, 0x80, 7, 0, 0, 0];
 /// `PLAIN`, and one stray byte.
 const STRAY: [u8; 9] = [8, 0, 1, 0, 1, 2, 3, 4, 0];
 
+/// A family without rows.
+trait HoldsOthers: Sized + Drop {
+    fn from_other(nla: DefaultNla) -> Self;
+}
+
+impl<const NUMBER: u8> HoldsOthers for Opaque<NUMBER> {
+    fn from_other(nla: DefaultNla) -> Opaque<NUMBER> {
+        Opaque::Other(nla)
+    }
+}
+
 fn plain(rt: &impl Abort, alloc: Global) -> DefaultNla {
     kept(rt, alloc, 1, &[1, 2, 3, 4])
 }
@@ -46,7 +57,10 @@ fn last(rt: &impl Abort, alloc: Global) -> DefaultNla {
 }
 
 /// Asserts that the attribute is kept verbatim.
-fn keeps<const NUMBER: u8>(rt: &impl Abort, alloc: Global, bytes: &[u8], kept: DefaultNla) {
+fn keeps<F>(rt: &impl Abort, alloc: Global, bytes: &[u8], kept: DefaultNla)
+where
+    F: HoldsOthers + LinkFamily<Context = ()> + ExactEq,
+{
     let nla = attribute(rt, bytes);
     assert_is(
         rt,
@@ -54,9 +68,9 @@ fn keeps<const NUMBER: u8>(rt: &impl Abort, alloc: Global, bytes: &[u8], kept: D
         (kept.kind, kept.value.as_slice()),
         (nla.raw_kind(), nla.value()),
     );
-    let value = Opaque::<NUMBER>::Other(kept);
+    let value = F::from_other(kept);
     is_read(rt, alloc, (), bytes, &value);
-    assert!(rt; are_same::<Opaque<NUMBER>>(rt, (), bytes, bytes));
+    assert!(rt; are_same::<F>(rt, (), bytes, bytes));
     is_emitted(rt, &value, bytes);
 }
 
@@ -107,9 +121,36 @@ fn has_lists<const NUMBER: u8>(rt: &impl Abort, alloc: Global) {
 }
 
 /// Asserts that `MARKED` is kept verbatim as the value.
-fn keeps_marked<const NUMBER: u8>(rt: &impl Abort, alloc: Global, value: Opaque<NUMBER>) {
-    is_parsed(rt, alloc, &MARKED, &value);
-    is_read(rt, alloc, (), &MARKED, &value);
+fn keeps_marked<'a, F>(rt: &impl Abort, alloc: Global, bytes: &'a [u8], value: F)
+where
+    F: LinkFamily<Context = ()> + Parseable<NlaBuffer<'a>> + ExactEq,
+{
+    assert!(rt; bytes == MARKED.as_slice());
+    is_parsed(rt, alloc, bytes, &value);
+    is_read(rt, alloc, (), bytes, &value);
+}
+
+/// Asserts that the family of the value, which keeps `MARKED`, has no rows, and keeps every
+/// attribute verbatim: the first byte string is `MARKED`, the other `UNLISTED`.
+fn keeps_each<'a, F>(
+    rt: &impl Abort,
+    alloc: Global,
+    (marked_bytes, unlisted_bytes): (&'a [u8], &'a [u8]),
+    value: F,
+)
+where
+    F: HoldsOthers + LinkFamily<Context = ()> + Parseable<NlaBuffer<'a>> + ExactEq + Clone,
+{
+    keeps_marked(rt, alloc, marked_bytes, value);
+    has_shapes::<F>(rt, (), &[]);
+    keeps::<F>(rt, alloc, &PLAIN, plain(rt, alloc));
+    keeps::<F>(rt, alloc, &MARKED, marked(rt, alloc));
+    keeps::<F>(rt, alloc, &EMPTY, DefaultNla::new(0x3fff, Vec::new(alloc)));
+    let other = F::from_other(unlisted(rt, alloc));
+    keeps_unlisted(rt, alloc, (), unlisted_bytes, other);
+    compare::<F>(rt, (), PAIRS);
+    compare_lists::<F>(rt, (), PAIRS_OF_LISTS);
+    refuses_stray_bytes::<F>(rt, alloc);
 }
 
 /// Asserts that the family of the value, which keeps `MARKED`, has no rows, and keeps every
@@ -127,16 +168,7 @@ fn keeps_every_attribute<const NUMBER: u8>(
         <Opaque<NUMBER> as LinkFamily>::FAMILY,
         family,
     );
-    keeps_marked(rt, alloc, value);
-    has_shapes::<Opaque<NUMBER>>(rt, (), &[]);
-    keeps::<NUMBER>(rt, alloc, &PLAIN, plain(rt, alloc));
-    keeps::<NUMBER>(rt, alloc, &MARKED, marked(rt, alloc));
-    keeps::<NUMBER>(rt, alloc, &EMPTY, DefaultNla::new(0x3fff, Vec::new(alloc)));
-    let value = Opaque::<NUMBER>::Other(unlisted(rt, alloc));
-    keeps_unlisted(rt, alloc, (), &UNLISTED, value);
-    compare::<Opaque<NUMBER>>(rt, (), PAIRS);
-    compare_lists::<Opaque<NUMBER>>(rt, (), PAIRS_OF_LISTS);
-    refuses_stray_bytes::<Opaque<NUMBER>>(rt, alloc);
+    keeps_each(rt, alloc, (&MARKED, &UNLISTED), value);
     has_lists::<NUMBER>(rt, alloc);
 }
 

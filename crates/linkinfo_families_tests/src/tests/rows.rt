@@ -350,16 +350,6 @@ where
     has_one_length::<F>(rt, alloc, (), bytes);
 }
 
-/// Asserts that each attribute is the canonical one of its value.
-pub(super) fn has_rows<'a, F>(rt: &impl Abort, alloc: Global, rows: &[(&'a [u8], F)])
-where
-    F: LinkFamily<Context = ()> + Parseable<NlaBuffer<'a>> + ExactEq,
-{
-    for (bytes, value) in rows {
-        has_row(rt, alloc, bytes, value);
-    }
-}
-
 /// Asserts that the attribute is the canonical one of the value.
 pub(super) fn has_row_of<'a, F>(rt: &impl Abort, alloc: Global, bytes: &'a [u8], value: F)
 where
@@ -421,6 +411,24 @@ where
     assert!(rt; bytes == UNLISTED.as_slice());
     is_parsed(rt, alloc, bytes, &value);
     is_kept(rt, alloc, ctx, &value);
+}
+
+/// Asserts that each attribute is the canonical one of its value, and that the attribute `UNLISTED`
+/// is parsed as the last value, an opaque attribute.
+pub(super) fn has_rows_and_others<'a, F>(
+    rt: &impl Abort,
+    alloc: Global,
+    rows: &[(&'a [u8], F)],
+    unlisted: &'a [u8],
+    other: F,
+)
+where
+    F: LinkFamily<Context = ()> + Parseable<NlaBuffer<'a>> + ExactEq + Clone,
+{
+    for (bytes, value) in rows {
+        has_row(rt, alloc, bytes, value);
+    }
+    keeps_unlisted(rt, alloc, (), unlisted, other);
 }
 
 /// Asserts that the attribute is parsed as the value.

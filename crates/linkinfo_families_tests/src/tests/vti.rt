@@ -1,6 +1,6 @@
 //! Rows of VTI tunnels.
 
-use super::rows::{UNLISTED, has_rows, has_rows_of, keeps_unlisted, unlisted};
+use super::rows::{UNLISTED, has_rows_and_others, has_rows_of, unlisted};
 use linkinfo_tunnels::InfoVti;
 use std::net::{IpAddr, Ipv4Addr, Ipv6Addr};
 
@@ -29,7 +29,8 @@ const ADDRESSES: &[&[u8]] = &[
 #[test]
 fn rows_of_vti(rt: HostRuntime) {
     let alloc = rt.alloc();
-    has_rows(&rt, alloc, &ROWS);
+    let other = InfoVti::Other(unlisted(&rt, alloc));
+    has_rows_and_others(&rt, alloc, &ROWS, &UNLISTED, other);
     let v4 = IpAddr::V4(Ipv4Addr::new(10, 0, 0, 1));
     let v6 = IpAddr::V6(Ipv6Addr::new(0xfe80, 0, 0, 0, 0, 0, 0, 2));
     let addresses = [
@@ -39,11 +40,4 @@ fn rows_of_vti(rt: HostRuntime) {
         InfoVti::Remote(v6),
     ];
     has_rows_of(&rt, alloc, ADDRESSES, addresses);
-    keeps_unlisted(
-        &rt,
-        alloc,
-        (),
-        &UNLISTED,
-        InfoVti::Other(unlisted(&rt, alloc)),
-    );
 }

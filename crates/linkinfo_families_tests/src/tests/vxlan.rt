@@ -1,8 +1,8 @@
 //! Rows of VXLAN tunnels.
 
 use super::rows::{
-    UNLISTED, has_marks, has_rows, has_rows_of, is_parsed, is_rejected, is_rewritten, is_row,
-    keeps_unlisted, unlisted,
+    UNLISTED, has_marks, has_rows_and_others, has_rows_of, is_parsed, is_rejected, is_rewritten,
+    is_row, unlisted,
 };
 use linkinfo_numbers::VxlanDf;
 use linkinfo_tunnels::InfoVxlan;
@@ -79,7 +79,8 @@ const ADDRESSES: &[&[u8]] = &[
 #[test]
 fn rows_of_vxlan(rt: HostRuntime) {
     let alloc = rt.alloc();
-    has_rows(&rt, alloc, &ROWS);
+    let other = InfoVxlan::Other(unlisted(&rt, alloc));
+    has_rows_and_others(&rt, alloc, &ROWS, &UNLISTED, other);
     has_marks(&rt, alloc, &MARKS);
     let v4 = Ipv4Addr::new(10, 0, 0, 1);
     let v6 = Ipv6Addr::new(0xfe80, 0, 0, 0, 0, 0, 0, 2);
@@ -90,13 +91,6 @@ fn rows_of_vxlan(rt: HostRuntime) {
         InfoVxlan::Local6(v6),
     ];
     has_rows_of(&rt, alloc, ADDRESSES, addresses);
-    keeps_unlisted(
-        &rt,
-        alloc,
-        (),
-        &UNLISTED,
-        InfoVxlan::Other(unlisted(&rt, alloc)),
-    );
 }
 
 /// Asserts that the attribute is the canonical one of the value, and is parsed as it.

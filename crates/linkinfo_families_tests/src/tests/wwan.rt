@@ -1,6 +1,6 @@
 //! Rows of `wwan` links.
 
-use super::rows::{UNLISTED, has_rows, has_shapes, is_list, keeps_unlisted, unlisted};
+use super::rows::{UNLISTED, has_rows_and_others, has_shapes, is_list, unlisted};
 use linkinfo_peers::InfoWwan;
 use linkinfo_table::Shape;
 
@@ -11,14 +11,8 @@ const ROWS: [(&[u8], InfoWwan); 1] = [(&[8, 0, 1, 0, 4, 3, 2, 1], InfoWwan::Link
 fn rows_of_wwan(rt: HostRuntime) {
     let alloc = rt.alloc();
     has_shapes::<InfoWwan>(&rt, (), &[(1, Shape::Le32)]);
-    has_rows(&rt, alloc, &ROWS);
+    let other = InfoWwan::Other(unlisted(&rt, alloc));
+    has_rows_and_others(&rt, alloc, &ROWS, &UNLISTED, other);
     let id = InfoWwan::LinkId(0x0102_0304);
     is_list(&rt, alloc, (), &[8, 0, 1, 0, 4, 3, 2, 1], [id]);
-    keeps_unlisted(
-        &rt,
-        alloc,
-        (),
-        &UNLISTED,
-        InfoWwan::Other(unlisted(&rt, alloc)),
-    );
 }

@@ -1,8 +1,8 @@
 //! Rows of `xfrm` and `vrf` links, and lists and first attributes of a family.
 
 use super::rows::{
-    UNLISTED, assert_is, compare_lists, error, first_checked, has_rows, has_shapes, is_list,
-    is_not_parsed, keeps_unlisted, list_checked, list_error, reads, unlisted,
+    UNLISTED, assert_is, compare_lists, error, first_checked, has_rows_and_others, has_shapes,
+    is_list, is_not_parsed, list_checked, list_error, reads, unlisted,
 };
 use linkinfo_devices::{InfoVrf, InfoXfrm};
 use linkinfo_table::{Shape, first_check, first_read, first_same, laws};
@@ -25,7 +25,8 @@ const ROWS_OF_VRF: [(&[u8], InfoVrf); 1] = [(
 fn rows_of_xfrm(rt: HostRuntime) {
     let alloc = rt.alloc();
     has_shapes::<InfoXfrm>(&rt, (), &[(1, Shape::Le32), (2, Shape::Le32)]);
-    has_rows(&rt, alloc, &ROWS_OF_XFRM);
+    let other = InfoXfrm::Other(unlisted(&rt, alloc));
+    has_rows_and_others(&rt, alloc, &ROWS_OF_XFRM, &UNLISTED, other);
     let data = [8, 0, 1, 0, 2, 0, 0, 0, 8, 0, 2, 0, 10, 0, 0, 0];
     is_list(
         &rt,
@@ -36,13 +37,6 @@ fn rows_of_xfrm(rt: HostRuntime) {
     );
     let kept = InfoXfrm::Other(unlisted(&rt, alloc));
     reads(&rt, alloc, (), &UNLISTED[..5], kept);
-    keeps_unlisted(
-        &rt,
-        alloc,
-        (),
-        &UNLISTED,
-        InfoXfrm::Other(unlisted(&rt, alloc)),
-    );
 }
 
 #[test]
@@ -50,14 +44,8 @@ fn rows_of_vrf(rt: HostRuntime) {
     let alloc = rt.alloc();
     laws::lawful::<InfoVrf>();
     has_shapes::<InfoVrf>(&rt, (), &[(1, Shape::Le32)]);
-    has_rows(&rt, alloc, &ROWS_OF_VRF);
-    keeps_unlisted(
-        &rt,
-        alloc,
-        (),
-        &UNLISTED,
-        InfoVrf::Other(unlisted(&rt, alloc)),
-    );
+    let other = InfoVrf::Other(unlisted(&rt, alloc));
+    has_rows_and_others(&rt, alloc, &ROWS_OF_VRF, &UNLISTED, other);
 }
 
 #[test]
