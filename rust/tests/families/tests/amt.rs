@@ -1,6 +1,6 @@
 //! Rows of AMT tunnels.
 
-use super::rows::{UNLISTED, has_rows, has_rows_of, is_rejected, keeps_unlisted, unlisted};
+use super::rows::{UNLISTED, has_rows_and_others, has_rows_of, is_rejected, unlisted};
 use linkinfo::layers::nla_frame::Cause;
 use linkinfo::layers::numbers::AmtMode;
 use linkinfo::layers::tunnels::InfoAmt;
@@ -35,7 +35,8 @@ const ADDRESSES: &[&[u8]] = &[
 
 #[test]
 fn rows_of_amt() {
-    has_rows(&ROWS);
+    let other = InfoAmt::Other(unlisted());
+    has_rows_and_others(&ROWS, &UNLISTED, other);
     let v4 = IpAddr::V4(Ipv4Addr::new(10, 0, 0, 1));
     let v6 = IpAddr::V6(Ipv6Addr::new(0xfe80, 0, 0, 0, 0, 0, 0, 2));
     let addresses = [
@@ -49,5 +50,4 @@ fn rows_of_amt() {
     has_rows_of(ADDRESSES, addresses);
     let short = [6, 0, 5, 0, 1, 2, 0, 0];
     is_rejected::<InfoAmt>((), &short, Cause::Length);
-    keeps_unlisted((), &UNLISTED, InfoAmt::Other(unlisted()));
 }

@@ -1,6 +1,6 @@
 //! Rows of bare UDP tunnels.
 
-use super::rows::{UNLISTED, has_marks, has_rows, is_list, is_rejected, keeps_unlisted, unlisted};
+use super::rows::{UNLISTED, has_marks, has_rows_and_others, is_list, is_rejected, unlisted};
 use linkinfo::layers::nla_frame::Cause;
 use linkinfo::layers::numbers::EthernetProtocol;
 use linkinfo::layers::tunnels::InfoBareUdp;
@@ -20,7 +20,8 @@ const MARKS: [(&[u8], InfoBareUdp); 1] = [(&[4, 0, 4, 0], InfoBareUdp::Multiprot
 
 #[test]
 fn rows_of_bare_udp() {
-    has_rows(&ROWS);
+    let other = InfoBareUdp::Other(unlisted());
+    has_rows_and_others(&ROWS, &UNLISTED, other);
     has_marks(&MARKS);
     let short = [5, 0, 3, 0, 7, 0, 0, 0];
     is_rejected::<InfoBareUdp>((), &short, Cause::Length);
@@ -30,5 +31,4 @@ fn rows_of_bare_udp() {
         InfoBareUdp::Ethertype(EthernetProtocol::MplsUc),
     ];
     is_list((), &data, wanted);
-    keeps_unlisted((), &UNLISTED, InfoBareUdp::Other(unlisted()));
 }

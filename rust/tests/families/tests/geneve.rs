@@ -1,8 +1,6 @@
 //! Rows of Geneve tunnels.
 
-use super::rows::{
-    UNLISTED, has_marks, has_rows, has_rows_of, is_rejected, keeps_unlisted, unlisted,
-};
+use super::rows::{UNLISTED, has_marks, has_rows_and_others, has_rows_of, is_rejected, unlisted};
 use linkinfo::layers::nla_frame::Cause;
 use linkinfo::layers::numbers::GeneveDf;
 use linkinfo::layers::tunnels::InfoGeneve;
@@ -42,7 +40,8 @@ const MARKS: [(&[u8], InfoGeneve); 2] = [
 
 #[test]
 fn rows_of_geneve() {
-    has_rows(&ROWS);
+    let other = InfoGeneve::Other(unlisted());
+    has_rows_and_others(&ROWS, &UNLISTED, other);
     has_marks(&MARKS);
     let v4 = Ipv4Addr::new(10, 0, 0, 1);
     let v6 = Ipv6Addr::new(0xfe80, 0, 0, 0, 0, 0, 0, 2);
@@ -53,7 +52,6 @@ fn rows_of_geneve() {
         InfoGeneve::Local6(v6),
     ];
     has_rows_of(ADDRESSES, addresses);
-    keeps_unlisted((), &UNLISTED, InfoGeneve::Other(unlisted()));
 }
 
 #[test]

@@ -1,8 +1,7 @@
 //! Rows of GRE tunnels over IPv4.
 
 use super::rows::{
-    UNLISTED, has_marks, has_rows, has_rows_of, is_rewritten, keeps_unlisted, kept, parses,
-    unlisted,
+    UNLISTED, has_marks, has_rows_and_others, has_rows_of, is_rewritten, kept, parses, unlisted,
 };
 use linkinfo::layers::numbers::{ErSpanDir, GreEncapFlags, GreEncapType, GreIOFlags};
 use linkinfo::layers::tunnels::InfoGre;
@@ -49,7 +48,8 @@ const ADDRESSES: &[&[u8]] = &[&[8, 0, 6, 0, 10, 0, 0, 1], &[8, 0, 7, 0, 10, 0, 0
 
 #[test]
 fn rows_of_gre() {
-    has_rows(&ROWS);
+    let other = InfoGre::Other(unlisted());
+    has_rows_and_others(&ROWS, &UNLISTED, other);
     has_marks(&MARKS);
     let v4 = Ipv4Addr::new(10, 0, 0, 1);
     let addresses = [InfoGre::Local(v4), InfoGre::Remote(v4)];
@@ -63,5 +63,4 @@ fn rows_of_gre() {
         let kept = kept(u16::from(kind), &[]);
         parses(&[4, 0, kind, 0], InfoGre::Other(kept));
     }
-    keeps_unlisted((), &UNLISTED, InfoGre::Other(unlisted()));
 }

@@ -1,8 +1,6 @@
 //! Rows of GRE tunnels over IPv6.
 
-use super::rows::{
-    UNLISTED, has_marks, has_rows, has_rows_of, keeps_unlisted, kept, parses, unlisted,
-};
+use super::rows::{UNLISTED, has_marks, has_rows_and_others, has_rows_of, kept, parses, unlisted};
 use linkinfo::layers::numbers::{ErSpanDir, GreEncapFlags, GreEncapType, GreIOFlags};
 use linkinfo::layers::tunnels::InfoGre6;
 use std::net::Ipv6Addr;
@@ -65,7 +63,8 @@ const ADDRESSES: &[&[u8]] = &[
 
 #[test]
 fn rows_of_gre6() {
-    has_rows(&ROWS);
+    let other = InfoGre6::Other(unlisted());
+    has_rows_and_others(&ROWS, &UNLISTED, other);
     has_marks(&MARKS);
     let v6 = Ipv6Addr::new(0xfe80, 0, 0, 0, 0, 0, 0, 2);
     let addresses = [InfoGre6::Local(v6), InfoGre6::Remote(v6)];
@@ -73,5 +72,4 @@ fn rows_of_gre6() {
     // Path MTU Discovery has no row over IPv6.
     let discovery = [5, 0, 10, 0, 1, 0, 0, 0];
     parses(&discovery, InfoGre6::Other(kept(10, &[1])));
-    keeps_unlisted((), &UNLISTED, InfoGre6::Other(unlisted()));
 }

@@ -1,6 +1,6 @@
 //! Rows of GTP tunnels.
 
-use super::rows::{UNLISTED, has_rows, has_rows_of, is_list, keeps_unlisted, unlisted};
+use super::rows::{UNLISTED, has_rows_and_others, has_rows_of, is_list, unlisted};
 use linkinfo::layers::numbers::GtpRole;
 use linkinfo::layers::tunnels::InfoGtp;
 use std::net::{Ipv4Addr, Ipv6Addr};
@@ -25,7 +25,8 @@ const ADDRESSES: &[&[u8]] = &[
 
 #[test]
 fn rows_of_gtp() {
-    has_rows(&ROWS);
+    let other = InfoGtp::Other(unlisted());
+    has_rows_and_others(&ROWS, &UNLISTED, other);
     let v4 = Ipv4Addr::new(10, 0, 0, 1);
     let v6 = Ipv6Addr::new(0xfe80, 0, 0, 0, 0, 0, 0, 2);
     let addresses = [InfoGtp::Local(v4), InfoGtp::Local6(v6)];
@@ -39,5 +40,4 @@ fn rows_of_gtp() {
         InfoGtp::PdpHashsize(1024),
     ];
     is_list((), &data, wanted);
-    keeps_unlisted((), &UNLISTED, InfoGtp::Other(unlisted()));
 }

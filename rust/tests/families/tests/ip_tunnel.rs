@@ -1,7 +1,8 @@
 //! Rows of IP tunnels, and their flags by the kind of the link.
 
 use super::rows::{
-    UNLISTED, attribute, error, has_one_length, is_kept, is_mark, is_rejected, is_row, unlisted,
+    UNLISTED, assert_is, attribute, error, has_one_length, is_kept, is_mark, is_rejected, is_row,
+    unlisted,
 };
 use bitflags::Flags;
 use linkinfo::layers::nla_frame::{Cause, DecodeError, Family, ParseableParametrized};
@@ -18,7 +19,7 @@ fn parsed(bytes: &[u8], kind: &InfoKind) -> Result<InfoIpTunnel, DecodeError> {
 /// Asserts that the attribute is read as the value in a link of this kind.
 fn is_parsed(kind: &InfoKind, bytes: &[u8], value: &InfoIpTunnel) {
     let read = parsed(bytes, kind).expect("a value");
-    assert_eq!((bytes, read == *value), (bytes, true));
+    assert_is(("parsed", bytes), read == *value, true);
 }
 
 /// Asserts that the attribute is the canonical one of the value under every kind, and that payloads
@@ -154,7 +155,8 @@ fn flags_by_kind() {
 /// Asserts that the flags are rejected in a link of this kind.
 fn refuses_flags(kind: InfoKind, bytes: &[u8], cause: Cause) {
     let expected = error(Family::IpTunnel, 8, cause);
-    assert_eq!(parsed(bytes, &kind).err(), Some(expected));
+    let found = parsed(bytes, &kind).err();
+    assert_is(("not parsed", bytes), found, Some(expected));
     is_rejected::<InfoIpTunnel>(kind.tag(), bytes, cause);
 }
 

@@ -1,6 +1,6 @@
 //! Rows of `ipoib` links.
 
-use super::rows::{UNLISTED, has_rows, is_list, keeps_unlisted, unlisted};
+use super::rows::{UNLISTED, has_rows_and_others, is_list, unlisted};
 use linkinfo::layers::devices::InfoIpoib;
 use linkinfo::layers::numbers::IpoibMode;
 
@@ -24,12 +24,12 @@ const ROWS: [(&[u8], InfoIpoib); 5] = [
 
 #[test]
 fn rows_of_ipoib() {
-    has_rows(&ROWS);
+    let other = InfoIpoib::Other(unlisted());
+    has_rows_and_others(&ROWS, &UNLISTED, other);
     let bytes = [6, 0, 1, 0, 1, 0x80, 0, 0, 6, 0, 2, 0, 1, 0, 0, 0];
     let values = [
         InfoIpoib::Pkey(0x8001),
         InfoIpoib::Mode(IpoibMode::Connected),
     ];
     is_list((), &bytes, values);
-    keeps_unlisted((), &UNLISTED, InfoIpoib::Other(unlisted()));
 }

@@ -1,6 +1,6 @@
 //! Rows of `macsec` links.
 
-use super::rows::{UNLISTED, has_rows, is_list, keeps_unlisted, parses, unlisted};
+use super::rows::{UNLISTED, has_rows_and_others, is_list, parses, unlisted};
 use linkinfo::layers::devices::InfoMacSec;
 use linkinfo::layers::nla_frame::DefaultNla;
 use linkinfo::layers::numbers::{MacSecCipherId, MacSecOffload, MacSecValidate};
@@ -53,7 +53,8 @@ const ROWS: [(&[u8], InfoMacSec); 18] = [
 
 #[test]
 fn rows_of_macsec() {
-    has_rows(&ROWS);
+    let other = InfoMacSec::Other(unlisted());
+    has_rows_and_others(&ROWS, &UNLISTED, other);
     let suite = [12, 0, 4, 0, 1, 0, 0, 1, 0, 0xc2, 0x80, 0];
     let suites = [InfoMacSec::CipherSuite(MacSecCipherId::GcmAes128)];
     is_list((), &suite, suites);
@@ -62,5 +63,4 @@ fn rows_of_macsec() {
     parses(&[4, 0, 14, 0], kept);
     let kept = InfoMacSec::Other(DefaultNla::new(14, Vec::new()));
     is_list((), &[4, 0, 14, 0], [kept]);
-    keeps_unlisted((), &UNLISTED, InfoMacSec::Other(unlisted()));
 }

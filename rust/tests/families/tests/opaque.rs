@@ -8,7 +8,7 @@ use super::rows::{
 use linkinfo::layers::lower::{
     InfoBond, InfoBondPort, InfoBridge, InfoBridgePort, InfoCan, InfoDsa, InfoHsr, InfoVlan,
 };
-use linkinfo::layers::nla_frame::{Cause, DefaultNla, Family};
+use linkinfo::layers::nla_frame::{Cause, DefaultNla, ExactEq, Family, NlaBuffer, Parseable};
 use linkinfo::layers::peers::{InfoPfcp, InfoTeamPort, InfoTun, InfoWireguard};
 use linkinfo::layers::table::{LinkFamily, Opaque};
 
@@ -27,6 +27,17 @@ const LIST: [u8; 16] = [8, 0, 1, 0, 1, 2, 3, 4, 5, 0, 2, 0x80, 7, 0, 0, 0];
 /// `PLAIN`, and one stray byte.
 const STRAY: [u8; 9] = [8, 0, 1, 0, 1, 2, 3, 4, 0];
 
+/// A family without rows.
+trait HoldsOthers: Sized {
+    fn from_other(nla: DefaultNla) -> Self;
+}
+
+impl<const NUMBER: u8> HoldsOthers for Opaque<NUMBER> {
+    fn from_other(nla: DefaultNla) -> Opaque<NUMBER> {
+        Opaque::Other(nla)
+    }
+}
+
 fn plain() -> DefaultNla {
     kept(1, &[1, 2, 3, 4])
 }
@@ -41,16 +52,19 @@ fn last() -> DefaultNla {
 }
 
 /// Asserts that the attribute is kept verbatim.
-fn keeps<const NUMBER: u8>(bytes: &[u8], kept: DefaultNla) {
+fn keeps<F>(bytes: &[u8], kept: DefaultNla)
+where
+    F: HoldsOthers + LinkFamily<Context = ()> + ExactEq,
+{
     let nla = attribute(bytes);
     assert_is(
         ("kept", bytes),
         (kept.kind, kept.value.as_slice()),
         (nla.raw_kind(), nla.value()),
     );
-    let value = Opaque::<NUMBER>::Other(kept);
+    let value = F::from_other(kept);
     is_read((), bytes, &value);
-    assert!(are_same::<Opaque<NUMBER>>((), bytes, bytes));
+    assert!(are_same::<F>((), bytes, bytes));
     is_emitted(&value, bytes);
 }
 
@@ -93,9 +107,31 @@ fn has_lists<const NUMBER: u8>() {
 }
 
 /// Asserts that `MARKED` is kept verbatim as the value.
-fn keeps_marked<const NUMBER: u8>(value: Opaque<NUMBER>) {
-    is_parsed(&MARKED, &value);
-    is_read((), &MARKED, &value);
+fn keeps_marked<'a, F>(bytes: &'a [u8], value: F)
+where
+    F: LinkFamily<Context = ()> + Parseable<NlaBuffer<'a>> + ExactEq,
+{
+    assert!(bytes == MARKED.as_slice());
+    is_parsed(bytes, &value);
+    is_read((), bytes, &value);
+}
+
+/// Asserts that the family of the value, which keeps `MARKED`, has no rows, and keeps every
+/// attribute verbatim: the first byte string is `MARKED`, the other `UNLISTED`.
+fn keeps_each<'a, F>((marked_bytes, unlisted_bytes): (&'a [u8], &'a [u8]), value: F)
+where
+    F: HoldsOthers + LinkFamily<Context = ()> + Parseable<NlaBuffer<'a>> + ExactEq + Clone,
+{
+    keeps_marked(marked_bytes, value);
+    has_shapes::<F>((), &[]);
+    keeps::<F>(&PLAIN, plain());
+    keeps::<F>(&MARKED, marked());
+    keeps::<F>(&EMPTY, DefaultNla::new(0x3fff, Vec::new()));
+    let other = F::from_other(unlisted());
+    keeps_unlisted((), unlisted_bytes, other);
+    compare::<F>((), PAIRS);
+    compare_lists::<F>((), PAIRS_OF_LISTS);
+    refuses_stray_bytes::<F>();
 }
 
 /// Asserts that the family of the value, which keeps `MARKED`, has no rows, and keeps every
@@ -106,16 +142,7 @@ fn keeps_every_attribute<const NUMBER: u8>(family: Family, value: Opaque<NUMBER>
         <Opaque<NUMBER> as LinkFamily>::FAMILY,
         family,
     );
-    keeps_marked(value);
-    has_shapes::<Opaque<NUMBER>>((), &[]);
-    keeps::<NUMBER>(&PLAIN, plain());
-    keeps::<NUMBER>(&MARKED, marked());
-    keeps::<NUMBER>(&EMPTY, DefaultNla::new(0x3fff, Vec::new()));
-    let value = Opaque::<NUMBER>::Other(unlisted());
-    keeps_unlisted((), &UNLISTED, value);
-    compare::<Opaque<NUMBER>>((), PAIRS);
-    compare_lists::<Opaque<NUMBER>>((), PAIRS_OF_LISTS);
-    refuses_stray_bytes::<Opaque<NUMBER>>();
+    keeps_each((&MARKED, &UNLISTED), value);
     has_lists::<NUMBER>();
 }
 

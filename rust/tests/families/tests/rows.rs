@@ -248,16 +248,6 @@ where
     has_one_length::<F>((), bytes);
 }
 
-/// Asserts that each attribute is the canonical one of its value.
-pub(super) fn has_rows<'a, F>(rows: &[(&'a [u8], F)])
-where
-    F: LinkFamily<Context = ()> + Parseable<NlaBuffer<'a>> + ExactEq,
-{
-    for (bytes, value) in rows {
-        has_row(bytes, value);
-    }
-}
-
 /// Asserts that the attribute is the canonical one of the value.
 pub(super) fn has_row_of<'a, F>(bytes: &'a [u8], value: F)
 where
@@ -303,6 +293,18 @@ where
     assert!(bytes == UNLISTED.as_slice());
     is_parsed(bytes, &value);
     is_kept(ctx, &value);
+}
+
+/// Asserts that each attribute is the canonical one of its value, and that the attribute `UNLISTED`
+/// is parsed as the last value, an opaque attribute.
+pub(super) fn has_rows_and_others<'a, F>(rows: &[(&'a [u8], F)], unlisted: &'a [u8], other: F)
+where
+    F: LinkFamily<Context = ()> + Parseable<NlaBuffer<'a>> + ExactEq + Clone,
+{
+    for (bytes, value) in rows {
+        has_row(bytes, value);
+    }
+    keeps_unlisted((), unlisted, other);
 }
 
 /// Asserts that the attribute is parsed as the value.

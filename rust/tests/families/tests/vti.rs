@@ -1,6 +1,6 @@
 //! Rows of VTI tunnels.
 
-use super::rows::{UNLISTED, has_rows, has_rows_of, keeps_unlisted, unlisted};
+use super::rows::{UNLISTED, has_rows_and_others, has_rows_of, unlisted};
 use linkinfo::layers::tunnels::InfoVti;
 use std::net::{IpAddr, Ipv4Addr, Ipv6Addr};
 
@@ -28,7 +28,8 @@ const ADDRESSES: &[&[u8]] = &[
 
 #[test]
 fn rows_of_vti() {
-    has_rows(&ROWS);
+    let other = InfoVti::Other(unlisted());
+    has_rows_and_others(&ROWS, &UNLISTED, other);
     let v4 = IpAddr::V4(Ipv4Addr::new(10, 0, 0, 1));
     let v6 = IpAddr::V6(Ipv6Addr::new(0xfe80, 0, 0, 0, 0, 0, 0, 2));
     let addresses = [
@@ -38,5 +39,4 @@ fn rows_of_vti() {
         InfoVti::Remote(v6),
     ];
     has_rows_of(ADDRESSES, addresses);
-    keeps_unlisted((), &UNLISTED, InfoVti::Other(unlisted()));
 }

@@ -1,8 +1,8 @@
 //! Rows of VXLAN tunnels.
 
 use super::rows::{
-    UNLISTED, has_marks, has_rows, has_rows_of, is_parsed, is_rejected, is_rewritten, is_row,
-    keeps_unlisted, unlisted,
+    UNLISTED, has_marks, has_rows_and_others, has_rows_of, is_parsed, is_rejected, is_rewritten,
+    is_row, unlisted,
 };
 use linkinfo::layers::nla_frame::Cause;
 use linkinfo::layers::numbers::VxlanDf;
@@ -76,7 +76,8 @@ const ADDRESSES: &[&[u8]] = &[
 
 #[test]
 fn rows_of_vxlan() {
-    has_rows(&ROWS);
+    let other = InfoVxlan::Other(unlisted());
+    has_rows_and_others(&ROWS, &UNLISTED, other);
     has_marks(&MARKS);
     let v4 = Ipv4Addr::new(10, 0, 0, 1);
     let v6 = Ipv6Addr::new(0xfe80, 0, 0, 0, 0, 0, 0, 2);
@@ -87,7 +88,6 @@ fn rows_of_vxlan() {
         InfoVxlan::Local6(v6),
     ];
     has_rows_of(ADDRESSES, addresses);
-    keeps_unlisted((), &UNLISTED, InfoVxlan::Other(unlisted()));
 }
 
 /// Asserts that the attribute is the canonical one of the value, and is parsed as it.

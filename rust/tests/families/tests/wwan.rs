@@ -1,6 +1,6 @@
 //! Rows of `wwan` links.
 
-use super::rows::{UNLISTED, has_rows, has_shapes, is_list, keeps_unlisted, unlisted};
+use super::rows::{UNLISTED, has_rows_and_others, has_shapes, is_list, unlisted};
 use linkinfo::layers::peers::InfoWwan;
 use linkinfo::layers::table::Shape;
 
@@ -10,8 +10,8 @@ const ROWS: [(&[u8], InfoWwan); 1] = [(&[8, 0, 1, 0, 4, 3, 2, 1], InfoWwan::Link
 #[test]
 fn rows_of_wwan() {
     has_shapes::<InfoWwan>((), &[(1, Shape::Le32)]);
-    has_rows(&ROWS);
+    let other = InfoWwan::Other(unlisted());
+    has_rows_and_others(&ROWS, &UNLISTED, other);
     let id = InfoWwan::LinkId(0x0102_0304);
     is_list((), &[8, 0, 1, 0, 4, 3, 2, 1], [id]);
-    keeps_unlisted((), &UNLISTED, InfoWwan::Other(unlisted()));
 }

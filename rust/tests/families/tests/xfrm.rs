@@ -1,8 +1,8 @@
 //! Rows of `xfrm` and `vrf` links, and lists and first attributes of a family.
 
 use super::rows::{
-    UNLISTED, assert_is, compare_lists, error, first_checked, has_rows, has_shapes, is_list,
-    is_not_parsed, keeps_unlisted, list_checked, list_error, reads, unlisted,
+    UNLISTED, assert_is, compare_lists, error, first_checked, has_rows_and_others, has_shapes,
+    is_list, is_not_parsed, list_checked, list_error, reads, unlisted,
 };
 use linkinfo::layers::devices::{InfoVrf, InfoXfrm};
 use linkinfo::layers::nla_frame::{Cause, Family, HeaderCount};
@@ -21,19 +21,19 @@ const ROWS_OF_VRF: [(&[u8], InfoVrf); 1] =
 #[test]
 fn rows_of_xfrm() {
     has_shapes::<InfoXfrm>((), &[(1, Shape::Le32), (2, Shape::Le32)]);
-    has_rows(&ROWS_OF_XFRM);
+    let other = InfoXfrm::Other(unlisted());
+    has_rows_and_others(&ROWS_OF_XFRM, &UNLISTED, other);
     let data = [8, 0, 1, 0, 2, 0, 0, 0, 8, 0, 2, 0, 10, 0, 0, 0];
     is_list((), &data, [InfoXfrm::Link(2), InfoXfrm::IfId(10)]);
     let kept = InfoXfrm::Other(unlisted());
     reads((), &UNLISTED[..5], kept);
-    keeps_unlisted((), &UNLISTED, InfoXfrm::Other(unlisted()));
 }
 
 #[test]
 fn rows_of_vrf() {
     has_shapes::<InfoVrf>((), &[(1, Shape::Le32)]);
-    has_rows(&ROWS_OF_VRF);
-    keeps_unlisted((), &UNLISTED, InfoVrf::Other(unlisted()));
+    let other = InfoVrf::Other(unlisted());
+    has_rows_and_others(&ROWS_OF_VRF, &UNLISTED, other);
 }
 
 #[test]
