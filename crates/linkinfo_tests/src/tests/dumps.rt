@@ -137,13 +137,17 @@ fn assert_reads_back(rt: &impl Abort, alloc: Global, bytes: &[u8]) {
     assert_canon_into(rt, alloc, bytes, bytes);
 }
 
+/// Asserts that each byte string is accepted and is its own canonical encoding.
+fn assert_canonical(rt: &impl Abort, alloc: Global, rows: &[(&str, &str)]) {
+    for (name, text) in rows {
+        let bytes = bytes_of(rt, alloc, text);
+        assert_equal(rt, name, &check(&bytes), &Ok(()));
+        assert_equal(rt, name, &same(&bytes, &bytes), &Ok(true));
+        assert_reads_back(rt, alloc, &bytes);
+    }
+}
+
 #[test]
 fn dumps_are_canonical(rt: HostRuntime) {
-    let alloc = rt.alloc();
-    for (name, text) in DUMPS {
-        let bytes = bytes_of(&rt, alloc, text);
-        assert_equal(&rt, name, &check(&bytes), &Ok(()));
-        assert_equal(&rt, name, &same(&bytes, &bytes), &Ok(true));
-        assert_reads_back(&rt, alloc, &bytes);
-    }
+    assert_canonical(&rt, rt.alloc(), DUMPS);
 }
