@@ -40,6 +40,17 @@ pub fn assert_parsed<C: Debug, T: PartialEq + Drop>(
     assert_holds(rt, case, found == wanted);
 }
 
+/// Asserts that what was parsed is equal to a value, by `==`, as `assert_parsed` does.
+pub fn assert_parses<C: Debug, T: PartialEq + Drop>(
+    rt: &impl Abort,
+    case: &C,
+    found: Result<T, DecodeError>,
+    wanted: &T,
+) {
+    let found = found.expect(rt, "a value");
+    assert_holds(rt, case, found == *wanted);
+}
+
 /// Asserts that a payload parses as this data of a link of the kind.
 pub fn assert_data(rt: &impl Abort, alloc: Global, payload: &[u8], kind: InfoKind, data: InfoData) {
     let found = InfoData::parse_with_param(alloc, payload, &kind);
@@ -51,6 +62,34 @@ pub const HEADER_ERROR: DecodeError = DecodeError {
     family: Family::Frame,
     kind: 0,
     cause: Cause::Header,
+};
+
+/// The error of data without a kind before it.
+pub const DATA_ORDER: DecodeError = DecodeError {
+    family: Family::LinkInfo,
+    kind: 2,
+    cause: Cause::Order,
+};
+
+/// The error of statistics without a kind before them.
+pub const XSTATS_ORDER: DecodeError = DecodeError {
+    family: Family::LinkInfo,
+    kind: 3,
+    cause: Cause::Order,
+};
+
+/// The error of port data without a port kind before it.
+pub const PORT_DATA_ORDER: DecodeError = DecodeError {
+    family: Family::LinkInfo,
+    kind: 5,
+    cause: Cause::Order,
+};
+
+/// The error of a kind whose name is not UTF-8.
+pub const NAME_ERROR: DecodeError = DecodeError {
+    family: Family::LinkInfo,
+    kind: 1,
+    cause: Cause::Utf8,
 };
 
 /// An error of an attribute of the list itself.
@@ -151,10 +190,10 @@ pub fn assert_emitted<T: Nla>(rt: &impl Abort, alloc: Global, items: &[T], strin
 }
 
 /// Asserts that the list of these attributes is written as the encoding.
-pub fn assert_built<const N: usize>(
+pub fn assert_built<T: Nla + Drop, const N: usize>(
     rt: &impl Abort,
     alloc: Global,
-    items: [LinkInfo; N],
+    items: [T; N],
     string: &[u8],
 ) {
     assert_emitted(rt, alloc, items.as_slice(), string);
@@ -218,12 +257,6 @@ fn assert_accepted(rt: &impl Abort, alloc: Global, bytes: &[u8], canonical: &[u8
     assert_equal(rt, &bytes, &string.as_slice(), &canonical);
 }
 
-/// The list that a byte string parses as, with headers counted.
-fn parsed_counted(rt: &impl Abort, alloc: Global, bytes: &[u8]) -> VecLinkInfo {
-    let mut count = HeaderCount::new();
-    VecLinkInfo::parse_counted(alloc, bytes, &mut count).expect(rt, "a list")
-}
-
 /// Asserts that a walk returns each attribute of the list in order, at its offset, and ends at the
 /// end of the bytes.
 fn assert_walked(rt: &impl Abort, bytes: &[u8], list: &VecLinkInfo) {
@@ -248,8 +281,10 @@ fn assert_walked(rt: &impl Abort, bytes: &[u8], list: &VecLinkInfo) {
 
 /// Asserts that the bytes parse as the list, whether headers are counted or not.
 fn assert_read(rt: &impl Abort, alloc: Global, bytes: &[u8], wanted: &VecLinkInfo) {
-    assert_holds(rt, &bytes, parsed(rt, alloc, bytes) == *wanted);
-    assert_holds(rt, &bytes, parsed_counted(rt, alloc, bytes) == *wanted);
+    let mut count = HeaderCount::new();
+    let counted = VecLinkInfo::parse_counted(alloc, bytes, &mut count);
+    assert_parses(rt, &bytes, counted, wanted);
+    assert_parses(rt, &bytes, VecLinkInfo::parse(alloc, bytes), wanted);
     assert_walked(rt, bytes, wanted);
 }
 
@@ -313,9 +348,9 @@ pub fn assert_headers(
     let mut checking = HeaderCount::new();
     let checked = check_counted(bytes, &mut checking);
     let mut reading = HeaderCount::new();
-    let read = VecLinkInfo::parse_counted(alloc, bytes, &mut reading);
+    let read = VecLinkInfo::parse_counted(alloc, bytes, &mut reading).err();
     assert_equal(rt, &bytes, &checked.err(), &error);
-    assert_equal(rt, &bytes, &read.err(), &error);
+    assert_equal(rt, &bytes, &read, &error);
     assert_equal(rt, &bytes, &checking.get(), &headers);
     assert_equal(rt, &bytes, &reading.get(), &headers);
 }

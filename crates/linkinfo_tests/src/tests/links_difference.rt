@@ -1,9 +1,9 @@
 //! Where two lists differ first.
 
-use super::assertions::{HEADER_ERROR, assert_equal, bytes_of, link_error};
-use linkinfo::{
-    BitPeer, Cause, Difference, ErrorIn, Family, first_difference, first_difference_of, same,
-};
+use super::assertions::{DATA_ORDER, HEADER_ERROR, assert_equal, bytes_of};
+use linkinfo::{BitPeer, Difference, ErrorIn, Family, first_difference, first_difference_of, same};
+use std::alloc::Global;
+use std::process::Abort;
 
 /// A pair of attributes: their family and type, and their offsets.
 type At = (Family, u16, Option<usize>, Option<usize>);
@@ -120,32 +120,42 @@ const CASES: &[Case] = &[
     ),
 ];
 
-#[test]
-fn tells_where_lists_differ(rt: HostRuntime) {
-    let alloc = rt.alloc();
-    for case in CASES {
-        let (a, b, at) = case;
-        let (first, second) = (bytes_of(&rt, alloc, a), bytes_of(&rt, alloc, b));
-        let found = first_difference(&first, &second);
-        assert_equal(&rt, &(a, b), &found, &Ok(difference(at)));
-        assert_equal(&rt, &(a, b), &same(&first, &second), &Ok(at.is_none()));
-    }
+/// Asserts where two lists differ, or the error, and whether they are equivalent.
+fn assert_differ(
+    rt: &impl Abort,
+    alloc: Global,
+    a: &str,
+    b: &str,
+    wanted: Result<Option<Difference>, ErrorIn>,
+) {
+    let first = bytes_of(rt, alloc, a);
+    let second = bytes_of(rt, alloc, b);
+    assert_equal(rt, &(a, b), &first_difference(&first, &second), &wanted);
+    let are_same = match wanted {
+        Ok(at) => Ok(at.is_none()),
+        Err(error) => Err(error.error()),
+    };
+    assert_equal(rt, &(a, b), &same(&first, &second), &are_same);
 }
 
 #[test]
+fn tells_where_lists_differ(rt: HostRuntime) {
+    for (a, b, at) in CASES {
+        assert_differ(&rt, rt.alloc(), a, b, Ok(difference(at)));
+    }
+}
+
+/// Two lists, and the error of one of them.
+const ERRORS: &[(&str, &str, ErrorIn)] = &[
+    ("080001", VXLAN, ErrorIn::First(HEADER_ERROR)),
+    ("080001", "04000200", ErrorIn::First(HEADER_ERROR)),
+    (VXLAN, "04000200", ErrorIn::Second(DATA_ORDER)),
+];
+
+#[test]
 fn tells_which_list_has_an_error(rt: HostRuntime) {
-    let alloc = rt.alloc();
-    let fine = bytes_of(&rt, alloc, VXLAN);
-    let damaged = bytes_of(&rt, alloc, "080001");
-    let misplaced = bytes_of(&rt, alloc, "04000200");
-    let order = link_error(2, Cause::Order);
-    let cases = [
-        (&damaged, &fine, ErrorIn::First(HEADER_ERROR)),
-        (&damaged, &misplaced, ErrorIn::First(HEADER_ERROR)),
-        (&fine, &misplaced, ErrorIn::Second(order)),
-    ];
-    for (a, b, error) in cases {
-        assert_equal(&rt, &error, &first_difference(a, b), &Err(error));
+    for (a, b, error) in ERRORS {
+        assert_differ(&rt, rt.alloc(), a, b, Err(*error));
     }
 }
 

@@ -1,7 +1,9 @@
 //! Whether a link has all attributes of a request, and which one it lacks.
 
-use super::assertions::{HEADER_ERROR, assert_equal, bytes_of, link_error};
-use linkinfo::{BitPeer, Bytes, Cause, ErrorIn, Family, Unmet, first_unmet, first_unmet_of};
+use super::assertions::{DATA_ORDER, HEADER_ERROR, assert_equal, bytes_of};
+use linkinfo::{BitPeer, Bytes, ErrorIn, Family, Unmet, first_unmet, first_unmet_of};
+use std::alloc::Global;
+use std::process::Abort;
 
 /// An attribute that is not met: its family and type, its offset, and that of the other one.
 type At = (Family, u16, usize, Option<usize>);
@@ -170,32 +172,37 @@ const CASES: &[Case] = &[
     ),
 ];
 
-#[test]
-fn tells_what_is_not_met(rt: HostRuntime) {
-    let alloc = rt.alloc();
-    for case in CASES {
-        let (have, want, at) = case;
-        let (had, wanted) = (bytes_of(&rt, alloc, have), bytes_of(&rt, alloc, want));
-        let found = first_unmet(&had, &wanted);
-        assert_equal(&rt, &(have, want), &found, &Ok(unmet(at)));
-    }
+/// Asserts what of a request a link does not meet, or the error.
+fn assert_unmet(
+    rt: &impl Abort,
+    alloc: Global,
+    have: &str,
+    want: &str,
+    wanted: Result<Option<Unmet>, ErrorIn>,
+) {
+    let had = bytes_of(rt, alloc, have);
+    let request = bytes_of(rt, alloc, want);
+    assert_equal(rt, &(have, want), &first_unmet(&had, &request), &wanted);
 }
 
 #[test]
+fn tells_what_is_not_met(rt: HostRuntime) {
+    for (have, want, at) in CASES {
+        assert_unmet(&rt, rt.alloc(), have, want, Ok(unmet(at)));
+    }
+}
+
+/// What a link has, a request, and the error of one of them.
+const ERRORS: &[(&str, &str, ErrorIn)] = &[
+    ("080001", VXLAN, ErrorIn::First(HEADER_ERROR)),
+    ("080001", "04000200", ErrorIn::First(HEADER_ERROR)),
+    (VXLAN, "04000200", ErrorIn::Second(DATA_ORDER)),
+];
+
+#[test]
 fn tells_whose_error_it_is(rt: HostRuntime) {
-    let alloc = rt.alloc();
-    let fine = bytes_of(&rt, alloc, VXLAN);
-    let damaged = bytes_of(&rt, alloc, "080001");
-    let misplaced = bytes_of(&rt, alloc, "04000200");
-    let order = link_error(2, Cause::Order);
-    let cases = [
-        (&damaged, &fine, ErrorIn::First(HEADER_ERROR)),
-        (&damaged, &misplaced, ErrorIn::First(HEADER_ERROR)),
-        (&fine, &misplaced, ErrorIn::Second(order)),
-    ];
-    for (have, want, error) in cases {
-        let found = first_unmet(have, want);
-        assert_equal(&rt, &error, &found, &Err(error));
+    for (have, want, error) in ERRORS {
+        assert_unmet(&rt, rt.alloc(), have, want, Err(*error));
     }
 }
 

@@ -34,6 +34,11 @@ fn list_of_letters(rt: &impl Abort, alloc: Global, count: usize) -> [LinkInfo; 1
     [LinkInfo::Kind(kind_of_letters(rt, alloc, count))]
 }
 
+/// Asserts that the bytes parse as the list of the kind whose name is this many letters `a`.
+fn assert_letters(rt: &impl Abort, alloc: Global, bytes: &[u8], count: usize) {
+    assert_read_as(rt, alloc, bytes, list_of_letters(rt, alloc, count));
+}
+
 #[test]
 fn longest_name(rt: HostRuntime) {
     let alloc = rt.alloc();
@@ -42,18 +47,20 @@ fn longest_name(rt: HostRuntime) {
     string.push(0).expect(&rt, "memory");
     assert_equal(&rt, &"the longest", &string.len(), &65535);
     assert_equal(&rt, &"without NUL", &same(&string, &unclosed), &Ok(true));
-    assert_read_as(&rt, alloc, &string, list_of_letters(&rt, alloc, 65530));
-    assert_read_as(&rt, alloc, &unclosed, list_of_letters(&rt, alloc, 65530));
+    assert_letters(&rt, alloc, &string, 65530);
+    assert_letters(&rt, alloc, &unclosed, 65530);
     string.push(0).expect(&rt, "memory");
     assert_equal(&rt, &"padded", &string.len(), &65536);
-    assert_kind(&rt, alloc, kind_of_letters(&rt, alloc, 65530), &string);
-    assert_built(&rt, alloc, list_of_letters(&rt, alloc, 65530), &string);
+    assert_longest(&rt, alloc, &string);
 }
 
-/// Asserts that the kind has 65531 bytes, and is written as the encoding.
-fn assert_kind(rt: &impl Abort, alloc: Global, kind: InfoKind, string: &[u8]) {
+/// Asserts that the kind whose name is 65530 letters has 65531 bytes, and is written as the
+/// encoding, by itself and in a list.
+fn assert_longest(rt: &impl Abort, alloc: Global, string: &[u8]) {
+    let kind = kind_of_letters(rt, alloc, 65530);
     assert_equal(rt, &"the kind", &kind.fit_len(), &Some(65531));
     assert_attribute(rt, alloc, &kind, string);
+    assert_built(rt, alloc, [LinkInfo::Kind(kind)], string);
 }
 
 /// The number of bytes that a kind whose name is this many letters is written as, if it fits.
@@ -91,7 +98,7 @@ fn name_that_does_not_fit(rt: HostRuntime) {
     assert_equal(&rt, &case, &check(&string), &Ok(()));
     assert_equal(&rt, &case, &same(&string, &string), &Ok(true));
     assert_unfit(&rt, alloc, &string);
-    assert_read_as(&rt, alloc, &string, list_of_letters(&rt, alloc, 65531));
+    assert_letters(&rt, alloc, &string, 65531);
     assert_fronts(&rt, alloc, &string);
 }
 

@@ -1,6 +1,6 @@
 //! A custom peer: links with it parsed, validated, compared and written.
 
-use super::assertions::{assert_emitted, assert_equal, assert_holds, bytes_of, nlas};
+use super::assertions::{assert_emitted, assert_equal, assert_parses, bytes_of, nlas};
 use crate::AnyPeer;
 use linkinfo::{InfoDataOf, InfoKind, InfoVethOf, LinkInfoOf, VecLinkInfoOf, check_of, same_of};
 use std::alloc::Global;
@@ -14,8 +14,8 @@ const PEERS: [&str; 2] = [
 
 /// Asserts that the bytes are accepted, and parse as the list.
 fn assert_accepted(rt: &impl Abort, alloc: Global, bytes: &[u8], list: &VecLinkInfoOf<AnyPeer>) {
-    let read = VecLinkInfoOf::<AnyPeer>::parse(alloc, bytes).expect(rt, "a list");
-    assert_holds(rt, &bytes, read == *list);
+    let read = VecLinkInfoOf::<AnyPeer>::parse(alloc, bytes);
+    assert_parses(rt, &bytes, read, list);
     assert_equal(rt, &bytes, &check_of::<AnyPeer>(bytes), &Ok(()));
 }
 

@@ -1,6 +1,8 @@
 //! Lists with peers of another type than bytes.
 
-use super::assertions::{assert_emitted, assert_equal, assert_holds, bytes_of, nlas, repeated};
+use super::assertions::{
+    assert_emitted, assert_equal, assert_holds, assert_parses, bytes_of, nlas, repeated,
+};
 use super::worked::VETH_TAIL;
 use linkinfo::{
     BitPeer, CanonError, CanonIntoError, Cause, DecodeError, Family, HeaderCount, InfoDataOf,
@@ -16,13 +18,6 @@ const PEER_OF_SEVEN: &str = "09000100 76657468 00000000 09000200 05000100 07";
 /// A veth link whose peer is the byte 9.
 const PEER_OF_NINE: &str = "09000100 76657468 00000000 09000200 05000100 09";
 
-/// The error of a peer that is rejected.
-const PEER_REFUSED: DecodeError = DecodeError {
-    family: Family::Veth,
-    kind: 1,
-    cause: Cause::Peer,
-};
-
 /// Asserts that the bytes parse as the list, and that this many headers are examined.
 fn assert_read(
     rt: &impl Abort,
@@ -31,11 +26,11 @@ fn assert_read(
     wanted: &VecLinkInfoOf<BitPeer>,
     headers: usize,
 ) {
-    let read = VecLinkInfoOf::<BitPeer>::parse(alloc, bytes).expect(rt, "a list");
-    assert_holds(rt, &bytes, read == *wanted);
+    let read = VecLinkInfoOf::<BitPeer>::parse(alloc, bytes);
+    assert_parses(rt, &bytes, read, wanted);
     let mut count = HeaderCount::new();
     let counted = VecLinkInfoOf::<BitPeer>::parse_counted(alloc, bytes, &mut count);
-    assert_holds(rt, &bytes, counted.expect(rt, "a list") == *wanted);
+    assert_parses(rt, &bytes, counted, wanted);
     assert_equal(rt, &bytes, &count.get(), &headers);
 }
 
@@ -89,6 +84,7 @@ fn assert_bits(
     let canonical = bytes_of(rt, alloc, canonical);
     let bytes = bytes_of(rt, alloc, text);
     assert_list(rt, alloc, list, (&bytes, &canonical), headers);
+    assert_equal(rt, &text, &check_of::<BitPeer>(&bytes), &Ok(()));
     let other = bytes_of(rt, alloc, other);
     assert_equal(rt, &text, &same_of::<BitPeer>(&bytes, &other), &Ok(true));
     assert_equal(rt, &text, &same(&bytes, &other), &Ok(false));
@@ -134,14 +130,11 @@ fn bits_of_links(rt: HostRuntime) {
 }
 
 #[test]
-fn checks_and_compares_bits(rt: HostRuntime) {
+fn counts_of_bits(rt: HostRuntime) {
     let alloc = rt.alloc();
     let seven = bytes_of(&rt, alloc, PEER_OF_SEVEN);
     let nine = bytes_of(&rt, alloc, PEER_OF_NINE);
     let case = "peers of seven and nine";
-    assert_equal(&rt, &case, &check_of::<BitPeer>(&seven), &Ok(()));
-    assert_equal(&rt, &case, &same_of::<BitPeer>(&seven, &nine), &Ok(true));
-    assert_equal(&rt, &case, &same(&seven, &nine), &Ok(false));
     let mut checking = HeaderCount::new();
     let checked = check_counted_of::<BitPeer>(&seven, &mut checking);
     assert_equal(&rt, &case, &checked, &Ok(()));
@@ -159,43 +152,21 @@ fn error_of(alloc: Global, bytes: &[u8]) -> Option<DecodeError> {
     VecLinkInfoOf::<BitPeer>::parse(alloc, bytes).err()
 }
 
-#[test]
-fn rejects_other_peers(rt: HostRuntime) {
-    let alloc = rt.alloc();
-    let bytes = bytes_of(&rt, alloc, VETH_TAIL);
-    let rewritten = canon_of::<BitPeer>(alloc, &bytes).err();
-    let written = canon_into_of::<BitPeer>(&bytes, &mut []);
-    let case = VETH_TAIL;
-    assert_equal(&rt, &case, &check_of::<BitPeer>(&bytes), &Err(PEER_REFUSED));
-    assert_equal(&rt, &case, &error_of(alloc, &bytes), &Some(PEER_REFUSED));
-    assert_equal(
-        &rt,
-        &case,
-        &rewritten,
-        &Some(CanonError::Refused(PEER_REFUSED)),
-    );
-    assert_equal(
-        &rt,
-        &case,
-        &written,
-        &Err(CanonIntoError::Refused(PEER_REFUSED)),
-    );
-    assert_equal(
-        &rt,
-        &case,
-        &same_of::<BitPeer>(&bytes, &[]),
-        &Err(PEER_REFUSED),
-    );
-    assert_equal(
-        &rt,
-        &case,
-        &same_of::<BitPeer>(&[], &bytes),
-        &Err(PEER_REFUSED),
-    );
+/// Asserts that each call whose peers are bits rejects the bytes of the text with this error.
+fn assert_rejected(rt: &impl Abort, alloc: Global, text: &str, bytes: &[u8], error: DecodeError) {
+    let rewritten = canon_of::<BitPeer>(alloc, bytes).err();
+    let written = canon_into_of::<BitPeer>(bytes, &mut []);
+    assert_equal(rt, &text, &check_of::<BitPeer>(bytes), &Err(error));
+    assert_equal(rt, &text, &error_of(alloc, bytes), &Some(error));
+    assert_equal(rt, &text, &rewritten, &Some(CanonError::Refused(error)));
+    assert_equal(rt, &text, &written, &Err(CanonIntoError::Refused(error)));
+    assert_equal(rt, &text, &same_of::<BitPeer>(bytes, &[]), &Err(error));
+    assert_equal(rt, &text, &same_of::<BitPeer>(&[], bytes), &Err(error));
 }
 
 /// Links with a peer of two bytes, and the families that their errors name.
 const PEERS_OF_TWO_BYTES: &[(&str, Family)] = &[
+    (VETH_TAIL, Family::Veth),
     (
         "09000100 76657468 00000000 0a000200 06000100 aabb",
         Family::Veth,
@@ -217,10 +188,10 @@ fn peers_that_are_no_bits(rt: HostRuntime) {
         let bytes = bytes_of(&rt, alloc, text);
         let error = DecodeError {
             family: *family,
-            ..PEER_REFUSED
+            kind: 1,
+            cause: Cause::Peer,
         };
-        assert_equal(&rt, text, &check_of::<BitPeer>(&bytes), &Err(error));
-        assert_equal(&rt, text, &error_of(alloc, &bytes), &Some(error));
+        assert_rejected(&rt, alloc, text, &bytes, error);
         assert_equal(&rt, text, &same(&bytes, &bytes), &Ok(true));
     }
 }

@@ -1,12 +1,11 @@
 //! The offsets of the first error of a list.
 
-use super::assertions::{HEADER_ERROR, assert_equal, assert_holds, bytes_of, link_error};
+use super::assertions::{HEADER_ERROR, PORT_DATA_ORDER, assert_equal, assert_holds, bytes_of};
 use super::worked::{FIRST_ERROR, PFCP_NOT_FRAMED, SECOND_PORT_DATA, XFRM};
 use linkinfo::{
     BitPeer, Cause, DecodeError, ErrorAt, ErrorIn, Family, check_at, check_at_of, is_equal,
     same_at, same_at_of,
 };
-use std::process::Abort;
 
 /// A rejected list, its error, the offset of the attribute of the list that has it, and that of the
 /// innermost attribute that has it.
@@ -68,6 +67,7 @@ const CASES: &[Case] = &[
         8,
         12,
     ),
+    (SECOND_PORT_DATA, PORT_DATA_ORDER, 12, 12),
 ];
 
 #[test]
@@ -84,62 +84,74 @@ fn errors_have_offsets(rt: HostRuntime) {
         let checked = check_at(&bytes_of(&rt, alloc, text));
         assert_equal(&rt, text, &checked, &Err(at));
     }
-    let order = ErrorAt {
-        error: link_error(5, Cause::Order),
-        place: 12,
-        inner: 12,
-    };
-    let checked = check_at(&bytes_of(&rt, alloc, SECOND_PORT_DATA));
-    assert_equal(&rt, &SECOND_PORT_DATA, &checked, &Err(order));
 }
+
+/// A veth link whose peer has two bytes, and its error with bits as peers.
+const TWO_BYTES: &str = "09000100 76657468 00000000 0a000200 06000100 aabb";
+
+const REJECTED: ErrorAt = ErrorAt {
+    error: DecodeError {
+        family: Family::Veth,
+        kind: 1,
+        cause: Cause::Peer,
+    },
+    place: 12,
+    inner: 16,
+};
 
 #[test]
 fn errors_of_bits_have_offsets(rt: HostRuntime) {
-    let alloc = rt.alloc();
-    let two = "09000100 76657468 00000000 0a000200 06000100 aabb";
-    let rejected = ErrorAt {
-        error: DecodeError {
-            family: Family::Veth,
-            kind: 1,
-            cause: Cause::Peer,
-        },
-        place: 12,
-        inner: 16,
-    };
-    let bytes = bytes_of(&rt, alloc, two);
-    assert_equal(&rt, &two, &check_at_of::<BitPeer>(&bytes), &Err(rejected));
-    assert_equal(&rt, &two, &check_at(&bytes), &Ok(()));
+    let bytes = bytes_of(&rt, rt.alloc(), TWO_BYTES);
+    let of_bits = check_at_of::<BitPeer>(&bytes);
+    assert_equal(&rt, &TWO_BYTES, &of_bits, &Err(REJECTED));
+    assert_equal(&rt, &TWO_BYTES, &check_at(&bytes), &Ok(()));
     let elsewhere = ErrorAt {
         place: 0,
-        ..rejected
+        ..REJECTED
     };
-    assert_holds(&rt, &two, !is_equal(&rejected, &elsewhere));
+    assert_holds(&rt, &TWO_BYTES, !is_equal(&REJECTED, &elsewhere));
 }
 
-/// Asserts the result of comparing the byte strings, whether peers are bytes or bits.
-fn assert_compared(rt: &impl Abort, a: &[u8], b: &[u8], answer: Result<bool, ErrorIn>) {
-    let case = (a, b);
-    assert_equal(rt, &case, &same_at(a, b), &answer);
-    assert_equal(rt, &case, &same_at_of::<BitPeer>(a, b), &answer);
-}
+/// A list that is a kind.
+const KIND: &str = "09000100 7866726d 00000000";
+
+/// Two lists, and whether they are equivalent or the error.
+const COMPARED: &[(&str, &str, Result<bool, ErrorIn>)] = &[
+    (XFRM, XFRM, Ok(true)),
+    (XFRM, KIND, Ok(false)),
+    (
+        XFRM,
+        SECOND_PORT_DATA,
+        Err(ErrorIn::Second(PORT_DATA_ORDER)),
+    ),
+    (SECOND_PORT_DATA, XFRM, Err(ErrorIn::First(PORT_DATA_ORDER))),
+    (
+        "09000100 78",
+        SECOND_PORT_DATA,
+        Err(ErrorIn::First(HEADER_ERROR)),
+    ),
+    (
+        SECOND_PORT_DATA,
+        SECOND_PORT_DATA,
+        Err(ErrorIn::First(PORT_DATA_ORDER)),
+    ),
+];
 
 #[test]
 fn errors_of_two_strings(rt: HostRuntime) {
     let alloc = rt.alloc();
-    let accepted = bytes_of(&rt, alloc, XFRM);
-    let rejected = bytes_of(&rt, alloc, SECOND_PORT_DATA);
-    let order = link_error(5, Cause::Order);
-    let short = bytes_of(&rt, alloc, "09000100 78");
-    let kind = bytes_of(&rt, alloc, "09000100 7866726d 00000000");
-    assert_compared(&rt, &accepted, &accepted, Ok(true));
-    assert_compared(&rt, &accepted, &kind, Ok(false));
-    assert_compared(&rt, &accepted, &rejected, Err(ErrorIn::Second(order)));
-    assert_compared(&rt, &rejected, &accepted, Err(ErrorIn::First(order)));
-    assert_compared(&rt, &short, &rejected, Err(ErrorIn::First(HEADER_ERROR)));
-    assert_compared(&rt, &rejected, &rejected, Err(ErrorIn::First(order)));
-    let (first, second) = (ErrorIn::First(order), ErrorIn::Second(order));
-    assert_equal(&rt, &"the first", &first.error(), &order);
+    for (a, b, wanted) in COMPARED {
+        let (first, second) = (bytes_of(&rt, alloc, a), bytes_of(&rt, alloc, b));
+        let case = (a, b);
+        assert_equal(&rt, &case, &same_at(&first, &second), wanted);
+        assert_equal(&rt, &case, &same_at_of::<BitPeer>(&first, &second), wanted);
+    }
+    let (first, second) = (
+        ErrorIn::First(PORT_DATA_ORDER),
+        ErrorIn::Second(PORT_DATA_ORDER),
+    );
     let header = ErrorIn::Second(HEADER_ERROR);
+    assert_equal(&rt, &"the first", &first.error(), &PORT_DATA_ORDER);
     assert_equal(&rt, &"the second", &header.error(), &HEADER_ERROR);
     assert_holds(&rt, &"one error in either", !is_equal(&first, &second));
 }

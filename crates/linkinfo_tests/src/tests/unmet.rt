@@ -1,10 +1,11 @@
 //! Whether the data of a link, or of a port, meets the attributes of other data.
 
-use super::assertions::{assert_equal, bytes_of};
+use super::assertions::{assert_equal, assert_holds, bytes_of};
 use linkinfo::{
     Family, HeaderCount, InfoData, InfoPortData, KindTag, PayloadFamily, PortTag, Unmet, family_of,
     is_equal, list_unmet, port_family_of,
 };
+use std::alloc::Global;
 use std::process::Abort;
 
 /// Data that is there, a request, and what of it is not met: the type, the offset in the request,
@@ -162,60 +163,74 @@ fn unmet_of<D: Drop, F: PayloadFamily<D>>(
     list_unmet::<D, F>(family, name, have, want)
 }
 
-#[test]
-fn data_is_met(rt: HostRuntime) {
-    let alloc = rt.alloc();
-    for (cases, tag, name) in [
-        (ROWS, KindTag::Vxlan, Family::Vxlan),
-        (NO_ROWS, KindTag::Bond, Family::Bond),
-        (NESTED, KindTag::MacVlan, Family::MacVlan),
-    ] {
-        for (have, want, at) in cases {
-            let (had, wanted) = (bytes_of(&rt, alloc, have), bytes_of(&rt, alloc, want));
-            let found = unmet_of::<InfoData, _>(&rt, family_of(tag), &had, &wanted);
-            assert_equal(&rt, &(name, want), &found, &unmet(name, at));
-            if let (Some(found), Some(wanted)) = (found, unmet(name, at)) {
-                assert!(rt; is_equal(&found, &wanted));
-            }
+/// Asserts what is not met in each case, of a family.
+fn assert_cases<D: Drop, F: PayloadFamily<D>>(
+    rt: &impl Abort,
+    alloc: Global,
+    cases: &[Case],
+    family: F,
+    name: Family,
+) {
+    for (have, want, at) in cases {
+        let (had, wanted) = (bytes_of(rt, alloc, have), bytes_of(rt, alloc, want));
+        let found = unmet_of::<D, F>(rt, family, &had, &wanted);
+        let expected = unmet(name, at);
+        assert_equal(rt, &(name, want), &found, &expected);
+        if let (Some(found), Some(expected)) = (found, expected) {
+            assert_holds(rt, &(name, want), is_equal(&found, &expected));
         }
     }
 }
 
-#[test]
-fn port_data_is_met(rt: HostRuntime) {
-    let alloc = rt.alloc();
-    for (have, want, at) in NO_ROWS {
-        let (had, wanted) = (bytes_of(&rt, alloc, have), bytes_of(&rt, alloc, want));
-        let family = port_family_of(PortTag::Bridge);
-        let found = unmet_of::<InfoPortData, _>(&rt, family, &had, &wanted);
-        assert_equal(&rt, want, &found, &unmet(Family::BridgePort, at));
-    }
+/// Asserts what is not met in each case, of the data of a link.
+fn assert_data(rt: &impl Abort, alloc: Global, cases: &[Case], tag: KindTag, name: Family) {
+    assert_cases::<InfoData, _>(rt, alloc, cases, family_of(tag), name);
 }
 
 #[test]
+fn data_is_met(rt: HostRuntime) {
+    assert_data(&rt, rt.alloc(), ROWS, KindTag::Vxlan, Family::Vxlan);
+    assert_data(&rt, rt.alloc(), NO_ROWS, KindTag::Bond, Family::Bond);
+    assert_data(&rt, rt.alloc(), NESTED, KindTag::MacVlan, Family::MacVlan);
+}
+
+#[test]
+fn port_data_is_met(rt: HostRuntime) {
+    let family = port_family_of(PortTag::Bridge);
+    let name = Family::BridgePort;
+    assert_cases::<InfoPortData, _>(&rt, rt.alloc(), NO_ROWS, family, name);
+}
+
+/// Kinds, and the families whose attributes their data is a list of.
+const LISTINGS: &[(KindTag, Option<Family>)] = &[
+    (KindTag::Vxlan, Some(Family::Vxlan)),
+    (KindTag::Ip6ErSpan, Some(Family::Gre6)),
+    (KindTag::SitTun, Some(Family::IpTunnel)),
+    (KindTag::MacVtap, Some(Family::MacVtap)),
+    (KindTag::Bond, Some(Family::Bond)),
+    (KindTag::Netkit, Some(Family::Netkit)),
+    (KindTag::Veth, None),
+    (KindTag::Vxcan, None),
+    (KindTag::Other, None),
+];
+
+/// Port kinds, and the families whose attributes their data is a list of.
+const PORT_LISTINGS: &[(PortTag, Option<Family>)] = &[
+    (PortTag::Bond, Some(Family::BondPort)),
+    (PortTag::Bridge, Some(Family::BridgePort)),
+    (PortTag::Vrf, Some(Family::Vrf)),
+    (PortTag::Team, Some(Family::TeamPort)),
+    (PortTag::Other, None),
+];
+
+#[test]
 fn families_of_lists(rt: HostRuntime) {
-    for (tag, name) in [
-        (KindTag::Vxlan, Some(Family::Vxlan)),
-        (KindTag::Ip6ErSpan, Some(Family::Gre6)),
-        (KindTag::SitTun, Some(Family::IpTunnel)),
-        (KindTag::MacVtap, Some(Family::MacVtap)),
-        (KindTag::Bond, Some(Family::Bond)),
-        (KindTag::Netkit, Some(Family::Netkit)),
-        (KindTag::Veth, None),
-        (KindTag::Vxcan, None),
-        (KindTag::Other, None),
-    ] {
-        let found = PayloadFamily::<InfoData>::listing(family_of(tag));
-        assert_equal(&rt, &tag, &found, &name);
+    for (tag, name) in LISTINGS {
+        let found = PayloadFamily::<InfoData>::listing(family_of(*tag));
+        assert_equal(&rt, tag, &found, name);
     }
-    for (tag, name) in [
-        (PortTag::Bond, Some(Family::BondPort)),
-        (PortTag::Bridge, Some(Family::BridgePort)),
-        (PortTag::Vrf, Some(Family::Vrf)),
-        (PortTag::Team, Some(Family::TeamPort)),
-        (PortTag::Other, None),
-    ] {
-        let found = PayloadFamily::<InfoPortData>::listing(port_family_of(tag));
-        assert_equal(&rt, &tag, &found, &name);
+    for (tag, name) in PORT_LISTINGS {
+        let found = PayloadFamily::<InfoPortData>::listing(port_family_of(*tag));
+        assert_equal(&rt, tag, &found, name);
     }
 }

@@ -1,6 +1,6 @@
 //! The results that a call may return if an allocation may fail.
 
-use linkinfo::{Cause, DecodeError, Family, LinkInfo, VecLinkInfo, emit_nlas, nlas_fit_len};
+use linkinfo::{Cause, DecodeError, Family, Nla, VecLinkInfo, emit_nlas, nlas_fit_len};
 use std::alloc::Global;
 
 /// The error of a failed allocation.
@@ -23,7 +23,7 @@ pub fn read_at_last(alloc: Global, bytes: &[u8]) -> Result<VecLinkInfo, DecodeEr
 
 /// Returns whether the list is written as the encoding, without allocating and without changing the
 /// bytes after it. No other list that is parsed has this encoding.
-pub fn is_emitted(items: &[LinkInfo], string: &[u8]) -> bool {
+pub fn is_emitted<T: Nla>(items: &[T], string: &[u8]) -> bool {
     let mut buffer = [255; ROOM];
     match nlas_fit_len(items) {
         Some(len) if len <= ROOM => {

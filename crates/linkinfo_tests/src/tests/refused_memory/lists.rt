@@ -3,8 +3,9 @@
 use super::answers::{MEMORY, read_at_last, reads};
 use crate::tests::assertions::{assert_equal, assert_holds};
 use linkinfo::{
-    CanonError, InfoKind, InfoPortKind, LinkInfo, ToVecError, canon, nlas_fit_len, nlas_to_vec,
+    CanonError, InfoKind, InfoPortKind, LinkInfo, Nla, ToVecError, canon, nlas_fit_len, nlas_to_vec,
 };
+use std::alloc::Global;
 
 /// The length of a chain of 128 lists, with the kind and the header of its data before it.
 const LONGEST_CHAIN: usize = 16 + 4 * 128;
@@ -54,6 +55,17 @@ fn name_that_does_not_fit(rt: HostRuntime) {
     assert_holds(&rt, &"its name", name.as_bytes() == &bytes[4..]);
 }
 
+/// The encoding of a list of these attributes, written once more if an allocation failed.
+fn written<T: Nla + Drop, const N: usize>(
+    alloc: Global,
+    items: [T; N],
+) -> Result<Vec<u8>, ToVecError> {
+    match nlas_to_vec(alloc, items.as_slice()) {
+        Err(ToVecError::Memory) => nlas_to_vec(alloc, items.as_slice()),
+        written => written,
+    }
+}
+
 #[test]
 fn to_vec(rt: HostRuntime) {
     let alloc = rt.alloc();
@@ -64,11 +76,7 @@ fn to_vec(rt: HostRuntime) {
     let string = [
         8, 0, 1, 0, b'v', b'r', b'f', 0, 8, 0, 4, 0, b'v', b'r', b'f', 0,
     ];
-    let answer = match nlas_to_vec(alloc, &items) {
-        Err(ToVecError::Memory) => nlas_to_vec(alloc, &items),
-        written => written,
-    };
-    let bytes = answer.expect(&rt, "a string");
+    let bytes = written(alloc, items).expect(&rt, "a string");
     assert_equal(&rt, &"a port", &bytes.as_slice(), &string.as_slice());
 }
 
