@@ -132,8 +132,8 @@ const DUMPS: &[(&str, &str)] = &[
 
 /// The names of the links, and the contents of `IFLA_LINKINFO` in hex digits.
 ///
-/// The proof of a function that names a long constant takes time for each character of it; that of a
-/// call of this takes none.
+/// A function that names a long constant takes time to check, for each character. So this one alone
+/// names it.
 pub fn dumps() -> &'static [(&'static str, &'static str)] {
     DUMPS
 }
