@@ -26,6 +26,12 @@ pub fn assert_parsed<C: Debug, T: PartialEq>(case: &C, found: Result<T, DecodeEr
     assert_holds(case, found == wanted);
 }
 
+/// Asserts that what was parsed is equal to a value, by `==`, as `assert_parsed` does.
+pub fn assert_parses<C: Debug, T: PartialEq>(case: &C, found: Result<T, DecodeError>, wanted: &T) {
+    let found = found.expect("a value");
+    assert_holds(case, found == *wanted);
+}
+
 /// Asserts that a payload parses as this data of a link of the kind.
 pub fn assert_data(payload: &[u8], kind: InfoKind, data: InfoData) {
     let found = InfoData::parse_with_param(payload, &kind);
@@ -37,6 +43,34 @@ pub const HEADER_ERROR: DecodeError = DecodeError {
     family: Family::Frame,
     kind: 0,
     cause: Cause::Header,
+};
+
+/// The error of data without a kind before it.
+pub const DATA_ORDER: DecodeError = DecodeError {
+    family: Family::LinkInfo,
+    kind: 2,
+    cause: Cause::Order,
+};
+
+/// The error of statistics without a kind before them.
+pub const XSTATS_ORDER: DecodeError = DecodeError {
+    family: Family::LinkInfo,
+    kind: 3,
+    cause: Cause::Order,
+};
+
+/// The error of port data without a port kind before it.
+pub const PORT_DATA_ORDER: DecodeError = DecodeError {
+    family: Family::LinkInfo,
+    kind: 5,
+    cause: Cause::Order,
+};
+
+/// The error of a kind whose name is not UTF-8.
+pub const NAME_ERROR: DecodeError = DecodeError {
+    family: Family::LinkInfo,
+    kind: 1,
+    cause: Cause::Utf8,
 };
 
 /// An error of an attribute of the list itself.
@@ -133,7 +167,7 @@ pub fn assert_emitted<T: Nla>(items: &[T], string: &[u8]) {
 }
 
 /// Asserts that the list of these attributes is written as the encoding.
-pub fn assert_built<const N: usize>(items: [LinkInfo; N], string: &[u8]) {
+pub fn assert_built<T: Nla, const N: usize>(items: [T; N], string: &[u8]) {
     assert_emitted(items.as_slice(), string);
 }
 
@@ -184,12 +218,6 @@ fn assert_accepted(bytes: &[u8], canonical: &[u8]) {
     assert_equal(&bytes, &string.as_slice(), &canonical);
 }
 
-/// The list that a byte string parses as, with headers counted.
-fn parsed_counted(bytes: &[u8]) -> VecLinkInfo {
-    let mut count = HeaderCount::new();
-    VecLinkInfo::parse_counted(bytes, &mut count).expect("a list")
-}
-
 /// Asserts that a walk returns each attribute of the list in order, at its offset, and ends at the
 /// end of the bytes.
 fn assert_walked(bytes: &[u8], list: &VecLinkInfo) {
@@ -209,8 +237,10 @@ fn assert_walked(bytes: &[u8], list: &VecLinkInfo) {
 
 /// Asserts that the bytes parse as the list, whether headers are counted or not.
 fn assert_read(bytes: &[u8], wanted: &VecLinkInfo) {
-    assert_holds(&bytes, parsed(bytes) == *wanted);
-    assert_holds(&bytes, parsed_counted(bytes) == *wanted);
+    let mut count = HeaderCount::new();
+    let counted = VecLinkInfo::parse_counted(bytes, &mut count);
+    assert_parses(&bytes, counted, wanted);
+    assert_parses(&bytes, VecLinkInfo::parse(bytes), wanted);
     assert_walked(bytes, wanted);
 }
 
@@ -262,9 +292,9 @@ pub fn assert_headers(bytes: &[u8], error: Option<DecodeError>, headers: usize) 
     let mut checking = HeaderCount::new();
     let checked = check_counted(bytes, &mut checking);
     let mut reading = HeaderCount::new();
-    let read = VecLinkInfo::parse_counted(bytes, &mut reading);
+    let read = VecLinkInfo::parse_counted(bytes, &mut reading).err();
     assert_equal(&bytes, &checked.err(), &error);
-    assert_equal(&bytes, &read.err(), &error);
+    assert_equal(&bytes, &read, &error);
     assert_equal(&bytes, &checking.get(), &headers);
     assert_equal(&bytes, &reading.get(), &headers);
 }

@@ -1,6 +1,6 @@
 //! Byte strings that are rejected.
 
-use super::assertions::{HEADER_ERROR, assert_equal, assert_refused, bytes_of, link_error};
+use super::assertions::{DATA_ORDER, HEADER_ERROR, assert_equal, assert_refused, bytes_of};
 use super::worked::{FIRST_ERROR, IP6TNL_SHORT_FLAGS, SECOND_PORT_DATA, VETH_EMPTY, XFRM};
 use linkinfo::layers::link::{Cause, DecodeError, Family, VecLinkInfo, check, same};
 
@@ -25,24 +25,22 @@ const REFUSED: &[(&str, Family, u16, Cause)] = &[
     ("06000400 c328", Family::LinkInfo, 4, Cause::Utf8),
 ];
 
+/// Data without a kind before it.
+const NO_KIND: &str = "08000200 00000000";
+
+/// Two lists, and the error of the first, otherwise that of the second.
+const OF_TWO: &[(&str, &str, DecodeError)] = &[
+    (NO_KIND, "080001", DATA_ORDER),
+    ("080001", NO_KIND, HEADER_ERROR),
+    (XFRM, NO_KIND, DATA_ORDER),
+];
+
 #[test]
 fn returns_the_first_error() {
-    let length = DecodeError {
-        family: Family::Vrf,
-        kind: 1,
-        cause: Cause::Length,
-    };
-    let bytes = bytes_of(FIRST_ERROR);
-    assert_refused(&bytes, length);
-
-    // Of two lists the error of the first, otherwise that of the second.
-    let order = [8, 0, 2, 0, 0, 0, 0, 0];
-    let header = [8, 0, 1];
-    let error = link_error(2, Cause::Order);
-    let accepted = bytes_of(XFRM);
-    assert_equal(&"order, header", &same(&order, &header), &Err(error));
-    assert_equal(&"header, order", &same(&header, &order), &Err(HEADER_ERROR));
-    assert_equal(&"none, order", &same(&accepted, &order), &Err(error));
+    for (a, b, error) in OF_TWO {
+        let (first, second) = (bytes_of(a), bytes_of(b));
+        assert_equal(&(a, b), &same(&first, &second), &Err(*error));
+    }
 }
 
 #[test]
@@ -51,7 +49,7 @@ fn accepted_prefixes_of_one_string() {
     assert_equal(&XFRM, &bytes.len(), &32);
     for end in 0..=bytes.len() {
         let front = &bytes[..end];
-        if end == 0 || (9..=12).contains(&end) || end == 32 {
+        if matches!(end, 0 | 9..=12 | 32) {
             assert_equal(&end, &check(front), &Ok(()));
             assert_equal(&end, &VecLinkInfo::parse(front).err(), &None);
             assert_equal(&end, &same(front, front), &Ok(true));
@@ -63,6 +61,8 @@ fn accepted_prefixes_of_one_string() {
 
 /// Links whose data is rejected: family, type and cause of the error.
 const REFUSED_DATA: &[(&str, Family, u16, Cause)] = &[
+    // The table of a vrf link comes before the stray byte.
+    (FIRST_ERROR, Family::Vrf, 1, Cause::Length),
     (IP6TNL_SHORT_FLAGS, Family::IpTunnel, 8, Cause::Length),
     (
         "09000100 69706970 00000000 0c000200 08000800 01000100",

@@ -1,8 +1,8 @@
 //! Where two lists differ first.
 
-use super::assertions::{HEADER_ERROR, assert_equal, bytes_of, link_error};
+use super::assertions::{DATA_ORDER, HEADER_ERROR, assert_equal, bytes_of};
 use linkinfo::layers::link::{
-    BitPeer, Cause, Difference, ErrorIn, Family, first_difference, first_difference_of, same,
+    BitPeer, Difference, ErrorIn, Family, first_difference, first_difference_of, same,
 };
 
 /// A pair of attributes: their family and type, and their offsets.
@@ -120,30 +120,36 @@ const CASES: &[Case] = &[
     ),
 ];
 
-#[test]
-fn tells_where_lists_differ() {
-    for case in CASES {
-        let (a, b, at) = case;
-        let (first, second) = (bytes_of(a), bytes_of(b));
-        let found = first_difference(&first, &second);
-        assert_equal(&(a, b), &found, &Ok(difference(at)));
-        assert_equal(&(a, b), &same(&first, &second), &Ok(at.is_none()));
-    }
+/// Asserts where two lists differ, or the error, and whether they are equivalent.
+fn assert_differ(a: &str, b: &str, wanted: Result<Option<Difference>, ErrorIn>) {
+    let first = bytes_of(a);
+    let second = bytes_of(b);
+    assert_equal(&(a, b), &first_difference(&first, &second), &wanted);
+    let are_same = match wanted {
+        Ok(at) => Ok(at.is_none()),
+        Err(error) => Err(error.error()),
+    };
+    assert_equal(&(a, b), &same(&first, &second), &are_same);
 }
 
 #[test]
+fn tells_where_lists_differ() {
+    for (a, b, at) in CASES {
+        assert_differ(a, b, Ok(difference(at)));
+    }
+}
+
+/// Two lists, and the error of one of them.
+const ERRORS: &[(&str, &str, ErrorIn)] = &[
+    ("080001", VXLAN, ErrorIn::First(HEADER_ERROR)),
+    ("080001", "04000200", ErrorIn::First(HEADER_ERROR)),
+    (VXLAN, "04000200", ErrorIn::Second(DATA_ORDER)),
+];
+
+#[test]
 fn tells_which_list_has_an_error() {
-    let fine = bytes_of(VXLAN);
-    let damaged = bytes_of("080001");
-    let misplaced = bytes_of("04000200");
-    let order = link_error(2, Cause::Order);
-    let cases = [
-        (&damaged, &fine, ErrorIn::First(HEADER_ERROR)),
-        (&damaged, &misplaced, ErrorIn::First(HEADER_ERROR)),
-        (&fine, &misplaced, ErrorIn::Second(order)),
-    ];
-    for (a, b, error) in cases {
-        assert_equal(&error, &first_difference(a, b), &Err(error));
+    for (a, b, error) in ERRORS {
+        assert_differ(a, b, Err(*error));
     }
 }
 

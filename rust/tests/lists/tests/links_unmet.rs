@@ -1,9 +1,7 @@
 //! Whether a link has all attributes of a request, and which one it lacks.
 
-use super::assertions::{HEADER_ERROR, assert_equal, bytes_of, link_error};
-use linkinfo::layers::link::{
-    BitPeer, Bytes, Cause, ErrorIn, Family, Unmet, first_unmet, first_unmet_of,
-};
+use super::assertions::{DATA_ORDER, HEADER_ERROR, assert_equal, bytes_of};
+use linkinfo::layers::link::{BitPeer, Bytes, ErrorIn, Family, Unmet, first_unmet, first_unmet_of};
 
 /// An attribute that is not met: its family and type, its offset, and that of the other one.
 type At = (Family, u16, usize, Option<usize>);
@@ -172,30 +170,31 @@ const CASES: &[Case] = &[
     ),
 ];
 
-#[test]
-fn tells_what_is_not_met() {
-    for case in CASES {
-        let (have, want, at) = case;
-        let (had, wanted) = (bytes_of(have), bytes_of(want));
-        let found = first_unmet(&had, &wanted);
-        assert_equal(&(have, want), &found, &Ok(unmet(at)));
-    }
+/// Asserts what of a request a link does not meet, or the error.
+fn assert_unmet(have: &str, want: &str, wanted: Result<Option<Unmet>, ErrorIn>) {
+    let had = bytes_of(have);
+    let request = bytes_of(want);
+    assert_equal(&(have, want), &first_unmet(&had, &request), &wanted);
 }
 
 #[test]
+fn tells_what_is_not_met() {
+    for (have, want, at) in CASES {
+        assert_unmet(have, want, Ok(unmet(at)));
+    }
+}
+
+/// What a link has, a request, and the error of one of them.
+const ERRORS: &[(&str, &str, ErrorIn)] = &[
+    ("080001", VXLAN, ErrorIn::First(HEADER_ERROR)),
+    ("080001", "04000200", ErrorIn::First(HEADER_ERROR)),
+    (VXLAN, "04000200", ErrorIn::Second(DATA_ORDER)),
+];
+
+#[test]
 fn tells_whose_error_it_is() {
-    let fine = bytes_of(VXLAN);
-    let damaged = bytes_of("080001");
-    let misplaced = bytes_of("04000200");
-    let order = link_error(2, Cause::Order);
-    let cases = [
-        (&damaged, &fine, ErrorIn::First(HEADER_ERROR)),
-        (&damaged, &misplaced, ErrorIn::First(HEADER_ERROR)),
-        (&fine, &misplaced, ErrorIn::Second(order)),
-    ];
-    for (have, want, error) in cases {
-        let found = first_unmet(have, want);
-        assert_equal(&error, &found, &Err(error));
+    for (have, want, error) in ERRORS {
+        assert_unmet(have, want, Err(*error));
     }
 }
 

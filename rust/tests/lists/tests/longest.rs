@@ -33,6 +33,11 @@ fn list_of_letters(count: usize) -> [LinkInfo; 1] {
     [LinkInfo::Kind(kind_of_letters(count))]
 }
 
+/// Asserts that the bytes parse as the list of the kind whose name is this many letters `a`.
+fn assert_letters(bytes: &[u8], count: usize) {
+    assert_read_as(bytes, list_of_letters(count));
+}
+
 #[test]
 fn longest_name() {
     let mut string = letters_after([255, 255, 1, 0], 65530);
@@ -40,18 +45,20 @@ fn longest_name() {
     string.try_push(0).expect("memory");
     assert_equal(&"the longest", &string.len(), &65535);
     assert_equal(&"without NUL", &same(&string, &unclosed), &Ok(true));
-    assert_read_as(&string, list_of_letters(65530));
-    assert_read_as(&unclosed, list_of_letters(65530));
+    assert_letters(&string, 65530);
+    assert_letters(&unclosed, 65530);
     string.try_push(0).expect("memory");
     assert_equal(&"padded", &string.len(), &65536);
-    assert_kind(kind_of_letters(65530), &string);
-    assert_built(list_of_letters(65530), &string);
+    assert_longest(&string);
 }
 
-/// Asserts that the kind has 65531 bytes, and is written as the encoding.
-fn assert_kind(kind: InfoKind, string: &[u8]) {
+/// Asserts that the kind whose name is 65530 letters has 65531 bytes, and is written as the
+/// encoding, by itself and in a list.
+fn assert_longest(string: &[u8]) {
+    let kind = kind_of_letters(65530);
     assert_equal(&"the kind", &kind.fit_len(), &Some(65531));
     assert_attribute(&kind, string);
+    assert_built([LinkInfo::Kind(kind)], string);
 }
 
 /// The number of bytes that a kind whose name is this many letters is written as, if it fits.
@@ -78,7 +85,7 @@ fn name_that_does_not_fit() {
     assert_equal(&case, &check(&string), &Ok(()));
     assert_equal(&case, &same(&string, &string), &Ok(true));
     assert_unfit(&string);
-    assert_read_as(&string, list_of_letters(65531));
+    assert_letters(&string, 65531);
     assert_fronts(&string);
 }
 

@@ -1,6 +1,6 @@
 //! A custom peer: links with it parsed, validated, compared and written.
 
-use super::assertions::{assert_emitted, assert_equal, assert_holds, bytes_of, nlas};
+use super::assertions::{assert_emitted, assert_equal, assert_parses, bytes_of, nlas};
 use crate::AnyPeer;
 use linkinfo::layers::link::{
     InfoDataOf, InfoKind, InfoVethOf, LinkInfoOf, VecLinkInfoOf, check_of, same_of,
@@ -14,8 +14,8 @@ const PEERS: [&str; 2] = [
 
 /// Asserts that the bytes are accepted, and parse as the list.
 fn assert_accepted(bytes: &[u8], list: &VecLinkInfoOf<AnyPeer>) {
-    let read = VecLinkInfoOf::<AnyPeer>::parse(bytes).expect("a list");
-    assert_holds(&bytes, read == *list);
+    let read = VecLinkInfoOf::<AnyPeer>::parse(bytes);
+    assert_parses(&bytes, read, list);
     assert_equal(&bytes, &check_of::<AnyPeer>(bytes), &Ok(()));
 }
 

@@ -1,6 +1,8 @@
 //! Lists with peers of another type than bytes.
 
-use super::assertions::{assert_emitted, assert_equal, assert_holds, bytes_of, nlas, repeated};
+use super::assertions::{
+    assert_emitted, assert_equal, assert_holds, assert_parses, bytes_of, nlas, repeated,
+};
 use super::worked::VETH_TAIL;
 use crate::support::*;
 use linkinfo::layers::link::{
@@ -15,20 +17,13 @@ const PEER_OF_SEVEN: &str = "09000100 76657468 00000000 09000200 05000100 07";
 /// A veth link whose peer is the byte 9.
 const PEER_OF_NINE: &str = "09000100 76657468 00000000 09000200 05000100 09";
 
-/// The error of a peer that is rejected.
-const PEER_REFUSED: DecodeError = DecodeError {
-    family: Family::Veth,
-    kind: 1,
-    cause: Cause::Peer,
-};
-
 /// Asserts that the bytes parse as the list, and that this many headers are examined.
 fn assert_read(bytes: &[u8], wanted: &VecLinkInfoOf<BitPeer>, headers: usize) {
-    let read = VecLinkInfoOf::<BitPeer>::parse(bytes).expect("a list");
-    assert_holds(&bytes, read == *wanted);
+    let read = VecLinkInfoOf::<BitPeer>::parse(bytes);
+    assert_parses(&bytes, read, wanted);
     let mut count = HeaderCount::new();
     let counted = VecLinkInfoOf::<BitPeer>::parse_counted(bytes, &mut count);
-    assert_holds(&bytes, counted.expect("a list") == *wanted);
+    assert_parses(&bytes, counted, wanted);
     assert_equal(&bytes, &count.get(), &headers);
 }
 
@@ -74,6 +69,7 @@ fn assert_bits(
     let canonical = bytes_of(canonical);
     let bytes = bytes_of(text);
     assert_list(list, (&bytes, &canonical), headers);
+    assert_equal(&text, &check_of::<BitPeer>(&bytes), &Ok(()));
     let other = bytes_of(other);
     assert_equal(&text, &same_of::<BitPeer>(&bytes, &other), &Ok(true));
     assert_equal(&text, &same(&bytes, &other), &Ok(false));
@@ -118,13 +114,10 @@ fn bits_of_links() {
 }
 
 #[test]
-fn checks_and_compares_bits() {
+fn counts_of_bits() {
     let seven = bytes_of(PEER_OF_SEVEN);
     let nine = bytes_of(PEER_OF_NINE);
     let case = "peers of seven and nine";
-    assert_equal(&case, &check_of::<BitPeer>(&seven), &Ok(()));
-    assert_equal(&case, &same_of::<BitPeer>(&seven, &nine), &Ok(true));
-    assert_equal(&case, &same(&seven, &nine), &Ok(false));
     let mut checking = HeaderCount::new();
     let checked = check_counted_of::<BitPeer>(&seven, &mut checking);
     assert_equal(&case, &checked, &Ok(()));
@@ -142,22 +135,21 @@ fn error_of(bytes: &[u8]) -> Option<DecodeError> {
     VecLinkInfoOf::<BitPeer>::parse(bytes).err()
 }
 
-#[test]
-fn rejects_other_peers() {
-    let bytes = bytes_of(VETH_TAIL);
-    let rewritten = canon_of::<BitPeer>(&bytes).err();
-    let written = canon_into_of::<BitPeer>(&bytes, &mut []);
-    let case = VETH_TAIL;
-    assert_equal(&case, &check_of::<BitPeer>(&bytes), &Err(PEER_REFUSED));
-    assert_equal(&case, &error_of(&bytes), &Some(PEER_REFUSED));
-    assert_equal(&case, &rewritten, &Some(CanonError::Refused(PEER_REFUSED)));
-    assert_equal(&case, &written, &Err(CanonIntoError::Refused(PEER_REFUSED)));
-    assert_equal(&case, &same_of::<BitPeer>(&bytes, &[]), &Err(PEER_REFUSED));
-    assert_equal(&case, &same_of::<BitPeer>(&[], &bytes), &Err(PEER_REFUSED));
+/// Asserts that each call whose peers are bits rejects the bytes of the text with this error.
+fn assert_rejected(text: &str, bytes: &[u8], error: DecodeError) {
+    let rewritten = canon_of::<BitPeer>(bytes).err();
+    let written = canon_into_of::<BitPeer>(bytes, &mut []);
+    assert_equal(&text, &check_of::<BitPeer>(bytes), &Err(error));
+    assert_equal(&text, &error_of(bytes), &Some(error));
+    assert_equal(&text, &rewritten, &Some(CanonError::Refused(error)));
+    assert_equal(&text, &written, &Err(CanonIntoError::Refused(error)));
+    assert_equal(&text, &same_of::<BitPeer>(bytes, &[]), &Err(error));
+    assert_equal(&text, &same_of::<BitPeer>(&[], bytes), &Err(error));
 }
 
 /// Links with a peer of two bytes, and the families that their errors name.
 const PEERS_OF_TWO_BYTES: &[(&str, Family)] = &[
+    (VETH_TAIL, Family::Veth),
     (
         "09000100 76657468 00000000 0a000200 06000100 aabb",
         Family::Veth,
@@ -178,10 +170,10 @@ fn peers_that_are_no_bits() {
         let bytes = bytes_of(text);
         let error = DecodeError {
             family: *family,
-            ..PEER_REFUSED
+            kind: 1,
+            cause: Cause::Peer,
         };
-        assert_equal(text, &check_of::<BitPeer>(&bytes), &Err(error));
-        assert_equal(text, &error_of(&bytes), &Some(error));
+        assert_rejected(text, &bytes, error);
         assert_equal(text, &same(&bytes, &bytes), &Ok(true));
     }
 }

@@ -1,6 +1,6 @@
 //! The offsets of the first error of a list.
 
-use super::assertions::{HEADER_ERROR, assert_equal, assert_holds, bytes_of, link_error};
+use super::assertions::{HEADER_ERROR, PORT_DATA_ORDER, assert_equal, assert_holds, bytes_of};
 use super::worked::{FIRST_ERROR, PFCP_NOT_FRAMED, SECOND_PORT_DATA, XFRM};
 use linkinfo::layers::link::{
     BitPeer, Cause, DecodeError, ErrorAt, ErrorIn, Family, check_at, check_at_of, is_equal,
@@ -67,6 +67,7 @@ const CASES: &[Case] = &[
         8,
         12,
     ),
+    (SECOND_PORT_DATA, PORT_DATA_ORDER, 12, 12),
 ];
 
 #[test]
@@ -82,60 +83,73 @@ fn errors_have_offsets() {
         let checked = check_at(&bytes_of(text));
         assert_equal(text, &checked, &Err(at));
     }
-    let order = ErrorAt {
-        error: link_error(5, Cause::Order),
-        place: 12,
-        inner: 12,
-    };
-    let checked = check_at(&bytes_of(SECOND_PORT_DATA));
-    assert_equal(&SECOND_PORT_DATA, &checked, &Err(order));
 }
+
+/// A veth link whose peer has two bytes, and its error with bits as peers.
+const TWO_BYTES: &str = "09000100 76657468 00000000 0a000200 06000100 aabb";
+
+const REJECTED: ErrorAt = ErrorAt {
+    error: DecodeError {
+        family: Family::Veth,
+        kind: 1,
+        cause: Cause::Peer,
+    },
+    place: 12,
+    inner: 16,
+};
 
 #[test]
 fn errors_of_bits_have_offsets() {
-    let two = "09000100 76657468 00000000 0a000200 06000100 aabb";
-    let rejected = ErrorAt {
-        error: DecodeError {
-            family: Family::Veth,
-            kind: 1,
-            cause: Cause::Peer,
-        },
-        place: 12,
-        inner: 16,
-    };
-    let bytes = bytes_of(two);
-    assert_equal(&two, &check_at_of::<BitPeer>(&bytes), &Err(rejected));
-    assert_equal(&two, &check_at(&bytes), &Ok(()));
+    let bytes = bytes_of(TWO_BYTES);
+    let of_bits = check_at_of::<BitPeer>(&bytes);
+    assert_equal(&TWO_BYTES, &of_bits, &Err(REJECTED));
+    assert_equal(&TWO_BYTES, &check_at(&bytes), &Ok(()));
     let elsewhere = ErrorAt {
         place: 0,
-        ..rejected
+        ..REJECTED
     };
-    assert_holds(&two, !is_equal(&rejected, &elsewhere));
+    assert_holds(&TWO_BYTES, !is_equal(&REJECTED, &elsewhere));
 }
 
-/// Asserts the result of comparing the byte strings, whether peers are bytes or bits.
-fn assert_compared(a: &[u8], b: &[u8], answer: Result<bool, ErrorIn>) {
-    let case = (a, b);
-    assert_equal(&case, &same_at(a, b), &answer);
-    assert_equal(&case, &same_at_of::<BitPeer>(a, b), &answer);
-}
+/// A list that is a kind.
+const KIND: &str = "09000100 7866726d 00000000";
+
+/// Two lists, and whether they are equivalent or the error.
+const COMPARED: &[(&str, &str, Result<bool, ErrorIn>)] = &[
+    (XFRM, XFRM, Ok(true)),
+    (XFRM, KIND, Ok(false)),
+    (
+        XFRM,
+        SECOND_PORT_DATA,
+        Err(ErrorIn::Second(PORT_DATA_ORDER)),
+    ),
+    (SECOND_PORT_DATA, XFRM, Err(ErrorIn::First(PORT_DATA_ORDER))),
+    (
+        "09000100 78",
+        SECOND_PORT_DATA,
+        Err(ErrorIn::First(HEADER_ERROR)),
+    ),
+    (
+        SECOND_PORT_DATA,
+        SECOND_PORT_DATA,
+        Err(ErrorIn::First(PORT_DATA_ORDER)),
+    ),
+];
 
 #[test]
 fn errors_of_two_strings() {
-    let accepted = bytes_of(XFRM);
-    let rejected = bytes_of(SECOND_PORT_DATA);
-    let order = link_error(5, Cause::Order);
-    let short = bytes_of("09000100 78");
-    let kind = bytes_of("09000100 7866726d 00000000");
-    assert_compared(&accepted, &accepted, Ok(true));
-    assert_compared(&accepted, &kind, Ok(false));
-    assert_compared(&accepted, &rejected, Err(ErrorIn::Second(order)));
-    assert_compared(&rejected, &accepted, Err(ErrorIn::First(order)));
-    assert_compared(&short, &rejected, Err(ErrorIn::First(HEADER_ERROR)));
-    assert_compared(&rejected, &rejected, Err(ErrorIn::First(order)));
-    let (first, second) = (ErrorIn::First(order), ErrorIn::Second(order));
-    assert_equal(&"the first", &first.error(), &order);
+    for (a, b, wanted) in COMPARED {
+        let (first, second) = (bytes_of(a), bytes_of(b));
+        let case = (a, b);
+        assert_equal(&case, &same_at(&first, &second), wanted);
+        assert_equal(&case, &same_at_of::<BitPeer>(&first, &second), wanted);
+    }
+    let (first, second) = (
+        ErrorIn::First(PORT_DATA_ORDER),
+        ErrorIn::Second(PORT_DATA_ORDER),
+    );
     let header = ErrorIn::Second(HEADER_ERROR);
+    assert_equal(&"the first", &first.error(), &PORT_DATA_ORDER);
     assert_equal(&"the second", &header.error(), &HEADER_ERROR);
     assert_holds(&"one error in either", !is_equal(&first, &second));
 }

@@ -1,6 +1,6 @@
 //! Whether the data of a link, or of a port, meets the attributes of other data.
 
-use super::assertions::{assert_equal, bytes_of};
+use super::assertions::{assert_equal, assert_holds, bytes_of};
 use linkinfo::layers::link::{
     Family, HeaderCount, InfoData, InfoPortData, KindTag, PayloadFamily, PortTag, Unmet, family_of,
     is_equal, list_unmet, port_family_of,
@@ -156,58 +156,68 @@ fn unmet_of<D, F: PayloadFamily<D>>(family: F, have: &[u8], want: &[u8]) -> Opti
     list_unmet::<D, F>(family, name, have, want)
 }
 
-#[test]
-fn data_is_met() {
-    for (cases, tag, name) in [
-        (ROWS, KindTag::Vxlan, Family::Vxlan),
-        (NO_ROWS, KindTag::Bond, Family::Bond),
-        (NESTED, KindTag::MacVlan, Family::MacVlan),
-    ] {
-        for (have, want, at) in cases {
-            let (had, wanted) = (bytes_of(have), bytes_of(want));
-            let found = unmet_of::<InfoData, _>(family_of(tag), &had, &wanted);
-            assert_equal(&(name, want), &found, &unmet(name, at));
-            if let (Some(found), Some(wanted)) = (found, unmet(name, at)) {
-                assert!(is_equal(&found, &wanted));
-            }
+/// Asserts what is not met in each case, of a family.
+fn assert_cases<D, F: PayloadFamily<D>>(cases: &[Case], family: F, name: Family) {
+    for (have, want, at) in cases {
+        let (had, wanted) = (bytes_of(have), bytes_of(want));
+        let found = unmet_of::<D, F>(family, &had, &wanted);
+        let expected = unmet(name, at);
+        assert_equal(&(name, want), &found, &expected);
+        if let (Some(found), Some(expected)) = (found, expected) {
+            assert_holds(&(name, want), is_equal(&found, &expected));
         }
     }
 }
 
-#[test]
-fn port_data_is_met() {
-    for (have, want, at) in NO_ROWS {
-        let (had, wanted) = (bytes_of(have), bytes_of(want));
-        let family = port_family_of(PortTag::Bridge);
-        let found = unmet_of::<InfoPortData, _>(family, &had, &wanted);
-        assert_equal(want, &found, &unmet(Family::BridgePort, at));
-    }
+/// Asserts what is not met in each case, of the data of a link.
+fn assert_data(cases: &[Case], tag: KindTag, name: Family) {
+    assert_cases::<InfoData, _>(cases, family_of(tag), name);
 }
 
 #[test]
+fn data_is_met() {
+    assert_data(ROWS, KindTag::Vxlan, Family::Vxlan);
+    assert_data(NO_ROWS, KindTag::Bond, Family::Bond);
+    assert_data(NESTED, KindTag::MacVlan, Family::MacVlan);
+}
+
+#[test]
+fn port_data_is_met() {
+    let family = port_family_of(PortTag::Bridge);
+    let name = Family::BridgePort;
+    assert_cases::<InfoPortData, _>(NO_ROWS, family, name);
+}
+
+/// Kinds, and the families whose attributes their data is a list of.
+const LISTINGS: &[(KindTag, Option<Family>)] = &[
+    (KindTag::Vxlan, Some(Family::Vxlan)),
+    (KindTag::Ip6ErSpan, Some(Family::Gre6)),
+    (KindTag::SitTun, Some(Family::IpTunnel)),
+    (KindTag::MacVtap, Some(Family::MacVtap)),
+    (KindTag::Bond, Some(Family::Bond)),
+    (KindTag::Netkit, Some(Family::Netkit)),
+    (KindTag::Veth, None),
+    (KindTag::Vxcan, None),
+    (KindTag::Other, None),
+];
+
+/// Port kinds, and the families whose attributes their data is a list of.
+const PORT_LISTINGS: &[(PortTag, Option<Family>)] = &[
+    (PortTag::Bond, Some(Family::BondPort)),
+    (PortTag::Bridge, Some(Family::BridgePort)),
+    (PortTag::Vrf, Some(Family::Vrf)),
+    (PortTag::Team, Some(Family::TeamPort)),
+    (PortTag::Other, None),
+];
+
+#[test]
 fn families_of_lists() {
-    for (tag, name) in [
-        (KindTag::Vxlan, Some(Family::Vxlan)),
-        (KindTag::Ip6ErSpan, Some(Family::Gre6)),
-        (KindTag::SitTun, Some(Family::IpTunnel)),
-        (KindTag::MacVtap, Some(Family::MacVtap)),
-        (KindTag::Bond, Some(Family::Bond)),
-        (KindTag::Netkit, Some(Family::Netkit)),
-        (KindTag::Veth, None),
-        (KindTag::Vxcan, None),
-        (KindTag::Other, None),
-    ] {
-        let found = PayloadFamily::<InfoData>::listing(family_of(tag));
-        assert_equal(&tag, &found, &name);
+    for (tag, name) in LISTINGS {
+        let found = PayloadFamily::<InfoData>::listing(family_of(*tag));
+        assert_equal(tag, &found, name);
     }
-    for (tag, name) in [
-        (PortTag::Bond, Some(Family::BondPort)),
-        (PortTag::Bridge, Some(Family::BridgePort)),
-        (PortTag::Vrf, Some(Family::Vrf)),
-        (PortTag::Team, Some(Family::TeamPort)),
-        (PortTag::Other, None),
-    ] {
-        let found = PayloadFamily::<InfoPortData>::listing(port_family_of(tag));
-        assert_equal(&tag, &found, &name);
+    for (tag, name) in PORT_LISTINGS {
+        let found = PayloadFamily::<InfoPortData>::listing(port_family_of(*tag));
+        assert_equal(tag, &found, name);
     }
 }

@@ -1,23 +1,33 @@
 //! The iterator over borrowed attributes, `LinkInfoWalk`.
 
 use super::assertions::{
-    HEADER_ERROR, assert_built, assert_equal, assert_holds, bytes_of, link, link_error, nlas,
+    HEADER_ERROR, NAME_ERROR, PORT_DATA_ORDER, XSTATS_ORDER, assert_built, assert_equal,
+    assert_holds, bytes_of, link, nlas,
 };
 use super::worked::{DATA_TWICE, FIRST_ERROR, SECOND_PORT_DATA};
 use crate::support::*;
 use linkinfo::layers::link::{
-    Cause, DecodeError, InfoData, InfoKind, InfoVxlan, KindTag, LinkInfoItem, LinkInfoWalk,
-    PortTag, same,
+    DecodeError, InfoData, InfoKind, InfoVxlan, KindTag, LinkInfoItem, LinkInfoWalk, PortTag, same,
 };
 
+/// An item of a walk: its offset, its type, its payload, and the current kinds.
+type Item<'a> = (usize, u16, &'a [u8], Option<KindTag>, Option<PortTag>);
+
 /// Asserts that the walk returns these items, each at its offset.
-fn assert_items(walk: &mut LinkInfoWalk<'_>, items: &[LinkInfoItem<'_>]) {
-    for wanted in items {
-        assert_equal(wanted, &walk.place(), &wanted.place);
+fn assert_items(walk: &mut LinkInfoWalk<'_>, items: &[Item<'_>]) {
+    for (place, raw_kind, value, kind_tag, port_tag) in items {
+        let wanted = LinkInfoItem {
+            place: *place,
+            raw_kind: *raw_kind,
+            value,
+            kind_tag: *kind_tag,
+            port_tag: *port_tag,
+        };
+        assert_equal(&wanted, &walk.place(), place);
         let Some(Ok(item)) = walk.next() else {
             panic!("an item {wanted:?}");
         };
-        assert_equal(&"an item", &item, wanted);
+        assert_equal(&"an item", &item, &wanted);
     }
 }
 
@@ -34,7 +44,7 @@ fn next_error(walk: &mut LinkInfoWalk<'_>) -> Option<DecodeError> {
 /// and the number of headers examined.
 fn assert_walk(
     bytes: &[u8],
-    items: &[LinkInfoItem<'_>],
+    items: &[Item<'_>],
     error: Option<DecodeError>,
     end: usize,
     examined: usize,
@@ -49,50 +59,82 @@ fn assert_walk(
     assert_equal(&bytes, &walk.examined(), &examined);
 }
 
-/// An item without a current kind.
-fn item<'a>(place: usize, raw_kind: u16, value: &'a [u8]) -> LinkInfoItem<'a> {
-    LinkInfoItem {
-        place,
-        raw_kind,
-        value,
-        kind_tag: None,
-        port_tag: None,
-    }
-}
+/// A list, the items that a walk returns, the error that it ends with, the offset at which it ends,
+/// and the number of headers examined.
+type Case = (
+    &'static str,
+    &'static [Item<'static>],
+    Option<DecodeError>,
+    usize,
+    usize,
+);
 
-/// The item under a kind.
-fn under(kind: KindTag, item: LinkInfoItem<'_>) -> LinkInfoItem<'_> {
-    LinkInfoItem {
-        kind_tag: Some(kind),
-        ..item
-    }
-}
-
-/// The item under a port kind.
-fn under_port(port: PortTag, item: LinkInfoItem<'_>) -> LinkInfoItem<'_> {
-    LinkInfoItem {
-        port_tag: Some(port),
-        ..item
-    }
-}
+const CASES: &[Case] = &[
+    ("", &[], None, 0, 0),
+    (
+        DATA_TWICE,
+        &[
+            (0, 1, b"xfrm\0", None, None),
+            (12, 2, &[], Some(KindTag::Xfrm), None),
+            (16, 2, &[8, 0, 2, 0, 5, 0, 0, 0], Some(KindTag::Xfrm), None),
+        ],
+        None,
+        28,
+        3,
+    ),
+    // A payload is not examined, so the error is that of the stray byte.
+    (
+        FIRST_ERROR,
+        &[
+            (0, 1, b"vrf\0", None, None),
+            (8, 2, &[5, 0, 1, 0, 7], Some(KindTag::Vrf), None),
+        ],
+        Some(HEADER_ERROR),
+        20,
+        2,
+    ),
+    // Of ports.
+    (
+        SECOND_PORT_DATA,
+        &[
+            (0, 4, b"vrf\0", None, None),
+            (8, 5, &[], None, Some(PortTag::Vrf)),
+        ],
+        Some(PORT_DATA_ORDER),
+        12,
+        3,
+    ),
+    // With both current kinds.
+    (
+        "08000100 76726600 08000400 76726600 04000500 04000200",
+        &[
+            (0, 1, b"vrf\0", None, None),
+            (8, 4, b"vrf\0", Some(KindTag::Vrf), None),
+            (16, 5, &[], Some(KindTag::Vrf), Some(PortTag::Vrf)),
+            (20, 2, &[], Some(KindTag::Vrf), None),
+        ],
+        None,
+        24,
+        4,
+    ),
+    // Types keep their flag bits, in items and not in errors.
+    (
+        "05000980 07000000 06000180 c328",
+        &[(0, 0x8009, &[7], None, None)],
+        Some(NAME_ERROR),
+        8,
+        2,
+    ),
+    ("04000300 04000900", &[], Some(XSTATS_ORDER), 0, 1),
+    ("080001", &[], Some(HEADER_ERROR), 0, 0),
+];
 
 #[test]
-fn walks_over_kinds_and_data() {
-    assert_walk(&[], &[], None, 0, 0);
-    let items = [
-        item(0, 1, b"xfrm\0"),
-        under(KindTag::Xfrm, item(12, 2, &[])),
-        under(KindTag::Xfrm, item(16, 2, &[8, 0, 2, 0, 5, 0, 0, 0])),
-    ];
-    assert_walk(&bytes_of(DATA_TWICE), &items, None, 28, 3);
-
-    // A payload is not examined, so the error is that of the stray byte.
-    let items = [
-        item(0, 1, b"vrf\0"),
-        under(KindTag::Vrf, item(8, 2, &[5, 0, 1, 0, 7])),
-    ];
-    let bytes = bytes_of(FIRST_ERROR);
-    assert_walk(&bytes, &items, Some(HEADER_ERROR), 20, 2);
+fn walks_return_items_and_end() {
+    for (text, items, error, end, examined) in CASES {
+        let bytes = bytes_of(text);
+        assert_walk(&bytes, items, *error, *end, *examined);
+    }
 }
 
 /// A vxlan link with its VNI and its port.
@@ -107,49 +149,11 @@ fn walks_over_built_lists() {
     let items = link(InfoKind::Vxlan, InfoData::Vxlan(data));
     assert_built(items, &VXLAN);
     assert_equal(&VXLAN, &same(&VXLAN, &VXLAN[..12]), &Ok(false));
-    let items = [
-        item(0, 1, b"vxlan\0"),
-        under(KindTag::Vxlan, item(12, 2, &VXLAN[16..])),
+    let items: [Item<'_>; 2] = [
+        (0, 1, b"vxlan\0", None, None),
+        (12, 2, &VXLAN[16..], Some(KindTag::Vxlan), None),
     ];
     assert_walk(&VXLAN, &items, None, 32, 2);
-}
-
-#[test]
-fn walks_over_ports() {
-    let items = [
-        item(0, 4, b"vrf\0"),
-        under_port(PortTag::Vrf, item(8, 5, &[])),
-    ];
-    let bytes = bytes_of(SECOND_PORT_DATA);
-    let order = link_error(5, Cause::Order);
-    assert_walk(&bytes, &items, Some(order), 12, 3);
-}
-
-#[test]
-fn walks_with_both_current_kinds() {
-    let bytes = [
-        8, 0, 1, 0, b'v', b'r', b'f', 0, 8, 0, 4, 0, b'v', b'r', b'f', 0, 4, 0, 5, 0, 4, 0, 2, 0,
-    ];
-    let port_data = under_port(PortTag::Vrf, item(16, 5, &[]));
-    let items = [
-        item(0, 1, b"vrf\0"),
-        under(KindTag::Vrf, item(8, 4, b"vrf\0")),
-        under(KindTag::Vrf, port_data),
-        under(KindTag::Vrf, item(20, 2, &[])),
-    ];
-    assert_walk(&bytes, &items, None, 24, 4);
-}
-
-#[test]
-fn walks_end_at_errors() {
-    // Types keep their flag bits, in items and not in errors.
-    let marked = item(0, 0x8009, &[7]);
-    let bytes = [5, 0, 9, 0x80, 7, 0, 0, 0, 6, 0, 1, 0x80, 0xc3, 0x28];
-    let utf8 = link_error(1, Cause::Utf8);
-    assert_walk(&bytes, &[marked], Some(utf8), 8, 2);
-    let order = link_error(3, Cause::Order);
-    assert_walk(&[4, 0, 3, 0, 4, 0, 9, 0], &[], Some(order), 0, 1);
-    assert_walk(&[8, 0, 1], &[], Some(HEADER_ERROR), 0, 0);
 }
 
 #[test]

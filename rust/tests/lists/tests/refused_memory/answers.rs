@@ -1,7 +1,7 @@
 //! The results that a call may return if an allocation may fail.
 
 use linkinfo::layers::link::{
-    Cause, DecodeError, Family, LinkInfo, VecLinkInfo, emit_nlas, nlas_fit_len,
+    Cause, DecodeError, Family, Nla, VecLinkInfo, emit_nlas, nlas_fit_len,
 };
 
 /// The error of a failed allocation.
@@ -24,7 +24,7 @@ pub fn read_at_last(bytes: &[u8]) -> Result<VecLinkInfo, DecodeError> {
 
 /// Returns whether the list is written as the encoding, without allocating and without changing the
 /// bytes after it. No other list that is parsed has this encoding.
-pub fn is_emitted(items: &[LinkInfo], string: &[u8]) -> bool {
+pub fn is_emitted<T: Nla>(items: &[T], string: &[u8]) -> bool {
     let mut buffer = [255; ROOM];
     match nlas_fit_len(items) {
         Some(len) if len <= ROOM => {

@@ -3,7 +3,7 @@
 use super::answers::{MEMORY, read_at_last, reads};
 use crate::tests::assertions::{assert_equal, assert_holds};
 use linkinfo::layers::link::{
-    CanonError, InfoKind, InfoPortKind, LinkInfo, ToVecError, canon, nlas_fit_len, nlas_to_vec,
+    CanonError, InfoKind, InfoPortKind, LinkInfo, Nla, ToVecError, canon, nlas_fit_len, nlas_to_vec,
 };
 
 /// The length of a chain of 128 lists, with the kind and the header of its data before it.
@@ -54,6 +54,14 @@ fn name_that_does_not_fit() {
     assert_holds(&"its name", name.as_bytes() == &bytes[4..]);
 }
 
+/// The encoding of a list of these attributes, written once more if an allocation failed.
+fn written<T: Nla, const N: usize>(items: [T; N]) -> Result<Vec<u8>, ToVecError> {
+    match nlas_to_vec(items.as_slice()) {
+        Err(ToVecError::Memory) => nlas_to_vec(items.as_slice()),
+        written => written,
+    }
+}
+
 #[test]
 fn to_vec() {
     let items = [
@@ -63,11 +71,7 @@ fn to_vec() {
     let string = [
         8, 0, 1, 0, b'v', b'r', b'f', 0, 8, 0, 4, 0, b'v', b'r', b'f', 0,
     ];
-    let answer = match nlas_to_vec(&items) {
-        Err(ToVecError::Memory) => nlas_to_vec(&items),
-        written => written,
-    };
-    let bytes = answer.expect("a string");
+    let bytes = written(items).expect("a string");
     assert_equal(&"a port", &bytes.as_slice(), &string.as_slice());
 }
 

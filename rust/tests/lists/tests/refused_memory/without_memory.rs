@@ -1,10 +1,12 @@
 //! Calls that do not allocate.
 
 use super::answers::{is_emitted, is_refused, reads};
-use crate::tests::assertions::{HEADER_ERROR, assert_equal, assert_holds, link_error};
+use crate::tests::assertions::{
+    DATA_ORDER, HEADER_ERROR, NAME_ERROR, PORT_DATA_ORDER, XSTATS_ORDER, assert_equal, assert_holds,
+};
 use linkinfo::layers::link::{
-    CanonError, Cause, HeaderCount, InfoKind, InfoPortKind, LinkInfo, Nla, VecLinkInfo, canon,
-    check, check_counted, nlas_fit_len, nlas_to_vec, same, same_counted,
+    CanonError, DecodeError, HeaderCount, InfoKind, InfoPortKind, LinkInfo, Nla, VecLinkInfo,
+    canon, check, check_counted, nlas_fit_len, nlas_to_vec, same, same_counted,
 };
 
 /// An xfrm link with its underlying interface and its identifier.
@@ -16,37 +18,61 @@ const XFRM: [u8; 32] = [
 /// A port of a vrf with two data attributes.
 const SECOND_PORT_DATA: [u8; 16] = [8, 0, 4, 0, b'v', b'r', b'f', 0, 4, 0, 5, 0, 4, 0, 5, 0];
 
+/// Byte strings, and the results of `check`.
+const CHECKED: &[(&str, &[u8], Result<(), DecodeError>)] = &[
+    ("nothing", &[], Ok(())),
+    ("xfrm", &XFRM, Ok(())),
+    ("data twice", &SECOND_PORT_DATA, Err(PORT_DATA_ORDER)),
+    ("a stray byte", &[4, 0, 9, 0, 0], Err(HEADER_ERROR)),
+];
+
 #[test]
 fn checks() {
+    for (name, bytes, wanted) in CHECKED {
+        assert_equal(name, &check(bytes), wanted);
+    }
     let mut count = HeaderCount::new();
-    let order = link_error(5, Cause::Order);
-    assert_equal(&"nothing", &check(&[]), &Ok(()));
-    assert_equal(&"xfrm", &check(&XFRM), &Ok(()));
-    assert_equal(&"data twice", &check(&SECOND_PORT_DATA), &Err(order));
-    assert_equal(
-        &"a stray byte",
-        &check(&[4, 0, 9, 0, 0]),
-        &Err(HEADER_ERROR),
-    );
     assert_equal(&"counted", &check_counted(&XFRM, &mut count), &Ok(()));
     assert_equal(&"headers", &count.get(), &4);
 }
 
+/// The kind pfcp without the closing NUL of its name.
+const OPEN: [u8; 8] = [8, 0, 1, 0, b'p', b'f', b'c', b'p'];
+
+/// The kind pfcp in its canonical encoding.
+const CLOSED: [u8; 12] = [9, 0, 1, 0, b'p', b'f', b'c', b'p', 0, 0, 0, 0];
+
+/// Two byte strings, and the results of `same`.
+const COMPARED: &[(&str, &[u8], &[u8], Result<bool, DecodeError>)] = &[
+    ("names", &OPEN, &CLOSED, Ok(true)),
+    ("nothing", &[], &[4, 0, 9, 0], Ok(false)),
+    ("data twice", &XFRM, &SECOND_PORT_DATA, Err(PORT_DATA_ORDER)),
+];
+
 #[test]
 fn compares() {
-    let open = [8, 0, 1, 0, b'p', b'f', b'c', b'p'];
-    let closed = [9, 0, 1, 0, b'p', b'f', b'c', b'p', 0, 0, 0, 0];
+    for (name, a, b, wanted) in COMPARED {
+        assert_equal(name, &same(a, b), wanted);
+    }
     let mut count = HeaderCount::new();
-    let order = link_error(5, Cause::Order);
-    assert_equal(&"names", &same(&open, &closed), &Ok(true));
-    assert_equal(&"nothing", &same(&[], &[4, 0, 9, 0]), &Ok(false));
-    assert_equal(&"data twice", &same(&XFRM, &SECOND_PORT_DATA), &Err(order));
-    assert_equal(
-        &"counted",
-        &same_counted(&open, &closed, &mut count),
-        &Ok(true),
-    );
+    let counted = same_counted(&OPEN, &CLOSED, &mut count);
+    assert_equal(&"counted", &counted, &Ok(true));
     assert_equal(&"headers", &count.get(), &4);
+}
+
+/// The encoding of a kind and a port kind.
+const TWO_KINDS: [u8; 16] = [
+    8, 0, 1, 0, b'v', b'r', b'f', 0, 8, 0, 4, 0, b'v', b'r', b'f', 0,
+];
+
+/// Asserts that each attribute has a payload of four bytes, and that their list is written as this
+/// encoding.
+fn assert_measured<T: Nla, const N: usize>(items: [T; N], string: &[u8]) {
+    let each = items.iter().all(|item| item.fit_len() == Some(4));
+    assert_holds(&"each of four bytes", each);
+    let len = nlas_fit_len(items.as_slice());
+    assert_equal(&"the list", &len, &Some(string.len()));
+    assert_holds(&string, is_emitted(items.as_slice(), string));
 }
 
 #[test]
@@ -55,38 +81,32 @@ fn measures_and_emits() {
         LinkInfo::Kind(InfoKind::Vrf),
         LinkInfo::PortKind(InfoPortKind::Vrf),
     ];
-    let string = [
-        8, 0, 1, 0, b'v', b'r', b'f', 0, 8, 0, 4, 0, b'v', b'r', b'f', 0,
-    ];
-    let each = items.iter().all(|item| item.fit_len() == Some(4));
-    assert_holds(&"each of four bytes", each);
-    assert_equal(&"the list", &nlas_fit_len(&items), &Some(16));
-    assert_holds(&string, is_emitted(&items, &string));
+    assert_measured(items, &TWO_KINDS);
 }
+
+/// Byte strings that are rejected at once, and their errors.
+const REFUSED: &[(&[u8], DecodeError)] = &[
+    (&[8, 0, 2, 0, 0, 0, 0, 0], DATA_ORDER),
+    (&[4, 0, 3, 0], XSTATS_ORDER),
+    (&[6, 0, 1, 0, 0xc3, 0x28], NAME_ERROR),
+    (&[8, 0, 1], HEADER_ERROR),
+    (&[3, 0, 1, 0], HEADER_ERROR),
+    (&[9, 0, 1, 0, b'x', b'f', b'r', b'm'], HEADER_ERROR),
+];
 
 /// A first error needs no memory.
 #[test]
 fn first_errors() {
-    let order = link_error(2, Cause::Order);
-    let utf8 = link_error(1, Cause::Utf8);
-    let data = [8, 0, 2, 0, 0, 0, 0, 0];
-    assert_holds(&data, is_refused(&data, order));
-    let statistics = is_refused(&[4, 0, 3, 0], link_error(3, Cause::Order));
-    assert_holds(&"statistics", statistics);
-    let name = [6, 0, 1, 0, 0xc3, 0x28];
-    assert_holds(&name, is_refused(&name, utf8));
-    let three = [8, 0, 1];
-    assert_holds(&three, is_refused(&three, HEADER_ERROR));
-    let length = [3, 0, 1, 0];
-    assert_holds(&length, is_refused(&length, HEADER_ERROR));
-    let cut = [9, 0, 1, 0, b'x', b'f', b'r', b'm'];
-    assert_holds(&cut, is_refused(&cut, HEADER_ERROR));
+    for (bytes, error) in REFUSED {
+        assert_holds(bytes, is_refused(bytes, *error));
+    }
 }
 
 /// The empty list needs no memory.
 #[test]
 fn empty_list() {
-    assert_holds(&"parse", VecLinkInfo::parse(&[]).is_ok());
+    let error = VecLinkInfo::parse(&[]).err();
+    assert_equal(&"parse", &error, &None);
     assert_holds(&"emitted", reads(&[], &[]));
 }
 
