@@ -72,8 +72,7 @@ fn assert_kept<'a, F: LinkFamily<Context = ()> + Parseable<NlaBuffer<'a>>>(
 
 /// Asserts that a family without rows keeps the attribute.
 ///
-/// The number of the family is a parameter, so that what is required of its type is shown here,
-/// once.
+/// The number of the family is a parameter, so that what its type must have is shown here, once.
 fn assert_opaque_kept<'a, const NUMBER: u8>(
     nla: &NlaBuffer<'a>,
     name: &str,
