@@ -8,7 +8,7 @@ from .crates import BadEdit
 from .rooms import check, room_for
 from .tally import Tally
 
-# Functions that are proved unchanged at the end of a lane.
+# Functions of a lane that are proved unchanged, over the same kept work as its mutants.
 SAMPLE = 5
 
 
@@ -69,7 +69,7 @@ class Lane:
     def __init__(self, crates, crate, top, stamps):
         self.folder, self.top = room_for(crates, crate, top, stamps), top
         # Right after `rt ci` the copy has no kept work: only the edits' functions are checked.
-        self.by_function, self.tally = bool(stamps), Tally(crate)
+        self.by_function, self.tally, self.unchanged = bool(stamps), Tally(crate), set()
 
     def check(self, texts, edits):
         """Checks with these texts: the crate, or only the functions that must reject these edits. A
@@ -81,12 +81,15 @@ class Lane:
         self.tally.seconds += said.seconds
         return said
 
-    def try_together(self, edits):
-        """Tries many edits in one check, and returns those that no check decided."""
+    def try_together(self, edits, sample=()):
+        """Tries many edits in one check, and returns those that no check decided. The last check is
+        also of the functions of the sample that it does not edit, which are to be proved."""
         alone = []
         while edits:
             batch, texts, edits = batch_of(edits, self.folder)
-            said = self.check(texts, batch)
+            edited = {name for it in batch for name in (it.function, it.mutated)}
+            beside = [it for it in sample if not edits and it.function not in edited]
+            said = self.check(texts, [*batch, *beside])
             if not said.is_judged:
                 # (one of them does not compile: each half is tried)
                 half = len(batch) // 2
@@ -94,6 +97,8 @@ class Lane:
                     alone += self.try_together(part)
                 alone += [] if half else batch
                 continue
+            proved = {it.function for it in beside if said.is_proved_line(it.function)}
+            self.unchanged |= proved
             for edit in batch:
                 what = said.rejects(edit)
                 if what:
@@ -124,16 +129,18 @@ class Lane:
             tally.failed(edit, f"NOT REFUSED by its function: {line}{proved}")
 
     def try_all(self, edits, draw):
-        """Tries all edits, and then proves a drawn sample of their functions unchanged over the
-        same kept work."""
-        for kind in sorted({it.kind() for it in edits}):
-            for edit in self.try_together([it for it in edits if it.kind() == kind]):
-                self.try_alone(edit)
+        """Tries all edits, and proves a drawn sample of their functions unchanged over the same
+        kept work: those that no check of mutants has proved in a last check."""
         sample = [it for it in edits if not names_impl(it)]
         sample = draw.sample(sample, min(SAMPLE, len(sample)))
-        said = self.check({}, sample)
-        if not said.is_proved:
-            names = sorted({it.function for it in sample if not said.is_proved_line(it.function)})
+        for number, kind in enumerate(sorted({it.kind() for it in edits})):
+            beside = sample if number == 0 else []
+            for edit in self.try_together([it for it in edits if it.kind() == kind], beside):
+                self.try_alone(edit)
+        left = [it for it in sample if it.function not in self.unchanged]
+        said = self.check({}, left) if left or not sample else None
+        if said and not said.is_proved:
+            names = sorted({it.function for it in left if not said.is_proved_line(it.function)})
             told = f"not proved unchanged after the mutants: {', '.join(names) or 'the crate'}"
             self.tally.say(self.tally.crate, told, False)
             self.tally.seen = []

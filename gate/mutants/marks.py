@@ -1,18 +1,23 @@
 """A checksum of all that the verdict on a mutant depends on.
 
-That is: the edit, the body that it changes, `src/` of the crate without the bodies of other
-functions and without comments, `specs/`, the lemmas of `proofs/` and the proofs beside the
-function's own; of each library below what a crate above sees of it: `src/` without bodies,
-`specs/` and lemmas; and the code that judges. The toolchain is compared too (`seen`). Where
-an edit has equal sums in two states of the repository, it has equal verdicts.
+That is: the edit, the body that it changes, the contracts of the functions that this text names,
+and all else in `src/` of the crate but bodies of functions and comments; `specs/`, the lemmas of
+`proofs/` and the proofs beside the function's own; of each library below what a crate above sees
+of it: the same of `src/`, `specs/` and lemmas; and the code that judges. The toolchain is compared
+too (`seen`). Where an edit has equal sums in two states of the repository, it has equal verdicts.
+
+A free function, or a method of no trait, is reached by its name alone. So the contract of one that
+neither the edit, the body, the rest of `src/` outside of functions, nor an import of `specs/` or
+`proofs/` names is left out. A function of a trait or of its impl may be called without being named,
+as `==` or a drop is, and its contract is never left out.
 """
 import functools
 import hashlib
 import re
 
-from . import sources
 from .crates import BadEdit, Folder, below, crates_of, folder_of
 from .edits import Edit
+from .sources import bodies_of, heads_of, may_be, names_in, visible
 
 # A line of specs/ or proofs/ that is a comment.
 COMMENT = re.compile(r"^\s*--( .*)?\n", re.M)
@@ -23,23 +28,38 @@ class Marks:
 
     def __init__(self, root):
         self.root, self.crates = root, crates_of(root)
-        for it in ("library", "judge", "read", "files", "uncommented"):
+        for it in ("library", "judge", "read", "files", "uncommented", "base", "heads"):
             setattr(self, it, functools.cache(getattr(self, it)))
 
     def mark(self, edit):
         """The sum of an edit in this state."""
-        folder = folder_of(edit.crate, self.root)
-        inside = "/".join(["proofs", *edit.function.split("::")[1:-1]])
-        proofs = {*self.files(edit.crate, inside), *lemmas(folder)}
-        parts = [self.judge(), edit.label, edit.text]
-        parts += self.parts_of(edit.crate, {edit.function, edit.mutated}, proofs)
-        parts += [self.library(it) for it in below(self.crates, edit.crate)]
+        beside = self.files(edit.crate, "/".join(["proofs", *edit.function.split("::")[1:-1]]))
+        shown = {edit.function, edit.mutated}
+        libraries = below(self.crates, edit.crate)
+        # (of a file of the body's, the words of its other parts are among those of the crate)
+        own = [(it, text) for it, text in self.parts_of(edit.crate, shown, beside)
+               if (it, text) not in self.base(edit.crate)[0]]
+        named = set().union({*re.findall(r"\w+", edit.text)}, *(names_in(*it) for it in own),
+                            *(self.base(it)[1] for it in [edit.crate, *libraries]))
+        parts = [self.judge(), edit.label, edit.text, self.library(edit.crate)]
+        parts += [text for it in own for text in it] + [self.library(it) for it in libraries]
+        parts += [text for it in [edit.crate, *libraries] for name, path, head in self.heads(it)
+                  if name in named and path not in shown for text in (path, head)]
         return total(parts)
 
     def library(self, name):
-        """The sum of the text that crates above see of a library."""
-        proofs = lemmas(folder_of(name, self.root))
-        return total([name, *self.parts_of(name, set(), proofs)])
+        """The sum of the text of a crate that every verdict over it depends on."""
+        return total([name, *(text for it in self.base(name)[0] for text in it)])
+
+    def base(self, name):
+        """That text, by files, and the words of it that may name functions."""
+        parts = self.parts_of(name, set(), ())
+        return parts, frozenset().union(*(names_in(*it) for it in parts))
+
+    def heads(self, name):
+        """The heads of the functions of a crate that are reached by their names alone."""
+        return [it for path in self.files(name, "src")
+                for it in heads_of(name, path, self.read(name, path))]
 
     def read(self, crate, path):
         return folder_of(crate, self.root).read(path)
@@ -48,16 +68,16 @@ class Marks:
         return folder_of(crate, self.root).files(path)
 
     def parts_of(self, name, shown, proofs):
-        """The texts of a crate that verdicts depend on, each after its path."""
-        parts = [" ".join(self.crates[name])]
+        """The texts of a crate that verdicts depend on, each with its path, where the functions in
+        `shown` are read whole."""
+        parts = [("", " ".join(self.crates[name]))]
         for path in self.files(name, "src"):
             text = self.read(name, path)
-            here = {it[0] for it in sources.bodies_of(name, path, text)
-                    if any(sources.may_be(it[0], function) for function in shown)}
-            parts += [path, sources.visible(name, path, text, frozenset(here))]
-        for path in sorted({*self.files(name, "specs"), *proofs}):
-            parts += [path, self.uncommented(name, path)]
-        return parts
+            here = {it[0] for it in bodies_of(name, path, text)
+                    if any(may_be(it[0], function) for function in shown)}
+            parts.append((path, visible(name, path, text, frozenset(here))))
+        read = {*self.files(name, "specs"), *lemmas(folder_of(name, self.root)), *proofs}
+        return parts + [(it, self.uncommented(name, it)) for it in sorted(read)]
 
     def uncommented(self, crate, path):
         return COMMENT.sub("", self.read(crate, path))

@@ -13,6 +13,11 @@ BLOCK = re.compile(r"\s*(pub )?(unsafe )?(impl|trait)\b")
 CONSTANT = re.compile(
     r"^ *(?:pub(?:\([^)]*\))? )?(?:const \w+: |type \w+ = )[^;]*;$", re.M | re.S
 )
+USED = re.compile(r"\buse [^{;\n]*(?:\{[^}]*\})?")
+IMPORT = re.compile(r"^ *(?:pub(?:\([^)]*\))? )?use [^;]*;\n", re.M)
+CALLED = re.compile(r"(?:(?<=\.)|(?<=::)|(?<!fn )(?=\w+\())\b(\w+)")
+CLAUSE = re.compile(r"^ *(?:requires|ensures|ghost(?! use)|measure)\b[^{;\n]*\{", re.M)
+MACRO = re.compile(r"^( *)(?:pub(?:\([^)]*\))? )?macro_rules! .*?^\1\}", re.M | re.S)
 UNSEEN = re.compile(r"^\s*(//.*|#\[inline(\(\w+\))?\])\n", re.M)
 
 
@@ -50,22 +55,24 @@ def block_name(header):
 
 @functools.cache
 def bodies_of(crate, path, text):
-    """The path, start and end of each function body of a file, and whether the function is const.
-    A body begins after the clauses."""
+    """Each function of a file that has a body: its path, where the body starts and ends, whether it
+    is const, and where its head starts if only those who name it can call it. That holds outside
+    of traits and their impls. A body begins after the clauses."""
     inside = path[len("src/") : -len(".rt")].split("/")
     inside = [it for it in inside if it not in ("lib", "main", "mod")]
-    lines, at, bodies, block = text.split("\n"), 0, [], ("", "")
+    lines, at, bodies, block, is_named = text.split("\n"), 0, [], ("", ""), True
     for number, line in enumerate(lines):
         indent = line[: len(line) - len(line.lstrip())]
         if BLOCK.match(line) and not line.endswith(("}", ";")):
             block = (block_name(line.rstrip(" {")), indent)
+            is_named = line.endswith("{") and not re.search(r"\btrait\b| for ", line)
         elif line == block[1] + "}":
-            block = ("", "")
+            block, is_named = ("", ""), True
         named = FUNCTION.match(line)
         span = body_span(lines, number, at, indent) if named else None
         if span:
             names = [crate, *inside, *[it for it in [block[0]] if it], named[2]]
-            bodies.append(("::".join(names), *span, bool(named[1])))
+            bodies.append(("::".join(names), *span, bool(named[1]), at if is_named else None))
         at += len(line) + 1
     return bodies
 
@@ -86,14 +93,16 @@ def body_of(crate, path, text, function):
 def body_span(lines, number, at, indent):
     """Where the body of the function whose first line this is starts and ends in the text, or None
     where the function has no body."""
-    start = None
+    start, depth = None, 0
     for line in lines[number:]:
         opens = line.endswith(" {") and not is_clause(line, indent)
         if start is None and (line == indent + "{" or opens):
             start = at + len(line)
         if line == indent + "}" and start is not None:
             return start, at
-        if start is None and (line == indent + "{}" or line.endswith(("{}", ";"))):
+        # (within a clause, the fields of a record end with a semicolon too)
+        depth += len(re.findall(r"[({\[]", line)) - len(re.findall(r"[)}\]]", line))
+        if start is None and depth == 0 and line.endswith(("{}", ";")):
             return None
         at += len(line) + 1
     return None
@@ -112,12 +121,53 @@ def constants_of(text):
 
 @functools.cache
 def visible(crate, path, text, shown=frozenset()):
-    """The text of a source file that a check of another function reads: all but comments, inlining
-    attributes and the bodies of functions, which contracts hide. Bodies of const functions, which a
-    constant may call, and of the functions in `shown` stay."""
+    """The text of a source file that a check of any function reads: all but comments, inlining
+    attributes, the bodies of functions, which contracts hide, and the heads that only those read
+    who name the function. All of const functions, which a constant may call, and of the functions
+    in `shown` stays."""
     shown_text, at = [], 0
-    for name, start, end, is_const in bodies_of(crate, path, text):
+    for name, start, end, is_const, head in bodies_of(crate, path, text):
         if name not in shown and not is_const and at <= start:
-            shown_text.append(text[at:start])
+            shown_text.append(text[at : start if head is None else head])
             at = end
     return UNSEEN.sub("", "".join([*shown_text, text[at:]]))
+
+
+@functools.cache
+def heads_of(crate, path, text):
+    """The heads of a source file, that is signatures and contracts, that only those read who name
+    the function: its name, its path, and the head."""
+    return [(name.split("::")[-1], name, UNSEEN.sub("", text[head:start]))
+            for name, start, _, _, head in bodies_of(crate, path, text) if head is not None]
+
+
+def names_in(path, text):
+    """The names of functions that a file may call outside of functions, and those of which it names
+    the module. In a file of specifications or proofs an import names that module whole. In a
+    source file, clauses and imports without `as` call nothing."""
+    if path.endswith(".antt"):
+        return {*re.findall(r"\w+", " ".join(USED.findall(text)))}
+    text = without_clauses(IMPORT.sub(lambda it: it[0] if " as " in it[0] else "", text))
+    whole = [it[0] for kind in (MACRO, CONSTANT) for it in kind.finditer(text)]
+    whole += [it for it in text.split("\n") if "ghost use" in it]
+    return {*CALLED.findall(text), *re.findall(r"\w+", " ".join(whole))}
+
+
+def without_clauses(text):
+    """The text without what is in the braces of clauses and of specifications."""
+    kept, at = [], 0
+    for it in CLAUSE.finditer(text):
+        if it.start() >= at:
+            kept.append(text[at : it.end()])
+            at = it.end() + balanced(text[it.end() :])
+    return "".join([*kept, text[at:]])
+
+
+def balanced(text):
+    """Where the brace closes that is open before the text."""
+    depth = 1
+    for it in re.finditer(r"[{}]", text):
+        depth += 1 if it[0] == "{" else -1
+        if depth == 0:
+            return it.start()
+    return len(text)

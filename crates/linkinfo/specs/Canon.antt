@@ -22,8 +22,8 @@ use Rattle.nla_frame.specs.Error.{error_text, memory_error}
 use Rattle.nla_frame.specs.declared.error.DecodeError.{DecodeError}
 use Rattle.linkinfo.specs.declared.canonical.CanonError.{CanonError}
 use Rattle.linkinfo.specs.declared.canonical.CanonError.TheVariants as refused
-use Rattle.linkinfo.specs.declared.canonicalize.CanonIntoError.{CanonIntoError}
-use Rattle.linkinfo.specs.declared.canonicalize.CanonIntoError.TheVariants as into
+use Rattle.linkinfo.specs.declared.canonical_into.CanonIntoError.{CanonIntoError}
+use Rattle.linkinfo.specs.declared.canonical_into.CanonIntoError.TheVariants as into
 
 abbrev pub canon_error_text : CanonError → List ℕ
 canon_error_text (refused.Refused error) = error_text error

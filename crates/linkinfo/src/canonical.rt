@@ -8,7 +8,7 @@ ghost use Rattle.linkinfo.specs.Items.{link_attribute};
 ghost use Rattle.linkinfo.specs.Strings.{reading};
 ghost use Rattle.linkinfo.specs.declared.canonical.CanonError.TheVariants as refused;
 
-use crate::canonicalize::{canonical_len_of, write_canonical_of};
+use crate::canonical_into::{canonical_len_of, write_canonical_of};
 use linkinfo_data::DataFamilies;
 use linkinfo_table::LinkPeer;
 use nla_frame::{Bytes, DecodeError, ExactEq};

@@ -6,7 +6,7 @@
 #![tactic(auto)]
 
 mod canonical;
-mod canonicalize;
+mod canonical_into;
 mod collection;
 mod difference;
 mod item;
@@ -22,7 +22,7 @@ mod xstats;
 
 // Lists: parsed, serialized, validated and compared.
 pub use canonical::{CanonError, canon, canon_of};
-pub use canonicalize::{CanonIntoError, canon_into, canon_into_of};
+pub use canonical_into::{CanonIntoError, canon_into, canon_into_of};
 pub use difference::{first_difference, first_difference_of};
 pub use link_info::{LinkInfo, LinkInfoOf};
 pub use linkinfo_data::{InfoData, InfoDataOf, InfoPortData};

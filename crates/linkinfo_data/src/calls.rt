@@ -7,7 +7,7 @@
 /// Parses a payload.
 macro_rules! read {
     (list($variant:path, $nla:ty, $ctx:expr) ($alloc:ident, $payload:expr, $count:expr)) => {
-        $variant(crate::written::read_nlas($alloc, $payload, $ctx, $count)?)
+        $variant(crate::lists::read_nlas($alloc, $payload, $ctx, $count)?)
     };
     (first($variant:path, $nla:ty, $ctx:expr) ($alloc:ident, $payload:expr, $count:expr)) => {
         $variant(linkinfo_table::first_read($alloc, $payload, $ctx, $count)?)

@@ -6,8 +6,8 @@ ghost use Rattle.linkinfo_data.specs.Data.{data_of, family_of};
 
 use crate::data::family_of;
 use crate::families::DataFamilies;
+use crate::lists::{list_fit_len, one_fit_len, write_list, write_one};
 use crate::payload_family::PayloadFamily;
-use crate::written::{list_fit_len, one_fit_len, write_list, write_one};
 use linkinfo_devices::{
     InfoIpVlan, InfoIpVtap, InfoIpoib, InfoMacSec, InfoMacVlan, InfoMacVtap, InfoRmNet, InfoVrf,
     InfoXfrm,

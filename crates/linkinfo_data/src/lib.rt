@@ -9,13 +9,13 @@ mod difference;
 mod families;
 mod info_data;
 pub mod laws;
+mod lists;
 mod lower;
 mod payload_family;
 mod peers;
 mod port_data;
 mod tunnels;
 mod unmet;
-mod written;
 
 pub use data::{DataFamily, family_of};
 pub use devices::DeviceFamily;

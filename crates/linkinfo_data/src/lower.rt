@@ -4,8 +4,8 @@ ghost use Rattle.std.specs.Prelude.{None};
 ghost use Rattle.linkinfo_data.specs.LowerData.{lower_data_of, lower_listed, lower_nest};
 
 use crate::info_data::InfoDataOf;
+use crate::lists::read_nlas;
 use crate::payload_family::PayloadFamily;
-use crate::written::read_nlas;
 use linkinfo_table::lower::InfoBridge;
 use linkinfo_table::{LinkPeer, list_canonical_len, list_check, list_same, list_write_canonical};
 use nla_frame::{DecodeError, ExactEq, Family, HeaderCount};

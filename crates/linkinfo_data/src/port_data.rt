@@ -11,8 +11,8 @@ ghost use Rattle.linkinfo_data.specs.PortData.{
 };
 
 use crate::calls::{canonical_len, check, read, same, write_canonical};
+use crate::lists::{list_fit_len, write_list};
 use crate::payload_family::PayloadFamily;
-use crate::written::{list_fit_len, write_list};
 use linkinfo_devices::InfoVrfPort;
 use linkinfo_numbers::{IFLA_INFO_SLAVE_DATA, InfoPortKind, PortTag};
 use linkinfo_peers::InfoTeamPort;

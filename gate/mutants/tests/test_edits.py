@@ -5,7 +5,7 @@ import unittest
 
 from mutants.crates import BadEdit
 from mutants.edits import Edit
-from mutants.sources import block_name, bodies_of, body_of, visible
+from mutants.sources import block_name, bodies_of, body_of, heads_of, visible
 from mutants.steps import are_moved
 
 SOURCE = """//! A module.
@@ -67,6 +67,14 @@ class Edits(unittest.TestCase):
     def test_bodies(self):
         found = bodies_of("one", "src/count.rt", SOURCE)
         self.assertEqual([it[0] for it in found], [FROM, NEXT, "one::count::Count::zero"])
+
+    def test_body_after_a_clause_of_several_lines(self):
+        source = "fn f(n: u8) -> Two\n    ensures { result ≡ record {\n      a = n;\n      b = 0;\n"
+        source += "    } }\n{\n    two(n)\n}\n\ntrait T {\n    fn g(n: u8)\n"
+        source += "        ensures { tt };\n\n    fn h(n: u8) {\n        f(n)\n    }\n}\n"
+        found = bodies_of("one", "src/lib.rt", source)
+        self.assertEqual([(it[0], source[it[1]:it[2]].strip()) for it in found],
+                         [("one::f", "two(n)"), ("one::T::h", "f(n)")])
 
     def test_methods_of_a_type_of_another_module(self):
         for name, body in ((NEXT, "self.n + 1"), ("one::other::Count::next", "self.n + 1"),
@@ -131,8 +139,13 @@ class Edits(unittest.TestCase):
         seen = visible("one", "src/count.rt", SOURCE)
         for it in ("self.n + 1\n    }", "n.min(MOST)", "///", "//!", "inline"):
             self.assertNotIn(it, seen)
-        for it in ("result ≡ self.n + 1", "requires", "MOST: u8 = 4", "Count { n: 0 }", "derive"):
+        for it in ("MOST: u8 = 4", "Count { n: 0 }", "derive", "fn from(n: u8)"):
             self.assertIn(it, seen)
+        # (those alone read a contract who name its function, outside of traits and their impls)
+        self.assertNotIn("result ≡ self.n + 1", seen)
+        heads = {path: head for _, path, head in heads_of("one", "src/count.rt", SOURCE)}
+        self.assertEqual(sorted(heads), [NEXT, "one::count::Count::zero"])
+        self.assertIn("requires { self.n < 4 }\n        ensures { result", heads[NEXT])
         own = visible("one", "src/count.rt", SOURCE, frozenset({FROM}))
         self.assertIn("n.min(MOST)", own)
 

@@ -18,16 +18,16 @@ class Planted(Lane):
     """A lane in which each mutant is rejected, and whose functions are proved, or none is."""
 
     def __init__(self, is_proved):
-        self.is_proved, self.unchanged = is_proved, []
+        self.is_proved, self.checked, self.unchanged = is_proved, [], set()
         self.top, self.tally = tempfile.mkdtemp(), Tally("a_crate")
 
-    def try_together(self, edits):
+    def try_together(self, edits, sample=()):
         for it in edits:
             self.tally.rejected(it, "returns")
         return []
 
     def check(self, texts, edits):
-        self.unchanged.append(sorted(it.label for it in edits))
+        self.checked.append(sorted(it.label for it in edits))
         self.tally.checks += 1
         return types.SimpleNamespace(is_proved=self.is_proved,
                                      is_proved_line=lambda it: it != "a_crate::f1")
@@ -48,19 +48,52 @@ class Unchanged(unittest.TestCase):
     def test_all_functions_of_a_short_lane(self):
         lane = Planted(True)
         tally = tried(lane, 3)
-        self.assertEqual(lane.unchanged, [["f0", "f1", "f2"]])
+        self.assertEqual(lane.checked, [["f0", "f1", "f2"]])
         self.assertEqual((tally.passes, tally.failures, len(tally.seen)), (3, 0, 3))
 
     def test_a_draw_of_a_long_lane(self):
         lane = Planted(True)
         tally = tried(lane, 40)
-        self.assertEqual([len(it) for it in lane.unchanged], [SAMPLE])
+        self.assertEqual([len(it) for it in lane.checked], [SAMPLE])
         self.assertEqual((tally.passes, tally.failures, len(tally.seen)), (40, 0, 40))
 
     def test_not_proved_unchanged(self):
         tally = tried(Planted(False), 3)
         self.assertEqual((tally.failures, tally.seen), (1, []))
         self.assertTrue(tally.lines[-1].endswith("after the mutants: a_crate::f1"))
+
+
+class Beside(unittest.TestCase):
+    """Functions that the last check of mutants proves unchanged."""
+
+    def checked(self, functions, proved=True):
+        """The edits of each check, where there is one mutant of each of these functions."""
+        lane, checks = Planted(True), []
+
+        def check(texts, named):
+            checks.append([it.label for it in named])
+            return types.SimpleNamespace(is_judged=True, is_proved=True, rejects=lambda it: "goal",
+                                         is_proved_line=lambda it: proved)
+
+        lane.check, lane.folder = check, types.SimpleNamespace(read=None)
+        lane.try_together = lambda *words: Lane.try_together(lane, *words)
+        mutants = [types.SimpleNamespace(function=it, mutated=it, label=f"{it}{at}",
+                                         is_control=False, is_outside=False, is_constant=False,
+                                         applied=lambda read: {}, kind=lambda: (False, False))
+                   for at, it in enumerate(functions)]
+        lane.try_all(mutants, random.Random(1))
+        return [sorted(it) for it in checks]
+
+    def test_no_further_check(self):
+        self.assertEqual(self.checked("fgf"), [["f0", "g1"], ["f2", "g1"], ["f0", "f2"]])
+        self.assertEqual(self.checked("fgfg"),
+                         [["f0", "g1"], ["f2", "g3"], ["f0", "f2", "g1", "g3"]])
+
+    def test_one_check_of_mutants(self):
+        self.assertEqual(self.checked("fg"), [["f0", "g1"], ["f0", "g1"]])
+
+    def test_those_that_are_not_proved_there(self):
+        self.assertEqual(self.checked("fgf", False)[-1], ["f0", "f2", "g1"])
 
 
 class Alone(unittest.TestCase):

@@ -153,6 +153,47 @@ class Seen(unittest.TestCase):
 
     def test_contract_of_a_library(self):
         self.change("crates/low/src/lib.rt", "result ≡ 2 * n", "result ≡ n + n")
+        self.assertEqual(self.tried(), ["four", "twice"])
+
+    def test_contract_that_no_other_names(self):
+        self.change("crates/low/src/lib.rt", "result ≡ n }", "result ≡ 0 + n }")
+        self.assertEqual(self.tried(), ["once"])
+
+    def named_outside(self, path, text):
+        """What is tried where a contract changes that this text outside of functions may name."""
+        self.put(path, text)
+        self.commit()
+        seen.write_seen()
+        self.change("crates/low/src/lib.rt", "result ≡ n }", "result ≡ 0 + n }")
+        return self.tried()
+
+    def test_contract_of_a_function_that_a_macro_calls(self):
+        macro = "macro_rules! all {\n    ($n:expr) => {\n        once($n)\n    };\n}\n"
+        self.assertEqual(self.named_outside("crates/low/src/all.rt", macro),
+                         ["four", "once", "twice"])
+
+    def test_contract_that_a_definition_imports(self):
+        import_it = "use Rattle.low.specs.contracts.once.{ensures}\n"
+        self.assertEqual(self.named_outside("crates/high/specs/One.antt", import_it),
+                         ["four", "once"])
+
+    def test_imports_and_clauses_call_nothing(self):
+        text = "use low::once;\n\npub trait Once {\n    fn of(n: u8) -> u8\n"
+        text += "        ensures { result ≡ once n };\n}\n"
+        self.assertEqual(self.named_outside("crates/high/src/once.rt", text), ["once"])
+        self.change("crates/high/src/once.rt", "low::once;", "low::once as first;")
+        self.commit()
+        seen.write_seen()
+        self.change("crates/low/src/lib.rt", "result ≡ 0 + n }", "result ≡ n }")
+        self.assertEqual(self.tried(), ["four", "once"])
+
+    def test_contract_of_an_impl(self):
+        # (it may be called without being named)
+        text = "impl Drop for One {\n    fn drop(&mut self)\n        ensures { tt }\n    {\n"
+        self.put("crates/low/src/one.rt", text + "    }\n}\n")
+        self.commit()
+        seen.write_seen()
+        self.change("crates/low/src/one.rt", "ensures { tt }", "ensures { self.new ≡ self.old }")
         self.assertEqual(self.tried(), ["four", "once", "twice"])
 
     def test_definition(self):

@@ -7,7 +7,7 @@
 /// Parses a payload.
 macro_rules! read {
     (list($variant:path, $nla:ty, $ctx:expr) ($payload:expr, $count:expr)) => {
-        $variant(crate::layers::data::written::read_nlas(
+        $variant(crate::layers::data::lists::read_nlas(
             $payload, $ctx, $count,
         )?)
     };

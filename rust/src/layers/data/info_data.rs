@@ -1,8 +1,8 @@
 //! The data of a link: `IFLA_INFO_DATA`, include/uapi/linux/if_link.h.
 
 use crate::layers::data::data::family_of;
+use crate::layers::data::lists::{list_fit_len, one_fit_len, write_list, write_one};
 use crate::layers::data::payload_family::PayloadFamily;
-use crate::layers::data::written::{list_fit_len, one_fit_len, write_list, write_one};
 use crate::layers::devices::{
     InfoIpVlan, InfoIpVtap, InfoIpoib, InfoMacSec, InfoMacVlan, InfoMacVtap, InfoRmNet, InfoVrf,
     InfoXfrm,

@@ -1,8 +1,8 @@
 //! Data of bridge, vlan, bond, hsr, can and dsa links.
 
 use crate::layers::data::info_data::InfoDataOf;
+use crate::layers::data::lists::read_nlas;
 use crate::layers::data::payload_family::PayloadFamily;
-use crate::layers::data::written::read_nlas;
 use crate::layers::nla_frame::{DecodeError, ExactEq, Family, HeaderCount};
 use crate::layers::table::lower::InfoBridge;
 use crate::layers::table::{

@@ -7,13 +7,13 @@ mod devices;
 mod difference;
 mod families;
 mod info_data;
+mod lists;
 mod lower;
 mod payload_family;
 mod peers;
 mod port_data;
 mod tunnels;
 mod unmet;
-mod written;
 
 pub use data::{DataFamily, family_of};
 pub use devices::DeviceFamily;

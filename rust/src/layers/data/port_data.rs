@@ -1,8 +1,8 @@
 //! The data of a port: `IFLA_INFO_SLAVE_DATA`, include/uapi/linux/if_link.h.
 
 use crate::layers::data::calls::{canonical_len, check, read, same, write_canonical};
+use crate::layers::data::lists::{list_fit_len, write_list};
 use crate::layers::data::payload_family::PayloadFamily;
-use crate::layers::data::written::{list_fit_len, write_list};
 use crate::layers::devices::InfoVrfPort;
 use crate::layers::nla_frame::{
     Bytes, DecodeError, ExactEq, Family, HeaderCount, Nla, Nlas, fitting, write_bytes,

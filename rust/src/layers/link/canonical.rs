@@ -2,7 +2,7 @@
 
 use crate::compat::AllocError;
 use crate::compat::TryVec;
-use crate::layers::link::canonicalize::{canonical_len_of, write_canonical_of};
+use crate::layers::link::canonical_into::{canonical_len_of, write_canonical_of};
 use crate::layers::nla_frame::{Bytes, DecodeError, ExactEq};
 use crate::layers::table::LinkPeer;
 use alloc::vec::Vec;

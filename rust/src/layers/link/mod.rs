@@ -5,7 +5,7 @@
 //! attributes; and custom families, peers and flag sets.
 
 mod canonical;
-mod canonicalize;
+mod canonical_into;
 mod collection;
 mod difference;
 mod item;
@@ -30,7 +30,7 @@ pub use crate::layers::numbers::{
     InfoKind, InfoPortKind, KindTag, PortTag, port_tag_of_name, tag_of_name,
 };
 pub use canonical::{CanonError, canon, canon_of};
-pub use canonicalize::{CanonIntoError, canon_into, canon_into_of};
+pub use canonical_into::{CanonIntoError, canon_into, canon_into_of};
 pub use difference::{first_difference, first_difference_of};
 pub use link_info::{LinkInfo, LinkInfoOf};
 pub use list::{

@@ -1,7 +1,7 @@
 use Rattle.std.proofs.Common.{◌∙◌, ◌++◌, ap, arith, drop, sym, ℕ}
 use Rattle.nla_frame.specs.Attribute.{canonical_string}
 use Rattle.nla_frame.proofs.Emitting.{length-canonical_string}
-use Rattle.linkinfo_data.proofs.written.write_one.Goals as goal
+use Rattle.linkinfo_data.proofs.lists.write_one.Goals as goal
 
 pub write_attribute-requires-clause-room : goal.write_attribute-requires-clause-room
 write_attribute-requires-clause-room g c = omega (

@@ -1,15 +1,14 @@
-use Rattle.std.proofs.Common.{length}
+use Rattle.std.proofs.Common.{◌≡◌, ◌+◌, ◌<◌, ◌^◌, length}
 use Rattle.std.specs.Prelude.{IsOk}
 use Rattle.std.specs.List.{AllByRecursion}
 use Rattle.nla_frame.specs.Attribute.{Fits, list_string}
 use Rattle.nla_frame.specs.Canonical.{attributes_for}
 use Rattle.nla_frame.specs.NlaItems.{nla_items}
-use Rattle.nla_frame.proofs.Emitting.{Written}
 use Rattle.linkinfo_data.specs.PeerFamilies.{families_of}
 use Rattle.linkinfo.specs.Items.{link_attribute}
 use Rattle.linkinfo.specs.Strings.{values_from}
 use Rattle.linkinfo.specs.Walks.{left}
-use Rattle.linkinfo.proofs.canonicalize.write_rest.Given as goal
+use Rattle.linkinfo.proofs.canonical_into.rest_canonical_len.Given as goal
 
 abbrev pub invariant-loop-next : goal.invariant-loop-next
 invariant-loop-next g l =
@@ -22,8 +21,10 @@ invariant-loop-next g l =
     (values_from peer l.walk.kinds (nla_items (left l.walk))) in
     record {
       accepted : IsOk (values_from peer l.walk.kinds (nla_items (left l.walk)));
-      each : AllByRecursion Fits now;
-      so_far : Written (list_string all) (list_string now) l.place l.fn.buffer l.buffer;
+      small : l.total < 2 ^ 64;
+      so_far : l.total + length (list_string now) ≡ length (list_string all);
+      each : AllByRecursion Fits now → AllByRecursion Fits all;
+      needed : AllByRecursion Fits all → AllByRecursion Fits now;
     }
 
 abbrev pub decreases-loop-next : goal.decreases-loop-next

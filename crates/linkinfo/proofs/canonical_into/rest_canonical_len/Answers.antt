@@ -4,7 +4,7 @@ use Rattle.nla_frame.specs.Attribute.{Attribute, Fits, ListFits}
 use Rattle.linkinfo_data.specs.PeerFamilies.{families_of}
 use Rattle.linkinfo.specs.Items.{written_attribute}
 use Rattle.linkinfo.proofs.Writing.{left_of, measured_more, walk_goes_on, walk_writes}
-use Rattle.linkinfo.proofs.canonicalize.rest_canonical_len.Goals as goal
+use Rattle.linkinfo.proofs.canonical_into.rest_canonical_len.Goals as goal
 
 pub unwrap-nla-requires : goal.unwrap-nla-requires
 unwrap-nla-requires g c =

@@ -12,7 +12,7 @@ use Rattle.linkinfo.proofs.Writing.{
   walk_writes,
   write_item,
 }
-use Rattle.linkinfo.proofs.canonicalize.write_rest.Goals as goal
+use Rattle.linkinfo.proofs.canonical_into.write_rest.Goals as goal
 
 pub unwrap-nla-requires : goal.unwrap-nla-requires
 unwrap-nla-requires g c =

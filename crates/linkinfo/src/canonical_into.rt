@@ -88,7 +88,7 @@ impl ExactEq for CanonIntoError {
     ghost use Rattle.nla_frame.specs.contracts.exact_eq.DecodeErrorExactEq.TheImpl.Laws.{
       exact-law as error_exact,
     };
-    ghost use Rattle.linkinfo.specs.contracts.canonicalize.CanonIntoError.{enum};
+    ghost use Rattle.linkinfo.specs.contracts.canonical_into.CanonIntoError.{enum};
 
     ghost exact = { derived_decides enum _ (
       one_field error_exact,
