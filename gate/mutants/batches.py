@@ -71,12 +71,13 @@ class Lane:
         # Right after `rt ci` the copy has no kept work: only the edits' functions are checked.
         self.by_function, self.tally, self.unchanged = bool(stamps), Tally(crate), set()
 
-    def check(self, texts, edits):
-        """Checks with these texts: the crate, or only the functions that must reject these edits. A
-        check cannot be limited to an impl."""
+    def check(self, texts, edits, stubs=True):
+        """Checks with these texts: the crate, or only the functions that must reject these edits.
+        They get a stub each. A check cannot be limited to an impl."""
         names = [it.function for it in edits]
         is_limited = self.by_function and not any(names_impl(it) for it in edits)
-        said = check(self.folder, texts, names if is_limited else ())
+        stubbed = {it.function for it in edits if stubs and takes_stub(it)}
+        said = check(self.folder, texts, names if is_limited else (), stubbed)
         self.tally.checks += 1
         self.tally.seconds += said.seconds
         return said
@@ -97,7 +98,7 @@ class Lane:
                     alone += self.try_together(part)
                 alone += [] if half else batch
                 continue
-            proved = {it.function for it in beside if said.is_proved_line(it.function)}
+            proved = {it.function for it in beside if said.has_no_open_goal(it.function)}
             self.unchanged |= proved
             for edit in batch:
                 what = said.rejects(edit)
@@ -109,7 +110,7 @@ class Lane:
 
     def try_alone(self, edit):
         """Tries one edit in a separate check, which decides whether it is rejected."""
-        said, tally = self.check(edit.applied(self.folder.read), [edit]), self.tally
+        said, tally = self.check(edit.applied(self.folder.read), [edit], False), self.tally
         if not said.is_judged:
             told = " ".join(said.lines[:3])[:300]
             tally.failed(edit, f"it does not compile, or the check did not end: {told}")
@@ -139,8 +140,8 @@ class Lane:
                 self.try_alone(edit)
         left = [it for it in sample if it.function not in self.unchanged]
         said = self.check({}, left) if left or not sample else None
-        if said and not said.is_proved:
-            names = sorted({it.function for it in left if not said.is_proved_line(it.function)})
+        names = sorted({it.function for it in left if not said.has_no_open_goal(it.function)})
+        if names or said and not left and not said.is_proved:
             told = f"not proved unchanged after the mutants: {', '.join(names) or 'the crate'}"
             self.tally.say(self.tally.crate, told, False)
             self.tally.seen = []
@@ -151,3 +152,8 @@ class Lane:
 def names_impl(edit):
     """Whether the edit's line `fn:` names an impl: it ends with the names of a type and a trait."""
     return edit.is_outside and edit.function.split("::")[-1][:1].isupper()
+
+
+def takes_stub(edit):
+    """Whether the edit's line `fn:` names a function, and that shares its proof with no other."""
+    return not edit.is_recursive and not edit.function.split("::")[-1][:1].isupper()

@@ -15,6 +15,8 @@ PROMISED = re.compile(r"returns(-|$)|loop-([\w-]+-)?(init|preserved|smaller)(-|$
 # such an error. They say nothing of the contract.
 LOST = re.compile(r"has no field|is not in scope|has no `|cannot be named from here")
 AFTER_LOST = re.compile(r"was not admitted|was not checked")
+# The goal of a stub (`rooms`), which no function has.
+UNASKED = "unasked"
 # The last line of a check, of a whole crate or of some functions.
 PROVED = re.compile(r"^logic=proved|^only=(\d+) proved=\1$", re.M)
 NOT_PROVED = re.compile(r"^logic=not-proved|^only=\d+ proved=", re.M)
@@ -37,10 +39,11 @@ def goal_of_error(error):
 
 
 class Report:
-    """What a check printed."""
+    """What a check printed. The functions in `stubbed` had a stub, whose error says nothing of
+    them."""
 
-    def __init__(self, text, status, seconds=0.0):
-        self.lines, self.seconds = text.split("\n"), seconds
+    def __init__(self, text, status, seconds=0.0, stubbed=()):
+        self.lines, self.seconds, self.stubbed = text.split("\n"), seconds, {*stubbed}
         # (a check of a crate that does not compile, or one that was stopped, has no such last line)
         self.is_proved = status == 0 and bool(PROVED.search(text))
         self.is_judged = self.is_proved or status == 1 and bool(NOT_PROVED.search(text))
@@ -52,6 +55,14 @@ class Report:
 
     def is_proved_line(self, function):
         return bool(re.match(r"\w+ \S+: proved\b", self.line_of(function)))
+
+    def has_no_open_goal(self, function):
+        """Whether the function is proved, or would be but for the error of its stub."""
+        line = self.line_of(function)
+        if function not in self.stubbed:
+            return self.is_proved_line(function)
+        is_open = self.errors_of(function) or any(map(NOTE.match, self.before(line)))
+        return bool(line) and not is_open
 
     def rejects(self, edit):
         """The line which shows that a goal that the edit's function promises is not proved, or
@@ -109,7 +120,7 @@ class Report:
         shared = "/".join([*inside, rf"\+\w+/\S+: error: `(invariant-|decreases-)?{name}[-`]"])
         mine = re.compile(rf"(\./)?proofs/({own}|{shared})")
         return [" ".join([it, *self.after(at)]) for at, it in enumerate(self.lines)
-                if mine.match(it)]
+                if mine.match(it) and goal_of_error(it) != UNASKED]
 
     def after(self, at):
         """The lines that continue the message of a line: those below it that are indented."""

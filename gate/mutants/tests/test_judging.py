@@ -8,9 +8,9 @@ from mutants.judging import Report, is_promised
 OUTPUTS = os.path.join(os.path.dirname(os.path.realpath(__file__)), "outputs")
 
 
-def report(name, status=1):
+def report(name, status=1, stubbed=()):
     with open(f"{OUTPUTS}/{name}.txt", encoding="utf-8") as it:
-        return Report(it.read(), status)
+        return Report(it.read(), status, stubbed=stubbed)
 
 
 def edit(function, **flags):
@@ -40,6 +40,20 @@ class Judging(unittest.TestCase):
         self.assertTrue(told.is_judged and told.is_proved)
         self.assertEqual(told.rejects(self.length), "")
         self.assertEqual(told.kinds_of(self.length), {"still proved"})
+
+    def test_functions_with_a_stub(self):
+        function = edit("nla_frame::emitters::emit_u16")
+        mutant, right = [report(f"stubbed_{it}", stubbed=[function.function])
+                         for it in ("mutant", "right")]
+        for it in (mutant, right):
+            self.assertTrue(it.is_judged and not it.is_proved)
+        self.assertIn("(`returns`)", mutant.rejects(function))
+        self.assertEqual(right.rejects(function), "")
+        self.assertFalse(mutant.has_no_open_goal(function.function))
+        self.assertTrue(right.has_no_open_goal(function.function))
+        # (nothing is said of a function without a line)
+        self.assertFalse(right.has_no_open_goal("nla_frame::emitters::emit_u32"))
+        self.assertFalse(report("stubbed_right").has_no_open_goal(function.function))
 
     def test_index_out_of_range_is_no_refusal(self):
         told = report("only_a_panic")

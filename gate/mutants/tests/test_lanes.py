@@ -2,14 +2,16 @@
 and what is concluded of all lanes."""
 import contextlib
 import io
+import os
 import random
 import tempfile
 import types
 import unittest
 from unittest import mock
 
-from mutants import main, seen
-from mutants.batches import SAMPLE, Lane, batch_of
+from mutants import main, rooms, seen
+from mutants.batches import SAMPLE, Lane, batch_of, takes_stub
+from mutants.crates import Folder, write
 from mutants.judging import Report
 from mutants.tally import Tally
 
@@ -26,11 +28,12 @@ class Planted(Lane):
             self.tally.rejected(it, "returns")
         return []
 
-    def check(self, texts, edits):
+    def check(self, texts, edits, stubs=True):
         self.checked.append(sorted(it.label for it in edits))
         self.tally.checks += 1
         return types.SimpleNamespace(is_proved=self.is_proved,
-                                     is_proved_line=lambda it: it != "a_crate::f1")
+                                     has_no_open_goal=lambda it: (self.is_proved
+                                                                  or it != "a_crate::f1"))
 
 
 def edits(number):
@@ -73,7 +76,7 @@ class Beside(unittest.TestCase):
         def check(texts, named):
             checks.append([it.label for it in named])
             return types.SimpleNamespace(is_judged=True, is_proved=True, rejects=lambda it: "goal",
-                                         is_proved_line=lambda it: proved)
+                                         has_no_open_goal=lambda it: proved)
 
         lane.check, lane.folder = check, types.SimpleNamespace(read=None)
         lane.try_together = lambda *words: Lane.try_together(lane, *words)
@@ -101,7 +104,7 @@ class Alone(unittest.TestCase):
 
     def tried(self, printed, status, **edit):
         lane = Planted(True)
-        lane.check = lambda texts, edits: Report(printed, status)
+        lane.check = lambda texts, edits, stubs: Report(printed, status)
         lane.folder = types.SimpleNamespace(read=None)
         given = {"function": "a_crate::f", "label": "a_crate/wrong/f.edit", "is_control": False,
                  "moves_steps": False, "is_outside": False, "is_constant": False,
@@ -132,6 +135,51 @@ class Alone(unittest.TestCase):
 
     def test_a_check_without_a_verdict(self):
         self.assertIn("does not compile", self.tried("error: no such name", 1)[2])
+
+
+class Stubs(unittest.TestCase):
+    """The stub in the proof file of a function whose mutant is checked."""
+
+    def test_which_functions_take_one(self):
+        def takes(function, is_recursive=False):
+            return takes_stub(types.SimpleNamespace(function=function, is_recursive=is_recursive))
+
+        self.assertTrue(takes("a_crate::m::g"))
+        self.assertFalse(takes("a_crate::m::g", is_recursive=True))
+        # (these are a constant and an impl)
+        self.assertFalse(takes("a_crate::m::TypeTrait::FAMILY"))
+        self.assertFalse(takes("a_crate::m::TypeTrait"))
+
+    def test_written_for_the_check_alone(self):
+        begin = "use Rattle.a_crate.proofs.m.g.Goals as goal\n"
+        self.assertEqual(self.seen("m::g", None), begin + rooms.STUB)
+
+    def test_after_the_answers_that_are_there(self):
+        self.assertEqual(self.seen("m::g", "answers\n"), "answers\n" + rooms.STUB)
+
+    def seen(self, name, own):
+        """What a check of a mutant reads as the proof file of its function, of which this is the
+        text."""
+        path = f"proofs/{name.replace('::', '/')}/Answers.antt"
+        seen = {}
+
+        def run(top, words, stubbed):
+            seen.update({it: folder.read(it) for it in ("src/m.rt", path)})
+            return words
+
+        with tempfile.TemporaryDirectory() as top, mock.patch.object(rooms, "run", run):
+            folder = Folder(top)
+            for it, text in {"src/m.rt": "right", path: own}.items():
+                os.makedirs(os.path.dirname(f"{top}/{it}"))
+                if text:
+                    write(f"{top}/{it}", text)
+            words = rooms.check(folder, {"src/m.rt": "wrong"}, [f"a_crate::{name}"],
+                                [f"a_crate::{name}"])
+            self.assertEqual(words, ["--only", name])
+            self.assertEqual(seen["src/m.rt"], "wrong")
+            self.assertEqual(folder.read("src/m.rt"), "right")
+            self.assertEqual(folder.has(path) and folder.read(path), own or False)
+        return seen[path]
 
 
 class Together(unittest.TestCase):
