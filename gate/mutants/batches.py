@@ -131,7 +131,7 @@ class Lane:
 
     def try_all(self, edits, draw):
         """Tries all edits, and proves a drawn sample of their functions unchanged over the same
-        kept work: those that no check of mutants has proved in a last check."""
+        kept work: those that no check of mutants has proved in a last check, without stubs."""
         sample = [it for it in edits if not names_impl(it)]
         sample = draw.sample(sample, min(SAMPLE, len(sample)))
         for number, kind in enumerate(sorted({it.kind() for it in edits})):
@@ -139,9 +139,9 @@ class Lane:
             for edit in self.try_together([it for it in edits if it.kind() == kind], beside):
                 self.try_alone(edit)
         left = [it for it in sample if it.function not in self.unchanged]
-        said = self.check({}, left) if left or not sample else None
-        names = sorted({it.function for it in left if not said.has_no_open_goal(it.function)})
-        if names or said and not left and not said.is_proved:
+        said = self.check({}, left, False) if left or not sample else None
+        if said and not said.is_proved:
+            names = sorted({it.function for it in left if not said.is_proved_line(it.function)})
             told = f"not proved unchanged after the mutants: {', '.join(names) or 'the crate'}"
             self.tally.say(self.tally.crate, told, False)
             self.tally.seen = []

@@ -90,8 +90,9 @@ class Edit:
             old, new = [it[slice(*body)] for it, body in bodies]
             self.moves_steps |= steps.are_moved(old, new)
             self.has_loop |= bool(re.search(r"\b(for|while|loop)\b", new))
+            self.is_recursive |= sources.is_in_cycle(self.crate, path, text, self.function)
         self.moves_steps &= steps.names_steps(self.function, folder)
-        self.is_recursive = bool(steps.shared_proof(self.function, folder)[0])
+        self.is_recursive |= bool(steps.shared_proof(self.function, folder)[0])
 
     def span(self, path, text, old):
         """Where the body, the constant or the text of the file starts and ends in which the old

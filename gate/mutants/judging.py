@@ -61,8 +61,14 @@ class Report:
         line = self.line_of(function)
         if function not in self.stubbed:
             return self.is_proved_line(function)
-        is_open = self.errors_of(function) or any(map(NOTE.match, self.before(line)))
-        return bool(line) and not is_open
+        is_searched = line == f"fn {function}: not proved" and self.has_stub_error(function)
+        is_open = self.errors_of(function) or line and any(map(NOTE.match, self.before(line)))
+        return is_searched and not is_open
+
+    def has_stub_error(self, function):
+        """Whether the check has read the stub of the function."""
+        own = "/".join(["proofs", *function.split("::")[1:], "Answers.antt"])
+        return any(f"{own}:" in it and goal_of_error(it) == UNASKED for it in self.lines)
 
     def rejects(self, edit):
         """The line which shows that a goal that the edit's function promises is not proved, or

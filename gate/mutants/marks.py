@@ -36,11 +36,11 @@ class Marks:
         beside = self.files(edit.crate, "/".join(["proofs", *edit.function.split("::")[1:-1]]))
         shown = {edit.function, edit.mutated}
         libraries = below(self.crates, edit.crate)
-        # (of a file of the body's, the words of its other parts are among those of the crate)
         own = [(it, text) for it, text in self.parts_of(edit.crate, shown, beside)
                if (it, text) not in self.base(edit.crate)[0]]
-        named = set().union({*re.findall(r"\w+", edit.text)}, *(names_in(*it) for it in own),
-                            *(self.base(it)[1] for it in [edit.crate, *libraries]))
+        words = re.findall(r"\w+", " ".join([edit.text, *self.bodies(edit.crate, shown)]))
+        named = {*words}.union(*(names_in(*it) for it in own),
+                               *(self.base(it)[1] for it in [edit.crate, *libraries]))
         parts = [self.judge(), edit.label, edit.text, self.library(edit.crate)]
         parts += [text for it in own for text in it] + [self.library(it) for it in libraries]
         parts += [text for it in [edit.crate, *libraries] for name, path, head in self.heads(it)
@@ -55,6 +55,13 @@ class Marks:
         """That text, by files, and the words of it that may name functions."""
         parts = self.parts_of(name, set(), ())
         return parts, frozenset().union(*(names_in(*it) for it in parts))
+
+    def bodies(self, name, shown):
+        """The bodies of these functions of a crate."""
+        texts = [(it, self.read(name, it)) for it in self.files(name, "src")]
+        return [text[start:end] for path, text in texts
+                for it, start, end, _, _ in bodies_of(name, path, text)
+                if any(may_be(it, function) for function in shown)]
 
     def heads(self, name):
         """The heads of the functions of a crate that are reached by their names alone."""

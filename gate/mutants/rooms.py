@@ -1,4 +1,5 @@
 """Copies of crates in which mutants are checked, and the libraries that `rt ci` has built."""
+import contextlib
 import importlib.machinery
 import importlib.util
 import os
@@ -13,7 +14,7 @@ from .judging import UNASKED, Report
 
 # A stub: the answer to a goal that no function has, in the proof file of a function. A check
 # searches the goals of the function, and reads its other answers, as it does without one. But where
-# a goal stays open it does not go on to print a file to begin the proof with, which takes a sixth
+# a goal stays open it does not go on to print a file to begin the proof with, which takes a tenth
 # of its time, and half of it for some.
 STUB = f"""
 pub {UNASKED} : goal.{UNASKED}
@@ -34,9 +35,12 @@ def check(folder, texts, only=(), stubbed=()):
         return run(folder.top, words, stubbed)
     finally:
         for path in changed:
-            os.remove(f"{folder.top}/{path}")
-        for path, text in own.items():
-            write(f"{folder.top}/{path}", text)
+            if path in own:
+                write(f"{folder.top}/{path}", own[path])
+            elif folder.has(path):
+                os.remove(f"{folder.top}/{path}")
+                with contextlib.suppress(OSError):
+                    os.removedirs(os.path.dirname(f"{folder.top}/{path}"))
 
 
 def stub_path(function):

@@ -9,13 +9,13 @@ import re
 FUNCTION = re.compile(
     r'\s*(?:pub(?:\([^)]*\))? )?(const )?(?:unsafe )?(?:extern "C" )?fn (\w+)'
 )
-BLOCK = re.compile(r"\s*(pub )?(unsafe )?(impl|trait)\b")
+BLOCK = re.compile(r"\s*(pub(\([^)]*\))? )?(unsafe )?(impl|trait)\b")
 CONSTANT = re.compile(
     r"^ *(?:pub(?:\([^)]*\))? )?(?:const \w+: |type \w+ = )[^;]*;$", re.M | re.S
 )
 USED = re.compile(r"\buse [^{;\n]*(?:\{[^}]*\})?")
 IMPORT = re.compile(r"^ *(?:pub(?:\([^)]*\))? )?use [^;]*;\n", re.M)
-CALLED = re.compile(r"(?:(?<=\.)|(?<=::)|(?<!fn )(?=\w+\())\b(\w+)")
+CALLED = re.compile(r"(?:(?<=\.)|(?<=::)|(?<!fn )(?=\w+(?:\(|::<)))\b(\w+)")
 CLAUSE = re.compile(r"^ *(?:requires|ensures|ghost(?! use)|measure)\b[^{;\n]*\{", re.M)
 MACRO = re.compile(r"^( *)(?:pub(?:\([^)]*\))? )?macro_rules! .*?^\1\}", re.M | re.S)
 UNSEEN = re.compile(r"^\s*(//.*|#\[inline(\(\w+\))?\])\n", re.M)
@@ -42,7 +42,7 @@ def closing(text, at):
 def block_name(header):
     """The name of an impl or a trait in the paths of its functions: `impl From<u32> for AmtMode`
     is AmtModeFromU32, and `impl<P> From<Vec<Of<P>>> for List<P>` is ListFrom."""
-    header = re.sub(r"^(\s*(pub )?(unsafe )?)", "", header)
+    header = re.sub(r"^(\s*(pub(\([^)]*\))? )?(unsafe )?)", "", header)
     if header.startswith("trait"):
         return re.match(r"trait (\w+)", header)[1]
     header = re.sub(r"^impl\s*", "", header)
@@ -90,18 +90,25 @@ def body_of(crate, path, text, function):
     return next((it[1:3] for it in named or bodies if may_be(it[0], function)), (0, 0))
 
 
+def is_in_cycle(crate, path, text, function):
+    """Whether the function is in this file, below an attribute that names a cycle of calls."""
+    start = body_of(crate, path, text, function)[0]
+    head = text.rfind(f"fn {function.split('::')[-1]}", 0, start)
+    return head >= 0 and "#[cycle(" in text[:head].rpartition("\n\n")[2]
+
+
 def body_span(lines, number, at, indent):
     """Where the body of the function whose first line this is starts and ends in the text, or None
     where the function has no body."""
     start, depth = None, 0
     for line in lines[number:]:
-        opens = line.endswith(" {") and not is_clause(line, indent)
+        # (within a clause, a record opens a brace too, and its fields end with a semicolon)
+        depth += len(re.findall(r"[({\[]", line)) - len(re.findall(r"[)}\]]", line))
+        opens = line.endswith(" {") and depth == 1 and not is_clause(line, indent)
         if start is None and (line == indent + "{" or opens):
             start = at + len(line)
         if line == indent + "}" and start is not None:
             return start, at
-        # (within a clause, the fields of a record end with a semicolon too)
-        depth += len(re.findall(r"[({\[]", line)) - len(re.findall(r"[)}\]]", line))
         if start is None and depth == 0 and line.endswith(("{}", ";")):
             return None
         at += len(line) + 1
@@ -149,7 +156,7 @@ def names_in(path, text):
         return {*re.findall(r"\w+", " ".join(USED.findall(text)))}
     text = without_clauses(IMPORT.sub(lambda it: it[0] if " as " in it[0] else "", text))
     whole = [it[0] for kind in (MACRO, CONSTANT) for it in kind.finditer(text)]
-    whole += [it for it in text.split("\n") if "ghost use" in it]
+    whole += re.findall(r"\bghost use [^;]*;", text)
     return {*CALLED.findall(text), *re.findall(r"\w+", " ".join(whole))}
 
 

@@ -5,7 +5,7 @@ import unittest
 
 from mutants.crates import BadEdit
 from mutants.edits import Edit
-from mutants.sources import block_name, bodies_of, body_of, heads_of, visible
+from mutants.sources import block_name, bodies_of, body_of, heads_of, is_in_cycle, visible
 from mutants.steps import are_moved
 
 SOURCE = """//! A module.
@@ -75,6 +75,18 @@ class Edits(unittest.TestCase):
         found = bodies_of("one", "src/lib.rt", source)
         self.assertEqual([(it[0], source[it[1]:it[2]].strip()) for it in found],
                          [("one::f", "two(n)"), ("one::T::h", "f(n)")])
+
+    def test_body_after_a_clause_that_ends_with_a_brace(self):
+        source = "fn f(n: u8) -> Two\n    ensures two { result\n      ≡ record {\n        a = n;\n"
+        source += "      } }\n{\n    two(n)\n}\n"
+        found = bodies_of("one", "src/lib.rt", source)
+        self.assertEqual([source[it[1]:it[2]].strip() for it in found], ["two(n)"])
+
+    def test_functions_of_a_cycle(self):
+        source = "/// Even.\n#[cycle(parity)]\nfn even(n: u8) -> bool {\n    odd(n)\n}\n\n"
+        source += "fn other(n: u8) -> bool {\n    even(n)\n}\n"
+        for name, is_in in (("one::even", True), ("one::other", False), ("one::none", False)):
+            self.assertEqual(is_in_cycle("one", "src/lib.rt", source, name), is_in)
 
     def test_methods_of_a_type_of_another_module(self):
         for name, body in ((NEXT, "self.n + 1"), ("one::other::Count::next", "self.n + 1"),

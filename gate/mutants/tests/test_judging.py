@@ -54,6 +54,27 @@ class Judging(unittest.TestCase):
         # (nothing is said of a function without a line)
         self.assertFalse(right.has_no_open_goal("nla_frame::emitters::emit_u32"))
         self.assertFalse(report("stubbed_right").has_no_open_goal(function.function))
+        # (nor where its stub was not read, or its goals were not searched)
+        with open(f"{OUTPUTS}/stubbed_right.txt", encoding="utf-8") as it:
+            text = it.read()
+        calls = ": no proof: it calls `g`, which is not proved"
+        for old, new in ((": error: `unasked`: ", ": "), (": not proved", calls)):
+            self.assertIn(old, text)
+            other = Report(text.replace(old, new), 1, stubbed=[function.function])
+            self.assertFalse(other.has_no_open_goal(function.function))
+
+    def test_a_stub_after_explicit_answers(self):
+        step = edit("nla_frame::iterator::NlasIteratorIterator::next")
+        lost = edit("linkinfo_table::list::list_check", has_loop=True)
+        moved = edit("linkinfo_table::rows::row_store", moves_steps=True)
+        told = report("stubbed_answers", stubbed=[step.function])
+        self.assertRegex(told.rejects(step), r"error: `returns")
+        # (correct bodies, whose answers do not fit any more)
+        for name, it in (("stubbed_names_lost", lost), ("stubbed_steps_moved", moved)):
+            told = report(name, stubbed=[it.function])
+            self.assertTrue(told.has_stub_error(it.function))
+            self.assertEqual(told.rejects(it), "")
+            self.assertFalse(told.has_no_open_goal(it.function))
 
     def test_index_out_of_range_is_no_refusal(self):
         told = report("only_a_panic")

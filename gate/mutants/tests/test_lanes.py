@@ -32,8 +32,7 @@ class Planted(Lane):
         self.checked.append(sorted(it.label for it in edits))
         self.tally.checks += 1
         return types.SimpleNamespace(is_proved=self.is_proved,
-                                     has_no_open_goal=lambda it: (self.is_proved
-                                                                  or it != "a_crate::f1"))
+                                     is_proved_line=lambda it: it != "a_crate::f1")
 
 
 def edits(number):
@@ -73,9 +72,10 @@ class Beside(unittest.TestCase):
         """The edits of each check, where there is one mutant of each of these functions."""
         lane, checks = Planted(True), []
 
-        def check(texts, named):
+        def check(texts, named, stubs=True):
             checks.append([it.label for it in named])
             return types.SimpleNamespace(is_judged=True, is_proved=True, rejects=lambda it: "goal",
+                                         is_proved_line=lambda it: True,
                                          has_no_open_goal=lambda it: proved)
 
         lane.check, lane.folder = check, types.SimpleNamespace(read=None)
@@ -153,13 +153,14 @@ class Stubs(unittest.TestCase):
     def test_written_for_the_check_alone(self):
         begin = "use Rattle.a_crate.proofs.m.g.Goals as goal\n"
         self.assertEqual(self.seen("m::g", None), begin + rooms.STUB)
+        self.assertEqual(self.seen("m::g", None, "Invariants.antt"), begin + rooms.STUB)
 
     def test_after_the_answers_that_are_there(self):
         self.assertEqual(self.seen("m::g", "answers\n"), "answers\n" + rooms.STUB)
 
-    def seen(self, name, own):
+    def seen(self, name, own, *others):
         """What a check of a mutant reads as the proof file of its function, of which this is the
-        text."""
+        text, beside these other files."""
         path = f"proofs/{name.replace('::', '/')}/Answers.antt"
         seen = {}
 
@@ -169,9 +170,10 @@ class Stubs(unittest.TestCase):
 
         with tempfile.TemporaryDirectory() as top, mock.patch.object(rooms, "run", run):
             folder = Folder(top)
-            for it, text in {"src/m.rt": "right", path: own}.items():
-                os.makedirs(os.path.dirname(f"{top}/{it}"))
+            beside = {f"{os.path.dirname(path)}/{it}": "invariants" for it in others}
+            for it, text in {"src/m.rt": "right", path: own, **beside}.items():
                 if text:
+                    os.makedirs(os.path.dirname(f"{top}/{it}"), exist_ok=True)
                     write(f"{top}/{it}", text)
             words = rooms.check(folder, {"src/m.rt": "wrong"}, [f"a_crate::{name}"],
                                 [f"a_crate::{name}"])
@@ -179,6 +181,8 @@ class Stubs(unittest.TestCase):
             self.assertEqual(seen["src/m.rt"], "wrong")
             self.assertEqual(folder.read("src/m.rt"), "right")
             self.assertEqual(folder.has(path) and folder.read(path), own or False)
+            there = [it for it in (path if own else "", *beside) if it]
+            self.assertEqual(folder.files("proofs"), there)
         return seen[path]
 
 

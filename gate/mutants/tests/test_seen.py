@@ -172,6 +172,17 @@ class Seen(unittest.TestCase):
         self.assertEqual(self.named_outside("crates/low/src/all.rt", macro),
                          ["four", "once", "twice"])
 
+    def test_contracts_of_all_functions_that_a_body_names(self):
+        for body in ("once::<u8>(2) * low::twice(n)", "twice_by(once)", "low::twice(2)"):
+            self.put("crates/high/src/lib.rt", HIGH.replace("2 * low::twice(n)", body))
+            write(f"{self.root}/crates/high/wrong/lib/four.edit",
+                  f"fn: high::four_times\nfile: src/lib.rt\nold: {body}\nnew: 0\n")
+            self.commit()
+            seen.write_seen()
+            self.change("crates/low/src/lib.rt", "n: u8) -> u8", "n: u8, _m: u8) -> u8")
+            self.assertEqual(self.tried(), ["four", "once"] if "once" in body else ["once"])
+            self.change("crates/low/src/lib.rt", "n: u8, _m: u8", "n: u8")
+
     def test_contract_that_a_definition_imports(self):
         import_it = "use Rattle.low.specs.contracts.once.{ensures}\n"
         self.assertEqual(self.named_outside("crates/high/specs/One.antt", import_it),
