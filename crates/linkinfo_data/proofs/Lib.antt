@@ -1,6 +1,5 @@
-mod Arms
 pub mod Blocks
 pub mod Differences
+pub mod Labels
 pub mod Lawful
-pub mod Opaques
 pub mod Unmets

@@ -14,16 +14,16 @@ use Rattle.linkinfo_data.specs.declared.info_data.InfoDataOf.{InfoDataOf}
 use Rattle.linkinfo_data.specs.declared.info_data.InfoDataOf.TheVariants as info
 use Rattle.linkinfo_data.specs.DeviceData.{
   devices_data_of,
-  devices_listed,
+  devices_known,
   devices_nest,
   devices_nested_in,
 }
 use Rattle.linkinfo_data.specs.Families.{Families}
-use Rattle.linkinfo_data.specs.Listed.{IsNested, KeepsListing}
-use Rattle.linkinfo_data.specs.LowerData.{lower_data_of, lower_listed, lower_nest}
+use Rattle.linkinfo_data.specs.Listed.{IsKnown, IsNested, bytes_are_known}
+use Rattle.linkinfo_data.specs.LowerData.{lower_data_of, lower_known, lower_nest}
 use Rattle.linkinfo_data.specs.Payloads.{Payload, as_bytes}
-use Rattle.linkinfo_data.specs.PeerData.{peers_data_of, peers_listed, peers_nest}
-use Rattle.linkinfo_data.specs.TunnelData.{tunnels_data_of, tunnels_listed, tunnels_nest}
+use Rattle.linkinfo_data.specs.PeerData.{peers_data_of, peers_known, peers_nest}
+use Rattle.linkinfo_data.specs.TunnelData.{tunnels_data_of, tunnels_known, tunnels_nest}
 
 -- the family of a kind's data
 abbrev pub family_of : KindTag → DataFamily
@@ -76,14 +76,13 @@ data_of families (of.Tunnel f) = tunnels_data_of f
 data_of families (of.Peered f) = peers_data_of families f
 data_of families of.Raw = as_bytes (λ bytes. info.Other bytes)
 
--- a list is accepted, and is equivalent to another, attribute by attribute
-pub data_listed : {P : Type 0} (families : Families P) (f : DataFamily) →
-    KeepsListing (data_of families f)
-data_listed families (of.Lower f) = lower_listed _ f
-data_listed families (of.Device f) = devices_listed _ f
-data_listed families (of.Tunnel f) = tunnels_listed _ f
-data_listed families (of.Peered f) = peers_listed families f
-data_listed families of.Raw = tt {0}
+pub data_known : {P : Type 0} (families : Families P) (f : DataFamily) →
+    IsKnown (data_of families f)
+data_known families (of.Lower f) = lower_known _ f
+data_known families (of.Device f) = devices_known _ f
+data_known families (of.Tunnel f) = tunnels_known _ f
+data_known families (of.Peered f) = peers_known families f
+data_known families of.Raw = bytes_are_known (λ bytes. info.Other bytes)
 
 -- the attributes that hold lists, and the family of these lists
 abbrev pub as_device : ℕ × DeviceFamily → ℕ × DataFamily

@@ -12,12 +12,12 @@ use Rattle.linkinfo_data.specs.declared.info_data.InfoDataOf.TheVariants as info
 use Rattle.linkinfo_data.specs.declared.devices.DeviceFamily.{DeviceFamily}
 use Rattle.linkinfo_data.specs.declared.devices.DeviceFamily.TheVariants as of
 use Rattle.linkinfo_data.specs.Listed.{
+  IsKnown,
   IsNested,
-  KeepsListing,
-  as_list_is_listed,
-  as_lists_is_listed,
+  list_is_known,
+  lists_are_known,
+  nested_in,
 }
-use Rattle.linkinfo_data.specs.Listed.{nested_in}
 use Rattle.linkinfo_data.specs.Listing.{Lists, lists_inside}
 use Rattle.linkinfo_data.specs.Payloads.{Payload, as_list, as_lists}
 use Rattle.linkinfo_data.specs.Plain.{plain}
@@ -42,18 +42,18 @@ devices_data_of of.Xfrm = as_list plain.xfrm (λ xs. info.Xfrm xs)
 devices_data_of of.MacSec = as_list plain.mac_sec (λ xs. info.MacSec xs)
 devices_data_of of.RmNet = as_list plain.rm_net (λ xs. info.RmNet xs)
 
-pub devices_listed : (P : Type 0) (f : DeviceFamily) → KeepsListing (devices_data_of {P = P} f)
-devices_listed P of.IpVlan = as_list_is_listed plain.ip_vlan (λ xs. info.IpVlan xs)
-devices_listed P of.IpVtap = as_list_is_listed plain.ip_vtap (λ xs. info.IpVtap xs)
-devices_listed P (of.MacVlan around) =
-    as_lists_is_listed (plain.mac_vlan around) (mac_vlan_lists around) (λ xs. info.MacVlan xs)
-devices_listed P (of.MacVtap around) =
-    as_lists_is_listed (plain.mac_vtap around) (mac_vtap_lists around) (λ xs. info.MacVtap xs)
-devices_listed P of.Vrf = as_list_is_listed plain.vrf (λ xs. info.Vrf xs)
-devices_listed P of.Ipoib = as_list_is_listed plain.ipoib (λ xs. info.Ipoib xs)
-devices_listed P of.Xfrm = as_list_is_listed plain.xfrm (λ xs. info.Xfrm xs)
-devices_listed P of.MacSec = as_list_is_listed plain.mac_sec (λ xs. info.MacSec xs)
-devices_listed P of.RmNet = as_list_is_listed plain.rm_net (λ xs. info.RmNet xs)
+pub devices_known : (P : Type 0) (f : DeviceFamily) → IsKnown (devices_data_of {P = P} f)
+devices_known P of.IpVlan = list_is_known plain.ip_vlan (λ xs. info.IpVlan xs)
+devices_known P of.IpVtap = list_is_known plain.ip_vtap (λ xs. info.IpVtap xs)
+devices_known P (of.MacVlan around) =
+    lists_are_known (plain.mac_vlan around) (mac_vlan_lists around) (λ xs. info.MacVlan xs)
+devices_known P (of.MacVtap around) =
+    lists_are_known (plain.mac_vtap around) (mac_vtap_lists around) (λ xs. info.MacVtap xs)
+devices_known P of.Vrf = list_is_known plain.vrf (λ xs. info.Vrf xs)
+devices_known P of.Ipoib = list_is_known plain.ipoib (λ xs. info.Ipoib xs)
+devices_known P of.Xfrm = list_is_known plain.xfrm (λ xs. info.Xfrm xs)
+devices_known P of.MacSec = list_is_known plain.mac_sec (λ xs. info.MacSec xs)
+devices_known P of.RmNet = list_is_known plain.rm_net (λ xs. info.RmNet xs)
 
 -- attributes of type 5 of macvlan and macvtap links hold lists if fewer than 128 are around them
 abbrev pub devices_nested_in : DeviceFamily → Option (ℕ × DeviceFamily)

@@ -1,3 +1,4 @@
+pub mod Asking
 pub mod BytesPeer
 pub mod Conditions
 pub mod Data
@@ -20,4 +21,5 @@ pub mod PeerFamilies
 pub mod Plain
 pub mod PortData
 pub mod TunnelData
+pub mod Reading
 pub mod Unmet

@@ -1,4 +1,5 @@
--- A payload that is a list is accepted, and is equivalent to another, attribute by attribute.
+-- What is known of every payload: validating it gives the verdict on what it means, and if it is a
+-- list, it is accepted, and is equivalent to another, attribute by attribute.
 use Rattle.std.specs.Prelude.{
   ◌≡◌,
   ℕ,
@@ -29,11 +30,12 @@ use Rattle.std.specs.Prelude.{refl, IsOk, IfSome}
 use Rattle.std.proofs.Common.{ap, arith, ◌∙◌}
 use Rattle.std.proofs.lemmas.Bool.Decides.{nat_tests}
 use Rattle.std.proofs.Math.Bool.{and-true}
+use Rattle.nla_frame.specs.Answers.{verdict}
 use Rattle.nla_frame.specs.Attribute.{Attribute, masked}
 use Rattle.nla_frame.specs.NlaItems.{nla_items}
 use Rattle.nla_frame.specs.declared.error.DecodeError.{DecodeError}
 use Rattle.linkinfo_devices.specs.Nested.{in_list}
-use Rattle.linkinfo_table.specs.Lists.{◌>>=◌, alike_pairs, values}
+use Rattle.linkinfo_table.specs.Lists.{◌>>=◌, alike_pairs, first_meaning, values}
 use Rattle.linkinfo_table.specs.Members.{Members}
 use Rattle.linkinfo_data.specs.Listing.{
   HoldsLists,
@@ -44,7 +46,7 @@ use Rattle.linkinfo_data.specs.Listing.{
   listing_of,
 }
 use Rattle.linkinfo_data.specs.Listing.{lists_inside}
-use Rattle.linkinfo_data.specs.Payloads.{Payload, as_list, as_lists}
+use Rattle.linkinfo_data.specs.Payloads.{Payload, as_bytes, as_first, as_list, as_lists}
 
 -- the byte string is the encoding of one attribute
 abbrev pub IsOnly : List ℕ → Attribute → Type 0
@@ -86,6 +88,16 @@ pub record IsListed {X : Type 0} (payload : Payload X) (listing : Listing) : Typ
 abbrev pub KeepsListing : {X : Type 0} → Payload X → Type 0
 KeepsListing payload = IfSome payload.listing (IsListed payload)
 
+pub record IsKnown {X : Type 0} (payload : Payload X) : Type 0 where
+  pub verdicts : (p : List ℕ) → verdict (payload.means p) ≡ payload.verdicts p
+  pub listed : KeepsListing payload
+
+-- a variant changes no verdict
+verdict_under : {A X : Type 0} (r : Result A DecodeError) (label : A → X) →
+    verdict (r >>= λ x. Ok (label x)) ≡ verdict r
+verdict_under (Ok x) label = refl
+verdict_under (Err e) label = refl
+
 -- ---- a list of attributes of a family, as the payload of a variant
 
 module _ {A X : Type 0} (f : Members A) (lists : Lists) (label : List A → X) where
@@ -124,7 +136,7 @@ module _ {A X : Type 0} (f : Members A) (lists : Lists) (label : List A → X) w
       item_ok (f.meaning a) (values f.meaning more)
       ∙ ap (λ (r : Bool). is_ok (f.meaning a) && r) (each_ok more)
 
-  pub as_lists_is_listed : IsListed (as_lists f lists label) (listing_of f lists)
+  as_lists_is_listed : IsListed (as_lists f lists label) (listing_of f lists)
   as_lists_is_listed = record {
     first = λ s rest a ok e t only.
         rw only (first_ok (f.meaning a) (values f.meaning (nla_items rest)) (rw e at ok));
@@ -136,9 +148,23 @@ module _ {A X : Type 0} (f : Members A) (lists : Lists) (label : List A → X) w
     alike = λ s t a b only other. rw (only, other) (and-true (f.alike a b));
   }
 
-pub as_list_is_listed : {A X : Type 0} (f : Members A) (label : List A → X) →
-    IsListed (as_list f label) (listing_of f HoldsNone)
-as_list_is_listed f label = as_lists_is_listed f HoldsNone label
+  pub lists_are_known : IsKnown (as_lists f lists label)
+  lists_are_known = record {
+    verdicts = λ p. verdict_under (values f.meaning (nla_items p)) label;
+    listed = as_lists_is_listed;
+  }
+
+pub list_is_known : {A X : Type 0} (f : Members A) (label : List A → X) → IsKnown (as_list f label)
+list_is_known f label = lists_are_known f HoldsNone label
+
+pub first_is_known : {A X : Type 0} (f : Members A) (label : A → X) → IsKnown (as_first f label)
+first_is_known f label = record {
+  verdicts = λ p. verdict_under (first_meaning f.meaning (nla_items p)) label;
+  listed = tt {0};
+}
+
+pub bytes_are_known : {X : Type 0} (label : List ℕ → X) → IsKnown (as_bytes label)
+bytes_are_known label = record { verdicts = λ p. refl; listed = tt {0} }
 
 -- ---- attributes that hold lists of attributes of their own family
 

@@ -5,7 +5,7 @@ use Rattle.linkinfo_data.specs.declared.info_data.InfoDataOf.{InfoDataOf}
 use Rattle.linkinfo_data.specs.declared.info_data.InfoDataOf.TheVariants as info
 use Rattle.linkinfo_data.specs.declared.lower.LowerFamily.{LowerFamily}
 use Rattle.linkinfo_data.specs.declared.lower.LowerFamily.TheVariants as of
-use Rattle.linkinfo_data.specs.Listed.{IsNested, KeepsListing, as_list_is_listed}
+use Rattle.linkinfo_data.specs.Listed.{IsKnown, IsNested, list_is_known}
 use Rattle.linkinfo_data.specs.Payloads.{Payload, as_list}
 use Rattle.linkinfo_data.specs.Plain.{plain}
 
@@ -17,13 +17,13 @@ lower_data_of of.Hsr = as_list plain.hsr (λ xs. info.Hsr xs)
 lower_data_of of.Can = as_list plain.can (λ xs. info.Can xs)
 lower_data_of of.Dsa = as_list plain.dsa (λ xs. info.Dsa xs)
 
-pub lower_listed : (P : Type 0) (f : LowerFamily) → KeepsListing (lower_data_of {P = P} f)
-lower_listed P of.Bridge = as_list_is_listed plain.bridge (λ xs. info.Bridge xs)
-lower_listed P of.Vlan = as_list_is_listed plain.vlan (λ xs. info.Vlan xs)
-lower_listed P of.Bond = as_list_is_listed plain.bond (λ xs. info.Bond xs)
-lower_listed P of.Hsr = as_list_is_listed plain.hsr (λ xs. info.Hsr xs)
-lower_listed P of.Can = as_list_is_listed plain.can (λ xs. info.Can xs)
-lower_listed P of.Dsa = as_list_is_listed plain.dsa (λ xs. info.Dsa xs)
+pub lower_known : (P : Type 0) (f : LowerFamily) → IsKnown (lower_data_of {P = P} f)
+lower_known P of.Bridge = list_is_known plain.bridge (λ xs. info.Bridge xs)
+lower_known P of.Vlan = list_is_known plain.vlan (λ xs. info.Vlan xs)
+lower_known P of.Bond = list_is_known plain.bond (λ xs. info.Bond xs)
+lower_known P of.Hsr = list_is_known plain.hsr (λ xs. info.Hsr xs)
+lower_known P of.Can = list_is_known plain.can (λ xs. info.Can xs)
+lower_known P of.Dsa = list_is_known plain.dsa (λ xs. info.Dsa xs)
 
 -- no attribute holds a list
 pub lower_nest : (P : Type 0) (f : LowerFamily) → IsNested (lower_data_of {P = P}) f None

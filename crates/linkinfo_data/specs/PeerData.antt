@@ -6,7 +6,7 @@ use Rattle.linkinfo_data.specs.declared.info_data.InfoDataOf.TheVariants as info
 use Rattle.linkinfo_data.specs.declared.peers.PeeredFamily.{PeeredFamily}
 use Rattle.linkinfo_data.specs.declared.peers.PeeredFamily.TheVariants as of
 use Rattle.linkinfo_data.specs.Families.{Families}
-use Rattle.linkinfo_data.specs.Listed.{IsNested, KeepsListing, as_list_is_listed}
+use Rattle.linkinfo_data.specs.Listed.{IsKnown, IsNested, first_is_known, list_is_known}
 use Rattle.linkinfo_data.specs.Payloads.{Payload, as_list, as_first}
 use Rattle.linkinfo_data.specs.Plain.{plain}
 
@@ -20,16 +20,16 @@ peers_data_of families of.BatAdv = as_list plain.bat_adv (λ xs. info.BatAdv xs)
 peers_data_of families of.Wwan = as_list plain.wwan (λ xs. info.Wwan xs)
 peers_data_of families of.Pfcp = as_list plain.pfcp (λ xs. info.Pfcp xs)
 
-pub peers_listed : {P : Type 0} (families : Families P) (f : PeeredFamily) →
-    KeepsListing (peers_data_of families f)
-peers_listed families of.Tun = as_list_is_listed plain.tun (λ xs. info.Tun xs)
-peers_listed families of.Veth = tt {0}
-peers_listed families of.Wireguard = as_list_is_listed plain.wireguard (λ xs. info.Wireguard xs)
-peers_listed families of.Netkit = as_list_is_listed families.netkit (λ xs. info.Netkit xs)
-peers_listed families of.Vxcan = tt {0}
-peers_listed families of.BatAdv = as_list_is_listed plain.bat_adv (λ xs. info.BatAdv xs)
-peers_listed families of.Wwan = as_list_is_listed plain.wwan (λ xs. info.Wwan xs)
-peers_listed families of.Pfcp = as_list_is_listed plain.pfcp (λ xs. info.Pfcp xs)
+pub peers_known : {P : Type 0} (families : Families P) (f : PeeredFamily) →
+    IsKnown (peers_data_of families f)
+peers_known families of.Tun = list_is_known plain.tun (λ xs. info.Tun xs)
+peers_known families of.Veth = first_is_known families.veth (λ x. info.Veth x)
+peers_known families of.Wireguard = list_is_known plain.wireguard (λ xs. info.Wireguard xs)
+peers_known families of.Netkit = list_is_known families.netkit (λ xs. info.Netkit xs)
+peers_known families of.Vxcan = first_is_known families.vxcan (λ x. info.Vxcan x)
+peers_known families of.BatAdv = list_is_known plain.bat_adv (λ xs. info.BatAdv xs)
+peers_known families of.Wwan = list_is_known plain.wwan (λ xs. info.Wwan xs)
+peers_known families of.Pfcp = list_is_known plain.pfcp (λ xs. info.Pfcp xs)
 
 -- no attribute holds a list
 pub peers_nest : {P : Type 0} (families : Families P) (f : PeeredFamily) →

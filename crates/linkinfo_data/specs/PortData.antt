@@ -8,7 +8,7 @@ use Rattle.linkinfo_data.specs.declared.port_data.InfoPortData.{InfoPortData}
 use Rattle.linkinfo_data.specs.declared.port_data.InfoPortData.TheVariants as info
 use Rattle.linkinfo_data.specs.declared.port_data.PortFamily.{PortFamily}
 use Rattle.linkinfo_data.specs.declared.port_data.PortFamily.TheVariants as of
-use Rattle.linkinfo_data.specs.Listed.{IsNested, KeepsListing, as_list_is_listed}
+use Rattle.linkinfo_data.specs.Listed.{IsKnown, IsNested, bytes_are_known, list_is_known}
 use Rattle.linkinfo_data.specs.Payloads.{Payload, as_list, as_bytes}
 use Rattle.linkinfo_data.specs.Plain.{plain}
 
@@ -40,12 +40,12 @@ port_data_payload (info.Other bytes) = bytes
 abbrev pub port_data_attribute : InfoPortData → Attribute
 port_data_attribute d = record { kind = 5; value = port_data_payload d }
 
-pub port_listed : (f : PortFamily) → KeepsListing (port_data_of f)
-port_listed of.Bond = as_list_is_listed plain.bond_port (λ xs. info.BondPort xs)
-port_listed of.Bridge = as_list_is_listed plain.bridge_port (λ xs. info.BridgePort xs)
-port_listed of.Vrf = as_list_is_listed plain.vrf_port (λ xs. info.VrfPort xs)
-port_listed of.Team = as_list_is_listed plain.team_port (λ xs. info.TeamPort xs)
-port_listed of.Raw = tt {0}
+pub port_known : (f : PortFamily) → IsKnown (port_data_of f)
+port_known of.Bond = list_is_known plain.bond_port (λ xs. info.BondPort xs)
+port_known of.Bridge = list_is_known plain.bridge_port (λ xs. info.BridgePort xs)
+port_known of.Vrf = list_is_known plain.vrf_port (λ xs. info.VrfPort xs)
+port_known of.Team = list_is_known plain.team_port (λ xs. info.TeamPort xs)
+port_known of.Raw = bytes_are_known (λ bytes. info.Other bytes)
 
 -- no attribute holds a list
 pub port_nest : (f : PortFamily) → IsNested port_data_of f None

@@ -4,7 +4,7 @@ use Rattle.linkinfo_data.specs.declared.info_data.InfoDataOf.{InfoDataOf}
 use Rattle.linkinfo_data.specs.declared.info_data.InfoDataOf.TheVariants as info
 use Rattle.linkinfo_data.specs.declared.tunnels.TunnelFamily.{TunnelFamily}
 use Rattle.linkinfo_data.specs.declared.tunnels.TunnelFamily.TheVariants as of
-use Rattle.linkinfo_data.specs.Listed.{IsNested, KeepsListing, as_list_is_listed}
+use Rattle.linkinfo_data.specs.Listed.{IsKnown, IsNested, list_is_known}
 use Rattle.linkinfo_data.specs.Payloads.{Payload, as_list}
 use Rattle.linkinfo_data.specs.Plain.{plain}
 
@@ -23,21 +23,21 @@ tunnels_data_of of.BareUdp = as_list plain.bare_udp (λ xs. info.BareUdp xs)
 tunnels_data_of of.ErSpan = as_list plain.gre (λ xs. info.ErSpan xs)
 tunnels_data_of of.Ip6ErSpan = as_list plain.gre6 (λ xs. info.Ip6ErSpan xs)
 
-pub tunnels_listed : (P : Type 0) (f : TunnelFamily) → KeepsListing (tunnels_data_of {P = P} f)
-tunnels_listed P of.Vxlan = as_list_is_listed plain.vxlan (λ xs. info.Vxlan xs)
-tunnels_listed P of.GreTap = as_list_is_listed plain.gre (λ xs. info.GreTap xs)
-tunnels_listed P of.GreTap6 = as_list_is_listed plain.gre6 (λ xs. info.GreTap6 xs)
-tunnels_listed P (of.IpTunnel tag) =
-    as_list_is_listed (plain.ip_tunnel tag) (λ xs. info.IpTunnel xs)
-tunnels_listed P of.GreTun = as_list_is_listed plain.gre (λ xs. info.GreTun xs)
-tunnels_listed P of.GreTun6 = as_list_is_listed plain.gre6 (λ xs. info.GreTun6 xs)
-tunnels_listed P of.Vti = as_list_is_listed plain.vti (λ xs. info.Vti xs)
-tunnels_listed P of.Gtp = as_list_is_listed plain.gtp (λ xs. info.Gtp xs)
-tunnels_listed P of.Geneve = as_list_is_listed plain.geneve (λ xs. info.Geneve xs)
-tunnels_listed P of.Amt = as_list_is_listed plain.amt (λ xs. info.Amt xs)
-tunnels_listed P of.BareUdp = as_list_is_listed plain.bare_udp (λ xs. info.BareUdp xs)
-tunnels_listed P of.ErSpan = as_list_is_listed plain.gre (λ xs. info.ErSpan xs)
-tunnels_listed P of.Ip6ErSpan = as_list_is_listed plain.gre6 (λ xs. info.Ip6ErSpan xs)
+pub tunnels_known : (P : Type 0) (f : TunnelFamily) → IsKnown (tunnels_data_of {P = P} f)
+tunnels_known P of.Vxlan = list_is_known plain.vxlan (λ xs. info.Vxlan xs)
+tunnels_known P of.GreTap = list_is_known plain.gre (λ xs. info.GreTap xs)
+tunnels_known P of.GreTap6 = list_is_known plain.gre6 (λ xs. info.GreTap6 xs)
+tunnels_known P (of.IpTunnel tag) =
+    list_is_known (plain.ip_tunnel tag) (λ xs. info.IpTunnel xs)
+tunnels_known P of.GreTun = list_is_known plain.gre (λ xs. info.GreTun xs)
+tunnels_known P of.GreTun6 = list_is_known plain.gre6 (λ xs. info.GreTun6 xs)
+tunnels_known P of.Vti = list_is_known plain.vti (λ xs. info.Vti xs)
+tunnels_known P of.Gtp = list_is_known plain.gtp (λ xs. info.Gtp xs)
+tunnels_known P of.Geneve = list_is_known plain.geneve (λ xs. info.Geneve xs)
+tunnels_known P of.Amt = list_is_known plain.amt (λ xs. info.Amt xs)
+tunnels_known P of.BareUdp = list_is_known plain.bare_udp (λ xs. info.BareUdp xs)
+tunnels_known P of.ErSpan = list_is_known plain.gre (λ xs. info.ErSpan xs)
+tunnels_known P of.Ip6ErSpan = list_is_known plain.gre6 (λ xs. info.Ip6ErSpan xs)
 
 -- no attribute holds a list
 pub tunnels_nest : (P : Type 0) (f : TunnelFamily) → IsNested (tunnels_data_of {P = P}) f None

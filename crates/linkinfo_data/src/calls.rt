@@ -17,60 +17,18 @@ macro_rules! read {
     };
 }
 
-/// Validates a payload.
-macro_rules! check {
-    (list($variant:path, $nla:ty, $ctx:expr) ($payload:expr, $count:expr)) => {
-        linkinfo_table::list_check::<$nla>($payload, $ctx, $count)
+/// Answers a question about payloads.
+macro_rules! ask {
+    (list($variant:path, $nla:ty, $ctx:expr) ($question:ident, $count:ident, $buffer:ident)) => {
+        $question.of_list::<$nla>($ctx, $count, $buffer)
     };
-    (first($variant:path, $nla:ty, $ctx:expr) ($payload:expr, $count:expr)) => {
-        linkinfo_table::first_check::<$nla>($payload, $ctx, $count)
+    (first($variant:path, $nla:ty, $ctx:expr) ($question:ident, $count:ident, $buffer:ident)) => {
+        $question.of_first::<$nla>($ctx, $count, $buffer)
     };
-    (bytes($variant:path) ($payload:expr, $count:expr)) => {
-        Ok(())
-    };
-}
-
-/// Compares two payloads.
-macro_rules! same {
-    (list($variant:path, $nla:ty, $ctx:expr) ($a:expr, $b:expr, $count:expr)) => {
-        linkinfo_table::list_same::<$nla>($a, $b, $ctx, $count)
-    };
-    (first($variant:path, $nla:ty, $ctx:expr) ($a:expr, $b:expr, $count:expr)) => {
-        linkinfo_table::first_same::<$nla>($a, $b, $ctx, $count)
-    };
-    (bytes($variant:path) ($a:expr, $b:expr, $count:expr)) => {
-        $a == $b
+    (bytes($variant:path) ($question:ident, $count:ident, $buffer:ident)) => {
+        $question.of_bytes($count, $buffer)
     };
 }
 
-/// The length of the canonical payload that a payload parses as.
-macro_rules! canonical_len {
-    (list($variant:path, $nla:ty, $ctx:expr) ($payload:expr)) => {
-        linkinfo_table::list_canonical_len::<$nla>($payload, $ctx)
-    };
-    (first($variant:path, $nla:ty, $ctx:expr) ($payload:expr)) => {
-        linkinfo_table::first_canonical_len::<$nla>($payload, $ctx)
-    };
-    (bytes($variant:path) ($payload:expr)) => {
-        nla_frame::fitting($payload.len())
-    };
-}
-
-/// Writes the canonical payload that a payload parses as.
-macro_rules! write_canonical {
-    (list($variant:path, $nla:ty, $ctx:expr) ($payload:expr, $buffer:expr)) => {
-        linkinfo_table::list_write_canonical::<$nla>($payload, $ctx, $buffer)
-    };
-    (first($variant:path, $nla:ty, $ctx:expr) ($payload:expr, $buffer:expr)) => {
-        linkinfo_table::first_write_canonical::<$nla>($payload, $ctx, $buffer)
-    };
-    (bytes($variant:path) ($payload:expr, $buffer:expr)) => {
-        nla_frame::write_bytes($payload, $buffer)
-    };
-}
-
-pub(crate) use canonical_len;
-pub(crate) use check;
+pub(crate) use ask;
 pub(crate) use read;
-pub(crate) use same;
-pub(crate) use write_canonical;

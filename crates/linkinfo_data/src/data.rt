@@ -2,13 +2,14 @@
 
 ghost use Rattle.std.specs.Prelude.{◌≡◌};
 ghost use Rattle.linkinfo_data.specs.Data.{
-  data_listed,
+  data_known,
   data_nest,
   data_nested_in,
   data_of,
   family_of,
 };
 
+use crate::ask::Ask;
 use crate::devices::DeviceFamily;
 use crate::families::DataFamilies;
 use crate::info_data::InfoDataOf;
@@ -18,7 +19,7 @@ use crate::peers::PeeredFamily;
 use crate::tunnels::TunnelFamily;
 use linkinfo_numbers::KindTag;
 use linkinfo_table::LinkPeer;
-use nla_frame::{Bytes, DecodeError, ExactEq, Family, HeaderCount, fitting, write_bytes};
+use nla_frame::{Bytes, DecodeError, ExactEq, Family, HeaderCount};
 use std::alloc::Global;
 
 /// The family of the attributes in `IFLA_INFO_DATA`, which the kind of the link chooses.
@@ -112,7 +113,7 @@ pub fn family_of(tag: KindTag) -> DataFamily
 impl<P: LinkPeer> PayloadFamily<InfoDataOf<P>> for DataFamily {
     ghost data_of = { data_of ⟦<P as DataFamilies>⟧.families };
 
-    ghost listed = { data_listed ⟦<P as DataFamilies>⟧.families };
+    ghost known = { data_known ⟦<P as DataFamilies>⟧.families };
 
     ghost nested_in = { data_nested_in };
 
@@ -152,67 +153,26 @@ impl<P: LinkPeer> PayloadFamily<InfoDataOf<P>> for DataFamily {
     }
 
     #[inline(always)]
-    fn check(self, payload: &[u8], count: &mut HeaderCount) -> Result<(), DecodeError> {
+    fn ask<Q: Ask>(
+        self,
+        question: Q,
+        count: &mut HeaderCount,
+        buffer: &mut [u8],
+    ) -> Q::Answer {
         match self {
-            DataFamily::Lower(family) => PayloadFamily::<InfoDataOf<P>>::check(
-                family, payload, count,
+            DataFamily::Lower(family) => PayloadFamily::<InfoDataOf<P>>::ask(
+                family, question, count, buffer,
             ),
-            DataFamily::Device(family) => PayloadFamily::<InfoDataOf<P>>::check(
-                family, payload, count,
+            DataFamily::Device(family) => PayloadFamily::<InfoDataOf<P>>::ask(
+                family, question, count, buffer,
             ),
-            DataFamily::Tunnel(family) => PayloadFamily::<InfoDataOf<P>>::check(
-                family, payload, count,
+            DataFamily::Tunnel(family) => PayloadFamily::<InfoDataOf<P>>::ask(
+                family, question, count, buffer,
             ),
-            DataFamily::Peered(family) => PayloadFamily::<InfoDataOf<P>>::check(
-                family, payload, count,
+            DataFamily::Peered(family) => PayloadFamily::<InfoDataOf<P>>::ask(
+                family, question, count, buffer,
             ),
-            DataFamily::Raw => Ok(()),
-        }
-    }
-
-    fn same(self, a: &[u8], b: &[u8], count: &mut HeaderCount) -> bool {
-        match self {
-            DataFamily::Lower(family) => PayloadFamily::<InfoDataOf<P>>::same(family, a, b, count),
-            DataFamily::Device(family) => PayloadFamily::<InfoDataOf<P>>::same(family, a, b, count),
-            DataFamily::Tunnel(family) => PayloadFamily::<InfoDataOf<P>>::same(family, a, b, count),
-            DataFamily::Peered(family) => PayloadFamily::<InfoDataOf<P>>::same(family, a, b, count),
-            DataFamily::Raw => a == b,
-        }
-    }
-
-    fn canonical_len(self, payload: &[u8]) -> Option<usize> {
-        match self {
-            DataFamily::Lower(family) => PayloadFamily::<InfoDataOf<P>>::canonical_len(
-                family, payload,
-            ),
-            DataFamily::Device(family) => PayloadFamily::<InfoDataOf<P>>::canonical_len(
-                family, payload,
-            ),
-            DataFamily::Tunnel(family) => PayloadFamily::<InfoDataOf<P>>::canonical_len(
-                family, payload,
-            ),
-            DataFamily::Peered(family) => PayloadFamily::<InfoDataOf<P>>::canonical_len(
-                family, payload,
-            ),
-            DataFamily::Raw => fitting(payload.len()),
-        }
-    }
-
-    fn write_canonical(self, payload: &[u8], buffer: &mut [u8]) -> usize {
-        match self {
-            DataFamily::Lower(family) => PayloadFamily::<InfoDataOf<P>>::write_canonical(
-                family, payload, buffer,
-            ),
-            DataFamily::Device(family) => PayloadFamily::<InfoDataOf<P>>::write_canonical(
-                family, payload, buffer,
-            ),
-            DataFamily::Tunnel(family) => PayloadFamily::<InfoDataOf<P>>::write_canonical(
-                family, payload, buffer,
-            ),
-            DataFamily::Peered(family) => PayloadFamily::<InfoDataOf<P>>::write_canonical(
-                family, payload, buffer,
-            ),
-            DataFamily::Raw => write_bytes(payload, buffer),
+            DataFamily::Raw => question.of_bytes(count, buffer),
         }
     }
 }

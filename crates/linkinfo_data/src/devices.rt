@@ -2,12 +2,13 @@
 
 ghost use Rattle.linkinfo_data.specs.DeviceData.{
   devices_data_of,
-  devices_listed,
+  devices_known,
   devices_nest,
   devices_nested_in,
 };
 
-use crate::calls::{canonical_len, check, read, same, write_canonical};
+use crate::ask::Ask;
+use crate::calls::{ask, read};
 use crate::info_data::InfoDataOf;
 use crate::payload_family::PayloadFamily;
 use linkinfo_devices::{
@@ -70,7 +71,7 @@ macro_rules! of_device {
 impl<P: LinkPeer> PayloadFamily<InfoDataOf<P>> for DeviceFamily {
     ghost data_of = { λ family. devices_data_of family };
 
-    ghost listed = { λ family. devices_listed _ family };
+    ghost known = { λ family. devices_known _ family };
 
     ghost nested_in = { devices_nested_in };
 
@@ -114,19 +115,12 @@ impl<P: LinkPeer> PayloadFamily<InfoDataOf<P>> for DeviceFamily {
     }
 
     #[inline(always)]
-    fn check(self, payload: &[u8], count: &mut HeaderCount) -> Result<(), DecodeError> {
-        of_device!(self, check(payload, count))
-    }
-
-    fn same(self, a: &[u8], b: &[u8], count: &mut HeaderCount) -> bool {
-        of_device!(self, same(a, b, count))
-    }
-
-    fn canonical_len(self, payload: &[u8]) -> Option<usize> {
-        of_device!(self, canonical_len(payload))
-    }
-
-    fn write_canonical(self, payload: &[u8], buffer: &mut [u8]) -> usize {
-        of_device!(self, write_canonical(payload, buffer))
+    fn ask<Q: Ask>(
+        self,
+        question: Q,
+        count: &mut HeaderCount,
+        buffer: &mut [u8],
+    ) -> Q::Answer {
+        of_device!(self, ask(question, count, buffer))
     }
 }

@@ -2,6 +2,7 @@
 //! kind chooses.
 #![tactic(auto)]
 
+mod ask;
 mod calls;
 mod data;
 mod devices;
@@ -17,6 +18,7 @@ mod port_data;
 mod tunnels;
 mod unmet;
 
+pub use ask::{Ask, CanonicalLen, Check, Same, WriteCanonical};
 pub use data::{DataFamily, family_of};
 pub use devices::DeviceFamily;
 pub use difference::{Difference, list_difference, list_error};

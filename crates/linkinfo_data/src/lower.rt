@@ -1,19 +1,19 @@
 //! Data of bridge, vlan, bond, hsr, can and dsa links.
 
 ghost use Rattle.std.specs.Prelude.{None};
-ghost use Rattle.linkinfo_data.specs.LowerData.{lower_data_of, lower_listed, lower_nest};
+ghost use Rattle.linkinfo_data.specs.LowerData.{lower_data_of, lower_known, lower_nest};
 
+use crate::ask::Ask;
+use crate::calls::{ask, read};
 use crate::info_data::InfoDataOf;
-use crate::lists::read_nlas;
 use crate::payload_family::PayloadFamily;
-use linkinfo_table::lower::InfoBridge;
-use linkinfo_table::{LinkPeer, list_canonical_len, list_check, list_same, list_write_canonical};
+use linkinfo_table::LinkPeer;
+use linkinfo_table::lower::{InfoBond, InfoBridge, InfoCan, InfoDsa, InfoHsr, InfoVlan};
 use nla_frame::{DecodeError, ExactEq, Family, HeaderCount};
 use std::alloc::Global;
 
 /// The families of data of bridge, vlan, bond, hsr, can and dsa links, whose attributes are kept
-/// verbatim. So what is checked, compared and written of a list does not depend on its family: one
-/// of them stands for all.
+/// verbatim.
 #[derive(Clone, Copy, Debug, PartialEq, Eq)]
 pub enum LowerFamily {
     /// Attributes of `bridge` links (`IFLA_BR_*`).
@@ -36,10 +36,24 @@ impl ExactEq for LowerFamily {
     ghost exact = { Prim.search rules };
 }
 
+/// Matches a family, and expands `$call!`, of `calls`, for its data.
+macro_rules! of_lower {
+    ($family:expr, $call:ident $given:tt) => {
+        match $family {
+            LowerFamily::Bridge => $call!(list(InfoDataOf::Bridge, InfoBridge, ()) $given),
+            LowerFamily::Vlan => $call!(list(InfoDataOf::Vlan, InfoVlan, ()) $given),
+            LowerFamily::Bond => $call!(list(InfoDataOf::Bond, InfoBond, ()) $given),
+            LowerFamily::Hsr => $call!(list(InfoDataOf::Hsr, InfoHsr, ()) $given),
+            LowerFamily::Can => $call!(list(InfoDataOf::Can, InfoCan, ()) $given),
+            LowerFamily::Dsa => $call!(list(InfoDataOf::Dsa, InfoDsa, ()) $given),
+        }
+    };
+}
+
 impl<P: LinkPeer> PayloadFamily<InfoDataOf<P>> for LowerFamily {
     ghost data_of = { λ family. lower_data_of family };
 
-    ghost listed = { λ family. lower_listed _ family };
+    ghost known = { λ family. lower_known _ family };
 
     ghost nested_in = { λ _. None };
 
@@ -66,30 +80,16 @@ impl<P: LinkPeer> PayloadFamily<InfoDataOf<P>> for LowerFamily {
         payload: &[u8],
         count: &mut HeaderCount,
     ) -> Result<InfoDataOf<P>, DecodeError> {
-        Ok(match self {
-            LowerFamily::Bridge => InfoDataOf::Bridge(read_nlas(alloc, payload, (), count)?),
-            LowerFamily::Vlan => InfoDataOf::Vlan(read_nlas(alloc, payload, (), count)?),
-            LowerFamily::Bond => InfoDataOf::Bond(read_nlas(alloc, payload, (), count)?),
-            LowerFamily::Hsr => InfoDataOf::Hsr(read_nlas(alloc, payload, (), count)?),
-            LowerFamily::Can => InfoDataOf::Can(read_nlas(alloc, payload, (), count)?),
-            LowerFamily::Dsa => InfoDataOf::Dsa(read_nlas(alloc, payload, (), count)?),
-        })
+        Ok(of_lower!(self, read(alloc, payload, count)))
     }
 
     #[inline(always)]
-    fn check(self, payload: &[u8], count: &mut HeaderCount) -> Result<(), DecodeError> {
-        list_check::<InfoBridge>(payload, (), count)
-    }
-
-    fn same(self, a: &[u8], b: &[u8], count: &mut HeaderCount) -> bool {
-        list_same::<InfoBridge>(a, b, (), count)
-    }
-
-    fn canonical_len(self, payload: &[u8]) -> Option<usize> {
-        list_canonical_len::<InfoBridge>(payload, ())
-    }
-
-    fn write_canonical(self, payload: &[u8], buffer: &mut [u8]) -> usize {
-        list_write_canonical::<InfoBridge>(payload, (), buffer)
+    fn ask<Q: Ask>(
+        self,
+        question: Q,
+        count: &mut HeaderCount,
+        buffer: &mut [u8],
+    ) -> Q::Answer {
+        of_lower!(self, ask(question, count, buffer))
     }
 }

@@ -18,10 +18,12 @@ ghost use Rattle.std.specs.Prelude.{
 };
 ghost use Rattle.std.specs.Bool.{OnTrue};
 ghost use Rattle.nla_frame.specs.Answers.{CertainUnless, Gives, OnAnswer, verdict};
-ghost use Rattle.linkinfo_data.specs.Listed.{IsNested, KeepsListing};
+ghost use Rattle.linkinfo_data.specs.Asking.{facts_of};
+ghost use Rattle.linkinfo_data.specs.Listed.{IsKnown, IsNested};
 ghost use Rattle.linkinfo_data.specs.Listing.{family_in};
 ghost use Rattle.linkinfo_data.specs.Payloads.{Payload};
 
+use crate::ask::{Ask, CanonicalLen, Check, Same, WriteCanonical};
 use nla_frame::{DecodeError, Family, HeaderCount};
 use std::alloc::Global;
 
@@ -59,6 +61,17 @@ pub trait PayloadFamily<D: Drop>: Copy {
         ensures rises { count.old ≤ count.new }
         ensures quarter { 4 * count.new ≤ 4 * count.old + length payload.now };
 
+    /// Answers a question about payloads. Does not allocate.
+    fn ask<Q: Ask>(
+        self,
+        question: Q,
+        count: &mut HeaderCount,
+        buffer: &mut [u8],
+    ) -> Q::Answer
+        requires { Q.ready (facts_of (data_of self)) question count.old buffer.old }
+        ensures { Q.answered (facts_of (data_of self)) question count.old count.new buffer.old
+            buffer.new result };
+
     /// Validates a payload: returns `Ok` if `read` accepts it, otherwise the error of the payload.
     ///
     /// The count rises by the headers examined, at most a quarter of the payload's bytes. Requires
@@ -67,7 +80,10 @@ pub trait PayloadFamily<D: Drop>: Copy {
         requires { count.old + length payload.now / 4 < 2 ^ 64 }
         ensures answer { result ≡ verdict ((data_of self).means payload.now) }
         ensures counted { count.new ≡ count.old + (data_of self).headers payload.now }
-        ensures quarter { 4 * count.new ≤ 4 * count.old + length payload.now };
+        ensures quarter { 4 * count.new ≤ 4 * count.old + length payload.now }
+    {
+        self.ask(Check { payload }, count, &mut [])
+    }
 
     /// Returns whether two payloads are equivalent: whether they parse as equal data.
     ///
@@ -83,14 +99,20 @@ pub trait PayloadFamily<D: Drop>: Copy {
             (count.new
             ≡ count.old + ((data_of self).headers a.now + (data_of self).headers b.now)) }
         ensures rises { count.old ≤ count.new }
-        ensures quarter { 4 * count.new ≤ 4 * count.old + (length a.now + length b.now) };
+        ensures quarter { 4 * count.new ≤ 4 * count.old + (length a.now + length b.now) }
+    {
+        self.ask(Same { a, b }, count, &mut [])
+    }
 
     /// The length, in bytes, of the canonical payload of the data that a payload parses as, or
     /// `None` if it is above 65531. Requires that the payload is accepted. Does not allocate.
     fn canonical_len(self, payload: &[u8]) -> Option<usize>
         requires { IsOk ((data_of self).means payload.now) }
         ensures { let len = length ((data_of self).canonical payload.now) in
-            SomeIff result (len ≤ 65531) len };
+            SomeIff result (len ≤ 65531) len }
+    {
+        self.ask(CanonicalLen { payload }, &mut HeaderCount::new(), &mut [])
+    }
 
     /// Writes the canonical payload of the data that a payload parses as to the front of the
     /// buffer, and returns its length in bytes. The rest of the buffer is unchanged.
@@ -104,10 +126,14 @@ pub trait PayloadFamily<D: Drop>: Copy {
         ensures taken { result ≡ length ((data_of self).canonical payload.now) }
         ensures written { buffer.new
             ≡ (data_of self).canonical payload.now
-            ++ drop (length ((data_of self).canonical payload.now)) buffer.old };
+            ++ drop (length ((data_of self).canonical payload.now)) buffer.old }
+    {
+        self.ask(WriteCanonical { payload }, &mut HeaderCount::new(), buffer)
+    }
 
-    /// A list is accepted, and is equivalent to another list, attribute by attribute.
-    ghost listed: { (family : Self) → KeepsListing (data_of family) };
+    /// Validating a payload gives the verdict on what it means. A list is accepted, and is
+    /// equivalent to another list, attribute by attribute.
+    ghost known: { (family : Self) → IsKnown (data_of family) };
 
     /// Which attributes hold lists, and of which family these are.
     ghost nests: { (family : Self) → IsNested data_of family (nested_in family) };

@@ -1,9 +1,10 @@
 //! Data of veth, vxcan, netkit, tun, wireguard, batadv, wwan and pfcp links.
 
 ghost use Rattle.std.specs.Prelude.{None};
-ghost use Rattle.linkinfo_data.specs.PeerData.{peers_data_of, peers_listed, peers_nest};
+ghost use Rattle.linkinfo_data.specs.PeerData.{peers_data_of, peers_known, peers_nest};
 
-use crate::calls::{canonical_len, check, read, same, write_canonical};
+use crate::ask::Ask;
+use crate::calls::{ask, read};
 use crate::families::DataFamilies;
 use crate::info_data::InfoDataOf;
 use crate::payload_family::PayloadFamily;
@@ -63,7 +64,7 @@ macro_rules! of_peered {
 impl<P: LinkPeer> PayloadFamily<InfoDataOf<P>> for PeeredFamily {
     ghost data_of = { λ family. peers_data_of ⟦<P as DataFamilies>⟧.families family };
 
-    ghost listed = { λ family. peers_listed ⟦<P as DataFamilies>⟧.families family };
+    ghost known = { λ family. peers_known ⟦<P as DataFamilies>⟧.families family };
 
     ghost nested_in = { λ _. None };
 
@@ -96,19 +97,12 @@ impl<P: LinkPeer> PayloadFamily<InfoDataOf<P>> for PeeredFamily {
     }
 
     #[inline(always)]
-    fn check(self, payload: &[u8], count: &mut HeaderCount) -> Result<(), DecodeError> {
-        of_peered!(self, check(payload, count))
-    }
-
-    fn same(self, a: &[u8], b: &[u8], count: &mut HeaderCount) -> bool {
-        of_peered!(self, same(a, b, count))
-    }
-
-    fn canonical_len(self, payload: &[u8]) -> Option<usize> {
-        of_peered!(self, canonical_len(payload))
-    }
-
-    fn write_canonical(self, payload: &[u8], buffer: &mut [u8]) -> usize {
-        of_peered!(self, write_canonical(payload, buffer))
+    fn ask<Q: Ask>(
+        self,
+        question: Q,
+        count: &mut HeaderCount,
+        buffer: &mut [u8],
+    ) -> Q::Answer {
+        of_peered!(self, ask(question, count, buffer))
     }
 }

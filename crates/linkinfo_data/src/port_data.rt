@@ -6,11 +6,12 @@ ghost use Rattle.linkinfo_numbers.specs.PortKind.{tag_of_port_kind};
 ghost use Rattle.linkinfo_data.specs.PortData.{
   port_data_of,
   port_family_of,
-  port_listed,
+  port_known,
   port_nest,
 };
 
-use crate::calls::{canonical_len, check, read, same, write_canonical};
+use crate::ask::Ask;
+use crate::calls::{ask, read};
 use crate::lists::{list_fit_len, write_list};
 use crate::payload_family::PayloadFamily;
 use linkinfo_devices::InfoVrfPort;
@@ -88,7 +89,7 @@ macro_rules! of_port {
 impl PayloadFamily<InfoPortData> for PortFamily {
     ghost data_of = { port_data_of };
 
-    ghost listed = { port_listed };
+    ghost known = { port_known };
 
     ghost nested_in = { λ _. None };
 
@@ -118,20 +119,13 @@ impl PayloadFamily<InfoPortData> for PortFamily {
     }
 
     #[inline(always)]
-    fn check(self, payload: &[u8], count: &mut HeaderCount) -> Result<(), DecodeError> {
-        of_port!(self, check(payload, count))
-    }
-
-    fn same(self, a: &[u8], b: &[u8], count: &mut HeaderCount) -> bool {
-        of_port!(self, same(a, b, count))
-    }
-
-    fn canonical_len(self, payload: &[u8]) -> Option<usize> {
-        of_port!(self, canonical_len(payload))
-    }
-
-    fn write_canonical(self, payload: &[u8], buffer: &mut [u8]) -> usize {
-        of_port!(self, write_canonical(payload, buffer))
+    fn ask<Q: Ask>(
+        self,
+        question: Q,
+        count: &mut HeaderCount,
+        buffer: &mut [u8],
+    ) -> Q::Answer {
+        of_port!(self, ask(question, count, buffer))
     }
 }
 

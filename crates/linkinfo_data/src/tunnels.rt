@@ -1,9 +1,10 @@
 //! Data of tunnels.
 
 ghost use Rattle.std.specs.Prelude.{None};
-ghost use Rattle.linkinfo_data.specs.TunnelData.{tunnels_data_of, tunnels_listed, tunnels_nest};
+ghost use Rattle.linkinfo_data.specs.TunnelData.{tunnels_data_of, tunnels_known, tunnels_nest};
 
-use crate::calls::{canonical_len, check, read, same, write_canonical};
+use crate::ask::Ask;
+use crate::calls::{ask, read};
 use crate::info_data::InfoDataOf;
 use crate::payload_family::PayloadFamily;
 use linkinfo_numbers::KindTag;
@@ -96,7 +97,7 @@ macro_rules! of_tunnel {
 impl<P: LinkPeer> PayloadFamily<InfoDataOf<P>> for TunnelFamily {
     ghost data_of = { λ family. tunnels_data_of family };
 
-    ghost listed = { λ family. tunnels_listed _ family };
+    ghost known = { λ family. tunnels_known _ family };
 
     ghost nested_in = { λ _. None };
 
@@ -134,19 +135,12 @@ impl<P: LinkPeer> PayloadFamily<InfoDataOf<P>> for TunnelFamily {
     }
 
     #[inline(always)]
-    fn check(self, payload: &[u8], count: &mut HeaderCount) -> Result<(), DecodeError> {
-        of_tunnel!(self, check(payload, count))
-    }
-
-    fn same(self, a: &[u8], b: &[u8], count: &mut HeaderCount) -> bool {
-        of_tunnel!(self, same(a, b, count))
-    }
-
-    fn canonical_len(self, payload: &[u8]) -> Option<usize> {
-        of_tunnel!(self, canonical_len(payload))
-    }
-
-    fn write_canonical(self, payload: &[u8], buffer: &mut [u8]) -> usize {
-        of_tunnel!(self, write_canonical(payload, buffer))
+    fn ask<Q: Ask>(
+        self,
+        question: Q,
+        count: &mut HeaderCount,
+        buffer: &mut [u8],
+    ) -> Q::Answer {
+        of_tunnel!(self, ask(question, count, buffer))
     }
 }

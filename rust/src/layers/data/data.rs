@@ -1,14 +1,13 @@
 //! The family of a kind's data, and data parsed, validated, compared and written by family.
 
+use crate::layers::data::ask::Ask;
 use crate::layers::data::devices::DeviceFamily;
 use crate::layers::data::info_data::InfoDataOf;
 use crate::layers::data::lower::LowerFamily;
 use crate::layers::data::payload_family::PayloadFamily;
 use crate::layers::data::peers::PeeredFamily;
 use crate::layers::data::tunnels::TunnelFamily;
-use crate::layers::nla_frame::{
-    Bytes, DecodeError, ExactEq, Family, HeaderCount, fitting, write_bytes,
-};
+use crate::layers::nla_frame::{Bytes, DecodeError, ExactEq, Family, HeaderCount};
 use crate::layers::numbers::KindTag;
 use crate::layers::table::LinkPeer;
 
@@ -104,67 +103,21 @@ impl<P: LinkPeer> PayloadFamily<InfoDataOf<P>> for DataFamily {
     }
 
     #[inline(always)]
-    fn check(self, payload: &[u8], count: &mut HeaderCount) -> Result<(), DecodeError> {
+    fn ask<Q: Ask>(self, question: Q, count: &mut HeaderCount, buffer: &mut [u8]) -> Q::Answer {
         match self {
             DataFamily::Lower(family) => {
-                PayloadFamily::<InfoDataOf<P>>::check(family, payload, count)
+                PayloadFamily::<InfoDataOf<P>>::ask(family, question, count, buffer)
             }
             DataFamily::Device(family) => {
-                PayloadFamily::<InfoDataOf<P>>::check(family, payload, count)
+                PayloadFamily::<InfoDataOf<P>>::ask(family, question, count, buffer)
             }
             DataFamily::Tunnel(family) => {
-                PayloadFamily::<InfoDataOf<P>>::check(family, payload, count)
+                PayloadFamily::<InfoDataOf<P>>::ask(family, question, count, buffer)
             }
             DataFamily::Peered(family) => {
-                PayloadFamily::<InfoDataOf<P>>::check(family, payload, count)
+                PayloadFamily::<InfoDataOf<P>>::ask(family, question, count, buffer)
             }
-            DataFamily::Raw => Ok(()),
-        }
-    }
-
-    fn same(self, a: &[u8], b: &[u8], count: &mut HeaderCount) -> bool {
-        match self {
-            DataFamily::Lower(family) => PayloadFamily::<InfoDataOf<P>>::same(family, a, b, count),
-            DataFamily::Device(family) => PayloadFamily::<InfoDataOf<P>>::same(family, a, b, count),
-            DataFamily::Tunnel(family) => PayloadFamily::<InfoDataOf<P>>::same(family, a, b, count),
-            DataFamily::Peered(family) => PayloadFamily::<InfoDataOf<P>>::same(family, a, b, count),
-            DataFamily::Raw => a == b,
-        }
-    }
-
-    fn canonical_len(self, payload: &[u8]) -> Option<usize> {
-        match self {
-            DataFamily::Lower(family) => {
-                PayloadFamily::<InfoDataOf<P>>::canonical_len(family, payload)
-            }
-            DataFamily::Device(family) => {
-                PayloadFamily::<InfoDataOf<P>>::canonical_len(family, payload)
-            }
-            DataFamily::Tunnel(family) => {
-                PayloadFamily::<InfoDataOf<P>>::canonical_len(family, payload)
-            }
-            DataFamily::Peered(family) => {
-                PayloadFamily::<InfoDataOf<P>>::canonical_len(family, payload)
-            }
-            DataFamily::Raw => fitting(payload.len()),
-        }
-    }
-
-    fn write_canonical(self, payload: &[u8], buffer: &mut [u8]) -> usize {
-        match self {
-            DataFamily::Lower(family) => {
-                PayloadFamily::<InfoDataOf<P>>::write_canonical(family, payload, buffer)
-            }
-            DataFamily::Device(family) => {
-                PayloadFamily::<InfoDataOf<P>>::write_canonical(family, payload, buffer)
-            }
-            DataFamily::Tunnel(family) => {
-                PayloadFamily::<InfoDataOf<P>>::write_canonical(family, payload, buffer)
-            }
-            DataFamily::Peered(family) => {
-                PayloadFamily::<InfoDataOf<P>>::write_canonical(family, payload, buffer)
-            }
-            DataFamily::Raw => write_bytes(payload, buffer),
+            DataFamily::Raw => question.of_bytes(count, buffer),
         }
     }
 }

@@ -1,6 +1,7 @@
 //! Data of ipvlan, ipvtap, macvlan, macvtap, vrf, ipoib, xfrm, macsec and rmnet links.
 
-use crate::layers::data::calls::{canonical_len, check, read, same, write_canonical};
+use crate::layers::data::ask::Ask;
+use crate::layers::data::calls::{ask, read};
 use crate::layers::data::info_data::InfoDataOf;
 use crate::layers::data::payload_family::PayloadFamily;
 use crate::layers::devices::{
@@ -87,19 +88,7 @@ impl<P: LinkPeer> PayloadFamily<InfoDataOf<P>> for DeviceFamily {
     }
 
     #[inline(always)]
-    fn check(self, payload: &[u8], count: &mut HeaderCount) -> Result<(), DecodeError> {
-        of_device!(self, check(payload, count))
-    }
-
-    fn same(self, a: &[u8], b: &[u8], count: &mut HeaderCount) -> bool {
-        of_device!(self, same(a, b, count))
-    }
-
-    fn canonical_len(self, payload: &[u8]) -> Option<usize> {
-        of_device!(self, canonical_len(payload))
-    }
-
-    fn write_canonical(self, payload: &[u8], buffer: &mut [u8]) -> usize {
-        of_device!(self, write_canonical(payload, buffer))
+    fn ask<Q: Ask>(self, question: Q, count: &mut HeaderCount, buffer: &mut [u8]) -> Q::Answer {
+        of_device!(self, ask(question, count, buffer))
     }
 }

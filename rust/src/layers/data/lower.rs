@@ -1,17 +1,15 @@
 //! Data of bridge, vlan, bond, hsr, can and dsa links.
 
+use crate::layers::data::ask::Ask;
+use crate::layers::data::calls::{ask, read};
 use crate::layers::data::info_data::InfoDataOf;
-use crate::layers::data::lists::read_nlas;
 use crate::layers::data::payload_family::PayloadFamily;
 use crate::layers::nla_frame::{DecodeError, ExactEq, Family, HeaderCount};
-use crate::layers::table::lower::InfoBridge;
-use crate::layers::table::{
-    LinkPeer, list_canonical_len, list_check, list_same, list_write_canonical,
-};
+use crate::layers::table::LinkPeer;
+use crate::layers::table::lower::{InfoBond, InfoBridge, InfoCan, InfoDsa, InfoHsr, InfoVlan};
 
 /// The families of data of bridge, vlan, bond, hsr, can and dsa links, whose attributes are kept
-/// verbatim. So what is checked, compared and written of a list does not depend on its family: one
-/// of them stands for all.
+/// verbatim.
 #[derive(Clone, Copy, Debug, PartialEq, Eq)]
 pub enum LowerFamily {
     /// Attributes of `bridge` links (`IFLA_BR_*`).
@@ -30,6 +28,20 @@ pub enum LowerFamily {
 
 impl ExactEq for LowerFamily {}
 
+/// Matches a family, and expands `$call!`, of `calls`, for its data.
+macro_rules! of_lower {
+    ($family:expr, $call:ident $given:tt) => {
+        match $family {
+            LowerFamily::Bridge => $call!(list(InfoDataOf::Bridge, InfoBridge, ()) $given),
+            LowerFamily::Vlan => $call!(list(InfoDataOf::Vlan, InfoVlan, ()) $given),
+            LowerFamily::Bond => $call!(list(InfoDataOf::Bond, InfoBond, ()) $given),
+            LowerFamily::Hsr => $call!(list(InfoDataOf::Hsr, InfoHsr, ()) $given),
+            LowerFamily::Can => $call!(list(InfoDataOf::Can, InfoCan, ()) $given),
+            LowerFamily::Dsa => $call!(list(InfoDataOf::Dsa, InfoDsa, ()) $given),
+        }
+    };
+}
+
 impl<P: LinkPeer> PayloadFamily<InfoDataOf<P>> for LowerFamily {
     fn listing(self) -> Option<Family> {
         match self {
@@ -47,30 +59,11 @@ impl<P: LinkPeer> PayloadFamily<InfoDataOf<P>> for LowerFamily {
     }
 
     fn read(self, payload: &[u8], count: &mut HeaderCount) -> Result<InfoDataOf<P>, DecodeError> {
-        Ok(match self {
-            LowerFamily::Bridge => InfoDataOf::Bridge(read_nlas(payload, (), count)?),
-            LowerFamily::Vlan => InfoDataOf::Vlan(read_nlas(payload, (), count)?),
-            LowerFamily::Bond => InfoDataOf::Bond(read_nlas(payload, (), count)?),
-            LowerFamily::Hsr => InfoDataOf::Hsr(read_nlas(payload, (), count)?),
-            LowerFamily::Can => InfoDataOf::Can(read_nlas(payload, (), count)?),
-            LowerFamily::Dsa => InfoDataOf::Dsa(read_nlas(payload, (), count)?),
-        })
+        Ok(of_lower!(self, read(payload, count)))
     }
 
     #[inline(always)]
-    fn check(self, payload: &[u8], count: &mut HeaderCount) -> Result<(), DecodeError> {
-        list_check::<InfoBridge>(payload, (), count)
-    }
-
-    fn same(self, a: &[u8], b: &[u8], count: &mut HeaderCount) -> bool {
-        list_same::<InfoBridge>(a, b, (), count)
-    }
-
-    fn canonical_len(self, payload: &[u8]) -> Option<usize> {
-        list_canonical_len::<InfoBridge>(payload, ())
-    }
-
-    fn write_canonical(self, payload: &[u8], buffer: &mut [u8]) -> usize {
-        list_write_canonical::<InfoBridge>(payload, (), buffer)
+    fn ask<Q: Ask>(self, question: Q, count: &mut HeaderCount, buffer: &mut [u8]) -> Q::Answer {
+        of_lower!(self, ask(question, count, buffer))
     }
 }

@@ -1,6 +1,7 @@
 //! Data of links (`IFLA_INFO_DATA`) and of ports (`IFLA_INFO_SLAVE_DATA`), by the family that the
 //! kind chooses.
 
+mod ask;
 mod calls;
 mod data;
 mod devices;
@@ -15,6 +16,7 @@ mod port_data;
 mod tunnels;
 mod unmet;
 
+pub use ask::{Ask, CanonicalLen, Check, Same, WriteCanonical};
 pub use data::{DataFamily, family_of};
 pub use devices::DeviceFamily;
 pub use difference::{Difference, list_difference, list_error};

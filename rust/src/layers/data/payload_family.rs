@@ -1,5 +1,6 @@
 //! Payloads that are parsed, validated, compared and written by a family chosen among several.
 
+use crate::layers::data::ask::{Ask, CanonicalLen, Check, Same, WriteCanonical};
 use crate::layers::nla_frame::{DecodeError, Family, HeaderCount};
 
 /// A choice of a family: payloads are parsed, validated, compared and written as data of the family
@@ -25,6 +26,14 @@ pub trait PayloadFamily<D>: Copy {
     /// not panic then, the result has no meaning.
     fn read(self, payload: &[u8], count: &mut HeaderCount) -> Result<D, DecodeError>;
 
+    /// Answers a question about payloads. Does not allocate.
+    ///
+    /// # Panics
+    ///
+    /// May panic where a condition of the caller that is named here does not hold. Where it does
+    /// not panic then, the result has no meaning.
+    fn ask<Q: Ask>(self, question: Q, count: &mut HeaderCount, buffer: &mut [u8]) -> Q::Answer;
+
     /// Validates a payload: returns `Ok` if `read` accepts it, otherwise the error of the payload.
     ///
     /// The count rises by the headers examined, at most a quarter of the payload's bytes. Requires
@@ -34,7 +43,9 @@ pub trait PayloadFamily<D>: Copy {
     ///
     /// May panic where a condition of the caller that is named here does not hold. Where it does
     /// not panic then, the result has no meaning.
-    fn check(self, payload: &[u8], count: &mut HeaderCount) -> Result<(), DecodeError>;
+    fn check(self, payload: &[u8], count: &mut HeaderCount) -> Result<(), DecodeError> {
+        self.ask(Check { payload }, count, &mut [])
+    }
 
     /// Returns whether two payloads are equivalent: whether they parse as equal data.
     ///
@@ -46,7 +57,9 @@ pub trait PayloadFamily<D>: Copy {
     ///
     /// May panic where a condition of the caller that is named here does not hold. Where it does
     /// not panic then, the result has no meaning.
-    fn same(self, a: &[u8], b: &[u8], count: &mut HeaderCount) -> bool;
+    fn same(self, a: &[u8], b: &[u8], count: &mut HeaderCount) -> bool {
+        self.ask(Same { a, b }, count, &mut [])
+    }
 
     /// The length, in bytes, of the canonical payload of the data that a payload parses as, or
     /// `None` if it is above 65531. Requires that the payload is accepted. Does not allocate.
@@ -55,7 +68,9 @@ pub trait PayloadFamily<D>: Copy {
     ///
     /// May panic where a condition of the caller that is named here does not hold. Where it does
     /// not panic then, the result has no meaning.
-    fn canonical_len(self, payload: &[u8]) -> Option<usize>;
+    fn canonical_len(self, payload: &[u8]) -> Option<usize> {
+        self.ask(CanonicalLen { payload }, &mut HeaderCount::new(), &mut [])
+    }
 
     /// Writes the canonical payload of the data that a payload parses as to the front of the
     /// buffer, and returns its length in bytes. The rest of the buffer is unchanged.
@@ -67,5 +82,7 @@ pub trait PayloadFamily<D>: Copy {
     ///
     /// May panic where a condition of the caller that is named here does not hold. Where it does
     /// not panic then, the result has no meaning.
-    fn write_canonical(self, payload: &[u8], buffer: &mut [u8]) -> usize;
+    fn write_canonical(self, payload: &[u8], buffer: &mut [u8]) -> usize {
+        self.ask(WriteCanonical { payload }, &mut HeaderCount::new(), buffer)
+    }
 }

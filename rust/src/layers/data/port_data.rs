@@ -1,6 +1,7 @@
 //! The data of a port: `IFLA_INFO_SLAVE_DATA`, include/uapi/linux/if_link.h.
 
-use crate::layers::data::calls::{canonical_len, check, read, same, write_canonical};
+use crate::layers::data::ask::Ask;
+use crate::layers::data::calls::{ask, read};
 use crate::layers::data::lists::{list_fit_len, write_list};
 use crate::layers::data::payload_family::PayloadFamily;
 use crate::layers::devices::InfoVrfPort;
@@ -88,20 +89,8 @@ impl PayloadFamily<InfoPortData> for PortFamily {
     }
 
     #[inline(always)]
-    fn check(self, payload: &[u8], count: &mut HeaderCount) -> Result<(), DecodeError> {
-        of_port!(self, check(payload, count))
-    }
-
-    fn same(self, a: &[u8], b: &[u8], count: &mut HeaderCount) -> bool {
-        of_port!(self, same(a, b, count))
-    }
-
-    fn canonical_len(self, payload: &[u8]) -> Option<usize> {
-        of_port!(self, canonical_len(payload))
-    }
-
-    fn write_canonical(self, payload: &[u8], buffer: &mut [u8]) -> usize {
-        of_port!(self, write_canonical(payload, buffer))
+    fn ask<Q: Ask>(self, question: Q, count: &mut HeaderCount, buffer: &mut [u8]) -> Q::Answer {
+        of_port!(self, ask(question, count, buffer))
     }
 }
 

@@ -36,7 +36,7 @@ list_difference-loop-p-preserved g t c =
     let y = c.loop-p.y.now in
     let payload = g.F.PayloadFamily.data_of c.args.family in
     let listed =
-    is_list payload payload.listing c.args.name (g.met.F.PayloadFamily.listed c.args.family)
+    is_list payload payload.listing c.args.name (g.met.F.PayloadFamily.known c.args.family).listed
     c.requires.listed in
     let front_a =
     left_at_attribute a x c.in-Some-Ok.after_p.now c.in-Some-Ok.p _ _ step_x before.left_a in
@@ -68,11 +68,11 @@ pair_difference-list_difference-requires g t c κs within =
     let met = g.met.F.PayloadFamily in
     let is = sym c.inner_family_of.ensures ∙ c.in-Some.is in
     let both =
-    inner_accepted family.data_of family.nested_in met.listed met.nests c.args.family
+    inner_accepted family.data_of family.nested_in (λ f. (met.known f).listed) met.nests c.args.family
     c.in-Some.inner c.args.name c.args.p.now.nla c.args.q.now.nla is c.requires.listed
     c.requires.first_accepted c.requires.second_accepted in
     let listed =
-    inner_listed family.data_of family.nested_in met.listed met.nests c.args.family c.in-Some.inner
+    inner_listed family.data_of family.nested_in (λ f. (met.known f).listed) met.nests c.args.family c.in-Some.inner
     c.args.name c.args.p.now.nla c.args.q.now.nla is c.requires.listed in (
       omega (arith, c.decreases, ap length c.value-x.ensures.value),
       (
@@ -107,7 +107,7 @@ pair_difference-returns-in_ok-inside-in-Some-clause-difference g t c =
     let met = g.met.F.PayloadFamily in
     let is = sym c.inner_family_of.ensures ∙ c.in-Some.is in
     let nested =
-    pair_nested family.data_of family.nested_in met.listed met.nests c.args.family c.in-Some.inner
+    pair_nested family.data_of family.nested_in (λ f. (met.known f).listed) met.nests c.args.family c.in-Some.inner
     c.args.name c.args.p.now c.args.q.now is c.requires.listed in
     let told =
     rw (c.value-x.ensures.value, c.value-y.ensures.value)

@@ -1,7 +1,7 @@
 use Rattle.std.specs.Prelude.{None}
-use Rattle.linkinfo_data.specs.Data.{data_listed, data_nest, data_nested_in, data_of}
+use Rattle.linkinfo_data.specs.Data.{data_known, data_nest, data_nested_in, data_of}
 use Rattle.linkinfo_data.specs.PeerFamilies.{families_of}
-use Rattle.linkinfo_data.specs.PortData.{port_data_of, port_listed, port_nest}
+use Rattle.linkinfo_data.specs.PortData.{port_data_of, port_known, port_nest}
 use Rattle.linkinfo_data.proofs.Differences.{is_located}
 use Rattle.linkinfo_data.proofs.laws.located.Goals as goal
 
@@ -10,6 +10,7 @@ returns g c =
     let families = families_of g.row.P g.P.LinkPeer in
     record {
       link =
-          is_located (data_of families) data_nested_in (data_listed families) (data_nest families);
-      port = is_located port_data_of (λ _. None) port_listed port_nest;
+          is_located (data_of families) data_nested_in (λ f. (data_known families f).listed)
+          (data_nest families);
+      port = is_located port_data_of (λ _. None) (λ f. (port_known f).listed) port_nest;
     }

@@ -32,7 +32,7 @@ pub is_met-requires-clause-found_accepted : goal.is_met-requires-clause-found_ac
 is_met-requires-clause-found_accepted g c =
     let payload = g.F.PayloadFamily.data_of c.args.family in
     let listed =
-    is_list payload payload.listing c.args.name (g.met.F.PayloadFamily.listed c.args.family)
+    is_list payload payload.listing c.args.name (g.met.F.PayloadFamily.known c.args.family).listed
     c.requires.listed in
     indexed_holds (λ p. IsAccepted payload p.nla) c.args.have.now c.new-found.result
     c.kind-kind.result c.find-last.result (rw c.new-found.ensures refl) c.find-last.ensures.last
@@ -46,7 +46,7 @@ loop-nla-preserved-else-not-is_met g c =
     let have = attributes_of c.args.have.now in
     let payload = g.F.PayloadFamily.data_of c.args.family in
     let listed =
-    is_list payload payload.listing c.args.name (g.met.F.PayloadFamily.listed c.args.family)
+    is_list payload payload.listing c.args.name (g.met.F.PayloadFamily.known c.args.family).listed
     c.requires.listed in
     let front =
     left_at_attribute want c.loop-nla.rest.now c.in-Some-Ok.after.now c.in-Some-Ok.nla _ _ step
@@ -86,7 +86,7 @@ loop-nla-preserved g c =
     let have = attributes_of c.args.have.now in
     let payload = g.F.PayloadFamily.data_of c.args.family in
     let listed =
-    is_list payload payload.listing c.args.name (g.met.F.PayloadFamily.listed c.args.family)
+    is_list payload payload.listing c.args.name (g.met.F.PayloadFamily.known c.args.family).listed
     c.requires.listed in
     let front =
     left_at_attribute want c.loop-nla.rest.now c.in-Some-Ok.after.now c.in-Some-Ok.nla _ _ step

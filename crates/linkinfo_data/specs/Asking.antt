@@ -1,0 +1,128 @@
+-- What a question about payloads requires, and what answers it. A question is answered without the
+-- value that a payload parses as: so its answer does not depend on the variant that holds the value.
+use Rattle.std.specs.Prelude.{
+  ◌≡◌,
+  ℕ,
+  ◌+◌,
+  ◌*◌,
+  ◌/◌,
+  ◌<◌,
+  ◌≤◌,
+  ◌^◌,
+  ◌++◌,
+  Bool,
+  IsOk,
+  List,
+  Ok,
+  Option,
+  Result,
+  SomeIff,
+  drop,
+  length,
+}
+use Rattle.std.specs.Bool.{OnTrue}
+use Rattle.std.specs.Str.{bytes_eq}
+use Rattle.nla_frame.specs.Answers.{verdict}
+use Rattle.nla_frame.specs.Attribute.{Attribute}
+use Rattle.nla_frame.specs.NlaItems.{nla_items}
+use Rattle.nla_frame.specs.declared.error.DecodeError.{DecodeError}
+use Rattle.linkinfo_table.specs.Lists.{
+  alike_pairs,
+  canonical_first,
+  canonical_list,
+  first_alike,
+  first_headers,
+  first_meaning,
+  headers_of,
+  values,
+}
+use Rattle.linkinfo_data.specs.Payloads.{Payload}
+
+-- of payloads, what does not depend on the variant: as in `Payload`
+pub record Facts : Type 0 where
+  pub verdicts : List ℕ → Result (Unit {0}) DecodeError
+  pub headers : List ℕ → ℕ
+  pub alike : List ℕ → List ℕ → Bool
+  pub canonical : List ℕ → List ℕ
+
+abbrev pub facts_of : {X : Type 0} → Payload X → Facts
+facts_of payload = record {
+  verdicts = payload.verdicts;
+  headers = payload.headers;
+  alike = payload.alike;
+  canonical = payload.canonical;
+}
+
+-- payloads that are lists of attributes of a family
+abbrev pub list_facts : {A : Type 0} → (A → Attribute) → (Attribute → Result A DecodeError) →
+    (Attribute → ℕ) → (Attribute → Attribute → Bool) → Facts
+list_facts attribute meaning headers alike = record {
+  verdicts = λ p. verdict (values meaning (nla_items p));
+  headers = λ p. headers_of meaning headers (nla_items p);
+  alike = λ p q. alike_pairs alike (nla_items p) (nla_items q);
+  canonical = λ p. canonical_list attribute meaning (nla_items p);
+}
+
+-- payloads of which the first attribute, of a family, is parsed
+abbrev pub first_facts : {A : Type 0} → (A → Attribute) → (Attribute → Result A DecodeError) →
+    (Attribute → ℕ) → (Attribute → Attribute → Bool) → Facts
+first_facts attribute meaning headers alike = record {
+  verdicts = λ p. verdict (first_meaning meaning (nla_items p));
+  headers = λ p. first_headers headers (nla_items p);
+  alike = λ p q. first_alike alike (nla_items p) (nla_items q);
+  canonical = λ p. canonical_first attribute meaning (nla_items p);
+}
+
+-- payloads that are kept as bytes
+abbrev pub bytes_facts : Facts
+bytes_facts = record {
+  verdicts = λ _. Ok tt;
+  headers = λ _. 0;
+  alike = λ p q. bytes_eq p q;
+  canonical = λ p. p;
+}
+
+-- whether a payload is accepted: a `usize` can count its headers
+abbrev pub CheckReady : Facts → List ℕ → ℕ → Type 0
+CheckReady facts p old = old + length p / 4 < 2 ^ 64
+
+abbrev pub Checked : Facts → List ℕ → ℕ → ℕ → Result (Unit {0}) DecodeError → Type 0
+Checked facts p old new result =
+    (result ≡ facts.verdicts p)
+    × (new ≡ old + facts.headers p)
+    × (4 * new ≤ 4 * old + length p)
+
+-- whether two payloads are equivalent: both are accepted, and a `usize` can count their headers
+abbrev pub SameReady : Facts → List ℕ → List ℕ → ℕ → Type 0
+SameReady facts p q old =
+    IsOk (facts.verdicts p)
+    × IsOk (facts.verdicts q)
+    × (old + (length p + length q) / 4 < 2 ^ 64)
+
+abbrev pub Compared : Facts → List ℕ → List ℕ → ℕ → ℕ → Bool → Type 0
+Compared facts p q old new result =
+    (result ≡ facts.alike p q)
+    × OnTrue result (new ≡ old + (facts.headers p + facts.headers q))
+    × (old ≤ new)
+    × (4 * new ≤ 4 * old + (length p + length q))
+
+-- the length of the canonical payload, if it is one: the payload is accepted
+abbrev pub LenReady : Facts → List ℕ → Type 0
+LenReady facts p = IsOk (facts.verdicts p)
+
+abbrev pub Measured : Facts → List ℕ → Option ℕ → Type 0
+Measured facts p result =
+    let len = length (facts.canonical p) in SomeIff result (len ≤ 65531) len
+
+-- the canonical payload at the front of a buffer: the payload is accepted, the canonical one fits a
+-- payload, and the buffer has room for it
+abbrev pub WriteReady : Facts → List ℕ → List ℕ → Type 0
+WriteReady facts p buffer =
+    IsOk (facts.verdicts p)
+    × (length (facts.canonical p) ≤ 65531)
+    × (length (facts.canonical p) ≤ length buffer)
+
+abbrev pub Written : Facts → List ℕ → List ℕ → List ℕ → ℕ → Type 0
+Written facts p buffer after result =
+    (result ≡ length (facts.canonical p))
+    × (after ≡ facts.canonical p ++ drop (length (facts.canonical p)) buffer)

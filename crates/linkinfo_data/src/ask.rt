@@ -1,0 +1,239 @@
+//! Questions about payloads that are answered without the values that they parse as: whether a
+//! payload is accepted, whether two are equivalent, how long the canonical payload is, and the
+//! canonical payload itself.
+
+ghost use Rattle.std.specs.Prelude.{ℕ, List};
+ghost use Rattle.linkinfo_data.specs.Asking.{
+  CheckReady,
+  Checked,
+  Compared,
+  Facts,
+  LenReady,
+  Measured,
+  SameReady,
+  WriteReady,
+  Written,
+  bytes_facts,
+  first_facts,
+  list_facts,
+};
+
+use linkinfo_table::{
+    LinkFamily, first_canonical_len, first_check, first_same, first_write_canonical,
+    list_canonical_len, list_check, list_same, list_write_canonical,
+};
+use nla_frame::{DecodeError, HeaderCount, fitting, write_bytes};
+
+/// A question about payloads, answered for payloads of each sort. A family says of which sort its
+/// payloads are (`PayloadFamily::ask`).
+///
+/// A question may count the headers that it examines, and may write to the front of a buffer.
+pub trait Ask: Sized {
+    /// The answer to the question.
+    type Answer;
+
+    /// What the question requires of the count and the buffer.
+    ghost ready: { Facts → Self → ℕ → List ℕ → Type 0 };
+
+    /// What the answer is, and what the count and the buffer are after it.
+    ghost answered: { Facts → Self → ℕ → ℕ → List ℕ → List ℕ → Self.Answer → Type 0 };
+
+    /// Answers for payloads that are lists of attributes of a family. Does not allocate.
+    fn of_list<F: LinkFamily>(
+        self,
+        ctx: F::Context,
+        count: &mut HeaderCount,
+        buffer: &mut [u8],
+    ) -> Self::Answer
+        requires { ready (list_facts F.attribute (F.meaning ctx) (F.headers ctx) (F.alike ctx)) self
+            count.old buffer.old }
+        ensures { answered (list_facts F.attribute (F.meaning ctx) (F.headers ctx) (F.alike ctx))
+            self count.old count.new buffer.old buffer.new result };
+
+    /// Answers for payloads of which the first attribute, of a family, is parsed, and the rest
+    /// ignored. Does not allocate.
+    fn of_first<F: LinkFamily>(
+        self,
+        ctx: F::Context,
+        count: &mut HeaderCount,
+        buffer: &mut [u8],
+    ) -> Self::Answer
+        requires { ready (first_facts F.attribute (F.meaning ctx) (F.headers ctx) (F.alike ctx))
+            self count.old buffer.old }
+        ensures { answered (first_facts F.attribute (F.meaning ctx) (F.headers ctx) (F.alike ctx))
+            self count.old count.new buffer.old buffer.new result };
+
+    /// Answers for payloads that are kept as bytes. Does not allocate.
+    fn of_bytes(self, count: &mut HeaderCount, buffer: &mut [u8]) -> Self::Answer
+        requires { ready bytes_facts self count.old buffer.old }
+        ensures { answered bytes_facts self count.old count.new buffer.old buffer.new result };
+}
+
+/// Whether a payload is accepted, and if not, its error. Counts the headers that are examined.
+#[derive(Clone, Copy)]
+pub struct Check<'a> {
+    /// The payload.
+    pub payload: &'a [u8],
+}
+
+impl<'a> Ask for Check<'a> {
+    type Answer = Result<(), DecodeError>;
+
+    ghost ready = { λ facts question count _. CheckReady facts question.payload.now count };
+
+    ghost answered = { λ facts question count counted _ _ answer.
+        Checked facts question.payload.now count counted answer };
+
+    #[inline(always)]
+    fn of_list<F: LinkFamily>(
+        self,
+        ctx: F::Context,
+        count: &mut HeaderCount,
+        _buffer: &mut [u8],
+    ) -> Result<(), DecodeError> {
+        list_check::<F>(self.payload, ctx, count)
+    }
+
+    #[inline(always)]
+    fn of_first<F: LinkFamily>(
+        self,
+        ctx: F::Context,
+        count: &mut HeaderCount,
+        _buffer: &mut [u8],
+    ) -> Result<(), DecodeError> {
+        first_check::<F>(self.payload, ctx, count)
+    }
+
+    #[inline(always)]
+    fn of_bytes(self, _count: &mut HeaderCount, _buffer: &mut [u8]) -> Result<(), DecodeError> {
+        Ok(())
+    }
+}
+
+/// Whether two accepted payloads are equivalent. Counts the headers that are examined.
+#[derive(Clone, Copy)]
+pub struct Same<'a> {
+    /// The first payload.
+    pub a: &'a [u8],
+    /// The second payload.
+    pub b: &'a [u8],
+}
+
+impl<'a> Ask for Same<'a> {
+    type Answer = bool;
+
+    ghost ready = { λ facts question count _.
+        SameReady facts question.a.now question.b.now count };
+
+    ghost answered = { λ facts question count counted _ _ answer.
+        Compared facts question.a.now question.b.now count counted answer };
+
+    #[inline(always)]
+    fn of_list<F: LinkFamily>(
+        self,
+        ctx: F::Context,
+        count: &mut HeaderCount,
+        _buffer: &mut [u8],
+    ) -> bool {
+        list_same::<F>(self.a, self.b, ctx, count)
+    }
+
+    #[inline(always)]
+    fn of_first<F: LinkFamily>(
+        self,
+        ctx: F::Context,
+        count: &mut HeaderCount,
+        _buffer: &mut [u8],
+    ) -> bool {
+        first_same::<F>(self.a, self.b, ctx, count)
+    }
+
+    #[inline(always)]
+    fn of_bytes(self, _count: &mut HeaderCount, _buffer: &mut [u8]) -> bool {
+        self.a == self.b
+    }
+}
+
+/// The length, in bytes, of the canonical payload of an accepted payload, or `None` if it is above
+/// 65531.
+#[derive(Clone, Copy)]
+pub struct CanonicalLen<'a> {
+    /// The payload.
+    pub payload: &'a [u8],
+}
+
+impl<'a> Ask for CanonicalLen<'a> {
+    type Answer = Option<usize>;
+
+    ghost ready = { λ facts question _ _. LenReady facts question.payload.now };
+
+    ghost answered = { λ facts question _ _ _ _ answer.
+        Measured facts question.payload.now answer };
+
+    #[inline(always)]
+    fn of_list<F: LinkFamily>(
+        self,
+        ctx: F::Context,
+        _count: &mut HeaderCount,
+        _buffer: &mut [u8],
+    ) -> Option<usize> {
+        list_canonical_len::<F>(self.payload, ctx)
+    }
+
+    #[inline(always)]
+    fn of_first<F: LinkFamily>(
+        self,
+        ctx: F::Context,
+        _count: &mut HeaderCount,
+        _buffer: &mut [u8],
+    ) -> Option<usize> {
+        first_canonical_len::<F>(self.payload, ctx)
+    }
+
+    #[inline(always)]
+    fn of_bytes(self, _count: &mut HeaderCount, _buffer: &mut [u8]) -> Option<usize> {
+        fitting(self.payload.len())
+    }
+}
+
+/// Writes the canonical payload of an accepted payload to the front of the buffer. The answer is
+/// its length in bytes. Requires that it has at most 65531 bytes, and that the buffer has room.
+#[derive(Clone, Copy)]
+pub struct WriteCanonical<'a> {
+    /// The payload.
+    pub payload: &'a [u8],
+}
+
+impl<'a> Ask for WriteCanonical<'a> {
+    type Answer = usize;
+
+    ghost ready = { λ facts question _ buffer. WriteReady facts question.payload.now buffer };
+
+    ghost answered = { λ facts question _ _ before after answer.
+        Written facts question.payload.now before after answer };
+
+    #[inline(always)]
+    fn of_list<F: LinkFamily>(
+        self,
+        ctx: F::Context,
+        _count: &mut HeaderCount,
+        buffer: &mut [u8],
+    ) -> usize {
+        list_write_canonical::<F>(self.payload, ctx, buffer)
+    }
+
+    #[inline(always)]
+    fn of_first<F: LinkFamily>(
+        self,
+        ctx: F::Context,
+        _count: &mut HeaderCount,
+        buffer: &mut [u8],
+    ) -> usize {
+        first_write_canonical::<F>(self.payload, ctx, buffer)
+    }
+
+    #[inline(always)]
+    fn of_bytes(self, _count: &mut HeaderCount, buffer: &mut [u8]) -> usize {
+        write_bytes(self.payload, buffer)
+    }
+}

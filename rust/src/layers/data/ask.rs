@@ -1,0 +1,201 @@
+//! Questions about payloads that are answered without the values that they parse as: whether a
+//! payload is accepted, whether two are equivalent, how long the canonical payload is, and the
+//! canonical payload itself.
+
+use crate::layers::nla_frame::{DecodeError, HeaderCount, fitting, write_bytes};
+use crate::layers::table::{
+    LinkFamily, first_canonical_len, first_check, first_same, first_write_canonical,
+    list_canonical_len, list_check, list_same, list_write_canonical,
+};
+
+/// A question about payloads, answered for payloads of each sort. A family says of which sort its
+/// payloads are (`PayloadFamily::ask`).
+///
+/// A question may count the headers that it examines, and may write to the front of a buffer.
+pub trait Ask: Sized {
+    /// The answer to the question.
+    type Answer;
+
+    /// Answers for payloads that are lists of attributes of a family. Does not allocate.
+    ///
+    /// # Panics
+    ///
+    /// May panic where a condition of the caller that is named here does not hold. Where it does
+    /// not panic then, the result has no meaning.
+    fn of_list<F: LinkFamily>(
+        self,
+        ctx: F::Context,
+        count: &mut HeaderCount,
+        buffer: &mut [u8],
+    ) -> Self::Answer;
+
+    /// Answers for payloads of which the first attribute, of a family, is parsed, and the rest
+    /// ignored. Does not allocate.
+    ///
+    /// # Panics
+    ///
+    /// May panic where a condition of the caller that is named here does not hold. Where it does
+    /// not panic then, the result has no meaning.
+    fn of_first<F: LinkFamily>(
+        self,
+        ctx: F::Context,
+        count: &mut HeaderCount,
+        buffer: &mut [u8],
+    ) -> Self::Answer;
+
+    /// Answers for payloads that are kept as bytes. Does not allocate.
+    ///
+    /// # Panics
+    ///
+    /// May panic where a condition of the caller that is named here does not hold. Where it does
+    /// not panic then, the result has no meaning.
+    fn of_bytes(self, count: &mut HeaderCount, buffer: &mut [u8]) -> Self::Answer;
+}
+
+/// Whether a payload is accepted, and if not, its error. Counts the headers that are examined.
+#[derive(Clone, Copy)]
+pub struct Check<'a> {
+    /// The payload.
+    pub payload: &'a [u8],
+}
+
+impl<'a> Ask for Check<'a> {
+    type Answer = Result<(), DecodeError>;
+
+    #[inline(always)]
+    fn of_list<F: LinkFamily>(
+        self,
+        ctx: F::Context,
+        count: &mut HeaderCount,
+        _buffer: &mut [u8],
+    ) -> Result<(), DecodeError> {
+        list_check::<F>(self.payload, ctx, count)
+    }
+
+    #[inline(always)]
+    fn of_first<F: LinkFamily>(
+        self,
+        ctx: F::Context,
+        count: &mut HeaderCount,
+        _buffer: &mut [u8],
+    ) -> Result<(), DecodeError> {
+        first_check::<F>(self.payload, ctx, count)
+    }
+
+    #[inline(always)]
+    fn of_bytes(self, _count: &mut HeaderCount, _buffer: &mut [u8]) -> Result<(), DecodeError> {
+        Ok(())
+    }
+}
+
+/// Whether two accepted payloads are equivalent. Counts the headers that are examined.
+#[derive(Clone, Copy)]
+pub struct Same<'a> {
+    /// The first payload.
+    pub a: &'a [u8],
+    /// The second payload.
+    pub b: &'a [u8],
+}
+
+impl<'a> Ask for Same<'a> {
+    type Answer = bool;
+
+    #[inline(always)]
+    fn of_list<F: LinkFamily>(
+        self,
+        ctx: F::Context,
+        count: &mut HeaderCount,
+        _buffer: &mut [u8],
+    ) -> bool {
+        list_same::<F>(self.a, self.b, ctx, count)
+    }
+
+    #[inline(always)]
+    fn of_first<F: LinkFamily>(
+        self,
+        ctx: F::Context,
+        count: &mut HeaderCount,
+        _buffer: &mut [u8],
+    ) -> bool {
+        first_same::<F>(self.a, self.b, ctx, count)
+    }
+
+    #[inline(always)]
+    fn of_bytes(self, _count: &mut HeaderCount, _buffer: &mut [u8]) -> bool {
+        self.a == self.b
+    }
+}
+
+/// The length, in bytes, of the canonical payload of an accepted payload, or `None` if it is above
+/// 65531.
+#[derive(Clone, Copy)]
+pub struct CanonicalLen<'a> {
+    /// The payload.
+    pub payload: &'a [u8],
+}
+
+impl<'a> Ask for CanonicalLen<'a> {
+    type Answer = Option<usize>;
+
+    #[inline(always)]
+    fn of_list<F: LinkFamily>(
+        self,
+        ctx: F::Context,
+        _count: &mut HeaderCount,
+        _buffer: &mut [u8],
+    ) -> Option<usize> {
+        list_canonical_len::<F>(self.payload, ctx)
+    }
+
+    #[inline(always)]
+    fn of_first<F: LinkFamily>(
+        self,
+        ctx: F::Context,
+        _count: &mut HeaderCount,
+        _buffer: &mut [u8],
+    ) -> Option<usize> {
+        first_canonical_len::<F>(self.payload, ctx)
+    }
+
+    #[inline(always)]
+    fn of_bytes(self, _count: &mut HeaderCount, _buffer: &mut [u8]) -> Option<usize> {
+        fitting(self.payload.len())
+    }
+}
+
+/// Writes the canonical payload of an accepted payload to the front of the buffer. The answer is
+/// its length in bytes. Requires that it has at most 65531 bytes, and that the buffer has room.
+#[derive(Clone, Copy)]
+pub struct WriteCanonical<'a> {
+    /// The payload.
+    pub payload: &'a [u8],
+}
+
+impl<'a> Ask for WriteCanonical<'a> {
+    type Answer = usize;
+
+    #[inline(always)]
+    fn of_list<F: LinkFamily>(
+        self,
+        ctx: F::Context,
+        _count: &mut HeaderCount,
+        buffer: &mut [u8],
+    ) -> usize {
+        list_write_canonical::<F>(self.payload, ctx, buffer)
+    }
+
+    #[inline(always)]
+    fn of_first<F: LinkFamily>(
+        self,
+        ctx: F::Context,
+        _count: &mut HeaderCount,
+        buffer: &mut [u8],
+    ) -> usize {
+        first_write_canonical::<F>(self.payload, ctx, buffer)
+    }
+
+    #[inline(always)]
+    fn of_bytes(self, _count: &mut HeaderCount, buffer: &mut [u8]) -> usize {
+        write_bytes(self.payload, buffer)
+    }
+}
