@@ -22,14 +22,14 @@ use Rattle.nla_frame.specs.declared.error.Family.TheVariants as family
 use Rattle.linkinfo_table.specs.Last.{attributes_of}
 use Rattle.linkinfo_table.specs.Rows.{row_alike}
 use Rattle.linkinfo_table.specs.declared.last.PlacedNla.{PlacedNla}
-use Rattle.linkinfo_data.specs.Data.{data_listed, data_nest, data_nested_in, data_of, family_of}
+use Rattle.linkinfo_data.specs.Data.{data_known, data_nest, data_nested_in, data_of, family_of}
 use Rattle.linkinfo_data.specs.Difference.{differ, first_or, inner_difference, pair_difference}
 use Rattle.linkinfo_data.specs.Difference.{pairs_difference}
 use Rattle.linkinfo_data.specs.Families.{Families}
-use Rattle.linkinfo_data.specs.Listed.{IsNested, KeepsListing}
+use Rattle.linkinfo_data.specs.Listed.{IsKnown, IsNested}
 use Rattle.linkinfo_data.specs.Listing.{Listing, alike_in as listed_alike, family_in, lists_in}
 use Rattle.linkinfo_data.specs.Payloads.{Payload}
-use Rattle.linkinfo_data.specs.PortData.{port_data_of, port_family_of, port_listed, port_nest}
+use Rattle.linkinfo_data.specs.PortData.{port_data_of, port_family_of, port_known, port_nest}
 use Rattle.linkinfo_data.specs.declared.difference.Difference.{Difference}
 use Rattle.linkinfo_data.proofs.Differences.{
   list_same,
@@ -60,7 +60,7 @@ use Rattle.linkinfo.proofs.Unmets.{data_ok, port_ok}
 
 -- data has a difference if and only if it is not equivalent
 module _ {F X : Type 0} (data_of : F → Payload X) (nested_in : F → Option (ℕ × F))
-    (listed : (f : F) → KeepsListing (data_of f))
+    (known : (f : F) → IsKnown (data_of f))
     (nest : (f : F) → IsNested data_of f (nested_in f)) where
   data_none : (f : F) (p q : PlacedNla) → IsOk ((data_of f).means p.nla.value) →
       IsOk ((data_of f).means q.nla.value) →
@@ -74,7 +74,7 @@ module _ {F X : Type 0} (data_of : F → Payload X) (nested_in : F → Option (�
       by_listing (Some listing) e =
           let named = ap family_in e in
           let same =
-          list_same data_of nested_in listed nest f listing.family p.nla.value q.nla.value named
+          list_same data_of nested_in known nest f listing.family p.nla.value q.nla.value named
           first second in
           mapped_none (inner_difference p q) _ ∙ (rw e at same)
 
@@ -87,14 +87,14 @@ module _ {P : Type 0} (families : Families P) where
       IsOk (meant families r p.nla) → IsOk (meant families r q.nla) →
       is_none (role_difference families r p q) ≡ row_alike (link_row families r) p.nla q.nla
   role_none (role.Data tag) p q e first second =
-      data_none (data_of families) data_nested_in (data_listed families) (data_nest families)
+      data_none (data_of families) data_nested_in (data_known families) (data_nest families)
       (family_of tag) p q
       (data_ok families tag (role.Data tag) p.nla refl first)
       (data_ok families tag (role.Data tag) q.nla refl second)
       ∙ sym (typed (masked q.nla.kind == masked p.nla.kind) _
       (eq-eqb (masked q.nla.kind) (masked p.nla.kind) e))
   role_none (role.PortData tag) p q e first second =
-      data_none port_data_of (λ _. None) port_listed port_nest (port_family_of tag) p q
+      data_none port_data_of (λ _. None) port_known port_nest (port_family_of tag) p q
       (port_ok families tag (role.PortData tag) p.nla refl first)
       (port_ok families tag (role.PortData tag) q.nla refl second)
       ∙ sym (typed (masked q.nla.kind == masked p.nla.kind) _

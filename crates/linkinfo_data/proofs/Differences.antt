@@ -49,7 +49,7 @@ use Rattle.linkinfo_data.specs.Difference.{first_or, inner_difference, list_diff
 use Rattle.linkinfo_data.specs.Difference.{nested_difference, nested_error, own_error}
 use Rattle.linkinfo_data.specs.Difference.{pair_difference, pairs_difference, payload_error}
 use Rattle.linkinfo_data.specs.Difference.{payloads_difference, stays}
-use Rattle.linkinfo_data.specs.Listed.{IsListed, IsNested, KeepsListing, Nests, accepted_under}
+use Rattle.linkinfo_data.specs.Listed.{IsKnown, IsListed, IsNested, Nests, accepted_under}
 use Rattle.linkinfo_data.specs.Listing.{
   HoldsLists,
   HoldsNone,
@@ -304,11 +304,12 @@ apart_one k held g x y e = apart_by (k == held) e
 
 -- a choice of families for which lists are accepted, and nested, as their contracts say
 module _ {F X : Type 0} (data_of : F → Payload X) (nested_in : F → Option (ℕ × F))
-    (listed : (f : F) → KeepsListing (data_of f))
+    (known : (f : F) → IsKnown (data_of f))
     (nest : (f : F) → IsNested data_of f (nested_in f)) where
   law_of : (f : F) (listing : Listing) → (data_of f).listing ≡ Some listing →
       IsListed (data_of f) listing
-  law_of f listing e = if_some_at (IsListed (data_of f)) (data_of f).listing listing (listed f) e
+  law_of f listing e = if_some_at (IsListed (data_of f)) (data_of f).listing listing
+      (known f).listed e
 
   nests_at : (f g : F) (listing : Listing) (kind : ℕ) → nested_in f ≡ Some (kind, g) →
       (data_of f).listing ≡ Some listing → Nests kind listing (data_of g)
@@ -582,13 +583,13 @@ accepted_where None r e = (λ n. true_ok r (sym e), λ ok. refl)
 accepted_where (Some x) r e = (λ n. absurd cc, λ ok. absurd (let same = ok_true r ok in cc))
 
 module _ {F X : Type 0} (data_of : F → Payload X) (nested_in : F → Option (ℕ × F))
-    (listed : (f : F) → KeepsListing (data_of f))
+    (known : (f : F) → IsKnown (data_of f))
     (nest : (f : F) → IsNested data_of f (nested_in f)) where
   pub is_located : (f : F) → IsLocated (data_of f)
   is_located f = record {
     difference = λ name s t named first second.
-        none_where _ _ (list_same data_of nested_in listed nest f name s t named first second);
+        none_where _ _ (list_same data_of nested_in known nest f name s t named first second);
     error = λ s is.
         accepted_where _ ((data_of f).means s)
-        (error_where_rejected data_of nested_in listed nest f s is);
+        (error_where_rejected data_of nested_in known nest f s is);
   }

@@ -85,12 +85,9 @@ pub record IsListed {X : Type 0} (payload : Payload X) (listing : Listing) : Typ
   pub alike : (s t : List ℕ) (a b : Attribute) → IsOnly s a → IsOnly t b →
       payload.alike s t ≡ listing.alike a b
 
-abbrev pub KeepsListing : {X : Type 0} → Payload X → Type 0
-KeepsListing payload = IfSome payload.listing (IsListed payload)
-
 pub record IsKnown {X : Type 0} (payload : Payload X) : Type 0 where
   pub verdicts : (p : List ℕ) → verdict (payload.means p) ≡ payload.verdicts p
-  pub listed : KeepsListing payload
+  pub listed : IfSome payload.listing (IsListed payload)
 
 -- a variant changes no verdict
 verdict_under : {A X : Type 0} (r : Result A DecodeError) (label : A → X) →

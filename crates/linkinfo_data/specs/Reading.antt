@@ -1,8 +1,7 @@
 -- What a call that parses a payload returns, and by how much it raises the count of headers.
-use Rattle.std.specs.Prelude.{◌≡◌, ℕ, ◌+◌, ◌*◌, ◌≤◌, Bool, Result, Ok, Err}
+use Rattle.std.specs.Prelude.{◌≡◌, ℕ, ◌+◌, ◌*◌, ◌≤◌, Bool, Result}
 use Rattle.nla_frame.specs.Answers.{CertainUnless, Gives, OnAnswer}
 use Rattle.nla_frame.specs.declared.error.DecodeError.{DecodeError}
-use Rattle.linkinfo_table.specs.Lists.{◌>>=◌}
 
 -- The result, for a payload of `len` bytes with this meaning and so many headers, where the count
 -- was `old` before and is `new` after.

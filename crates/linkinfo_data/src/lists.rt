@@ -14,12 +14,19 @@ ghost use Rattle.std.specs.Prelude.{
   length,
   map,
 };
-ghost use Rattle.nla_frame.specs.Answers.{CertainUnless, Gives, OnAnswer};
 ghost use Rattle.nla_frame.specs.Attribute.{canonical_string, list_string};
 ghost use Rattle.nla_frame.specs.NlaItems.{nla_items};
-ghost use Rattle.linkinfo_table.specs.Lists.{headers_of, memory_of, values};
+ghost use Rattle.linkinfo_table.specs.Lists.{
+  first_headers,
+  first_meaning,
+  first_memory,
+  headers_of,
+  memory_of,
+  values,
+};
+ghost use Rattle.linkinfo_data.specs.Reading.{IsRead};
 
-use linkinfo_table::{LinkFamily, list_read};
+use linkinfo_table::{LinkFamily, first_read, list_read};
 use nla_frame::{
     DecodeError, HeaderCount, Nla, Nlas, fitting, nlas_fit_len, write_attribute, write_attributes,
 };
@@ -33,18 +40,28 @@ pub(crate) fn read_nlas<F: LinkFamily>(
     count: &mut HeaderCount,
 ) -> Result<Nlas<F>, DecodeError>
     requires { count.old + length payload.now / 4 < 2 ^ 64 }
-    ensures answer { Gives (λ list. list) result (values (F.meaning ctx) (nla_items payload.now)) }
-    ensures certain { CertainUnless
+    ensures { IsRead (values (F.meaning ctx) (nla_items payload.now))
         (memory_of (F.meaning ctx) (F.needs_memory ctx) (nla_items payload.now))
-        (λ list. list) result
-        (values (F.meaning ctx) (nla_items payload.now)) }
-    ensures counted { OnAnswer result
-        (count.new
-        ≡ count.old + headers_of (F.meaning ctx) (F.headers ctx) (nla_items payload.now)) }
-    ensures rises { count.old ≤ count.new }
-    ensures quarter { 4 * count.new ≤ 4 * count.old + length payload.now }
+        (headers_of (F.meaning ctx) (F.headers ctx) (nla_items payload.now))
+        (length payload.now) count.old count.new result }
 {
     Ok(Nlas::new(list_read(alloc, payload, ctx, count)?))
+}
+
+/// Parses the first attribute of a payload, of one family, and ignores the rest.
+pub(crate) fn read_first<F: LinkFamily>(
+    alloc: Global,
+    payload: &[u8],
+    ctx: F::Context,
+    count: &mut HeaderCount,
+) -> Result<F, DecodeError>
+    requires { count.old + length payload.now / 4 < 2 ^ 64 }
+    ensures { IsRead (first_meaning (F.meaning ctx) (nla_items payload.now))
+        (first_memory (F.needs_memory ctx) (nla_items payload.now))
+        (first_headers (F.headers ctx) (nla_items payload.now))
+        (length payload.now) count.old count.new result }
+{
+    first_read(alloc, payload, ctx, count)
 }
 
 /// Writes the encoding of a list to the front of the buffer, and returns its length in bytes. The

@@ -17,11 +17,12 @@ ghost use Rattle.std.specs.Prelude.{
   length,
 };
 ghost use Rattle.std.specs.Bool.{OnTrue};
-ghost use Rattle.nla_frame.specs.Answers.{CertainUnless, Gives, OnAnswer, verdict};
+ghost use Rattle.nla_frame.specs.Answers.{verdict};
 ghost use Rattle.linkinfo_data.specs.Asking.{facts_of};
 ghost use Rattle.linkinfo_data.specs.Listed.{IsKnown, IsNested};
 ghost use Rattle.linkinfo_data.specs.Listing.{family_in};
 ghost use Rattle.linkinfo_data.specs.Payloads.{Payload};
+ghost use Rattle.linkinfo_data.specs.Reading.{IsRead};
 
 use crate::ask::{Ask, CanonicalLen, Check, Same, WriteCanonical};
 use nla_frame::{DecodeError, Family, HeaderCount};
@@ -53,13 +54,9 @@ pub trait PayloadFamily<D: Drop>: Copy {
     /// at most a quarter of the payload's bytes. Requires that a `usize` can count them.
     fn read(self, alloc: Global, payload: &[u8], count: &mut HeaderCount) -> Result<D, DecodeError>
         requires { count.old + length payload.now / 4 < 2 ^ 64 }
-        ensures answer { Gives (λ value. value) result ((data_of self).means payload.now) }
-        ensures certain { CertainUnless ((data_of self).needs_memory payload.now) (λ value. value)
-            result ((data_of self).means payload.now) }
-        ensures counted { OnAnswer result
-            (count.new ≡ count.old + (data_of self).headers payload.now) }
-        ensures rises { count.old ≤ count.new }
-        ensures quarter { 4 * count.new ≤ 4 * count.old + length payload.now };
+        ensures { IsRead ((data_of self).means payload.now)
+            ((data_of self).needs_memory payload.now) ((data_of self).headers payload.now)
+            (length payload.now) count.old count.new result };
 
     /// Answers a question about payloads. Does not allocate.
     fn ask<Q: Ask>(

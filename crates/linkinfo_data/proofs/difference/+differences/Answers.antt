@@ -68,11 +68,11 @@ pair_difference-list_difference-requires g t c κs within =
     let met = g.met.F.PayloadFamily in
     let is = sym c.inner_family_of.ensures ∙ c.in-Some.is in
     let both =
-    inner_accepted family.data_of family.nested_in (λ f. (met.known f).listed) met.nests c.args.family
+    inner_accepted family.data_of family.nested_in met.known met.nests c.args.family
     c.in-Some.inner c.args.name c.args.p.now.nla c.args.q.now.nla is c.requires.listed
     c.requires.first_accepted c.requires.second_accepted in
     let listed =
-    inner_listed family.data_of family.nested_in (λ f. (met.known f).listed) met.nests c.args.family c.in-Some.inner
+    inner_listed family.data_of family.nested_in met.known met.nests c.args.family c.in-Some.inner
     c.args.name c.args.p.now.nla c.args.q.now.nla is c.requires.listed in (
       omega (arith, c.decreases, ap length c.value-x.ensures.value),
       (
@@ -107,7 +107,7 @@ pair_difference-returns-in_ok-inside-in-Some-clause-difference g t c =
     let met = g.met.F.PayloadFamily in
     let is = sym c.inner_family_of.ensures ∙ c.in-Some.is in
     let nested =
-    pair_nested family.data_of family.nested_in (λ f. (met.known f).listed) met.nests c.args.family c.in-Some.inner
+    pair_nested family.data_of family.nested_in met.known met.nests c.args.family c.in-Some.inner
     c.args.name c.args.p.now c.args.q.now is c.requires.listed in
     let told =
     rw (c.value-x.ensures.value, c.value-y.ensures.value)

@@ -11,7 +11,7 @@ attribute_error-returns-in_ok-inside-in-Some-clause-error g t c =
     let met = g.met.F.PayloadFamily in
     let is = rw c.kind.ensures at (sym c.inner_family.ensures ∙ c.in-Some.is) in
     let nested =
-    error_nested family.data_of family.nested_in (λ f. (met.known f).listed) met.nests c.args.family c.in-Some.inner
+    error_nested family.data_of family.nested_in met.known met.nests c.args.family c.in-Some.inner
     c.args.placed.now.nla is c.requires.listed in
     let told =
     rw c.value.ensures.value at (sym c.list_error.ensures.error ∙ c.in_ok-inside-in-Some.was) in

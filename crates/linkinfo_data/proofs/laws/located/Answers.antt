@@ -10,7 +10,6 @@ returns g c =
     let families = families_of g.row.P g.P.LinkPeer in
     record {
       link =
-          is_located (data_of families) data_nested_in (λ f. (data_known families f).listed)
-          (data_nest families);
-      port = is_located port_data_of (λ _. None) (λ f. (port_known f).listed) port_nest;
+          is_located (data_of families) data_nested_in (data_known families) (data_nest families);
+      port = is_located port_data_of (λ _. None) port_known port_nest;
     }
