@@ -1,33 +1,20 @@
 -- Lemmas for the first difference of two lists of link info.
-use Rattle.std.specs.Prelude.{
-  ◌≡◌,
-  ℕ,
-  ◌==◌,
-  ◌+◌,
-  ◌&&◌,
-  Bool,
-  true,
-  false,
-  if◌then◌else◌,
-  is_none,
-  is_ok,
-}
-use Rattle.std.specs.Prelude.{List, ◌∷◌, length, Option, None, Some, Result, Ok, Err, IsOk, refl}
-use Rattle.std.specs.Option.{option_map}
+use Rattle.std.specs.Prelude.{◌≡◌, ℕ, ◌==◌, ◌&&◌, Bool, true, false, if◌then◌else◌, is_none, is_ok}
+use Rattle.std.specs.Prelude.{List, ◌∷◌, Option, None, Some, IsOk, refl}
 use Rattle.std.proofs.Common.{sym, ap, subst, ◌∙◌, inl, inr}
 use Rattle.std.proofs.lemmas.Bool.{cases_Bool, eq-eqb, eqb-true}
-use Rattle.nla_frame.specs.Attribute.{Attribute, masked}
+use Rattle.nla_frame.specs.Attribute.{masked}
 use Rattle.nla_frame.specs.NlaItems.{nla_items}
 use Rattle.nla_frame.specs.declared.error.Family.TheVariants as family
 use Rattle.linkinfo_table.specs.Last.{attributes_of}
 use Rattle.linkinfo_table.specs.Rows.{row_alike}
 use Rattle.linkinfo_table.specs.declared.last.PlacedNla.{PlacedNla}
 use Rattle.linkinfo_data.specs.Data.{data_known, data_nest, data_nested_in, data_of, family_of}
-use Rattle.linkinfo_data.specs.Difference.{differ, first_or, inner_difference, pair_difference}
+use Rattle.linkinfo_data.specs.Difference.{differ, first_or, inner_difference}
 use Rattle.linkinfo_data.specs.Difference.{pairs_difference}
 use Rattle.linkinfo_data.specs.Families.{Families}
 use Rattle.linkinfo_data.specs.Listed.{IsKnown, IsNested}
-use Rattle.linkinfo_data.specs.Listing.{Listing, alike_in as listed_alike, family_in, lists_in}
+use Rattle.linkinfo_data.specs.Listing.{Listing, family_in}
 use Rattle.linkinfo_data.specs.Payloads.{Payload}
 use Rattle.linkinfo_data.specs.PortData.{port_data_of, port_family_of, port_known, port_nest}
 use Rattle.linkinfo_data.specs.declared.difference.Difference.{Difference}

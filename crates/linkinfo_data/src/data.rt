@@ -153,12 +153,7 @@ impl<P: LinkPeer> PayloadFamily<InfoDataOf<P>> for DataFamily {
     }
 
     #[inline(always)]
-    fn ask<Q: Ask>(
-        self,
-        question: Q,
-        count: &mut HeaderCount,
-        buffer: &mut [u8],
-    ) -> Q::Answer {
+    fn ask<Q: Ask>(self, question: Q, count: &mut HeaderCount, buffer: &mut [u8]) -> Q::Answer {
         match self {
             DataFamily::Lower(family) => PayloadFamily::<InfoDataOf<P>>::ask(
                 family, question, count, buffer,

@@ -115,12 +115,7 @@ impl<P: LinkPeer> PayloadFamily<InfoDataOf<P>> for DeviceFamily {
     }
 
     #[inline(always)]
-    fn ask<Q: Ask>(
-        self,
-        question: Q,
-        count: &mut HeaderCount,
-        buffer: &mut [u8],
-    ) -> Q::Answer {
+    fn ask<Q: Ask>(self, question: Q, count: &mut HeaderCount, buffer: &mut [u8]) -> Q::Answer {
         of_device!(self, ask(question, count, buffer))
     }
 }

@@ -84,12 +84,7 @@ impl<P: LinkPeer> PayloadFamily<InfoDataOf<P>> for LowerFamily {
     }
 
     #[inline(always)]
-    fn ask<Q: Ask>(
-        self,
-        question: Q,
-        count: &mut HeaderCount,
-        buffer: &mut [u8],
-    ) -> Q::Answer {
+    fn ask<Q: Ask>(self, question: Q, count: &mut HeaderCount, buffer: &mut [u8]) -> Q::Answer {
         of_lower!(self, ask(question, count, buffer))
     }
 }

@@ -119,12 +119,7 @@ impl PayloadFamily<InfoPortData> for PortFamily {
     }
 
     #[inline(always)]
-    fn ask<Q: Ask>(
-        self,
-        question: Q,
-        count: &mut HeaderCount,
-        buffer: &mut [u8],
-    ) -> Q::Answer {
+    fn ask<Q: Ask>(self, question: Q, count: &mut HeaderCount, buffer: &mut [u8]) -> Q::Answer {
         of_port!(self, ask(question, count, buffer))
     }
 }

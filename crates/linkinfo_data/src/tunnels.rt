@@ -135,12 +135,7 @@ impl<P: LinkPeer> PayloadFamily<InfoDataOf<P>> for TunnelFamily {
     }
 
     #[inline(always)]
-    fn ask<Q: Ask>(
-        self,
-        question: Q,
-        count: &mut HeaderCount,
-        buffer: &mut [u8],
-    ) -> Q::Answer {
+    fn ask<Q: Ask>(self, question: Q, count: &mut HeaderCount, buffer: &mut [u8]) -> Q::Answer {
         of_tunnel!(self, ask(question, count, buffer))
     }
 }

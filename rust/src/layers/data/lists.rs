@@ -4,7 +4,7 @@ use crate::compat::NextMultiple;
 use crate::layers::nla_frame::{
     DecodeError, HeaderCount, Nla, Nlas, fitting, nlas_fit_len, write_attribute, write_attributes,
 };
-use crate::layers::table::{LinkFamily, list_read};
+use crate::layers::table::{LinkFamily, first_read, list_read};
 
 /// Parses a payload as a list of attributes of one family.
 pub(crate) fn read_nlas<F: LinkFamily>(
@@ -13,6 +13,15 @@ pub(crate) fn read_nlas<F: LinkFamily>(
     count: &mut HeaderCount,
 ) -> Result<Nlas<F>, DecodeError> {
     Ok(Nlas::new(list_read(payload, ctx, count)?))
+}
+
+/// Parses the first attribute of a payload, of one family, and ignores the rest.
+pub(crate) fn read_first<F: LinkFamily>(
+    payload: &[u8],
+    ctx: F::Context,
+    count: &mut HeaderCount,
+) -> Result<F, DecodeError> {
+    first_read(payload, ctx, count)
 }
 
 /// Writes the encoding of a list to the front of the buffer, and returns its length in bytes. The

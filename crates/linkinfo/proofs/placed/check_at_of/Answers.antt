@@ -1,4 +1,4 @@
-use Rattle.std.proofs.Common.{ℕ, ◌+◌, ◌*◌, ◌≤◌, length, sym, ap, subst, arith}
+use Rattle.std.proofs.Common.{◌+◌, ◌*◌, ◌≤◌, length, sym, ap, subst, arith}
 use Rattle.linkinfo.specs.Walks.{LinkWalk, left, place_of}
 use Rattle.linkinfo.proofs.Placing.{
   Went,

@@ -1,9 +1,6 @@
-use Rattle.std.specs.Prelude.{List, ℕ}
-use Rattle.std.proofs.Common.{◌≡◌, Ok, None, subst, sym, ◌∙◌}
+use Rattle.std.proofs.Common.{sym, ◌∙◌}
 use Rattle.std.proofs.lemmas.Slice.Eq.{bytes_eq-Decides}
 use Rattle.linkinfo_data.specs.PeerFamilies.{families_of}
-use Rattle.linkinfo.specs.Strings.{reading}
-use Rattle.linkinfo.specs.Unmet.{strings_unmet, unmet_answer}
 use Rattle.linkinfo.proofs.Meeting.{equal_answer}
 use Rattle.linkinfo.proofs.unmet.first_unmet_of.Goals as goal
 
