@@ -16,7 +16,7 @@ use crate::placed::ErrorIn;
 use crate::role::{CurrentKinds, Role, kinds_after, role_of};
 use linkinfo_data::{
     DataFamilies, DataFamily, Difference, InfoDataOf, InfoPortData, PayloadFamily, PortFamily,
-    family_of, list_difference, port_family_of,
+    family_of, list_difference, port_family_of, same_payloads,
 };
 use linkinfo_table::{LinkPeer, PlacedNla};
 use nla_frame::{Bytes, Family, HeaderCount, next_attribute};
@@ -40,7 +40,7 @@ fn data_difference<D: Drop, F: PayloadFamily<D>>(
             let inside = list_difference::<D, F>(family, name, x, y)?;
             Some(inside.inside(p, q))
         }
-        None if family.same(x, y, &mut HeaderCount::new()) => None,
+        None if same_payloads::<D, F>(family, x, y, &mut HeaderCount::new()) => None,
         None => Some(Difference::of_pair(Family::LinkInfo, p, q)),
     }
 }

@@ -34,8 +34,9 @@ use crate::link_info::LinkInfoOf;
 use crate::role::{CurrentKinds, Role, error, name_in};
 use crate::xstats::LinkXstats;
 use linkinfo_data::{
-    DataFamilies, DataFamily, InfoDataOf, InfoPortData, PayloadFamily, PortFamily, family_of,
-    port_family_of,
+    DataFamilies, DataFamily, InfoDataOf, InfoPortData, PayloadFamily, PortFamily,
+    canonical_payload_len, check_payload, family_of, port_family_of, same_payloads,
+    write_canonical_payload,
 };
 use linkinfo_numbers::{
     IFLA_INFO_DATA, IFLA_INFO_KIND, IFLA_INFO_SLAVE_DATA, IFLA_INFO_SLAVE_KIND, IFLA_INFO_XSTATS,
@@ -151,14 +152,18 @@ pub(crate) fn check_item<P: LinkPeer>(
 {
     match role {
         Role::Kind => Ok(()),
-        Role::Data(tag) => PayloadFamily::<InfoDataOf<P>>::check(
+        Role::Data(tag) => check_payload::<InfoDataOf<P>, DataFamily>(
             family_of(tag),
             nla.value(),
             count,
         ),
         Role::Xstats => Ok(()),
         Role::PortKind => Ok(()),
-        Role::PortData(tag) => port_family_of(tag).check(nla.value(), count),
+        Role::PortData(tag) => check_payload::<InfoPortData, PortFamily>(
+            port_family_of(tag),
+            nla.value(),
+            count,
+        ),
         Role::Misplaced => Err(error(nla, Cause::Order)),
         Role::Unknown => Ok(()),
     }
@@ -190,12 +195,23 @@ pub(crate) fn same_item<P: LinkPeer>(
         Role::Kind => same_kind && shape_same(Shape::Name, a.value(), b.value()),
         Role::Data(tag) => {
             same_kind
-                && PayloadFamily::<InfoDataOf<P>>::same(family_of(tag), a.value(), b.value(), count)
+                && same_payloads::<InfoDataOf<P>, DataFamily>(
+                    family_of(tag),
+                    a.value(),
+                    b.value(),
+                    count,
+                )
         }
         Role::Xstats => same_kind && a.value() == b.value(),
         Role::PortKind => same_kind && shape_same(Shape::Name, a.value(), b.value()),
         Role::PortData(tag) => {
-            same_kind && port_family_of(tag).same(a.value(), b.value(), count)
+            same_kind
+                && same_payloads::<InfoPortData, PortFamily>(
+                    port_family_of(tag),
+                    a.value(),
+                    b.value(),
+                    count,
+                )
         }
         Role::Misplaced => false,
         Role::Unknown => b.raw_kind() == a.raw_kind() && a.value() == b.value(),
@@ -213,10 +229,14 @@ pub(crate) fn item_canonical_len<P: LinkPeer>(nla: &NlaBuffer<'_>, role: Role) -
     let value = nla.value();
     match role {
         Role::Kind => shape_canonical_len(Shape::Name, value),
-        Role::Data(tag) => PayloadFamily::<InfoDataOf<P>>::canonical_len(family_of(tag), value),
+        Role::Data(tag) => {
+            canonical_payload_len::<InfoDataOf<P>, DataFamily>(family_of(tag), value)
+        }
         Role::Xstats => fitting(value.len()),
         Role::PortKind => shape_canonical_len(Shape::Name, value),
-        Role::PortData(tag) => port_family_of(tag).canonical_len(value),
+        Role::PortData(tag) => {
+            canonical_payload_len::<InfoPortData, PortFamily>(port_family_of(tag), value)
+        }
         Role::Misplaced => unreachable!(),
         Role::Unknown => fitting(value.len()),
     }
@@ -287,7 +307,7 @@ fn write_payload<D: Drop, F: PayloadFamily<D>>(
         ++ drop (buffer_len_of
         (record { kind = kind; value = (F.data_of family).canonical payload.now })) buffer.old }
 {
-    let len = family.write_canonical(payload, &mut buffer[4..]);
+    let len = write_canonical_payload::<D, F>(family, payload, &mut buffer[4..]);
     write_frame(buffer, kind, len);
     4 + len.next_multiple_of(4)
 }

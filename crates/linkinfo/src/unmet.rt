@@ -41,7 +41,7 @@ use crate::placed::ErrorIn;
 use crate::role::{CurrentKinds, Role, role_of};
 use linkinfo_data::{
     DataFamilies, DataFamily, InfoDataOf, InfoPortData, PayloadFamily, PortFamily, Unmet, UnmetAt,
-    earlier, family_of, list_unmet, port_family_of,
+    earlier, family_of, list_unmet, port_family_of, same_payloads,
 };
 use linkinfo_numbers::{
     IFLA_INFO_DATA, IFLA_INFO_KIND, IFLA_INFO_SLAVE_DATA, IFLA_INFO_SLAVE_KIND, IFLA_INFO_XSTATS,
@@ -191,7 +191,7 @@ fn data_unmet<D: Drop, F: PayloadFamily<D>>(
                 },
             })
         }
-        None if family.same(had, wanted, &mut HeaderCount::new()) => None,
+        None if same_payloads::<D, F>(family, had, wanted, &mut HeaderCount::new()) => None,
         None => Some(whole(want, Some(have.offset))),
     }
 }

@@ -30,7 +30,7 @@ ghost use Rattle.linkinfo_data.specs.Difference.{
 };
 ghost use Rattle.linkinfo_data.specs.Listing.{accepted_in, alike_in, family_in, lists_in};
 
-use crate::payload_family::PayloadFamily;
+use crate::payload_family::{PayloadFamily, check_payload, same_payloads};
 use linkinfo_table::{PlacedNla, own_bytes};
 use nla_frame::{ExactEq, Family, HeaderCount, next_attribute};
 
@@ -223,7 +223,13 @@ fn pair_difference<D: Drop, F: PayloadFamily<D>>(
             let inside = list_difference::<D, F>(inner, name, x, y)?;
             Some(inside.inside(p, q))
         }
-        None if family.same(own_bytes(a, p), own_bytes(b, q), &mut HeaderCount::new()) => None,
+        None
+            if same_payloads::<D, F>(
+                family,
+                own_bytes(a, p),
+                own_bytes(b, q),
+                &mut HeaderCount::new(),
+            ) => None,
         None => Some(Difference::of_pair(name, p, q)),
     }
 }
@@ -277,7 +283,7 @@ fn attribute_error<D: Drop, F: PayloadFamily<D>>(
         }
         None => {
             let alone = own_bytes(payload, placed);
-            match family.check(alone, &mut HeaderCount::new()) {
+            match check_payload::<D, F>(family, alone, &mut HeaderCount::new()) {
                 Ok(()) => None,
                 Err(_) => Some(0),
             }

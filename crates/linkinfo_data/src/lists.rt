@@ -66,7 +66,6 @@ pub(crate) fn read_first<F: LinkFamily>(
 /// Writes the encoding of a list to the front of the buffer, and returns its length in bytes. The
 /// rest of the buffer is unchanged. Requires that the encoding fits a payload, and that the buffer
 /// has room for it.
-#[tactic(auto, using(nla_frame::proofs::Emitting::list_fits))]
 pub(crate) fn write_list<T: Nla>(list: &Nlas<T>, buffer: &mut [u8]) -> usize
     requires fits { length (list_string (map T.attribute list.now)) ≤ 65531 }
     requires room { length (list_string (map T.attribute list.now)) ≤ length buffer.old }
@@ -79,7 +78,6 @@ pub(crate) fn write_list<T: Nla>(list: &Nlas<T>, buffer: &mut [u8]) -> usize
 }
 
 /// The length, in bytes, of the encoding of a list, or `None` if it does not fit a payload.
-#[tactic(auto, using(nla_frame::proofs::Emitting::list_fits))]
 pub(crate) fn list_fit_len<T: Nla>(list: &Nlas<T>) -> Option<usize>
     ensures { SomeIff result (length (list_string (map T.attribute list.now)) ≤ 65531)
         (length (list_string (map T.attribute list.now))) }

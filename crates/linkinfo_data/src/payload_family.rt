@@ -64,69 +64,86 @@ pub trait PayloadFamily<D: Drop>: Copy {
         ensures { Q.answered (facts_of (data_of self)) question count.old count.new buffer.old
             buffer.new result };
 
-    /// Validates a payload: returns `Ok` if `read` accepts it, otherwise the error of the payload.
-    ///
-    /// The count rises by the headers examined, at most a quarter of the payload's bytes. Requires
-    /// that a `usize` can count them. Does not allocate.
-    fn check(self, payload: &[u8], count: &mut HeaderCount) -> Result<(), DecodeError>
-        requires { count.old + length payload.now / 4 < 2 ^ 64 }
-        ensures answer { result ≡ verdict ((data_of self).means payload.now) }
-        ensures counted { count.new ≡ count.old + (data_of self).headers payload.now }
-        ensures quarter { 4 * count.new ≤ 4 * count.old + length payload.now }
-    {
-        self.ask(Check { payload }, count, &mut [])
-    }
-
-    /// Returns whether two payloads are equivalent: whether they parse as equal data.
-    ///
-    /// The count rises by the headers examined, at most a quarter of the bytes of both payloads.
-    /// Requires that both payloads are accepted, and that a `usize` can count the headers. Does not
-    /// allocate.
-    fn same(self, a: &[u8], b: &[u8], count: &mut HeaderCount) -> bool
-        requires first { IsOk ((data_of self).means a.now) }
-        requires second { IsOk ((data_of self).means b.now) }
-        requires room { count.old + (length a.now + length b.now) / 4 < 2 ^ 64 }
-        ensures same { result ≡ (data_of self).alike a.now b.now }
-        ensures counted { OnTrue result
-            (count.new
-            ≡ count.old + ((data_of self).headers a.now + (data_of self).headers b.now)) }
-        ensures rises { count.old ≤ count.new }
-        ensures quarter { 4 * count.new ≤ 4 * count.old + (length a.now + length b.now) }
-    {
-        self.ask(Same { a, b }, count, &mut [])
-    }
-
-    /// The length, in bytes, of the canonical payload of the data that a payload parses as, or
-    /// `None` if it is above 65531. Requires that the payload is accepted. Does not allocate.
-    fn canonical_len(self, payload: &[u8]) -> Option<usize>
-        requires { IsOk ((data_of self).means payload.now) }
-        ensures { let len = length ((data_of self).canonical payload.now) in
-            SomeIff result (len ≤ 65531) len }
-    {
-        self.ask(CanonicalLen { payload }, &mut HeaderCount::new(), &mut [])
-    }
-
-    /// Writes the canonical payload of the data that a payload parses as to the front of the
-    /// buffer, and returns its length in bytes. The rest of the buffer is unchanged.
-    ///
-    /// Requires that the payload is accepted, that its canonical payload has at most 65531 bytes,
-    /// and that the buffer has room for it. Does not allocate.
-    fn write_canonical(self, payload: &[u8], buffer: &mut [u8]) -> usize
-        requires accepted { IsOk ((data_of self).means payload.now) }
-        requires fits { length ((data_of self).canonical payload.now) ≤ 65531 }
-        requires room { length ((data_of self).canonical payload.now) ≤ length buffer.old }
-        ensures taken { result ≡ length ((data_of self).canonical payload.now) }
-        ensures written { buffer.new
-            ≡ (data_of self).canonical payload.now
-            ++ drop (length ((data_of self).canonical payload.now)) buffer.old }
-    {
-        self.ask(WriteCanonical { payload }, &mut HeaderCount::new(), buffer)
-    }
-
     /// Validating a payload gives the verdict on what it means. A list is accepted, and is
     /// equivalent to another list, attribute by attribute.
     ghost known: { (family : Self) → IsKnown (data_of family) };
 
     /// Which attributes hold lists, and of which family these are.
     ghost nests: { (family : Self) → IsNested data_of family (nested_in family) };
+}
+
+/// Validates a payload: returns `Ok` if `read` accepts it, otherwise the error of the payload.
+///
+/// The count rises by the headers examined, at most a quarter of the payload's bytes. Requires
+/// that a `usize` can count them. Does not allocate.
+#[inline(always)]
+pub fn check_payload<D: Drop, F: PayloadFamily<D>>(
+    family: F,
+    payload: &[u8],
+    count: &mut HeaderCount,
+) -> Result<(), DecodeError>
+    requires { count.old + length payload.now / 4 < 2 ^ 64 }
+    ensures answer { result ≡ verdict ((F.data_of family).means payload.now) }
+    ensures counted { count.new ≡ count.old + (F.data_of family).headers payload.now }
+    ensures quarter { 4 * count.new ≤ 4 * count.old + length payload.now }
+{
+    family.ask(Check { payload }, count, &mut [])
+}
+
+/// Returns whether two payloads are equivalent: whether they parse as equal data.
+///
+/// The count rises by the headers examined, at most a quarter of the bytes of both payloads.
+/// Requires that both payloads are accepted, and that a `usize` can count the headers. Does not
+/// allocate.
+pub fn same_payloads<D: Drop, F: PayloadFamily<D>>(
+    family: F,
+    a: &[u8],
+    b: &[u8],
+    count: &mut HeaderCount,
+) -> bool
+    requires first { IsOk ((F.data_of family).means a.now) }
+    requires second { IsOk ((F.data_of family).means b.now) }
+    requires room { count.old + (length a.now + length b.now) / 4 < 2 ^ 64 }
+    ensures same { result ≡ (F.data_of family).alike a.now b.now }
+    ensures counted { OnTrue result
+        (count.new
+        ≡ count.old + ((F.data_of family).headers a.now + (F.data_of family).headers b.now)) }
+    ensures rises { count.old ≤ count.new }
+    ensures quarter { 4 * count.new ≤ 4 * count.old + (length a.now + length b.now) }
+{
+    family.ask(Same { a, b }, count, &mut [])
+}
+
+/// The length, in bytes, of the canonical payload of the data that a payload parses as, or
+/// `None` if it is above 65531. Requires that the payload is accepted. Does not allocate.
+pub fn canonical_payload_len<D: Drop, F: PayloadFamily<D>>(
+    family: F,
+    payload: &[u8],
+) -> Option<usize>
+    requires { IsOk ((F.data_of family).means payload.now) }
+    ensures { let len = length ((F.data_of family).canonical payload.now) in
+        SomeIff result (len ≤ 65531) len }
+{
+    family.ask(CanonicalLen { payload }, &mut HeaderCount::new(), &mut [])
+}
+
+/// Writes the canonical payload of the data that a payload parses as to the front of the
+/// buffer, and returns its length in bytes. The rest of the buffer is unchanged.
+///
+/// Requires that the payload is accepted, that its canonical payload has at most 65531 bytes,
+/// and that the buffer has room for it. Does not allocate.
+pub fn write_canonical_payload<D: Drop, F: PayloadFamily<D>>(
+    family: F,
+    payload: &[u8],
+    buffer: &mut [u8],
+) -> usize
+    requires accepted { IsOk ((F.data_of family).means payload.now) }
+    requires fits { length ((F.data_of family).canonical payload.now) ≤ 65531 }
+    requires room { length ((F.data_of family).canonical payload.now) ≤ length buffer.old }
+    ensures taken { result ≡ length ((F.data_of family).canonical payload.now) }
+    ensures written { buffer.new
+        ≡ (F.data_of family).canonical payload.now
+        ++ drop (length ((F.data_of family).canonical payload.now)) buffer.old }
+{
+    family.ask(WriteCanonical { payload }, &mut HeaderCount::new(), buffer)
 }

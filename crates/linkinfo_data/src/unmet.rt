@@ -6,7 +6,7 @@ ghost use Rattle.linkinfo_data.specs.Listed.{IsAccepted};
 ghost use Rattle.linkinfo_data.specs.Listing.{alike_in, family_in};
 ghost use Rattle.linkinfo_data.specs.Unmet.{earlier, first_told, is_met, list_unmet, missed};
 
-use crate::payload_family::PayloadFamily;
+use crate::payload_family::{PayloadFamily, same_payloads};
 use linkinfo_table::{INDEXED, LastOfType, PlacedNla, own_bytes, types_end};
 use nla_frame::{ExactEq, Family, HeaderCount, next_attribute};
 
@@ -140,7 +140,8 @@ fn is_met<D: Drop, F: PayloadFamily<D>>(
         return false;
     };
     found.nla.value() == wanted.nla.value()
-        || family.same(
+        || same_payloads::<D, F>(
+            family,
             own_bytes(have, found),
             own_bytes(want, wanted),
             &mut HeaderCount::new(),

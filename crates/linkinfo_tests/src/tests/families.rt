@@ -6,7 +6,7 @@ use super::assertions::{assert_equal, assert_holds, nlas};
 use linkinfo::{
     Bytes, Cause, DataFamily, DecodeError, DeviceFamily, Family, HeaderCount, InfoData,
     InfoPortData, InfoVrf, KindTag, LowerFamily, PayloadFamily, PeeredFamily, PortFamily, PortTag,
-    TunnelFamily, data_laws, family_of, port_family_of,
+    TunnelFamily, check_payload, data_laws, family_of, port_family_of, same_payloads,
 };
 use std::alloc::Global;
 use std::process::Abort;
@@ -62,7 +62,7 @@ fn accepts<D: Drop, F: PayloadFamily<D>>(rt: &impl Abort, family: F, payload: &[
 {
     assert!(rt; payload.len() < 1000);
     let mut count = HeaderCount::new();
-    let checked = PayloadFamily::<D>::check(family, payload, &mut count);
+    let checked = check_payload::<D, F>(family, payload, &mut count);
     assert!(rt; checked.is_ok());
 }
 
@@ -77,7 +77,7 @@ fn are_same<D: Drop, F: PayloadFamily<D>>(
     accepts::<D, F>(rt, family, a);
     accepts::<D, F>(rt, family, b);
     let mut count = HeaderCount::new();
-    let same = PayloadFamily::<D>::same(family, a, b, &mut count);
+    let same = same_payloads::<D, F>(family, a, b, &mut count);
     (same, count.get())
 }
 
@@ -104,7 +104,7 @@ fn has_tables<D: Drop + PartialEq, F: PayloadFamily<D>>(
         cause: Cause::Length,
     };
     let mut count = HeaderCount::new();
-    let checked = PayloadFamily::<D>::check(family, &SHORT, &mut count);
+    let checked = check_payload::<D, F>(family, &SHORT, &mut count);
     assert_equal(rt, &SHORT, &checked, &Err(error));
     assert_equal(rt, &SHORT, &count.get(), &1);
 }

@@ -2,8 +2,8 @@
 
 use super::assertions::{assert_equal, assert_holds, bytes_of};
 use linkinfo::{
-    Family, HeaderCount, InfoData, InfoPortData, KindTag, PayloadFamily, PortTag, Unmet, family_of,
-    is_equal, list_unmet, port_family_of,
+    Family, HeaderCount, InfoData, InfoPortData, KindTag, PayloadFamily, PortTag, Unmet,
+    check_payload, family_of, is_equal, list_unmet, port_family_of,
 };
 use std::alloc::Global;
 use std::process::Abort;
@@ -154,12 +154,8 @@ fn unmet_of<D: Drop, F: PayloadFamily<D>>(
     want: &[u8],
 ) -> Option<Unmet> {
     let name = family.listing().expect(rt, "a list");
-    family
-        .check(have, &mut HeaderCount::new())
-        .expect(rt, "accepted");
-    family
-        .check(want, &mut HeaderCount::new())
-        .expect(rt, "accepted");
+    check_payload::<D, F>(family, have, &mut HeaderCount::new()).expect(rt, "accepted");
+    check_payload::<D, F>(family, want, &mut HeaderCount::new()).expect(rt, "accepted");
     list_unmet::<D, F>(family, name, have, want)
 }
 

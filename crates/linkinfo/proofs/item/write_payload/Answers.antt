@@ -11,6 +11,6 @@ returns-clause-written g c =
       value = (g.F.PayloadFamily.data_of c.args.family).canonical c.args.payload.now;
     } in
     c.write_frame.ensures
-    ∙ framed_after a buffer c.write_canonical-len.new.buffer c.write_canonical-len.result
-    (length buffer - 4) c.args.kind c.write_canonical-len.ensures.taken refl refl c.requires.room
-    c.write_canonical-len.ensures.written
+    ∙ framed_after a buffer c.write_canonical_payload-len.new.buffer c.write_canonical_payload-len.result
+    (length buffer - 4) c.args.kind c.write_canonical_payload-len.ensures.taken refl refl c.requires.room
+    c.write_canonical_payload-len.ensures.written

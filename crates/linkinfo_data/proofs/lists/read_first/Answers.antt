@@ -1,0 +1,12 @@
+use Rattle.linkinfo_data.proofs.lists.read_first.Goals as goal
+
+pub returns : goal.returns
+returns g c =
+    let read = c.first_read.ensures in
+    record {
+      answer = read.answer;
+      certain = read.certain;
+      counted = read.counted;
+      rises = read.rises;
+      quarter = read.quarter;
+    }
