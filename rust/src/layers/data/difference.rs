@@ -1,6 +1,6 @@
 //! The first difference of two lists of attributes, and the offset of the error of a list.
 
-use crate::layers::data::payload_family::PayloadFamily;
+use crate::layers::data::payload_family::{PayloadFamily, check_payload, same_payloads};
 use crate::layers::nla_frame::{ExactEq, Family, HeaderCount, next_attribute};
 use crate::layers::table::{PlacedNla, own_bytes};
 
@@ -168,7 +168,15 @@ fn pair_difference<D, F: PayloadFamily<D>>(
             let inside = list_difference::<D, F>(inner, name, x, y)?;
             Some(inside.inside(p, q))
         }
-        None if family.same(own_bytes(a, p), own_bytes(b, q), &mut HeaderCount::new()) => None,
+        None if same_payloads::<D, F>(
+            family,
+            own_bytes(a, p),
+            own_bytes(b, q),
+            &mut HeaderCount::new(),
+        ) =>
+        {
+            None
+        }
         None => Some(Difference::of_pair(name, p, q)),
     }
 }
@@ -214,7 +222,7 @@ fn attribute_error<D, F: PayloadFamily<D>>(
         }
         None => {
             let alone = own_bytes(payload, placed);
-            match family.check(alone, &mut HeaderCount::new()) {
+            match check_payload::<D, F>(family, alone, &mut HeaderCount::new()) {
                 Ok(()) => None,
                 Err(_) => Some(0),
             }

@@ -23,7 +23,9 @@ pub use difference::{Difference, list_difference, list_error};
 pub use families::{DataFamilies, Plain, PlainFamilies};
 pub use info_data::{InfoData, InfoDataOf};
 pub use lower::LowerFamily;
-pub use payload_family::PayloadFamily;
+pub use payload_family::{
+    PayloadFamily, canonical_payload_len, check_payload, same_payloads, write_canonical_payload,
+};
 pub use peers::PeeredFamily;
 pub use port_data::{InfoPortData, PortFamily, port_family_of};
 pub use tunnels::TunnelFamily;

@@ -33,56 +33,70 @@ pub trait PayloadFamily<D>: Copy {
     /// May panic where a condition of the caller that is named here does not hold. Where it does
     /// not panic then, the result has no meaning.
     fn ask<Q: Ask>(self, question: Q, count: &mut HeaderCount, buffer: &mut [u8]) -> Q::Answer;
+}
 
-    /// Validates a payload: returns `Ok` if `read` accepts it, otherwise the error of the payload.
-    ///
-    /// The count rises by the headers examined, at most a quarter of the payload's bytes. Requires
-    /// that a `usize` can count them. Does not allocate.
-    ///
-    /// # Panics
-    ///
-    /// May panic where a condition of the caller that is named here does not hold. Where it does
-    /// not panic then, the result has no meaning.
-    fn check(self, payload: &[u8], count: &mut HeaderCount) -> Result<(), DecodeError> {
-        self.ask(Check { payload }, count, &mut [])
-    }
+/// Validates a payload: returns `Ok` if `read` accepts it, otherwise the error of the payload.
+///
+/// The count rises by the headers examined, at most a quarter of the payload's bytes. Requires that
+/// a `usize` can count them. Does not allocate.
+///
+/// # Panics
+///
+/// May panic where a condition of the caller that is named here does not hold. Where it does
+/// not panic then, the result has no meaning.
+#[inline(always)]
+pub fn check_payload<D, F: PayloadFamily<D>>(
+    family: F,
+    payload: &[u8],
+    count: &mut HeaderCount,
+) -> Result<(), DecodeError> {
+    family.ask(Check { payload }, count, &mut [])
+}
 
-    /// Returns whether two payloads are equivalent: whether they parse as equal data.
-    ///
-    /// The count rises by the headers examined, at most a quarter of the bytes of both payloads.
-    /// Requires that both payloads are accepted, and that a `usize` can count the headers. Does not
-    /// allocate.
-    ///
-    /// # Panics
-    ///
-    /// May panic where a condition of the caller that is named here does not hold. Where it does
-    /// not panic then, the result has no meaning.
-    fn same(self, a: &[u8], b: &[u8], count: &mut HeaderCount) -> bool {
-        self.ask(Same { a, b }, count, &mut [])
-    }
+/// Returns whether two payloads are equivalent: whether they parse as equal data.
+///
+/// The count rises by the headers examined, at most a quarter of the bytes of both payloads.
+/// Requires that both payloads are accepted, and that a `usize` can count the headers. Does not
+/// allocate.
+///
+/// # Panics
+///
+/// May panic where a condition of the caller that is named here does not hold. Where it does
+/// not panic then, the result has no meaning.
+pub fn same_payloads<D, F: PayloadFamily<D>>(
+    family: F,
+    a: &[u8],
+    b: &[u8],
+    count: &mut HeaderCount,
+) -> bool {
+    family.ask(Same { a, b }, count, &mut [])
+}
 
-    /// The length, in bytes, of the canonical payload of the data that a payload parses as, or
-    /// `None` if it is above 65531. Requires that the payload is accepted. Does not allocate.
-    ///
-    /// # Panics
-    ///
-    /// May panic where a condition of the caller that is named here does not hold. Where it does
-    /// not panic then, the result has no meaning.
-    fn canonical_len(self, payload: &[u8]) -> Option<usize> {
-        self.ask(CanonicalLen { payload }, &mut HeaderCount::new(), &mut [])
-    }
+/// The length, in bytes, of the canonical payload of the data that a payload parses as, or `None`
+/// if it is above 65531. Requires that the payload is accepted. Does not allocate.
+///
+/// # Panics
+///
+/// May panic where a condition of the caller that is named here does not hold. Where it does
+/// not panic then, the result has no meaning.
+pub fn canonical_payload_len<D, F: PayloadFamily<D>>(family: F, payload: &[u8]) -> Option<usize> {
+    family.ask(CanonicalLen { payload }, &mut HeaderCount::new(), &mut [])
+}
 
-    /// Writes the canonical payload of the data that a payload parses as to the front of the
-    /// buffer, and returns its length in bytes. The rest of the buffer is unchanged.
-    ///
-    /// Requires that the payload is accepted, that its canonical payload has at most 65531 bytes,
-    /// and that the buffer has room for it. Does not allocate.
-    ///
-    /// # Panics
-    ///
-    /// May panic where a condition of the caller that is named here does not hold. Where it does
-    /// not panic then, the result has no meaning.
-    fn write_canonical(self, payload: &[u8], buffer: &mut [u8]) -> usize {
-        self.ask(WriteCanonical { payload }, &mut HeaderCount::new(), buffer)
-    }
+/// Writes the canonical payload of the data that a payload parses as to the front of the buffer,
+/// and returns its length in bytes. The rest of the buffer is unchanged.
+///
+/// Requires that the payload is accepted, that its canonical payload has at most 65531 bytes, and
+/// that the buffer has room for it. Does not allocate.
+///
+/// # Panics
+///
+/// May panic where a condition of the caller that is named here does not hold. Where it does
+/// not panic then, the result has no meaning.
+pub fn write_canonical_payload<D, F: PayloadFamily<D>>(
+    family: F,
+    payload: &[u8],
+    buffer: &mut [u8],
+) -> usize {
+    family.ask(WriteCanonical { payload }, &mut HeaderCount::new(), buffer)
 }

@@ -1,6 +1,6 @@
 //! Whether a list of attributes meets those of another one, and which one it does not meet.
 
-use crate::layers::data::payload_family::PayloadFamily;
+use crate::layers::data::payload_family::{PayloadFamily, same_payloads};
 use crate::layers::nla_frame::{ExactEq, Family, HeaderCount, next_attribute};
 use crate::layers::table::{INDEXED, LastOfType, PlacedNla, own_bytes, types_end};
 
@@ -114,7 +114,8 @@ fn is_met<D, F: PayloadFamily<D>>(
         return false;
     };
     found.nla.value() == wanted.nla.value()
-        || family.same(
+        || same_payloads::<D, F>(
+            family,
             own_bytes(have, found),
             own_bytes(want, wanted),
             &mut HeaderCount::new(),

@@ -2,7 +2,7 @@
 
 use crate::layers::data::{
     DataFamily, Difference, InfoDataOf, InfoPortData, PayloadFamily, PortFamily, family_of,
-    list_difference, port_family_of,
+    list_difference, port_family_of, same_payloads,
 };
 use crate::layers::link::item::same_item;
 use crate::layers::link::list::check_of;
@@ -24,7 +24,7 @@ fn data_difference<D, F: PayloadFamily<D>>(
             let inside = list_difference::<D, F>(family, name, x, y)?;
             Some(inside.inside(p, q))
         }
-        None if family.same(x, y, &mut HeaderCount::new()) => None,
+        None if same_payloads::<D, F>(family, x, y, &mut HeaderCount::new()) => None,
         None => Some(Difference::of_pair(Family::LinkInfo, p, q)),
     }
 }

@@ -2,7 +2,8 @@
 
 use crate::compat::NextMultiple;
 use crate::layers::data::{
-    DataFamily, InfoDataOf, InfoPortData, PayloadFamily, PortFamily, family_of, port_family_of,
+    DataFamily, InfoDataOf, InfoPortData, PayloadFamily, PortFamily, canonical_payload_len,
+    check_payload, family_of, port_family_of, same_payloads, write_canonical_payload,
 };
 use crate::layers::link::link_info::LinkInfoOf;
 use crate::layers::link::role::{CurrentKinds, Role, error, name_in};
@@ -78,11 +79,13 @@ pub(crate) fn check_item<P: LinkPeer>(
     match role {
         Role::Kind => Ok(()),
         Role::Data(tag) => {
-            PayloadFamily::<InfoDataOf<P>>::check(family_of(tag), nla.value(), count)
+            check_payload::<InfoDataOf<P>, DataFamily>(family_of(tag), nla.value(), count)
         }
         Role::Xstats => Ok(()),
         Role::PortKind => Ok(()),
-        Role::PortData(tag) => port_family_of(tag).check(nla.value(), count),
+        Role::PortData(tag) => {
+            check_payload::<InfoPortData, PortFamily>(port_family_of(tag), nla.value(), count)
+        }
         Role::Misplaced => Err(error(nla, Cause::Order)),
         Role::Unknown => Ok(()),
     }
@@ -101,11 +104,24 @@ pub(crate) fn same_item<P: LinkPeer>(
         Role::Kind => same_kind && shape_same(Shape::Name, a.value(), b.value()),
         Role::Data(tag) => {
             same_kind
-                && PayloadFamily::<InfoDataOf<P>>::same(family_of(tag), a.value(), b.value(), count)
+                && same_payloads::<InfoDataOf<P>, DataFamily>(
+                    family_of(tag),
+                    a.value(),
+                    b.value(),
+                    count,
+                )
         }
         Role::Xstats => same_kind && a.value() == b.value(),
         Role::PortKind => same_kind && shape_same(Shape::Name, a.value(), b.value()),
-        Role::PortData(tag) => same_kind && port_family_of(tag).same(a.value(), b.value(), count),
+        Role::PortData(tag) => {
+            same_kind
+                && same_payloads::<InfoPortData, PortFamily>(
+                    port_family_of(tag),
+                    a.value(),
+                    b.value(),
+                    count,
+                )
+        }
         Role::Misplaced => false,
         Role::Unknown => b.raw_kind() == a.raw_kind() && a.value() == b.value(),
     }
@@ -117,10 +133,14 @@ pub(crate) fn item_canonical_len<P: LinkPeer>(nla: &NlaBuffer<'_>, role: Role) -
     let value = nla.value();
     match role {
         Role::Kind => shape_canonical_len(Shape::Name, value),
-        Role::Data(tag) => PayloadFamily::<InfoDataOf<P>>::canonical_len(family_of(tag), value),
+        Role::Data(tag) => {
+            canonical_payload_len::<InfoDataOf<P>, DataFamily>(family_of(tag), value)
+        }
         Role::Xstats => fitting(value.len()),
         Role::PortKind => shape_canonical_len(Shape::Name, value),
-        Role::PortData(tag) => port_family_of(tag).canonical_len(value),
+        Role::PortData(tag) => {
+            canonical_payload_len::<InfoPortData, PortFamily>(port_family_of(tag), value)
+        }
         Role::Misplaced => unreachable!(),
         Role::Unknown => fitting(value.len()),
     }
@@ -162,7 +182,7 @@ fn write_payload<D, F: PayloadFamily<D>>(
     payload: &[u8],
     buffer: &mut [u8],
 ) -> usize {
-    let len = family.write_canonical(payload, &mut buffer[4..]);
+    let len = write_canonical_payload::<D, F>(family, payload, &mut buffer[4..]);
     write_frame(buffer, kind, len);
     4 + len.next_multiple_of_four()
 }

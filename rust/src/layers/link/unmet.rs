@@ -2,7 +2,7 @@
 
 use crate::layers::data::{
     DataFamily, InfoDataOf, InfoPortData, PayloadFamily, PortFamily, Unmet, UnmetAt, earlier,
-    family_of, list_unmet, port_family_of,
+    family_of, list_unmet, port_family_of, same_payloads,
 };
 use crate::layers::link::item::same_item;
 use crate::layers::link::list::check_of;
@@ -132,7 +132,7 @@ fn data_unmet<D, F: PayloadFamily<D>>(
                 },
             })
         }
-        None if family.same(had, wanted, &mut HeaderCount::new()) => None,
+        None if same_payloads::<D, F>(family, had, wanted, &mut HeaderCount::new()) => None,
         None => Some(whole(want, Some(have.offset))),
     }
 }

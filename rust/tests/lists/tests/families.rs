@@ -4,7 +4,7 @@ use super::assertions::{assert_equal, assert_holds, nlas};
 use linkinfo::layers::link::{
     Cause, DataFamily, DecodeError, DeviceFamily, Family, HeaderCount, InfoData, InfoPortData,
     InfoVrf, KindTag, LowerFamily, PayloadFamily, PeeredFamily, PortFamily, PortTag, TunnelFamily,
-    family_of, port_family_of,
+    check_payload, family_of, port_family_of, same_payloads,
 };
 
 /// Kinds, and the families of their data.
@@ -56,7 +56,7 @@ const SHORT: [u8; 5] = [5, 0, 1, 0, 5];
 fn accepts<D, F: PayloadFamily<D>>(family: F, payload: &[u8]) {
     assert!(payload.len() < 1000);
     let mut count = HeaderCount::new();
-    let checked = PayloadFamily::<D>::check(family, payload, &mut count);
+    let checked = check_payload::<D, F>(family, payload, &mut count);
     assert!(checked.is_ok());
 }
 
@@ -66,7 +66,7 @@ fn are_same<D, F: PayloadFamily<D>>(family: F, a: &[u8], b: &[u8]) -> (bool, usi
     accepts::<D, F>(family, a);
     accepts::<D, F>(family, b);
     let mut count = HeaderCount::new();
-    let same = PayloadFamily::<D>::same(family, a, b, &mut count);
+    let same = same_payloads::<D, F>(family, a, b, &mut count);
     (same, count.get())
 }
 
@@ -88,7 +88,7 @@ fn has_tables<D: PartialEq, F: PayloadFamily<D>>(family: F, data: D) {
         cause: Cause::Length,
     };
     let mut count = HeaderCount::new();
-    let checked = PayloadFamily::<D>::check(family, &SHORT, &mut count);
+    let checked = check_payload::<D, F>(family, &SHORT, &mut count);
     assert_equal(&SHORT, &checked, &Err(error));
     assert_equal(&SHORT, &count.get(), &1);
 }

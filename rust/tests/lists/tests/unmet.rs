@@ -2,8 +2,8 @@
 
 use super::assertions::{assert_equal, assert_holds, bytes_of};
 use linkinfo::layers::link::{
-    Family, HeaderCount, InfoData, InfoPortData, KindTag, PayloadFamily, PortTag, Unmet, family_of,
-    is_equal, list_unmet, port_family_of,
+    Family, HeaderCount, InfoData, InfoPortData, KindTag, PayloadFamily, PortTag, Unmet,
+    check_payload, family_of, is_equal, list_unmet, port_family_of,
 };
 
 /// Data that is there, a request, and what of it is not met: the type, the offset in the request,
@@ -147,12 +147,8 @@ fn unmet(family: Family, at: &Option<(u16, usize, Option<usize>)>) -> Option<Unm
 /// What `have` lacks of `want`, two payloads that are accepted as lists of a family.
 fn unmet_of<D, F: PayloadFamily<D>>(family: F, have: &[u8], want: &[u8]) -> Option<Unmet> {
     let name = family.listing().expect("a list");
-    family
-        .check(have, &mut HeaderCount::new())
-        .expect("accepted");
-    family
-        .check(want, &mut HeaderCount::new())
-        .expect("accepted");
+    check_payload::<D, F>(family, have, &mut HeaderCount::new()).expect("accepted");
+    check_payload::<D, F>(family, want, &mut HeaderCount::new()).expect("accepted");
     list_unmet::<D, F>(family, name, have, want)
 }
 

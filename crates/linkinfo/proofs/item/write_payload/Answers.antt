@@ -10,7 +10,7 @@ returns-clause-written g c =
       kind = c.args.kind;
       value = (g.F.PayloadFamily.data_of c.args.family).canonical c.args.payload.now;
     } in
+    let payload = c.write_canonical_payload-len in
     c.write_frame.ensures
-    ∙ framed_after a buffer c.write_canonical_payload-len.new.buffer c.write_canonical_payload-len.result
-    (length buffer - 4) c.args.kind c.write_canonical_payload-len.ensures.taken refl refl c.requires.room
-    c.write_canonical_payload-len.ensures.written
+    ∙ framed_after a buffer payload.new.buffer payload.result (length buffer - 4) c.args.kind
+    payload.ensures.taken refl refl c.requires.room payload.ensures.written
