@@ -9,15 +9,12 @@ use Rattle.std.specs.Prelude.{
   ◌<◌,
   ◌≤◌,
   ◌^◌,
-  ◌++◌,
   Bool,
   IsOk,
   List,
   Ok,
   Option,
   Result,
-  SomeIff,
-  drop,
   length,
 }
 use Rattle.std.specs.Bool.{OnTrue}
@@ -36,6 +33,7 @@ use Rattle.linkinfo_table.specs.Lists.{
   headers_of,
   values,
 }
+use Rattle.linkinfo_data.specs.Encoding.{HasRoom, IsFitLen, IsWritten}
 use Rattle.linkinfo_data.specs.Payloads.{Payload}
 
 -- of payloads, what does not depend on the variant: as in `Payload`
@@ -111,18 +109,12 @@ abbrev pub LenReady : Facts → List ℕ → Type 0
 LenReady facts p = IsOk (facts.verdicts p)
 
 abbrev pub Measured : Facts → List ℕ → Option ℕ → Type 0
-Measured facts p result =
-    let len = length (facts.canonical p) in SomeIff result (len ≤ 65531) len
+Measured facts p result = IsFitLen (facts.canonical p) result
 
 -- the canonical payload at the front of a buffer: the payload is accepted, the canonical one fits a
 -- payload, and the buffer has room for it
 abbrev pub WriteReady : Facts → List ℕ → List ℕ → Type 0
-WriteReady facts p buffer =
-    IsOk (facts.verdicts p)
-    × (length (facts.canonical p) ≤ 65531)
-    × (length (facts.canonical p) ≤ length buffer)
+WriteReady facts p buffer = IsOk (facts.verdicts p) × HasRoom (facts.canonical p) buffer
 
 abbrev pub Written : Facts → List ℕ → List ℕ → List ℕ → ℕ → Type 0
-Written facts p buffer after result =
-    (result ≡ length (facts.canonical p))
-    × (after ≡ facts.canonical p ++ drop (length (facts.canonical p)) buffer)
+Written facts p buffer after result = IsWritten (facts.canonical p) buffer after result

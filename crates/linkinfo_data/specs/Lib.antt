@@ -6,6 +6,7 @@ pub mod DataEqual
 pub mod DataVariants
 pub mod DeviceData
 pub mod Difference
+pub mod Encoding
 pub mod Equal
 pub mod Families
 pub mod InfoData

@@ -7,14 +7,15 @@ mod calls;
 mod data;
 mod devices;
 mod difference;
+mod encode;
 mod families;
 mod info_data;
 pub mod laws;
-mod lists;
 mod lower;
 mod payload_family;
 mod peers;
 mod port_data;
+mod reading;
 mod tunnels;
 mod unmet;
 

@@ -5,6 +5,7 @@ ghost use Rattle.nla_frame.specs.Answers.{CertainUnless, Gives};
 ghost use Rattle.linkinfo_numbers.specs.PortKind.{tag_of_port_kind};
 ghost use Rattle.linkinfo_data.specs.PortData.{
   port_data_of,
+  port_data_payload,
   port_family_of,
   port_known,
   port_nest,
@@ -12,15 +13,13 @@ ghost use Rattle.linkinfo_data.specs.PortData.{
 
 use crate::ask::Ask;
 use crate::calls::{ask, read};
-use crate::lists::{list_fit_len, write_list};
+use crate::encode::{Encode, FitLen, Write};
 use crate::payload_family::PayloadFamily;
 use linkinfo_devices::InfoVrfPort;
 use linkinfo_numbers::{IFLA_INFO_SLAVE_DATA, InfoPortKind, PortTag};
 use linkinfo_peers::InfoTeamPort;
 use linkinfo_table::lower::{InfoBondPort, InfoBridgePort};
-use nla_frame::{
-    Bytes, DecodeError, ExactEq, Family, HeaderCount, Nla, Nlas, fitting, write_bytes,
-};
+use nla_frame::{Bytes, DecodeError, ExactEq, Family, HeaderCount, Nla, Nlas};
 use std::alloc::Global;
 
 /// The family of the attributes in `IFLA_INFO_SLAVE_DATA`, which the kind of the port chooses.
@@ -148,11 +147,25 @@ impl InfoPortData {
         let mut count = HeaderCount::new();
         port_family_of(kind.tag()).read(alloc, payload, &mut count)
     }
+
+    /// Encodes the data: the encodings of the attributes, one after another, or the bytes.
+    #[tactic(auto, unfolding(crate::specs::PortData::port_data_payload))]
+    fn encode<E: Encode>(&self, encode: E, buffer: &mut [u8]) -> E::Answer
+        requires { E.ready (port_data_payload self.now) buffer.old }
+        ensures { E.answered (port_data_payload self.now) buffer.old buffer.new result }
+    {
+        match self {
+            InfoPortData::BondPort(list) => encode.list(list, buffer),
+            InfoPortData::BridgePort(list) => encode.list(list, buffer),
+            InfoPortData::VrfPort(list) => encode.list(list, buffer),
+            InfoPortData::TeamPort(list) => encode.list(list, buffer),
+            InfoPortData::Other(bytes) => encode.bytes(bytes.as_slice(), buffer),
+        }
+    }
 }
 
 /// Written as an attribute of type 5 (`IFLA_INFO_SLAVE_DATA`). The payload is the encodings of the
 /// attributes, one after another.
-#[tactic(auto, unfolding(crate::specs::PortData::port_data_payload))]
 impl Nla for InfoPortData {
     ghost use Rattle.linkinfo_data.specs.PortData.{port_data_attribute};
 
@@ -167,13 +180,7 @@ impl Nla for InfoPortData {
     }
 
     fn emit_payload(&self, buffer: &mut [u8]) -> usize {
-        match self {
-            InfoPortData::BondPort(list) => write_list(list, buffer),
-            InfoPortData::BridgePort(list) => write_list(list, buffer),
-            InfoPortData::VrfPort(list) => write_list(list, buffer),
-            InfoPortData::TeamPort(list) => write_list(list, buffer),
-            InfoPortData::Other(bytes) => write_bytes(bytes.as_slice(), buffer),
-        }
+        self.encode(Write, buffer)
     }
 
     #[tactic(auto, using(nla_frame::proofs::Emitting::whole))]
@@ -182,13 +189,7 @@ impl Nla for InfoPortData {
     }
 
     fn fit_len(&self) -> Option<usize> {
-        match self {
-            InfoPortData::BondPort(list) => list_fit_len(list),
-            InfoPortData::BridgePort(list) => list_fit_len(list),
-            InfoPortData::VrfPort(list) => list_fit_len(list),
-            InfoPortData::TeamPort(list) => list_fit_len(list),
-            InfoPortData::Other(bytes) => fitting(bytes.len()),
-        }
+        self.encode(FitLen, &mut [])
     }
 }
 

@@ -7,12 +7,12 @@
 /// Parses a payload.
 macro_rules! read {
     (list($variant:path, $nla:ty, $ctx:expr) ($payload:expr, $count:expr)) => {
-        $variant(crate::layers::data::lists::read_nlas(
+        $variant(crate::layers::data::reading::read_nlas(
             $payload, $ctx, $count,
         )?)
     };
     (first($variant:path, $nla:ty, $ctx:expr) ($payload:expr, $count:expr)) => {
-        $variant(crate::layers::data::lists::read_first(
+        $variant(crate::layers::data::reading::read_first(
             $payload, $ctx, $count,
         )?)
     };

@@ -1,15 +1,13 @@
 //! The data of a link: `IFLA_INFO_DATA`, include/uapi/linux/if_link.h.
 
 use crate::layers::data::data::family_of;
-use crate::layers::data::lists::{list_fit_len, one_fit_len, write_list, write_one};
+use crate::layers::data::encode::{Encode, FitLen, Write};
 use crate::layers::data::payload_family::PayloadFamily;
 use crate::layers::devices::{
     InfoIpVlan, InfoIpVtap, InfoIpoib, InfoMacSec, InfoMacVlan, InfoMacVtap, InfoRmNet, InfoVrf,
     InfoXfrm,
 };
-use crate::layers::nla_frame::{
-    Bytes, DecodeError, ExactEq, HeaderCount, Nla, Nlas, fitting, write_bytes,
-};
+use crate::layers::nla_frame::{Bytes, DecodeError, ExactEq, HeaderCount, Nla, Nlas};
 use crate::layers::numbers::{IFLA_INFO_DATA, InfoKind};
 use crate::layers::peers::{
     InfoBatAdv, InfoNetkitOf, InfoPfcp, InfoTun, InfoVethOf, InfoVxcanOf, InfoWireguard, InfoWwan,
@@ -117,54 +115,50 @@ impl<P: LinkPeer> InfoDataOf<P> {
         let mut count = HeaderCount::new();
         family_of(kind.tag()).read(payload, &mut count)
     }
-}
 
-/// Matches data, and names each variant once: by `$list` if it holds a list of attributes, by
-/// `$first` if it holds one attribute, and by `$bytes` if it holds bytes.
-macro_rules! of_data {
-    ($data:expr, $it:ident => $list:expr, $first:expr, $bytes:expr) => {
-        match $data {
-            InfoDataOf::Bridge($it) => $list,
-            InfoDataOf::Tun($it) => $list,
-            InfoDataOf::Vlan($it) => $list,
-            InfoDataOf::Veth($it) => $first,
-            InfoDataOf::Vxlan($it) => $list,
-            InfoDataOf::Bond($it) => $list,
-            InfoDataOf::IpVlan($it) => $list,
-            InfoDataOf::IpVtap($it) => $list,
-            InfoDataOf::MacVlan($it) => $list,
-            InfoDataOf::MacVtap($it) => $list,
-            InfoDataOf::GreTap($it) => $list,
-            InfoDataOf::GreTap6($it) => $list,
-            InfoDataOf::IpTunnel($it) => $list,
-            InfoDataOf::GreTun($it) => $list,
-            InfoDataOf::GreTun6($it) => $list,
-            InfoDataOf::Vti($it) => $list,
-            InfoDataOf::Vrf($it) => $list,
-            InfoDataOf::Gtp($it) => $list,
-            InfoDataOf::Ipoib($it) => $list,
-            InfoDataOf::Wireguard($it) => $list,
-            InfoDataOf::Xfrm($it) => $list,
-            InfoDataOf::MacSec($it) => $list,
-            InfoDataOf::Hsr($it) => $list,
-            InfoDataOf::Geneve($it) => $list,
-            InfoDataOf::Netkit($it) => $list,
-            InfoDataOf::Vxcan($it) => $first,
-            InfoDataOf::Amt($it) => $list,
-            InfoDataOf::BatAdv($it) => $list,
-            InfoDataOf::BareUdp($it) => $list,
-            InfoDataOf::Wwan($it) => $list,
-            InfoDataOf::Can($it) => $list,
-            InfoDataOf::Dsa($it) => $list,
-            InfoDataOf::ErSpan($it) => $list,
-            InfoDataOf::Ip6ErSpan($it) => $list,
-            InfoDataOf::Pfcp($it) => $list,
-            InfoDataOf::RmNet($it) => $list,
-            InfoDataOf::Other($it) => $bytes,
+    /// Encodes the data: the encodings of the attributes, one after another, or the bytes.
+    fn encode<E: Encode>(&self, encode: E, buffer: &mut [u8]) -> E::Answer {
+        match self {
+            InfoDataOf::Bridge(list) => encode.list(list, buffer),
+            InfoDataOf::Tun(list) => encode.list(list, buffer),
+            InfoDataOf::Vlan(list) => encode.list(list, buffer),
+            InfoDataOf::Veth(nla) => encode.one(nla, buffer),
+            InfoDataOf::Vxlan(list) => encode.list(list, buffer),
+            InfoDataOf::Bond(list) => encode.list(list, buffer),
+            InfoDataOf::IpVlan(list) => encode.list(list, buffer),
+            InfoDataOf::IpVtap(list) => encode.list(list, buffer),
+            InfoDataOf::MacVlan(list) => encode.list(list, buffer),
+            InfoDataOf::MacVtap(list) => encode.list(list, buffer),
+            InfoDataOf::GreTap(list) => encode.list(list, buffer),
+            InfoDataOf::GreTap6(list) => encode.list(list, buffer),
+            InfoDataOf::IpTunnel(list) => encode.list(list, buffer),
+            InfoDataOf::GreTun(list) => encode.list(list, buffer),
+            InfoDataOf::GreTun6(list) => encode.list(list, buffer),
+            InfoDataOf::Vti(list) => encode.list(list, buffer),
+            InfoDataOf::Vrf(list) => encode.list(list, buffer),
+            InfoDataOf::Gtp(list) => encode.list(list, buffer),
+            InfoDataOf::Ipoib(list) => encode.list(list, buffer),
+            InfoDataOf::Wireguard(list) => encode.list(list, buffer),
+            InfoDataOf::Xfrm(list) => encode.list(list, buffer),
+            InfoDataOf::MacSec(list) => encode.list(list, buffer),
+            InfoDataOf::Hsr(list) => encode.list(list, buffer),
+            InfoDataOf::Geneve(list) => encode.list(list, buffer),
+            InfoDataOf::Netkit(list) => encode.list(list, buffer),
+            InfoDataOf::Vxcan(nla) => encode.one(nla, buffer),
+            InfoDataOf::Amt(list) => encode.list(list, buffer),
+            InfoDataOf::BatAdv(list) => encode.list(list, buffer),
+            InfoDataOf::BareUdp(list) => encode.list(list, buffer),
+            InfoDataOf::Wwan(list) => encode.list(list, buffer),
+            InfoDataOf::Can(list) => encode.list(list, buffer),
+            InfoDataOf::Dsa(list) => encode.list(list, buffer),
+            InfoDataOf::ErSpan(list) => encode.list(list, buffer),
+            InfoDataOf::Ip6ErSpan(list) => encode.list(list, buffer),
+            InfoDataOf::Pfcp(list) => encode.list(list, buffer),
+            InfoDataOf::RmNet(list) => encode.list(list, buffer),
+            InfoDataOf::Other(bytes) => encode.bytes(bytes.as_slice(), buffer),
         }
-    };
+    }
 }
-
 /// Written as an attribute of type 2 (`IFLA_INFO_DATA`). The payload is the encodings of the
 /// attributes, one after another.
 impl<P: LinkPeer> Nla for InfoDataOf<P> {
@@ -180,10 +174,7 @@ impl<P: LinkPeer> Nla for InfoDataOf<P> {
 
     #[inline]
     fn emit_payload(&self, buffer: &mut [u8]) -> usize {
-        of_data!(
-            self, it =>
-            write_list(it, buffer), write_one(it, buffer), write_bytes(it.as_slice(), buffer)
-        )
+        self.encode(Write, buffer)
     }
 
     #[inline]
@@ -193,7 +184,7 @@ impl<P: LinkPeer> Nla for InfoDataOf<P> {
 
     #[inline]
     fn fit_len(&self) -> Option<usize> {
-        of_data!(self, it => list_fit_len(it), one_fit_len(it), fitting(it.len()))
+        self.encode(FitLen, &mut [])
     }
 }
 

@@ -6,13 +6,14 @@ mod calls;
 mod data;
 mod devices;
 mod difference;
+mod encode;
 mod families;
 mod info_data;
-mod lists;
 mod lower;
 mod payload_family;
 mod peers;
 mod port_data;
+mod reading;
 mod tunnels;
 mod unmet;
 

@@ -2,12 +2,10 @@
 
 use crate::layers::data::ask::Ask;
 use crate::layers::data::calls::{ask, read};
-use crate::layers::data::lists::{list_fit_len, write_list};
+use crate::layers::data::encode::{Encode, FitLen, Write};
 use crate::layers::data::payload_family::PayloadFamily;
 use crate::layers::devices::InfoVrfPort;
-use crate::layers::nla_frame::{
-    Bytes, DecodeError, ExactEq, Family, HeaderCount, Nla, Nlas, fitting, write_bytes,
-};
+use crate::layers::nla_frame::{Bytes, DecodeError, ExactEq, Family, HeaderCount, Nla, Nlas};
 use crate::layers::numbers::{IFLA_INFO_SLAVE_DATA, InfoPortKind, PortTag};
 use crate::layers::peers::InfoTeamPort;
 use crate::layers::table::lower::{InfoBondPort, InfoBridgePort};
@@ -110,6 +108,17 @@ impl InfoPortData {
         let mut count = HeaderCount::new();
         port_family_of(kind.tag()).read(payload, &mut count)
     }
+
+    /// Encodes the data: the encodings of the attributes, one after another, or the bytes.
+    fn encode<E: Encode>(&self, encode: E, buffer: &mut [u8]) -> E::Answer {
+        match self {
+            InfoPortData::BondPort(list) => encode.list(list, buffer),
+            InfoPortData::BridgePort(list) => encode.list(list, buffer),
+            InfoPortData::VrfPort(list) => encode.list(list, buffer),
+            InfoPortData::TeamPort(list) => encode.list(list, buffer),
+            InfoPortData::Other(bytes) => encode.bytes(bytes.as_slice(), buffer),
+        }
+    }
 }
 
 /// Written as an attribute of type 5 (`IFLA_INFO_SLAVE_DATA`). The payload is the encodings of the
@@ -127,13 +136,7 @@ impl Nla for InfoPortData {
 
     #[inline]
     fn emit_payload(&self, buffer: &mut [u8]) -> usize {
-        match self {
-            InfoPortData::BondPort(list) => write_list(list, buffer),
-            InfoPortData::BridgePort(list) => write_list(list, buffer),
-            InfoPortData::VrfPort(list) => write_list(list, buffer),
-            InfoPortData::TeamPort(list) => write_list(list, buffer),
-            InfoPortData::Other(bytes) => write_bytes(bytes.as_slice(), buffer),
-        }
+        self.encode(Write, buffer)
     }
 
     #[inline]
@@ -143,13 +146,7 @@ impl Nla for InfoPortData {
 
     #[inline]
     fn fit_len(&self) -> Option<usize> {
-        match self {
-            InfoPortData::BondPort(list) => list_fit_len(list),
-            InfoPortData::BridgePort(list) => list_fit_len(list),
-            InfoPortData::VrfPort(list) => list_fit_len(list),
-            InfoPortData::TeamPort(list) => list_fit_len(list),
-            InfoPortData::Other(bytes) => fitting(bytes.len()),
-        }
+        self.encode(FitLen, &mut [])
     }
 }
 

@@ -1,4 +1,5 @@
-use Rattle.linkinfo_data.proofs.lists.read_first.Goals as goal
+-- The first attribute is read as its contract says.
+use Rattle.linkinfo_data.proofs.reading.read_first.Goals as goal
 
 pub returns : goal.returns
 returns g c =

@@ -1,5 +1,0 @@
-use Rattle.nla_frame.proofs.Emitting.{list_fits}
-use Rattle.linkinfo_data.proofs.lists.write_list.Goals as goal
-
-pub write_attributes-requires-clause-fits : goal.write_attributes-requires-clause-fits
-write_attributes-requires-clause-fits g c = rw c.as_slice.ensures (list_fits _ c.requires.fits)
