@@ -1,4 +1,4 @@
--- What is said of an encoding: its length where it fits a payload, and that a buffer begins with it.
+-- An encoding: its length if it fits a payload, and that a buffer begins with it.
 use Rattle.std.specs.Prelude.{◌≡◌, ℕ, ◌≤◌, ◌++◌, List, Option, SomeIff, drop, length}
 
 abbrev pub IsFitLen : List ℕ → Option ℕ → Type 0
