@@ -1,10 +1,19 @@
 -- A type without a row in the list has no row in the table. For any other type the table says which
 -- value is stored. A search would read the whole table once per row.
-use Rattle.std.proofs.Common.{rules, refl}
-use Rattle.linkinfo_table.specs.FamilyRowLaws.{no_row_read, stores_decoded}
+use Rattle.std.proofs.Common.{ap, rules, refl}
+use Rattle.linkinfo_table.specs.FamilyRowLaws.{no_row_read}
 use Rattle.linkinfo_table.specs.FamilyRows.{table_row}
-use Rattle.linkinfo_tunnels.specs.declared.gre.InfoGre.TheVariants.{Other}
+use Rattle.linkinfo_tunnels.specs.declared.gre.InfoGre.TheVariants.{
+  IFlags,
+  OFlags,
+  EncapType,
+  EncapFlags,
+  ErSpanDir,
+  Other,
+}
+use Rattle.linkinfo_numbers.specs.Gre.{gre_io_flags, gre_encap_flags}
 use Rattle.linkinfo_tunnels.specs.Gre.{gre_rows}
+use Rattle.linkinfo_tunnels.proofs.RowStored.{row_stored}
 use Rattle.linkinfo_tunnels.proofs.gre.InfoGreTableFamily.store_decoded.Goals as goal
 
 pub store_by_rows-unreachable-requires : goal.store_by_rows-unreachable-requires
@@ -19,107 +28,127 @@ unreachable-store_by_rows g c =
     c.in-Typed-store_by_rows.field-1
     c.in-Typed-store_by_rows.is (search rules) c.requires
 
-pub returns-in-1-clause-value : goal.returns-in-1-clause-value
-returns-in-1-clause-value g c =
-    stores_decoded (g.P.Slot.with c.args.slot.now) (λ d. Other d) _ _
-    (λ n. table_row gre_rows n) refl
-    c.in-Typed-store_by_rows.is c.in-1.is c.requires c.store_by_rows-u32_or_zero.ensures.le32.0
-    c.store_by_rows-store-in-1.ensures.held
+pub returns-in-1 : goal.returns-in-1
+returns-in-1 g c =
+    row_stored (g.P.Slot.with c.args.slot.now) (λ d. Other d) _ _ _ (λ n. table_row gre_rows n) refl
+    c.in-Typed-store_by_rows.is c.in-1.is c.requires c.store_by_rows-u32_or_zero.ensures.le32.0 refl
+    c.store_by_rows-store-in-1.ensures
 
-pub returns-in-4-clause-value : goal.returns-in-4-clause-value
-returns-in-4-clause-value g c =
-    stores_decoded (g.P.Slot.with c.args.slot.now) (λ d. Other d) _ _
-    (λ n. table_row gre_rows n) refl
+pub returns-in-2 : goal.returns-in-2
+returns-in-2 g c =
+    row_stored (g.P.Slot.with c.args.slot.now) (λ d. Other d) _ _ _ (λ n. table_row gre_rows n) refl
+    c.in-Typed-store_by_rows.is c.in-2.is c.requires c.store_by_rows-u16_or_zero.ensures.be16.0
+    (ap (λ n. IFlags (gre_io_flags n)) (c.store_by_rows-from_bits_retain.ensures tt))
+    c.store_by_rows-store-in-2.ensures
+
+pub returns-in-3 : goal.returns-in-3
+returns-in-3 g c =
+    row_stored (g.P.Slot.with c.args.slot.now) (λ d. Other d) _ _ _ (λ n. table_row gre_rows n) refl
+    c.in-Typed-store_by_rows.is c.in-3.is c.requires c.store_by_rows-u16_or_zero-in-3.ensures.be16.0
+    (ap (λ n. OFlags (gre_io_flags n)) (c.store_by_rows-from_bits_retain-in-3.ensures tt))
+    c.store_by_rows-store-in-3.ensures
+
+pub returns-in-4 : goal.returns-in-4
+returns-in-4 g c =
+    row_stored (g.P.Slot.with c.args.slot.now) (λ d. Other d) _ _ _ (λ n. table_row gre_rows n) refl
     c.in-Typed-store_by_rows.is c.in-4.is c.requires c.store_by_rows-u32_or_zero-in-4.ensures.be32.0
-    c.store_by_rows-store-in-4.ensures.held
+    refl c.store_by_rows-store-in-4.ensures
 
-pub returns-in-5-clause-value : goal.returns-in-5-clause-value
-returns-in-5-clause-value g c =
-    stores_decoded (g.P.Slot.with c.args.slot.now) (λ d. Other d) _ _
-    (λ n. table_row gre_rows n) refl
+pub returns-in-5 : goal.returns-in-5
+returns-in-5 g c =
+    row_stored (g.P.Slot.with c.args.slot.now) (λ d. Other d) _ _ _ (λ n. table_row gre_rows n) refl
     c.in-Typed-store_by_rows.is c.in-5.is c.requires c.store_by_rows-u32_or_zero-in-5.ensures.be32.0
-    c.store_by_rows-store-in-5.ensures.held
+    refl c.store_by_rows-store-in-5.ensures
 
-pub returns-in-6-clause-value : goal.returns-in-6-clause-value
-returns-in-6-clause-value g c =
-    stores_decoded (g.P.Slot.with c.args.slot.now) (λ d. Other d) _ _
-    (λ n. table_row gre_rows n) refl
+pub returns-in-6 : goal.returns-in-6
+returns-in-6 g c =
+    row_stored (g.P.Slot.with c.args.slot.now) (λ d. Other d) _ _ _ (λ n. table_row gre_rows n) refl
     c.in-Typed-store_by_rows.is c.in-6.is c.requires
-    c.store_by_rows-ipv4_or_unspecified.ensures.v4.0
-    c.store_by_rows-store-in-6.ensures.held
+    c.store_by_rows-ipv4_or_unspecified.ensures.v4.0 refl c.store_by_rows-store-in-6.ensures
 
-pub returns-in-7-clause-value : goal.returns-in-7-clause-value
-returns-in-7-clause-value g c =
-    stores_decoded (g.P.Slot.with c.args.slot.now) (λ d. Other d) _ _
-    (λ n. table_row gre_rows n) refl
+pub returns-in-7 : goal.returns-in-7
+returns-in-7 g c =
+    row_stored (g.P.Slot.with c.args.slot.now) (λ d. Other d) _ _ _ (λ n. table_row gre_rows n) refl
     c.in-Typed-store_by_rows.is c.in-7.is c.requires
-    c.store_by_rows-ipv4_or_unspecified-in-7.ensures.v4.0 c.store_by_rows-store-in-7.ensures.held
+    c.store_by_rows-ipv4_or_unspecified-in-7.ensures.v4.0 refl c.store_by_rows-store-in-7.ensures
 
-pub returns-in-8-clause-value : goal.returns-in-8-clause-value
-returns-in-8-clause-value g c =
-    stores_decoded (g.P.Slot.with c.args.slot.now) (λ d. Other d) _ _
-    (λ n. table_row gre_rows n) refl
-    c.in-Typed-store_by_rows.is c.in-8.is c.requires c.store_by_rows-u8_or_zero.ensures.0
-    c.store_by_rows-store-in-8.ensures.held
+pub returns-in-8 : goal.returns-in-8
+returns-in-8 g c =
+    row_stored (g.P.Slot.with c.args.slot.now) (λ d. Other d) _ _ _ (λ n. table_row gre_rows n) refl
+    c.in-Typed-store_by_rows.is c.in-8.is c.requires c.store_by_rows-u8_or_zero.ensures.0 refl
+    c.store_by_rows-store-in-8.ensures
 
-pub returns-in-9-clause-value : goal.returns-in-9-clause-value
-returns-in-9-clause-value g c =
-    stores_decoded (g.P.Slot.with c.args.slot.now) (λ d. Other d) _ _
-    (λ n. table_row gre_rows n) refl
-    c.in-Typed-store_by_rows.is c.in-9.is c.requires c.store_by_rows-u8_or_zero-in-9.ensures.0
-    c.store_by_rows-store-in-9.ensures.held
+pub returns-in-9 : goal.returns-in-9
+returns-in-9 g c =
+    row_stored (g.P.Slot.with c.args.slot.now) (λ d. Other d) _ _ _ (λ n. table_row gre_rows n) refl
+    c.in-Typed-store_by_rows.is c.in-9.is c.requires c.store_by_rows-u8_or_zero-in-9.ensures.0 refl
+    c.store_by_rows-store-in-9.ensures
 
-pub returns-in-10-clause-value : goal.returns-in-10-clause-value
-returns-in-10-clause-value g c =
-    stores_decoded (g.P.Slot.with c.args.slot.now) (λ d. Other d) _ _
-    (λ n. table_row gre_rows n) refl
+pub returns-in-10 : goal.returns-in-10
+returns-in-10 g c =
+    row_stored (g.P.Slot.with c.args.slot.now) (λ d. Other d) _ _ _ (λ n. table_row gre_rows n) refl
     c.in-Typed-store_by_rows.is c.in-10.is c.requires
-    c.store_by_rows-bool_or_false.ensures.truth_one.0
-    c.store_by_rows-store-in-10.ensures.held
+    c.store_by_rows-bool_or_false.ensures.truth_one.0 refl c.store_by_rows-store-in-10.ensures
 
-pub returns-in-16-clause-value : goal.returns-in-16-clause-value
-returns-in-16-clause-value g c =
-    stores_decoded (g.P.Slot.with c.args.slot.now) (λ d. Other d) _ _
-    (λ n. table_row gre_rows n) refl
+pub returns-in-14 : goal.returns-in-14
+returns-in-14 g c =
+    row_stored (g.P.Slot.with c.args.slot.now) (λ d. Other d) _ _ _ (λ n. table_row gre_rows n) refl
+    c.in-Typed-store_by_rows.is c.in-14.is c.requires
+    c.store_by_rows-u16_or_zero-in-14.ensures.le16.0
+    (ap (λ x. EncapType x) c.store_by_rows-from.ensures) c.store_by_rows-store-in-14.ensures
+
+pub returns-in-15 : goal.returns-in-15
+returns-in-15 g c =
+    row_stored (g.P.Slot.with c.args.slot.now) (λ d. Other d) _ _ _ (λ n. table_row gre_rows n) refl
+    c.in-Typed-store_by_rows.is c.in-15.is c.requires
+    c.store_by_rows-u16_or_zero-in-15.ensures.le16.0
+    (ap (λ n. EncapFlags (gre_encap_flags n)) (c.store_by_rows-from_bits_retain-in-15.ensures tt))
+    c.store_by_rows-store-in-15.ensures
+
+pub returns-in-16 : goal.returns-in-16
+returns-in-16 g c =
+    row_stored (g.P.Slot.with c.args.slot.now) (λ d. Other d) _ _ _ (λ n. table_row gre_rows n) refl
     c.in-Typed-store_by_rows.is c.in-16.is c.requires
-    c.store_by_rows-u16_or_zero-in-16.ensures.be16.0
-    c.store_by_rows-store-in-16.ensures.held
+    c.store_by_rows-u16_or_zero-in-16.ensures.be16.0 refl c.store_by_rows-store-in-16.ensures
 
-pub returns-in-17-clause-value : goal.returns-in-17-clause-value
-returns-in-17-clause-value g c =
-    stores_decoded (g.P.Slot.with c.args.slot.now) (λ d. Other d) _ _
-    (λ n. table_row gre_rows n) refl
+pub returns-in-17 : goal.returns-in-17
+returns-in-17 g c =
+    row_stored (g.P.Slot.with c.args.slot.now) (λ d. Other d) _ _ _ (λ n. table_row gre_rows n) refl
     c.in-Typed-store_by_rows.is c.in-17.is c.requires
-    c.store_by_rows-u16_or_zero-in-17.ensures.be16.0
-    c.store_by_rows-store-in-17.ensures.held
+    c.store_by_rows-u16_or_zero-in-17.ensures.be16.0 refl c.store_by_rows-store-in-17.ensures
 
-pub returns-in-20-clause-value : goal.returns-in-20-clause-value
-returns-in-20-clause-value g c =
-    stores_decoded (g.P.Slot.with c.args.slot.now) (λ d. Other d) _ _
-    (λ n. table_row gre_rows n) refl
+pub returns-in-18 : goal.returns-in-18
+returns-in-18 g c =
+    row_stored (g.P.Slot.with c.args.slot.now) (λ d. Other d) _ _ _ (λ n. table_row gre_rows n) refl
+    c.in-Typed-store_by_rows.is c.in-18.is c.requires (λ _. refl) refl
+    c.store_by_rows-store-in-18.ensures
+
+pub returns-in-20 : goal.returns-in-20
+returns-in-20 g c =
+    row_stored (g.P.Slot.with c.args.slot.now) (λ d. Other d) _ _ _ (λ n. table_row gre_rows n) refl
     c.in-Typed-store_by_rows.is c.in-20.is c.requires
-    c.store_by_rows-u32_or_zero-in-20.ensures.le32.0
-    c.store_by_rows-store-in-20.ensures.held
+    c.store_by_rows-u32_or_zero-in-20.ensures.le32.0 refl c.store_by_rows-store-in-20.ensures
 
-pub returns-in-21-clause-value : goal.returns-in-21-clause-value
-returns-in-21-clause-value g c =
-    stores_decoded (g.P.Slot.with c.args.slot.now) (λ d. Other d) _ _
-    (λ n. table_row gre_rows n) refl
+pub returns-in-21 : goal.returns-in-21
+returns-in-21 g c =
+    row_stored (g.P.Slot.with c.args.slot.now) (λ d. Other d) _ _ _ (λ n. table_row gre_rows n) refl
     c.in-Typed-store_by_rows.is c.in-21.is c.requires
-    c.store_by_rows-u32_or_zero-in-21.ensures.le32.0
-    c.store_by_rows-store-in-21.ensures.held
+    c.store_by_rows-u32_or_zero-in-21.ensures.le32.0 refl c.store_by_rows-store-in-21.ensures
 
-pub returns-in-22-clause-value : goal.returns-in-22-clause-value
-returns-in-22-clause-value g c =
-    stores_decoded (g.P.Slot.with c.args.slot.now) (λ d. Other d) _ _
-    (λ n. table_row gre_rows n) refl
+pub returns-in-22 : goal.returns-in-22
+returns-in-22 g c =
+    row_stored (g.P.Slot.with c.args.slot.now) (λ d. Other d) _ _ _ (λ n. table_row gre_rows n) refl
     c.in-Typed-store_by_rows.is c.in-22.is c.requires c.store_by_rows-u8_or_zero-in-22.ensures.0
-    c.store_by_rows-store-in-22.ensures.held
+    refl c.store_by_rows-store-in-22.ensures
 
-pub returns-in-24-clause-value : goal.returns-in-24-clause-value
-returns-in-24-clause-value g c =
-    stores_decoded (g.P.Slot.with c.args.slot.now) (λ d. Other d) _ _
-    (λ n. table_row gre_rows n) refl
+pub returns-in-23 : goal.returns-in-23
+returns-in-23 g c =
+    row_stored (g.P.Slot.with c.args.slot.now) (λ d. Other d) _ _ _ (λ n. table_row gre_rows n) refl
+    c.in-Typed-store_by_rows.is c.in-23.is c.requires c.store_by_rows-u8_or_zero-in-23.ensures.0
+    (ap (λ x. ErSpanDir x) c.store_by_rows-from-in-23.ensures) c.store_by_rows-store-in-23.ensures
+
+pub returns-in-24 : goal.returns-in-24
+returns-in-24 g c =
+    row_stored (g.P.Slot.with c.args.slot.now) (λ d. Other d) _ _ _ (λ n. table_row gre_rows n) refl
     c.in-Typed-store_by_rows.is c.in-24.is c.requires
-    c.store_by_rows-u16_or_zero-in-24.ensures.le16.0
-    c.store_by_rows-store-in-24.ensures.held
+    c.store_by_rows-u16_or_zero-in-24.ensures.le16.0 refl c.store_by_rows-store-in-24.ensures

@@ -1,10 +1,11 @@
 -- A type without a row in the list has no row in the table. For any other type the table says which
 -- value is stored. A search would read the whole table once per row.
-use Rattle.std.proofs.Common.{rules, refl}
-use Rattle.linkinfo_table.specs.FamilyRowLaws.{no_row_read, stores_decoded}
+use Rattle.std.proofs.Common.{ap, rules, refl}
+use Rattle.linkinfo_table.specs.FamilyRowLaws.{no_row_read}
 use Rattle.linkinfo_table.specs.FamilyRows.{table_row}
-use Rattle.linkinfo_tunnels.specs.declared.gtp.InfoGtp.TheVariants.{Other}
+use Rattle.linkinfo_tunnels.specs.declared.gtp.InfoGtp.TheVariants.{Role, Other}
 use Rattle.linkinfo_tunnels.specs.Gtp.{gtp_rows}
+use Rattle.linkinfo_tunnels.proofs.RowStored.{row_stored}
 use Rattle.linkinfo_tunnels.proofs.gtp.InfoGtpTableFamily.store_decoded.Goals as goal
 
 pub store_by_rows-unreachable-requires : goal.store_by_rows-unreachable-requires
@@ -19,53 +20,50 @@ unreachable-store_by_rows g c =
     c.in-Typed-store_by_rows.field-1
     c.in-Typed-store_by_rows.is (search rules) c.requires
 
-pub returns-in-1-clause-value : goal.returns-in-1-clause-value
-returns-in-1-clause-value g c =
-    stores_decoded (g.P.Slot.with c.args.slot.now) (λ d. Other d) _ _
-    (λ n. table_row gtp_rows n) refl
-    c.in-Typed-store_by_rows.is c.in-1.is c.requires c.store_by_rows-u32_or_zero.ensures.le32.0
-    c.store_by_rows-store-in-1.ensures.held
+pub returns-in-1 : goal.returns-in-1
+returns-in-1 g c =
+    row_stored (g.P.Slot.with c.args.slot.now) (λ d. Other d) _ _ _ (λ n. table_row gtp_rows n) refl
+    c.in-Typed-store_by_rows.is c.in-1.is c.requires c.store_by_rows-u32_or_zero.ensures.le32.0 refl
+    c.store_by_rows-store-in-1.ensures
 
-pub returns-in-2-clause-value : goal.returns-in-2-clause-value
-returns-in-2-clause-value g c =
-    stores_decoded (g.P.Slot.with c.args.slot.now) (λ d. Other d) _ _
-    (λ n. table_row gtp_rows n) refl
+pub returns-in-2 : goal.returns-in-2
+returns-in-2 g c =
+    row_stored (g.P.Slot.with c.args.slot.now) (λ d. Other d) _ _ _ (λ n. table_row gtp_rows n) refl
     c.in-Typed-store_by_rows.is c.in-2.is c.requires c.store_by_rows-u32_or_zero-in-2.ensures.le32.0
-    c.store_by_rows-store-in-2.ensures.held
+    refl c.store_by_rows-store-in-2.ensures
 
-pub returns-in-3-clause-value : goal.returns-in-3-clause-value
-returns-in-3-clause-value g c =
-    stores_decoded (g.P.Slot.with c.args.slot.now) (λ d. Other d) _ _
-    (λ n. table_row gtp_rows n) refl
+pub returns-in-3 : goal.returns-in-3
+returns-in-3 g c =
+    row_stored (g.P.Slot.with c.args.slot.now) (λ d. Other d) _ _ _ (λ n. table_row gtp_rows n) refl
     c.in-Typed-store_by_rows.is c.in-3.is c.requires c.store_by_rows-u32_or_zero-in-3.ensures.le32.0
-    c.store_by_rows-store-in-3.ensures.held
+    refl c.store_by_rows-store-in-3.ensures
 
-pub returns-in-5-clause-value : goal.returns-in-5-clause-value
-returns-in-5-clause-value g c =
-    stores_decoded (g.P.Slot.with c.args.slot.now) (λ d. Other d) _ _
-    (λ n. table_row gtp_rows n) refl
+pub returns-in-4 : goal.returns-in-4
+returns-in-4 g c =
+    row_stored (g.P.Slot.with c.args.slot.now) (λ d. Other d) _ _ _ (λ n. table_row gtp_rows n) refl
+    c.in-Typed-store_by_rows.is c.in-4.is c.requires c.store_by_rows-u32_or_zero-in-4.ensures.le32.0
+    (ap (λ x. Role x) c.store_by_rows-from.ensures) c.store_by_rows-store-in-4.ensures
+
+pub returns-in-5 : goal.returns-in-5
+returns-in-5 g c =
+    row_stored (g.P.Slot.with c.args.slot.now) (λ d. Other d) _ _ _ (λ n. table_row gtp_rows n) refl
     c.in-Typed-store_by_rows.is c.in-5.is c.requires c.store_by_rows-bool_or_false.ensures.truth.0
-    c.store_by_rows-store-in-5.ensures.held
+    refl c.store_by_rows-store-in-5.ensures
 
-pub returns-in-6-clause-value : goal.returns-in-6-clause-value
-returns-in-6-clause-value g c =
-    stores_decoded (g.P.Slot.with c.args.slot.now) (λ d. Other d) _ _
-    (λ n. table_row gtp_rows n) refl
-    c.in-Typed-store_by_rows.is c.in-6.is c.requires c.store_by_rows-u8_or_zero.ensures.0
-    c.store_by_rows-store-in-6.ensures.held
+pub returns-in-6 : goal.returns-in-6
+returns-in-6 g c =
+    row_stored (g.P.Slot.with c.args.slot.now) (λ d. Other d) _ _ _ (λ n. table_row gtp_rows n) refl
+    c.in-Typed-store_by_rows.is c.in-6.is c.requires c.store_by_rows-u8_or_zero.ensures.0 refl
+    c.store_by_rows-store-in-6.ensures
 
-pub returns-in-7-clause-value : goal.returns-in-7-clause-value
-returns-in-7-clause-value g c =
-    stores_decoded (g.P.Slot.with c.args.slot.now) (λ d. Other d) _ _
-    (λ n. table_row gtp_rows n) refl
+pub returns-in-7 : goal.returns-in-7
+returns-in-7 g c =
+    row_stored (g.P.Slot.with c.args.slot.now) (λ d. Other d) _ _ _ (λ n. table_row gtp_rows n) refl
     c.in-Typed-store_by_rows.is c.in-7.is c.requires
-    c.store_by_rows-ipv4_or_unspecified.ensures.v4.0
-    c.store_by_rows-store-in-7.ensures.held
+    c.store_by_rows-ipv4_or_unspecified.ensures.v4.0 refl c.store_by_rows-store-in-7.ensures
 
-pub returns-in-8-clause-value : goal.returns-in-8-clause-value
-returns-in-8-clause-value g c =
-    stores_decoded (g.P.Slot.with c.args.slot.now) (λ d. Other d) _ _
-    (λ n. table_row gtp_rows n) refl
+pub returns-in-8 : goal.returns-in-8
+returns-in-8 g c =
+    row_stored (g.P.Slot.with c.args.slot.now) (λ d. Other d) _ _ _ (λ n. table_row gtp_rows n) refl
     c.in-Typed-store_by_rows.is c.in-8.is c.requires
-    c.store_by_rows-ipv6_or_unspecified.ensures.v6.0
-    c.store_by_rows-store-in-8.ensures.held
+    c.store_by_rows-ipv6_or_unspecified.ensures.v6.0 refl c.store_by_rows-store-in-8.ensures

@@ -1,0 +1,130 @@
+-- In the arm of each row the table says which value is stored. A search would read the whole table
+-- once per row.
+use Rattle.std.proofs.Common.{ap, refl}
+use Rattle.linkinfo_numbers.specs.Tunnel.{tunnel_encap_flags}
+use Rattle.linkinfo_tunnels.specs.declared.ip_tunnel.InfoIpTunnel.TheVariants.{
+  Protocol,
+  EncapType,
+  EncapFlags,
+  Other,
+}
+use Rattle.linkinfo_tunnels.specs.IpTunnel.{ip_tunnel_row}
+use Rattle.linkinfo_tunnels.proofs.RowStored.{row_stored}
+use Rattle.linkinfo_tunnels.proofs.ip_tunnel.InfoIpTunnelRowFamily.store_decoded.Goals as goal
+
+pub returns-in-1 : goal.returns-in-1
+returns-in-1 g c =
+    row_stored (g.P.Slot.with c.args.slot.now) (λ d. Other d) _ _ _ (ip_tunnel_row c.args.ctx) refl
+    c.in-Typed-store_by_rows.is c.in-1.is c.requires c.store_by_rows-u32_or_zero.ensures.le32.0 refl
+    c.store_by_rows-store-in-1.ensures
+
+pub returns-in-2 : goal.returns-in-2
+returns-in-2 g c =
+    row_stored (g.P.Slot.with c.args.slot.now) (λ d. Other d) _ _ _ (ip_tunnel_row c.args.ctx) refl
+    c.in-Typed-store_by_rows.is c.in-2.is c.requires c.store_by_rows-ip_or_unspecified.ensures.0
+    refl c.store_by_rows-store-in-2.ensures
+
+pub returns-in-3 : goal.returns-in-3
+returns-in-3 g c =
+    row_stored (g.P.Slot.with c.args.slot.now) (λ d. Other d) _ _ _ (ip_tunnel_row c.args.ctx) refl
+    c.in-Typed-store_by_rows.is c.in-3.is c.requires
+    c.store_by_rows-ip_or_unspecified-in-3.ensures.0 refl c.store_by_rows-store-in-3.ensures
+
+pub returns-in-4 : goal.returns-in-4
+returns-in-4 g c =
+    row_stored (g.P.Slot.with c.args.slot.now) (λ d. Other d) _ _ _ (ip_tunnel_row c.args.ctx) refl
+    c.in-Typed-store_by_rows.is c.in-4.is c.requires c.store_by_rows-u8_or_zero.ensures.0 refl
+    c.store_by_rows-store-in-4.ensures
+
+pub returns-in-5 : goal.returns-in-5
+returns-in-5 g c =
+    row_stored (g.P.Slot.with c.args.slot.now) (λ d. Other d) _ _ _ (ip_tunnel_row c.args.ctx) refl
+    c.in-Typed-store_by_rows.is c.in-5.is c.requires c.store_by_rows-u8_or_zero-in-5.ensures.0 refl
+    c.store_by_rows-store-in-5.ensures
+
+pub returns-in-6 : goal.returns-in-6
+returns-in-6 g c =
+    row_stored (g.P.Slot.with c.args.slot.now) (λ d. Other d) _ _ _ (ip_tunnel_row c.args.ctx) refl
+    c.in-Typed-store_by_rows.is c.in-6.is c.requires c.store_by_rows-u8_or_zero-in-6.ensures.0 refl
+    c.store_by_rows-store-in-6.ensures
+
+pub returns-in-7 : goal.returns-in-7
+returns-in-7 g c =
+    row_stored (g.P.Slot.with c.args.slot.now) (λ d. Other d) _ _ _ (ip_tunnel_row c.args.ctx) refl
+    c.in-Typed-store_by_rows.is c.in-7.is c.requires c.store_by_rows-u32_or_zero-in-7.ensures.be32.0
+    refl c.store_by_rows-store-in-7.ensures
+
+pub returns-in-9 : goal.returns-in-9
+returns-in-9 g c =
+    row_stored (g.P.Slot.with c.args.slot.now) (λ d. Other d) _ _ _ (ip_tunnel_row c.args.ctx) refl
+    c.in-Typed-store_by_rows.is c.in-9.is c.requires c.store_by_rows-u8_or_zero-in-9.ensures.0
+    (ap (λ x. Protocol x) c.store_by_rows-from.ensures) c.store_by_rows-store-in-9.ensures
+
+pub returns-in-10 : goal.returns-in-10
+returns-in-10 g c =
+    row_stored (g.P.Slot.with c.args.slot.now) (λ d. Other d) _ _ _ (ip_tunnel_row c.args.ctx) refl
+    c.in-Typed-store_by_rows.is c.in-10.is c.requires c.store_by_rows-bool_or_false.ensures.truth.0
+    refl c.store_by_rows-store-in-10.ensures
+
+pub returns-in-11 : goal.returns-in-11
+returns-in-11 g c =
+    row_stored (g.P.Slot.with c.args.slot.now) (λ d. Other d) _ _ _ (ip_tunnel_row c.args.ctx) refl
+    c.in-Typed-store_by_rows.is c.in-11.is c.requires
+    c.store_by_rows-ipv6_or_unspecified.ensures.v6.0 refl c.store_by_rows-store-in-11.ensures
+
+pub returns-in-12 : goal.returns-in-12
+returns-in-12 g c =
+    row_stored (g.P.Slot.with c.args.slot.now) (λ d. Other d) _ _ _ (ip_tunnel_row c.args.ctx) refl
+    c.in-Typed-store_by_rows.is c.in-12.is c.requires
+    c.store_by_rows-ipv4_or_unspecified.ensures.v4.0 refl c.store_by_rows-store-in-12.ensures
+
+pub returns-in-13 : goal.returns-in-13
+returns-in-13 g c =
+    row_stored (g.P.Slot.with c.args.slot.now) (λ d. Other d) _ _ _ (ip_tunnel_row c.args.ctx) refl
+    c.in-Typed-store_by_rows.is c.in-13.is c.requires c.store_by_rows-u16_or_zero.ensures.le16.0
+    refl c.store_by_rows-store-in-13.ensures
+
+pub returns-in-14 : goal.returns-in-14
+returns-in-14 g c =
+    row_stored (g.P.Slot.with c.args.slot.now) (λ d. Other d) _ _ _ (ip_tunnel_row c.args.ctx) refl
+    c.in-Typed-store_by_rows.is c.in-14.is c.requires
+    c.store_by_rows-u16_or_zero-in-14.ensures.le16.0 refl c.store_by_rows-store-in-14.ensures
+
+pub returns-in-15 : goal.returns-in-15
+returns-in-15 g c =
+    row_stored (g.P.Slot.with c.args.slot.now) (λ d. Other d) _ _ _ (ip_tunnel_row c.args.ctx) refl
+    c.in-Typed-store_by_rows.is c.in-15.is c.requires
+    c.store_by_rows-u16_or_zero-in-15.ensures.le16.0
+    (ap (λ x. EncapType x) c.store_by_rows-from-in-15.ensures) c.store_by_rows-store-in-15.ensures
+
+pub returns-in-16 : goal.returns-in-16
+returns-in-16 g c =
+    row_stored (g.P.Slot.with c.args.slot.now) (λ d. Other d) _ _ _ (ip_tunnel_row c.args.ctx) refl
+    c.in-Typed-store_by_rows.is c.in-16.is c.requires
+    c.store_by_rows-u16_or_zero-in-16.ensures.le16.0
+    (ap (λ n. EncapFlags (tunnel_encap_flags n)) (c.store_by_rows-from_bits_retain.ensures tt))
+    c.store_by_rows-store-in-16.ensures
+
+pub returns-in-17 : goal.returns-in-17
+returns-in-17 g c =
+    row_stored (g.P.Slot.with c.args.slot.now) (λ d. Other d) _ _ _ (ip_tunnel_row c.args.ctx) refl
+    c.in-Typed-store_by_rows.is c.in-17.is c.requires
+    c.store_by_rows-u16_or_zero-in-17.ensures.be16.0 refl c.store_by_rows-store-in-17.ensures
+
+pub returns-in-18 : goal.returns-in-18
+returns-in-18 g c =
+    row_stored (g.P.Slot.with c.args.slot.now) (λ d. Other d) _ _ _ (ip_tunnel_row c.args.ctx) refl
+    c.in-Typed-store_by_rows.is c.in-18.is c.requires
+    c.store_by_rows-u16_or_zero-in-18.ensures.be16.0 refl c.store_by_rows-store-in-18.ensures
+
+pub returns-in-19 : goal.returns-in-19
+returns-in-19 g c =
+    row_stored (g.P.Slot.with c.args.slot.now) (λ d. Other d) _ _ _ (ip_tunnel_row c.args.ctx) refl
+    c.in-Typed-store_by_rows.is c.in-19.is c.requires (λ _. refl) refl
+    c.store_by_rows-store-in-19.ensures
+
+pub returns-in-20 : goal.returns-in-20
+returns-in-20 g c =
+    row_stored (g.P.Slot.with c.args.slot.now) (λ d. Other d) _ _ _ (ip_tunnel_row c.args.ctx) refl
+    c.in-Typed-store_by_rows.is c.in-20.is c.requires
+    c.store_by_rows-u32_or_zero-in-20.ensures.le32.0 refl c.store_by_rows-store-in-20.ensures
