@@ -1,5 +1,5 @@
 -- An attribute is read by its role as its row says.
-use Rattle.std.proofs.Common.{◌≡◌, ◌∙◌, ℕ, ◌+◌, List, Some, false, sym, ap, Result, Ok, Err, rules}
+use Rattle.std.proofs.Common.{◌≡◌, ◌∙◌, ℕ, List, Some, false, sym, ap, Result, Ok, Err, rules}
 use Rattle.std.specs.Prelude.{◌≢◌}
 use Rattle.nla_frame.specs.Attribute.{Attribute}
 use Rattle.nla_frame.specs.Error.{memory_error}
@@ -9,7 +9,7 @@ use Rattle.linkinfo_numbers.specs.Kind.{kind_of_name, tag_of_name}
 use Rattle.linkinfo_numbers.specs.PortKind.{port_kind_of_name, port_tag_of_name}
 use Rattle.linkinfo_shapes.specs.Shapes.{needs_memory}
 use Rattle.linkinfo_shapes.specs.declared.shape.Shape.TheVariants.{Name}
-use Rattle.linkinfo_table.specs.Rows.{labelled, row_headers, row_meaning, row_needs_memory}
+use Rattle.linkinfo_table.specs.Rows.{labelled, row_meaning, row_needs_memory}
 use Rattle.linkinfo_table.specs.SelfList.{inside}
 use Rattle.linkinfo_data.specs.Data.{data_of}
 use Rattle.linkinfo_data.specs.Families.{Families}
@@ -33,16 +33,9 @@ module _ {P : Type 0} (peer : Families P) (r s : Role) (is : r ≡ s) (a : Attri
   ok_by_role x e =
       ap (λ (t : Role). row_meaning family.LinkInfo link_other (link_row peer t) a) is ∙ e
 
-  counted_by_role : (n o : ℕ) → n ≡ o + row_headers (link_row peer s) a →
-      n ≡ o + row_headers (link_row peer r) a
-  counted_by_role n o e = e ∙ ap (λ (t : Role). o + row_headers (link_row peer t) a) (sym is)
-
 -- what a payload is read as by its family is the meaning of its attribute
 module _ {G X : Type 0} (of : G → Payload X) (f g : G) (found : f ≡ g) (p u : List ℕ)
     (value : p ≡ u) where
-  payload_counted : (m o : ℕ) → m ≡ o + (of f).headers p → m ≡ o + (of g).headers u
-  payload_counted m o e = rw (← found, ← value) e
-
   payload_ok : {F : Type 0} (label : X → F) (n : ℕ) (x : X) → (of f).means p ≡ Ok x →
       labelled family.LinkInfo n label (inside ((of g).means u)) ≡ Ok (label x)
   payload_ok label n x e =
@@ -178,9 +171,3 @@ returns-in_ok-data-in-Data-clause-answer g c =
 
 pub returns-in_ok-data-in-Data-clause-certain : goal.returns-in_ok-data-in-Data-clause-certain
 returns-in_ok-data-in-Data-clause-certain g c = λ _. returns-in_ok-data-in-Data-clause-answer g c
-
-pub returns-in_ok-data-in-Data-clause-counted : goal.returns-in_ok-data-in-Data-clause-counted
-returns-in_ok-data-in-Data-clause-counted g c =
-    counted_by_role (families_of g.row.P g.P.LinkPeer) _ _ c.in-Data.is c.args.nla.now _ _
-    (payload_counted (data_of (families_of g.row.P g.P.LinkPeer)) _ _ c.family_of.ensures _ _
-    c.value.ensures.value _ _ c.in_ok-data-in-Data.ensures.counted)
