@@ -1,4 +1,3 @@
--- An attribute is read by its role as its row says.
 use Rattle.std.proofs.Common.{◌≡◌, ◌∙◌, ℕ, List, Some, false, sym, ap, Result, Ok, Err, rules}
 use Rattle.std.specs.Prelude.{◌≢◌}
 use Rattle.nla_frame.specs.Attribute.{Attribute}
@@ -9,12 +8,8 @@ use Rattle.linkinfo_numbers.specs.Kind.{kind_of_name, tag_of_name}
 use Rattle.linkinfo_numbers.specs.PortKind.{port_kind_of_name, port_tag_of_name}
 use Rattle.linkinfo_shapes.specs.Shapes.{needs_memory}
 use Rattle.linkinfo_shapes.specs.declared.shape.Shape.TheVariants.{Name}
-use Rattle.linkinfo_table.specs.Rows.{labelled, row_meaning, row_needs_memory}
-use Rattle.linkinfo_table.specs.SelfList.{inside}
-use Rattle.linkinfo_data.specs.Data.{data_of}
+use Rattle.linkinfo_table.specs.Rows.{row_meaning, row_needs_memory}
 use Rattle.linkinfo_data.specs.Families.{Families}
-use Rattle.linkinfo_data.specs.Payloads.{Payload}
-use Rattle.linkinfo.specs.declared.link_info.LinkInfoOf.{LinkInfoOf}
 use Rattle.linkinfo.specs.declared.link_info.LinkInfoOf.TheVariants as info
 use Rattle.linkinfo.specs.declared.role.CurrentKinds.{CurrentKinds}
 use Rattle.linkinfo.specs.declared.role.Role.{Role}
@@ -24,23 +19,6 @@ use Rattle.linkinfo.specs.Roles.{kinds_after_role, name_meaning, with_name}
 use Rattle.linkinfo.proofs.Naming.{made_err, made_ok}
 use Rattle.linkinfo.proofs.item.read_item.Goals as goal
 use Rattle.linkinfo_data.specs.PeerFamilies.{families_of}
-
--- what holds by the role that was found holds by the role that was given
-module _ {P : Type 0} (peer : Families P) (r s : Role) (is : r ≡ s) (a : Attribute) where
-  ok_by_role : (x : LinkInfoOf P) →
-      row_meaning family.LinkInfo link_other (link_row peer s) a ≡ Ok x →
-      row_meaning family.LinkInfo link_other (link_row peer r) a ≡ Ok x
-  ok_by_role x e =
-      ap (λ (t : Role). row_meaning family.LinkInfo link_other (link_row peer t) a) is ∙ e
-
--- what a payload is read as by its family is the meaning of its attribute
-module _ {G X : Type 0} (of : G → Payload X) (f g : G) (found : f ≡ g) (p u : List ℕ)
-    (value : p ≡ u) where
-  payload_ok : {F : Type 0} (label : X → F) (n : ℕ) (x : X) → (of f).means p ≡ Ok x →
-      labelled family.LinkInfo n label (inside ((of g).means u)) ≡ Ok (label x)
-  payload_ok label n x e =
-      rw (← found, ← value)
-      (ap (λ (r : Result X DecodeError). labelled family.LinkInfo n label (inside r)) e)
 
 module _ {P : Type 0} (peer : Families P) (r : Role) (a : Attribute) (d : DecodeError)
     (is : r ≡ role.Kind) where
@@ -162,12 +140,3 @@ read_kind-requires g c =
 pub read_port_kind-requires : goal.read_port_kind-requires
 read_port_kind-requires g c =
     after_port _ c.requires.entered.0 _ c.args.nla.now c.requires.entered.1 c.in-PortKind.is
-
-pub returns-in_ok-data-in-Data-clause-answer : goal.returns-in_ok-data-in-Data-clause-answer
-returns-in_ok-data-in-Data-clause-answer g c =
-    ok_by_role (families_of g.row.P g.P.LinkPeer) _ _ c.in-Data.is c.args.nla.now _
-    (payload_ok (data_of (families_of g.row.P g.P.LinkPeer)) _ _ c.family_of.ensures _ _
-    c.value.ensures.value (λ d. info.Data d) _ _ c.in_ok-data-in-Data.ensures.answer)
-
-pub returns-in_ok-data-in-Data-clause-certain : goal.returns-in_ok-data-in-Data-clause-certain
-returns-in_ok-data-in-Data-clause-certain g c = λ _. returns-in_ok-data-in-Data-clause-answer g c
