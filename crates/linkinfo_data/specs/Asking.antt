@@ -1,5 +1,5 @@
--- What a question about payloads requires, and what answers it. The answer holds no value that a
--- payload parses as, so it does not depend on the variant that holds the value.
+-- What calls on payloads that return no parsed value require, and what they return. The result does
+-- not depend on the variant that holds the value.
 use Rattle.std.specs.Prelude.{
   ◌≡◌,
   ℕ,

@@ -1,6 +1,5 @@
-//! Questions about payloads that are answered without the values that they parse as: whether a
-//! payload is accepted, whether two are equivalent, how long the canonical payload is, and the
-//! canonical payload itself.
+//! Calls on payloads that return no parsed value: whether a payload is accepted, whether two are
+//! equivalent, how long the canonical payload is, and the canonical payload itself.
 
 ghost use Rattle.std.specs.Prelude.{ℕ, List};
 ghost use Rattle.linkinfo_data.specs.Asking.{
@@ -24,21 +23,21 @@ use linkinfo_table::{
 };
 use nla_frame::{DecodeError, HeaderCount, fitting, write_bytes};
 
-/// A question about payloads, answered for payloads of each sort. A family says of which sort its
-/// payloads are (`PayloadFamily::ask`).
+/// A call on payloads: lists of attributes, first attributes, or bytes. The family selects which
+/// (`PayloadFamily::ask`).
 ///
-/// A question may count the headers that it examines, and may write to the front of a buffer.
+/// A call may count the headers that it examines, and may write to the front of a buffer.
 pub trait Ask: Sized {
-    /// The answer to the question.
+    /// The result.
     type Answer;
 
-    /// What the question requires of the count and the buffer.
+    /// What is required of the payloads, the count and the buffer.
     ghost ready: { Facts → Self → ℕ → List ℕ → Type 0 };
 
-    /// What the answer is, and what the count and the buffer are after it.
+    /// The result, and the count and the buffer after the call.
     ghost answered: { Facts → Self → ℕ → ℕ → List ℕ → List ℕ → Self.Answer → Type 0 };
 
-    /// Answers for payloads that are lists of attributes of a family. Does not allocate.
+    /// The call on payloads that are lists of attributes of a family. Does not allocate.
     fn of_list<F: LinkFamily>(
         self,
         ctx: F::Context,
@@ -50,7 +49,7 @@ pub trait Ask: Sized {
         ensures { answered (list_facts F.attribute (F.meaning ctx) (F.headers ctx) (F.alike ctx))
             self count.old count.new buffer.old buffer.new result };
 
-    /// Answers for payloads of which the first attribute, of a family, is parsed, and the rest
+    /// The call on payloads of which the first attribute, of a family, is parsed, and the rest
     /// ignored. Does not allocate.
     fn of_first<F: LinkFamily>(
         self,
@@ -63,7 +62,7 @@ pub trait Ask: Sized {
         ensures { answered (first_facts F.attribute (F.meaning ctx) (F.headers ctx) (F.alike ctx))
             self count.old count.new buffer.old buffer.new result };
 
-    /// Answers for payloads that are kept as bytes. Does not allocate.
+    /// The call on payloads that are kept as bytes. Does not allocate.
     fn of_bytes(self, count: &mut HeaderCount, buffer: &mut [u8]) -> Self::Answer
         requires { ready bytes_facts self count.old buffer.old }
         ensures { answered bytes_facts self count.old count.new buffer.old buffer.new result };
@@ -196,7 +195,7 @@ impl<'a> Ask for CanonicalLen<'a> {
     }
 }
 
-/// Writes the canonical payload of an accepted payload to the front of the buffer. The answer is
+/// Writes the canonical payload of an accepted payload to the front of the buffer. The result is
 /// its length in bytes. Requires that it has at most 65531 bytes, and that the buffer has room.
 #[derive(Clone, Copy)]
 pub struct WriteCanonical<'a> {

@@ -58,7 +58,7 @@ pub trait PayloadFamily<D: Drop>: Copy {
             ((data_of self).needs_memory payload.now) ((data_of self).headers payload.now)
             (length payload.now) count.old count.new result };
 
-    /// Answers a question about payloads. Does not allocate.
+    /// Makes a call that returns no parsed value, for the family chosen. Does not allocate.
     fn ask<Q: Ask>(self, question: Q, count: &mut HeaderCount, buffer: &mut [u8]) -> Q::Answer
         requires { Q.ready (facts_of (data_of self)) question count.old buffer.old }
         ensures { Q.answered (facts_of (data_of self)) question count.old count.new buffer.old

@@ -1,6 +1,5 @@
-//! Questions about payloads that are answered without the values that they parse as: whether a
-//! payload is accepted, whether two are equivalent, how long the canonical payload is, and the
-//! canonical payload itself.
+//! Calls on payloads that return no parsed value: whether a payload is accepted, whether two are
+//! equivalent, how long the canonical payload is, and the canonical payload itself.
 
 use crate::layers::nla_frame::{DecodeError, HeaderCount, fitting, write_bytes};
 use crate::layers::table::{
@@ -8,15 +7,15 @@ use crate::layers::table::{
     list_canonical_len, list_check, list_same, list_write_canonical,
 };
 
-/// A question about payloads, answered for payloads of each sort. A family says of which sort its
-/// payloads are (`PayloadFamily::ask`).
+/// A call on payloads: lists of attributes, first attributes, or bytes. The family selects which
+/// (`PayloadFamily::ask`).
 ///
-/// A question may count the headers that it examines, and may write to the front of a buffer.
+/// A call may count the headers that it examines, and may write to the front of a buffer.
 pub trait Ask: Sized {
-    /// The answer to the question.
+    /// The result.
     type Answer;
 
-    /// Answers for payloads that are lists of attributes of a family. Does not allocate.
+    /// The call on payloads that are lists of attributes of a family. Does not allocate.
     ///
     /// # Panics
     ///
@@ -29,7 +28,7 @@ pub trait Ask: Sized {
         buffer: &mut [u8],
     ) -> Self::Answer;
 
-    /// Answers for payloads of which the first attribute, of a family, is parsed, and the rest
+    /// The call on payloads of which the first attribute, of a family, is parsed, and the rest
     /// ignored. Does not allocate.
     ///
     /// # Panics
@@ -43,7 +42,7 @@ pub trait Ask: Sized {
         buffer: &mut [u8],
     ) -> Self::Answer;
 
-    /// Answers for payloads that are kept as bytes. Does not allocate.
+    /// The call on payloads that are kept as bytes. Does not allocate.
     ///
     /// # Panics
     ///
@@ -163,7 +162,7 @@ impl<'a> Ask for CanonicalLen<'a> {
     }
 }
 
-/// Writes the canonical payload of an accepted payload to the front of the buffer. The answer is
+/// Writes the canonical payload of an accepted payload to the front of the buffer. The result is
 /// its length in bytes. Requires that it has at most 65531 bytes, and that the buffer has room.
 #[derive(Clone, Copy)]
 pub struct WriteCanonical<'a> {

@@ -21,7 +21,7 @@ macro_rules! read {
     };
 }
 
-/// Answers a question about payloads.
+/// Makes a call that returns no parsed value.
 macro_rules! ask {
     (list($variant:path, $nla:ty, $ctx:expr) ($question:ident, $count:ident, $buffer:ident)) => {
         $question.of_list::<$nla>($ctx, $count, $buffer)

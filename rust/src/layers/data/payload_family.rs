@@ -26,7 +26,7 @@ pub trait PayloadFamily<D>: Copy {
     /// not panic then, the result has no meaning.
     fn read(self, payload: &[u8], count: &mut HeaderCount) -> Result<D, DecodeError>;
 
-    /// Answers a question about payloads. Does not allocate.
+    /// Makes a call that returns no parsed value, for the family chosen. Does not allocate.
     ///
     /// # Panics
     ///
