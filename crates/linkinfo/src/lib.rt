@@ -1,14 +1,16 @@
 //! The contents of `IFLA_LINKINFO` (include/uapi/linux/if_link.h), the rtnetlink attribute that
 //! describes a network link: parsed, validated, compared and serialized.
 //!
-//! All public names are here, in groups: lists; values of data; data alone; iteration over
-//! attributes; custom families, peers and flag sets; and the laws of each layer.
+//! The names here are for programs that read and write lists, in groups: lists; values of data;
+//! data alone; iteration over attributes; and the laws of each layer. Those for authors of a family
+//! of attributes, of a peer or of a flag set are in `families`.
 #![tactic(auto)]
 
 mod canonical;
 mod canonical_into;
 mod collection;
 mod difference;
+pub mod families;
 mod item;
 pub mod laws;
 mod link_info;
@@ -83,30 +85,10 @@ pub use linkinfo_data::{
 // type, numbers and addresses in payloads.
 pub use linkinfo_table::{LastOfType, PlacedNla, own_bytes};
 pub use nla_frame::{
-    NlaBuffer, NlasIterator, emit_i32, emit_u16, emit_u16_be, emit_u32, emit_u32_be, emit_u64,
-    emit_u64_be, next_attribute, parse_i32, parse_ip, parse_ipv4_addr, parse_ipv6_addr, parse_mac,
-    parse_u8, parse_u16, parse_u16_be, parse_u32, parse_u32_be, parse_u64, parse_u64_be,
-    without_nul, write_attribute, write_attributes, write_bytes, write_bytes_attribute,
-    write_frame,
+    NlaBuffer, NlasIterator, next_attribute, parse_i32, parse_ip, parse_ipv4_addr, parse_ipv6_addr,
+    parse_mac, parse_u8, parse_u16, parse_u16_be, parse_u32, parse_u32_be, parse_u64, parse_u64_be,
+    without_nul,
 };
-
-// Custom families of attributes, peers of veth, vxcan and netkit links, and flag sets. Every type
-// of peer has `DataFamilies` and every family `ListedFamily`: they are for contracts alone, as
-// `PlainFamilies` and `Plain` are.
-pub use linkinfo_data::{DataFamilies, Plain, PlainFamilies};
-pub use linkinfo_numbers::{KeepsEveryBit, bits_again};
-pub use linkinfo_peers::BitPeer;
-pub use linkinfo_table::{
-    Datum, Decoded, Encodable, FlatFamily, LinkFamily, LinkPeer, ListedFamily, Lookup, Opaque,
-    PeerFault, RowFamily, Shape, Slot, TableFamily, UnnestedFamily, WrittenByTable, datum_len,
-    encodable_by_rows, encodables, first_canonical_len, first_check, first_read, first_same,
-    first_write_canonical, list_canonical_len, list_check, list_read, list_same,
-    list_write_canonical, opaque, read_datum, row_canonical_len, row_check, row_emit_payload,
-    row_emit_value, row_fit_len, row_kind, row_read, row_same, row_store, row_value_len,
-    row_write_canonical, shape_canonical_len, shape_check, shape_same, shape_write_attribute,
-    shape_write_canonical, store_by_rows, table_lookup, table_shape, write_datum,
-};
-pub use nla_frame::fitting;
 
 // Laws, by layer: functions without code, each for its contract. Those of the list are `laws`.
 pub use linkinfo_data::laws as data_laws;

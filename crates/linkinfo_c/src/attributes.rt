@@ -33,10 +33,10 @@ ghost use Rattle.linkinfo_c.specs.Items.{attributes_in, error_after};
 use crate::codes::{kind_of_code, port_kind_of_code, shape_code};
 use crate::error::{NO_ERROR, error_record};
 use crate::items::{LinkinfoListResult, write_at};
+use linkinfo::families::{Datum, Shape, read_datum, table_shape};
 use linkinfo::{
-    DataFamily, Datum, DeviceFamily, Family, KindTag, LowerFamily, NlaBuffer, NlasIterator,
-    PeeredFamily, PortFamily, Shape, TunnelFamily, family_of, port_family_of, read_datum,
-    table_shape,
+    DataFamily, DeviceFamily, Family, KindTag, LowerFamily, NlaBuffer, NlasIterator, PeeredFamily,
+    PortFamily, TunnelFamily, family_of, port_family_of,
 };
 
 const IFLA_IPTUN_FLAGS: u16 = 8;

@@ -12,7 +12,8 @@ ghost use Rattle.linkinfo_c.specs.Codes.{
   shape_code,
 };
 
-use linkinfo::{Cause, Family, KindTag, PortTag, Shape};
+use linkinfo::families::Shape;
+use linkinfo::{Cause, Family, KindTag, PortTag};
 
 /// Maps the variants of an enum to codes. `by_codes! { Family family code_of; .. }` gives the code
 /// of a value, and with `of_code` the value of a code, or `None`.

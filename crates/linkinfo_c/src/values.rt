@@ -20,7 +20,8 @@ ghost use Rattle.linkinfo_c.specs.Values.{
 use crate::attributes::{AttributeRecord, datum_in, write_inside};
 use crate::codes::shape_code;
 use crate::items::LinkinfoListResult;
-use linkinfo::{Datum, NlaBuffer, Shape};
+use linkinfo::NlaBuffer;
+use linkinfo::families::{Datum, Shape};
 
 /// The values of `enum linkinfo_value_type`, from `LINKINFO_VALUE_NONE` on.
 const NONE: u32 = 0;

@@ -17,6 +17,8 @@ use Rattle.std.specs.Prelude.{
   Result,
   Ok,
   Err,
+  IsOk,
+  OnErr,
   OnOk,
   refl,
 }
@@ -215,7 +217,7 @@ on_ok (Ok x) P Q f h = f h
 on_ok (Err e) P Q f h = h
 
 -- the value stored for that datum is the label of its row
-pub stores_decoded : {F H T E : Type 0} {read : Decoded} {n k : ℕ} {datum : Datum} {shape : Shape}
+stores_decoded : {F H T E : Type 0} {read : Decoded} {n k : ℕ} {datum : Datum} {shape : Shape}
     {label : Carrier shape → F} {u : Carrier shape}
     (with : F → H) (other : DefaultNla → F) (ended : Result T E) (held : H)
     (rows : ℕ → FamilyRow F) → rows k ≡ Plain shape label →
@@ -235,6 +237,31 @@ stores_decoded {F = F} {read = read} {datum = datum} {shape = shape} {label = la
         (e
         ∙ ap (λ (x : Carrier shape). with (label x))
         (datum_is (suits_decoded rows row is number suits))))
+
+-- storing that value is all that `store_decoded` owes in the arm of its row
+pub row_stored : {F H T E : Type 0} {read : Decoded} {n k : ℕ} {datum : Datum} {shape : Shape}
+    {label : Carrier shape → F} {u : Carrier shape} {stored : F} {is_certain : Bool}
+    (with : F → H) (other : DefaultNla → F) (ended : Result T E) (before after : H)
+    (rows : ℕ → FamilyRow F) → rows k ≡ Plain shape label →
+    read ≡ Typed n datum → n ≡ k → SuitsDecoded rows read →
+    (Suits shape (value_of datum) → u ≡ unwrap shape (value_of datum)) → stored ≡ label u →
+    record {
+      held : OnOk ended (after ≡ with stored);
+      unchanged : OnErr ended (after ≡ before);
+      certain : is_certain ≡ true → IsOk ended;
+    } →
+    record {
+      value : OnOk ended (Stores with other rows read after);
+      unchanged : OnErr ended (after ≡ before);
+      certain : is_certain ≡ true → decoded_needs_memory read ≡ false → IsOk ended;
+    }
+row_stored with other ended before after rows row is number suits datum_is label_is s = record {
+  value =
+      stores_decoded with other ended after rows row is number suits datum_is
+      (subst (λ x. OnOk ended (after ≡ with x)) label_is s.held);
+  unchanged = s.unchanged;
+  certain = λ certain _. s.certain certain;
+}
 
 -- a datum of a shape is copied if a value of the shape owns memory
 copied_wrap : (shape : Shape) (x : Carrier shape) → is_copied (wrap shape x) ≡ owns_memory shape

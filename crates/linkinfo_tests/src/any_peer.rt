@@ -3,7 +3,8 @@
 ghost use Rattle.std.specs.Prelude.{[], Some, refl, true};
 ghost use Rattle.std.proofs.Common.{lit<};
 
-use linkinfo::{ExactEq, LinkPeer, PeerFault};
+use linkinfo::ExactEq;
+use linkinfo::families::{LinkPeer, PeerFault};
 use std::alloc::Global;
 
 /// A peer without contents: every payload is accepted and parses as it, and it is written as an

@@ -1,6 +1,7 @@
 //! A custom peer that needs `linkinfo` alone.
 
-use linkinfo::layers::link::{ExactEq, LinkPeer, PeerFault};
+use linkinfo::layers::link::ExactEq;
+use linkinfo::layers::link::families::{LinkPeer, PeerFault};
 
 /// A peer without contents: every payload is accepted and parses as it, and it is written as an
 /// empty payload.

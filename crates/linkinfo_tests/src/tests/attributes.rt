@@ -3,9 +3,10 @@
 use super::assertions::{
     assert_attribute, assert_equal, assert_holds, bytes_of, copied, default_nla, nlas, repeated,
 };
+use linkinfo::families::BitPeer;
 use linkinfo::{
-    BitPeer, Bytes, InfoData, InfoDataOf, InfoKind, InfoPortData, InfoPortKind, InfoVeth,
-    InfoVethOf, InfoVrf, InfoXfrm, LinkInfo, LinkXstats, Nla,
+    Bytes, InfoData, InfoDataOf, InfoKind, InfoPortData, InfoPortKind, InfoVeth, InfoVethOf,
+    InfoVrf, InfoXfrm, LinkInfo, LinkXstats, Nla,
 };
 use std::alloc::Global;
 use std::process::Abort;

@@ -6,9 +6,9 @@ use super::assertions::{
 use super::worked::{
     DATA_TWICE, FIRST_ERROR, LATER_KIND, PFCP_NO_NUL, PFCP_NOT_FRAMED, SECOND_PORT_DATA, XFRM,
 };
+use linkinfo::families::BitPeer;
 use linkinfo::{
-    BitPeer, Bytes, Cause, DecodeError, Family, KindTag, LinkInfoWalk, PortTag, check, check_of,
-    laws,
+    Bytes, Cause, DecodeError, Family, KindTag, LinkInfoWalk, PortTag, check, check_of, laws,
 };
 use std::process::Abort;
 

@@ -1,7 +1,8 @@
 //! Where two lists differ first.
 
 use super::assertions::{DATA_ORDER, HEADER_ERROR, assert_equal, bytes_of};
-use linkinfo::{BitPeer, Difference, ErrorIn, Family, first_difference, first_difference_of, same};
+use linkinfo::families::BitPeer;
+use linkinfo::{Difference, ErrorIn, Family, first_difference, first_difference_of, same};
 use std::alloc::Global;
 use std::process::Abort;
 

@@ -1,7 +1,8 @@
 //! Whether a link has all attributes of a request, and which one it lacks.
 
 use super::assertions::{DATA_ORDER, HEADER_ERROR, assert_equal, bytes_of};
-use linkinfo::{BitPeer, Bytes, ErrorIn, Family, Unmet, first_unmet, first_unmet_of};
+use linkinfo::families::BitPeer;
+use linkinfo::{Bytes, ErrorIn, Family, Unmet, first_unmet, first_unmet_of};
 use std::alloc::Global;
 use std::process::Abort;
 

@@ -4,10 +4,11 @@ use super::assertions::{
     HEADER_ERROR, assert_data, assert_equal, assert_holds, assert_parsed, copied, default_nla,
     nlas, text_of,
 };
+use linkinfo::families::BitPeer;
 use linkinfo::{
-    BitPeer, Bytes, Cause, DecodeError, Emitable, Family, InfoData, InfoDataOf, InfoKind,
-    InfoPortData, InfoPortKind, InfoVeth, InfoVethOf, InfoVrf, InfoXfrm, LinkXstats, NlaBuffer,
-    Nlas, ParseableParametrized, is_equal,
+    Bytes, Cause, DecodeError, Emitable, Family, InfoData, InfoDataOf, InfoKind, InfoPortData,
+    InfoPortKind, InfoVeth, InfoVethOf, InfoVrf, InfoXfrm, LinkXstats, NlaBuffer, Nlas,
+    ParseableParametrized, is_equal,
 };
 use std::alloc::Global;
 use std::process::Abort;

@@ -4,10 +4,11 @@ use super::assertions::{
     assert_emitted, assert_equal, assert_holds, assert_parses, bytes_of, nlas, repeated,
 };
 use super::worked::VETH_TAIL;
+use linkinfo::families::BitPeer;
 use linkinfo::{
-    BitPeer, CanonError, CanonIntoError, Cause, DecodeError, Family, HeaderCount, InfoDataOf,
-    InfoKind, InfoNetkitOf, InfoVethOf, InfoVxcanOf, LinkInfoOf, VecLinkInfoOf, canon_into_of,
-    canon_of, check_counted_of, check_of, same, same_counted_of, same_of,
+    CanonError, CanonIntoError, Cause, DecodeError, Family, HeaderCount, InfoDataOf, InfoKind,
+    InfoNetkitOf, InfoVethOf, InfoVxcanOf, LinkInfoOf, VecLinkInfoOf, canon_into_of, canon_of,
+    check_counted_of, check_of, same, same_counted_of, same_of,
 };
 use std::alloc::Global;
 use std::process::Abort;

@@ -3,10 +3,10 @@
 use crate::calls::codes::{kind_of_code, port_kind_of_code, shape_code};
 use crate::calls::error::{NO_ERROR, error_record};
 use crate::calls::items::{LinkinfoListResult, write_at};
+use linkinfo::layers::link::families::{Datum, Shape, read_datum, table_shape};
 use linkinfo::layers::link::{
-    DataFamily, Datum, DeviceFamily, Family, KindTag, LowerFamily, NlaBuffer, NlasIterator,
-    PeeredFamily, PortFamily, Shape, TunnelFamily, family_of, port_family_of, read_datum,
-    table_shape,
+    DataFamily, DeviceFamily, Family, KindTag, LowerFamily, NlaBuffer, NlasIterator, PeeredFamily,
+    PortFamily, TunnelFamily, family_of, port_family_of,
 };
 
 const IFLA_IPTUN_FLAGS: u16 = 8;

@@ -1,6 +1,7 @@
 //! The numbers by which C knows families, causes, kinds, port kinds and shapes.
 
-use linkinfo::layers::link::{Cause, Family, KindTag, PortTag, Shape};
+use linkinfo::layers::link::families::Shape;
+use linkinfo::layers::link::{Cause, Family, KindTag, PortTag};
 
 /// Maps the variants of an enum to codes. `by_codes! { Family family code_of; .. }` gives the code
 /// of a value, and with `of_code` the value of a code, or `None`.

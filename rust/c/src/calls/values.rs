@@ -3,7 +3,8 @@
 use crate::calls::attributes::{AttributeRecord, datum_in, write_inside};
 use crate::calls::codes::shape_code;
 use crate::calls::items::LinkinfoListResult;
-use linkinfo::layers::link::{Datum, NlaBuffer, Shape};
+use linkinfo::layers::link::NlaBuffer;
+use linkinfo::layers::link::families::{Datum, Shape};
 
 /// The values of `enum linkinfo_value_type`, from `LINKINFO_VALUE_NONE` on.
 const NONE: u32 = 0;

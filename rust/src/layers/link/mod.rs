@@ -1,13 +1,15 @@
 //! The contents of `IFLA_LINKINFO` (include/uapi/linux/if_link.h), the rtnetlink attribute that
 //! describes a network link: parsed, validated, compared and serialized.
 //!
-//! All public names are here, in groups: lists; values of data; data alone; iteration over
-//! attributes; and custom families, peers and flag sets.
+//! The names here are for programs that read and write lists, in groups: lists; values of data;
+//! data alone; and iteration over attributes. Those for authors of a family of attributes, of a
+//! peer or of a flag set are in `families`.
 
 mod canonical;
 mod canonical_into;
 mod collection;
 mod difference;
+pub mod families;
 mod item;
 mod link_info;
 mod list;
@@ -79,28 +81,8 @@ pub use crate::layers::data::{
 // Iteration over attributes: one attribute in a slice, an iterator, the last attribute of each
 // type, numbers and addresses in payloads.
 pub use crate::layers::nla_frame::{
-    NlaBuffer, NlasIterator, emit_i32, emit_u16, emit_u16_be, emit_u32, emit_u32_be, emit_u64,
-    emit_u64_be, next_attribute, parse_i32, parse_ip, parse_ipv4_addr, parse_ipv6_addr, parse_mac,
-    parse_u8, parse_u16, parse_u16_be, parse_u32, parse_u32_be, parse_u64, parse_u64_be,
-    without_nul, write_attribute, write_attributes, write_bytes, write_bytes_attribute,
-    write_frame,
+    NlaBuffer, NlasIterator, next_attribute, parse_i32, parse_ip, parse_ipv4_addr, parse_ipv6_addr,
+    parse_mac, parse_u8, parse_u16, parse_u16_be, parse_u32, parse_u32_be, parse_u64, parse_u64_be,
+    without_nul,
 };
 pub use crate::layers::table::{LastOfType, PlacedNla, own_bytes};
-
-// Custom families of attributes, peers of veth, vxcan and netkit links, and flag sets. Every type
-// of peer has `DataFamilies` and every family `ListedFamily`: they are for contracts alone, as
-// `PlainFamilies` and `Plain` are.
-pub use crate::layers::data::{DataFamilies, Plain, PlainFamilies};
-pub use crate::layers::nla_frame::fitting;
-pub use crate::layers::numbers::{KeepsEveryBit, bits_again};
-pub use crate::layers::peers::BitPeer;
-pub use crate::layers::table::{
-    Datum, Decoded, Encodable, FlatFamily, LinkFamily, LinkPeer, ListedFamily, Lookup, Opaque,
-    PeerFault, RowFamily, Shape, Slot, TableFamily, UnnestedFamily, WrittenByTable, datum_len,
-    encodable_by_rows, encodables, first_canonical_len, first_check, first_read, first_same,
-    first_write_canonical, list_canonical_len, list_check, list_read, list_same,
-    list_write_canonical, opaque, read_datum, row_canonical_len, row_check, row_emit_payload,
-    row_emit_value, row_fit_len, row_kind, row_read, row_same, row_store, row_value_len,
-    row_write_canonical, shape_canonical_len, shape_check, shape_same, shape_write_attribute,
-    shape_write_canonical, store_by_rows, table_lookup, table_shape, write_datum,
-};

@@ -4,9 +4,10 @@ use super::assertions::{
     assert_attribute, assert_equal, assert_holds, bytes_of, copied, default_nla, nlas, repeated,
 };
 use crate::support::*;
+use linkinfo::layers::link::families::BitPeer;
 use linkinfo::layers::link::{
-    BitPeer, Bytes, InfoData, InfoDataOf, InfoKind, InfoPortData, InfoPortKind, InfoVeth,
-    InfoVethOf, InfoVrf, InfoXfrm, LinkInfo, LinkXstats, Nla,
+    Bytes, InfoData, InfoDataOf, InfoKind, InfoPortData, InfoPortKind, InfoVeth, InfoVethOf,
+    InfoVrf, InfoXfrm, LinkInfo, LinkXstats, Nla,
 };
 
 /// Asserts that the attribute is written as this encoding.

@@ -9,9 +9,10 @@ use super::worked::{
     PFCP_EMPTY, PFCP_MARKED, PFCP_NO_NUL, PFCP_NOT_FRAMED, PFCP_SHORT, SECOND_PORT_DATA, SIT_FLAGS,
     VETH, VETH_EMPTY, VETH_TAIL, VTI6, XFRM, XSTATS,
 };
+use linkinfo::layers::link::families::BitPeer;
 use linkinfo::layers::link::{
-    BitPeer, Cause, DecodeError, Family, HeaderCount, VecLinkInfo, VecLinkInfoOf, check, check_of,
-    same, same_of,
+    Cause, DecodeError, Family, HeaderCount, VecLinkInfo, VecLinkInfoOf, check, check_of, same,
+    same_of,
 };
 
 /// Lists and single attributes.

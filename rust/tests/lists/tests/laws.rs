@@ -6,8 +6,9 @@ use super::assertions::{
 use super::worked::{
     DATA_TWICE, FIRST_ERROR, LATER_KIND, PFCP_NO_NUL, PFCP_NOT_FRAMED, SECOND_PORT_DATA, XFRM,
 };
+use linkinfo::layers::link::families::BitPeer;
 use linkinfo::layers::link::{
-    BitPeer, Cause, DecodeError, Family, KindTag, LinkInfoWalk, PortTag, check, check_of,
+    Cause, DecodeError, Family, KindTag, LinkInfoWalk, PortTag, check, check_of,
 };
 
 /// The error of a table number of one byte.

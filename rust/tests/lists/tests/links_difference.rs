@@ -1,8 +1,9 @@
 //! Where two lists differ first.
 
 use super::assertions::{DATA_ORDER, HEADER_ERROR, assert_equal, bytes_of};
+use linkinfo::layers::link::families::BitPeer;
 use linkinfo::layers::link::{
-    BitPeer, Difference, ErrorIn, Family, first_difference, first_difference_of, same,
+    Difference, ErrorIn, Family, first_difference, first_difference_of, same,
 };
 
 /// A pair of attributes: their family and type, and their offsets.

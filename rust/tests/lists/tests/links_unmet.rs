@@ -1,7 +1,8 @@
 //! Whether a link has all attributes of a request, and which one it lacks.
 
 use super::assertions::{DATA_ORDER, HEADER_ERROR, assert_equal, bytes_of};
-use linkinfo::layers::link::{BitPeer, Bytes, ErrorIn, Family, Unmet, first_unmet, first_unmet_of};
+use linkinfo::layers::link::families::BitPeer;
+use linkinfo::layers::link::{Bytes, ErrorIn, Family, Unmet, first_unmet, first_unmet_of};
 
 /// An attribute that is not met: its family and type, its offset, and that of the other one.
 type At = (Family, u16, usize, Option<usize>);

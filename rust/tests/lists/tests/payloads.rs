@@ -5,10 +5,11 @@ use super::assertions::{
     nlas, text_of,
 };
 use crate::support::*;
+use linkinfo::layers::link::families::BitPeer;
 use linkinfo::layers::link::{
-    BitPeer, Bytes, Cause, DecodeError, Emitable, Family, InfoData, InfoDataOf, InfoKind,
-    InfoPortData, InfoPortKind, InfoVeth, InfoVethOf, InfoVrf, InfoXfrm, LinkXstats, NlaBuffer,
-    Nlas, ParseableParametrized, is_equal,
+    Bytes, Cause, DecodeError, Emitable, Family, InfoData, InfoDataOf, InfoKind, InfoPortData,
+    InfoPortKind, InfoVeth, InfoVethOf, InfoVrf, InfoXfrm, LinkXstats, NlaBuffer, Nlas,
+    ParseableParametrized, is_equal,
 };
 
 /// An attribute of type 1 of four bytes, and one of type 2.

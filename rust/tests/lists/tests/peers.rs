@@ -5,10 +5,11 @@ use super::assertions::{
 };
 use super::worked::VETH_TAIL;
 use crate::support::*;
+use linkinfo::layers::link::families::BitPeer;
 use linkinfo::layers::link::{
-    BitPeer, CanonError, CanonIntoError, Cause, DecodeError, Family, HeaderCount, InfoDataOf,
-    InfoKind, InfoNetkitOf, InfoVethOf, InfoVxcanOf, LinkInfoOf, VecLinkInfoOf, canon_into_of,
-    canon_of, check_counted_of, check_of, same, same_counted_of, same_of,
+    CanonError, CanonIntoError, Cause, DecodeError, Family, HeaderCount, InfoDataOf, InfoKind,
+    InfoNetkitOf, InfoVethOf, InfoVxcanOf, LinkInfoOf, VecLinkInfoOf, canon_into_of, canon_of,
+    check_counted_of, check_of, same, same_counted_of, same_of,
 };
 
 /// A veth link whose peer is the byte 7.

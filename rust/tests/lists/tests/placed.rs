@@ -2,9 +2,10 @@
 
 use super::assertions::{HEADER_ERROR, PORT_DATA_ORDER, assert_equal, assert_holds, bytes_of};
 use super::worked::{FIRST_ERROR, PFCP_NOT_FRAMED, SECOND_PORT_DATA, XFRM};
+use linkinfo::layers::link::families::BitPeer;
 use linkinfo::layers::link::{
-    BitPeer, Cause, DecodeError, ErrorAt, ErrorIn, Family, check_at, check_at_of, is_equal,
-    same_at, same_at_of,
+    Cause, DecodeError, ErrorAt, ErrorIn, Family, check_at, check_at_of, is_equal, same_at,
+    same_at_of,
 };
 
 /// A rejected list, its error, the offset of the attribute of the list that has it, and that of the

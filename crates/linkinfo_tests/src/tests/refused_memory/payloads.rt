@@ -2,9 +2,10 @@
 
 use super::answers::MEMORY;
 use crate::tests::assertions::{assert_equal, assert_holds};
+use linkinfo::families::{first_read, list_read};
 use linkinfo::{
     HeaderCount, InfoData, InfoKind, InfoPortData, InfoPortKind, InfoVeth, InfoXfrm, LinkXstats,
-    NlaBuffer, ParseableParametrized, Text, first_read, list_read,
+    NlaBuffer, ParseableParametrized, Text,
 };
 use std::alloc::AllocError;
 

@@ -2,14 +2,14 @@
 
 use super::answers::MEMORY;
 use crate::tests::assertions::assert_holds;
+use linkinfo::layers::link::families::{BitPeer, LinkFamily, Opaque};
 use linkinfo::layers::link::{
-    BitPeer, DecodeError, DefaultNla, HeaderCount, InfoAmt, InfoBareUdp, InfoBatAdv, InfoBond,
-    InfoBondPort, InfoBridge, InfoBridgePort, InfoCan, InfoDsa, InfoGeneve, InfoGre, InfoGre6,
-    InfoGtp, InfoHsr, InfoIpTunnel, InfoIpVlan, InfoIpVtap, InfoIpoib, InfoKind, InfoMacSec,
-    InfoMacVlan, InfoMacVtap, InfoNetkit, InfoPfcp, InfoPortKind, InfoRmNet, InfoTeamPort, InfoTun,
-    InfoVeth, InfoVethOf, InfoVlan, InfoVrf, InfoVti, InfoVxcan, InfoVxlan, InfoWireguard,
-    InfoWwan, InfoXfrm, KindTag, LinkFamily, Nla, NlaBuffer, Opaque, Parseable,
-    ParseableParametrized,
+    DecodeError, DefaultNla, HeaderCount, InfoAmt, InfoBareUdp, InfoBatAdv, InfoBond, InfoBondPort,
+    InfoBridge, InfoBridgePort, InfoCan, InfoDsa, InfoGeneve, InfoGre, InfoGre6, InfoGtp, InfoHsr,
+    InfoIpTunnel, InfoIpVlan, InfoIpVtap, InfoIpoib, InfoKind, InfoMacSec, InfoMacVlan,
+    InfoMacVtap, InfoNetkit, InfoPfcp, InfoPortKind, InfoRmNet, InfoTeamPort, InfoTun, InfoVeth,
+    InfoVethOf, InfoVlan, InfoVrf, InfoVti, InfoVxcan, InfoVxlan, InfoWireguard, InfoWwan,
+    InfoXfrm, KindTag, Nla, NlaBuffer, Parseable, ParseableParametrized,
 };
 use std::marker::PhantomData;
 

@@ -3,9 +3,10 @@
 use super::answers::MEMORY;
 use crate::tests::assertions::{assert_equal, assert_holds};
 use linkinfo::compat::AllocError;
+use linkinfo::layers::link::families::{first_read, list_read};
 use linkinfo::layers::link::{
     HeaderCount, InfoData, InfoKind, InfoPortData, InfoPortKind, InfoVeth, InfoXfrm, LinkXstats,
-    NlaBuffer, ParseableParametrized, Text, first_read, list_read,
+    NlaBuffer, ParseableParametrized, Text,
 };
 
 /// The data of an xfrm link: the underlying interface and the identifier.

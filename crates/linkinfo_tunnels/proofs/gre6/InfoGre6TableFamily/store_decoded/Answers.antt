@@ -1,7 +1,7 @@
 -- A type without a row in the list has no row in the table. For any other type the table says which
 -- value is stored. A search would read the whole table once per row.
 use Rattle.std.proofs.Common.{ap, rules, refl}
-use Rattle.linkinfo_table.specs.FamilyRowLaws.{no_row_read}
+use Rattle.linkinfo_table.specs.FamilyRowLaws.{no_row_read, row_stored}
 use Rattle.linkinfo_table.specs.FamilyRows.{table_row}
 use Rattle.linkinfo_tunnels.specs.declared.gre6.InfoGre6.TheVariants.{
   IFlags,
@@ -13,7 +13,6 @@ use Rattle.linkinfo_tunnels.specs.declared.gre6.InfoGre6.TheVariants.{
 }
 use Rattle.linkinfo_numbers.specs.Gre.{gre_io_flags, gre_encap_flags}
 use Rattle.linkinfo_tunnels.specs.Gre6.{gre6_rows}
-use Rattle.linkinfo_tunnels.proofs.RowStored.{row_stored}
 use Rattle.linkinfo_tunnels.proofs.gre6.InfoGre6TableFamily.store_decoded.Goals as goal
 
 pub store_by_rows-unreachable-requires : goal.store_by_rows-unreachable-requires

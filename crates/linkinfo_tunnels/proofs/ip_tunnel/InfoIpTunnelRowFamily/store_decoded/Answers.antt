@@ -2,6 +2,7 @@
 -- once per row.
 use Rattle.std.proofs.Common.{ap, refl}
 use Rattle.linkinfo_numbers.specs.Tunnel.{tunnel_encap_flags}
+use Rattle.linkinfo_table.specs.FamilyRowLaws.{row_stored}
 use Rattle.linkinfo_tunnels.specs.declared.ip_tunnel.InfoIpTunnel.TheVariants.{
   Protocol,
   EncapType,
@@ -9,7 +10,6 @@ use Rattle.linkinfo_tunnels.specs.declared.ip_tunnel.InfoIpTunnel.TheVariants.{
   Other,
 }
 use Rattle.linkinfo_tunnels.specs.IpTunnel.{ip_tunnel_row}
-use Rattle.linkinfo_tunnels.proofs.RowStored.{row_stored}
 use Rattle.linkinfo_tunnels.proofs.ip_tunnel.InfoIpTunnelRowFamily.store_decoded.Goals as goal
 
 pub returns-in-1 : goal.returns-in-1

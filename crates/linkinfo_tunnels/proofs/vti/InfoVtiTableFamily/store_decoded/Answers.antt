@@ -1,11 +1,10 @@
 -- A type without a row in the list has no row in the table. For any other type the table says which
 -- value is stored. A search would read the whole table once per row.
 use Rattle.std.proofs.Common.{rules, refl}
-use Rattle.linkinfo_table.specs.FamilyRowLaws.{no_row_read}
+use Rattle.linkinfo_table.specs.FamilyRowLaws.{no_row_read, row_stored}
 use Rattle.linkinfo_table.specs.FamilyRows.{table_row}
 use Rattle.linkinfo_tunnels.specs.declared.vti.InfoVti.TheVariants.{Other}
 use Rattle.linkinfo_tunnels.specs.Vti.{vti_rows}
-use Rattle.linkinfo_tunnels.proofs.RowStored.{row_stored}
 use Rattle.linkinfo_tunnels.proofs.vti.InfoVtiTableFamily.store_decoded.Goals as goal
 
 pub store_by_rows-unreachable-requires : goal.store_by_rows-unreachable-requires

@@ -1,0 +1,23 @@
+//! For authors of a family of attributes, of a peer of veth, vxcan and netkit links, or of a flag
+//! set: the traits to implement, the calls that follow from a table, and the writers of numbers and
+//! attributes.
+
+// Every type of peer has `DataFamilies` and every family `ListedFamily`: they are for contracts
+// alone, as `PlainFamilies` and `Plain` are.
+pub use linkinfo_data::{DataFamilies, Plain, PlainFamilies};
+pub use linkinfo_numbers::{KeepsEveryBit, bits_again};
+pub use linkinfo_peers::BitPeer;
+pub use linkinfo_table::{
+    Datum, Decoded, Encodable, FlatFamily, LinkFamily, LinkPeer, ListedFamily, Lookup, Opaque,
+    PeerFault, RowFamily, Shape, Slot, TableFamily, UnnestedFamily, WrittenByTable, datum_len,
+    encodable_by_rows, encodables, first_canonical_len, first_check, first_read, first_same,
+    first_write_canonical, list_canonical_len, list_check, list_read, list_same,
+    list_write_canonical, opaque, read_datum, row_canonical_len, row_check, row_emit_payload,
+    row_emit_value, row_fit_len, row_kind, row_read, row_same, row_store, row_value_len,
+    row_write_canonical, shape_canonical_len, shape_check, shape_same, shape_write_attribute,
+    shape_write_canonical, store_by_rows, table_lookup, table_shape, write_datum,
+};
+pub use nla_frame::{
+    emit_i32, emit_u16, emit_u16_be, emit_u32, emit_u32_be, emit_u64, emit_u64_be, fitting,
+    write_attribute, write_attributes, write_bytes, write_bytes_attribute, write_frame,
+};
