@@ -5,6 +5,8 @@ import shutil
 
 from . import sources
 from .crates import BadEdit
+from .full import Full
+from .quick import Quick
 from .rooms import check, room_for
 from .tally import Tally
 
@@ -69,53 +71,55 @@ class Lane:
     def __init__(self, crates, crate, top, stamps):
         self.folder, self.top = room_for(crates, crate, top, stamps), top
         # Right after `rt ci` the copy has no kept work: only the edits' functions are checked.
-        self.by_function, self.tally, self.unchanged = bool(stamps), Tally(crate), set()
+        self.by_function, self.tally, self.unproved = bool(stamps), Tally(crate), []
 
-    def check(self, texts, edits, stubs=True):
+    def check(self, texts, edits, way):
         """Checks with these texts: the crate, or only the functions that must reject these edits.
-        They get a stub each. A check cannot be limited to an impl."""
+        A check cannot be limited to an impl."""
         names = [it.function for it in edits]
         is_limited = self.by_function and not any(names_impl(it) for it in edits)
-        stubbed = {it.function for it in edits if stubs and takes_stub(it)}
-        said = check(self.folder, texts, names if is_limited else (), stubbed)
+        stubbed = {it.function for it in edits if way.is_stubbed and takes_stub(it)}
+        said = check(self.folder, way.texts(self.folder, texts, edits),
+                     names if is_limited else (), stubbed)
         self.tally.checks += 1
         self.tally.seconds += said.seconds
         return said
 
-    def try_together(self, edits, sample=()):
+    def try_together(self, edits, way, sample=()):
         """Tries many edits in one check, and returns those that no check decided. The last check is
-        also of the functions of the sample that it does not edit, which are to be proved."""
-        alone = []
+        also of the first functions of the sample that it does not edit, which are to be proved."""
+        left = []
         while edits:
             batch, texts, edits = batch_of(edits, self.folder)
             edited = {name for it in batch for name in (it.function, it.mutated)}
-            beside = [it for it in sample if not edits and it.function not in edited]
-            said = self.check(texts, [*batch, *beside])
+            beside = [it for it in sample if not edits and it.function not in edited][:SAMPLE]
+            said = self.check(texts, [*batch, *beside], way)
             if not said.is_judged:
                 # (one of them does not compile: each half is tried)
                 half = len(batch) // 2
                 for part in [batch[:half], batch[half:]] if half else []:
-                    alone += self.try_together(part)
-                alone += [] if half else batch
+                    left += self.try_together(part, way)
+                left += [] if half else batch
                 continue
-            proved = {it.function for it in beside if said.has_no_open_goal(it.function)}
-            self.unchanged |= proved
+            if beside:
+                self.unproved = [it for it in beside if not way.proves(said, it)]
             for edit in batch:
-                what = said.rejects(edit)
+                what = way.rejects(said, edit)
                 if what:
                     self.tally.rejected(edit, what)
                 else:
-                    alone.append(edit)
-        return alone
+                    left.append(edit)
+        return left
 
     def try_alone(self, edit):
         """Tries one edit in a separate check, which decides whether it is rejected."""
-        said, tally = self.check(edit.applied(self.folder.read), [edit], False), self.tally
+        way, tally = Full(False), self.tally
+        said = self.check(edit.applied(self.folder.read), [edit], way)
         if not said.is_judged:
             told = " ".join(said.lines[:3])[:300]
             tally.failed(edit, f"it does not compile, or the check did not end: {told}")
             return
-        what, line = said.rejects(edit), said.line_of(edit.function)
+        what, line = way.rejects(said, edit), said.line_of(edit.function)
         if what:
             tally.rejected(edit, what)
         elif not line:
@@ -130,23 +134,37 @@ class Lane:
             tally.failed(edit, f"NOT REFUSED by its function: {line}{proved}")
 
     def try_all(self, edits, draw):
-        """Tries all edits, and proves a drawn sample of their functions unchanged over the same
-        kept work: those that no check of mutants has proved in a last check, without stubs."""
-        sample = [it for it in edits if not names_impl(it)]
-        sample = draw.sample(sample, min(SAMPLE, len(sample)))
+        """Tries all edits: those that name a goal by quick checks first, in one check with others;
+        then what is left alone. Proves drawn functions unchanged over the same kept work: those
+        that the last check of many mutants leaves unchanged, or where it does not prove one of them
+        or leaves none, in a check after all."""
+        way, left = Quick(self, edits), []
+        by_function = {it.function: it for it in edits if not names_impl(it)}
+        sample = draw.sample([*by_function.values()], len(by_function))
+        self.unproved = sample[:SAMPLE]
         for number, kind in enumerate(sorted({it.kind() for it in edits})):
-            beside = sample if number == 0 else []
-            for edit in self.try_together([it for it in edits if it.kind() == kind], beside):
-                self.try_alone(edit)
-        left = [it for it in sample if it.function not in self.unchanged]
-        said = self.check({}, left, False) if left or not sample else None
-        if said and not said.is_proved:
-            names = sorted({it.function for it in left if not said.is_proved_line(it.function)})
+            own = [it for it in edits if it.kind() == kind]
+            left += self.try_together(own, way, [] if number else sample)
+        undecided = [it for it in left if way.can_try(it)]
+        alone = [it for it in left if not way.can_try(it)]
+        for edit in alone + self.try_together(undecided, Full()):
+            self.try_alone(edit)
+        if self.unproved or not sample:
+            self.prove_unchanged()
+        shutil.rmtree(self.top)
+        return self.tally
+
+    def prove_unchanged(self):
+        """Proves these functions, or the crate, over the kept work of the mutants. Where one is not
+        proved, no mutant counts as seen rejected."""
+        # (a stub in one function of the sample shows in the line of another that calls it)
+        way = Full(False)
+        said = self.check({}, self.unproved, way)
+        names = sorted({it.function for it in self.unproved if not way.proves(said, it)})
+        if names or not self.unproved and not said.is_proved:
             told = f"not proved unchanged after the mutants: {', '.join(names) or 'the crate'}"
             self.tally.say(self.tally.crate, told, False)
             self.tally.seen = []
-        shutil.rmtree(self.top)
-        return self.tally
 
 
 def names_impl(edit):

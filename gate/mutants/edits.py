@@ -3,6 +3,8 @@
 A file crates/NAME/wrong/MODULE/NAME.edit has these lines:
 
     fn: PATH         the function whose contract must reject the mutant, as the check prints it
+    goal: NAME       a goal of that function that is not proved (`quick`); may be left out
+    by: grind        the tactic that proves it for the correct body, where it is not `search`
     file: src/X.rt   the file that is changed
     old: TEXT        text within a line, once in the body of that function
     new: TEXT        what the mutant has there
@@ -27,7 +29,8 @@ class Edit:
     def __init__(self, crate, path, root=ROOT):
         self.crate, self.path = crate, path
         self.is_control, self.label = path.startswith(CONTROL), f"{crate}/{path}"
-        self.function = self.mutated = self.stray = ""
+        self.function = self.mutated = self.goal = self.stray = ""
+        self.by = "search"
         self.pairs, self.is_constant, self.is_outside = [], False, False
         self.moves_steps = self.has_loop = self.is_recursive = False
         self.text = folder_of(crate, root).read(path)
@@ -40,6 +43,10 @@ class Edit:
             rest = rest[1:] if rest.startswith(" ") else rest
             if word == "fn" and not self.function:
                 self.function = self.mutated = rest.strip()
+            elif word == "goal" and not self.goal:
+                self.goal = rest.strip()
+            elif word == "by" and self.goal:
+                self.by = rest.strip()
             elif word == "in" and self.is_control:
                 self.mutated = rest.strip()
             elif word == "file":
@@ -61,6 +68,8 @@ class Edit:
             raise BadEdit("it has no line 'fn:'")
         if not self.pairs:
             raise BadEdit("it has no pair of lines 'old:' and 'new:'")
+        if self.by not in ("search", "grind"):
+            raise BadEdit(f"no check answers a goal so: {self.by}")
         if self.stray:
             raise BadEdit(f"an edit has no such line, or not there: {self.stray}")
         if self.path.rpartition("/")[0] != self.place():

@@ -82,7 +82,8 @@ class Report:
         names = re.findall(r"`([\w+-]+)`", goals[1]) if goals else []
         searched = [line] if any(is_promised(edit.function, it) for it in names) else []
         errors = self.errors_of(edit.function)
-        noted = self.promises_noted(edit.function, line)
+        noted = [note for it, note in self.goals_noted(line).items()
+                 if is_promised(edit.function, it)]
         explicit = [it for it in errors if not AFTER_LOST.search(it)
                     and is_promised(edit.function, goal_of_error(it))]
         # Where explicit proofs fail, and name steps that are gone or are others now, a correct body
@@ -133,11 +134,11 @@ class Report:
         below = self.lines[at + 1 :]
         return [it.strip() for it in itertools.takewhile(lambda it: it.startswith("  "), below)]
 
-    def promises_noted(self, function, line):
-        """The notes before a function's line on goals that it promises. The open goal is named in
-        parentheses."""
-        noted = [(it, NOTE_OF_GOAL.match(it)) for it in self.before(line) if NOTE.match(it)]
-        return [note for note, goal in noted if goal and is_promised(function, goal[1])]
+    def goals_noted(self, line):
+        """The notes before a function's line on goals that are open, by these goals, which they
+        name in parentheses."""
+        noted = [NOTE_OF_GOAL.match(it) for it in self.before(line)]
+        return {it[1]: it.string for it in noted if it}
 
     def before(self, line):
         """The lines about a function or an impl that are before its line, the nearest first."""

@@ -24,8 +24,10 @@ pub {UNASKED} : goal.{UNASKED}
 
 def check(folder, texts, only=(), stubbed=()):
     """Checks the crate in that folder with these texts instead of its files: all of it, or only
-    these functions and those that they call. The functions in `stubbed` get a stub each."""
-    changed = {**texts, **{stub_path(it): with_stub(folder, it) for it in stubbed}}
+    these functions and those that they call. The functions in `stubbed` have a stub each, in the
+    text of their proof file or, where there is none among the texts, in addition to that file."""
+    stubs = {it: begun_answers(folder, it) + STUB for it in stubbed}
+    changed = {**{answers_path(it): text for it, text in stubs.items()}, **texts}
     own = {path: folder.read(path) for path in changed if folder.has(path)}
     for path, text in changed.items():
         os.makedirs(os.path.dirname(f"{folder.top}/{path}"), exist_ok=True)
@@ -43,17 +45,17 @@ def check(folder, texts, only=(), stubbed=()):
                     os.removedirs(os.path.dirname(f"{folder.top}/{path}"))
 
 
-def stub_path(function):
+def answers_path(function):
     """The path of the proof file of a function."""
     return "/".join(["proofs", *function.split("::")[1:], "Answers.antt"])
 
 
-def with_stub(folder, function):
-    """The proof file of the function, if it has one, with a stub."""
+def begun_answers(folder, function):
+    """The proof file of the function, or the beginning of one."""
     crate, *inside = function.split("::")
-    path = stub_path(function)
+    path = answers_path(function)
     begin = f"use Rattle.{'.'.join([crate, 'proofs', *inside])}.Goals as goal\n"
-    return (folder.read(path) if folder.has(path) else begin) + STUB
+    return folder.read(path) if folder.has(path) else begin
 
 
 def run(folder, words, stubbed=()):

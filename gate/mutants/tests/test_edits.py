@@ -64,6 +64,16 @@ class Edits(unittest.TestCase):
         with self.assertRaises(BadEdit):
             self.applied(text, name)
 
+    def test_a_goal_and_the_tactic_that_proves_it(self):
+        text = (f"fn: {NEXT}\ngoal: returns\nby: grind\nfile: src/count.rt\n"
+                "old: self.n + 1\nnew: self.n\n")
+        edit = self.applied(text)[1]
+        self.assertEqual((edit.goal, edit.by), ("returns", "grind"))
+        edit = self.applied(text.replace("by: grind\n", ""))[1]
+        self.assertEqual((edit.goal, edit.by), ("returns", "search"))
+        with self.assertRaisesRegex(BadEdit, "answers a goal so: hope"):
+            self.applied(text.replace("grind", "hope"))
+
     def test_bodies(self):
         found = bodies_of("one", "src/count.rt", SOURCE)
         self.assertEqual([it[0] for it in found], [FROM, NEXT, "one::count::Count::zero"])

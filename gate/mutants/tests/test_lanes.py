@@ -20,25 +20,26 @@ class Planted(Lane):
     """A lane in which each mutant is rejected, and whose functions are proved, or none is."""
 
     def __init__(self, is_proved):
-        self.is_proved, self.checked, self.unchanged = is_proved, [], set()
+        self.is_proved, self.checked, self.unproved = is_proved, [], []
         self.top, self.tally = tempfile.mkdtemp(), Tally("a_crate")
 
-    def try_together(self, edits, sample=()):
+    def try_together(self, edits, way, sample=()):
         for it in edits:
             self.tally.rejected(it, "returns")
         return []
 
-    def check(self, texts, edits, stubs=True):
+    def check(self, texts, edits, way):
         self.checked.append(sorted(it.label for it in edits))
         self.tally.checks += 1
-        return types.SimpleNamespace(is_proved=self.is_proved,
-                                     is_proved_line=lambda it: it != "a_crate::f1")
+        return types.SimpleNamespace(
+            is_proved=self.is_proved,
+            has_no_open_goal=lambda it: self.is_proved or it != "a_crate::f1")
 
 
 def edits(number):
     """So many mutants, each of another function."""
     return [types.SimpleNamespace(function=f"a_crate::f{it}", label=f"f{it}", is_control=False,
-                                  is_outside=False, kind=lambda: (False, False))
+                                  goal="", is_outside=False, kind=lambda: (False, False))
             for it in range(number)]
 
 
@@ -72,15 +73,14 @@ class Beside(unittest.TestCase):
         """The edits of each check, where there is one mutant of each of these functions."""
         lane, checks = Planted(True), []
 
-        def check(texts, named, stubs=True):
+        def check(texts, named, way):
             checks.append([it.label for it in named])
             return types.SimpleNamespace(is_judged=True, is_proved=True, rejects=lambda it: "goal",
-                                         is_proved_line=lambda it: True,
-                                         has_no_open_goal=lambda it: proved)
+                                         has_no_open_goal=lambda it: proved or len(checks) > 2)
 
         lane.check, lane.folder = check, types.SimpleNamespace(read=None)
         lane.try_together = lambda *words: Lane.try_together(lane, *words)
-        mutants = [types.SimpleNamespace(function=it, mutated=it, label=f"{it}{at}",
+        mutants = [types.SimpleNamespace(function=it, mutated=it, label=f"{it}{at}", goal="",
                                          is_control=False, is_outside=False, is_constant=False,
                                          applied=lambda read: {}, kind=lambda: (False, False))
                    for at, it in enumerate(functions)]
@@ -88,15 +88,18 @@ class Beside(unittest.TestCase):
         return [sorted(it) for it in checks]
 
     def test_no_further_check(self):
-        self.assertEqual(self.checked("fgf"), [["f0", "g1"], ["f2", "g1"], ["f0", "f2"]])
-        self.assertEqual(self.checked("fgfg"),
-                         [["f0", "g1"], ["f2", "g3"], ["f0", "f2", "g1", "g3"]])
+        self.assertEqual(self.checked("fgf"), [["f0", "g1"], ["f2", "g1"]])
 
-    def test_one_check_of_mutants(self):
+    def test_as_many_as_a_sample_has(self):
+        checks = self.checked("abcdefgha")
+        self.assertEqual([len(it) for it in checks], [8, 1 + SAMPLE])
+        self.assertIn("a8", checks[1])
+
+    def test_another_check_where_all_are_edited(self):
         self.assertEqual(self.checked("fg"), [["f0", "g1"], ["f0", "g1"]])
 
     def test_those_that_are_not_proved_there(self):
-        self.assertEqual(self.checked("fgf", False)[-1], ["f0", "f2", "g1"])
+        self.assertEqual(self.checked("fgf", False), [["f0", "g1"], ["f2", "g1"], ["g1"]])
 
 
 class Alone(unittest.TestCase):
@@ -104,9 +107,10 @@ class Alone(unittest.TestCase):
 
     def tried(self, printed, status, **edit):
         lane = Planted(True)
-        lane.check = lambda texts, edits, stubs: Report(printed, status)
+        lane.check = lambda texts, edits, way: Report(printed, status)
         lane.folder = types.SimpleNamespace(read=None)
         given = {"function": "a_crate::f", "label": "a_crate/wrong/f.edit", "is_control": False,
+                 "goal": "",
                  "moves_steps": False, "is_outside": False, "is_constant": False,
                  "is_recursive": False, "has_loop": False, "applied": lambda read: {}}
         lane.try_alone(types.SimpleNamespace(**{**given, **edit}))
@@ -124,6 +128,10 @@ class Alone(unittest.TestCase):
         passes, failures, line = self.tried(self.OPEN, 1)
         self.assertEqual((passes, failures), (1, 0))
         self.assertIn("refused: ", line)
+
+    def test_a_mutant_that_names_a_goal_that_does_not_decide(self):
+        line = self.tried(self.OPEN, 1, goal="returns-2")[2]
+        self.assertIn("refused: its line `goal:` names no such goal", line)
 
     def test_a_correct_body_that_counts_as_rejected(self):
         self.assertEqual(self.tried(self.OPEN, 1, is_control=True)[:2], (0, 1))
@@ -158,10 +166,14 @@ class Stubs(unittest.TestCase):
     def test_after_the_answers_that_are_there(self):
         self.assertEqual(self.seen("m::g", "answers\n"), "answers\n" + rooms.STUB)
 
-    def seen(self, name, own, *others):
+    def test_in_place_of_the_answers_that_are_there(self):
+        path = "proofs/m/g/Answers.antt"
+        self.assertEqual(self.seen("m::g", "answers\n", given={path: "quick"}), "quick")
+
+    def seen(self, name, own, *others, given=()):
         """What a check of a mutant reads as the proof file of its function, of which this is the
-        text, beside these other files."""
-        path = f"proofs/{name.replace('::', '/')}/Answers.antt"
+        text, beside these other files, where it is given further texts."""
+        path, given = f"proofs/{name.replace('::', '/')}/Answers.antt", dict(given)
         seen = {}
 
         def run(top, words, stubbed):
@@ -175,7 +187,7 @@ class Stubs(unittest.TestCase):
                 if text:
                     os.makedirs(os.path.dirname(f"{top}/{it}"), exist_ok=True)
                     write(f"{top}/{it}", text)
-            words = rooms.check(folder, {"src/m.rt": "wrong"}, [f"a_crate::{name}"],
+            words = rooms.check(folder, {"src/m.rt": "wrong", **given}, [f"a_crate::{name}"],
                                 [f"a_crate::{name}"])
             self.assertEqual(words, ["--only", name])
             self.assertEqual(seen["src/m.rt"], "wrong")
