@@ -31,7 +31,11 @@ impl Kind {
     }
 }
 """
-OWN = "use Rattle.a_crate.proofs.m.g.Goals as goal\n\npub returns-2 : goal.returns-2\nreturns-2 c = c\n"
+OWN = """use Rattle.a_crate.proofs.m.g.Goals as goal
+
+pub returns-2 : goal.returns-2
+returns-2 c = c
+"""
 UNASKED = "./proofs/m/g/Answers.antt:9:1: error: `unasked`: `goal.unasked`: there is no `unasked`\n"
 LINE = "fn a_crate::m::g: not proved\n"
 END = "only=1 proved=0\n"
@@ -51,9 +55,10 @@ def said(*lines):
 
 def edit(function="a_crate::m::g", goal="returns", **given):
     """A mutant, or with `is_control` a correct body."""
-    made = {"by": "search", "is_control": False, "is_outside": False, "is_constant": False, "is_recursive": False,
-            "moves_steps": False, "mutated": function, "label": f"{function} {goal}",
-            "applied": lambda read: {}, "kind": lambda: (False, False)}
+    made = {"by": "search", "is_control": False, "is_outside": False, "is_constant": False,
+            "is_recursive": False, "moves_steps": False, "mutated": function,
+            "label": f"{function} {goal}", "applied": lambda read: {},
+            "kind": lambda: (False, False)}
     return types.SimpleNamespace(function=function, goal=goal, **{**made, **given})
 
 
