@@ -73,12 +73,12 @@ class Lane:
         # Right after `rt ci` the copy has no kept work: only the edits' functions are checked.
         self.by_function, self.tally, self.unproved = bool(stamps), Tally(crate), []
 
-    def check(self, texts, edits, way):
-        """Checks with these texts: the crate, or only the functions that must reject these edits.
-        A check cannot be limited to an impl."""
-        names = [it.function for it in edits]
+    def check(self, texts, edits, way, beside=()):
+        """Checks with these texts: the crate, or only the functions that must reject these edits,
+        and in full those that must reject others. A check cannot be limited to an impl."""
+        names = [it.function for it in [*edits, *beside]]
         is_limited = self.by_function and not any(names_impl(it) for it in edits)
-        stubbed = {it.function for it in edits if way.is_stubbed and takes_stub(it)}
+        stubbed = {it.function for it in [*edits, *beside] if way.is_stubbed and takes_stub(it)}
         said = check(self.folder, way.texts(self.folder, texts, edits),
                      names if is_limited else (), stubbed)
         self.tally.checks += 1
@@ -87,13 +87,14 @@ class Lane:
 
     def try_together(self, edits, way, sample=()):
         """Tries many edits in one check, and returns those that no check decided. The last check is
-        also of the first functions of the sample that it does not edit, which are to be proved."""
+        also of the first functions of the sample that it does not edit, which are to be proved, and
+        leaves the others to another check."""
         left = []
         while edits:
             batch, texts, edits = batch_of(edits, self.folder)
             edited = {name for it in batch for name in (it.function, it.mutated)}
             beside = [it for it in sample if not edits and it.function not in edited][:SAMPLE]
-            said = self.check(texts, [*batch, *beside], way)
+            said = self.check(texts, batch, way, beside)
             if not said.is_judged:
                 # (one of them does not compile: each half is tried)
                 half = len(batch) // 2
@@ -102,7 +103,9 @@ class Lane:
                 left += [] if half else batch
                 continue
             if beside:
-                self.unproved = [it for it in beside if not way.proves(said, it)]
+                drawn = [*beside, *(it for it in sample if it not in beside)][:SAMPLE]
+                proved = [it for it in beside if said.has_no_open_goal(it.function)]
+                self.unproved = [it for it in drawn if it not in proved]
             for edit in batch:
                 what = way.rejects(said, edit)
                 if what:
@@ -135,9 +138,9 @@ class Lane:
 
     def try_all(self, edits, draw):
         """Tries all edits: those that name a goal by quick checks first, in one check with others;
-        then what is left alone. Proves drawn functions unchanged over the same kept work: those
-        that the last check of many mutants leaves unchanged, or where it does not prove one of them
-        or leaves none, in a check after all."""
+        then what is left alone. Proves drawn functions unchanged over the same kept work: in the
+        last check of many mutants, those that it does not edit, and in a check after all those that
+        it does not show proved."""
         way, left = Quick(self, edits), []
         by_function = {it.function: it for it in edits if not names_impl(it)}
         sample = draw.sample([*by_function.values()], len(by_function))
@@ -158,9 +161,9 @@ class Lane:
         """Proves these functions, or the crate, over the kept work of the mutants. Where one is not
         proved, no mutant counts as seen rejected."""
         # (a stub in one function of the sample shows in the line of another that calls it)
-        way = Full(False)
-        said = self.check({}, self.unproved, way)
-        names = sorted({it.function for it in self.unproved if not way.proves(said, it)})
+        said = self.check({}, self.unproved, Full(False))
+        names = sorted({it.function for it in self.unproved
+                        if not said.has_no_open_goal(it.function)})
         if names or not self.unproved and not said.is_proved:
             told = f"not proved unchanged after the mutants: {', '.join(names) or 'the crate'}"
             self.tally.say(self.tally.crate, told, False)

@@ -19,6 +19,7 @@ import re
 
 from . import sources, steps
 from .crates import BadEdit, ROOT, folder_of
+from .quick import TACTICS
 
 CONTROL = "wrong/control"
 
@@ -68,7 +69,7 @@ class Edit:
             raise BadEdit("it has no line 'fn:'")
         if not self.pairs:
             raise BadEdit("it has no pair of lines 'old:' and 'new:'")
-        if self.by not in ("search", "grind"):
+        if self.by not in TACTICS:
             raise BadEdit(f"no check answers a goal so: {self.by}")
         if self.stray:
             raise BadEdit(f"an edit has no such line, or not there: {self.stray}")

@@ -12,7 +12,4 @@ class Full:
 
     def rejects(self, said, edit):
         what = said.rejects(edit)
-        return f"its line `goal:` names no such goal; {what}" if what and edit.goal else what
-
-    def proves(self, said, edit):
-        return said.has_no_open_goal(edit.function)
+        return f"its line `goal:` does not decide; {what}" if what and edit.goal else what

@@ -119,11 +119,6 @@ class Quick(Full):
             return super().rejects(said, edit)
         return self.searches[edit.function].rejects(said, edit)
 
-    def proves(self, said, edit):
-        if not self.can_try(edit):
-            return super().proves(said, edit)
-        return self.searches[edit.function].errors(said) == []
-
 
 def search_of(folder, function):
     """The search of a function, or None where no file has its body."""

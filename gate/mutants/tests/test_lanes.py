@@ -73,8 +73,8 @@ class Beside(unittest.TestCase):
         """The edits of each check, where there is one mutant of each of these functions."""
         lane, checks = Planted(True), []
 
-        def check(texts, named, way):
-            checks.append([it.label for it in named])
+        def check(texts, named, way, beside=()):
+            checks.append([it.label for it in [*named, *beside]])
             return types.SimpleNamespace(is_judged=True, is_proved=True, rejects=lambda it: "goal",
                                          has_no_open_goal=lambda it: proved or len(checks) > 2)
 
@@ -88,7 +88,11 @@ class Beside(unittest.TestCase):
         return [sorted(it) for it in checks]
 
     def test_no_further_check(self):
-        self.assertEqual(self.checked("fgf"), [["f0", "g1"], ["f2", "g1"]])
+        checks = self.checked("abcdefa")
+        self.assertEqual([len(it) for it in checks], [6, 1 + SAMPLE])
+
+    def test_another_check_for_the_rest_of_a_sample(self):
+        self.assertEqual(self.checked("fgf"), [["f0", "g1"], ["f2", "g1"], ["f2"]])
 
     def test_as_many_as_a_sample_has(self):
         checks = self.checked("abcdefgha")
@@ -99,7 +103,7 @@ class Beside(unittest.TestCase):
         self.assertEqual(self.checked("fg"), [["f0", "g1"], ["f0", "g1"]])
 
     def test_those_that_are_not_proved_there(self):
-        self.assertEqual(self.checked("fgf", False), [["f0", "g1"], ["f2", "g1"], ["g1"]])
+        self.assertEqual(self.checked("fgf", False), [["f0", "g1"], ["f2", "g1"], ["f2", "g1"]])
 
 
 class Alone(unittest.TestCase):
@@ -131,7 +135,7 @@ class Alone(unittest.TestCase):
 
     def test_a_mutant_that_names_a_goal_that_does_not_decide(self):
         line = self.tried(self.OPEN, 1, goal="returns-2")[2]
-        self.assertIn("refused: its line `goal:` names no such goal", line)
+        self.assertIn("refused: its line `goal:` does not decide", line)
 
     def test_a_correct_body_that_counts_as_rejected(self):
         self.assertEqual(self.tried(self.OPEN, 1, is_control=True)[:2], (0, 1))

@@ -73,7 +73,7 @@ class Planted(Lane):
             os.makedirs(os.path.dirname(f"{top}/{path}"), exist_ok=True)
             write(f"{top}/{path}", text)
 
-    def check(self, texts, edits, way):
+    def check(self, texts, edits, way, beside=()):
         self.checked.append(way.texts(self.folder, texts, edits))
         return self.reports.pop(0)
 
