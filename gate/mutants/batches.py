@@ -1,68 +1,15 @@
 """Many mutants in one check, and single mutants where such a check does not decide."""
-import os
-import re
 import shutil
 
-from . import sources
-from .crates import BadEdit
+from .copies import copied, origin_of
 from .full import Full
 from .quick import Quick
 from .rooms import check, room_for
 from .tally import Tally
+from .together import batch_of
 
 # Functions of a lane that are proved unchanged, over the same kept work as its mutants.
 SAMPLE = 5
-
-
-def reached(path, folder):
-    """A file of a crate and the files that it reaches by the modules it names."""
-    reached_files, left = set(), [path]
-    while left:
-        it = left.pop()
-        if it not in reached_files:
-            reached_files.add(it)
-            text = folder.read(it) if folder.has(it) else ""
-            left += [f"src/{name}.rt" for name in re.findall(r"\bcrate::(\w+)", text)]
-    return reached_files
-
-
-def are_apart(a, b, folder):
-    """Whether two edits have no effect on one another's function. A contract hides a body from
-    other functions, and hides no constant. So two edits of constants go together only where each is
-    in the file of the function that must reject it, and neither file reaches the other. An edit
-    outside all bodies is tried alone."""
-    if {a.function, a.mutated} & {b.function, b.mutated}:
-        return False
-    if a.is_outside or b.is_outside:
-        return False
-    if not a.is_constant and not b.is_constant:
-        return True
-    homes = [it.pairs[0][0] for it in (a, b)]
-    names = [os.path.basename(it)[: -len(".rt")] for it in homes]
-    at_home = all(it.is_constant and it.function.split("::")[1] == name
-                  for it, name in zip((a, b), names))
-    return (at_home and homes[0] not in reached(homes[1], folder)
-            and homes[1] not in reached(homes[0], folder))
-
-
-def batch_of(edits, folder):
-    """Edits of different functions that one check can try together, the edited texts, and the edits
-    that are left."""
-    batch, texts, left = [], {}, []
-    for edit in edits:
-        is_free = all(are_apart(it, edit, folder) for it in batch)
-        try:
-            read = lambda path: texts.get(path) or folder.read(path)
-            changed = edit.applied(read) if is_free else None
-        except BadEdit:
-            # (its old text is once in the function, and not once after the other edits)
-            changed = None
-        if changed is None:
-            left.append(edit)
-        else:
-            batch.append(edit)
-            texts.update(changed)
-    return batch, texts, left
 
 
 class Lane:
@@ -93,25 +40,27 @@ class Lane:
         while edits:
             batch, texts, edits = batch_of(edits, self.folder)
             edited = {name for it in batch for name in (it.function, it.mutated)}
-            beside = [it for it in sample if not edits and it.function not in edited][:SAMPLE]
-            said = self.check(texts, batch, way, beside)
+            drawn = [it for it in sample if not edits and it.function not in edited][:SAMPLE]
+            asked, texts = copied(drawn, batch, texts, self.folder, False)
+            said = self.check(texts, batch, way, asked)
             if not said.is_judged:
                 # (one of them does not compile: each half is tried)
-                half = len(batch) // 2
-                for part in [batch[:half], batch[half:]] if half else []:
+                both, half = [origin_of(it) for it in batch], len(batch) // 2
+                for part in [both[:half], both[half:]] if half else []:
                     left += self.try_together(part, way)
-                left += [] if half else batch
+                left += [] if half else both
                 continue
-            if beside:
-                drawn = [*beside, *(it for it in sample if it not in beside)][:SAMPLE]
-                proved = [it for it in beside if said.has_no_open_goal(it.function)]
-                self.unproved = [it for it in drawn if it not in proved]
-            for edit in batch:
-                what = way.rejects(said, edit)
+            if drawn:
+                proved = [it for it, made in zip(drawn, asked)
+                          if said.has_no_open_goal(made.function)]
+                drawn += [it for it in sample if it not in drawn]
+                self.unproved = [it for it in drawn[:SAMPLE] if it not in proved]
+            for it in batch:
+                what = way.rejects(said, it)
                 if what:
-                    self.tally.rejected(edit, what)
+                    self.tally.rejected(origin_of(it), what)
                 else:
-                    left.append(edit)
+                    left.append(origin_of(it))
         return left
 
     def try_alone(self, edit):
@@ -138,19 +87,20 @@ class Lane:
 
     def try_all(self, edits, draw):
         """Tries all edits: those that name a goal by quick checks first, in one check with others;
-        then what is left alone. Proves drawn functions unchanged over the same kept work: in the
-        last check of many mutants, those that it does not edit, and in a check after all those that
-        it does not show proved."""
+        then what is left alone. Proves drawn functions unchanged over the same kept work, those as
+        copies that can have copies: in the last check of many mutants, those that it does not edit,
+        and in a check after all those that it does not show proved."""
         way, left = Quick(self, edits), []
         by_function = {it.function: it for it in edits if not names_impl(it)}
         sample = draw.sample([*by_function.values()], len(by_function))
         self.unproved = sample[:SAMPLE]
-        for number, kind in enumerate(sorted({it.kind() for it in edits})):
+        kinds = sorted({it.kind() for it in edits})
+        for kind in kinds:
             own = [it for it in edits if it.kind() == kind]
-            left += self.try_together(own, way, [] if number else sample)
-        undecided = [it for it in left if way.can_try(it)]
+            left += self.try_together(own, way, sample if kind == kinds[-1] else [])
+        in_full = [it for it in left if way.can_try(it)]
         alone = [it for it in left if not way.can_try(it)]
-        for edit in alone + self.try_together(undecided, Full()):
+        for edit in alone + self.try_together(in_full, Full()):
             self.try_alone(edit)
         if self.unproved or not sample:
             self.prove_unchanged()
@@ -160,10 +110,10 @@ class Lane:
     def prove_unchanged(self):
         """Proves these functions, or the crate, over the kept work of the mutants. Where one is not
         proved, no mutant counts as seen rejected."""
+        asked, texts = copied(self.unproved, [], {}, self.folder, False)
         # (a stub in one function of the sample shows in the line of another that calls it)
-        said = self.check({}, self.unproved, Full(False))
-        names = sorted({it.function for it in self.unproved
-                        if not said.has_no_open_goal(it.function)})
+        said = self.check(texts, asked, Full(False))
+        names = sorted({it.function for it in asked if not said.has_no_open_goal(it.function)})
         if names or not self.unproved and not said.is_proved:
             told = f"not proved unchanged after the mutants: {', '.join(names) or 'the crate'}"
             self.tally.say(self.tally.crate, told, False)

@@ -9,12 +9,14 @@ in the same way. A mutant whose function has the promised goals of the correct b
 where the tactic, or the explicit proof that the goal has, proves the goal for the correct body and
 not for the mutant. All else is left to checks in full.
 """
+import copy
 import re
 
-from . import sources
+from .copies import origin_of
 from .full import Full
 from .judging import AFTER_LOST, LOST, goal_of_error, is_promised
 from .rooms import STUB, answers_path, begun_answers
+from .sources import place_of
 
 TACTIC = re.compile(r"#\[tactic\(([^\]]*)\)\]\s*")
 ANSWERED = re.compile(r"^pub ([\w+-]+) : goal\.", re.M)
@@ -39,14 +41,20 @@ class Search:
         # function promises and no explicit proof answers, of the correct body.
         self.goals, self.proved, self.promised = {}, set(), set()
 
-    def answers(self, folder, goals):
-        """The function's proof file, in which tactics answer these goals, with a stub."""
+    def of(self, function):
+        """The same of a copy of the function."""
+        made = copy.copy(self)
+        made.function = function
+        return made
+
+    def answers(self, begun, goals):
+        """The function's proof file, begun so, in which tactics answer these goals, with a stub."""
         opened = f"unfolding {' '.join(self.unfolded)}\n" if self.unfolded else ""
         using = "".join(f", {it}" for it in self.used)
         made = [f"\npub {it} : goal.{it}\n{opened}{it} c = "
                 f"{TACTICS[self.goals[it]].format(using=using)}\n"
                 for it in goals if it not in self.explicit]
-        return "".join([begun_answers(folder, self.function), *made, STUB])
+        return "".join([begun, *made, STUB])
 
     def open(self, said):
         """The promised goals without an answer."""
@@ -95,29 +103,31 @@ class Quick(Full):
             for it in self.searches.values():
                 it.note(correct)
 
-    def can_try(self, edit):
+    def can_try(self, tried):
         """Whether a check is quick for this edit, or for the correct body of a function."""
-        search = self.searches.get(edit.function)
-        if not search or edit.is_outside:
+        search = self.searches.get(origin_of(tried).function)
+        if not search or tried.is_outside:
             return False
-        return edit is search or edit.goal in search.proved
+        return tried is search or tried.goal in search.proved
 
     def texts(self, folder, texts, tried):
         """These texts and the proof files of the functions that are tried, in which tactics answer
         their goals, with no tactic at these functions."""
         made = dict(texts)
         for it in filter(self.can_try, tried):
-            search = self.searches[it.function]
+            search = self.searches[origin_of(it).function]
             goals = it.goals if it is search else [it.goal]
             text = made.get(search.path) or folder.read(search.path)
             made[search.path] = untried(text, *place_of(search.path, text, it.function))
-            made[answers_path(it.function)] = search.answers(folder, goals)
+            begun = begun_answers(folder, it.function, made)
+            made[answers_path(it.function)] = search.answers(begun, goals)
         return made
 
     def rejects(self, said, edit):
         if not self.can_try(edit):
             return super().rejects(said, edit)
-        return self.searches[edit.function].rejects(said, edit)
+        search = self.searches[origin_of(edit).function]
+        return search.of(edit.function).rejects(said, edit)
 
 
 def search_of(folder, function):
@@ -129,16 +139,6 @@ def search_of(folder, function):
             explicit = {*ANSWERED.findall(begun_answers(folder, function))}
             return Search(function, path, text[top:start], explicit)
     return None
-
-
-def place_of(path, text, function):
-    """Where the attributes of a function of a file may begin and where its first line does, or
-    twice the start of the file."""
-    body, _ = sources.body_of(function.split("::")[0], path, text, function)
-    head = text.rfind(f"fn {function.split('::')[-1]}", 0, body)
-    start = text.rfind("\n", 0, head) + 1 if head >= 0 else 0
-    ends = [text.rfind(it, 0, start) for it in ("\n\n", "{\n", "}\n")]
-    return max([0, *(it + 2 for it in ends if it >= 0)]), start
 
 
 def named_in(word, attributes, crate):

@@ -24,10 +24,11 @@ pub {UNASKED} : goal.{UNASKED}
 
 def check(folder, texts, only=(), stubbed=()):
     """Checks the crate in that folder with these texts instead of its files: all of it, or only
-    these functions and those that they call. The functions in `stubbed` have a stub each, in the
-    text of their proof file or, where there is none among the texts, in addition to that file."""
-    stubs = {it: begun_answers(folder, it) + STUB for it in stubbed}
-    changed = {**{answers_path(it): text for it, text in stubs.items()}, **texts}
+    these functions and those that they call. The functions in `stubbed` have a stub each, at the
+    end of the proof file that these texts or else the folder has for them."""
+    begun = {answers_path(it): begun_answers(folder, it, texts) for it in stubbed}
+    stubs = {it: text.removesuffix(STUB) + STUB for it, text in begun.items()}
+    changed = {**texts, **stubs}
     own = {path: folder.read(path) for path in changed if folder.has(path)}
     for path, text in changed.items():
         os.makedirs(os.path.dirname(f"{folder.top}/{path}"), exist_ok=True)
@@ -50,12 +51,14 @@ def answers_path(function):
     return "/".join(["proofs", *function.split("::")[1:], "Answers.antt"])
 
 
-def begun_answers(folder, function):
-    """The proof file of the function, or the beginning of one."""
+def begun_answers(folder, function, texts=()):
+    """The proof file of the function, among these texts or in the folder, or the beginning of
+    one."""
     crate, *inside = function.split("::")
-    path = answers_path(function)
-    begin = f"use Rattle.{'.'.join([crate, 'proofs', *inside])}.Goals as goal\n"
-    return folder.read(path) if folder.has(path) else begin
+    path, begin = answers_path(function), f"use Rattle.{'.'.join([crate, 'proofs', *inside])}"
+    if path in texts:
+        return texts[path]
+    return folder.read(path) if folder.has(path) else f"{begin}.Goals as goal\n"
 
 
 def run(folder, words, stubbed=()):

@@ -83,11 +83,26 @@ def may_be(name, function):
     return name.split("::")[-2:] == function.split("::")[-2:]
 
 
-def body_of(crate, path, text, function):
-    """Where the body of that function starts and ends, or twice the start of the file."""
+def found(crate, path, text, function):
+    """What `bodies_of` has of that function, or nothing."""
     bodies = bodies_of(crate, path, text)
     named = [it for it in bodies if it[0] == function]
-    return next((it[1:3] for it in named or bodies if may_be(it[0], function)), (0, 0))
+    return next((it for it in named or bodies if may_be(it[0], function)), ())
+
+
+def body_of(crate, path, text, function):
+    """Where the body of that function starts and ends, or twice the start of the file."""
+    return found(crate, path, text, function)[1:3] or (0, 0)
+
+
+def place_of(path, text, function):
+    """Where the attributes of a function of a file may begin and where its first line does, or
+    twice the start of the file."""
+    body, _ = body_of(function.split("::")[0], path, text, function)
+    head = text.rfind(f"fn {function.split('::')[-1]}", 0, body)
+    start = text.rfind("\n", 0, head) + 1 if head >= 0 else 0
+    ends = [text.rfind(it, 0, start) for it in ("\n\n", "{\n", "}\n")]
+    return max([0, *(it + 2 for it in ends if it >= 0)]), start
 
 
 def is_in_cycle(crate, path, text, function):

@@ -19,6 +19,11 @@ def are_moved(old, new):
     return is_reordered or [it for it in after if it in before] != before
 
 
+def place_of(function):
+    """The folder of the explicit proof of a function."""
+    return "/".join(["proofs", *function.split("::")[1:]])
+
+
 def proofs_in(path, folder):
     """The texts of the explicit proof in a folder of the crate, by their names."""
     return {it: folder.read(f"{path}/{it}") for it in PROOFS if folder.has(f"{path}/{it}")}
@@ -39,6 +44,6 @@ def shared_proof(function, folder):
 
 def names_steps(function, folder):
     """Whether an explicit proof, which names steps, is read for goals of the function."""
-    own = proofs_in("/".join(["proofs", *function.split("::")[1:]]), folder)
+    own = proofs_in(place_of(function), folder)
     shared = shared_proof(function, folder)[1].get("Answers.antt", "")
     return "Answers.antt" in own or f"goal.{function.split('::')[-1]}-" in shared

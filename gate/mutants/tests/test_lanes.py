@@ -10,10 +10,11 @@ import unittest
 from unittest import mock
 
 from mutants import main, rooms, seen
-from mutants.batches import SAMPLE, Lane, batch_of, takes_stub
+from mutants.batches import SAMPLE, Lane, takes_stub
 from mutants.crates import Folder, write
 from mutants.judging import Report
 from mutants.tally import Tally
+from mutants.together import batch_of
 
 
 class Planted(Lane):
@@ -21,7 +22,7 @@ class Planted(Lane):
 
     def __init__(self, is_proved):
         self.is_proved, self.checked, self.unproved = is_proved, [], []
-        self.top, self.tally = tempfile.mkdtemp(), Tally("a_crate")
+        self.folder, self.top, self.tally = None, tempfile.mkdtemp(), Tally("a_crate")
 
     def try_together(self, edits, way, sample=()):
         for it in edits:
@@ -39,7 +40,8 @@ class Planted(Lane):
 def edits(number):
     """So many mutants, each of another function."""
     return [types.SimpleNamespace(function=f"a_crate::f{it}", label=f"f{it}", is_control=False,
-                                  goal="", is_outside=False, kind=lambda: (False, False))
+                                  goal="", is_outside=False, pairs=[],
+                                  kind=lambda: (False, False))
             for it in range(number)]
 
 
@@ -82,7 +84,8 @@ class Beside(unittest.TestCase):
         lane.try_together = lambda *words: Lane.try_together(lane, *words)
         mutants = [types.SimpleNamespace(function=it, mutated=it, label=f"{it}{at}", goal="",
                                          is_control=False, is_outside=False, is_constant=False,
-                                         applied=lambda read: {}, kind=lambda: (False, False))
+                                         pairs=[], applied=lambda read: {},
+                                         kind=lambda: (False, False))
                    for at, it in enumerate(functions)]
         lane.try_all(mutants, random.Random(1))
         return [sorted(it) for it in checks]
@@ -170,9 +173,11 @@ class Stubs(unittest.TestCase):
     def test_after_the_answers_that_are_there(self):
         self.assertEqual(self.seen("m::g", "answers\n"), "answers\n" + rooms.STUB)
 
-    def test_in_place_of_the_answers_that_are_there(self):
-        path = "proofs/m/g/Answers.antt"
-        self.assertEqual(self.seen("m::g", "answers\n", given={path: "quick"}), "quick")
+    def test_after_the_answers_that_are_given(self):
+        given = {"proofs/m/g/Answers.antt": "quick"}
+        self.assertEqual(self.seen("m::g", "answers\n", given=given), "quick" + rooms.STUB)
+        given = {"proofs/m/g/Answers.antt": "quick" + rooms.STUB}
+        self.assertEqual(self.seen("m::g", "answers\n", given=given), "quick" + rooms.STUB)
 
     def seen(self, name, own, *others, given=()):
         """What a check of a mutant reads as the proof file of its function, of which this is the
@@ -204,7 +209,8 @@ class Stubs(unittest.TestCase):
 
 class Together(unittest.TestCase):
     def test_one_mutant_of_a_function_in_a_check(self):
-        given = {"is_constant": False, "is_outside": False, "applied": lambda read: {}}
+        given = {"is_constant": False, "is_outside": False, "applied": lambda read: {},
+                 "pairs": []}
         first, second, third = [types.SimpleNamespace(function=it, mutated=it, **given)
                                 for it in ("a_crate::f", "a_crate::g", "a_crate::f")]
         batch, _, left = batch_of([first, second, third], types.SimpleNamespace(read=None))

@@ -56,7 +56,7 @@ def said(*lines):
 def edit(function="a_crate::m::g", goal="returns", **given):
     """A mutant, or with `is_control` a correct body."""
     made = {"by": "search", "is_control": False, "is_outside": False, "is_constant": False,
-            "is_recursive": False, "moves_steps": False, "mutated": function,
+            "is_recursive": False, "moves_steps": False, "mutated": function, "pairs": [],
             "label": f"{function} {goal}", "applied": lambda read: {},
             "kind": lambda: (False, False)}
     return types.SimpleNamespace(function=function, goal=goal, **{**made, **given})
