@@ -9,7 +9,7 @@ from .tally import Tally
 from .together import batch_of
 
 # Functions of a lane that are proved unchanged, over the same kept work as its mutants.
-SAMPLE = 5
+SAMPLE = 3
 
 
 class Lane:
@@ -86,12 +86,15 @@ class Lane:
             tally.failed(edit, f"NOT REFUSED by its function: {line}{proved}")
 
     def try_all(self, edits, draw):
-        """Tries all edits: those that name a goal by quick checks first, in one check with others;
-        then what is left alone. Proves drawn functions unchanged over the same kept work, those as
-        copies that can have copies: in the last check of many mutants, those that it does not edit,
-        and in a check after all those that it does not show proved."""
-        way, left = Quick(self, edits), []
-        by_function = {it.function: it for it in edits if not names_impl(it)}
+        """Tries all edits: first those whose check is of the whole crate, which keeps what others
+        begin with; then those that name a goal by quick checks, in one check with others; then what
+        is left alone. Proves drawn functions unchanged over the same kept work, those as copies
+        that can have copies: in the last check of many mutants, those that it does not edit, and in
+        a check after all those that it does not show proved."""
+        left = self.try_together([it for it in edits if names_impl(it)], Full())
+        edits = [it for it in edits if not names_impl(it)]
+        way = Quick(self, edits)
+        by_function = {it.function: it for it in edits}
         sample = draw.sample([*by_function.values()], len(by_function))
         self.unproved = sample[:SAMPLE]
         kinds = sorted({it.kind() for it in edits})

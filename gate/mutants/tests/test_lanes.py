@@ -83,8 +83,8 @@ class Beside(unittest.TestCase):
         lane.check, lane.folder = check, types.SimpleNamespace(read=None)
         lane.try_together = lambda *words: Lane.try_together(lane, *words)
         mutants = [types.SimpleNamespace(function=it, mutated=it, label=f"{it}{at}", goal="",
-                                         is_control=False, is_outside=False, is_constant=False,
-                                         pairs=[], applied=lambda read: {},
+                                         is_control=False, is_outside="::" in it,
+                                         is_constant=False, pairs=[], applied=lambda read: {},
                                          kind=lambda: (False, False))
                    for at, it in enumerate(functions)]
         lane.try_all(mutants, random.Random(1))
@@ -104,6 +104,10 @@ class Beside(unittest.TestCase):
 
     def test_another_check_where_all_are_edited(self):
         self.assertEqual(self.checked("fg"), [["f0", "g1"], ["f0", "g1"]])
+
+    def test_an_impl_first(self):
+        checks = self.checked(["a", "f", "f", "m::TypeTrait"])
+        self.assertEqual(checks, [["m::TypeTrait3"], ["a0", "f1"], ["a0", "f2"], ["f2"]])
 
     def test_those_that_are_not_proved_there(self):
         self.assertEqual(self.checked("fgf", False), [["f0", "g1"], ["f2", "g1"], ["f2", "g1"]])
