@@ -4,6 +4,7 @@ use super::assertions::assert_is;
 use linkinfo_shapes::{Datum, Shape, laws};
 use nla_frame::is_equal;
 use std::net::{IpAddr, Ipv4Addr, Ipv6Addr};
+use std::process::Abort;
 
 #[test]
 fn reads_numbers_of_data(rt: HostRuntime) {
@@ -109,40 +110,54 @@ fn numbers_of(datum: Datum<'_>) -> [i64; 4] {
 /// Data that hold no number, pair, address or bytes of the expected shape.
 const OTHER_DATA: &[Datum<'_>] = &[Datum::Empty, Datum::Number(1 << 40), Datum::Truth(false)];
 
+/// Asserts that a datum of another shape is read as zeros, or as nothing.
+fn has_default_numbers(rt: &impl Abort, datum: Datum<'_>) {
+    assert_is(
+        rt,
+        ("numbers", datum),
+        (
+            numbers_of(datum),
+            datum.u16_pair_or_zeros(),
+            datum.byte_or_none(),
+        ),
+        ([0; 4], (0, 0), None),
+    );
+}
+
+/// Asserts that a datum of another shape is read as false, empty text and no bytes.
+fn has_default_bytes(rt: &impl Abort, datum: Datum<'_>) {
+    assert_is(
+        rt,
+        ("truth, text, bytes", datum),
+        (
+            datum.bool_or_false(),
+            datum.text_or_empty(),
+            datum.bytes_or_empty(),
+        ),
+        (false, "", [].as_slice()),
+    );
+}
+
+/// Asserts that a datum of another shape is read as the unspecified addresses.
+fn has_default_addresses(rt: &impl Abort, datum: Datum<'_>) {
+    assert_is(
+        rt,
+        ("addresses", datum),
+        (
+            datum.ipv4_or_unspecified(),
+            datum.ipv6_or_unspecified(),
+            datum.mac_or_zeros(),
+        ),
+        (Ipv4Addr::UNSPECIFIED, Ipv6Addr::UNSPECIFIED, [0; 6]),
+    );
+}
+
 #[test]
 fn reads_defaults_of_other_data(rt: HostRuntime) {
     for datum in OTHER_DATA {
-        let datum = *datum;
-        assert_is(
-            &rt,
-            ("numbers", datum),
-            (
-                numbers_of(datum),
-                datum.u16_pair_or_zeros(),
-                datum.byte_or_none(),
-            ),
-            ([0; 4], (0, 0), None),
-        );
-        assert_is(
-            &rt,
-            ("truth, text, bytes", datum),
-            (
-                datum.bool_or_false(),
-                datum.text_or_empty(),
-                datum.bytes_or_empty(),
-            ),
-            (false, "", [].as_slice()),
-        );
-        assert_is(
-            &rt,
-            ("addresses", datum),
-            (
-                datum.ipv4_or_unspecified(),
-                datum.ipv6_or_unspecified(),
-                datum.mac_or_zeros(),
-            ),
-            (Ipv4Addr::UNSPECIFIED, Ipv6Addr::UNSPECIFIED, [0; 6]),
-        );
+        has_default_numbers(&rt, *datum);
+        has_default_bytes(&rt, *datum);
+        has_default_addresses(&rt, *datum);
     }
     let nothing = Datum::Empty;
     assert_is(

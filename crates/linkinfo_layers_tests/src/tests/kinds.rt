@@ -4,7 +4,7 @@ use super::assertions::{assert_displayed, assert_is, attribute, decode_error, re
 use linkinfo_numbers::{
     InfoKind, InfoPortKind, KindTag, PortTag, laws, port_tag_of_name, tag_of_name,
 };
-use nla_frame::{Cause, ExactEq, Family, Nla, Parseable, is_equal};
+use nla_frame::{Cause, ExactEq, Family, Nla, NlaBuffer, Parseable, is_equal};
 use std::alloc::Global;
 use std::process::Abort;
 
@@ -129,13 +129,18 @@ fn known_kinds(rt: HostRuntime) {
     assert!(rt; InfoKind::SitTun != InfoKind::IpIp);
 }
 
+/// Asserts that the name is that of no known kind.
+fn is_other(rt: &impl Abort, alloc: Global, name: &str) {
+    let kind = kind_of(rt, alloc, name);
+    is_named(rt, alloc, &kind, name, KindTag::Other);
+    is_same(rt, &kind, &InfoKind::Other(text_of(rt, alloc, name)));
+}
+
 #[test]
 fn other_kinds(rt: HostRuntime) {
     let alloc = rt.alloc();
     for name in OTHERS {
-        let kind = kind_of(&rt, alloc, name);
-        is_named(&rt, alloc, &kind, name, KindTag::Other);
-        is_same(&rt, &kind, &InfoKind::Other(text_of(&rt, alloc, name)));
+        is_other(&rt, alloc, name);
     }
     // The tag depends on the variant.
     let other = InfoKind::Other(text_of(&rt, alloc, "xfrm"));
@@ -169,19 +174,53 @@ fn port_kinds(rt: HostRuntime) {
     assert_is(&rt, "Other of vrf", other.tag(), PortTag::Other);
 }
 
+/// Asserts the name of the kind that has the tag.
+fn is_name_of(rt: &impl Abort, tag: KindTag, name: &str) {
+    let kind = InfoKind::from_tag(tag);
+    assert_is(rt, tag, kind.as_ref().map(|kind| kind.name()), Some(name));
+}
+
+/// Asserts the name of the port kind that has the tag, if one has it.
+fn is_port_name_of(rt: &impl Abort, tag: PortTag, name: &str) {
+    let kind = InfoPortKind::from_tag(tag);
+    let wanted = (tag != PortTag::Other).then_some(name);
+    assert_is(rt, tag, kind.as_ref().map(|kind| kind.name()), wanted);
+}
+
 #[test]
 fn kinds_of_tags(rt: HostRuntime) {
     laws::kind_texts();
     for (name, tag) in KINDS {
-        let kind = InfoKind::from_tag(*tag);
-        assert_is(&rt, tag, kind.as_ref().map(|kind| kind.name()), Some(*name));
+        is_name_of(&rt, *tag, name);
     }
     assert!(rt; InfoKind::from_tag(KindTag::Other).is_none());
     for (name, tag) in PORT_KINDS {
-        let kind = InfoPortKind::from_tag(*tag);
-        let wanted = (*tag != PortTag::Other).then_some(*name);
-        assert_is(&rt, tag, kind.as_ref().map(|kind| kind.name()), wanted);
+        is_port_name_of(&rt, *tag, name);
     }
+}
+
+/// Asserts that the attribute parses as a value equal to this one.
+fn is_read_as<'a, T: Parseable<NlaBuffer<'a>> + ExactEq + Drop>(
+    rt: &impl Abort,
+    alloc: Global,
+    bytes: &'a [u8],
+    wanted: &T,
+) {
+    let read = T::parse(alloc, &attribute(rt, bytes)).expect(rt, "an accepted attribute");
+    assert!(rt; is_equal(&read, wanted), "{bytes:?}");
+}
+
+/// Asserts that parsing the attribute as this type fails with the cause.
+fn is_rejected<'a, T: Parseable<NlaBuffer<'a>> + Drop>(
+    rt: &impl Abort,
+    alloc: Global,
+    bytes: &'a [u8],
+    kind: u16,
+    cause: Cause,
+) {
+    let read = T::parse(alloc, &attribute(rt, bytes));
+    let rejected = decode_error(Family::LinkInfo, kind, cause);
+    assert_is(rt, bytes, read.err(), Some(rejected));
 }
 
 /// Attributes, and the names of the kinds that they are read as.
@@ -205,13 +244,10 @@ const KINDS_REFUSED: &[(&[u8], u16, Cause)] = &[
 fn kinds_in_attributes(rt: HostRuntime) {
     let alloc = rt.alloc();
     for (bytes, text) in KINDS_READ {
-        let kind = InfoKind::parse(alloc, &attribute(&rt, bytes)).expect(&rt, "a kind");
-        assert!(rt; is_equal(&kind, &kind_of(&rt, alloc, text)), "{text}");
+        is_read_as(&rt, alloc, bytes, &kind_of(&rt, alloc, text));
     }
     for (bytes, kind, cause) in KINDS_REFUSED {
-        let read = InfoKind::parse(alloc, &attribute(&rt, bytes));
-        let rejected = decode_error(Family::LinkInfo, *kind, *cause);
-        assert_is(&rt, bytes, read.err(), Some(rejected));
+        is_rejected::<InfoKind>(&rt, alloc, bytes, *kind, *cause);
     }
 }
 
@@ -231,13 +267,10 @@ const PORT_KINDS_REFUSED: &[(&[u8], u16, Cause)] = &[
 fn port_kinds_in_attributes(rt: HostRuntime) {
     let alloc = rt.alloc();
     for (bytes, kind, cause) in PORT_KINDS_REFUSED {
-        let read = InfoPortKind::parse(alloc, &attribute(&rt, bytes));
-        let rejected = decode_error(Family::LinkInfo, *kind, *cause);
-        assert_is(&rt, bytes, read.err(), Some(rejected));
+        is_rejected::<InfoPortKind>(&rt, alloc, bytes, *kind, *cause);
     }
     for (bytes, text) in PORT_KINDS_READ {
-        let kind = InfoPortKind::parse(alloc, &attribute(&rt, bytes)).expect(&rt, "a port kind");
-        assert!(rt; is_equal(&kind, &port_kind_of(&rt, alloc, text)), "{text}");
+        is_read_as(&rt, alloc, bytes, &port_kind_of(&rt, alloc, text));
     }
 }
 

@@ -31,6 +31,14 @@ const DUMP: [u8; 144] = [
     20, 0, 0, 0, 3, 0, 2, 0, 1, 0, 0, 0, 2, 0, 0, 0, 0, 0, 0, 0,
 ];
 
+/// Those messages.
+///
+/// A function that names a long constant takes time to check, for each byte. So this one alone
+/// names it.
+fn dump() -> &'static [u8; 144] {
+    &DUMP
+}
+
 /// The link of the first message.
 fn first_link() -> LinkMessage<'static> {
     LinkMessage {
@@ -72,8 +80,8 @@ fn message_error(place: usize, cause: MessageCause) -> Option<MessageError> {
 }
 
 /// The bytes, with one of them changed.
-fn changed<const N: usize>(bytes: [u8; N], at: usize, byte: u8) -> [u8; N] {
-    let mut bytes = bytes;
+fn changed<const N: usize>(bytes: &[u8; N], at: usize, byte: u8) -> [u8; N] {
+    let mut bytes = *bytes;
     if at < N {
         bytes[at] = byte;
     }
@@ -82,7 +90,7 @@ fn changed<const N: usize>(bytes: [u8; N], at: usize, byte: u8) -> [u8; N] {
 
 #[test]
 fn links_of_a_dump(rt: HostRuntime) {
-    let mut links = LinkMessages::new(&DUMP);
+    let mut links = LinkMessages::new(dump());
     assert_is(&rt, "first", links.next(), Some(Ok(first_link())));
     assert_is(&rt, "offset", links.place(), 60);
     assert_is(&rt, "second", links.next(), Some(Ok(second_link())));
@@ -95,7 +103,7 @@ fn links_of_a_dump(rt: HostRuntime) {
 /// and 100; at 108; and at 124.
 #[test]
 fn headers_examined(rt: HostRuntime) {
-    let mut links = LinkMessages::new(&DUMP);
+    let mut links = LinkMessages::new(dump());
     assert_is(&rt, "start", links.examined(), 0);
     let _ = links.next();
     assert_is(&rt, "first", links.examined(), 4);
@@ -106,18 +114,26 @@ fn headers_examined(rt: HostRuntime) {
     let _ = links.next();
     assert_is(&rt, "after the end", links.examined(), 9);
     let cases = [
-        ("header cut short", examined_in(&DUMP[..75]), 4),
-        ("short", examined_in(&changed(DUMP, 60, 15)), 5),
-        ("long", examined_in(&DUMP[..106]), 5),
-        ("no ifinfomsg", examined_in(&changed(DUMP, 60, 31)), 5),
-        ("rejected attribute", examined_in(&changed(DUMP, 40, 21)), 3),
+        ("header cut short", examined_in(&dump()[..75]), 4),
+        ("short", examined_in(&changed(dump(), 60, 15)), 5),
+        ("long", examined_in(&dump()[..106]), 5),
+        ("no ifinfomsg", examined_in(&changed(dump(), 60, 31)), 5),
+        (
+            "rejected attribute",
+            examined_in(&changed(dump(), 40, 21)),
+            3,
+        ),
         // Of the attribute at offset 48 the message has two bytes.
-        ("attribute cut short", examined_in(&changed(DUMP, 0, 50)), 3),
+        (
+            "attribute cut short",
+            examined_in(&changed(dump(), 0, 50)),
+            3,
+        ),
         // A message of another type has no attributes that are examined.
-        ("other type", examined_in(&changed(DUMP, 4, 20)), 6),
+        ("other type", examined_in(&changed(dump(), 4, 20)), 6),
     ];
-    for (case, examined, wanted) in cases {
-        assert_is(&rt, case, examined, wanted);
+    for (case, examined, wanted) in &cases {
+        assert_is(&rt, *case, *examined, *wanted);
     }
 }
 
@@ -133,9 +149,9 @@ fn examined_in(bytes: &[u8]) -> usize {
 /// A prefix is accepted where it ends after a message, with or without the padding.
 #[test]
 fn prefixes_of_a_dump(rt: HostRuntime) {
-    for len in 0..=DUMP.len() {
+    for len in 0..=dump().len() {
         let whole = matches!(len, 0 | 60 | 107 | 108 | 124 | 144);
-        assert_is(&rt, len, error_in(&DUMP[..len]).is_none(), whole);
+        assert_is(&rt, len, error_in(&dump()[..len]).is_none(), whole);
     }
 }
 
@@ -143,31 +159,31 @@ fn prefixes_of_a_dump(rt: HostRuntime) {
 fn errors_of_messages(rt: HostRuntime) {
     let cases = [
         (
-            error_in(&DUMP[..67]),
+            error_in(&dump()[..67]),
             message_error(60, MessageCause::Header),
         ),
         (
-            error_in(&changed(DUMP, 60, 15)),
+            error_in(&changed(dump(), 60, 15)),
             message_error(60, MessageCause::Short(15)),
         ),
         (
-            error_in(&DUMP[..106]),
+            error_in(&dump()[..106]),
             message_error(60, MessageCause::Long(47)),
         ),
         (
-            error_in(&changed(DUMP, 60, 31)),
+            error_in(&changed(dump(), 60, 31)),
             message_error(60, MessageCause::LinkHeader(31)),
         ),
         (
-            error_in(&changed(DUMP, 92, 3)),
+            error_in(&changed(dump(), 92, 3)),
             message_error(60, MessageCause::Attribute(92)),
         ),
         (
-            error_in(&changed(DUMP, 40, 21)),
+            error_in(&changed(dump(), 40, 21)),
             message_error(0, MessageCause::Attribute(40)),
         ),
         // A message of another type is skipped, whatever it has.
-        (error_in(&changed(DUMP, 124, 17)), None),
+        (error_in(&changed(dump(), 124, 17)), None),
     ];
     for (case, (found, wanted)) in cases.iter().enumerate() {
         assert_is(&rt, case, *found, *wanted);
@@ -176,14 +192,19 @@ fn errors_of_messages(rt: HostRuntime) {
 
 #[test]
 fn lengths_of_messages(rt: HostRuntime) {
-    assert_is(&rt, "cut", message_len(&DUMP[..15]), Ok(None));
-    assert_is(&rt, "whole", message_len(&DUMP), Ok(Some(60)));
-    assert_is(&rt, "padded", message_len(&DUMP[60..76]), Ok(Some(48)));
+    assert_is(&rt, "cut", message_len(&dump()[..15]), Ok(None));
+    assert_is(&rt, "whole", message_len(dump()), Ok(Some(60)));
+    assert_is(&rt, "padded", message_len(&dump()[60..76]), Ok(Some(48)));
     let short = MessageError {
         place: 0,
         cause: MessageCause::Short(15),
     };
-    assert_is(&rt, "short", message_len(&changed(DUMP, 0, 15)), Err(short));
+    assert_is(
+        &rt,
+        "short",
+        message_len(&changed(dump(), 0, 15)),
+        Err(short),
+    );
 }
 
 /// A record of a capture: its header, the header of an nlmon device, and a message.
@@ -221,7 +242,7 @@ fn capture(
     let header = [0, 4, 3, 0x38, 0, 0, 0, 0, 0, 0, 0, 0, 0, 0];
     out.extend_from_slice(&header).expect(rt, "memory");
     out.extend_from_slice(&family).expect(rt, "memory");
-    out.extend_from_slice(&DUMP[..60]).expect(rt, "memory");
+    out.extend_from_slice(&dump()[..60]).expect(rt, "memory");
     out
 }
 
@@ -244,45 +265,32 @@ fn record<'a>(rt: &impl Abort, bytes: &'a [u8]) -> Record<'a> {
     item.expect(rt, "an accepted record")
 }
 
+/// Asserts what is read of a capture with this magic number, in this byte order.
+fn is_captured(rt: &impl Abort, alloc: Global, magic: u32, big_endian: bool, nanoseconds: u64) {
+    let bytes = capture(rt, alloc, magic, big_endian, [0, 0]);
+    let record = record(rt, &bytes);
+    let numbers = (
+        record.place,
+        record.seconds,
+        record.nanoseconds,
+        record.original,
+    );
+    assert_is(rt, magic, numbers, (24, 1000, nanoseconds, 76));
+    assert_is(rt, magic, record.messages(), Ok(Some(&dump()[..60])));
+    let format = CaptureFormat::new(before(rt, &bytes, 24)).expect(rt, "a format");
+    let records = after(rt, &bytes, 24);
+    let whole = format.record_len(before(rt, records, 16));
+    let short = format.record_len(before(rt, records, 15));
+    assert_is(rt, magic, (whole, short), (Some(92), None));
+    assert_is(rt, magic, format.records(records).count(), 1);
+}
+
 #[test]
 fn captures_in_each_format(rt: HostRuntime) {
-    let formats = [
-        (0xa1b2_c3d4, false, 5000),
-        (0xa1b2_3c4d, false, 5),
-        (0xa1b2_c3d4, true, 5000),
-        (0xa1b2_3c4d, true, 5),
-    ];
-    for (magic, big_endian, nanoseconds) in formats {
-        let bytes = capture(&rt, rt.alloc(), magic, big_endian, [0, 0]);
-        let record = record(&rt, &bytes);
-        let numbers = (
-            record.place,
-            record.seconds,
-            record.nanoseconds,
-            record.original,
-        );
-        assert_is(&rt, magic, numbers, (24, 1000, nanoseconds, 76));
-        assert_is(&rt, magic, record.messages(), Ok(Some(&DUMP[..60])));
-        let format = CaptureFormat::new(before(&rt, &bytes, 24)).expect(&rt, "a format");
-        assert_is(
-            &rt,
-            magic,
-            format.record_len(before(&rt, after(&rt, &bytes, 24), 16)),
-            Some(92),
-        );
-        assert_is(
-            &rt,
-            magic,
-            format.record_len(before(&rt, after(&rt, &bytes, 24), 15)),
-            None,
-        );
-        assert_is(
-            &rt,
-            magic,
-            format.records(after(&rt, &bytes, 24)).count(),
-            1,
-        );
-    }
+    is_captured(&rt, rt.alloc(), 0xa1b2_c3d4, false, 5000);
+    is_captured(&rt, rt.alloc(), 0xa1b2_3c4d, false, 5);
+    is_captured(&rt, rt.alloc(), 0xa1b2_c3d4, true, 5000);
+    is_captured(&rt, rt.alloc(), 0xa1b2_3c4d, true, 5);
 }
 
 /// The error of a capture file without an accepted header, or of its first record.
@@ -355,9 +363,9 @@ fn record_headers_examined(rt: HostRuntime) {
         ("packet cut short", 115, 1),
         ("whole", 116, 1),
     ];
-    for (case, len, wanted) in cases {
-        let examined = record_headers_in(&rt, before(&rt, &bytes, len));
-        assert_is(&rt, case, examined, wanted);
+    for (case, len, wanted) in &cases {
+        let examined = record_headers_in(&rt, before(&rt, &bytes, *len));
+        assert_is(&rt, *case, examined, *wanted);
     }
 }
 
@@ -381,9 +389,9 @@ fn packets(rt: HostRuntime) {
     let none = record_of(16, &PACKET).messages();
     assert_is(&rt, "no messages", none, Ok(Some(empty)));
     // NETLINK_GENERIC (16).
-    let generic = changed(PACKET, 15, 16);
+    let generic = changed(&PACKET, 15, 16);
     assert_is(&rt, "generic", record_of(16, &generic).messages(), Ok(None));
-    let loopback = changed(PACKET, 3, 4);
+    let loopback = changed(&PACKET, 3, 4);
     let cases = [
         (record_of(17, &PACKET), CaptureCause::Truncated(16, 17)),
         (record_of(15, &PACKET[..15]), CaptureCause::PacketHeader(15)),
@@ -423,8 +431,12 @@ fn sentences(rt: HostRuntime) {
             "message at offset 48: invalid attribute header, at offset 80",
         ),
     ];
-    for (cause, text) in messages {
-        assert_displayed(&rt, rt.alloc(), &MessageError { place: 48, cause }, text);
+    for (cause, text) in &messages {
+        let error = MessageError {
+            place: 48,
+            cause: *cause,
+        };
+        assert_displayed(&rt, rt.alloc(), &error, text);
     }
     let captures = [
         (
@@ -460,7 +472,11 @@ fn sentences(rt: HostRuntime) {
             "record at offset 24: its device type 772 is not ARPHRD_NETLINK",
         ),
     ];
-    for (cause, text) in captures {
-        assert_displayed(&rt, rt.alloc(), &CaptureError { place: 24, cause }, text);
+    for (cause, text) in &captures {
+        let error = CaptureError {
+            place: 24,
+            cause: *cause,
+        };
+        assert_displayed(&rt, rt.alloc(), &error, text);
     }
 }

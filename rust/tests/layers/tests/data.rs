@@ -94,37 +94,51 @@ fn numbers_of(datum: Datum<'_>) -> [i64; 4] {
 /// Data that hold no number, pair, address or bytes of the expected shape.
 const OTHER_DATA: &[Datum<'_>] = &[Datum::Empty, Datum::Number(1 << 40), Datum::Truth(false)];
 
+/// Asserts that a datum of another shape is read as zeros, or as nothing.
+fn has_default_numbers(datum: Datum<'_>) {
+    assert_is(
+        ("numbers", datum),
+        (
+            numbers_of(datum),
+            datum.u16_pair_or_zeros(),
+            datum.byte_or_none(),
+        ),
+        ([0; 4], (0, 0), None),
+    );
+}
+
+/// Asserts that a datum of another shape is read as false, empty text and no bytes.
+fn has_default_bytes(datum: Datum<'_>) {
+    assert_is(
+        ("truth, text, bytes", datum),
+        (
+            datum.bool_or_false(),
+            datum.text_or_empty(),
+            datum.bytes_or_empty(),
+        ),
+        (false, "", [].as_slice()),
+    );
+}
+
+/// Asserts that a datum of another shape is read as the unspecified addresses.
+fn has_default_addresses(datum: Datum<'_>) {
+    assert_is(
+        ("addresses", datum),
+        (
+            datum.ipv4_or_unspecified(),
+            datum.ipv6_or_unspecified(),
+            datum.mac_or_zeros(),
+        ),
+        (Ipv4Addr::UNSPECIFIED, Ipv6Addr::UNSPECIFIED, [0; 6]),
+    );
+}
+
 #[test]
 fn reads_defaults_of_other_data() {
     for datum in OTHER_DATA {
-        let datum = *datum;
-        assert_is(
-            ("numbers", datum),
-            (
-                numbers_of(datum),
-                datum.u16_pair_or_zeros(),
-                datum.byte_or_none(),
-            ),
-            ([0; 4], (0, 0), None),
-        );
-        assert_is(
-            ("truth, text, bytes", datum),
-            (
-                datum.bool_or_false(),
-                datum.text_or_empty(),
-                datum.bytes_or_empty(),
-            ),
-            (false, "", [].as_slice()),
-        );
-        assert_is(
-            ("addresses", datum),
-            (
-                datum.ipv4_or_unspecified(),
-                datum.ipv6_or_unspecified(),
-                datum.mac_or_zeros(),
-            ),
-            (Ipv4Addr::UNSPECIFIED, Ipv6Addr::UNSPECIFIED, [0; 6]),
-        );
+        has_default_numbers(*datum);
+        has_default_bytes(*datum);
+        has_default_addresses(*datum);
     }
     let nothing = Datum::Empty;
     assert_is(

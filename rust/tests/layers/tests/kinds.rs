@@ -2,7 +2,7 @@
 
 use super::assertions::{assert_displayed, assert_is, attribute, decode_error, repeated, text_of};
 use crate::support::*;
-use linkinfo::layers::nla_frame::{Cause, ExactEq, Family, Nla, Parseable, is_equal};
+use linkinfo::layers::nla_frame::{Cause, ExactEq, Family, Nla, NlaBuffer, Parseable, is_equal};
 use linkinfo::layers::numbers::{
     InfoKind, InfoPortKind, KindTag, PortTag, port_tag_of_name, tag_of_name,
 };
@@ -122,12 +122,17 @@ fn known_kinds() {
     assert!(InfoKind::SitTun != InfoKind::IpIp);
 }
 
+/// Asserts that the name is that of no known kind.
+fn is_other(name: &str) {
+    let kind = kind_of(name);
+    is_named(&kind, name, KindTag::Other);
+    is_same(&kind, &InfoKind::Other(text_of(name)));
+}
+
 #[test]
 fn other_kinds() {
     for name in OTHERS {
-        let kind = kind_of(name);
-        is_named(&kind, name, KindTag::Other);
-        is_same(&kind, &InfoKind::Other(text_of(name)));
+        is_other(name);
     }
     // The tag depends on the variant.
     let other = InfoKind::Other(text_of("xfrm"));
@@ -155,18 +160,41 @@ fn port_kinds() {
     assert_is("Other of vrf", other.tag(), PortTag::Other);
 }
 
+/// Asserts the name of the kind that has the tag.
+fn is_name_of(tag: KindTag, name: &str) {
+    let kind = InfoKind::from_tag(tag);
+    assert_is(tag, kind.as_ref().map(|kind| kind.name()), Some(name));
+}
+
+/// Asserts the name of the port kind that has the tag, if one has it.
+fn is_port_name_of(tag: PortTag, name: &str) {
+    let kind = InfoPortKind::from_tag(tag);
+    let wanted = (tag != PortTag::Other).then_some(name);
+    assert_is(tag, kind.as_ref().map(|kind| kind.name()), wanted);
+}
+
 #[test]
 fn kinds_of_tags() {
     for (name, tag) in KINDS {
-        let kind = InfoKind::from_tag(*tag);
-        assert_is(tag, kind.as_ref().map(|kind| kind.name()), Some(*name));
+        is_name_of(*tag, name);
     }
     assert!(InfoKind::from_tag(KindTag::Other).is_none());
     for (name, tag) in PORT_KINDS {
-        let kind = InfoPortKind::from_tag(*tag);
-        let wanted = (*tag != PortTag::Other).then_some(*name);
-        assert_is(tag, kind.as_ref().map(|kind| kind.name()), wanted);
+        is_port_name_of(*tag, name);
     }
+}
+
+/// Asserts that the attribute parses as a value equal to this one.
+fn is_read_as<'a, T: Parseable<NlaBuffer<'a>> + ExactEq>(bytes: &'a [u8], wanted: &T) {
+    let read = T::parse(&attribute(bytes)).expect("an accepted attribute");
+    assert!(is_equal(&read, wanted), "{bytes:?}");
+}
+
+/// Asserts that parsing the attribute as this type fails with the cause.
+fn is_rejected<'a, T: Parseable<NlaBuffer<'a>>>(bytes: &'a [u8], kind: u16, cause: Cause) {
+    let read = T::parse(&attribute(bytes));
+    let rejected = decode_error(Family::LinkInfo, kind, cause);
+    assert_is(bytes, read.err(), Some(rejected));
 }
 
 /// Attributes, and the names of the kinds that they are read as.
@@ -189,13 +217,10 @@ const KINDS_REFUSED: &[(&[u8], u16, Cause)] = &[
 #[test]
 fn kinds_in_attributes() {
     for (bytes, text) in KINDS_READ {
-        let kind = InfoKind::parse(&attribute(bytes)).expect("a kind");
-        assert!(is_equal(&kind, &kind_of(text)), "{text}");
+        is_read_as(bytes, &kind_of(text));
     }
     for (bytes, kind, cause) in KINDS_REFUSED {
-        let read = InfoKind::parse(&attribute(bytes));
-        let rejected = decode_error(Family::LinkInfo, *kind, *cause);
-        assert_is(bytes, read.err(), Some(rejected));
+        is_rejected::<InfoKind>(bytes, *kind, *cause);
     }
 }
 
@@ -214,13 +239,10 @@ const PORT_KINDS_REFUSED: &[(&[u8], u16, Cause)] = &[
 #[test]
 fn port_kinds_in_attributes() {
     for (bytes, kind, cause) in PORT_KINDS_REFUSED {
-        let read = InfoPortKind::parse(&attribute(bytes));
-        let rejected = decode_error(Family::LinkInfo, *kind, *cause);
-        assert_is(bytes, read.err(), Some(rejected));
+        is_rejected::<InfoPortKind>(bytes, *kind, *cause);
     }
     for (bytes, text) in PORT_KINDS_READ {
-        let kind = InfoPortKind::parse(&attribute(bytes)).expect("a port kind");
-        assert!(is_equal(&kind, &port_kind_of(text)), "{text}");
+        is_read_as(bytes, &port_kind_of(text));
     }
 }
 
