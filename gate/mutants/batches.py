@@ -6,10 +6,10 @@ from .full import Full
 from .quick import Quick
 from .rooms import check, room_for
 from .tally import Tally
-from .together import batch_of
+from .together import batch_of, is_unchanged
 
 # Functions of a lane that are proved unchanged, over the same kept work as its mutants.
-SAMPLE = 3
+SAMPLE = 5
 
 
 class Lane:
@@ -34,13 +34,13 @@ class Lane:
 
     def try_together(self, edits, way, sample=()):
         """Tries many edits in one check, and returns those that no check decided. The last check is
-        also of the first functions of the sample that it does not edit, which are to be proved, and
-        leaves the others to another check."""
+        also of the first functions of the sample on which it has no effect, which are to be proved,
+        and leaves the others to another check."""
         left = []
         while edits:
             batch, texts, edits = batch_of(edits, self.folder)
-            edited = {name for it in batch for name in (it.function, it.mutated)}
-            drawn = [it for it in sample if not edits and it.function not in edited][:SAMPLE]
+            drawn = [it for it in sample if not edits and is_unchanged(it, batch, self.folder)]
+            drawn = drawn[:SAMPLE]
             asked, texts = copied(drawn, batch, texts, self.folder, False)
             said = self.check(texts, batch, way, asked)
             if not said.is_judged:
@@ -87,20 +87,19 @@ class Lane:
 
     def try_all(self, edits, draw):
         """Tries all edits: first those whose check is of the whole crate, which keeps what others
-        begin with; then those that name a goal by quick checks, in one check with others; then what
-        is left alone. Proves drawn functions unchanged over the same kept work, those as copies
-        that can have copies: in the last check of many mutants, those that it does not edit, and in
-        a check after all those that it does not show proved."""
+        begin with; then those that name a goal by quick checks, in one check with others, and of
+        these first those that few go together with; then what is left alone. Proves drawn functions
+        unchanged over the same kept work, those as copies that can have copies: in the last check
+        of many mutants, those on which it has no effect, and in a check after all those that it
+        does not show proved."""
         left = self.try_together([it for it in edits if names_impl(it)], Full())
         edits = [it for it in edits if not names_impl(it)]
+        edits.sort(key=lambda it: not it.is_constant and not it.is_outside)
         way = Quick(self, edits)
         by_function = {it.function: it for it in edits}
         sample = draw.sample([*by_function.values()], len(by_function))
         self.unproved = sample[:SAMPLE]
-        kinds = sorted({it.kind() for it in edits})
-        for kind in kinds:
-            own = [it for it in edits if it.kind() == kind]
-            left += self.try_together(own, way, sample if kind == kinds[-1] else [])
+        left += self.try_together(edits, way, sample)
         in_full = [it for it in left if way.can_try(it)]
         alone = [it for it in left if not way.can_try(it)]
         for edit in alone + self.try_together(in_full, Full()):

@@ -10,7 +10,7 @@ import re
 from . import sources, steps
 from .crates import BadEdit
 
-# What stands between the name of a function and the number of its copy.
+# A copy has the name of its function, this, and a number.
 COPY = "_copy_"
 
 
@@ -30,8 +30,12 @@ class Copy:
         text = read(self.source)
         end = sources.body_of(self.crate, self.source, text, self.origin.function)[1]
         after = text.index("\n", end) + 1
-        copied = f"{text[:after]}\n{self.item}{text[after:]}"
-        return {self.source: copied, **self.proofs}
+        return {self.source: f"{text[:after]}\n{self.item}{text[after:]}", **self.proofs}
+
+
+def paths_of(edit):
+    """The paths of the files that an edit changes."""
+    return {path for path, _, _ in edit.pairs}
 
 
 def origin_of(tried):
@@ -59,13 +63,15 @@ def copied(edits, others, texts, folder, is_changed=True):
 def copy_of(edit, others, folder, is_changed=True):
     """The mutant, or its correct body, as a copy of its function, where a check has these others
     too, or None where the function cannot have a copy."""
-    paths = {path for path, _, _ in edit.pairs}
+    paths = paths_of(edit)
     if len(paths) != 1 or edit.is_constant or edit.is_outside or edit.is_recursive:
         return None
     source = paths.pop()
     text = edit.applied(folder.read)[source] if is_changed else folder.read(source)
     found = sources.found(edit.crate, source, text, edit.function)
     if edit.mutated != edit.function or not found or not can_be_copied(text, *found):
+        return None
+    if is_named_by_others(edit.function, folder):
         return None
     number = 1 + sum(origin_of(it).function == edit.function for it in others)
     name = f"{edit.function}{COPY}{number}"
@@ -85,9 +91,20 @@ def can_be_copied(text, name, start, end, is_const, head):
     return head is not None and not is_const and not is_linked and not calls_itself
 
 
+def own_path(function):
+    """The path that the names of the function's own modules of proofs begin with."""
+    crate, *inside = function.split("::")
+    return ".".join(["Rattle", crate, "proofs", *inside, ""])
+
+
+def is_named_by_others(function, folder):
+    """Whether a proof that is not the function's own names a module of it: it would not say the
+    same of a copy."""
+    own, name = f"{steps.place_of(function)}/", own_path(function)
+    return any(name in folder.read(it) for it in folder.files("proofs") if not it.startswith(own))
+
+
 def copied_proofs(function, name, folder):
     """The texts of the explicit proofs of the function, by their paths, as those of its copy."""
-    crate, tops = function.split("::")[0], [steps.place_of(it) for it in (function, name)]
-    own, new = [f"Rattle.{crate}.{it.replace('/', '.')}." for it in tops]
-    return {f"{tops[1]}/{it}": text.replace(own, new)
-            for it, text in steps.proofs_in(tops[0], folder).items()}
+    return {f"{steps.place_of(name)}/{it}": text.replace(own_path(function), own_path(name))
+            for it, text in steps.proofs_in(steps.place_of(function), folder).items()}

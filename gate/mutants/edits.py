@@ -123,7 +123,3 @@ class Edit:
                 return at, at + len(old)
         raise BadEdit(f"its old text is {times} times in the body of {self.mutated} in {path}, "
                       f"and is not once in the file, in a constant or outside all bodies: {old}")
-
-    def kind(self):
-        """Edits of one kind can be tried together."""
-        return (self.is_outside, self.is_constant)

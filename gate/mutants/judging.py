@@ -10,6 +10,8 @@ does not wrap (`overflow_`), a divisor that is not 0 (`nonzero_`).
 import itertools
 import re
 
+from .steps import answers_path
+
 PROMISED = re.compile(r"returns(-|$)|loop-([\w-]+-)?(init|preserved|smaller)(-|$)")
 # Errors of a proof file that names a step or a field which the edit took away, or of what rests on
 # such an error. They say nothing of the contract.
@@ -67,7 +69,7 @@ class Report:
 
     def has_stub_error(self, function):
         """Whether the check has read the stub of the function."""
-        own = "/".join(["proofs", *function.split("::")[1:], "Answers.antt"])
+        own = answers_path(function)
         return any(f"{own}:" in it and goal_of_error(it) == UNASKED for it in self.lines)
 
     def rejects(self, edit):

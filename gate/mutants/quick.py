@@ -15,8 +15,9 @@ import re
 from .copies import origin_of
 from .full import Full
 from .judging import AFTER_LOST, LOST, goal_of_error, is_promised
-from .rooms import STUB, answers_path, begun_answers
+from .rooms import STUB, begun_answers
 from .sources import place_of
+from .steps import answers_path
 
 TACTIC = re.compile(r"#\[tactic\(([^\]]*)\)\]\s*")
 ANSWERED = re.compile(r"^pub ([\w+-]+) : goal\.", re.M)
@@ -42,7 +43,7 @@ class Search:
         self.goals, self.proved, self.promised = {}, set(), set()
 
     def of(self, function):
-        """The same of a copy of the function."""
+        """This search, of a copy of its function."""
         made = copy.copy(self)
         made.function = function
         return made

@@ -10,6 +10,7 @@ import sys
 
 from .crates import PARTS, ROOT, below, folder_of, write
 from .judging import UNASKED, Report
+from .steps import answers_path
 
 
 # A stub: the answer to a goal that no function has, in the proof file of a function. A check
@@ -46,19 +47,16 @@ def check(folder, texts, only=(), stubbed=()):
                     os.removedirs(os.path.dirname(f"{folder.top}/{path}"))
 
 
-def answers_path(function):
-    """The path of the proof file of a function."""
-    return "/".join(["proofs", *function.split("::")[1:], "Answers.antt"])
-
-
 def begun_answers(folder, function, texts=()):
     """The proof file of the function, among these texts or in the folder, or the beginning of
     one."""
-    crate, *inside = function.split("::")
-    path, begin = answers_path(function), f"use Rattle.{'.'.join([crate, 'proofs', *inside])}"
+    path = answers_path(function)
     if path in texts:
         return texts[path]
-    return folder.read(path) if folder.has(path) else f"{begin}.Goals as goal\n"
+    if folder.has(path):
+        return folder.read(path)
+    crate, *inside = function.split("::")
+    return f"use Rattle.{'.'.join([crate, 'proofs', *inside])}.Goals as goal\n"
 
 
 def run(folder, words, stubbed=()):

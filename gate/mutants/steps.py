@@ -24,6 +24,11 @@ def place_of(function):
     return "/".join(["proofs", *function.split("::")[1:]])
 
 
+def answers_path(function):
+    """The path of the proof file of a function."""
+    return f"{place_of(function)}/Answers.antt"
+
+
 def proofs_in(path, folder):
     """The texts of the explicit proof in a folder of the crate, by their names."""
     return {it: folder.read(f"{path}/{it}") for it in PROOFS if folder.has(f"{path}/{it}")}

@@ -1,44 +1,33 @@
 """Which mutants one check can try together."""
-import os
-import re
-
-from .copies import copy_of
+from .copies import copy_of, paths_of
 from .crates import BadEdit
+from .reach import reach_of
 
 # The most mutants that are tried as copies beside others, and not in a check after it. A copy has a
 # contract to check too, so that ten or so cost what one check costs before its first goal.
 MOST_COPIES = 12
 
 
-def reached(path, folder):
-    """A file of a crate and the files that it reaches by the modules it names."""
-    reached_files, left = set(), [path]
-    while left:
-        it = left.pop()
-        if it not in reached_files:
-            reached_files.add(it)
-            text = folder.read(it) if folder.has(it) else ""
-            left += [f"src/{name}.rt" for name in re.findall(r"\bcrate::(\w+)", text)]
-    return reached_files
-
-
 def are_apart(a, b, folder):
-    """Whether two edits have no effect on one another's function. A contract hides a body from
-    other functions, and hides no constant. So two edits of constants go together only where each is
-    in the file of the function that must reject it, and neither file reaches the other. An edit
-    outside all bodies is tried alone."""
-    if {a.function, a.mutated} & {b.function, b.mutated}:
+    """Whether two edits have no effect on the verdict of one another. A contract hides the body of
+    its function from all others. No contract hides a constant, or what is outside of bodies: such a
+    change has an effect on those functions alone that reach its file."""
+    return not ({a.function, a.mutated} & {b.function, b.mutated}
+                or concerns(a, b, folder) or concerns(b, a, folder))
+
+
+def concerns(edit, other, folder):
+    """Whether the verdict of the other edit may rest on what this one changes, its body aside."""
+    if not edit.is_constant and not edit.is_outside:
         return False
-    if a.is_outside or b.is_outside:
-        return False
-    if not a.is_constant and not b.is_constant:
-        return True
-    homes = [it.pairs[0][0] for it in (a, b)]
-    names = [os.path.basename(it)[: -len(".rt")] for it in homes]
-    at_home = all(it.is_constant and it.function.split("::")[1] == name
-                  for it, name in zip((a, b), names))
-    return (at_home and homes[0] not in reached(homes[1], folder)
-            and homes[1] not in reached(homes[0], folder))
+    reach = reach_of(edit.crate, folder)
+    return bool(paths_of(edit) & reach.rests_on(other.function, paths_of(other)))
+
+
+def is_unchanged(drawn, edits, folder):
+    """Whether none of these edits has an effect on the function of one that is not applied."""
+    return not any(drawn.function in (it.function, it.mutated) or concerns(it, drawn, folder)
+                   for it in edits)
 
 
 class Batch:
@@ -55,8 +44,8 @@ class Batch:
         return all(are_apart(it, edit, self.folder) for it in self.edits) and self.adds(edit)
 
     def takes_copy(self, edit):
-        """Takes the edit as a copy of a function that one of those edits which are there changes,
-        where that can have a copy."""
+        """Takes the edit as a copy of its function, where that can have a copy, and where of those
+        edits that are there the others of this function alone keep the edit from being taken."""
         near = [it for it in self.edits if not are_apart(it, edit, self.folder)]
         is_alike = all(it.function == it.mutated == edit.function for it in near)
         copy = copy_of(edit, self.edits, self.folder) if is_alike else None

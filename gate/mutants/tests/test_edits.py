@@ -120,7 +120,7 @@ class Edits(unittest.TestCase):
         text, edit = self.applied(f"fn: {NEXT}\nfile: src/count.rt\nold: n + 1\nnew: n\n")
         self.assertIn("{\n        self.n\n", text)
         self.assertIn("result ≡ self.n + 1", text)
-        self.assertEqual(edit.kind(), (False, False))
+        self.assertEqual((edit.is_outside, edit.is_constant), (False, False))
 
     def test_constant(self):
         text, edit = self.applied(f"fn: {FROM}\nfile: src/count.rt\nold: u8 = 4\nnew: u8 = 3\n")

@@ -40,8 +40,7 @@ class Planted(Lane):
 def edits(number):
     """So many mutants, each of another function."""
     return [types.SimpleNamespace(function=f"a_crate::f{it}", label=f"f{it}", is_control=False,
-                                  goal="", is_outside=False, pairs=[],
-                                  kind=lambda: (False, False))
+                                  goal="", is_outside=False, is_constant=False, pairs=[])
             for it in range(number)]
 
 
@@ -84,8 +83,7 @@ class Beside(unittest.TestCase):
         lane.try_together = lambda *words: Lane.try_together(lane, *words)
         mutants = [types.SimpleNamespace(function=it, mutated=it, label=f"{it}{at}", goal="",
                                          is_control=False, is_outside="::" in it,
-                                         is_constant=False, pairs=[], applied=lambda read: {},
-                                         kind=lambda: (False, False))
+                                         is_constant=False, pairs=[], applied=lambda read: {})
                    for at, it in enumerate(functions)]
         lane.try_all(mutants, random.Random(1))
         return [sorted(it) for it in checks]
@@ -219,13 +217,6 @@ class Together(unittest.TestCase):
                                 for it in ("a_crate::f", "a_crate::g", "a_crate::f")]
         batch, _, left = batch_of([first, second, third], types.SimpleNamespace(read=None))
         self.assertEqual((batch, left), ([first, second], [third]))
-
-    def test_an_edit_outside_all_bodies_alone(self):
-        given = {"is_constant": False, "applied": lambda read: {}}
-        first = types.SimpleNamespace(function="f", mutated="f", is_outside=True, **given)
-        second = types.SimpleNamespace(function="g", mutated="g", is_outside=False, **given)
-        batch, _, left = batch_of([first, second], types.SimpleNamespace(read=None))
-        self.assertEqual((batch, left), ([first], [second]))
 
 
 class Conclusion(unittest.TestCase):
