@@ -26,7 +26,7 @@ class Reach:
         self.crate = crate
         files = [it for name in ("src", "specs", "proofs") for it in folder.files(name)]
         self.texts = {it: folder.read(it) for it in files if not it.startswith("src/tests")}
-        self.macros = [(name, it) for it, text in self.texts.items() for name in MACRO.findall(text)]
+        self.macros = [(name, it) for it in self.texts for name in MACRO.findall(self.texts[it])]
         self.impls = [(named, it) for it in self.texts for named in self.has_impls_of(it)]
         # (a path does not say by itself which file of a folder of sources it names)
         self.is_flat = not any(it.startswith("src/") and it.count("/") > 1 for it in self.texts)

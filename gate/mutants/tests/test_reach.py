@@ -11,7 +11,8 @@ from mutants.together import are_apart, is_unchanged
 FILES = {
     "src/lib.rt": "mod a;\nmod b;\npub(crate) mod c;\n\npub use a::A;\n",
     "src/a.rt": "use crate::b::B;\nuse std::fmt;\n\npub struct A;\n\npub const MOST: u8 = 4;\n",
-    "src/b.rt": "ghost use Rattle.it.specs.Both.{both};\n\npub struct B;\n\nmacro_rules! rows {\n}\n",
+    "src/b.rt": "ghost use Rattle.it.specs.Both.{both};\n\npub struct B;\n\n"
+                "macro_rules! rows {\n}\n",
     "src/c.rt": "pub struct C;\n\nmacro_rules! of_c {\n}\n",
     "src/impls.rt": "use crate::c::C;\n\nimpl Clone for C {\n}\n",
     "src/mac.rt": "fn f() {\n    of_c!(1)\n}\n",
