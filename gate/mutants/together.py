@@ -10,8 +10,9 @@ MOST_COPIES = 12
 
 def are_apart(a, b, folder):
     """Whether two edits have no effect on the verdict of one another. A contract hides the body of
-    its function from all others. No contract hides a constant, or what is outside of bodies: such a
-    change has an effect on those functions alone that reach its file."""
+    its function from all others, also that of a const function: a clause reads the constant that
+    calls it by what is stated of it. No contract hides a constant, or what is outside of bodies:
+    such a change has an effect on those functions alone that reach its file."""
     return not ({a.function, a.mutated} & {b.function, b.mutated}
                 or concerns(a, b, folder) or concerns(b, a, folder))
 
@@ -20,8 +21,8 @@ def concerns(edit, other, folder):
     """Whether the verdict of the other edit may rest on what this one changes, its body aside."""
     if not edit.is_constant and not edit.is_outside:
         return False
-    reach = reach_of(edit.crate, folder)
-    return bool(paths_of(edit) & reach.rests_on(other.function, paths_of(other)))
+    reach, added = reach_of(edit.crate, folder), " ".join(new for _, _, new in other.pairs)
+    return bool(paths_of(edit) & reach.rests_on(other.function, paths_of(other), added))
 
 
 def is_unchanged(drawn, edits, folder):
@@ -47,7 +48,8 @@ class Batch:
         """Takes the edit as a copy of its function, where that can have a copy, and where of those
         edits that are there the others of this function alone keep the edit from being taken."""
         near = [it for it in self.edits if not are_apart(it, edit, self.folder)]
-        is_alike = all(it.function == it.mutated == edit.function for it in near)
+        is_alike = all(it.function == it.mutated == edit.function
+                       and not concerns(it, edit, self.folder) for it in near)
         copy = copy_of(edit, self.edits, self.folder) if is_alike else None
         return copy is not None and self.adds(copy)
 
