@@ -279,8 +279,8 @@ const DUMPS: &[(&str, &[u8])] = &[
 
 /// The names of the links, and the contents of `IFLA_LINKINFO`.
 ///
-/// A function that names a long constant takes time to check, for each byte. So this one alone names
-/// it.
+/// A function that names a long constant takes time to check, for each byte. So this one alone
+/// names it.
 pub fn dumps() -> &'static [(&'static str, &'static [u8])] {
     DUMPS
 }
