@@ -77,17 +77,19 @@ fn builds_flags_of_tunnels_by_kind(rt: HostRuntime) {
     assert_flags(&rt, alloc, InfoKind::Ip6Tnl, flags, IP6TNL_FLAGS);
 }
 
+/// Asserts that an ipvlan link with its mode and these flags is written as the bytes of the text,
+/// and that these parse as it.
+fn assert_ipvlan(rt: &impl Abort, alloc: Global, flags: IpVlanFlags, string: &str) {
+    let items = [InfoIpVlan::Mode(IpVlanMode::L2), InfoIpVlan::Flags(flags)];
+    let data = InfoData::IpVlan(nlas(rt, alloc, items));
+    assert_link(rt, alloc, string, InfoKind::IpVlan, data, string);
+}
+
 #[test]
 fn builds_devices(rt: HostRuntime) {
     let alloc = rt.alloc();
-    for (flags, string) in [
-        (IpVlanFlags::Vepa, IPVLAN),
-        (IpVlanFlags::default(), IPVLAN_NO_FLAGS),
-    ] {
-        let items = [InfoIpVlan::Mode(IpVlanMode::L2), InfoIpVlan::Flags(flags)];
-        let data = InfoData::IpVlan(nlas(&rt, alloc, items));
-        assert_link(&rt, alloc, string, InfoKind::IpVlan, data, string);
-    }
+    assert_ipvlan(&rt, alloc, IpVlanFlags::Vepa, IPVLAN);
+    assert_ipvlan(&rt, alloc, IpVlanFlags::default(), IPVLAN_NO_FLAGS);
     let items = [
         InfoIpVtap::Mode(IpVlanMode::L2),
         InfoIpVtap::Flags(IpVlanFlags::Vepa),
@@ -226,6 +228,13 @@ fn builds_data(rt: HostRuntime) {
     assert_reads(&rt, alloc, LATER_KIND, later, LATER_KIND);
 }
 
+/// Asserts that an attribute of an unknown type, without a payload, is written as the bytes of the
+/// text, and that these parse as it.
+fn assert_unknown(rt: &impl Abort, alloc: Global, kind: u16, string: &str) {
+    let unknown = [LinkInfo::Other(default_nla(rt, alloc, kind, &[]))];
+    assert_reads(rt, alloc, string, unknown, string);
+}
+
 #[test]
 fn builds_statistics_and_unknown_attributes(rt: HostRuntime) {
     let alloc = rt.alloc();
@@ -233,8 +242,6 @@ fn builds_statistics_and_unknown_attributes(rt: HostRuntime) {
     let xstats = LinkXstats::Other(copied(&rt, alloc, &[1, 2]));
     let can = [LinkInfo::Kind(InfoKind::Can), LinkInfo::Xstats(xstats)];
     assert_reads(&rt, alloc, XSTATS, can, XSTATS);
-    for (kind, string) in [(0x8009, "04000980"), (9, "04000900")] {
-        let unknown = [LinkInfo::Other(default_nla(&rt, alloc, kind, &[]))];
-        assert_reads(&rt, alloc, string, unknown, string);
-    }
+    assert_unknown(&rt, alloc, 0x8009, "04000980");
+    assert_unknown(&rt, alloc, 9, "04000900");
 }

@@ -8,6 +8,8 @@ use super::worked::{
     VETH, VETH_TAIL, XFRM, XSTATS,
 };
 use linkinfo::{HeaderCount, same, same_counted};
+use std::alloc::Global;
+use std::process::Abort;
 
 /// Accepted byte strings, and whether they are equivalent.
 const PAIRS: &[(&str, &str, bool)] = &[
@@ -45,19 +47,24 @@ const PAIRS: &[(&str, &str, bool)] = &[
     (IPVLAN, IPVLAN_NO_FLAGS, false),
 ];
 
+/// Asserts that two byte strings are compared, in either order and with headers counted, and parse
+/// as equal lists if they are equivalent.
+fn assert_compared(rt: &impl Abort, alloc: Global, (a, b, wanted): (&str, &str, bool)) {
+    let first = bytes_of(rt, alloc, a);
+    let second = bytes_of(rt, alloc, b);
+    let equal = reads_equal(rt, alloc, &first, &second);
+    let mut count = HeaderCount::new();
+    let counted = same_counted(&first, &second, &mut count);
+    let case = (a, b);
+    assert_equal(rt, &case, &same(&first, &second), &Ok(wanted));
+    assert_equal(rt, &case, &same(&second, &first), &Ok(wanted));
+    assert_equal(rt, &case, &counted, &Ok(wanted));
+    assert_equal(rt, &case, &equal, &wanted);
+}
+
 #[test]
 fn compares_strings(rt: HostRuntime) {
-    let alloc = rt.alloc();
-    for (a, b, wanted) in PAIRS {
-        let first = bytes_of(&rt, alloc, a);
-        let second = bytes_of(&rt, alloc, b);
-        let equal = reads_equal(&rt, alloc, &first, &second);
-        let mut count = HeaderCount::new();
-        let counted = same_counted(&first, &second, &mut count);
-        let case = (a, b);
-        assert_equal(&rt, &case, &same(&first, &second), &Ok(*wanted));
-        assert_equal(&rt, &case, &same(&second, &first), &Ok(*wanted));
-        assert_equal(&rt, &case, &counted, &Ok(*wanted));
-        assert_equal(&rt, &case, &equal, wanted);
+    for pair in PAIRS {
+        assert_compared(&rt, rt.alloc(), *pair);
     }
 }

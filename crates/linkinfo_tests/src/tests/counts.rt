@@ -5,6 +5,8 @@ use super::worked::{
     DATA_TWICE, FIRST_ERROR, PFCP, PFCP_NO_NUL, SECOND_PORT_DATA, VETH_TAIL, XFRM,
 };
 use linkinfo::{Cause, DecodeError, Family, HeaderCount, same_counted};
+use std::alloc::Global;
+use std::process::Abort;
 
 /// The error of port data without a port kind before it.
 const ORDER: DecodeError = DecodeError {
@@ -30,13 +32,24 @@ const ONE: &[(&str, Option<DecodeError>, usize, usize)] = &[
     (FIRST_ERROR, Some(LENGTH), 3, 5),
 ];
 
+/// Asserts that validating and parsing the bytes of the text each have this error or none, and
+/// examine this many headers, and that the bytes are four times this many, rounded down.
+fn assert_counted(
+    rt: &impl Abort,
+    alloc: Global,
+    text: &str,
+    error: Option<DecodeError>,
+    (headers, quarter): (usize, usize),
+) {
+    let bytes = bytes_of(rt, alloc, text);
+    assert_equal(rt, &text, &(bytes.len() / 4), &quarter);
+    assert_headers(rt, alloc, &bytes, error, headers);
+}
+
 #[test]
 fn counts_of_one_string(rt: HostRuntime) {
-    let alloc = rt.alloc();
     for (text, error, headers, quarter) in ONE {
-        let bytes = bytes_of(&rt, alloc, text);
-        assert_equal(&rt, text, &(bytes.len() / 4), quarter);
-        assert_headers(&rt, alloc, &bytes, *error, *headers);
+        assert_counted(&rt, rt.alloc(), text, *error, (*headers, *quarter));
     }
 }
 
@@ -47,15 +60,25 @@ const TWO: &[(&str, &str, Result<bool, DecodeError>, usize)] = &[
     (SECOND_PORT_DATA, XFRM, Err(ORDER), 3),
 ];
 
+/// Asserts that the comparison of two byte strings has this result, and examines this many headers.
+fn assert_compared(
+    rt: &impl Abort,
+    alloc: Global,
+    (a, b): (&str, &str),
+    wanted: &Result<bool, DecodeError>,
+    headers: usize,
+) {
+    let first = bytes_of(rt, alloc, a);
+    let second = bytes_of(rt, alloc, b);
+    let mut count = HeaderCount::new();
+    let answer = same_counted(&first, &second, &mut count);
+    assert_equal(rt, &(a, b), &answer, wanted);
+    assert_equal(rt, &(a, b), &count.get(), &headers);
+}
+
 #[test]
 fn counts_of_two_strings(rt: HostRuntime) {
-    let alloc = rt.alloc();
     for (a, b, wanted, headers) in TWO {
-        let first = bytes_of(&rt, alloc, a);
-        let second = bytes_of(&rt, alloc, b);
-        let mut count = HeaderCount::new();
-        let answer = same_counted(&first, &second, &mut count);
-        assert_equal(&rt, &(a, b), &answer, wanted);
-        assert_equal(&rt, &(a, b), &count.get(), headers);
+        assert_compared(&rt, rt.alloc(), (a, b), wanted, *headers);
     }
 }

@@ -37,29 +37,43 @@ const OF_TWO: &[(&str, &str, DecodeError)] = &[
     (XFRM, NO_KIND, DATA_ORDER),
 ];
 
+/// Asserts the error of the comparison of two lists.
+fn assert_error(rt: &impl Abort, alloc: Global, a: &str, b: &str, error: DecodeError) {
+    let (first, second) = (bytes_of(rt, alloc, a), bytes_of(rt, alloc, b));
+    assert_equal(rt, &(a, b), &same(&first, &second), &Err(error));
+}
+
 #[test]
 fn returns_the_first_error(rt: HostRuntime) {
-    let alloc = rt.alloc();
     for (a, b, error) in OF_TWO {
-        let (first, second) = (bytes_of(&rt, alloc, a), bytes_of(&rt, alloc, b));
-        assert_equal(&rt, &(a, b), &same(&first, &second), &Err(*error));
+        assert_error(&rt, rt.alloc(), a, b, *error);
+    }
+}
+
+/// Asserts that each call accepts a prefix of `XFRM`.
+fn assert_accepted(rt: &impl Abort, alloc: Global, front: &[u8]) {
+    let end = front.len();
+    assert_equal(rt, &end, &check(front), &Ok(()));
+    assert_equal(rt, &end, &VecLinkInfo::parse(alloc, front).err(), &None);
+    assert_equal(rt, &end, &same(front, front), &Ok(true));
+}
+
+/// Asserts that each call accepts the prefixes of `XFRM` that end after an attribute, or in its
+/// padding, and rejects the others.
+fn assert_front(rt: &impl Abort, alloc: Global, front: &[u8]) {
+    if matches!(front.len(), 0 | 9..=12 | 32) {
+        assert_accepted(rt, alloc, front);
+    } else {
+        assert_refused(rt, alloc, front, HEADER_ERROR);
     }
 }
 
 #[test]
 fn accepted_prefixes_of_one_string(rt: HostRuntime) {
-    let alloc = rt.alloc();
-    let bytes = bytes_of(&rt, alloc, XFRM);
+    let bytes = bytes_of(&rt, rt.alloc(), XFRM);
     assert_equal(&rt, &XFRM, &bytes.len(), &32);
     for end in 0..=bytes.len() {
-        let front = &bytes[..end];
-        if matches!(end, 0 | 9..=12 | 32) {
-            assert_equal(&rt, &end, &check(front), &Ok(()));
-            assert_equal(&rt, &end, &VecLinkInfo::parse(alloc, front).err(), &None);
-            assert_equal(&rt, &end, &same(front, front), &Ok(true));
-        } else {
-            assert_refused(&rt, alloc, front, HEADER_ERROR);
-        }
+        assert_front(&rt, rt.alloc(), &bytes[..end]);
     }
 }
 

@@ -434,9 +434,14 @@ fn assert_rewritten(rt: &impl Abort, alloc: Global, rows: &[Rewritten]) {
 
 #[test]
 fn canonical_lists(rt: HostRuntime) {
-    for rows in [TUNNELS, DEVICES, PEERS, LOWER, BYTES, PORTS, ATTRIBUTES] {
-        assert_canonical(&rt, rt.alloc(), rows);
-    }
+    let alloc = rt.alloc();
+    assert_canonical(&rt, alloc, TUNNELS);
+    assert_canonical(&rt, alloc, DEVICES);
+    assert_canonical(&rt, alloc, PEERS);
+    assert_canonical(&rt, alloc, LOWER);
+    assert_canonical(&rt, alloc, BYTES);
+    assert_canonical(&rt, alloc, PORTS);
+    assert_canonical(&rt, alloc, ATTRIBUTES);
 }
 
 #[test]

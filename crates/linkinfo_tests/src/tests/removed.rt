@@ -977,22 +977,21 @@ fn without(rt: &impl Abort, alloc: Global, list: &[u8], data: &Data, place: usiz
 
 /// Asserts that a list is met by itself, and that without its last attribute, or without the last
 /// one of its data, it lacks that attribute.
-fn assert_removed(
-    rt: &impl Abort,
-    alloc: Global,
-    text: &str,
-    kind: u16,
-    place: usize,
-    inner: &[Inner],
-) {
-    let list = bytes_of(rt, alloc, text);
-    assert_met_by_itself(rt, &list);
-    let rest = list.get(..place).unwrap_or_default();
-    assert_lacks(rt, &list, rest, Family::LinkInfo, kind, place);
-    for (data, family, kind, place) in inner {
-        let rest = without(rt, alloc, &list, data, *place);
-        assert_lacks(rt, &list, &rest, *family, *kind, *place);
+fn assert_removed(rt: &impl Abort, alloc: Global, list: &[u8], case: &Case) {
+    let (_, kind, place, inner) = case;
+    assert_met_by_itself(rt, list);
+    let rest = list.get(..*place).unwrap_or_default();
+    assert_lacks(rt, list, rest, Family::LinkInfo, *kind, *place);
+    for (data, family, kind, place) in *inner {
+        let rest = without(rt, alloc, list, data, *place);
+        assert_lacks(rt, list, &rest, *family, *kind, *place);
     }
+}
+
+/// Asserts of the list of a case, in hex digits, what `assert_removed` says.
+fn assert_text_removed(rt: &impl Abort, alloc: Global, case: &Case) {
+    let (text, ..) = case;
+    assert_removed(rt, alloc, &bytes_of(rt, alloc, text), case);
 }
 
 #[test]
@@ -1000,28 +999,30 @@ fn worked_lists_lack_what_is_removed(rt: HostRuntime) {
     let alloc = rt.alloc();
     assert_met_by_itself(&rt, &[]);
     assert_met_by_itself(&rt, &bytes_of(&rt, alloc, DATA_TWICE));
-    for (text, kind, place, inner) in WORKED {
-        assert_removed(&rt, alloc, text, *kind, *place, inner);
+    for case in WORKED {
+        assert_text_removed(&rt, alloc, case);
     }
 }
 
 #[test]
 fn lists_of_kinds_lack_what_is_removed(rt: HostRuntime) {
-    let alloc = rt.alloc();
-    for (text, kind, place, inner) in KINDS {
-        assert_removed(&rt, alloc, text, *kind, *place, inner);
+    for case in KINDS {
+        assert_text_removed(&rt, rt.alloc(), case);
     }
+}
+
+/// Asserts of a reply, whose case has its name, what `assert_removed` says.
+fn assert_reply_removed(rt: &impl Abort, alloc: Global, (name, list): &(&str, &[u8]), case: &Case) {
+    let (wanted, ..) = case;
+    assert_equal(rt, &list, name, wanted);
+    assert_removed(rt, alloc, list, case);
 }
 
 #[test]
 fn replies_lack_what_is_removed(rt: HostRuntime) {
-    let alloc = rt.alloc();
     let replies = dumps();
     assert!(rt; replies.len() == REPLIES.len());
     for (reply, case) in replies.iter().zip(REPLIES) {
-        let (name, text) = reply;
-        let (of, kind, place, inner) = case;
-        assert_equal(&rt, text, of, name);
-        assert_removed(&rt, alloc, text, *kind, *place, inner);
+        assert_reply_removed(&rt, rt.alloc(), reply, case);
     }
 }

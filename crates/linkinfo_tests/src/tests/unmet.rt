@@ -159,6 +159,23 @@ fn unmet_of<D: Drop, F: PayloadFamily<D>>(
     list_unmet::<D, F>(family, name, have, want)
 }
 
+/// Asserts what is not met in a case, of a family.
+fn assert_case<D: Drop, F: PayloadFamily<D>>(
+    rt: &impl Abort,
+    alloc: Global,
+    (have, want, at): &Case,
+    family: F,
+    name: Family,
+) {
+    let (had, wanted) = (bytes_of(rt, alloc, have), bytes_of(rt, alloc, want));
+    let found = unmet_of::<D, F>(rt, family, &had, &wanted);
+    let expected = unmet(name, at);
+    assert_equal(rt, &(name, want), &found, &expected);
+    if let (Some(found), Some(expected)) = (found, expected) {
+        assert_holds(rt, &(name, want), is_equal(&found, &expected));
+    }
+}
+
 /// Asserts what is not met in each case, of a family.
 fn assert_cases<D: Drop, F: PayloadFamily<D>>(
     rt: &impl Abort,
@@ -167,14 +184,8 @@ fn assert_cases<D: Drop, F: PayloadFamily<D>>(
     family: F,
     name: Family,
 ) {
-    for (have, want, at) in cases {
-        let (had, wanted) = (bytes_of(rt, alloc, have), bytes_of(rt, alloc, want));
-        let found = unmet_of::<D, F>(rt, family, &had, &wanted);
-        let expected = unmet(name, at);
-        assert_equal(rt, &(name, want), &found, &expected);
-        if let (Some(found), Some(expected)) = (found, expected) {
-            assert_holds(rt, &(name, want), is_equal(&found, &expected));
-        }
+    for case in cases {
+        assert_case::<D, F>(rt, alloc, case, family, name);
     }
 }
 

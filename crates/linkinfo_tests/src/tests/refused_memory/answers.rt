@@ -1,7 +1,10 @@
 //! The results that a call may return if an allocation may fail.
 
-use linkinfo::{Cause, DecodeError, Family, Nla, VecLinkInfo, emit_nlas, nlas_fit_len};
-use std::alloc::Global;
+use linkinfo::{
+    Bytes, Cause, DecodeError, Family, Nla, Text, VecLinkInfo, emit_nlas, nlas_fit_len,
+};
+use std::alloc::{AllocError, Global};
+use std::process::Abort;
 
 /// The error of a failed allocation.
 pub const MEMORY: DecodeError = DecodeError {
@@ -13,12 +16,37 @@ pub const MEMORY: DecodeError = DecodeError {
 /// The length of the buffer that a list is written into.
 const ROOM: usize = 1024;
 
-/// Parses the bytes, and once more if an allocation failed.
-pub fn read_at_last(alloc: Global, bytes: &[u8]) -> Result<VecLinkInfo, DecodeError> {
-    match VecLinkInfo::parse(alloc, bytes) {
-        Err(MEMORY) => VecLinkInfo::parse(alloc, bytes),
-        answer => answer,
+/// The first of two results of the same call, or the second one if the first is this error, that of
+/// a failed allocation.
+pub fn at_last<T: Drop, E: PartialEq + Drop>(
+    memory: &E,
+    first: Result<T, E>,
+    second: Result<T, E>,
+) -> Result<T, E> {
+    if first.as_ref().err() == Some(memory) {
+        second
+    } else {
+        first
     }
+}
+
+/// A copy of the bytes, at the second try if an allocation failed.
+pub fn copied_at_last(rt: &impl Abort, alloc: Global, bytes: &[u8]) -> Bytes {
+    let (first, second) = (Bytes::copy_of(alloc, bytes), Bytes::copy_of(alloc, bytes));
+    at_last(&AllocError, first, second).expect(rt, "memory")
+}
+
+/// A copy of the text, at the second try if an allocation failed.
+pub fn text_at_last(rt: &impl Abort, alloc: Global, text: &str) -> Text {
+    let (first, second) = (Text::copy_of(alloc, text), Text::copy_of(alloc, text));
+    at_last(&AllocError, first, second).expect(rt, "memory")
+}
+
+/// Parses the bytes, at the second try if an allocation failed.
+pub fn read_at_last(alloc: Global, bytes: &[u8]) -> Result<VecLinkInfo, DecodeError> {
+    let first = VecLinkInfo::parse(alloc, bytes);
+    let second = VecLinkInfo::parse(alloc, bytes);
+    at_last(&MEMORY, first, second)
 }
 
 /// Returns whether the list is written as the encoding, without allocating and without changing the

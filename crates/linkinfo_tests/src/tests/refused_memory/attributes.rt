@@ -1,6 +1,6 @@
 //! Single attributes that are parsed.
 
-use super::answers::MEMORY;
+use super::answers::{MEMORY, at_last};
 use crate::tests::assertions::assert_holds;
 use linkinfo::families::{BitPeer, LinkFamily, Opaque};
 use linkinfo::{
@@ -21,15 +21,12 @@ const UNKNOWN: [u8; 5] = [5, 0, 255, 0, 1];
 /// The encoding of `UNKNOWN`, with its padding.
 const KEPT: [u8; 8] = [5, 0, 255, 0, 1, 0, 0, 0];
 
-/// The result of `parse`, called once more if an allocation failed.
-fn parse_at_last<'a, T: Parseable<NlaBuffer<'a>>>(
+/// The result of `parse`, at the second try if an allocation failed.
+fn parse_at_last<'a, T: Parseable<NlaBuffer<'a>> + Drop>(
     alloc: Global,
     nla: &NlaBuffer<'a>,
 ) -> Result<T, DecodeError> {
-    match T::parse(alloc, nla) {
-        Err(MEMORY) => T::parse(alloc, nla),
-        answer => answer,
-    }
+    at_last(&MEMORY, T::parse(alloc, nla), T::parse(alloc, nla))
 }
 
 /// Returns whether the result is a value that is written as this encoding.
@@ -50,15 +47,9 @@ fn reads_unknown<F: LinkFamily>(alloc: Global, nla: &NlaBuffer<'_>, ctx: F::Cont
     if nla.value().len() > 1 {
         return false;
     }
-    let mut count = HeaderCount::new();
-    let answer = match F::read(alloc, nla, ctx, &mut count) {
-        Err(MEMORY) => {
-            let mut count = HeaderCount::new();
-            F::read(alloc, nla, ctx, &mut count)
-        }
-        answer => answer,
-    };
-    is_written(answer, &KEPT)
+    let first = F::read(alloc, nla, ctx, &mut HeaderCount::new());
+    let second = F::read(alloc, nla, ctx, &mut HeaderCount::new());
+    is_written(at_last(&MEMORY, first, second), &KEPT)
 }
 
 /// Returns whether `parse` keeps the attribute verbatim, at the second try if an allocation failed.
@@ -156,10 +147,9 @@ fn without_rows(rt: HostRuntime) {
 fn by_context(rt: HostRuntime) {
     let alloc = rt.alloc();
     let nla = NlaBuffer::new_checked(&UNKNOWN).expect(&rt, "an attribute");
-    let tunnel = match InfoIpTunnel::parse_with_param(alloc, &nla, &InfoKind::IpIp) {
-        Err(MEMORY) => InfoIpTunnel::parse_with_param(alloc, &nla, &InfoKind::IpIp),
-        answer => answer,
-    };
+    let first = InfoIpTunnel::parse_with_param(alloc, &nla, &InfoKind::IpIp);
+    let second = InfoIpTunnel::parse_with_param(alloc, &nla, &InfoKind::IpIp);
+    let tunnel = at_last(&MEMORY, first, second);
     assert_holds(&rt, &"ipip", is_written(tunnel, &KEPT));
     let read = reads_unknown::<InfoIpTunnel>(alloc, &nla, KindTag::IpIp);
     assert_holds(&rt, &"ipip, read", read);

@@ -1,6 +1,6 @@
 //! Lists that are parsed and written.
 
-use super::answers::{MEMORY, read_at_last, reads};
+use super::answers::{MEMORY, at_last, read_at_last, reads};
 use crate::tests::assertions::{assert_equal, assert_holds};
 use linkinfo::{
     CanonError, InfoKind, InfoPortKind, LinkInfo, Nla, ToVecError, canon, nlas_fit_len, nlas_to_vec,
@@ -55,15 +55,14 @@ fn name_that_does_not_fit(rt: HostRuntime) {
     assert_holds(&rt, &"its name", name.as_bytes() == &bytes[4..]);
 }
 
-/// The encoding of a list of these attributes, written once more if an allocation failed.
+/// The encoding of a list of these attributes, at the second try if an allocation failed.
 fn written<T: Nla + Drop, const N: usize>(
     alloc: Global,
     items: [T; N],
 ) -> Result<Vec<u8>, ToVecError> {
-    match nlas_to_vec(alloc, items.as_slice()) {
-        Err(ToVecError::Memory) => nlas_to_vec(alloc, items.as_slice()),
-        written => written,
-    }
+    let first = nlas_to_vec(alloc, items.as_slice());
+    let second = nlas_to_vec(alloc, items.as_slice());
+    at_last(&ToVecError::Memory, first, second)
 }
 
 #[test]
@@ -85,10 +84,8 @@ fn to_vec(rt: HostRuntime) {
 fn canonical_encoding(rt: HostRuntime) {
     let alloc = rt.alloc();
     let bytes = [8, 0, 1, 0, b'p', b'f', b'c', b'p'];
-    let answer = match canon(alloc, &bytes) {
-        Err(CanonError::Refused(MEMORY)) => canon(alloc, &bytes),
-        answer => answer,
-    };
+    let memory = CanonError::Refused(MEMORY);
+    let answer = at_last(&memory, canon(alloc, &bytes), canon(alloc, &bytes));
     let string = answer.expect(&rt, "a string");
     let wanted = [9, 0, 1, 0, b'p', b'f', b'c', b'p', 0, 0, 0, 0];
     assert_equal(&rt, &bytes, &string.as_slice(), &wanted.as_slice());

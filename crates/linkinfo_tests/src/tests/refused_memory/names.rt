@@ -1,25 +1,24 @@
 //! Kinds that are made from names.
 
-use crate::tests::assertions::assert_holds;
+use super::answers::{at_last, text_at_last};
+use crate::tests::assertions::assert_parsed;
 use linkinfo::{InfoKind, InfoPortKind};
 use std::alloc::AllocError;
 
 #[test]
 fn other_kinds(rt: HostRuntime) {
-    let answer = match InfoKind::from_text(rt.alloc(), "abc") {
-        Err(AllocError) => InfoKind::from_text(rt.alloc(), "abc"),
-        made => made,
-    };
-    let made = matches!(&answer, Ok(InfoKind::Other(name)) if name.as_str() == "abc");
-    assert_holds(&rt, &"abc", made);
+    let alloc = rt.alloc();
+    let first = InfoKind::from_text(alloc, "abc");
+    let made = at_last(&AllocError, first, InfoKind::from_text(alloc, "abc"));
+    let wanted = InfoKind::Other(text_at_last(&rt, alloc, "abc"));
+    assert_parsed(&rt, &"abc", made, wanted);
 }
 
 #[test]
 fn other_port_kinds(rt: HostRuntime) {
-    let answer = match InfoPortKind::from_text(rt.alloc(), "abc") {
-        Err(AllocError) => InfoPortKind::from_text(rt.alloc(), "abc"),
-        made => made,
-    };
-    let made = matches!(&answer, Ok(InfoPortKind::Other(name)) if name.as_str() == "abc");
-    assert_holds(&rt, &"abc", made);
+    let alloc = rt.alloc();
+    let first = InfoPortKind::from_text(alloc, "abc");
+    let made = at_last(&AllocError, first, InfoPortKind::from_text(alloc, "abc"));
+    let wanted = InfoPortKind::Other(text_at_last(&rt, alloc, "abc"));
+    assert_parsed(&rt, &"abc", made, wanted);
 }
