@@ -3,8 +3,9 @@
 use crate::support::*;
 use linkinfo::layers::link::{
     Bytes, CanonError, CanonIntoError, Cause, DecodeError, DefaultNla, Family, HeaderCount,
-    InfoData, InfoKind, LinkInfo, LinkInfoWalk, Nla, Nlas, Text, VecLinkInfo, VecLinkInfoOf, canon,
-    canon_into, check, check_counted, emit_nlas, nlas_buffer_len, nlas_fit_len, same,
+    InfoData, InfoKind, LinkInfo, LinkInfoItem, LinkInfoWalk, Nla, Nlas, Text, VecLinkInfo,
+    VecLinkInfoOf, canon, canon_into, check, check_counted, emit_nlas, nlas_buffer_len,
+    nlas_fit_len, same,
 };
 use std::fmt::Debug;
 
@@ -18,10 +19,10 @@ pub fn assert_holds<C: Debug>(case: &C, holds: bool) {
     assert!(holds, "{case:?}");
 }
 
-/// Asserts that what was parsed is this value, by `==`.
+/// Asserts that what was parsed or made is this value, by `==`.
 ///
 /// The type is a parameter, so that no drop of a large enum has an arm for each variant here.
-pub fn assert_parsed<C: Debug, T: PartialEq>(case: &C, found: Result<T, DecodeError>, wanted: T) {
+pub fn assert_parsed<C: Debug, T: PartialEq, E: Debug>(case: &C, found: Result<T, E>, wanted: T) {
     let found = found.expect("a value");
     assert_holds(case, found == wanted);
 }
@@ -82,23 +83,31 @@ pub fn link_error(kind: u16, cause: Cause) -> DecodeError {
     }
 }
 
+/// The value of a character of the text, which must be a hex digit.
+fn digit_of(text: &str, character: u8) -> u8 {
+    match character {
+        b'0'..=b'9' => character - b'0',
+        b'a'..=b'f' => character - b'a' + 10,
+        _ => panic!("a digit in {text}"),
+    }
+}
+
+/// Appends the byte whose high digit came before this one, or returns this one as a high digit.
+fn push_digit(bytes: &mut Vec<u8>, high: Option<u8>, digit: u8) -> Option<u8> {
+    let Some(high) = high else {
+        return Some(digit);
+    };
+    bytes.try_push((high << 4) | digit).expect("memory");
+    None
+}
+
 /// The bytes of a text in hex digits, with or without spaces between them.
 pub fn bytes_of(text: &str) -> Vec<u8> {
     let mut bytes = Vec::new();
     let mut high = None;
     for character in text.as_bytes() {
-        let digit = match *character {
-            b' ' => continue,
-            b'0'..=b'9' => *character - b'0',
-            b'a'..=b'f' => *character - b'a' + 10,
-            _ => panic!("a digit in {text}"),
-        };
-        match high {
-            None => high = Some(digit << 4),
-            Some(first) => {
-                bytes.try_push(first | digit).expect("memory");
-                high = None;
-            }
+        if *character != b' ' {
+            high = push_digit(&mut bytes, high, digit_of(text, *character));
         }
     }
     assert!(high.is_none(), "an even number of digits in {text}");
@@ -218,18 +227,30 @@ fn assert_accepted(bytes: &[u8], canonical: &[u8]) {
     assert_equal(&bytes, &string.as_slice(), &canonical);
 }
 
+/// The next item of a walk. If it has none, prints the case.
+pub fn next_item<'a, C: Debug>(case: &C, walk: &mut LinkInfoWalk<'a>) -> LinkInfoItem<'a> {
+    let Some(Ok(item)) = walk.next() else {
+        panic!("an item: {case:?}");
+    };
+    item
+}
+
+/// Asserts that the next item of a walk over the bytes is this attribute, at its offset.
+fn assert_next(bytes: &[u8], walk: &mut LinkInfoWalk<'_>, wanted: &LinkInfo) {
+    let item = next_item(&bytes, walk);
+    let (found, wanted) = (item.raw_kind & 0x3fff, wanted.kind() & 0x3fff);
+    assert_equal(&bytes, &found, &wanted);
+    let after = bytes.get(item.place..).unwrap_or_default();
+    let payload = after.get(4..4 + item.value.len());
+    assert_equal(&bytes, &payload, &Some(item.value));
+}
+
 /// Asserts that a walk returns each attribute of the list in order, at its offset, and ends at the
 /// end of the bytes.
 fn assert_walked(bytes: &[u8], list: &VecLinkInfo) {
     let mut walk = LinkInfoWalk::new(bytes);
-    for item in list.iter() {
-        let Some(Ok(found)) = walk.next() else {
-            panic!("an attribute");
-        };
-        assert_equal(&bytes, &(found.raw_kind & 0x3fff), &(item.kind() & 0x3fff));
-        let after = bytes.get(found.place..).unwrap_or_default();
-        let payload = after.get(4..4 + found.value.len());
-        assert_equal(&bytes, &payload, &Some(found.value));
+    for wanted in list.iter() {
+        assert_next(bytes, &mut walk, wanted);
     }
     assert_holds(&bytes, walk.next().is_none());
     assert_equal(&bytes, &walk.place(), &bytes.len());

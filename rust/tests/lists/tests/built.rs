@@ -59,16 +59,18 @@ fn builds_flags_of_tunnels_by_kind() {
     assert_flags(InfoKind::Ip6Tnl, flags, IP6TNL_FLAGS);
 }
 
+/// Asserts that an ipvlan link with its mode and these flags is written as the bytes of the text,
+/// and that these parse as it.
+fn assert_ipvlan(flags: IpVlanFlags, string: &str) {
+    let items = [InfoIpVlan::Mode(IpVlanMode::L2), InfoIpVlan::Flags(flags)];
+    let data = InfoData::IpVlan(nlas(items));
+    assert_link(string, InfoKind::IpVlan, data, string);
+}
+
 #[test]
 fn builds_devices() {
-    for (flags, string) in [
-        (IpVlanFlags::Vepa, IPVLAN),
-        (IpVlanFlags::default(), IPVLAN_NO_FLAGS),
-    ] {
-        let items = [InfoIpVlan::Mode(IpVlanMode::L2), InfoIpVlan::Flags(flags)];
-        let data = InfoData::IpVlan(nlas(items));
-        assert_link(string, InfoKind::IpVlan, data, string);
-    }
+    assert_ipvlan(IpVlanFlags::Vepa, IPVLAN);
+    assert_ipvlan(IpVlanFlags::default(), IPVLAN_NO_FLAGS);
     let items = [
         InfoIpVtap::Mode(IpVlanMode::L2),
         InfoIpVtap::Flags(IpVlanFlags::Vepa),
@@ -168,14 +170,19 @@ fn builds_data() {
     assert_reads(LATER_KIND, later, LATER_KIND);
 }
 
+/// Asserts that an attribute of an unknown type, without a payload, is written as the bytes of the
+/// text, and that these parse as it.
+fn assert_unknown(kind: u16, string: &str) {
+    let unknown = [LinkInfo::Other(default_nla(kind, &[]))];
+    assert_reads(string, unknown, string);
+}
+
 #[test]
 fn builds_statistics_and_unknown_attributes() {
     assert_reads("", [], "");
     let xstats = LinkXstats::Other(copied(&[1, 2]));
     let can = [LinkInfo::Kind(InfoKind::Can), LinkInfo::Xstats(xstats)];
     assert_reads(XSTATS, can, XSTATS);
-    for (kind, string) in [(0x8009, "04000980"), (9, "04000900")] {
-        let unknown = [LinkInfo::Other(default_nla(kind, &[]))];
-        assert_reads(string, unknown, string);
-    }
+    assert_unknown(0x8009, "04000980");
+    assert_unknown(9, "04000900");
 }

@@ -45,18 +45,24 @@ const PAIRS: &[(&str, &str, bool)] = &[
     (IPVLAN, IPVLAN_NO_FLAGS, false),
 ];
 
+/// Asserts that two byte strings are compared, in either order and with headers counted, and parse
+/// as equal lists if they are equivalent.
+fn assert_compared((a, b, wanted): (&str, &str, bool)) {
+    let first = bytes_of(a);
+    let second = bytes_of(b);
+    let equal = reads_equal(&first, &second);
+    let mut count = HeaderCount::new();
+    let counted = same_counted(&first, &second, &mut count);
+    let case = (a, b);
+    assert_equal(&case, &same(&first, &second), &Ok(wanted));
+    assert_equal(&case, &same(&second, &first), &Ok(wanted));
+    assert_equal(&case, &counted, &Ok(wanted));
+    assert_equal(&case, &equal, &wanted);
+}
+
 #[test]
 fn compares_strings() {
-    for (a, b, wanted) in PAIRS {
-        let first = bytes_of(a);
-        let second = bytes_of(b);
-        let equal = reads_equal(&first, &second);
-        let mut count = HeaderCount::new();
-        let counted = same_counted(&first, &second, &mut count);
-        let case = (a, b);
-        assert_equal(&case, &same(&first, &second), &Ok(*wanted));
-        assert_equal(&case, &same(&second, &first), &Ok(*wanted));
-        assert_equal(&case, &counted, &Ok(*wanted));
-        assert_equal(&case, &equal, wanted);
+    for pair in PAIRS {
+        assert_compared(*pair);
     }
 }

@@ -30,12 +30,18 @@ const ONE: &[(&str, Option<DecodeError>, usize, usize)] = &[
     (FIRST_ERROR, Some(LENGTH), 3, 5),
 ];
 
+/// Asserts that validating and parsing the bytes of the text each have this error or none, and
+/// examine this many headers, and that the bytes are four times this many, rounded down.
+fn assert_counted(text: &str, error: Option<DecodeError>, (headers, quarter): (usize, usize)) {
+    let bytes = bytes_of(text);
+    assert_equal(&text, &(bytes.len() / 4), &quarter);
+    assert_headers(&bytes, error, headers);
+}
+
 #[test]
 fn counts_of_one_string() {
     for (text, error, headers, quarter) in ONE {
-        let bytes = bytes_of(text);
-        assert_equal(text, &(bytes.len() / 4), quarter);
-        assert_headers(&bytes, *error, *headers);
+        assert_counted(text, *error, (*headers, *quarter));
     }
 }
 
@@ -46,14 +52,19 @@ const TWO: &[(&str, &str, Result<bool, DecodeError>, usize)] = &[
     (SECOND_PORT_DATA, XFRM, Err(ORDER), 3),
 ];
 
+/// Asserts that the comparison of two byte strings has this result, and examines this many headers.
+fn assert_compared((a, b): (&str, &str), wanted: &Result<bool, DecodeError>, headers: usize) {
+    let first = bytes_of(a);
+    let second = bytes_of(b);
+    let mut count = HeaderCount::new();
+    let answer = same_counted(&first, &second, &mut count);
+    assert_equal(&(a, b), &answer, wanted);
+    assert_equal(&(a, b), &count.get(), &headers);
+}
+
 #[test]
 fn counts_of_two_strings() {
     for (a, b, wanted, headers) in TWO {
-        let first = bytes_of(a);
-        let second = bytes_of(b);
-        let mut count = HeaderCount::new();
-        let answer = same_counted(&first, &second, &mut count);
-        assert_equal(&(a, b), &answer, wanted);
-        assert_equal(&(a, b), &count.get(), headers);
+        assert_compared((a, b), wanted, *headers);
     }
 }

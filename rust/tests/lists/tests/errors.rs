@@ -35,11 +35,34 @@ const OF_TWO: &[(&str, &str, DecodeError)] = &[
     (XFRM, NO_KIND, DATA_ORDER),
 ];
 
+/// Asserts the error of the comparison of two lists.
+fn assert_error(a: &str, b: &str, error: DecodeError) {
+    let (first, second) = (bytes_of(a), bytes_of(b));
+    assert_equal(&(a, b), &same(&first, &second), &Err(error));
+}
+
 #[test]
 fn returns_the_first_error() {
     for (a, b, error) in OF_TWO {
-        let (first, second) = (bytes_of(a), bytes_of(b));
-        assert_equal(&(a, b), &same(&first, &second), &Err(*error));
+        assert_error(a, b, *error);
+    }
+}
+
+/// Asserts that each call accepts a prefix of `XFRM`.
+fn assert_accepted(front: &[u8]) {
+    let end = front.len();
+    assert_equal(&end, &check(front), &Ok(()));
+    assert_equal(&end, &VecLinkInfo::parse(front).err(), &None);
+    assert_equal(&end, &same(front, front), &Ok(true));
+}
+
+/// Asserts that each call accepts the prefixes of `XFRM` that end after an attribute, or in its
+/// padding, and rejects the others.
+fn assert_front(front: &[u8]) {
+    if matches!(front.len(), 0 | 9..=12 | 32) {
+        assert_accepted(front);
+    } else {
+        assert_refused(front, HEADER_ERROR);
     }
 }
 
@@ -48,14 +71,7 @@ fn accepted_prefixes_of_one_string() {
     let bytes = bytes_of(XFRM);
     assert_equal(&XFRM, &bytes.len(), &32);
     for end in 0..=bytes.len() {
-        let front = &bytes[..end];
-        if matches!(end, 0 | 9..=12 | 32) {
-            assert_equal(&end, &check(front), &Ok(()));
-            assert_equal(&end, &VecLinkInfo::parse(front).err(), &None);
-            assert_equal(&end, &same(front, front), &Ok(true));
-        } else {
-            assert_refused(front, HEADER_ERROR);
-        }
+        assert_front(&bytes[..end]);
     }
 }
 

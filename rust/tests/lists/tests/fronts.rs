@@ -87,17 +87,21 @@ const STRINGS: &[&str] = &[
     PFCP_EMPTY,
 ];
 
-/// Asserts that `check` and `parse` agree on each prefix, and `same` of the prefix with itself too.
+/// Asserts that `check` and `parse` agree on a prefix, and `same` of the prefix with itself too.
+fn assert_front(front: &[u8]) {
+    let error = VecLinkInfo::parse(front).err();
+    let wanted = match error {
+        None => Ok(true),
+        Some(error) => Err(error),
+    };
+    assert_equal(&front, &check(front).err(), &error);
+    assert_equal(&front, &same(front, front), &wanted);
+}
+
+/// Asserts that `check`, `parse` and `same` agree on each prefix.
 pub fn assert_fronts(bytes: &[u8]) {
     for end in 0..=bytes.len() {
-        let front = &bytes[..end];
-        let error = VecLinkInfo::parse(front).err();
-        let wanted = match error {
-            None => Ok(true),
-            Some(error) => Err(error),
-        };
-        assert_equal(&front, &check(front).err(), &error);
-        assert_equal(&front, &same(front, front), &wanted);
+        assert_front(&bytes[..end]);
     }
 }
 
@@ -141,20 +145,37 @@ fn assert_front_of_bits(front: &[u8], error: Option<DecodeError>) {
     assert_holds(&front, compared != Ok(false));
 }
 
+/// The error of a prefix of this length, of a list of this many bytes that has this error, and
+/// begins with a kind of this length.
+fn error_of_front(
+    end: usize,
+    len: usize,
+    kind_len: usize,
+    error: Option<DecodeError>,
+) -> Option<DecodeError> {
+    // The padding after the last attribute may be absent.
+    if end == len {
+        error
+    } else if end == 0 || (kind_len..=12).contains(&end) {
+        None
+    } else {
+        Some(HEADER_ERROR)
+    }
+}
+
+/// Asserts the error of each prefix of a list of `PEERS`.
+fn assert_fronts_of_bits(bytes: &[u8], kind_len: usize, error: Option<DecodeError>) {
+    let len = bytes.len();
+    for end in 0..=len {
+        let wanted = error_of_front(end, len, kind_len, error);
+        assert_front_of_bits(&bytes[..end], wanted);
+    }
+}
+
 #[test]
 fn every_prefix_of_bits() {
     for (text, kind_len, error) in PEERS {
         let bytes = bytes_of(text);
-        for end in 0..=bytes.len() {
-            // The padding after the last attribute may be absent.
-            let wanted = if end == bytes.len() {
-                *error
-            } else if end == 0 || (*kind_len..=12).contains(&end) {
-                None
-            } else {
-                Some(HEADER_ERROR)
-            };
-            assert_front_of_bits(&bytes[..end], wanted);
-        }
+        assert_fronts_of_bits(&bytes, *kind_len, *error);
     }
 }

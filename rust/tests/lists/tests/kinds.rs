@@ -432,9 +432,13 @@ fn assert_rewritten(rows: &[Rewritten]) {
 
 #[test]
 fn canonical_lists() {
-    for rows in [TUNNELS, DEVICES, PEERS, LOWER, BYTES, PORTS, ATTRIBUTES] {
-        assert_canonical(rows);
-    }
+    assert_canonical(TUNNELS);
+    assert_canonical(DEVICES);
+    assert_canonical(PEERS);
+    assert_canonical(LOWER);
+    assert_canonical(BYTES);
+    assert_canonical(PORTS);
+    assert_canonical(ATTRIBUTES);
 }
 
 #[test]

@@ -1,7 +1,7 @@
 //! What holds of headers, tags and data.
 
 use super::assertions::{
-    HEADER_ERROR, assert_equal, assert_headers, assert_holds, assert_value, bytes_of,
+    HEADER_ERROR, assert_equal, assert_headers, assert_holds, assert_value, bytes_of, next_item,
 };
 use super::worked::{
     DATA_TWICE, FIRST_ERROR, LATER_KIND, PFCP_NO_NUL, PFCP_NOT_FRAMED, SECOND_PORT_DATA, XFRM,
@@ -33,14 +33,20 @@ fn strings_are_framed() {
     }
 }
 
+/// The current kinds of an item.
+type Tags = (Option<KindTag>, Option<PortTag>);
+
+/// Asserts that a walk over the bytes returns an item with these tags next.
+fn assert_next_tags(bytes: &[u8], walk: &mut LinkInfoWalk<'_>, wanted: &Tags) {
+    let item = next_item(wanted, walk);
+    assert_equal(&bytes, &(item.kind_tag, item.port_tag), wanted);
+}
+
 /// Asserts the tags of the items of a walk, which ends after them or at an error after them.
-fn assert_tags(bytes: &[u8], tags: &[(Option<KindTag>, Option<PortTag>)]) {
+fn assert_tags(bytes: &[u8], tags: &[Tags]) {
     let mut walk = LinkInfoWalk::new(bytes);
     for wanted in tags {
-        let Some(Ok(item)) = walk.next() else {
-            panic!("an item under {wanted:?}");
-        };
-        assert_equal(&bytes, &(item.kind_tag, item.port_tag), wanted);
+        assert_next_tags(bytes, &mut walk, wanted);
     }
     let further = matches!(walk.next(), Some(Ok(_)));
     assert_holds(&bytes, !further);

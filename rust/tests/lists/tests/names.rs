@@ -119,20 +119,29 @@ const NAMES: &[(Family, &str, &str)] = &[
     (Family::Xfrm, "IFLA_XFRM_", "LINK IF_ID"),
 ];
 
+/// Asserts that the name of a type is the prefix and this rest, or that the type has no name.
+fn assert_name(family: Family, kind: u16, prefix: &str, rest: Option<&str>) {
+    let name = attribute_name(family, kind);
+    let found = name.and_then(|name| name.strip_prefix(prefix));
+    assert_equal(&(family, kind), &name.is_some(), &rest.is_some());
+    assert_equal(&(family, kind), &found, &rest);
+}
+
+/// Asserts the names of the types of a family, as in `NAMES`.
+fn assert_names(family: Family, prefix: &str, names: &str) {
+    assert_name(family, 0, prefix, None);
+    assert_name(family, u16::MAX, prefix, None);
+    let mut names = names.split(' ');
+    for kind in 1..=40 {
+        let rest = names.next().filter(|name| *name != "-");
+        assert_name(family, kind, prefix, rest);
+    }
+}
+
 #[test]
 fn has_each_name() {
     for (family, prefix, names) in NAMES {
-        let family = *family;
-        let beyond = [attribute_name(family, 0), attribute_name(family, u16::MAX)];
-        assert_equal(&(family, "types 0 and 65535"), &beyond, &[None; 2]);
-        let mut names = names.split(' ');
-        for kind in 1..=40 {
-            let expected = names.next().filter(|name| *name != "-");
-            let name = attribute_name(family, kind);
-            let rest = name.and_then(|name| name.strip_prefix(*prefix));
-            assert_equal(&(family, kind), &name.is_some(), &expected.is_some());
-            assert_equal(&(family, kind), &rest, &expected);
-        }
+        assert_names(*family, prefix, names);
     }
 }
 
@@ -180,13 +189,18 @@ const SENTENCES: &[(&str, &str)] = &[
     ),
 ];
 
+/// Asserts that the bytes of the text are rejected, and what is said of the error.
+fn assert_explained(text: &str, sentence: &str) {
+    match check_at(&bytes_of(text)) {
+        Ok(()) => panic!("{text} is accepted"),
+        Err(error) => assert_displayed(&error, sentence),
+    }
+}
+
 #[test]
 fn explains_errors_of_lists() {
     for (text, sentence) in SENTENCES {
-        match check_at(&bytes_of(text)) {
-            Ok(()) => panic!("{text} is accepted"),
-            Err(error) => assert_displayed(&error, sentence),
-        }
+        assert_explained(text, sentence);
     }
 }
 

@@ -14,7 +14,9 @@ const TOO_DEEP: DecodeError = DecodeError {
 
 /// The depth of a chain, the headers of its data and of its first list, a quarter of its bytes, the
 /// number of headers examined, and the error.
-const CHAINS: &[(u16, [u8; 8], usize, usize, Option<DecodeError>)] = &[
+type Chain = (u16, [u8; 8], usize, usize, Option<DecodeError>);
+
+const CHAINS: &[Chain] = &[
     (100, [0x94, 1, 2, 0, 0x90, 1, 5, 0], 104, 102, None),
     (128, [4, 2, 2, 0, 0, 2, 5, 0], 132, 130, None),
     (129, [8, 2, 2, 0, 4, 2, 5, 0], 133, 131, Some(TOO_DEEP)),
@@ -47,13 +49,19 @@ fn chain(depth: u16) -> Vec<u8> {
     bytes
 }
 
+/// Asserts the beginning of a chain, its length, and what validating and parsing it examine.
+fn assert_counted(wanted: &Chain) {
+    let (depth, begin, quarter, headers, error) = wanted;
+    let bytes = chain(*depth);
+    assert_equal(depth, &bytes.get(12..20), &Some(begin.as_slice()));
+    assert_equal(depth, &(bytes.len() / 4), quarter);
+    assert_headers(&bytes, *error, *headers);
+}
+
 #[test]
 fn counts_of_chains() {
-    for (depth, begin, quarter, headers, error) in CHAINS {
-        let bytes = chain(*depth);
-        assert_equal(depth, &bytes.get(12..20), &Some(begin.as_slice()));
-        assert_equal(depth, &(bytes.len() / 4), quarter);
-        assert_headers(&bytes, *error, *headers);
+    for wanted in CHAINS {
+        assert_counted(wanted);
     }
 }
 

@@ -959,31 +959,44 @@ fn without(list: &[u8], data: &Data, place: usize) -> Vec<u8> {
 
 /// Asserts that a list is met by itself, and that without its last attribute, or without the last
 /// one of its data, it lacks that attribute.
-fn assert_removed(text: &str, kind: u16, place: usize, inner: &[Inner]) {
-    let list = bytes_of(text);
-    assert_met_by_itself(&list);
-    let rest = list.get(..place).unwrap_or_default();
-    assert_lacks(&list, rest, Family::LinkInfo, kind, place);
-    for (data, family, kind, place) in inner {
-        let rest = without(&list, data, *place);
-        assert_lacks(&list, &rest, *family, *kind, *place);
+fn assert_removed(list: &[u8], case: &Case) {
+    let (_, kind, place, inner) = case;
+    assert_met_by_itself(list);
+    let rest = list.get(..*place).unwrap_or_default();
+    assert_lacks(list, rest, Family::LinkInfo, *kind, *place);
+    for (data, family, kind, place) in *inner {
+        let rest = without(list, data, *place);
+        assert_lacks(list, &rest, *family, *kind, *place);
     }
+}
+
+/// Asserts of the list of a case, in hex digits, what `assert_removed` says.
+fn assert_text_removed(case: &Case) {
+    let (text, ..) = case;
+    assert_removed(&bytes_of(text), case);
 }
 
 #[test]
 fn worked_lists_lack_what_is_removed() {
     assert_met_by_itself(&[]);
     assert_met_by_itself(&bytes_of(DATA_TWICE));
-    for (text, kind, place, inner) in WORKED {
-        assert_removed(text, *kind, *place, inner);
+    for case in WORKED {
+        assert_text_removed(case);
     }
 }
 
 #[test]
 fn lists_of_kinds_lack_what_is_removed() {
-    for (text, kind, place, inner) in KINDS {
-        assert_removed(text, *kind, *place, inner);
+    for case in KINDS {
+        assert_text_removed(case);
     }
+}
+
+/// Asserts of a reply, whose case has its name, what `assert_removed` says.
+fn assert_reply_removed((name, list): &(&str, &[u8]), case: &Case) {
+    let (wanted, ..) = case;
+    assert_equal(&list, name, wanted);
+    assert_removed(list, case);
 }
 
 #[test]
@@ -991,9 +1004,6 @@ fn replies_lack_what_is_removed() {
     let replies = dumps();
     assert!(replies.len() == REPLIES.len());
     for (reply, case) in replies.iter().zip(REPLIES) {
-        let (name, text) = reply;
-        let (of, kind, place, inner) = case;
-        assert_equal(text, of, name);
-        assert_removed(text, *kind, *place, inner);
+        assert_reply_removed(reply, case);
     }
 }

@@ -152,16 +152,21 @@ fn unmet_of<D, F: PayloadFamily<D>>(family: F, have: &[u8], want: &[u8]) -> Opti
     list_unmet::<D, F>(family, name, have, want)
 }
 
+/// Asserts what is not met in a case, of a family.
+fn assert_case<D, F: PayloadFamily<D>>((have, want, at): &Case, family: F, name: Family) {
+    let (had, wanted) = (bytes_of(have), bytes_of(want));
+    let found = unmet_of::<D, F>(family, &had, &wanted);
+    let expected = unmet(name, at);
+    assert_equal(&(name, want), &found, &expected);
+    if let (Some(found), Some(expected)) = (found, expected) {
+        assert_holds(&(name, want), is_equal(&found, &expected));
+    }
+}
+
 /// Asserts what is not met in each case, of a family.
 fn assert_cases<D, F: PayloadFamily<D>>(cases: &[Case], family: F, name: Family) {
-    for (have, want, at) in cases {
-        let (had, wanted) = (bytes_of(have), bytes_of(want));
-        let found = unmet_of::<D, F>(family, &had, &wanted);
-        let expected = unmet(name, at);
-        assert_equal(&(name, want), &found, &expected);
-        if let (Some(found), Some(expected)) = (found, expected) {
-            assert_holds(&(name, want), is_equal(&found, &expected));
-        }
+    for case in cases {
+        assert_case::<D, F>(case, family, name);
     }
 }
 

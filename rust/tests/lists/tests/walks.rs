@@ -2,7 +2,7 @@
 
 use super::assertions::{
     HEADER_ERROR, NAME_ERROR, PORT_DATA_ORDER, XSTATS_ORDER, assert_built, assert_equal,
-    assert_holds, bytes_of, link, nlas,
+    assert_holds, bytes_of, link, next_item, nlas,
 };
 use super::worked::{DATA_TWICE, FIRST_ERROR, SECOND_PORT_DATA};
 use crate::support::*;
@@ -13,21 +13,24 @@ use linkinfo::layers::link::{
 /// An item of a walk: its offset, its type, its payload, and the current kinds.
 type Item<'a> = (usize, u16, &'a [u8], Option<KindTag>, Option<PortTag>);
 
+/// Asserts that the walk returns this item next, at its offset.
+fn assert_item(walk: &mut LinkInfoWalk<'_>, item: &Item<'_>) {
+    let (place, raw_kind, value, kind_tag, port_tag) = *item;
+    let wanted = LinkInfoItem {
+        place,
+        raw_kind,
+        value,
+        kind_tag,
+        port_tag,
+    };
+    assert_equal(&wanted, &walk.place(), &place);
+    assert_equal(&"an item", &next_item(&wanted, walk), &wanted);
+}
+
 /// Asserts that the walk returns these items, each at its offset.
 fn assert_items(walk: &mut LinkInfoWalk<'_>, items: &[Item<'_>]) {
-    for (place, raw_kind, value, kind_tag, port_tag) in items {
-        let wanted = LinkInfoItem {
-            place: *place,
-            raw_kind: *raw_kind,
-            value,
-            kind_tag: *kind_tag,
-            port_tag: *port_tag,
-        };
-        assert_equal(&wanted, &walk.place(), place);
-        let Some(Ok(item)) = walk.next() else {
-            panic!("an item {wanted:?}");
-        };
-        assert_equal(&"an item", &item, &wanted);
+    for item in items {
+        assert_item(walk, item);
     }
 }
 

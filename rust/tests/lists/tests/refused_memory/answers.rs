@@ -1,7 +1,8 @@
 //! The results that a call may return if an allocation may fail.
 
+use linkinfo::compat::AllocError;
 use linkinfo::layers::link::{
-    Cause, DecodeError, Family, Nla, VecLinkInfo, emit_nlas, nlas_fit_len,
+    Bytes, Cause, DecodeError, Family, Nla, Text, VecLinkInfo, emit_nlas, nlas_fit_len,
 };
 
 /// The error of a failed allocation.
@@ -14,12 +15,37 @@ pub const MEMORY: DecodeError = DecodeError {
 /// The length of the buffer that a list is written into.
 const ROOM: usize = 1024;
 
-/// Parses the bytes, and once more if an allocation failed.
-pub fn read_at_last(bytes: &[u8]) -> Result<VecLinkInfo, DecodeError> {
-    match VecLinkInfo::parse(bytes) {
-        Err(MEMORY) => VecLinkInfo::parse(bytes),
-        answer => answer,
+/// The first of two results of the same call, or the second one if the first is this error, that of
+/// a failed allocation.
+pub fn at_last<T, E: PartialEq>(
+    memory: &E,
+    first: Result<T, E>,
+    second: Result<T, E>,
+) -> Result<T, E> {
+    if first.as_ref().err() == Some(memory) {
+        second
+    } else {
+        first
     }
+}
+
+/// A copy of the bytes, at the second try if an allocation failed.
+pub fn copied_at_last(bytes: &[u8]) -> Bytes {
+    let (first, second) = (Bytes::copy_of(bytes), Bytes::copy_of(bytes));
+    at_last(&AllocError, first, second).expect("memory")
+}
+
+/// A copy of the text, at the second try if an allocation failed.
+pub fn text_at_last(text: &str) -> Text {
+    let (first, second) = (Text::copy_of(text), Text::copy_of(text));
+    at_last(&AllocError, first, second).expect("memory")
+}
+
+/// Parses the bytes, at the second try if an allocation failed.
+pub fn read_at_last(bytes: &[u8]) -> Result<VecLinkInfo, DecodeError> {
+    let first = VecLinkInfo::parse(bytes);
+    let second = VecLinkInfo::parse(bytes);
+    at_last(&MEMORY, first, second)
 }
 
 /// Returns whether the list is written as the encoding, without allocating and without changing the

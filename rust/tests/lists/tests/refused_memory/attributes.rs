@@ -1,6 +1,6 @@
 //! Single attributes that are parsed.
 
-use super::answers::MEMORY;
+use super::answers::{MEMORY, at_last};
 use crate::tests::assertions::assert_holds;
 use linkinfo::layers::link::families::{BitPeer, LinkFamily, Opaque};
 use linkinfo::layers::link::{
@@ -19,12 +19,9 @@ const UNKNOWN: [u8; 5] = [5, 0, 255, 0, 1];
 /// The encoding of `UNKNOWN`, with its padding.
 const KEPT: [u8; 8] = [5, 0, 255, 0, 1, 0, 0, 0];
 
-/// The result of `parse`, called once more if an allocation failed.
+/// The result of `parse`, at the second try if an allocation failed.
 fn parse_at_last<'a, T: Parseable<NlaBuffer<'a>>>(nla: &NlaBuffer<'a>) -> Result<T, DecodeError> {
-    match T::parse(nla) {
-        Err(MEMORY) => T::parse(nla),
-        answer => answer,
-    }
+    at_last(&MEMORY, T::parse(nla), T::parse(nla))
 }
 
 /// Returns whether the result is a value that is written as this encoding.
@@ -45,15 +42,9 @@ fn reads_unknown<F: LinkFamily>(nla: &NlaBuffer<'_>, ctx: F::Context) -> bool {
     if nla.value().len() > 1 {
         return false;
     }
-    let mut count = HeaderCount::new();
-    let answer = match F::read(nla, ctx, &mut count) {
-        Err(MEMORY) => {
-            let mut count = HeaderCount::new();
-            F::read(nla, ctx, &mut count)
-        }
-        answer => answer,
-    };
-    is_written(answer, &KEPT)
+    let first = F::read(nla, ctx, &mut HeaderCount::new());
+    let second = F::read(nla, ctx, &mut HeaderCount::new());
+    is_written(at_last(&MEMORY, first, second), &KEPT)
 }
 
 /// Returns whether `parse` keeps the attribute verbatim, at the second try if an allocation failed.
@@ -154,10 +145,9 @@ fn without_rows() {
 #[test]
 fn by_context() {
     let nla = NlaBuffer::new_checked(&UNKNOWN).expect("an attribute");
-    let tunnel = match InfoIpTunnel::parse_with_param(&nla, &InfoKind::IpIp) {
-        Err(MEMORY) => InfoIpTunnel::parse_with_param(&nla, &InfoKind::IpIp),
-        answer => answer,
-    };
+    let first = InfoIpTunnel::parse_with_param(&nla, &InfoKind::IpIp);
+    let second = InfoIpTunnel::parse_with_param(&nla, &InfoKind::IpIp);
+    let tunnel = at_last(&MEMORY, first, second);
     assert_holds(&"ipip", is_written(tunnel, &KEPT));
     let read = reads_unknown::<InfoIpTunnel>(&nla, KindTag::IpIp);
     assert_holds(&"ipip, read", read);

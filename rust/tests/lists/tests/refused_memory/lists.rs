@@ -1,6 +1,6 @@
 //! Lists that are parsed and written.
 
-use super::answers::{MEMORY, read_at_last, reads};
+use super::answers::{MEMORY, at_last, read_at_last, reads};
 use crate::tests::assertions::{assert_equal, assert_holds};
 use linkinfo::layers::link::{
     CanonError, InfoKind, InfoPortKind, LinkInfo, Nla, ToVecError, canon, nlas_fit_len, nlas_to_vec,
@@ -54,12 +54,11 @@ fn name_that_does_not_fit() {
     assert_holds(&"its name", name.as_bytes() == &bytes[4..]);
 }
 
-/// The encoding of a list of these attributes, written once more if an allocation failed.
+/// The encoding of a list of these attributes, at the second try if an allocation failed.
 fn written<T: Nla, const N: usize>(items: [T; N]) -> Result<Vec<u8>, ToVecError> {
-    match nlas_to_vec(items.as_slice()) {
-        Err(ToVecError::Memory) => nlas_to_vec(items.as_slice()),
-        written => written,
-    }
+    let first = nlas_to_vec(items.as_slice());
+    let second = nlas_to_vec(items.as_slice());
+    at_last(&ToVecError::Memory, first, second)
 }
 
 #[test]
@@ -79,10 +78,8 @@ fn to_vec() {
 #[test]
 fn canonical_encoding() {
     let bytes = [8, 0, 1, 0, b'p', b'f', b'c', b'p'];
-    let answer = match canon(&bytes) {
-        Err(CanonError::Refused(MEMORY)) => canon(&bytes),
-        answer => answer,
-    };
+    let memory = CanonError::Refused(MEMORY);
+    let answer = at_last(&memory, canon(&bytes), canon(&bytes));
     let string = answer.expect("a string");
     let wanted = [9, 0, 1, 0, b'p', b'f', b'c', b'p', 0, 0, 0, 0];
     assert_equal(&bytes, &string.as_slice(), &wanted.as_slice());

@@ -1,25 +1,22 @@
 //! Kinds that are made from names.
 
-use crate::tests::assertions::assert_holds;
+use super::answers::{at_last, text_at_last};
+use crate::tests::assertions::assert_parsed;
 use linkinfo::compat::AllocError;
 use linkinfo::layers::link::{InfoKind, InfoPortKind};
 
 #[test]
 fn other_kinds() {
-    let answer = match InfoKind::from_text("abc") {
-        Err(AllocError) => InfoKind::from_text("abc"),
-        made => made,
-    };
-    let made = matches!(&answer, Ok(InfoKind::Other(name)) if name.as_str() == "abc");
-    assert_holds(&"abc", made);
+    let first = InfoKind::from_text("abc");
+    let made = at_last(&AllocError, first, InfoKind::from_text("abc"));
+    let wanted = InfoKind::Other(text_at_last("abc"));
+    assert_parsed(&"abc", made, wanted);
 }
 
 #[test]
 fn other_port_kinds() {
-    let answer = match InfoPortKind::from_text("abc") {
-        Err(AllocError) => InfoPortKind::from_text("abc"),
-        made => made,
-    };
-    let made = matches!(&answer, Ok(InfoPortKind::Other(name)) if name.as_str() == "abc");
-    assert_holds(&"abc", made);
+    let first = InfoPortKind::from_text("abc");
+    let made = at_last(&AllocError, first, InfoPortKind::from_text("abc"));
+    let wanted = InfoPortKind::Other(text_at_last("abc"));
+    assert_parsed(&"abc", made, wanted);
 }
