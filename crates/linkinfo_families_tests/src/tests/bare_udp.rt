@@ -16,7 +16,7 @@ const ROWS: [(&[u8], InfoBareUdp); 3] = [
 ];
 
 /// Canonical attributes of presence flags, and what they mean.
-const MARKS: [(&[u8], InfoBareUdp); 1] = [(&[4, 0, 4, 0], InfoBareUdp::MultiprotoMode)];
+const MARKS: [(&[u8; 4], InfoBareUdp); 1] = [(&[4, 0, 4, 0], InfoBareUdp::MultiprotoMode)];
 
 #[test]
 fn rows_of_bare_udp(rt: HostRuntime) {

@@ -97,8 +97,8 @@ fn accepted<'a, F: FlatFamily>(
     ensures { IsOk (meaning_in F.RowFamily.FAMILY F.other (λ n. row_of (F.rows ctx n)) result) }
 {
     let nla = attribute(rt, bytes);
-    assert!(rt; F::check_by_row(&nla, ctx).is_ok());
-    assert!(rt; row_check::<F>(&nla, ctx).is_ok());
+    F::check_by_row(&nla, ctx).expect(rt, "an accepted attribute");
+    row_check::<F>(&nla, ctx).expect(rt, "an accepted attribute");
     nla
 }
 
@@ -116,14 +116,16 @@ fn same_by_row<F: FlatFamily>(
 
 #[test]
 fn compares_by_rows(rt: HostRuntime) {
-    for (other, same) in [(&LINK, true), (&MARKED, true), (&OTHER_LINK, false)] {
-        assert_is(
-            &rt,
-            ("same_by_row", other),
-            same_by_row::<InfoXfrm>(&rt, (), &LINK, other),
-            [same; 2],
-        );
-    }
+    assert_is(
+        &rt,
+        "same_by_row",
+        [
+            same_by_row::<InfoXfrm>(&rt, (), &LINK, &LINK),
+            same_by_row::<InfoXfrm>(&rt, (), &LINK, &MARKED),
+            same_by_row::<InfoXfrm>(&rt, (), &LINK, &OTHER_LINK),
+        ],
+        [[true; 2], [true; 2], [false; 2]],
+    );
 }
 
 /// Asserts that the value is written with this type and this payload by its row.
@@ -154,16 +156,20 @@ fn writes_by_rows(rt: HostRuntime) {
     is_written_by_row(&rt, &InfoXfrm::Other(kept), 0x8003, [7, 8, 9, 10]);
 }
 
+/// Families and types, and what the table of all families gives for them.
+const LOOKUPS: &[(Family, u16, Lookup)] = &[
+    (Family::Xfrm, 1, Lookup::Is(Shape::Le32)),
+    (Family::Xfrm, 3, Lookup::Unknown),
+    (Family::Geneve, 2, Lookup::Is(Shape::GeneveV4)),
+    (Family::BatAdv, 1, Lookup::Is(Shape::Name)),
+    (Family::Tun, 1, Lookup::Unknown),
+];
+
 #[test]
 fn tables_give_shapes(rt: HostRuntime) {
-    for (family, kind, answer) in [
-        (Family::Xfrm, 1, Lookup::Is(Shape::Le32)),
-        (Family::Xfrm, 3, Lookup::Unknown),
-        (Family::Geneve, 2, Lookup::Is(Shape::GeneveV4)),
-        (Family::BatAdv, 1, Lookup::Is(Shape::Name)),
-        (Family::Tun, 1, Lookup::Unknown),
-    ] {
-        assert_is(&rt, (family, kind), table_lookup(family, kind), answer);
+    for (family, kind, answer) in LOOKUPS {
+        let found = table_lookup(*family, *kind);
+        assert_is(&rt, (*family, *kind), found, *answer);
     }
 }
 

@@ -33,7 +33,7 @@ const ADDRESSES: &[&[u8]] = &[
 ];
 
 /// Canonical attributes of presence flags, and what they mean.
-const MARKS: [(&[u8], InfoGeneve); 2] = [
+const MARKS: [(&[u8; 4], InfoGeneve); 2] = [
     (&[4, 0, 6, 0], InfoGeneve::CollectMetadata),
     (&[4, 0, 14, 0], InfoGeneve::InnerProtoInherit),
 ];

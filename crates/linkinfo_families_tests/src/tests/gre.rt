@@ -41,7 +41,7 @@ const ROWS: [(&[u8], InfoGre); 17] = [
 ];
 
 /// Canonical attributes of presence flags, and what they mean.
-const MARKS: [(&[u8], InfoGre); 1] = [(&[4, 0, 18, 0], InfoGre::CollectMetadata)];
+const MARKS: [(&[u8; 4], InfoGre); 1] = [(&[4, 0, 18, 0], InfoGre::CollectMetadata)];
 
 /// Canonical attributes of 10.0.0.1: local and remote address.
 const ADDRESSES: &[&[u8]] = &[&[8, 0, 6, 0, 10, 0, 0, 1], &[8, 0, 7, 0, 10, 0, 0, 1]];

@@ -132,7 +132,7 @@ fn has_mark(rt: &impl Abort, alloc: Global, value: InfoIpTunnel) {
 /// Asserts that `UNLISTED` is parsed as the value, an opaque attribute.
 fn keeps_unlisted(rt: &impl Abort, alloc: Global, value: InfoIpTunnel) {
     is_parsed(rt, alloc, &InfoKind::SitTun, &UNLISTED, &value);
-    is_kept(rt, alloc, KindTag::Ip6Tnl, &value);
+    is_kept(rt, alloc, KindTag::Ip6Tnl, &UNLISTED, &value);
 }
 
 #[test]

@@ -25,13 +25,12 @@ type Slot = (u16, Option<usize>);
 fn finds(rt: &impl Abort, source: &[u8], first: u16, places: &[Slot]) {
     let index = LastOfType::new(source, first);
     for (kind, offset) in places {
-        assert_is(rt, ("offset of type", kind), index.offset(*kind), *offset);
         let found = index.find(*kind).map(|placed| placed.offset);
         assert_is(
             rt,
-            ("offset of the attribute of type", kind),
-            found,
-            *offset,
+            ("offset of type, of its attribute", kind),
+            [index.offset(*kind), found],
+            [*offset; 2],
         );
     }
 }
@@ -75,16 +74,19 @@ fn stops_at_a_damaged_header(rt: HostRuntime) {
     finds(&rt, &[], 0, &[(0, None)]);
 }
 
+/// Byte strings, and the least number above all of their types.
+const ENDS: &[(&[u8], u16)] = &[
+    (&[], 0),
+    (&[4, 0, 0, 0], 1),
+    (&TWICE, 65),
+    (&DAMAGED, 64),
+    (&[4, 0, 0xff, 0xff, 4, 0, 1, 0], 0x4000),
+];
+
 #[test]
 fn ends_above_the_largest_type(rt: HostRuntime) {
-    let cases: [(&[u8], u16); 5] = [
-        (&[], 0),
-        (&[4, 0, 0, 0], 1),
-        (&TWICE, 65),
-        (&DAMAGED, 64),
-        (&[4, 0, 0xff, 0xff, 4, 0, 1, 0], 0x4000),
-    ];
-    for (source, end) in cases {
-        assert_is(&rt, ("end of the types of", source), types_end(source), end);
+    for (source, end) in ENDS {
+        let found = types_end(source);
+        assert_is(&rt, ("end of the types of", source), found, *end);
     }
 }

@@ -9,6 +9,19 @@ use nla_frame::{ExactEq, NlaBuffer, Parseable};
 use std::alloc::Global;
 use std::process::Abort;
 
+/// Numbers of lists around an attribute: none, the maximum, and more.
+const DEPTHS: &[u8] = &[0, 127, 128, 255];
+
+/// Asserts that the attribute is the canonical one of the value inside this many lists, and that
+/// payloads of other lengths are rejected there.
+fn is_row_at<F>(rt: &impl Abort, alloc: Global, lists: u8, bytes: &[u8], value: &F)
+where
+    F: LinkFamily<Context = u8> + ExactEq,
+{
+    is_row(rt, alloc, lists, bytes, value);
+    has_one_length::<F>(rt, alloc, lists, bytes);
+}
+
 /// Asserts that the attribute is the canonical one of the value at depth 0, at the maximum depth
 /// and below it, and that payloads of other lengths are rejected.
 fn is_row_everywhere<'a, F>(rt: &impl Abort, alloc: Global, bytes: &'a [u8], value: &F)
@@ -16,9 +29,8 @@ where
     F: LinkFamily<Context = u8> + Parseable<NlaBuffer<'a>> + ExactEq,
 {
     is_parsed(rt, alloc, bytes, value);
-    for lists in [0, 127, 128, 255] {
-        is_row(rt, alloc, lists, bytes, value);
-        has_one_length::<F>(rt, alloc, lists, bytes);
+    for lists in DEPTHS {
+        is_row_at(rt, alloc, *lists, bytes, value);
     }
 }
 

@@ -1,15 +1,12 @@
 //! Nested address lists.
 
 use super::rows::{
-    assert_is, attribute, compare_lists, error, is_emitted, is_not_parsed, is_parsed, is_rejected,
-    list_checked,
+    assert_is, attribute, compare_lists, error, is_emitted, is_list_read, is_not_parsed, is_parsed,
+    is_rejected, list_checked, list_is_emitted,
 };
 use linkinfo_devices::{InfoMacVlan, InfoMacVtap};
-use linkinfo_table::{LinkFamily, Lookup, Shape, laws, list_read};
-use nla_frame::{
-    Cause, ExactEq, Family, HeaderCount, Nla, NlaBuffer, Nlas, Parseable, emit_nlas, is_equal,
-    nlas_buffer_len, nlas_fit_len,
-};
+use linkinfo_table::{LinkFamily, Lookup, Shape, laws};
+use nla_frame::{Cause, ExactEq, Family, HeaderCount, Nla, NlaBuffer, Nlas, Parseable, is_equal};
 use std::alloc::Global;
 use std::process::Abort;
 
@@ -46,11 +43,16 @@ fn chain(rt: &impl Abort, alloc: Global, lists: u16) -> Vec<u8> {
     bytes
 }
 
-/// A list of one value.
-fn list_of<F: HoldsLists>(rt: &impl Abort, alloc: Global, value: F) -> F {
+/// The value alone.
+fn only<F: Drop>(rt: &impl Abort, alloc: Global, value: F) -> Vec<F> {
     let mut items = Vec::new(alloc);
     items.push(value).expect(rt, "memory");
-    F::from_list(Nlas::new(items))
+    items
+}
+
+/// A list of one value.
+fn list_of<F: HoldsLists>(rt: &impl Abort, alloc: Global, value: F) -> F {
+    F::from_list(Nlas::new(only(rt, alloc, value)))
 }
 
 /// The value of such a chain.
@@ -62,51 +64,36 @@ fn chain_value<F: HoldsLists>(rt: &impl Abort, alloc: Global, lists: u16) -> F {
     value
 }
 
-/// Asserts that the list is written as these bytes, and the byte after them stays unchanged.
-fn is_written<F: Nla>(rt: &impl Abort, items: &[F], bytes: &[u8]) {
-    let len = bytes.len();
-    assert!(rt; len < 1000);
-    assert!(rt; nlas_fit_len(items) == Some(len));
-    assert!(rt; nlas_buffer_len(items) == len);
-    let mut buffer = [255; 1000];
-    emit_nlas(items, &mut buffer);
-    assert_is(rt, "emit_nlas", &buffer[..len], bytes);
-    assert!(rt; buffer[len] == 255);
-}
-
 /// Asserts that each call reads the byte string of at most 128 lists as the value of its chain,
 /// with a header for each list, and writes it back unchanged.
 fn is_chain<'a, F>(rt: &impl Abort, alloc: Global, bytes: &'a [u8], lists: u16)
 where
     F: HoldsLists + LinkFamily<Context = u8> + Parseable<NlaBuffer<'a>> + ExactEq,
 {
-    assert!(rt; bytes.len() < 1000);
     let value: F = chain_value(rt, alloc, lists);
     is_parsed(rt, alloc, bytes, &value);
-    let mut count = HeaderCount::new();
-    let read: Vec<F> = list_read(alloc, bytes, 0, &mut count).expect(rt, "a list");
-    assert!(rt; read.len() == 1);
+    let values = only(rt, alloc, value);
     let headers = usize::from(lists);
+    is_list_read(rt, alloc, 0, bytes, values.as_slice(), headers);
     assert_is(
         rt,
-        ("list read", bytes),
-        (
-            is_equal(&read[0], &value),
-            count.get(),
-            list_checked::<F>(rt, 0, bytes),
-        ),
-        (true, headers, (Ok(()), headers)),
+        ("list_check", lists),
+        list_checked::<F>(rt, 0, bytes),
+        (Ok(()), headers),
     );
-    is_written(rt, read.as_slice(), bytes);
+    list_is_emitted(rt, alloc, values.as_slice(), bytes);
 }
+
+/// Numbers of lists in a chain that is accepted: the two least and the two most.
+const ACCEPTED: &[u16] = &[1, 2, 127, 128];
 
 #[test]
 fn chains_of_at_most_128_lists(rt: HostRuntime) {
     let alloc = rt.alloc();
-    for lists in [1, 2, 127, 128] {
-        let bytes = chain(&rt, alloc, lists);
-        is_chain::<InfoMacVlan>(&rt, alloc, bytes.as_slice(), lists);
-        is_chain::<InfoMacVtap>(&rt, alloc, bytes.as_slice(), lists);
+    for lists in ACCEPTED {
+        let bytes = chain(&rt, alloc, *lists);
+        is_chain::<InfoMacVlan>(&rt, alloc, bytes.as_slice(), *lists);
+        is_chain::<InfoMacVtap>(&rt, alloc, bytes.as_slice(), *lists);
     }
 }
 
@@ -138,31 +125,39 @@ fn chain_of_129_lists(rt: HostRuntime) {
     is_not_parsed::<InfoMacVtap>(&rt, alloc, bytes.as_slice(), deep);
 }
 
-/// Asserts that a list nested in 127 others is accepted, and one nested in 128 is rejected before
-/// its payload is examined.
-fn has_most_lists<F>(rt: &impl Abort, alloc: Global)
-where
-    F: HoldsLists + LinkFamily<Context = u8>,
-{
-    for lists in [0, 127] {
-        assert!(rt; <F as LinkFamily>::shape(lists, 5) == Lookup::Is(Shape::SelfList));
-    }
-    // A list with a stray byte, with flag bits in its type.
-    let bytes = [5, 0, 5, 0xc0, 1, 0, 0, 0];
-    let nla = attribute(rt, &bytes);
-    let mut count = HeaderCount::new();
+/// A list with a stray byte, with flag bits in its type.
+const STRAY: &[u8] = &[5, 0, 5, 0xc0, 1, 0, 0, 0];
+
+/// Asserts that the payload of a list nested in this many others is examined.
+fn examines_lists<F: LinkFamily<Context = u8>>(rt: &impl Abort, lists: u8) {
     assert_is(
         rt,
-        "inside 127 lists",
-        F::check_value(&nla, 127, &mut count),
+        ("a list inside lists", lists),
+        F::shape(lists, 5),
+        Lookup::Is(Shape::SelfList),
+    );
+    assert_is(
+        rt,
+        ("a stray byte inside lists", lists),
+        F::check_value(&attribute(rt, STRAY), lists, &mut HeaderCount::new()),
         Err(error(Family::Frame, 0, Cause::Header)),
     );
-    for lists in [128, 255] {
-        assert!(rt; <F as LinkFamily>::shape(lists, 5) == Lookup::Refused(Cause::Depth));
-        is_rejected::<F>(rt, alloc, lists, &bytes, Cause::Depth);
-    }
-    // Nested in 127 others it may be empty, and must not contain another.
-    let deep = error(<F as LinkFamily>::FAMILY, 5, Cause::Depth);
+}
+
+/// Asserts that a list nested in this many others is rejected before its payload is examined.
+fn refuses_lists<F: LinkFamily<Context = u8>>(rt: &impl Abort, alloc: Global, lists: u8) {
+    assert_is(
+        rt,
+        ("a list inside lists", lists),
+        F::shape(lists, 5),
+        Lookup::Refused(Cause::Depth),
+    );
+    is_rejected::<F>(rt, alloc, lists, STRAY, Cause::Depth);
+}
+
+/// Asserts that a list nested in 127 others may be empty, and must not contain another.
+fn has_last_list<F: LinkFamily<Context = u8>>(rt: &impl Abort) {
+    let deep = error(F::FAMILY, 5, Cause::Depth);
     assert_is(
         rt,
         "inside 127 lists",
@@ -172,6 +167,16 @@ where
         ],
         [(Ok(()), 1), (Err(deep), 2)],
     );
+}
+
+/// Asserts that a list nested in 127 others is accepted, and one nested in 128 is rejected before
+/// its payload is examined.
+fn has_most_lists<F: LinkFamily<Context = u8>>(rt: &impl Abort, alloc: Global) {
+    examines_lists::<F>(rt, 0);
+    examines_lists::<F>(rt, 127);
+    refuses_lists::<F>(rt, alloc, 128);
+    refuses_lists::<F>(rt, alloc, 255);
+    has_last_list::<F>(rt);
 }
 
 #[test]
@@ -189,10 +194,14 @@ fn has_worked_list(rt: &impl Abort, alloc: Global, value: InfoMacVlan) {
     is_parsed(rt, alloc, &bare, &value);
     is_emitted(rt, &value, &padded);
     assert!(rt; value.fit_len() == Some(12));
-    assert!(rt; value.value_len() == 12);
     let mut payload = [255; 12];
     value.emit_value(&mut payload);
-    assert_is(rt, "emit_value", payload.as_slice(), &padded[4..]);
+    assert_is(
+        rt,
+        "value_len, emit_value",
+        (value.value_len(), payload.as_slice()),
+        (12, &padded[4..]),
+    );
 }
 
 #[test]
@@ -273,8 +282,8 @@ where
     F: HoldsLists + LinkFamily<Context = u8>,
 {
     compare_lists::<F>(rt, 0, PAIRS);
-    for lists in [1, 2, 127, 128] {
-        compares_chains::<F>(rt, alloc, lists);
+    for lists in ACCEPTED {
+        compares_chains::<F>(rt, alloc, *lists);
     }
 }
 
@@ -366,29 +375,27 @@ fn nested_lists_are_equal(rt: HostRuntime) {
     are_equal_by_depth::<InfoMacVtap>(&rt, alloc);
 }
 
+/// Asserts that the byte string of a chain of this many lists is rejected at the 129th.
+fn is_too_deep<F: LinkFamily<Context = u8>>(rt: &impl Abort, lists: u16, bytes: &[u8]) {
+    let deep = error(F::FAMILY, 5, Cause::Depth);
+    assert_is(
+        rt,
+        ("list_check", lists),
+        list_checked::<F>(rt, 0, bytes),
+        (Err(deep), 129),
+    );
+}
+
 /// Asserts that a value deeper than a well-formed one is measured and written too, and is not read
 /// back.
 fn is_written_at_any_depth<F>(rt: &impl Abort, alloc: Global, lists: u16)
 where
-    F: HoldsLists + LinkFamily<Context = u8> + Nla,
+    F: HoldsLists + LinkFamily<Context = u8>,
 {
-    let mut items: Vec<F> = Vec::new(alloc);
-    items
-        .push(chain_value(rt, alloc, lists))
-        .expect(rt, "memory");
+    let items: Vec<F> = only(rt, alloc, chain_value(rt, alloc, lists));
     let bytes = chain(rt, alloc, lists);
-    assert!(rt; nlas_fit_len(items.as_slice()) == Some(bytes.len()));
-    assert!(rt; nlas_buffer_len(items.as_slice()) == bytes.len());
-    let mut buffer = vec![in alloc; 255u8; bytes.len()].expect(rt, "memory");
-    emit_nlas(items.as_slice(), buffer.as_mut_slice());
-    assert!(rt; buffer.as_slice() == bytes.as_slice());
-    let deep = error(<F as LinkFamily>::FAMILY, 5, Cause::Depth);
-    assert_is(
-        rt,
-        ("list_check", lists),
-        list_checked::<F>(rt, 0, bytes.as_slice()),
-        (Err(deep), 129),
-    );
+    list_is_emitted(rt, alloc, items.as_slice(), bytes.as_slice());
+    is_too_deep::<F>(rt, lists, bytes.as_slice());
 }
 
 /// Asserts that the value of a chain has this length, if it fits.
@@ -397,12 +404,15 @@ fn has_fit_len(rt: &impl Abort, alloc: Global, lists: u16, wanted: Option<usize>
     assert_is(rt, ("fit_len", lists), value.fit_len(), wanted);
 }
 
+/// Numbers of lists in a chain that is too deep, and fits.
+const TOO_DEEP: &[u16] = &[129, 1000, 16000, LONGEST_CHAIN];
+
 #[test]
 fn values_beyond_the_maximum_depth(rt: HostRuntime) {
     let alloc = rt.alloc();
-    for lists in [129, 1000, 16000, LONGEST_CHAIN] {
-        is_written_at_any_depth::<InfoMacVlan>(&rt, alloc, lists);
-        is_written_at_any_depth::<InfoMacVtap>(&rt, alloc, lists);
+    for lists in TOO_DEEP {
+        is_written_at_any_depth::<InfoMacVlan>(&rt, alloc, *lists);
+        is_written_at_any_depth::<InfoMacVtap>(&rt, alloc, *lists);
     }
     has_fit_len(&rt, alloc, LONGEST_CHAIN, Some(65528));
     has_fit_len(&rt, alloc, LONGEST_CHAIN + 1, None);

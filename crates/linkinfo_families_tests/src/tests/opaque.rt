@@ -64,13 +64,16 @@ where
     let nla = attribute(rt, bytes);
     assert_is(
         rt,
-        ("kept", bytes),
-        (kept.kind, kept.value.as_slice()),
-        (nla.raw_kind(), nla.value()),
+        ("kept, same", bytes),
+        (
+            kept.kind,
+            kept.value.as_slice(),
+            are_same::<F>(rt, (), bytes, bytes),
+        ),
+        (nla.raw_kind(), nla.value(), true),
     );
     let value = F::from_other(kept);
     is_read(rt, alloc, (), bytes, &value);
-    assert!(rt; are_same::<F>(rt, (), bytes, bytes));
     is_emitted(rt, &value, bytes);
 }
 
@@ -125,7 +128,6 @@ fn keeps_marked<'a, F>(rt: &impl Abort, alloc: Global, bytes: &'a [u8], value: F
 where
     F: LinkFamily<Context = ()> + Parseable<NlaBuffer<'a>> + ExactEq,
 {
-    assert!(rt; bytes == MARKED.as_slice());
     is_parsed(rt, alloc, bytes, &value);
     is_read(rt, alloc, (), bytes, &value);
 }

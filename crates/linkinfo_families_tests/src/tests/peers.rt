@@ -2,16 +2,15 @@
 
 use super::rows::{
     UNLISTED, are_same, assert_is, compare, compare_lists, error, first_checked,
-    first_is_written_as, has_shapes, is_emitted, is_list, is_not_parsed, is_parsed, is_read,
-    is_rejected, keeps_unlisted, list_checked, list_is_written_as, same_with_flags, unlisted,
+    first_is_written_as, firsts_same, has_shapes, is_emitted, is_first, is_list_of, is_not_parsed,
+    is_parsed, is_read, is_rejected, keeps_unlisted, list_checked, list_is_written_as,
+    same_with_flags, unlisted,
 };
 use linkinfo_peers::{
     BitPeer, InfoNetkit, InfoNetkitOf, InfoVeth, InfoVethOf, InfoVxcan, InfoVxcanOf,
 };
-use linkinfo_table::{LinkFamily, Shape, first_check, first_read, first_same};
-use nla_frame::{
-    Bytes, Cause, DecodeError, ExactEq, Family, HeaderCount, Nla, NlaBuffer, Parseable, is_equal,
-};
+use linkinfo_table::{LinkFamily, Shape};
+use nla_frame::{Bytes, Cause, DecodeError, ExactEq, Family, Nla, NlaBuffer, Parseable, is_equal};
 use std::alloc::Global;
 use std::process::Abort;
 
@@ -86,17 +85,18 @@ fn has_peers_of_bytes<'a, F>(
     rt: &impl Abort,
     alloc: Global,
     (empty_bytes, two_bytes): (&'a [u8], &'a [u8]),
-    empty: &F,
-    two: &F,
+    values: [F; 2],
 )
 where
     F: LinkFamily<Context = ()> + Parseable<NlaBuffer<'a>> + ExactEq + Clone,
 {
+    let [empty, two] = &values;
     has_peer(rt, alloc, empty_bytes, empty, EMPTY);
     has_peer(rt, alloc, two_bytes, two, TWO);
     has_first(rt, alloc, two);
-    assert!(rt; !is_equal(empty, two));
+    assert_is(rt, "peers equal", is_equal(empty, two), false);
     compares_bytes::<F>(rt);
+    is_list_of(rt, alloc, (), LIST_OF_BYTES, values.as_slice());
 }
 
 /// Attributes with a peer of bytes, and whether they are equivalent.
@@ -116,28 +116,31 @@ fn compares_bytes<F: LinkFamily<Context = ()>>(rt: &impl Abort) {
     compare_lists::<F>(rt, (), PAIRS_OF_LISTS_OF_BYTES);
 }
 
-/// Asserts that the family reads peers as bits: true for the first two byte strings, false for the
-/// third, and an error for the last.
+/// Asserts that the family has this name and reads peers as bits: true for the first two byte
+/// strings, false for the third, and an error for the last.
 fn has_peers_of_bits<'a, F>(
     rt: &impl Abort,
     alloc: Global,
+    family: Family,
     (seven, nine, zero, two): (&'a [u8], &'a [u8], &'a [u8], &'a [u8]),
-    set: &F,
-    clear: &F,
+    values: [F; 2],
 )
 where
     F: LinkFamily<Context = ()> + Parseable<NlaBuffer<'a>> + ExactEq + Clone,
 {
+    assert_is(rt, "family", <F as LinkFamily>::FAMILY, family);
+    let [set, clear] = &values;
     has_peer(rt, alloc, seven, set, ONE);
     has_peer(rt, alloc, nine, set, ONE);
     has_peer(rt, alloc, zero, clear, ZERO);
-    assert!(rt; !is_equal(set, clear));
-    is_not_parsed::<F>(rt, alloc, two, rejected(<F as LinkFamily>::FAMILY));
+    assert_is(rt, "peers equal", is_equal(set, clear), false);
+    is_not_parsed::<F>(rt, alloc, two, rejected(family));
     // The peer, and not the family, rejects a payload of another length.
     is_rejected::<F>(rt, alloc, (), TWO, Cause::Peer);
     is_rejected::<F>(rt, alloc, (), EMPTY, Cause::Peer);
     refuses_two_bytes::<F>(rt);
     compares_bits::<F>(rt);
+    is_list_of(rt, alloc, (), LIST_OF_BITS, values.as_slice());
 }
 
 /// Pairs of lists of peers of bits, and the headers examined if they are equivalent.
@@ -160,22 +163,11 @@ fn has_first<F>(rt: &impl Abort, alloc: Global, value: &F)
 where
     F: LinkFamily<Context = ()> + ExactEq,
 {
-    for bytes in [&TAIL[..6], TAIL] {
-        let mut count = HeaderCount::new();
-        let read = first_read::<F>(alloc, bytes, (), &mut count).expect(rt, "a value");
-        assert_is(
-            rt,
-            ("first_read", bytes),
-            (is_equal(&read, value), count.get()),
-            (true, 1),
-        );
-    }
-    let mut count = HeaderCount::new();
-    assert!(rt; first_check::<F>(TAIL, (), &mut count).is_ok());
-    let mut count = HeaderCount::new();
-    let same = first_same::<F>(TAIL, TAIL, (), &mut count);
-    assert_is(rt, "first_same", (same, count.get()), (true, 2));
-    first_is_written_as::<F>(rt, (), TAIL, &[6, 0, 1, 0, 0xaa, 0xbb, 0, 0]);
+    is_first(rt, alloc, (), &TAIL[..6], value);
+    is_first(rt, alloc, (), TAIL, value);
+    let same = firsts_same::<F>(rt, (), TAIL, TAIL);
+    assert_is(rt, "first_same", same, (true, 2));
+    first_is_written_as::<F>(rt, (), TAIL, TWO);
     list_is_written_as::<F>(rt, (), LIST_OF_BYTES, LIST_OF_BYTES);
 }
 
@@ -198,70 +190,58 @@ fn refuses_two_bytes<F: LinkFamily<Context = ()>>(rt: &impl Abort) {
 fn veth_with_peers_of_bytes(rt: HostRuntime) {
     let alloc = rt.alloc();
     has_shapes::<InfoVeth>(&rt, (), &[(1, Shape::Peer)]);
-    let two = InfoVeth::Peer(two_bytes(&rt, alloc));
     let empty = InfoVeth::Peer(no_bytes(alloc));
-    has_peers_of_bytes(&rt, alloc, (EMPTY, TWO), &empty, &two);
-    is_list(&rt, alloc, (), LIST_OF_BYTES, [empty, two]);
+    let two = InfoVeth::Peer(two_bytes(&rt, alloc));
+    has_peers_of_bytes(&rt, alloc, (EMPTY, TWO), [empty, two]);
 }
 
 #[test]
 fn vxcan_with_peers_of_bytes(rt: HostRuntime) {
     let alloc = rt.alloc();
     has_shapes::<InfoVxcan>(&rt, (), &[(1, Shape::Peer)]);
-    let two = InfoVxcan::Peer(two_bytes(&rt, alloc));
     let empty = InfoVxcan::Peer(no_bytes(alloc));
-    has_peers_of_bytes(&rt, alloc, (EMPTY, TWO), &empty, &two);
-    is_list(&rt, alloc, (), LIST_OF_BYTES, [empty, two]);
+    let two = InfoVxcan::Peer(two_bytes(&rt, alloc));
+    has_peers_of_bytes(&rt, alloc, (EMPTY, TWO), [empty, two]);
 }
 
 #[test]
 fn netkit_with_peers_of_bytes(rt: HostRuntime) {
     let alloc = rt.alloc();
-    let two = InfoNetkit::Peer(two_bytes(&rt, alloc));
     let empty = InfoNetkit::Peer(no_bytes(alloc));
-    has_peers_of_bytes(&rt, alloc, (EMPTY, TWO), &empty, &two);
-    is_list(&rt, alloc, (), LIST_OF_BYTES, [empty, two]);
+    let two = InfoNetkit::Peer(two_bytes(&rt, alloc));
+    has_peers_of_bytes(&rt, alloc, (EMPTY, TWO), [empty, two]);
 }
 
 #[test]
 fn veth_with_peers_of_bits(rt: HostRuntime) {
     let alloc = rt.alloc();
     has_shapes::<InfoVethOf<BitPeer>>(&rt, (), &[(1, Shape::Peer)]);
-    let family = <InfoVethOf<BitPeer> as LinkFamily>::FAMILY;
-    assert_is(&rt, "family", family, Family::Veth);
-    let (set, clear) = (
+    let values = [
         InfoVethOf::Peer(BitPeer(true)),
         InfoVethOf::Peer(BitPeer(false)),
-    );
-    has_peers_of_bits(&rt, alloc, (SEVEN, NINE, ZERO, TWO), &set, &clear);
-    is_list(&rt, alloc, (), LIST_OF_BITS, [set, clear]);
+    ];
+    has_peers_of_bits(&rt, alloc, Family::Veth, (SEVEN, NINE, ZERO, TWO), values);
 }
 
 #[test]
 fn vxcan_with_peers_of_bits(rt: HostRuntime) {
     let alloc = rt.alloc();
     has_shapes::<InfoVxcanOf<BitPeer>>(&rt, (), &[(1, Shape::Peer)]);
-    let family = <InfoVxcanOf<BitPeer> as LinkFamily>::FAMILY;
-    assert_is(&rt, "family", family, Family::Vxcan);
-    let (set, clear) = (
+    let values = [
         InfoVxcanOf::Peer(BitPeer(true)),
         InfoVxcanOf::Peer(BitPeer(false)),
-    );
-    has_peers_of_bits(&rt, alloc, (SEVEN, NINE, ZERO, TWO), &set, &clear);
-    is_list(&rt, alloc, (), LIST_OF_BITS, [set, clear]);
+    ];
+    has_peers_of_bits(&rt, alloc, Family::Vxcan, (SEVEN, NINE, ZERO, TWO), values);
 }
 
 #[test]
 fn netkit_with_peers_of_bits(rt: HostRuntime) {
     let alloc = rt.alloc();
-    let family = <InfoNetkitOf<BitPeer> as LinkFamily>::FAMILY;
-    assert_is(&rt, "family", family, Family::Netkit);
-    let (set, clear) = (
+    let values = [
         InfoNetkitOf::Peer(BitPeer(true)),
         InfoNetkitOf::Peer(BitPeer(false)),
-    );
-    has_peers_of_bits(&rt, alloc, (SEVEN, NINE, ZERO, TWO), &set, &clear);
-    is_list(&rt, alloc, (), LIST_OF_BITS, [set, clear]);
+    ];
+    has_peers_of_bits(&rt, alloc, Family::Netkit, (SEVEN, NINE, ZERO, TWO), values);
 }
 
 #[test]
@@ -287,15 +267,16 @@ fn zeros(rt: &impl Abort, alloc: Global, len: usize) -> Bytes {
     Bytes::new(vec![in alloc; 0u8; len].expect(rt, "memory"))
 }
 
+/// Asserts that a peer of this many bytes has this length in each family, if it fits.
+fn has_len_of_peer(rt: &impl Abort, alloc: Global, len: usize, wanted: Option<usize>) {
+    has_len(rt, InfoVeth::Peer(zeros(rt, alloc, len)), wanted);
+    has_len(rt, InfoVxcan::Peer(zeros(rt, alloc, len)), wanted);
+    has_len(rt, InfoNetkit::Peer(zeros(rt, alloc, len)), wanted);
+}
+
 #[test]
 fn longest_peers(rt: HostRuntime) {
     let alloc = rt.alloc();
-    for (len, fits) in [(65531, Some(65531)), (65532, None)] {
-        let veth = InfoVeth::Peer(zeros(&rt, alloc, len));
-        has_len(&rt, veth, fits);
-        let vxcan = InfoVxcan::Peer(zeros(&rt, alloc, len));
-        has_len(&rt, vxcan, fits);
-        let netkit = InfoNetkit::Peer(zeros(&rt, alloc, len));
-        has_len(&rt, netkit, fits);
-    }
+    has_len_of_peer(&rt, alloc, 65531, Some(65531));
+    has_len_of_peer(&rt, alloc, 65532, None);
 }

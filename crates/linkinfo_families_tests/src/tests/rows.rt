@@ -2,11 +2,12 @@
 
 ghost use Rattle.std.specs.Prelude.{IsOk};
 ghost use Rattle.nla_frame.specs.NlaItems.{nla_items};
-ghost use Rattle.linkinfo_table.specs.Lists.{values};
+ghost use Rattle.linkinfo_table.specs.Lists.{first_meaning, values};
 
 use linkinfo_table::{
-    LinkFamily, Lookup, Shape, first_canonical_len, first_check, first_write_canonical, laws,
-    list_canonical_len, list_check, list_read, list_same, list_write_canonical,
+    LinkFamily, Lookup, Shape, first_canonical_len, first_check, first_read, first_same,
+    first_write_canonical, laws, list_canonical_len, list_check, list_read, list_same,
+    list_write_canonical,
 };
 use nla_frame::{
     Cause, DecodeError, DefaultNla, ExactEq, Family, HeaderCount, Nla, NlaBuffer, Parseable,
@@ -42,7 +43,6 @@ pub(super) fn unlisted(rt: &impl Abort, alloc: Global) -> DefaultNla {
 
 /// The first attribute of the bytes.
 pub(super) fn attribute<'a>(rt: &impl Abort, bytes: &'a [u8]) -> NlaBuffer<'a> {
-    assert!(rt; bytes.len() < 1000);
     NlaBuffer::new_checked(bytes).expect(rt, "an attribute")
 }
 
@@ -54,19 +54,33 @@ pub(super) fn error(family: Family, kind: u16, cause: Cause) -> DecodeError {
     }
 }
 
+/// The shape that these rows give to a type, if one is of the type.
+fn shape_in(rows: &[(u16, Shape)], kind: u16) -> Lookup {
+    for (number, shape) in rows {
+        if *number == kind {
+            return Lookup::Is(*shape);
+        }
+    }
+    Lookup::Unknown
+}
+
+/// Asserts that the family has the shape that these rows give to a type.
+fn has_shape<F: LinkFamily>(rt: &impl Abort, ctx: F::Context, rows: &[(u16, Shape)], kind: u16) {
+    assert_is(
+        rt,
+        ("shape of type", kind),
+        F::shape(ctx, kind),
+        shape_in(rows, kind),
+    );
+}
+
 /// Asserts that the family has these shapes by type without flag bits, and no other row up to 39.
 pub(super) fn has_shapes<F: LinkFamily>(rt: &impl Abort, ctx: F::Context, rows: &[(u16, Shape)]) {
     laws::looked_up::<F>(ctx);
     laws::errors_named::<F>();
     laws::errors_certain::<F>();
     for kind in 0..40 {
-        let mut wanted = Lookup::Unknown;
-        for row in rows {
-            if row.0 == kind {
-                wanted = Lookup::Is(row.1);
-            }
-        }
-        assert!(rt; F::shape(ctx, kind) == wanted);
+        has_shape::<F>(rt, ctx, rows, kind);
     }
 }
 
@@ -149,12 +163,12 @@ pub(super) fn is_rejected<F: LinkFamily>(
 /// unchanged.
 fn begins_with(rt: &impl Abort, buffer: &[u8; 27], bytes: &[u8]) {
     let len = bytes.len();
-    assert!(rt; len <= 24);
+    let buffer = buffer.as_slice();
     assert_is(
         rt,
         "front, rest",
-        (&buffer[..len], &buffer[len..]),
-        (bytes, &[255; 27][len..]),
+        (buffer.get(..len), buffer.get(len..)),
+        (Some(bytes), [255; 27].as_slice().get(len..)),
     );
 }
 
@@ -162,22 +176,28 @@ fn begins_with(rt: &impl Abort, buffer: &[u8; 27], bytes: &[u8]) {
 pub(super) fn is_emitted<F: Nla>(rt: &impl Abort, value: &F, bytes: &[u8]) {
     let nla = attribute(rt, bytes);
     let payload = nla.value().len();
-    assert!(rt; value.fit_len() == Some(payload));
+    let len = value.fit_len().expect(rt, "a value that fits");
     let written = value.buffer_len();
-    assert!(rt; written == bytes.len() && written <= 24);
+    assert!(rt; written <= 24);
+    let mut front = [255; 27];
     assert_is(
         rt,
-        ("kind, value_len", bytes),
-        (value.kind(), value.value_len()),
-        (nla.raw_kind(), payload),
+        ("kind, lengths", bytes),
+        (
+            value.kind(),
+            [
+                written,
+                len,
+                value.value_len(),
+                value.emit_payload(&mut front),
+            ],
+        ),
+        (nla.raw_kind(), [bytes.len(), payload, payload, payload]),
     );
+    begins_with(rt, &front, nla.value());
     let mut buffer = [255; 27];
     value.emit(&mut buffer);
     begins_with(rt, &buffer, bytes);
-    let mut front = [255; 27];
-    let taken = value.emit_payload(&mut front);
-    assert!(rt; taken == payload);
-    begins_with(rt, &front, nla.value());
 }
 
 /// The attribute of the bytes, which is accepted.
@@ -185,8 +205,7 @@ fn accepted<'a, F: LinkFamily>(rt: &impl Abort, ctx: F::Context, bytes: &'a [u8]
     ensures { IsOk (F.meaning ctx result) }
 {
     let nla = attribute(rt, bytes);
-    let checked = F::check_value(&nla, ctx, &mut HeaderCount::new());
-    assert!(rt; checked.is_ok());
+    F::check_value(&nla, ctx, &mut HeaderCount::new()).expect(rt, "an accepted attribute");
     nla
 }
 
@@ -254,7 +273,7 @@ pub(super) fn same_with_flags<F: LinkFamily>(
     bytes: &[u8],
 ) -> bool {
     let len = bytes.len();
-    assert!(rt; 4 <= len && len <= 24);
+    assert!(rt; len <= 24);
     let mut marked = [0; 24];
     marked[..len].copy_from_slice(bytes);
     marked[3] ^= 0x40;
@@ -270,7 +289,8 @@ pub(super) fn is_row<F: LinkFamily + ExactEq>(
     value: &F,
 ) {
     is_read(rt, alloc, ctx, bytes, value);
-    assert!(rt; same_with_flags::<F>(rt, ctx, bytes));
+    let same = same_with_flags::<F>(rt, ctx, bytes);
+    assert_is(rt, ("same with flags", bytes), same, true);
     is_emitted(rt, value, bytes);
     is_written_as::<F>(rt, ctx, bytes, bytes);
 }
@@ -284,14 +304,13 @@ pub(super) fn has_one_length<F: LinkFamily>(
     bytes: &[u8],
 ) {
     let len = bytes.len();
-    assert!(rt; 5 <= len && len <= 24);
+    assert!(rt; len <= 24);
     let mut attribute = [0; 28];
     attribute[..len].copy_from_slice(bytes);
     let length = attribute[0];
-    assert!(rt; 5 <= length && length <= 24);
-    attribute[0] = length - 1;
+    attribute[0] = length.saturating_sub(1);
     is_rejected::<F>(rt, alloc, ctx, &attribute, Cause::Length);
-    attribute[0] = length + 1;
+    attribute[0] = length.saturating_add(1);
     is_rejected::<F>(rt, alloc, ctx, &attribute, Cause::Length);
 }
 
@@ -300,32 +319,33 @@ pub(super) fn is_mark<F: LinkFamily + ExactEq>(
     rt: &impl Abort,
     alloc: Global,
     ctx: F::Context,
-    bytes: &[u8],
+    bytes: &[u8; 4],
     value: &F,
 ) {
-    assert!(rt; bytes.len() == 4);
     is_row(rt, alloc, ctx, bytes, value);
-    is_read(rt, alloc, ctx, &[5, 0, bytes[2], 0, 7, 0, 0, 0], value);
-    is_written_as::<F>(rt, ctx, &[5, 0, bytes[2], 0, 7, 0, 0, 0], bytes);
+    let longer = [5, 0, bytes[2], 0, 7, 0, 0, 0];
+    is_read(rt, alloc, ctx, &longer, value);
+    is_written_as::<F>(rt, ctx, &longer, bytes);
 }
 
-/// Asserts that `UNLISTED` is the value, an opaque attribute whose flag bits matter, and that a
-/// clone is equal.
+/// Asserts that the attribute `UNLISTED` is the value, an opaque attribute whose flag bits matter,
+/// and that a clone is equal.
 pub(super) fn is_kept<F: LinkFamily + ExactEq + Clone>(
     rt: &impl Abort,
     alloc: Global,
     ctx: F::Context,
+    unlisted: &[u8],
     value: &F,
 ) {
-    is_read(rt, alloc, ctx, &UNLISTED, value);
-    let same = same_with_flags::<F>(rt, ctx, &UNLISTED);
+    is_read(rt, alloc, ctx, unlisted, value);
+    let same = same_with_flags::<F>(rt, ctx, unlisted);
     assert_is(
         rt,
         "a clone, flag bits",
         (is_equal(&value.clone().expect(rt, "memory"), value), same),
         (true, false),
     );
-    is_emitted(rt, value, &UNLISTED);
+    is_emitted(rt, value, unlisted);
 }
 
 /// Asserts that `parse` reads the attribute as the value.
@@ -341,7 +361,7 @@ pub(super) fn is_parsed<'a, F: Parseable<NlaBuffer<'a>> + ExactEq + Drop>(
 
 /// Asserts that the attribute is the canonical one of the value and is parsed as it, and that
 /// payloads of other lengths are rejected.
-pub(super) fn has_row<'a, F>(rt: &impl Abort, alloc: Global, bytes: &'a [u8], value: &F)
+fn has_row<'a, F>(rt: &impl Abort, alloc: Global, bytes: &'a [u8], value: &F)
 where
     F: LinkFamily<Context = ()> + Parseable<NlaBuffer<'a>> + ExactEq,
 {
@@ -387,12 +407,12 @@ where
 }
 
 /// Asserts that each attribute is the canonical one of a presence flag, and is parsed as its value.
-pub(super) fn has_marks<'a, F>(rt: &impl Abort, alloc: Global, rows: &[(&'a [u8], F)])
+pub(super) fn has_marks<'a, F>(rt: &impl Abort, alloc: Global, rows: &[(&'a [u8; 4], F)])
 where
     F: LinkFamily<Context = ()> + Parseable<NlaBuffer<'a>> + ExactEq,
 {
     for (bytes, value) in rows {
-        is_parsed(rt, alloc, bytes, value);
+        is_parsed(rt, alloc, bytes.as_slice(), value);
         is_mark(rt, alloc, (), bytes, value);
     }
 }
@@ -402,15 +422,14 @@ pub(super) fn keeps_unlisted<'a, F>(
     rt: &impl Abort,
     alloc: Global,
     ctx: F::Context,
-    bytes: &'a [u8],
+    unlisted: &'a [u8],
     value: F,
 )
 where
     F: LinkFamily + Parseable<NlaBuffer<'a>> + ExactEq + Clone,
 {
-    assert!(rt; bytes == UNLISTED.as_slice());
-    is_parsed(rt, alloc, bytes, &value);
-    is_kept(rt, alloc, ctx, &value);
+    is_parsed(rt, alloc, unlisted, &value);
+    is_kept(rt, alloc, ctx, unlisted, &value);
 }
 
 /// Asserts that each attribute is the canonical one of its value, and that the attribute `UNLISTED`
@@ -470,7 +489,6 @@ pub(super) fn list_checked<F: LinkFamily>(
     ctx: F::Context,
     bytes: &[u8],
 ) -> (Result<(), DecodeError>, usize) {
-    assert!(rt; bytes.len() < 100_000);
     let mut count = HeaderCount::new();
     let checked = list_check::<F>(bytes, ctx, &mut count);
     (checked, count.get())
@@ -483,7 +501,6 @@ pub(super) fn list_error<F: LinkFamily>(
     ctx: F::Context,
     bytes: &[u8],
 ) -> (Option<DecodeError>, usize) {
-    assert!(rt; bytes.len() < 100_000);
     let mut count = HeaderCount::new();
     let read: Result<Vec<F>, DecodeError> = list_read(alloc, bytes, ctx, &mut count);
     (read.err(), count.get())
@@ -495,7 +512,6 @@ pub(super) fn first_checked<F: LinkFamily>(
     ctx: F::Context,
     bytes: &[u8],
 ) -> (Result<(), DecodeError>, usize) {
-    assert!(rt; bytes.len() < 100_000);
     let mut count = HeaderCount::new();
     let checked = first_check::<F>(bytes, ctx, &mut count);
     (checked, count.get())
@@ -505,9 +521,7 @@ pub(super) fn first_checked<F: LinkFamily>(
 fn is_accepted<F: LinkFamily>(rt: &impl Abort, ctx: F::Context, bytes: &[u8])
     ensures { IsOk (values (F.meaning ctx) (nla_items bytes.now)) }
 {
-    assert!(rt; bytes.len() < 1000);
-    let checked = list_check::<F>(bytes, ctx, &mut HeaderCount::new());
-    assert!(rt; checked.is_ok());
+    list_check::<F>(bytes, ctx, &mut HeaderCount::new()).expect(rt, "an accepted list");
 }
 
 /// Asserts that the accepted list, of at most 24 bytes, is re-encoded as these bytes, and the bytes
@@ -520,15 +534,55 @@ pub(super) fn list_is_written_as<F: LinkFamily>(
 ) {
     is_accepted::<F>(rt, ctx, bytes);
     let len = list_canonical_len::<F>(bytes, ctx).expect(rt, "a list that fits");
-    assert!(rt; len == canonical.len() && len <= 24);
+    assert!(rt; len <= 24);
     let mut buffer = [255; 27];
     assert_is(
         rt,
-        ("length written for list", bytes),
-        list_write_canonical::<F>(bytes, ctx, &mut buffer),
-        len,
+        ("length, length written for list", bytes),
+        [len, list_write_canonical::<F>(bytes, ctx, &mut buffer)],
+        [canonical.len(); 2],
     );
     begins_with(rt, &buffer, canonical);
+}
+
+/// Asserts that the first attribute is accepted.
+fn first_is_accepted<F: LinkFamily>(rt: &impl Abort, ctx: F::Context, bytes: &[u8])
+    ensures { IsOk (first_meaning (F.meaning ctx) (nla_items bytes.now)) }
+{
+    first_check::<F>(bytes, ctx, &mut HeaderCount::new()).expect(rt, "an accepted attribute");
+}
+
+/// Asserts that the first attribute of the bytes is read as the value, with one header examined.
+pub(super) fn is_first<F: LinkFamily + ExactEq>(
+    rt: &impl Abort,
+    alloc: Global,
+    ctx: F::Context,
+    bytes: &[u8],
+    value: &F,
+) {
+    let mut count = HeaderCount::new();
+    let read = first_read::<F>(alloc, bytes, ctx, &mut count).expect(rt, "a value");
+    assert_is(
+        rt,
+        ("first_read", bytes),
+        (is_equal(&read, value), count.get()),
+        (true, 1),
+    );
+}
+
+/// Whether the accepted first attributes of two byte strings are equivalent, and the headers
+/// examined.
+pub(super) fn firsts_same<F: LinkFamily>(
+    rt: &impl Abort,
+    ctx: F::Context,
+    a: &[u8],
+    b: &[u8],
+) -> (bool, usize) {
+    first_is_accepted::<F>(rt, ctx, a);
+    first_is_accepted::<F>(rt, ctx, b);
+    let mut count = HeaderCount::new();
+    let same = first_same::<F>(a, b, ctx, &mut count);
+    (same, count.get())
 }
 
 /// Asserts that the first attribute alone is re-encoded as these bytes, at most 24, and the bytes
@@ -539,17 +593,15 @@ pub(super) fn first_is_written_as<F: LinkFamily>(
     bytes: &[u8],
     canonical: &[u8],
 ) {
-    assert!(rt; bytes.len() < 1000);
-    let checked = first_check::<F>(bytes, ctx, &mut HeaderCount::new());
-    assert!(rt; checked.is_ok());
+    first_is_accepted::<F>(rt, ctx, bytes);
     let len = first_canonical_len::<F>(bytes, ctx).expect(rt, "an attribute that fits");
-    assert!(rt; len == canonical.len() && len <= 24);
+    assert!(rt; len <= 24);
     let mut buffer = [255; 27];
     assert_is(
         rt,
-        ("length written for first", bytes),
-        first_write_canonical::<F>(bytes, ctx, &mut buffer),
-        len,
+        ("length, length written for first", bytes),
+        [len, first_write_canonical::<F>(bytes, ctx, &mut buffer)],
+        [canonical.len(); 2],
     );
     begins_with(rt, &buffer, canonical);
 }
@@ -586,6 +638,58 @@ pub(super) fn compare_lists<F: LinkFamily>(
     }
 }
 
+/// Asserts that the list is read as the values, with this number of headers examined.
+pub(super) fn is_list_read<F: LinkFamily + ExactEq>(
+    rt: &impl Abort,
+    alloc: Global,
+    ctx: F::Context,
+    bytes: &[u8],
+    values: &[F],
+    headers: usize,
+) {
+    let mut count = HeaderCount::new();
+    let read = list_read::<F>(alloc, bytes, ctx, &mut count).expect(rt, "a list");
+    assert_is(
+        rt,
+        ("list read, headers", bytes),
+        (read.as_slice() == values, count.get()),
+        (true, headers),
+    );
+}
+
+/// Asserts that the list is emitted as these bytes, and the bytes after them are unchanged.
+pub(super) fn list_is_emitted<F: Nla>(rt: &impl Abort, alloc: Global, items: &[F], bytes: &[u8]) {
+    let len = nlas_fit_len(items).expect(rt, "a list that fits");
+    assert!(rt; len < 100_000);
+    let mut buffer = vec![in alloc; 255u8; len + 3].expect(rt, "memory");
+    emit_nlas(items, buffer.as_mut_slice());
+    let written = buffer.as_slice();
+    assert_is(
+        rt,
+        ("length, front, rest of list", len),
+        (
+            nlas_buffer_len(items),
+            written.get(..len),
+            written.get(len..),
+        ),
+        (bytes.len(), Some(bytes), Some([255; 3].as_slice())),
+    );
+}
+
+/// Asserts that the list is read as these values, which are emitted as the list.
+pub(super) fn is_list_of<F: LinkFamily + ExactEq>(
+    rt: &impl Abort,
+    alloc: Global,
+    ctx: F::Context,
+    bytes: &[u8],
+    values: &[F],
+) {
+    laws::reading_back::<F>(bytes, ctx);
+    laws::list_framed::<F>(bytes, ctx);
+    is_list_read(rt, alloc, ctx, bytes, values, values.len());
+    list_is_emitted(rt, alloc, values, bytes);
+}
+
 /// Asserts that the list is read as the values, which are emitted as the list.
 pub(super) fn is_list<F: LinkFamily + ExactEq, const N: usize>(
     rt: &impl Abort,
@@ -595,31 +699,4 @@ pub(super) fn is_list<F: LinkFamily + ExactEq, const N: usize>(
     values: [F; N],
 ) {
     is_list_of(rt, alloc, ctx, bytes, values.as_slice());
-}
-
-/// Asserts that the list is read as the values with these indices, which are emitted as the list.
-fn is_list_of<F: LinkFamily + ExactEq>(
-    rt: &impl Abort,
-    alloc: Global,
-    ctx: F::Context,
-    bytes: &[u8],
-    values: &[F],
-) {
-    let len = bytes.len();
-    assert!(rt; len <= 24);
-    laws::reading_back::<F>(bytes, ctx);
-    laws::list_framed::<F>(bytes, ctx);
-    let mut count = HeaderCount::new();
-    let read = list_read::<F>(alloc, bytes, ctx, &mut count).expect(rt, "a list");
-    assert_is(
-        rt,
-        ("list read, headers", bytes),
-        (read.as_slice() == values, count.get()),
-        (true, values.len()),
-    );
-    assert!(rt; nlas_fit_len(values) == Some(len));
-    assert!(rt; nlas_buffer_len(values) == len);
-    let mut buffer = [255; 27];
-    emit_nlas(values, &mut buffer);
-    begins_with(rt, &buffer, bytes);
 }

@@ -1,6 +1,8 @@
 //! A custom family: lists of it read, checked, compared and written.
 
-use super::rows::{compare_lists, has_shapes, is_kept, is_list, is_rejected, is_row, unlisted};
+use super::rows::{
+    UNLISTED, compare_lists, has_shapes, is_kept, is_list, is_rejected, is_row, unlisted,
+};
 use crate::InfoVlanRow;
 use linkinfo_table::{Shape, laws};
 use nla_frame::Cause;
@@ -38,7 +40,8 @@ fn custom_family(rt: HostRuntime) {
     for (bytes, value) in &ROWS {
         is_row(&rt, alloc, (), bytes, value);
     }
-    is_kept(&rt, alloc, (), &InfoVlanRow::Other(unlisted(&rt, alloc)));
+    let other = InfoVlanRow::Other(unlisted(&rt, alloc));
+    is_kept(&rt, alloc, (), &UNLISTED, &other);
     is_list(
         &rt,
         alloc,

@@ -1,12 +1,13 @@
 //! Rows of `xfrm` and `vrf` links, and lists and first attributes of a family.
 
 use super::rows::{
-    UNLISTED, assert_is, compare_lists, error, first_checked, has_rows_and_others, has_shapes,
-    is_list, is_not_parsed, list_checked, list_error, reads, unlisted,
+    UNLISTED, assert_is, compare_lists, error, first_checked, firsts_same, has_rows_and_others,
+    has_shapes, is_first, is_list, is_not_parsed, list_checked, list_error, reads, unlisted,
 };
 use linkinfo_devices::{InfoVrf, InfoXfrm};
-use linkinfo_table::{Shape, first_check, first_read, first_same, laws};
-use nla_frame::{Cause, Family, HeaderCount};
+use linkinfo_table::{Shape, laws};
+use nla_frame::{Cause, Family};
+use std::alloc::Global;
 use std::process::Abort;
 
 /// Canonical attributes, and what they mean.
@@ -48,30 +49,26 @@ fn rows_of_vrf(rt: HostRuntime) {
     has_rows_and_others(&rt, alloc, &ROWS_OF_VRF, &UNLISTED, other);
 }
 
+/// Asserts that a number of this type is not parsed from an attribute of this length.
+fn refuses_length(rt: &impl Abort, alloc: Global, kind: u8, length: u8) {
+    let bytes = [length, 0, kind, 0, 1, 2, 3, 4, 5];
+    let expected = error(Family::Xfrm, u16::from(kind), Cause::Length);
+    is_not_parsed::<InfoXfrm>(rt, alloc, &bytes, expected);
+    if kind == 1 {
+        let expected = error(Family::Vrf, 1, Cause::Length);
+        is_not_parsed::<InfoVrf>(rt, alloc, &bytes, expected);
+    }
+}
+
+/// Lengths of attributes whose payload is not of four bytes.
+const OTHER_LENGTHS: &[u8] = &[4, 5, 6, 7, 9];
+
 #[test]
 fn other_lengths(rt: HostRuntime) {
     let alloc = rt.alloc();
-    let mut bytes = [9, 0, 1, 0, 1, 2, 3, 4, 5];
-    for (len, kind) in [
-        (4, 1),
-        (5, 1),
-        (6, 1),
-        (7, 1),
-        (9, 1),
-        (4, 2),
-        (5, 2),
-        (6, 2),
-        (7, 2),
-        (9, 2),
-    ] {
-        bytes[0] = len;
-        bytes[2] = kind;
-        let expected = error(Family::Xfrm, u16::from(kind), Cause::Length);
-        is_not_parsed::<InfoXfrm>(&rt, alloc, &bytes, expected);
-        if kind == 1 {
-            let expected = error(Family::Vrf, 1, Cause::Length);
-            is_not_parsed::<InfoVrf>(&rt, alloc, &bytes, expected);
-        }
+    for length in OTHER_LENGTHS {
+        refuses_length(&rt, alloc, 1, *length);
+        refuses_length(&rt, alloc, 2, *length);
     }
 }
 
@@ -81,12 +78,15 @@ fn lists_are_checked(rt: HostRuntime) {
     let length = error(Family::Vrf, 1, Cause::Length);
     // The first error in byte order: a length before a stray byte.
     let late = [5, 0, 1, 0, 7, 0, 0, 0, 1];
-    for (bytes, answer) in [
-        ([4, 0, 9, 0, 0].as_slice(), (Err(header), 1)),
-        (&[], (Ok(()), 0)),
-    ] {
-        assert_is(&rt, bytes, list_checked::<InfoXfrm>(&rt, (), bytes), answer);
-    }
+    assert_is(
+        &rt,
+        "a stray byte, no bytes",
+        [
+            list_checked::<InfoXfrm>(&rt, (), &[4, 0, 9, 0, 0]),
+            list_checked::<InfoXfrm>(&rt, (), &[]),
+        ],
+        [(Err(header), 1), (Ok(()), 0)],
+    );
     assert_is(
         &rt,
         "list_check, list_read",
@@ -118,39 +118,24 @@ fn lists_are_compared(rt: HostRuntime) {
     compare_lists::<InfoXfrm>(&rt, (), PAIRS);
 }
 
-/// Whether the first attributes of two byte strings are equivalent, and the headers examined.
-fn firsts_same(rt: &impl Abort, a: &[u8], b: &[u8]) -> (bool, usize) {
-    assert!(rt; a.len() < 1000 && b.len() < 1000);
-    let mut count = HeaderCount::new();
-    assert!(rt; first_check::<InfoVrf>(a, (), &mut count).is_ok());
-    let mut count = HeaderCount::new();
-    assert!(rt; first_check::<InfoVrf>(b, (), &mut count).is_ok());
-    let mut count = HeaderCount::new();
-    let same = first_same::<InfoVrf>(a, b, (), &mut count);
-    (same, count.get())
-}
-
 #[test]
 fn first_attributes_are_read_alone(rt: HostRuntime) {
     let header = error(Family::Frame, 0, Cause::Header);
     let one = [8, 0, 1, 0x40, 7, 0, 0, 0];
     let two = [8, 0, 1, 0, 7, 0, 0, 0, 9, 9];
-    let mut count = HeaderCount::new();
-    let read = first_read::<InfoVrf>(rt.alloc(), &two, (), &mut count).expect(&rt, "a value");
+    is_first(&rt, rt.alloc(), (), &two, &InfoVrf::TableId(7));
     assert_is(
         &rt,
-        "first_read",
-        (read == InfoVrf::TableId(7), count.get()),
-        (true, 1),
+        "a stray byte, no bytes, a length below the header's",
+        [
+            first_checked::<InfoVrf>(&rt, (), &two),
+            first_checked::<InfoVrf>(&rt, (), &[]),
+            first_checked::<InfoVrf>(&rt, (), &[3, 0, 1, 0]),
+        ],
+        [(Ok(()), 1), (Err(header), 0), (Err(header), 1)],
     );
-    for (bytes, answer) in [
-        (two.as_slice(), (Ok(()), 1)),
-        (&[], (Err(header), 0)),
-        (&[3, 0, 1, 0], (Err(header), 1)),
-    ] {
-        assert_is(&rt, bytes, first_checked::<InfoVrf>(&rt, (), bytes), answer);
-    }
-    assert_is(&rt, "first_same", firsts_same(&rt, &one, &two), (true, 2));
+    let same = firsts_same::<InfoVrf>(&rt, (), &one, &two);
+    assert_is(&rt, "first_same", same, (true, 2));
     laws::reading_back::<InfoVrf>(&one, ());
     laws::first_framed::<InfoVrf>(&two, ());
 }

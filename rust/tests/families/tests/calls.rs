@@ -79,8 +79,8 @@ fn reads_by_rows() {
 /// The attribute of the bytes, which its row accepts.
 fn accepted<'a, F: FlatFamily>(ctx: <F as RowFamily>::Context, bytes: &'a [u8]) -> NlaBuffer<'a> {
     let nla = attribute(bytes);
-    assert!(F::check_by_row(&nla, ctx).is_ok());
-    assert!(row_check::<F>(&nla, ctx).is_ok());
+    F::check_by_row(&nla, ctx).expect("an accepted attribute");
+    row_check::<F>(&nla, ctx).expect("an accepted attribute");
     nla
 }
 
@@ -93,13 +93,15 @@ fn same_by_row<F: FlatFamily>(ctx: <F as RowFamily>::Context, a: &[u8], b: &[u8]
 
 #[test]
 fn compares_by_rows() {
-    for (other, same) in [(&LINK, true), (&MARKED, true), (&OTHER_LINK, false)] {
-        assert_is(
-            ("same_by_row", other),
-            same_by_row::<InfoXfrm>((), &LINK, other),
-            [same; 2],
-        );
-    }
+    assert_is(
+        "same_by_row",
+        [
+            same_by_row::<InfoXfrm>((), &LINK, &LINK),
+            same_by_row::<InfoXfrm>((), &LINK, &MARKED),
+            same_by_row::<InfoXfrm>((), &LINK, &OTHER_LINK),
+        ],
+        [[true; 2], [true; 2], [false; 2]],
+    );
 }
 
 /// Asserts that the value is written with this type and this payload by its row.
@@ -128,16 +130,20 @@ fn writes_by_rows() {
     is_written_by_row(&InfoXfrm::Other(kept), 0x8003, [7, 8, 9, 10]);
 }
 
+/// Families and types, and what the table of all families gives for them.
+const LOOKUPS: &[(Family, u16, Lookup)] = &[
+    (Family::Xfrm, 1, Lookup::Is(Shape::Le32)),
+    (Family::Xfrm, 3, Lookup::Unknown),
+    (Family::Geneve, 2, Lookup::Is(Shape::GeneveV4)),
+    (Family::BatAdv, 1, Lookup::Is(Shape::Name)),
+    (Family::Tun, 1, Lookup::Unknown),
+];
+
 #[test]
 fn tables_give_shapes() {
-    for (family, kind, answer) in [
-        (Family::Xfrm, 1, Lookup::Is(Shape::Le32)),
-        (Family::Xfrm, 3, Lookup::Unknown),
-        (Family::Geneve, 2, Lookup::Is(Shape::GeneveV4)),
-        (Family::BatAdv, 1, Lookup::Is(Shape::Name)),
-        (Family::Tun, 1, Lookup::Unknown),
-    ] {
-        assert_is((family, kind), table_lookup(family, kind), answer);
+    for (family, kind, answer) in LOOKUPS {
+        let found = table_lookup(*family, *kind);
+        assert_is((*family, *kind), found, *answer);
     }
 }
 

@@ -49,7 +49,7 @@ const ROWS: [(&[u8], InfoGre6); 18] = [
 ];
 
 /// Canonical attributes of presence flags, and what they mean.
-const MARKS: [(&[u8], InfoGre6); 1] = [(&[4, 0, 18, 0], InfoGre6::CollectMetadata)];
+const MARKS: [(&[u8; 4], InfoGre6); 1] = [(&[4, 0, 18, 0], InfoGre6::CollectMetadata)];
 
 /// Canonical attributes of fe80::2: local and remote address.
 const ADDRESSES: &[&[u8]] = &[

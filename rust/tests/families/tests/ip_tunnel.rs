@@ -119,7 +119,7 @@ fn has_mark(value: InfoIpTunnel) {
 /// Asserts that `UNLISTED` is parsed as the value, an opaque attribute.
 fn keeps_unlisted(value: InfoIpTunnel) {
     is_parsed(&InfoKind::SitTun, &UNLISTED, &value);
-    is_kept(KindTag::Ip6Tnl, &value);
+    is_kept(KindTag::Ip6Tnl, &UNLISTED, &value);
 }
 
 #[test]

@@ -24,9 +24,12 @@ type Slot = (u16, Option<usize>);
 fn finds(source: &[u8], first: u16, places: &[Slot]) {
     let index = LastOfType::new(source, first);
     for (kind, offset) in places {
-        assert_is(("offset of type", kind), index.offset(*kind), *offset);
         let found = index.find(*kind).map(|placed| placed.offset);
-        assert_is(("offset of the attribute of type", kind), found, *offset);
+        assert_is(
+            ("offset of type, of its attribute", kind),
+            [index.offset(*kind), found],
+            [*offset; 2],
+        );
     }
 }
 
@@ -69,16 +72,19 @@ fn stops_at_a_damaged_header() {
     finds(&[], 0, &[(0, None)]);
 }
 
+/// Byte strings, and the least number above all of their types.
+const ENDS: &[(&[u8], u16)] = &[
+    (&[], 0),
+    (&[4, 0, 0, 0], 1),
+    (&TWICE, 65),
+    (&DAMAGED, 64),
+    (&[4, 0, 0xff, 0xff, 4, 0, 1, 0], 0x4000),
+];
+
 #[test]
 fn ends_above_the_largest_type() {
-    let cases: [(&[u8], u16); 5] = [
-        (&[], 0),
-        (&[4, 0, 0, 0], 1),
-        (&TWICE, 65),
-        (&DAMAGED, 64),
-        (&[4, 0, 0xff, 0xff, 4, 0, 1, 0], 0x4000),
-    ];
-    for (source, end) in cases {
-        assert_is(("end of the types of", source), types_end(source), end);
+    for (source, end) in ENDS {
+        let found = types_end(source);
+        assert_is(("end of the types of", source), found, *end);
     }
 }

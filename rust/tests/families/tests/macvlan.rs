@@ -7,6 +7,19 @@ use linkinfo::layers::nla_frame::{ExactEq, NlaBuffer, Parseable};
 use linkinfo::layers::numbers::{MacVlanFlags, MacVlanMacAddressMode, MacVlanMode};
 use linkinfo::layers::table::LinkFamily;
 
+/// Numbers of lists around an attribute: none, the maximum, and more.
+const DEPTHS: &[u8] = &[0, 127, 128, 255];
+
+/// Asserts that the attribute is the canonical one of the value inside this many lists, and that
+/// payloads of other lengths are rejected there.
+fn is_row_at<F>(lists: u8, bytes: &[u8], value: &F)
+where
+    F: LinkFamily<Context = u8> + ExactEq,
+{
+    is_row(lists, bytes, value);
+    has_one_length::<F>(lists, bytes);
+}
+
 /// Asserts that the attribute is the canonical one of the value at depth 0, at the maximum depth
 /// and below it, and that payloads of other lengths are rejected.
 fn is_row_everywhere<'a, F>(bytes: &'a [u8], value: &F)
@@ -14,9 +27,8 @@ where
     F: LinkFamily<Context = u8> + Parseable<NlaBuffer<'a>> + ExactEq,
 {
     is_parsed(bytes, value);
-    for lists in [0, 127, 128, 255] {
-        is_row(lists, bytes, value);
-        has_one_length::<F>(lists, bytes);
+    for lists in DEPTHS {
+        is_row_at(*lists, bytes, value);
     }
 }
 

@@ -1,16 +1,15 @@
 //! Nested address lists.
 
 use super::rows::{
-    assert_is, attribute, compare_lists, error, is_emitted, is_not_parsed, is_parsed, is_rejected,
-    list_checked,
+    assert_is, attribute, compare_lists, error, is_emitted, is_list_read, is_not_parsed, is_parsed,
+    is_rejected, list_checked, list_is_emitted,
 };
 use crate::support::*;
 use linkinfo::layers::devices::{InfoMacVlan, InfoMacVtap};
 use linkinfo::layers::nla_frame::{
-    Cause, ExactEq, Family, HeaderCount, Nla, NlaBuffer, Nlas, Parseable, emit_nlas, is_equal,
-    nlas_buffer_len, nlas_fit_len,
+    Cause, ExactEq, Family, HeaderCount, Nla, NlaBuffer, Nlas, Parseable, is_equal,
 };
-use linkinfo::layers::table::{LinkFamily, Lookup, Shape, list_read};
+use linkinfo::layers::table::{LinkFamily, Lookup, Shape};
 
 /// The maximum number of lists in a chain that fits.
 const LONGEST_CHAIN: u16 = 16383;
@@ -45,11 +44,16 @@ fn chain(lists: u16) -> Vec<u8> {
     bytes
 }
 
-/// A list of one value.
-fn list_of<F: HoldsLists>(value: F) -> F {
+/// The value alone.
+fn only<F>(value: F) -> Vec<F> {
     let mut items = Vec::new();
     items.try_push(value).expect("memory");
-    F::from_list(Nlas::new(items))
+    items
+}
+
+/// A list of one value.
+fn list_of<F: HoldsLists>(value: F) -> F {
+    F::from_list(Nlas::new(only(value)))
 }
 
 /// The value of such a chain.
@@ -61,49 +65,34 @@ fn chain_value<F: HoldsLists>(lists: u16) -> F {
     value
 }
 
-/// Asserts that the list is written as these bytes, and the byte after them stays unchanged.
-fn is_written<F: Nla>(items: &[F], bytes: &[u8]) {
-    let len = bytes.len();
-    assert!(len < 1000);
-    assert!(nlas_fit_len(items) == Some(len));
-    assert!(nlas_buffer_len(items) == len);
-    let mut buffer = [255; 1000];
-    emit_nlas(items, &mut buffer);
-    assert_is("emit_nlas", &buffer[..len], bytes);
-    assert!(buffer[len] == 255);
-}
-
 /// Asserts that each call reads the byte string of at most 128 lists as the value of its chain,
 /// with a header for each list, and writes it back unchanged.
 fn is_chain<'a, F>(bytes: &'a [u8], lists: u16)
 where
     F: HoldsLists + LinkFamily<Context = u8> + Parseable<NlaBuffer<'a>> + ExactEq,
 {
-    assert!(bytes.len() < 1000);
     let value: F = chain_value(lists);
     is_parsed(bytes, &value);
-    let mut count = HeaderCount::new();
-    let read: Vec<F> = list_read(bytes, 0, &mut count).expect("a list");
-    assert!(read.len() == 1);
+    let values = only(value);
     let headers = usize::from(lists);
+    is_list_read(0, bytes, values.as_slice(), headers);
     assert_is(
-        ("list read", bytes),
-        (
-            is_equal(&read[0], &value),
-            count.get(),
-            list_checked::<F>(0, bytes),
-        ),
-        (true, headers, (Ok(()), headers)),
+        ("list_check", lists),
+        list_checked::<F>(0, bytes),
+        (Ok(()), headers),
     );
-    is_written(read.as_slice(), bytes);
+    list_is_emitted(values.as_slice(), bytes);
 }
+
+/// Numbers of lists in a chain that is accepted: the two least and the two most.
+const ACCEPTED: &[u16] = &[1, 2, 127, 128];
 
 #[test]
 fn chains_of_at_most_128_lists() {
-    for lists in [1, 2, 127, 128] {
-        let bytes = chain(lists);
-        is_chain::<InfoMacVlan>(bytes.as_slice(), lists);
-        is_chain::<InfoMacVtap>(bytes.as_slice(), lists);
+    for lists in ACCEPTED {
+        let bytes = chain(*lists);
+        is_chain::<InfoMacVlan>(bytes.as_slice(), *lists);
+        is_chain::<InfoMacVtap>(bytes.as_slice(), *lists);
     }
 }
 
@@ -132,30 +121,36 @@ fn chain_of_129_lists() {
     is_not_parsed::<InfoMacVtap>(bytes.as_slice(), deep);
 }
 
-/// Asserts that a list nested in 127 others is accepted, and one nested in 128 is rejected before
-/// its payload is examined.
-fn has_most_lists<F>()
-where
-    F: HoldsLists + LinkFamily<Context = u8>,
-{
-    for lists in [0, 127] {
-        assert!(<F as LinkFamily>::shape(lists, 5) == Lookup::Is(Shape::SelfList));
-    }
-    // A list with a stray byte, with flag bits in its type.
-    let bytes = [5, 0, 5, 0xc0, 1, 0, 0, 0];
-    let nla = attribute(&bytes);
-    let mut count = HeaderCount::new();
+/// A list with a stray byte, with flag bits in its type.
+const STRAY: &[u8] = &[5, 0, 5, 0xc0, 1, 0, 0, 0];
+
+/// Asserts that the payload of a list nested in this many others is examined.
+fn examines_lists<F: LinkFamily<Context = u8>>(lists: u8) {
     assert_is(
-        "inside 127 lists",
-        F::check_value(&nla, 127, &mut count),
+        ("a list inside lists", lists),
+        F::shape(lists, 5),
+        Lookup::Is(Shape::SelfList),
+    );
+    assert_is(
+        ("a stray byte inside lists", lists),
+        F::check_value(&attribute(STRAY), lists, &mut HeaderCount::new()),
         Err(error(Family::Frame, 0, Cause::Header)),
     );
-    for lists in [128, 255] {
-        assert!(<F as LinkFamily>::shape(lists, 5) == Lookup::Refused(Cause::Depth));
-        is_rejected::<F>(lists, &bytes, Cause::Depth);
-    }
-    // Nested in 127 others it may be empty, and must not contain another.
-    let deep = error(<F as LinkFamily>::FAMILY, 5, Cause::Depth);
+}
+
+/// Asserts that a list nested in this many others is rejected before its payload is examined.
+fn refuses_lists<F: LinkFamily<Context = u8>>(lists: u8) {
+    assert_is(
+        ("a list inside lists", lists),
+        F::shape(lists, 5),
+        Lookup::Refused(Cause::Depth),
+    );
+    is_rejected::<F>(lists, STRAY, Cause::Depth);
+}
+
+/// Asserts that a list nested in 127 others may be empty, and must not contain another.
+fn has_last_list<F: LinkFamily<Context = u8>>() {
+    let deep = error(F::FAMILY, 5, Cause::Depth);
     assert_is(
         "inside 127 lists",
         [
@@ -164,6 +159,16 @@ where
         ],
         [(Ok(()), 1), (Err(deep), 2)],
     );
+}
+
+/// Asserts that a list nested in 127 others is accepted, and one nested in 128 is rejected before
+/// its payload is examined.
+fn has_most_lists<F: LinkFamily<Context = u8>>() {
+    examines_lists::<F>(0);
+    examines_lists::<F>(127);
+    refuses_lists::<F>(128);
+    refuses_lists::<F>(255);
+    has_last_list::<F>();
 }
 
 #[test]
@@ -180,10 +185,13 @@ fn has_worked_list(value: InfoMacVlan) {
     is_parsed(&bare, &value);
     is_emitted(&value, &padded);
     assert!(value.fit_len() == Some(12));
-    assert!(value.value_len() == 12);
     let mut payload = [255; 12];
     value.emit_value(&mut payload);
-    assert_is("emit_value", payload.as_slice(), &padded[4..]);
+    assert_is(
+        "value_len, emit_value",
+        (value.value_len(), payload.as_slice()),
+        (12, &padded[4..]),
+    );
 }
 
 #[test]
@@ -260,8 +268,8 @@ where
     F: HoldsLists + LinkFamily<Context = u8>,
 {
     compare_lists::<F>(0, PAIRS);
-    for lists in [1, 2, 127, 128] {
-        compares_chains::<F>(lists);
+    for lists in ACCEPTED {
+        compares_chains::<F>(*lists);
     }
 }
 
@@ -345,26 +353,26 @@ fn nested_lists_are_equal() {
     are_equal_by_depth::<InfoMacVtap>();
 }
 
+/// Asserts that the byte string of a chain of this many lists is rejected at the 129th.
+fn is_too_deep<F: LinkFamily<Context = u8>>(lists: u16, bytes: &[u8]) {
+    let deep = error(F::FAMILY, 5, Cause::Depth);
+    assert_is(
+        ("list_check", lists),
+        list_checked::<F>(0, bytes),
+        (Err(deep), 129),
+    );
+}
+
 /// Asserts that a value deeper than a well-formed one is measured and written too, and is not read
 /// back.
 fn is_written_at_any_depth<F>(lists: u16)
 where
-    F: HoldsLists + LinkFamily<Context = u8> + Nla,
+    F: HoldsLists + LinkFamily<Context = u8>,
 {
-    let mut items: Vec<F> = Vec::new();
-    items.try_push(chain_value(lists)).expect("memory");
+    let items: Vec<F> = only(chain_value(lists));
     let bytes = chain(lists);
-    assert!(nlas_fit_len(items.as_slice()) == Some(bytes.len()));
-    assert!(nlas_buffer_len(items.as_slice()) == bytes.len());
-    let mut buffer = try_vec![255u8; bytes.len()].expect("memory");
-    emit_nlas(items.as_slice(), buffer.as_mut_slice());
-    assert!(buffer.as_slice() == bytes.as_slice());
-    let deep = error(<F as LinkFamily>::FAMILY, 5, Cause::Depth);
-    assert_is(
-        ("list_check", lists),
-        list_checked::<F>(0, bytes.as_slice()),
-        (Err(deep), 129),
-    );
+    list_is_emitted(items.as_slice(), bytes.as_slice());
+    is_too_deep::<F>(lists, bytes.as_slice());
 }
 
 /// Asserts that the value of a chain has this length, if it fits.
@@ -373,11 +381,14 @@ fn has_fit_len(lists: u16, wanted: Option<usize>) {
     assert_is(("fit_len", lists), value.fit_len(), wanted);
 }
 
+/// Numbers of lists in a chain that is too deep, and fits.
+const TOO_DEEP: &[u16] = &[129, 1000, 16000, LONGEST_CHAIN];
+
 #[test]
 fn values_beyond_the_maximum_depth() {
-    for lists in [129, 1000, 16000, LONGEST_CHAIN] {
-        is_written_at_any_depth::<InfoMacVlan>(lists);
-        is_written_at_any_depth::<InfoMacVtap>(lists);
+    for lists in TOO_DEEP {
+        is_written_at_any_depth::<InfoMacVlan>(*lists);
+        is_written_at_any_depth::<InfoMacVtap>(*lists);
     }
     has_fit_len(LONGEST_CHAIN, Some(65528));
     has_fit_len(LONGEST_CHAIN + 1, None);

@@ -58,13 +58,16 @@ where
 {
     let nla = attribute(bytes);
     assert_is(
-        ("kept", bytes),
-        (kept.kind, kept.value.as_slice()),
-        (nla.raw_kind(), nla.value()),
+        ("kept, same", bytes),
+        (
+            kept.kind,
+            kept.value.as_slice(),
+            are_same::<F>((), bytes, bytes),
+        ),
+        (nla.raw_kind(), nla.value(), true),
     );
     let value = F::from_other(kept);
     is_read((), bytes, &value);
-    assert!(are_same::<F>((), bytes, bytes));
     is_emitted(&value, bytes);
 }
 
@@ -111,7 +114,6 @@ fn keeps_marked<'a, F>(bytes: &'a [u8], value: F)
 where
     F: LinkFamily<Context = ()> + Parseable<NlaBuffer<'a>> + ExactEq,
 {
-    assert!(bytes == MARKED.as_slice());
     is_parsed(bytes, &value);
     is_read((), bytes, &value);
 }

@@ -2,17 +2,18 @@
 
 use super::rows::{
     UNLISTED, are_same, assert_is, compare, compare_lists, error, first_checked,
-    first_is_written_as, has_shapes, is_emitted, is_list, is_not_parsed, is_parsed, is_read,
-    is_rejected, keeps_unlisted, list_checked, list_is_written_as, same_with_flags, unlisted,
+    first_is_written_as, firsts_same, has_shapes, is_emitted, is_first, is_list_of, is_not_parsed,
+    is_parsed, is_read, is_rejected, keeps_unlisted, list_checked, list_is_written_as,
+    same_with_flags, unlisted,
 };
 use crate::support::*;
 use linkinfo::layers::nla_frame::{
-    Bytes, Cause, DecodeError, ExactEq, Family, HeaderCount, Nla, NlaBuffer, Parseable, is_equal,
+    Bytes, Cause, DecodeError, ExactEq, Family, Nla, NlaBuffer, Parseable, is_equal,
 };
 use linkinfo::layers::peers::{
     BitPeer, InfoNetkit, InfoNetkitOf, InfoVeth, InfoVethOf, InfoVxcan, InfoVxcanOf,
 };
-use linkinfo::layers::table::{LinkFamily, Shape, first_check, first_read, first_same};
+use linkinfo::layers::table::{LinkFamily, Shape};
 
 /// A peer of the byte 7.
 const SEVEN: &[u8] = &[5, 0, 1, 0, 7];
@@ -80,15 +81,17 @@ where
 
 /// Asserts that the family reads peers as bytes: the values are those of the byte strings `EMPTY`
 /// and `TWO`.
-fn has_peers_of_bytes<'a, F>((empty_bytes, two_bytes): (&'a [u8], &'a [u8]), empty: &F, two: &F)
+fn has_peers_of_bytes<'a, F>((empty_bytes, two_bytes): (&'a [u8], &'a [u8]), values: [F; 2])
 where
     F: LinkFamily<Context = ()> + Parseable<NlaBuffer<'a>> + ExactEq + Clone,
 {
+    let [empty, two] = &values;
     has_peer(empty_bytes, empty, EMPTY);
     has_peer(two_bytes, two, TWO);
     has_first(two);
-    assert!(!is_equal(empty, two));
+    assert_is("peers equal", is_equal(empty, two), false);
     compares_bytes::<F>();
+    is_list_of((), LIST_OF_BYTES, values.as_slice());
 }
 
 /// Attributes with a peer of bytes, and whether they are equivalent.
@@ -108,25 +111,28 @@ fn compares_bytes<F: LinkFamily<Context = ()>>() {
     compare_lists::<F>((), PAIRS_OF_LISTS_OF_BYTES);
 }
 
-/// Asserts that the family reads peers as bits: true for the first two byte strings, false for the
-/// third, and an error for the last.
+/// Asserts that the family has this name and reads peers as bits: true for the first two byte
+/// strings, false for the third, and an error for the last.
 fn has_peers_of_bits<'a, F>(
+    family: Family,
     (seven, nine, zero, two): (&'a [u8], &'a [u8], &'a [u8], &'a [u8]),
-    set: &F,
-    clear: &F,
+    values: [F; 2],
 ) where
     F: LinkFamily<Context = ()> + Parseable<NlaBuffer<'a>> + ExactEq + Clone,
 {
+    assert_is("family", <F as LinkFamily>::FAMILY, family);
+    let [set, clear] = &values;
     has_peer(seven, set, ONE);
     has_peer(nine, set, ONE);
     has_peer(zero, clear, ZERO);
-    assert!(!is_equal(set, clear));
-    is_not_parsed::<F>(two, rejected(<F as LinkFamily>::FAMILY));
+    assert_is("peers equal", is_equal(set, clear), false);
+    is_not_parsed::<F>(two, rejected(family));
     // The peer, and not the family, rejects a payload of another length.
     is_rejected::<F>((), TWO, Cause::Peer);
     is_rejected::<F>((), EMPTY, Cause::Peer);
     refuses_two_bytes::<F>();
     compares_bits::<F>();
+    is_list_of((), LIST_OF_BITS, values.as_slice());
 }
 
 /// Pairs of lists of peers of bits, and the headers examined if they are equivalent.
@@ -149,21 +155,11 @@ fn has_first<F>(value: &F)
 where
     F: LinkFamily<Context = ()> + ExactEq,
 {
-    for bytes in [&TAIL[..6], TAIL] {
-        let mut count = HeaderCount::new();
-        let read = first_read::<F>(bytes, (), &mut count).expect("a value");
-        assert_is(
-            ("first_read", bytes),
-            (is_equal(&read, value), count.get()),
-            (true, 1),
-        );
-    }
-    let mut count = HeaderCount::new();
-    assert!(first_check::<F>(TAIL, (), &mut count).is_ok());
-    let mut count = HeaderCount::new();
-    let same = first_same::<F>(TAIL, TAIL, (), &mut count);
-    assert_is("first_same", (same, count.get()), (true, 2));
-    first_is_written_as::<F>((), TAIL, &[6, 0, 1, 0, 0xaa, 0xbb, 0, 0]);
+    is_first((), &TAIL[..6], value);
+    is_first((), TAIL, value);
+    let same = firsts_same::<F>((), TAIL, TAIL);
+    assert_is("first_same", same, (true, 2));
+    first_is_written_as::<F>((), TAIL, TWO);
     list_is_written_as::<F>((), LIST_OF_BYTES, LIST_OF_BYTES);
 }
 
@@ -181,65 +177,53 @@ fn refuses_two_bytes<F: LinkFamily<Context = ()>>() {
 #[test]
 fn veth_with_peers_of_bytes() {
     has_shapes::<InfoVeth>((), &[(1, Shape::Peer)]);
-    let two = InfoVeth::Peer(two_bytes());
     let empty = InfoVeth::Peer(no_bytes());
-    has_peers_of_bytes((EMPTY, TWO), &empty, &two);
-    is_list((), LIST_OF_BYTES, [empty, two]);
+    let two = InfoVeth::Peer(two_bytes());
+    has_peers_of_bytes((EMPTY, TWO), [empty, two]);
 }
 
 #[test]
 fn vxcan_with_peers_of_bytes() {
     has_shapes::<InfoVxcan>((), &[(1, Shape::Peer)]);
-    let two = InfoVxcan::Peer(two_bytes());
     let empty = InfoVxcan::Peer(no_bytes());
-    has_peers_of_bytes((EMPTY, TWO), &empty, &two);
-    is_list((), LIST_OF_BYTES, [empty, two]);
+    let two = InfoVxcan::Peer(two_bytes());
+    has_peers_of_bytes((EMPTY, TWO), [empty, two]);
 }
 
 #[test]
 fn netkit_with_peers_of_bytes() {
-    let two = InfoNetkit::Peer(two_bytes());
     let empty = InfoNetkit::Peer(no_bytes());
-    has_peers_of_bytes((EMPTY, TWO), &empty, &two);
-    is_list((), LIST_OF_BYTES, [empty, two]);
+    let two = InfoNetkit::Peer(two_bytes());
+    has_peers_of_bytes((EMPTY, TWO), [empty, two]);
 }
 
 #[test]
 fn veth_with_peers_of_bits() {
     has_shapes::<InfoVethOf<BitPeer>>((), &[(1, Shape::Peer)]);
-    let family = <InfoVethOf<BitPeer> as LinkFamily>::FAMILY;
-    assert_is("family", family, Family::Veth);
-    let (set, clear) = (
+    let values = [
         InfoVethOf::Peer(BitPeer(true)),
         InfoVethOf::Peer(BitPeer(false)),
-    );
-    has_peers_of_bits((SEVEN, NINE, ZERO, TWO), &set, &clear);
-    is_list((), LIST_OF_BITS, [set, clear]);
+    ];
+    has_peers_of_bits(Family::Veth, (SEVEN, NINE, ZERO, TWO), values);
 }
 
 #[test]
 fn vxcan_with_peers_of_bits() {
     has_shapes::<InfoVxcanOf<BitPeer>>((), &[(1, Shape::Peer)]);
-    let family = <InfoVxcanOf<BitPeer> as LinkFamily>::FAMILY;
-    assert_is("family", family, Family::Vxcan);
-    let (set, clear) = (
+    let values = [
         InfoVxcanOf::Peer(BitPeer(true)),
         InfoVxcanOf::Peer(BitPeer(false)),
-    );
-    has_peers_of_bits((SEVEN, NINE, ZERO, TWO), &set, &clear);
-    is_list((), LIST_OF_BITS, [set, clear]);
+    ];
+    has_peers_of_bits(Family::Vxcan, (SEVEN, NINE, ZERO, TWO), values);
 }
 
 #[test]
 fn netkit_with_peers_of_bits() {
-    let family = <InfoNetkitOf<BitPeer> as LinkFamily>::FAMILY;
-    assert_is("family", family, Family::Netkit);
-    let (set, clear) = (
+    let values = [
         InfoNetkitOf::Peer(BitPeer(true)),
         InfoNetkitOf::Peer(BitPeer(false)),
-    );
-    has_peers_of_bits((SEVEN, NINE, ZERO, TWO), &set, &clear);
-    is_list((), LIST_OF_BITS, [set, clear]);
+    ];
+    has_peers_of_bits(Family::Netkit, (SEVEN, NINE, ZERO, TWO), values);
 }
 
 #[test]
@@ -264,14 +248,15 @@ fn zeros(len: usize) -> Bytes {
     Bytes::new(try_vec![0u8; len].expect("memory"))
 }
 
+/// Asserts that a peer of this many bytes has this length in each family, if it fits.
+fn has_len_of_peer(len: usize, wanted: Option<usize>) {
+    has_len(InfoVeth::Peer(zeros(len)), wanted);
+    has_len(InfoVxcan::Peer(zeros(len)), wanted);
+    has_len(InfoNetkit::Peer(zeros(len)), wanted);
+}
+
 #[test]
 fn longest_peers() {
-    for (len, fits) in [(65531, Some(65531)), (65532, None)] {
-        let veth = InfoVeth::Peer(zeros(len));
-        has_len(veth, fits);
-        let vxcan = InfoVxcan::Peer(zeros(len));
-        has_len(vxcan, fits);
-        let netkit = InfoNetkit::Peer(zeros(len));
-        has_len(netkit, fits);
-    }
+    has_len_of_peer(65531, Some(65531));
+    has_len_of_peer(65532, None);
 }

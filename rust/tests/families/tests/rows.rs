@@ -6,8 +6,9 @@ use linkinfo::layers::nla_frame::{
     emit_nlas, is_equal, nlas_buffer_len, nlas_fit_len,
 };
 use linkinfo::layers::table::{
-    LinkFamily, Lookup, Shape, first_canonical_len, first_check, first_write_canonical,
-    list_canonical_len, list_check, list_read, list_same, list_write_canonical,
+    LinkFamily, Lookup, Shape, first_canonical_len, first_check, first_read, first_same,
+    first_write_canonical, list_canonical_len, list_check, list_read, list_same,
+    list_write_canonical,
 };
 use std::fmt::Debug;
 
@@ -31,7 +32,6 @@ pub(super) fn unlisted() -> DefaultNla {
 
 /// The first attribute of the bytes.
 pub(super) fn attribute<'a>(bytes: &'a [u8]) -> NlaBuffer<'a> {
-    assert!(bytes.len() < 1000);
     NlaBuffer::new_checked(bytes).expect("an attribute")
 }
 
@@ -43,16 +43,29 @@ pub(super) fn error(family: Family, kind: u16, cause: Cause) -> DecodeError {
     }
 }
 
+/// The shape that these rows give to a type, if one is of the type.
+fn shape_in(rows: &[(u16, Shape)], kind: u16) -> Lookup {
+    for (number, shape) in rows {
+        if *number == kind {
+            return Lookup::Is(*shape);
+        }
+    }
+    Lookup::Unknown
+}
+
+/// Asserts that the family has the shape that these rows give to a type.
+fn has_shape<F: LinkFamily>(ctx: F::Context, rows: &[(u16, Shape)], kind: u16) {
+    assert_is(
+        ("shape of type", kind),
+        F::shape(ctx, kind),
+        shape_in(rows, kind),
+    );
+}
+
 /// Asserts that the family has these shapes by type without flag bits, and no other row up to 39.
 pub(super) fn has_shapes<F: LinkFamily>(ctx: F::Context, rows: &[(u16, Shape)]) {
     for kind in 0..40 {
-        let mut wanted = Lookup::Unknown;
-        for row in rows {
-            if row.0 == kind {
-                wanted = Lookup::Is(row.1);
-            }
-        }
-        assert!(F::shape(ctx, kind) == wanted);
+        has_shape::<F>(ctx, rows, kind);
     }
 }
 
@@ -103,11 +116,11 @@ pub(super) fn is_rejected<F: LinkFamily>(ctx: F::Context, bytes: &[u8], cause: C
 /// unchanged.
 fn begins_with(buffer: &[u8; 27], bytes: &[u8]) {
     let len = bytes.len();
-    assert!(len <= 24);
+    let buffer = buffer.as_slice();
     assert_is(
         "front, rest",
-        (&buffer[..len], &buffer[len..]),
-        (bytes, &[255; 27][len..]),
+        (buffer.get(..len), buffer.get(len..)),
+        (Some(bytes), [255; 27].as_slice().get(len..)),
     );
 }
 
@@ -115,28 +128,33 @@ fn begins_with(buffer: &[u8; 27], bytes: &[u8]) {
 pub(super) fn is_emitted<F: Nla>(value: &F, bytes: &[u8]) {
     let nla = attribute(bytes);
     let payload = nla.value().len();
-    assert!(value.fit_len() == Some(payload));
+    let len = value.fit_len().expect("a value that fits");
     let written = value.buffer_len();
-    assert!(written == bytes.len() && written <= 24);
+    assert!(written <= 24);
+    let mut front = [255; 27];
     assert_is(
-        ("kind, value_len", bytes),
-        (value.kind(), value.value_len()),
-        (nla.raw_kind(), payload),
+        ("kind, lengths", bytes),
+        (
+            value.kind(),
+            [
+                written,
+                len,
+                value.value_len(),
+                value.emit_payload(&mut front),
+            ],
+        ),
+        (nla.raw_kind(), [bytes.len(), payload, payload, payload]),
     );
+    begins_with(&front, nla.value());
     let mut buffer = [255; 27];
     value.emit(&mut buffer);
     begins_with(&buffer, bytes);
-    let mut front = [255; 27];
-    let taken = value.emit_payload(&mut front);
-    assert!(taken == payload);
-    begins_with(&front, nla.value());
 }
 
 /// The attribute of the bytes, which is accepted.
 fn accepted<'a, F: LinkFamily>(ctx: F::Context, bytes: &'a [u8]) -> NlaBuffer<'a> {
     let nla = attribute(bytes);
-    let checked = F::check_value(&nla, ctx, &mut HeaderCount::new());
-    assert!(checked.is_ok());
+    F::check_value(&nla, ctx, &mut HeaderCount::new()).expect("an accepted attribute");
     nla
 }
 
@@ -180,7 +198,7 @@ pub(super) fn compare<F: LinkFamily>(ctx: F::Context, pairs: &[(&[u8], &[u8], bo
 /// is accepted.
 pub(super) fn same_with_flags<F: LinkFamily>(ctx: F::Context, bytes: &[u8]) -> bool {
     let len = bytes.len();
-    assert!(4 <= len && len <= 24);
+    assert!(len <= 24);
     let mut marked = [0; 24];
     marked[..len].copy_from_slice(bytes);
     marked[3] ^= 0x40;
@@ -190,7 +208,8 @@ pub(super) fn same_with_flags<F: LinkFamily>(ctx: F::Context, bytes: &[u8]) -> b
 /// Asserts that the attribute is the canonical one of a row's datum, whose flag bits do not matter.
 pub(super) fn is_row<F: LinkFamily + ExactEq>(ctx: F::Context, bytes: &[u8], value: &F) {
     is_read(ctx, bytes, value);
-    assert!(same_with_flags::<F>(ctx, bytes));
+    let same = same_with_flags::<F>(ctx, bytes);
+    assert_is(("same with flags", bytes), same, true);
     is_emitted(value, bytes);
     is_written_as::<F>(ctx, bytes, bytes);
 }
@@ -199,36 +218,39 @@ pub(super) fn is_row<F: LinkFamily + ExactEq>(ctx: F::Context, bytes: &[u8], val
 /// cause Length.
 pub(super) fn has_one_length<F: LinkFamily>(ctx: F::Context, bytes: &[u8]) {
     let len = bytes.len();
-    assert!(5 <= len && len <= 24);
+    assert!(len <= 24);
     let mut attribute = [0; 28];
     attribute[..len].copy_from_slice(bytes);
     let length = attribute[0];
-    assert!(5 <= length && length <= 24);
-    attribute[0] = length - 1;
+    attribute[0] = length.saturating_sub(1);
     is_rejected::<F>(ctx, &attribute, Cause::Length);
-    attribute[0] = length + 1;
+    attribute[0] = length.saturating_add(1);
     is_rejected::<F>(ctx, &attribute, Cause::Length);
 }
 
 /// Asserts a presence flag: its canonical attribute is empty, and any payload is equivalent.
-pub(super) fn is_mark<F: LinkFamily + ExactEq>(ctx: F::Context, bytes: &[u8], value: &F) {
-    assert!(bytes.len() == 4);
+pub(super) fn is_mark<F: LinkFamily + ExactEq>(ctx: F::Context, bytes: &[u8; 4], value: &F) {
     is_row(ctx, bytes, value);
-    is_read(ctx, &[5, 0, bytes[2], 0, 7, 0, 0, 0], value);
-    is_written_as::<F>(ctx, &[5, 0, bytes[2], 0, 7, 0, 0, 0], bytes);
+    let longer = [5, 0, bytes[2], 0, 7, 0, 0, 0];
+    is_read(ctx, &longer, value);
+    is_written_as::<F>(ctx, &longer, bytes);
 }
 
-/// Asserts that `UNLISTED` is the value, an opaque attribute whose flag bits matter, and that a
-/// clone is equal.
-pub(super) fn is_kept<F: LinkFamily + ExactEq + Clone>(ctx: F::Context, value: &F) {
-    is_read(ctx, &UNLISTED, value);
-    let same = same_with_flags::<F>(ctx, &UNLISTED);
+/// Asserts that the attribute `UNLISTED` is the value, an opaque attribute whose flag bits matter,
+/// and that a clone is equal.
+pub(super) fn is_kept<F: LinkFamily + ExactEq + Clone>(
+    ctx: F::Context,
+    unlisted: &[u8],
+    value: &F,
+) {
+    is_read(ctx, unlisted, value);
+    let same = same_with_flags::<F>(ctx, unlisted);
     assert_is(
         "a clone, flag bits",
         (is_equal(&value.try_clone().expect("memory"), value), same),
         (true, false),
     );
-    is_emitted(value, &UNLISTED);
+    is_emitted(value, unlisted);
 }
 
 /// Asserts that `parse` reads the attribute as the value.
@@ -239,7 +261,7 @@ pub(super) fn is_parsed<'a, F: Parseable<NlaBuffer<'a>> + ExactEq>(bytes: &'a [u
 
 /// Asserts that the attribute is the canonical one of the value and is parsed as it, and that
 /// payloads of other lengths are rejected.
-pub(super) fn has_row<'a, F>(bytes: &'a [u8], value: &F)
+fn has_row<'a, F>(bytes: &'a [u8], value: &F)
 where
     F: LinkFamily<Context = ()> + Parseable<NlaBuffer<'a>> + ExactEq,
 {
@@ -275,24 +297,23 @@ where
 }
 
 /// Asserts that each attribute is the canonical one of a presence flag, and is parsed as its value.
-pub(super) fn has_marks<'a, F>(rows: &[(&'a [u8], F)])
+pub(super) fn has_marks<'a, F>(rows: &[(&'a [u8; 4], F)])
 where
     F: LinkFamily<Context = ()> + Parseable<NlaBuffer<'a>> + ExactEq,
 {
     for (bytes, value) in rows {
-        is_parsed(bytes, value);
+        is_parsed(bytes.as_slice(), value);
         is_mark((), bytes, value);
     }
 }
 
 /// Asserts that the attribute `UNLISTED` is parsed as the value, an opaque attribute.
-pub(super) fn keeps_unlisted<'a, F>(ctx: F::Context, bytes: &'a [u8], value: F)
+pub(super) fn keeps_unlisted<'a, F>(ctx: F::Context, unlisted: &'a [u8], value: F)
 where
     F: LinkFamily + Parseable<NlaBuffer<'a>> + ExactEq + Clone,
 {
-    assert!(bytes == UNLISTED.as_slice());
-    is_parsed(bytes, &value);
-    is_kept(ctx, &value);
+    is_parsed(unlisted, &value);
+    is_kept(ctx, unlisted, &value);
 }
 
 /// Asserts that each attribute is the canonical one of its value, and that the attribute `UNLISTED`
@@ -336,7 +357,6 @@ pub(super) fn list_checked<F: LinkFamily>(
     ctx: F::Context,
     bytes: &[u8],
 ) -> (Result<(), DecodeError>, usize) {
-    assert!(bytes.len() < 100_000);
     let mut count = HeaderCount::new();
     let checked = list_check::<F>(bytes, ctx, &mut count);
     (checked, count.get())
@@ -347,7 +367,6 @@ pub(super) fn list_error<F: LinkFamily>(
     ctx: F::Context,
     bytes: &[u8],
 ) -> (Option<DecodeError>, usize) {
-    assert!(bytes.len() < 100_000);
     let mut count = HeaderCount::new();
     let read: Result<Vec<F>, DecodeError> = list_read(bytes, ctx, &mut count);
     (read.err(), count.get())
@@ -358,7 +377,6 @@ pub(super) fn first_checked<F: LinkFamily>(
     ctx: F::Context,
     bytes: &[u8],
 ) -> (Result<(), DecodeError>, usize) {
-    assert!(bytes.len() < 100_000);
     let mut count = HeaderCount::new();
     let checked = first_check::<F>(bytes, ctx, &mut count);
     (checked, count.get())
@@ -366,9 +384,7 @@ pub(super) fn first_checked<F: LinkFamily>(
 
 /// Asserts that the list is accepted.
 fn is_accepted<F: LinkFamily>(ctx: F::Context, bytes: &[u8]) {
-    assert!(bytes.len() < 1000);
-    let checked = list_check::<F>(bytes, ctx, &mut HeaderCount::new());
-    assert!(checked.is_ok());
+    list_check::<F>(bytes, ctx, &mut HeaderCount::new()).expect("an accepted list");
 }
 
 /// Asserts that the accepted list, of at most 24 bytes, is re-encoded as these bytes, and the bytes
@@ -376,29 +392,53 @@ fn is_accepted<F: LinkFamily>(ctx: F::Context, bytes: &[u8]) {
 pub(super) fn list_is_written_as<F: LinkFamily>(ctx: F::Context, bytes: &[u8], canonical: &[u8]) {
     is_accepted::<F>(ctx, bytes);
     let len = list_canonical_len::<F>(bytes, ctx).expect("a list that fits");
-    assert!(len == canonical.len() && len <= 24);
+    assert!(len <= 24);
     let mut buffer = [255; 27];
     assert_is(
-        ("length written for list", bytes),
-        list_write_canonical::<F>(bytes, ctx, &mut buffer),
-        len,
+        ("length, length written for list", bytes),
+        [len, list_write_canonical::<F>(bytes, ctx, &mut buffer)],
+        [canonical.len(); 2],
     );
     begins_with(&buffer, canonical);
+}
+
+/// Asserts that the first attribute is accepted.
+fn first_is_accepted<F: LinkFamily>(ctx: F::Context, bytes: &[u8]) {
+    first_check::<F>(bytes, ctx, &mut HeaderCount::new()).expect("an accepted attribute");
+}
+
+/// Asserts that the first attribute of the bytes is read as the value, with one header examined.
+pub(super) fn is_first<F: LinkFamily + ExactEq>(ctx: F::Context, bytes: &[u8], value: &F) {
+    let mut count = HeaderCount::new();
+    let read = first_read::<F>(bytes, ctx, &mut count).expect("a value");
+    assert_is(
+        ("first_read", bytes),
+        (is_equal(&read, value), count.get()),
+        (true, 1),
+    );
+}
+
+/// Whether the accepted first attributes of two byte strings are equivalent, and the headers
+/// examined.
+pub(super) fn firsts_same<F: LinkFamily>(ctx: F::Context, a: &[u8], b: &[u8]) -> (bool, usize) {
+    first_is_accepted::<F>(ctx, a);
+    first_is_accepted::<F>(ctx, b);
+    let mut count = HeaderCount::new();
+    let same = first_same::<F>(a, b, ctx, &mut count);
+    (same, count.get())
 }
 
 /// Asserts that the first attribute alone is re-encoded as these bytes, at most 24, and the bytes
 /// after them are unchanged.
 pub(super) fn first_is_written_as<F: LinkFamily>(ctx: F::Context, bytes: &[u8], canonical: &[u8]) {
-    assert!(bytes.len() < 1000);
-    let checked = first_check::<F>(bytes, ctx, &mut HeaderCount::new());
-    assert!(checked.is_ok());
+    first_is_accepted::<F>(ctx, bytes);
     let len = first_canonical_len::<F>(bytes, ctx).expect("an attribute that fits");
-    assert!(len == canonical.len() && len <= 24);
+    assert!(len <= 24);
     let mut buffer = [255; 27];
     assert_is(
-        ("length written for first", bytes),
-        first_write_canonical::<F>(bytes, ctx, &mut buffer),
-        len,
+        ("length, length written for first", bytes),
+        [len, first_write_canonical::<F>(bytes, ctx, &mut buffer)],
+        [canonical.len(); 2],
     );
     begins_with(&buffer, canonical);
 }
@@ -424,6 +464,46 @@ pub(super) fn compare_lists<F: LinkFamily>(
     }
 }
 
+/// Asserts that the list is read as the values, with this number of headers examined.
+pub(super) fn is_list_read<F: LinkFamily + ExactEq>(
+    ctx: F::Context,
+    bytes: &[u8],
+    values: &[F],
+    headers: usize,
+) {
+    let mut count = HeaderCount::new();
+    let read = list_read::<F>(bytes, ctx, &mut count).expect("a list");
+    assert_is(
+        ("list read, headers", bytes),
+        (read.as_slice() == values, count.get()),
+        (true, headers),
+    );
+}
+
+/// Asserts that the list is emitted as these bytes, and the bytes after them are unchanged.
+pub(super) fn list_is_emitted<F: Nla>(items: &[F], bytes: &[u8]) {
+    let len = nlas_fit_len(items).expect("a list that fits");
+    assert!(len < 100_000);
+    let mut buffer = try_vec![255u8; len + 3].expect("memory");
+    emit_nlas(items, buffer.as_mut_slice());
+    let written = buffer.as_slice();
+    assert_is(
+        ("length, front, rest of list", len),
+        (
+            nlas_buffer_len(items),
+            written.get(..len),
+            written.get(len..),
+        ),
+        (bytes.len(), Some(bytes), Some([255; 3].as_slice())),
+    );
+}
+
+/// Asserts that the list is read as these values, which are emitted as the list.
+pub(super) fn is_list_of<F: LinkFamily + ExactEq>(ctx: F::Context, bytes: &[u8], values: &[F]) {
+    is_list_read(ctx, bytes, values, values.len());
+    list_is_emitted(values, bytes);
+}
+
 /// Asserts that the list is read as the values, which are emitted as the list.
 pub(super) fn is_list<F: LinkFamily + ExactEq, const N: usize>(
     ctx: F::Context,
@@ -431,22 +511,4 @@ pub(super) fn is_list<F: LinkFamily + ExactEq, const N: usize>(
     values: [F; N],
 ) {
     is_list_of(ctx, bytes, values.as_slice());
-}
-
-/// Asserts that the list is read as the values with these indices, which are emitted as the list.
-fn is_list_of<F: LinkFamily + ExactEq>(ctx: F::Context, bytes: &[u8], values: &[F]) {
-    let len = bytes.len();
-    assert!(len <= 24);
-    let mut count = HeaderCount::new();
-    let read = list_read::<F>(bytes, ctx, &mut count).expect("a list");
-    assert_is(
-        ("list read, headers", bytes),
-        (read.as_slice() == values, count.get()),
-        (true, values.len()),
-    );
-    assert!(nlas_fit_len(values) == Some(len));
-    assert!(nlas_buffer_len(values) == len);
-    let mut buffer = [255; 27];
-    emit_nlas(values, &mut buffer);
-    begins_with(&buffer, bytes);
 }

@@ -48,19 +48,29 @@ fn bytes_are_peers() {
     );
 }
 
+/// Whether decoded contents are those of a type with a row and these bytes, by `==` and by `!=`.
+fn is_typed(decoded: &Decoded<'_>, kind: u16, bytes: &[u8]) -> (bool, bool) {
+    let typed = Decoded::Typed(kind, Datum::Bytes(bytes));
+    (*decoded == typed, *decoded != typed)
+}
+
+/// Whether a clone of the value is equal to it.
+fn equals_clone<T: Clone + PartialEq>(value: &T) -> bool {
+    value.try_clone().expect("memory") == *value
+}
+
 /// Asserts that decoded contents of a type with a row compare by type and datum.
 fn typed_compare(decoded: &Decoded<'_>, same: &[u8; 2]) {
-    let clone = decoded.try_clone().expect("memory");
     assert_is(
         "what was read",
         [
-            *decoded == Decoded::Typed(1, Datum::Bytes(same)),
-            *decoded != Decoded::Typed(2, Datum::Bytes(same)),
-            *decoded != Decoded::Typed(1, Datum::Bytes(&same[..1])),
-            clone == *decoded,
+            is_typed(decoded, 1, same),
+            is_typed(decoded, 2, same),
+            is_typed(decoded, 1, &same[..1]),
         ],
-        [true; 4],
+        [(true, false), (false, true), (false, true)],
     );
+    assert_is("a clone", equals_clone(decoded), true);
 }
 
 /// Whether the parts and decoded contents of these two opaque attributes are equal.

@@ -1,6 +1,8 @@
 //! A custom family: lists of it read, checked, compared and written.
 
-use super::rows::{compare_lists, has_shapes, is_kept, is_list, is_rejected, is_row, unlisted};
+use super::rows::{
+    UNLISTED, compare_lists, has_shapes, is_kept, is_list, is_rejected, is_row, unlisted,
+};
 use crate::InfoVlanRow;
 use linkinfo::layers::nla_frame::Cause;
 use linkinfo::layers::table::Shape;
@@ -36,7 +38,8 @@ fn custom_family() {
     for (bytes, value) in &ROWS {
         is_row((), bytes, value);
     }
-    is_kept((), &InfoVlanRow::Other(unlisted()));
+    let other = InfoVlanRow::Other(unlisted());
+    is_kept((), &UNLISTED, &other);
     is_list(
         (),
         &LIST,

@@ -56,7 +56,7 @@ const ROWS: [(&[u8], InfoVxlan); 29] = [
 ];
 
 /// Canonical attributes of presence flags, and what they mean.
-const MARKS: [(&[u8], InfoVxlan); 3] = [
+const MARKS: [(&[u8; 4], InfoVxlan); 3] = [
     (&[4, 0, 23, 0], InfoVxlan::Gbp),
     (&[4, 0, 24, 0], InfoVxlan::RemCsumNoPartial),
     (&[4, 0, 27, 0], InfoVxlan::Gpe),
