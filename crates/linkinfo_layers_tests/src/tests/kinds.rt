@@ -274,47 +274,45 @@ fn port_kinds_in_attributes(rt: HostRuntime) {
     }
 }
 
-#[test]
-fn kinds_as_attributes(rt: HostRuntime) {
-    let kind = InfoKind::Pfcp;
-    assert!(rt; kind.fit_len() == Some(5));
+/// Asserts that the kind is written as this attribute, and that the bytes after it are unchanged.
+fn is_written_as<T: Nla>(rt: &impl Abort, alloc: Global, kind: &T, bytes: &[u8]) {
+    let nla = attribute(rt, bytes);
+    let payload = nla.value();
+    let len = kind.fit_len().expect(rt, "a kind that fits");
+    assert!(rt; len == payload.len() && len <= 24);
+    let written = kind.buffer_len();
     assert_is(
-        &rt,
+        rt,
         "kind, value_len, buffer_len",
-        (kind.kind(), kind.value_len(), kind.buffer_len()),
-        (1, 5, 12),
+        (kind.kind(), kind.value_len(), written),
+        (nla.raw_kind(), len, bytes.len()),
     );
-    let mut value = [255; 5];
+    let mut value = vec![in alloc; 255u8; len].expect(rt, "memory");
     kind.emit_value(&mut value);
-    assert_is(&rt, "emit_value", value, [b'p', b'f', b'c', b'p', 0]);
-    let mut buffer = [255; 15];
+    assert_is(rt, "emit_value", value.as_slice(), payload);
+    let mut buffer = vec![in alloc; 255u8; written + 3].expect(rt, "memory");
     kind.emit(&mut buffer);
+    let emitted = (buffer.get(..written), buffer.get(written..));
     assert_is(
-        &rt,
+        rt,
         "emit",
-        buffer,
-        [
-            9, 0, 1, 0, b'p', b'f', b'c', b'p', 0, 0, 0, 0, 255, 255, 255,
-        ],
+        emitted,
+        (Some(bytes), Some([255; 3].as_slice())),
     );
 }
 
 #[test]
+fn kinds_as_attributes(rt: HostRuntime) {
+    let alloc = rt.alloc();
+    let pfcp = [9, 0, 1, 0, b'p', b'f', b'c', b'p', 0, 0, 0, 0];
+    is_written_as(&rt, alloc, &InfoKind::Pfcp, &pfcp);
+}
+
+#[test]
 fn port_kinds_as_attributes(rt: HostRuntime) {
-    let kind = InfoPortKind::Other(text_of(&rt, rt.alloc(), "x"));
-    assert!(rt; kind.fit_len() == Some(2));
-    assert_is(
-        &rt,
-        "kind, value_len, buffer_len",
-        (kind.kind(), kind.value_len(), kind.buffer_len()),
-        (4, 2, 8),
-    );
-    let mut value = [255; 2];
-    kind.emit_value(&mut value);
-    assert_is(&rt, "emit_value", value, [b'x', 0]);
-    let mut buffer = [255; 9];
-    kind.emit(&mut buffer);
-    assert_is(&rt, "emit", buffer, [6, 0, 4, 0, b'x', 0, 0, 0, 255]);
+    let alloc = rt.alloc();
+    let kind = InfoPortKind::Other(text_of(&rt, alloc, "x"));
+    is_written_as(&rt, alloc, &kind, &[6, 0, 4, 0, b'x', 0, 0, 0]);
 }
 
 /// A name of `count` letters.

@@ -246,44 +246,37 @@ fn port_kinds_in_attributes() {
     }
 }
 
-#[test]
-fn kinds_as_attributes() {
-    let kind = InfoKind::Pfcp;
-    assert!(kind.fit_len() == Some(5));
+/// Asserts that the kind is written as this attribute, and that the bytes after it are unchanged.
+fn is_written_as<T: Nla>(kind: &T, bytes: &[u8]) {
+    let nla = attribute(bytes);
+    let payload = nla.value();
+    let len = kind.fit_len().expect("a kind that fits");
+    assert!(len == payload.len() && len <= 24);
+    let written = kind.buffer_len();
     assert_is(
         "kind, value_len, buffer_len",
-        (kind.kind(), kind.value_len(), kind.buffer_len()),
-        (1, 5, 12),
+        (kind.kind(), kind.value_len(), written),
+        (nla.raw_kind(), len, bytes.len()),
     );
-    let mut value = [255; 5];
+    let mut value = try_vec![255u8; len].expect("memory");
     kind.emit_value(&mut value);
-    assert_is("emit_value", value, [b'p', b'f', b'c', b'p', 0]);
-    let mut buffer = [255; 15];
+    assert_is("emit_value", value.as_slice(), payload);
+    let mut buffer = try_vec![255u8; written + 3].expect("memory");
     kind.emit(&mut buffer);
-    assert_is(
-        "emit",
-        buffer,
-        [
-            9, 0, 1, 0, b'p', b'f', b'c', b'p', 0, 0, 0, 0, 255, 255, 255,
-        ],
-    );
+    let emitted = (buffer.get(..written), buffer.get(written..));
+    assert_is("emit", emitted, (Some(bytes), Some([255; 3].as_slice())));
+}
+
+#[test]
+fn kinds_as_attributes() {
+    let pfcp = [9, 0, 1, 0, b'p', b'f', b'c', b'p', 0, 0, 0, 0];
+    is_written_as(&InfoKind::Pfcp, &pfcp);
 }
 
 #[test]
 fn port_kinds_as_attributes() {
     let kind = InfoPortKind::Other(text_of("x"));
-    assert!(kind.fit_len() == Some(2));
-    assert_is(
-        "kind, value_len, buffer_len",
-        (kind.kind(), kind.value_len(), kind.buffer_len()),
-        (4, 2, 8),
-    );
-    let mut value = [255; 2];
-    kind.emit_value(&mut value);
-    assert_is("emit_value", value, [b'x', 0]);
-    let mut buffer = [255; 9];
-    kind.emit(&mut buffer);
-    assert_is("emit", buffer, [6, 0, 4, 0, b'x', 0, 0, 0, 255]);
+    is_written_as(&kind, &[6, 0, 4, 0, b'x', 0, 0, 0]);
 }
 
 /// A name of `count` letters.
