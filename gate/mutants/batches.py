@@ -83,7 +83,7 @@ class Lane:
                                f"correct body would be rejected so too: {line}")
         else:
             proved = "; the crate is still proved" if said.is_proved else ""
-            tally.failed(edit, f"NOT REFUSED by its function: {line}{proved}")
+            tally.failed(edit, f"NOT REJECTED by its function: {line}{proved}")
 
     def try_all(self, edits, draw):
         """Tries all edits: first those whose check is of the whole crate, which keeps what others

@@ -51,8 +51,9 @@ class Reach:
         return {"src/lib.rt", home}.union(*map(self.reached_from, begin))
 
     def law_text(self, path, name):
-        """The text of a function in this file without code, which names no other item of the file,
-        or nothing. A check of it reads only what that text names, and the file's attributes."""
+        """The text of a function in this file with an empty body, which names no other item of the
+        file, or nothing. A check of it reads only what that text names, and attributes of the
+        file."""
         text = self.texts[path]
         found = re.search(rf"^(?:#\[.*\]\n)*pub fn {name}\(\)\n(?:    .*\n)*{{}}$", text, re.M)
         if not found or "#![tactic(auto," in text or text[: found.start()].endswith(")]\n"):

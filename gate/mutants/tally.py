@@ -28,7 +28,7 @@ class Tally:
             self.failed(edit, f"a correct body counts as rejected: {what}")
         else:
             self.seen.append(edit)
-            self.say(edit.label, f"refused: {what}", True)
+            self.say(edit.label, f"rejected: {what}", True)
 
     def accepted(self, edit, kinds):
         self.controls |= kinds

@@ -131,16 +131,16 @@ class Alone(unittest.TestCase):
     def test_a_correct_body_is_found(self):
         passes, failures, line = self.tried(self.PROVED, 0)
         self.assertEqual((passes, failures), (0, 1))
-        self.assertIn("NOT REFUSED", line)
+        self.assertIn("NOT REJECTED", line)
 
     def test_a_mutant_is_rejected(self):
         passes, failures, line = self.tried(self.OPEN, 1)
         self.assertEqual((passes, failures), (1, 0))
-        self.assertIn("refused: ", line)
+        self.assertIn("rejected: ", line)
 
     def test_a_mutant_that_names_a_goal_that_does_not_decide(self):
         line = self.tried(self.OPEN, 1, goal="returns-2")[2]
-        self.assertIn("refused: its line `goal:` does not decide", line)
+        self.assertIn("rejected: its line `goal:` does not decide", line)
 
     def test_a_correct_body_that_counts_as_rejected(self):
         self.assertEqual(self.tried(self.OPEN, 1, is_control=True)[:2], (0, 1))
@@ -227,7 +227,7 @@ class Conclusion(unittest.TestCase):
 
     def test_a_drawn_mutant_that_is_not_rejected(self):
         tally, drawn = Tally("a_crate"), edits(1)
-        tally.failed(drawn[0], "NOT REFUSED by its function")
+        tally.failed(drawn[0], "NOT REJECTED by its function")
         status, said = self.concluded(tally, drawn)
         self.assertEqual(status, 1)
         self.assertIn("wrong.seen is void: drawn and not rejected: f0", said)
@@ -243,7 +243,7 @@ class Conclusion(unittest.TestCase):
     def test_only_a_run_without_failures_writes(self):
         good, bad = Tally("a_crate"), Tally("a_crate")
         good.controls = set(main.CONTROLS)
-        bad.failed(edits(1)[0], "NOT REFUSED")
+        bad.failed(edits(1)[0], "NOT REJECTED")
         with mock.patch.object(seen, "write_seen", return_value=True) as written:
             self.assertEqual(self.concluded(bad, [], True, 0)[0], 1)
             written.assert_not_called()
