@@ -29,6 +29,7 @@ bool bench_unmet(const uint8_t *have, size_t have_len, const uint8_t *want, size
 bool bench_differ(const uint8_t *a, size_t a_len, const uint8_t *b, size_t b_len);
 bool bench_parse(const uint8_t *bytes, size_t len);
 size_t bench_emit(const uint8_t *bytes, size_t len, uint8_t *buffer, size_t room, uint32_t times);
+size_t bench_canon(const uint8_t *bytes, size_t len, uint8_t *buffer, size_t room);
 
 typedef struct {
     char name[32], data;
@@ -37,9 +38,9 @@ typedef struct {
     bool accepted;
 } List;
 
-enum { CHECK, EQUAL, SAME, UNMET, MET, DIFFER, PARSE, EMIT, SCAN, OPERATIONS };
+enum { CHECK, EQUAL, SAME, UNMET, MET, DIFFER, PARSE, EMIT, CANON, SCAN, OPERATIONS };
 static const char *NAMES[] = {"check",  "equal", "same", "unmet", "met",
-                              "differ", "parse", "emit", "scan"};
+                              "differ", "parse", "emit", "canon", "scan"};
 
 static volatile size_t sink;
 
@@ -83,11 +84,15 @@ static void judge(const List *l) {
     expect(l, "parse", bench_parse(l->bytes, l->len), l->accepted);
     size_t len = bench_emit(l->bytes, l->len, l->out, room, 1);
     expect(l, "emit", len != 0, l->accepted);
+    expect(l, "canon", bench_canon(l->bytes, l->len, l->out, room) != 0, l->accepted);
     if (!l->accepted) return;
     expect(l, "same of what is emitted", bench_same(l->out, len, l->bytes, l->len), true);
     uint8_t *again = malloc(room);
     expect(l, "emit of what is emitted", bench_emit(l->out, len, again, room, 1), len);
     expect(l, "what is emitted twice", memcmp(again, l->out, len) == 0, true);
+    memset(again, 0xee, room);
+    expect(l, "length by canon", bench_canon(l->bytes, l->len, again, room), len);
+    expect(l, "what canon writes", memcmp(again, l->out, len) == 0, true);
     free(again);
     expect(l, "scan", scan(l->bytes, l->len, 0, l->data), true);
 }
@@ -116,6 +121,10 @@ static void run(const List *l, int operation, uint32_t times) {
         break;
     case PARSE: for (uint32_t i = 0; i < times; i++) sink += bench_parse(l->bytes, l->len); break;
     case EMIT: sink += bench_emit(l->bytes, l->len, l->out, l->len + 4096, times); break;
+    case CANON:
+        for (uint32_t i = 0; i < times; i++)
+            sink += bench_canon(l->bytes, l->len, l->out, l->len + 4096);
+        break;
     case SCAN:
         for (uint32_t i = 0; i < times; i++) sink += scan(l->bytes, l->len, 0, l->data);
         break;

@@ -51,6 +51,18 @@ pub unsafe extern "C" fn bench_differ(
     matches!(linkinfo::first_difference(a, b), Ok(None))
 }
 
+/// Writes the canonical encoding of the list, and returns its length, or 0.
+#[unsafe(no_mangle)]
+pub unsafe extern "C" fn bench_canon(
+    bytes: *const u8,
+    len: usize,
+    buffer: *mut u8,
+    room: usize,
+) -> usize {
+    let (bytes, buffer) = unsafe { (from_raw_parts(bytes, len), from_raw_parts_mut(buffer, room)) };
+    linkinfo::canon_into(bytes, buffer).unwrap_or(0)
+}
+
 /// Parses the list, and drops it.
 #[unsafe(no_mangle)]
 pub unsafe extern "C" fn bench_parse(bytes: *const u8, len: usize) -> bool {

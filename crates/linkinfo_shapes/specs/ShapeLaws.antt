@@ -592,7 +592,7 @@ joined : {a b c d : List ℕ} → a ≡ c → b ≡ d → a ++ b ≡ c ++ d
 joined {b = b} {c = c} e f = ap (λ x. x ++ b) e ∙ ap (λ x. c ++ x) f
 
 -- each datum has one payload
-abbrev is_exact : Shape → Bool
+abbrev pub is_exact : Shape → Bool
 is_exact Truth = false
 is_exact TruthOne = false
 is_exact Mark = false
@@ -600,8 +600,8 @@ is_exact Name = false
 is_exact Scrub = false
 is_exact _ = true
 
-canon-means : (shape : Shape) (p : List ℕ) (x : Carrier shape) → IsBytes p → means shape p ≡ Ok x →
-    is_exact shape ≡ true → p ≡ canon shape x
+pub canon-means : (shape : Shape) (p : List ℕ) (x : Carrier shape) → IsBytes p →
+    means shape p ≡ Ok x → is_exact shape ≡ true → p ≡ canon shape x
 canon-means U8 p x h e s = let w = of_length_ok 1 p _ x e in one_byte p w.long ∙ ap (canon U8) w.is
 canon-means Le16 p x h e s =
     let w = of_length_ok 2 p _ x e in sym (le_bytes_2 p x w.long h (sym w.is))

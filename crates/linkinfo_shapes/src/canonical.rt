@@ -1,14 +1,40 @@
 //! Re-encodes accepted payloads canonically, without building a value.
 
-ghost use Rattle.std.specs.Prelude.{◌≡◌, ◌≤◌, ◌++◌, SomeIff, drop, length};
-ghost use Rattle.nla_frame.specs.Attribute.{buffer_len_of, canonical_string};
+ghost use Rattle.std.specs.Prelude.{
+  ◌≡◌,
+  ◌↔◌,
+  ◌≤◌,
+  ◌++◌,
+  ◌∷◌,
+  [],
+  IsTrue,
+  List,
+  SomeIff,
+  drop,
+  length,
+  ℕ,
+};
+ghost use Rattle.nla_frame.specs.Attribute.{IsBytes, buffer_len_of, canonical_string};
 ghost use Rattle.linkinfo_shapes.specs.Data.{Suits, value_of, written};
 ghost use Rattle.linkinfo_shapes.specs.Shapes.{IsAccepted, IsPlain, canonical};
 
 use crate::datum::Datum;
 use crate::payload::{datum_len, read_datum, write_datum};
 use crate::shape::Shape;
-use nla_frame::write_frame;
+use crate::writers::write_with_nul;
+use nla_frame::{fitting, without_nul, write_bytes, write_frame};
+
+/// Whether every payload that the shape accepts is canonical.
+#[inline(always)]
+fn accepts_only_canonical(shape: Shape) -> bool
+    ensures { IsTrue result ↔ ((payload : List ℕ) → IsBytes payload → IsAccepted shape payload →
+        canonical shape payload ≡ payload) }
+{
+    !matches!(
+        shape,
+        Shape::Truth | Shape::TruthOne | Shape::Mark | Shape::Name | Shape::Scrub
+    )
+}
 
 /// The datum of an accepted payload.
 #[tactic(auto, using(crate::specs::DataLaws::read_suits, crate::specs::DataLaws::read_written, crate::specs::DataLaws::read_accepted))]
@@ -25,6 +51,15 @@ fn datum_in(shape: Shape, payload: &[u8]) -> Datum<'_>
     }
 }
 
+/// The bytes of an accepted name: those before the NUL that ends its canonical encoding.
+#[inline(always)]
+fn name_in(payload: &[u8]) -> &[u8]
+    requires { IsAccepted Shape.Name payload.now }
+    ensures { canonical Shape.Name payload.now ≡ result.now ++ 0 ∷ [] }
+{
+    without_nul(payload)
+}
+
 /// Returns the length of an accepted payload's canonical encoding, or `None` above 65531. Does not
 /// allocate.
 ///
@@ -36,7 +71,13 @@ pub fn shape_canonical_len(shape: Shape, payload: &[u8]) -> Option<usize>
     requires accepted { IsAccepted shape payload.now }
     ensures { let len = length (canonical shape payload.now) in SomeIff result (len ≤ 65531) len }
 {
-    datum_len(shape, &datum_in(shape, payload))
+    if accepts_only_canonical(shape) {
+        return fitting(payload.len());
+    }
+    match shape {
+        Shape::Name => fitting(name_in(payload).len() + 1),
+        _ => datum_len(shape, &datum_in(shape, payload)),
+    }
 }
 
 /// Writes the canonical encoding of an accepted payload at the front of the buffer, and returns its
@@ -55,6 +96,12 @@ pub fn shape_write_canonical(shape: Shape, payload: &[u8], buffer: &mut [u8]) ->
     ensures written { buffer.new
         ≡ canonical shape payload.now ++ drop (length (canonical shape payload.now)) buffer.old }
 {
+    if accepts_only_canonical(shape) {
+        return write_bytes(payload, buffer);
+    }
+    if let Shape::Name = shape {
+        return write_with_nul(name_in(payload), buffer);
+    }
     let datum = datum_in(shape, payload);
     match datum_len(shape, &datum) {
         Some(len) => {

@@ -1,12 +1,14 @@
 //! One writer per shape: the canonical payload of a datum.
 #![tactic(auto, unfolding(crate::specs::Data::Suits, crate::specs::Data::written))]
 
-ghost use Rattle.std.specs.Prelude.{◌≡◌, length};
+ghost use Rattle.std.specs.Prelude.{◌≡◌, ◌+◌, ◌<◌, ◌++◌, ◌∷◌, drop, length};
 ghost use Rattle.linkinfo_shapes.specs.Data.{Suits, value_of, written};
 
 use crate::datum::Datum;
 use crate::shape::Shape;
-use nla_frame::{emit_i32, emit_u16, emit_u16_be, emit_u32, emit_u32_be, emit_u64, emit_u64_be};
+use nla_frame::{
+    emit_i32, emit_u16, emit_u16_be, emit_u32, emit_u32_be, emit_u64, emit_u64_be, write_bytes,
+};
 use std::net::IpAddr;
 
 #[inline(always)]
@@ -112,10 +114,20 @@ pub fn write_name(datum: &Datum<'_>, buffer: &mut [u8])
     requires exact { length buffer.old ≡ length (written Shape.Name (value_of datum.now)) }
     ensures { buffer.new ≡ written Shape.Name (value_of datum.now) }
 {
-    let text = datum.text_or_empty().as_bytes();
-    let end = text.len();
-    buffer[..end].copy_from_slice(text);
-    buffer[end..].copy_from_slice(&[0]);
+    write_with_nul(datum.text_or_empty().as_bytes(), buffer);
+}
+
+/// Writes a name and a NUL at the front of the buffer, and returns their length. The bytes after
+/// them stay unchanged.
+#[inline(always)]
+pub fn write_with_nul(name: &[u8], buffer: &mut [u8]) -> usize
+    requires { length name.now < length buffer.old }
+    ensures taken { result ≡ length name.now + 1 }
+    ensures written { buffer.new ≡ name.now ++ 0 ∷ drop (length name.now + 1) buffer.old }
+{
+    let end = write_bytes(name, buffer);
+    buffer[end] = 0;
+    end + 1
 }
 
 #[inline(always)]

@@ -1,10 +1,20 @@
 //! Re-encodes accepted payloads canonically, without building a value.
 
 use crate::compat::NextMultiple;
-use crate::layers::nla_frame::write_frame;
+use crate::layers::nla_frame::{fitting, without_nul, write_bytes, write_frame};
 use crate::layers::shapes::datum::Datum;
 use crate::layers::shapes::payload::{datum_len, read_datum, write_datum};
 use crate::layers::shapes::shape::Shape;
+use crate::layers::shapes::writers::write_with_nul;
+
+/// Whether every payload that the shape accepts is canonical.
+#[inline(always)]
+fn accepts_only_canonical(shape: Shape) -> bool {
+    !matches!(
+        shape,
+        Shape::Truth | Shape::TruthOne | Shape::Mark | Shape::Name | Shape::Scrub
+    )
+}
 
 /// The datum of an accepted payload.
 #[inline(always)]
@@ -13,6 +23,12 @@ fn datum_in(shape: Shape, payload: &[u8]) -> Datum<'_> {
         Ok(datum) => datum,
         Err(_) => unreachable!(),
     }
+}
+
+/// The bytes of an accepted name: those before the NUL that ends its canonical encoding.
+#[inline(always)]
+fn name_in(payload: &[u8]) -> &[u8] {
+    without_nul(payload)
 }
 
 /// Returns the length of an accepted payload's canonical encoding, or `None` above 65531. Does not
@@ -27,7 +43,13 @@ fn datum_in(shape: Shape, payload: &[u8]) -> Datum<'_> {
 /// not panic then, the result has no meaning.
 #[inline(always)]
 pub fn shape_canonical_len(shape: Shape, payload: &[u8]) -> Option<usize> {
-    datum_len(shape, &datum_in(shape, payload))
+    if accepts_only_canonical(shape) {
+        return fitting(payload.len());
+    }
+    match shape {
+        Shape::Name => fitting(name_in(payload).len() + 1),
+        _ => datum_len(shape, &datum_in(shape, payload)),
+    }
 }
 
 /// Writes the canonical encoding of an accepted payload at the front of the buffer, and returns its
@@ -43,6 +65,12 @@ pub fn shape_canonical_len(shape: Shape, payload: &[u8]) -> Option<usize> {
 /// not panic then, the result has no meaning.
 #[inline(always)]
 pub fn shape_write_canonical(shape: Shape, payload: &[u8], buffer: &mut [u8]) -> usize {
+    if accepts_only_canonical(shape) {
+        return write_bytes(payload, buffer);
+    }
+    if let Shape::Name = shape {
+        return write_with_nul(name_in(payload), buffer);
+    }
     let datum = datum_in(shape, payload);
     match datum_len(shape, &datum) {
         Some(len) => {

@@ -1,7 +1,7 @@
 //! One writer per shape: the canonical payload of a datum.
 
 use crate::layers::nla_frame::{
-    emit_i32, emit_u16, emit_u16_be, emit_u32, emit_u32_be, emit_u64, emit_u64_be,
+    emit_i32, emit_u16, emit_u16_be, emit_u32, emit_u32_be, emit_u64, emit_u64_be, write_bytes,
 };
 use crate::layers::shapes::datum::Datum;
 use core::net::IpAddr;
@@ -109,10 +109,21 @@ pub fn write_mark(_datum: &Datum<'_>, _buffer: &mut [u8]) {}
 /// not panic then, the result has no meaning.
 #[inline(always)]
 pub fn write_name(datum: &Datum<'_>, buffer: &mut [u8]) {
-    let text = datum.text_or_empty().as_bytes();
-    let end = text.len();
-    buffer[..end].copy_from_slice(text);
-    buffer[end..].copy_from_slice(&[0]);
+    write_with_nul(datum.text_or_empty().as_bytes(), buffer);
+}
+
+/// Writes a name and a NUL at the front of the buffer, and returns their length. The bytes after
+/// them stay unchanged.
+///
+/// # Panics
+///
+/// May panic where a condition of the caller that is named here does not hold. Where it does
+/// not panic then, the result has no meaning.
+#[inline(always)]
+pub fn write_with_nul(name: &[u8], buffer: &mut [u8]) -> usize {
+    let end = write_bytes(name, buffer);
+    buffer[end] = 0;
+    end + 1
 }
 
 /// # Panics
