@@ -39,6 +39,14 @@ class Libraries(unittest.TestCase):
         self.assertEqual(libraries.longest(CRATES, ["top"], {}), libraries.OF_OTHERS)
         self.assertEqual(libraries.longest(CRATES, [], seconds), 0)
 
+    def test_told(self):
+        told = libraries.told
+        self.assertEqual(told(CRATES, ["low"], ["left", "right", "top"], 1.0),
+                         "proving low, 3 crates after that, about 5 minutes")
+        self.assertEqual(told(CRATES, ["left", "right"], ["top"], 1.0),
+                         "proving left, right, 1 crate after that, about 3 minutes")
+        self.assertEqual(told(CRATES, ["top"], [], 0.5), "proving top, about a minute")
+
 
 if __name__ == "__main__":
     unittest.main()

@@ -591,7 +591,7 @@ error_needs_no_memory _ p c e = refl
 joined : {a b c d : List ℕ} → a ≡ c → b ≡ d → a ++ b ≡ c ++ d
 joined {b = b} {c = c} e f = ap (λ x. x ++ b) e ∙ ap (λ x. c ++ x) f
 
--- each datum has one payload
+-- whether every accepted payload is canonical: each datum has one payload
 abbrev pub is_exact : Shape → Bool
 is_exact Truth = false
 is_exact TruthOne = false

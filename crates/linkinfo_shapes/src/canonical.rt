@@ -24,9 +24,11 @@ use crate::shape::Shape;
 use crate::writers::write_with_nul;
 use nla_frame::{fitting, without_nul, write_bytes, write_frame};
 
-/// Whether every payload that the shape accepts is canonical.
+/// Whether every payload that the shape accepts is canonical. Requires a shape other than
+/// `Shape::SelfList` and `Shape::Peer`.
 #[inline(always)]
 fn accepts_only_canonical(shape: Shape) -> bool
+    requires { IsPlain shape }
     ensures { IsTrue result ↔ ((payload : List ℕ) → IsBytes payload → IsAccepted shape payload →
         canonical shape payload ≡ payload) }
 {

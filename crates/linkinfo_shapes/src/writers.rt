@@ -118,10 +118,10 @@ pub fn write_name(datum: &Datum<'_>, buffer: &mut [u8])
 }
 
 /// Writes a name and a NUL at the front of the buffer, and returns their length. The bytes after
-/// them stay unchanged.
+/// them stay unchanged. Requires that the buffer is longer than the name.
 #[inline(always)]
 pub fn write_with_nul(name: &[u8], buffer: &mut [u8]) -> usize
-    requires { length name.now < length buffer.old }
+    requires room { length name.now < length buffer.old }
     ensures taken { result ≡ length name.now + 1 }
     ensures written { buffer.new ≡ name.now ++ 0 ∷ drop (length name.now + 1) buffer.old }
 {

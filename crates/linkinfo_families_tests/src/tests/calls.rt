@@ -130,10 +130,10 @@ fn compares_by_rows(rt: HostRuntime) {
 
 /// Asserts that the value is written with this type and this payload by its row.
 fn is_written_by_row<F: FlatFamily>(rt: &impl Abort, value: &F, kind: u16, payload: [u8; 4]) {
-    assert!(rt; row_fit_len(value) == Some(4));
+    assert!(rt; row_fit_len(value) == Some(4), "fit_len of type {kind}");
     assert_is(
         rt,
-        "kind, value_len",
+        ("kind, value_len of type", kind),
         (row_kind(value), row_value_len(value)),
         (kind, 4),
     );
@@ -143,7 +143,7 @@ fn is_written_by_row<F: FlatFamily>(rt: &impl Abort, value: &F, kind: u16, paylo
     let taken = row_emit_payload(value, &mut longer);
     assert_is(
         rt,
-        "emit_value, emit_payload",
+        ("emit_value, emit_payload of type", kind),
         (exact, taken, &longer[..4], &longer[4..]),
         (payload, 4, payload.as_slice(), [255; 2].as_slice()),
     );

@@ -42,7 +42,8 @@ fn is_alone(rt: &impl Abort, source: &[u8], kind: u16, offset: usize, own: &[u8]
         .expect(rt, "an attribute of the type");
     assert_is(rt, ("bytes of type", kind), own_bytes(source, &placed), own);
     let nla = NlaBuffer::new_checked(own).expect(rt, "a header");
-    assert!(rt; is_equal(&placed, &PlacedNla { offset, nla }));
+    let is_found = is_equal(&placed, &PlacedNla { offset, nla });
+    assert_is(rt, ("attribute of type", kind), is_found, true);
 }
 
 #[test]

@@ -113,9 +113,10 @@ fn is_named(rt: &impl Abort, alloc: Global, kind: &InfoKind, name: &str, tag: Ki
 }
 
 /// Asserts that the value and its clone are equal to the other value.
-fn is_same<T: ExactEq + Clone + Drop>(rt: &impl Abort, value: &T, same: &T) {
-    assert!(rt; is_equal(value, same));
-    assert!(rt; value.clone().expect(rt, "memory") == *same);
+fn is_same<T: ExactEq + Clone + Drop>(rt: &impl Abort, name: &str, value: &T, same: &T) {
+    let copy = value.clone().expect(rt, "memory");
+    let found = [is_equal(value, same), copy == *same];
+    assert_is(rt, ("value and clone of", name), found, [true; 2]);
 }
 
 #[test]
@@ -124,7 +125,7 @@ fn known_kinds(rt: HostRuntime) {
     for (name, tag) in KINDS {
         is_named(&rt, alloc, &kind_of(&rt, alloc, name), name, *tag);
     }
-    is_same(&rt, &kind_of(&rt, alloc, "sit"), &InfoKind::SitTun);
+    is_same(&rt, "sit", &kind_of(&rt, alloc, "sit"), &InfoKind::SitTun);
     assert!(rt; InfoKind::SitTun == InfoKind::SitTun.clone().expect(&rt, "memory"));
     assert!(rt; InfoKind::SitTun != InfoKind::IpIp);
 }
@@ -133,7 +134,7 @@ fn known_kinds(rt: HostRuntime) {
 fn is_other(rt: &impl Abort, alloc: Global, name: &str) {
     let kind = kind_of(rt, alloc, name);
     is_named(rt, alloc, &kind, name, KindTag::Other);
-    is_same(rt, &kind, &InfoKind::Other(text_of(rt, alloc, name)));
+    is_same(rt, name, &kind, &InfoKind::Other(text_of(rt, alloc, name)));
 }
 
 #[test]
@@ -160,7 +161,7 @@ fn is_port_named(rt: &impl Abort, alloc: Global, name: &str, tag: PortTag) {
         kind.fit_len(),
         Some(name.len() + 1),
     );
-    is_same(rt, &kind, &kind);
+    is_same(rt, name, &kind, &kind);
 }
 
 #[test]
@@ -169,7 +170,12 @@ fn port_kinds(rt: HostRuntime) {
     for (name, tag) in PORT_KINDS {
         is_port_named(&rt, alloc, name, *tag);
     }
-    is_same(&rt, &port_kind_of(&rt, alloc, "team"), &InfoPortKind::Team);
+    is_same(
+        &rt,
+        "team",
+        &port_kind_of(&rt, alloc, "team"),
+        &InfoPortKind::Team,
+    );
     let other = InfoPortKind::Other(text_of(&rt, alloc, "vrf"));
     assert_is(&rt, "Other of vrf", other.tag(), PortTag::Other);
 }

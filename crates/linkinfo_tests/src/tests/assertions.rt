@@ -37,6 +37,7 @@ pub fn assert_parsed<C: Debug, T: PartialEq + Drop, E: Debug + Drop>(
     found: Result<T, E>,
     wanted: T,
 ) {
+    assert_holds(rt, case, found.is_ok());
     let found = found.expect(rt, "a value");
     assert_holds(rt, case, found == wanted);
 }
@@ -48,6 +49,7 @@ pub fn assert_parses<C: Debug, T: PartialEq + Drop>(
     found: Result<T, DecodeError>,
     wanted: &T,
 ) {
+    assert_holds(rt, case, found.is_ok());
     let found = found.expect(rt, "a value");
     assert_holds(rt, case, found == *wanted);
 }

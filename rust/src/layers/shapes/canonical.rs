@@ -7,7 +7,8 @@ use crate::layers::shapes::payload::{datum_len, read_datum, write_datum};
 use crate::layers::shapes::shape::Shape;
 use crate::layers::shapes::writers::write_with_nul;
 
-/// Whether every payload that the shape accepts is canonical.
+/// Whether every payload that the shape accepts is canonical. Requires a shape other than
+/// `Shape::SelfList` and `Shape::Peer`.
 #[inline(always)]
 fn accepts_only_canonical(shape: Shape) -> bool {
     !matches!(

@@ -113,7 +113,7 @@ pub fn write_name(datum: &Datum<'_>, buffer: &mut [u8]) {
 }
 
 /// Writes a name and a NUL at the front of the buffer, and returns their length. The bytes after
-/// them stay unchanged.
+/// them stay unchanged. Requires that the buffer is longer than the name.
 ///
 /// # Panics
 ///

@@ -40,7 +40,8 @@ fn is_alone(source: &[u8], kind: u16, offset: usize, own: &[u8]) {
         .expect("an attribute of the type");
     assert_is(("bytes of type", kind), own_bytes(source, &placed), own);
     let nla = NlaBuffer::new_checked(own).expect("a header");
-    assert!(is_equal(&placed, &PlacedNla { offset, nla }));
+    let is_found = is_equal(&placed, &PlacedNla { offset, nla });
+    assert_is(("attribute of type", kind), is_found, true);
 }
 
 #[test]

@@ -107,9 +107,10 @@ fn is_named(kind: &InfoKind, name: &str, tag: KindTag) {
 }
 
 /// Asserts that the value and its clone are equal to the other value.
-fn is_same<T: ExactEq + Clone>(value: &T, same: &T) {
-    assert!(is_equal(value, same));
-    assert!(value.try_clone().expect("memory") == *same);
+fn is_same<T: ExactEq + Clone>(name: &str, value: &T, same: &T) {
+    let copy = value.try_clone().expect("memory");
+    let found = [is_equal(value, same), copy == *same];
+    assert_is(("value and clone of", name), found, [true; 2]);
 }
 
 #[test]
@@ -117,7 +118,7 @@ fn known_kinds() {
     for (name, tag) in KINDS {
         is_named(&kind_of(name), name, *tag);
     }
-    is_same(&kind_of("sit"), &InfoKind::SitTun);
+    is_same("sit", &kind_of("sit"), &InfoKind::SitTun);
     assert!(InfoKind::SitTun == InfoKind::SitTun.try_clone().expect("memory"));
     assert!(InfoKind::SitTun != InfoKind::IpIp);
 }
@@ -126,7 +127,7 @@ fn known_kinds() {
 fn is_other(name: &str) {
     let kind = kind_of(name);
     is_named(&kind, name, KindTag::Other);
-    is_same(&kind, &InfoKind::Other(text_of(name)));
+    is_same(name, &kind, &InfoKind::Other(text_of(name)));
 }
 
 #[test]
@@ -147,7 +148,7 @@ fn is_port_named(name: &str, tag: PortTag) {
     let tags = [kind.tag(), port_tag_of_name(name.as_bytes())];
     assert_is(("tags of", name), tags, [tag; 2]);
     assert_is(("fit_len of", name), kind.fit_len(), Some(name.len() + 1));
-    is_same(&kind, &kind);
+    is_same(name, &kind, &kind);
 }
 
 #[test]
@@ -155,7 +156,7 @@ fn port_kinds() {
     for (name, tag) in PORT_KINDS {
         is_port_named(name, *tag);
     }
-    is_same(&port_kind_of("team"), &InfoPortKind::Team);
+    is_same("team", &port_kind_of("team"), &InfoPortKind::Team);
     let other = InfoPortKind::Other(text_of("vrf"));
     assert_is("Other of vrf", other.tag(), PortTag::Other);
 }

@@ -23,12 +23,14 @@ pub fn assert_holds<C: Debug>(case: &C, holds: bool) {
 ///
 /// The type is a parameter, so that no drop of a large enum has an arm for each variant here.
 pub fn assert_parsed<C: Debug, T: PartialEq, E: Debug>(case: &C, found: Result<T, E>, wanted: T) {
+    assert_holds(case, found.is_ok());
     let found = found.expect("a value");
     assert_holds(case, found == wanted);
 }
 
 /// Asserts that what was parsed is equal to a value, by `==`, as `assert_parsed` does.
 pub fn assert_parses<C: Debug, T: PartialEq>(case: &C, found: Result<T, DecodeError>, wanted: &T) {
+    assert_holds(case, found.is_ok());
     let found = found.expect("a value");
     assert_holds(case, found == *wanted);
 }

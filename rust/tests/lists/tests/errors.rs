@@ -1,6 +1,6 @@
 //! Byte strings that are rejected.
 
-use super::assertions::{DATA_ORDER, HEADER_ERROR, assert_equal, assert_refused, bytes_of};
+use super::assertions::{HEADER_ERROR, assert_equal, assert_refused, bytes_of};
 use super::worked::{FIRST_ERROR, IP6TNL_SHORT_FLAGS, SECOND_PORT_DATA, VETH_EMPTY, XFRM};
 use linkinfo::layers::link::{Cause, DecodeError, Family, VecLinkInfo, check, same};
 
@@ -24,29 +24,6 @@ const REFUSED: &[(&str, Family, u16, Cause)] = &[
     ("06000100 c328", Family::LinkInfo, 1, Cause::Utf8),
     ("06000400 c328", Family::LinkInfo, 4, Cause::Utf8),
 ];
-
-/// Data without a kind before it.
-const NO_KIND: &str = "08000200 00000000";
-
-/// Two lists, and the error of the first, otherwise that of the second.
-const OF_TWO: &[(&str, &str, DecodeError)] = &[
-    (NO_KIND, "080001", DATA_ORDER),
-    ("080001", NO_KIND, HEADER_ERROR),
-    (XFRM, NO_KIND, DATA_ORDER),
-];
-
-/// Asserts the error of the comparison of two lists.
-fn assert_error(a: &str, b: &str, error: DecodeError) {
-    let (first, second) = (bytes_of(a), bytes_of(b));
-    assert_equal(&(a, b), &same(&first, &second), &Err(error));
-}
-
-#[test]
-fn returns_the_first_error() {
-    for (a, b, error) in OF_TWO {
-        assert_error(a, b, *error);
-    }
-}
 
 /// Asserts that each call accepts a prefix of `XFRM`.
 fn assert_accepted(front: &[u8]) {
