@@ -5,7 +5,7 @@ ghost use Rattle.std.specs.Prelude.{◌≡◌, ◌+◌, ◌*◌, ◌/◌, ◌<�
 ghost use Rattle.std.specs.Bool.{OnTrue};
 ghost use Rattle.nla_frame.specs.Answers.{CertainUnless, Gives, OnAnswer, verdict};
 ghost use Rattle.nla_frame.specs.NlaItems.{nla_items};
-ghost use Rattle.linkinfo_table.specs.FamilyRows.{row_of};
+ghost use Rattle.linkinfo_table.specs.FamilyMeaning.{alike_by, headers_by, meaning_by, memory_by};
 ghost use Rattle.linkinfo_table.specs.Lists.{
   Appends,
   alike_pairs,
@@ -14,7 +14,6 @@ ghost use Rattle.linkinfo_table.specs.Lists.{
   push_memory,
   values,
 };
-ghost use Rattle.linkinfo_table.specs.Rows.{alike_in, headers_inside, meaning_in, memory_in};
 ghost use Rattle.linkinfo_devices.specs.Nested.{in_list};
 
 use crate::nested_family::{LIST_TYPE, MOST_LISTS, NestedFamily};
@@ -31,13 +30,11 @@ pub fn nested_read<F: NestedFamily>(
     count: &mut HeaderCount,
 ) -> Result<F, DecodeError>
     requires { count.old + length nla.now.value / 4 < 2 ^ 64 }
-    ensures answer { Gives (λ value. value) result
-        (meaning_in F.FAMILY F.other (λ n. row_of (F.rows lists n)) nla.now) }
-    ensures certain { CertainUnless (memory_in (λ n. row_of (F.rows lists n)) nla.now)
-        (λ value. value) result
-        (meaning_in F.FAMILY F.other (λ n. row_of (F.rows lists n)) nla.now) }
-    ensures counted { OnAnswer result
-        (count.new ≡ count.old + headers_inside (λ n. row_of (F.rows lists n)) nla.now) }
+    ensures answer { Gives (λ value. value) result (meaning_by F.RowFamily.own lists nla.now) }
+    ensures certain { CertainUnless (memory_by F.RowFamily.own lists nla.now) (λ value. value)
+        result (meaning_by F.RowFamily.own lists nla.now) }
+    ensures counted { OnAnswer result (count.new ≡ count.old
+        + headers_by F.RowFamily.own lists nla.now) }
     ensures rises { count.old ≤ count.new }
     ensures quarter { 4 * count.new ≤ 4 * count.old + length nla.now.value }
 {
@@ -60,13 +57,13 @@ pub fn nested_push<F: NestedFamily>(
 ) -> Result<(), DecodeError>
     requires { count.old + length nla.now.value / 4 < 2 ^ 64 }
     ensures answer { Appends items.old.items items.new.items result
-        (meaning_in F.FAMILY F.other (λ n. row_of (F.rows lists n)) nla.now) }
+        (meaning_by F.RowFamily.own lists nla.now) }
     ensures unchanged { OnErr result (items.new.items ≡ items.old.items) }
-    ensures certain { push_memory (memory_in (λ n. row_of (F.rows lists n)) nla.now)
-        (meaning_in F.FAMILY F.other (λ n. row_of (F.rows lists n)) nla.now) ≡ false →
-        result ≡ verdict (meaning_in F.FAMILY F.other (λ n. row_of (F.rows lists n)) nla.now) }
-    ensures counted { OnAnswer result
-        (count.new ≡ count.old + headers_inside (λ n. row_of (F.rows lists n)) nla.now) }
+    ensures certain { push_memory (memory_by F.RowFamily.own lists nla.now)
+        (meaning_by F.RowFamily.own lists nla.now) ≡ false →
+        result ≡ verdict (meaning_by F.RowFamily.own lists nla.now) }
+    ensures counted { OnAnswer result (count.new ≡ count.old
+        + headers_by F.RowFamily.own lists nla.now) }
     ensures rises { count.old ≤ count.new }
     ensures quarter { 4 * count.new ≤ 4 * count.old + length nla.now.value }
 {
@@ -89,17 +86,13 @@ fn nested_list_read<F: NestedFamily>(
     requires room { count.old + length bytes.now / 4 < 2 ^ 64 }
     requires within { lists ≤ 128 }
     ensures answer { Gives (λ v. v.items) result
-        (values (meaning_in F.FAMILY F.other (λ n. row_of (F.rows lists n)))
+        (values (meaning_by F.RowFamily.own lists) (nla_items bytes.now)) }
+    ensures certain { CertainUnless (memory_of (meaning_by F.RowFamily.own lists)
+        (memory_by F.RowFamily.own lists) (nla_items bytes.now)) (λ v. v.items) result
+        (values (meaning_by F.RowFamily.own lists) (nla_items bytes.now)) }
+    ensures counted { OnAnswer result (count.new ≡ count.old
+        + headers_of (meaning_by F.RowFamily.own lists) (headers_by F.RowFamily.own lists)
         (nla_items bytes.now)) }
-    ensures certain { CertainUnless
-        (memory_of (meaning_in F.FAMILY F.other (λ n. row_of (F.rows lists n)))
-        (memory_in (λ n. row_of (F.rows lists n))) (nla_items bytes.now)) (λ v. v.items) result
-        (values (meaning_in F.FAMILY F.other (λ n. row_of (F.rows lists n)))
-        (nla_items bytes.now)) }
-    ensures counted { OnAnswer result
-        (count.new ≡ count.old
-        + headers_of (meaning_in F.FAMILY F.other (λ n. row_of (F.rows lists n)))
-        (headers_inside (λ n. row_of (F.rows lists n))) (nla_items bytes.now)) }
     ensures rises { count.old ≤ count.new }
     ensures quarter { 4 * count.new ≤ 4 * count.old + length bytes.now }
 {
@@ -122,10 +115,9 @@ fn value_of_list<F: NestedFamily>(items: Result<Vec<F>, DecodeError>) -> Result<
 
 /// Reads an attribute that is in no list.
 pub fn nested_parse<F: NestedFamily>(alloc: Global, nla: &NlaBuffer<'_>) -> Result<F, DecodeError>
-    ensures answer { Gives (λ value. value) result
-        (meaning_in F.FAMILY F.other (λ n. row_of (F.rows 0 n)) nla.now) }
-    ensures certain { CertainUnless (memory_in (λ n. row_of (F.rows 0 n)) nla.now) (λ value. value)
-        result (meaning_in F.FAMILY F.other (λ n. row_of (F.rows 0 n)) nla.now) }
+    ensures answer { Gives (λ value. value) result (meaning_by F.RowFamily.own 0 nla.now) }
+    ensures certain { CertainUnless (memory_by F.RowFamily.own 0 nla.now) (λ value. value) result
+        (meaning_by F.RowFamily.own 0 nla.now) }
 {
     laws::borrowed(nla);
     nested_read(alloc, nla, 0, &mut HeaderCount::new())
@@ -140,10 +132,8 @@ pub fn nested_check<F: NestedFamily>(
     count: &mut HeaderCount,
 ) -> Result<(), DecodeError>
     requires { count.old + length nla.now.value / 4 < 2 ^ 64 }
-    ensures answer { result
-        ≡ verdict (meaning_in F.FAMILY F.other (λ n. row_of (F.rows lists n)) nla.now) }
-    ensures counted { count.new
-        ≡ count.old + headers_inside (λ n. row_of (F.rows lists n)) nla.now }
+    ensures answer { result ≡ verdict (meaning_by F.RowFamily.own lists nla.now) }
+    ensures counted { count.new ≡ count.old + headers_by F.RowFamily.own lists nla.now }
     ensures rises { count.old ≤ count.new }
     ensures quarter { 4 * count.new ≤ 4 * count.old + length nla.now.value }
 {
@@ -163,13 +153,11 @@ fn nested_list_check<F: NestedFamily>(
 ) -> Result<(), DecodeError>
     requires room { count.old + length bytes.now / 4 < 2 ^ 64 }
     requires within { lists ≤ 128 }
-    ensures answer { result
-        ≡ verdict
-        (values (meaning_in F.FAMILY F.other (λ n. row_of (F.rows lists n)))
+    ensures answer { result ≡ verdict (values (meaning_by F.RowFamily.own lists)
         (nla_items bytes.now)) }
-    ensures counted { count.new
-        ≡ count.old + headers_of (meaning_in F.FAMILY F.other (λ n. row_of (F.rows lists n)))
-        (headers_inside (λ n. row_of (F.rows lists n))) (nla_items bytes.now) }
+    ensures counted { count.new ≡ count.old
+        + headers_of (meaning_by F.RowFamily.own lists) (headers_by F.RowFamily.own lists)
+        (nla_items bytes.now) }
     ensures rises { count.old ≤ count.new }
     ensures quarter { 4 * count.new ≤ 4 * count.old + length bytes.now }
 {
@@ -192,13 +180,12 @@ pub fn nested_same<F: NestedFamily>(
     lists: u8,
     count: &mut HeaderCount,
 ) -> bool
-    requires first { IsOk (meaning_in F.FAMILY F.other (λ n. row_of (F.rows lists n)) a.now) }
-    requires second { IsOk (meaning_in F.FAMILY F.other (λ n. row_of (F.rows lists n)) b.now) }
+    requires first { IsOk (meaning_by F.RowFamily.own lists a.now) }
+    requires second { IsOk (meaning_by F.RowFamily.own lists b.now) }
     requires room { count.old + (length a.now.value + length b.now.value) / 4 < 2 ^ 64 }
-    ensures same { result ≡ alike_in (λ n. row_of (F.rows lists n)) a.now b.now }
-    ensures counted { OnTrue result
-        (count.new ≡ count.old + (headers_inside (λ n. row_of (F.rows lists n)) a.now
-        + headers_inside (λ n. row_of (F.rows lists n)) b.now)) }
+    ensures same { result ≡ alike_by F.RowFamily.own lists a.now b.now }
+    ensures counted { OnTrue result (count.new ≡ count.old
+        + (headers_by F.RowFamily.own lists a.now + headers_by F.RowFamily.own lists b.now)) }
     ensures rises { count.old ≤ count.new }
     ensures quarter { 4 * count.new ≤ 4 * count.old + (length a.now.value + length b.now.value) }
 {
@@ -212,21 +199,16 @@ pub fn nested_same<F: NestedFamily>(
 /// Whether two lists are equivalent: they mean equal values.
 #[cycle(nested_same)]
 fn nested_list_same<F: NestedFamily>(a: &[u8], b: &[u8], lists: u8, count: &mut HeaderCount) -> bool
-    requires first { IsOk
-        (values (meaning_in F.FAMILY F.other (λ n. row_of (F.rows lists n))) (nla_items a.now)) }
-    requires second { IsOk
-        (values (meaning_in F.FAMILY F.other (λ n. row_of (F.rows lists n))) (nla_items b.now)) }
+    requires first { IsOk (values (meaning_by F.RowFamily.own lists) (nla_items a.now)) }
+    requires second { IsOk (values (meaning_by F.RowFamily.own lists) (nla_items b.now)) }
     requires room { count.old + (length a.now + length b.now) / 4 < 2 ^ 64 }
     requires within { lists ≤ 128 }
-    ensures same { result
-        ≡ alike_pairs (alike_in (λ n. row_of (F.rows lists n))) (nla_items a.now)
+    ensures same { result ≡ alike_pairs (alike_by F.RowFamily.own lists) (nla_items a.now)
         (nla_items b.now) }
-    ensures counted { OnTrue result
-        (count.new ≡ count.old + (headers_of
-        (meaning_in F.FAMILY F.other (λ n. row_of (F.rows lists n)))
-        (headers_inside (λ n. row_of (F.rows lists n))) (nla_items a.now)
-        + headers_of (meaning_in F.FAMILY F.other (λ n. row_of (F.rows lists n)))
-        (headers_inside (λ n. row_of (F.rows lists n))) (nla_items b.now))) }
+    ensures counted { OnTrue result (count.new ≡ count.old
+        + (headers_of (meaning_by F.RowFamily.own lists) (headers_by F.RowFamily.own lists)
+        (nla_items a.now) + headers_of (meaning_by F.RowFamily.own lists)
+        (headers_by F.RowFamily.own lists) (nla_items b.now))) }
     ensures rises { count.old ≤ count.new }
     ensures quarter { 4 * count.new ≤ 4 * count.old + (length a.now + length b.now) }
 {

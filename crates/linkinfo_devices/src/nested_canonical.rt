@@ -4,11 +4,9 @@
 
 ghost use Rattle.std.specs.Prelude.{◌≡◌, ◌≤◌, ◌++◌, IsOk, SomeIff, drop, length};
 ghost use Rattle.nla_frame.specs.Attribute.{Fits, buffer_len_of, canonical_string};
-ghost use Rattle.nla_frame.specs.Canonical.{attribute_for};
 ghost use Rattle.nla_frame.specs.NlaItems.{nla_items};
-ghost use Rattle.linkinfo_table.specs.FamilyRows.{row_of};
+ghost use Rattle.linkinfo_table.specs.FamilyMeaning.{canonical_by, meaning_by};
 ghost use Rattle.linkinfo_table.specs.Lists.{canonical_list, values};
-ghost use Rattle.linkinfo_table.specs.Rows.{meaning_in};
 
 use crate::nested_family::{LIST_TYPE, MOST_LISTS, NestedFamily};
 use linkinfo_table::{row_canonical_len, row_write_canonical};
@@ -18,10 +16,8 @@ use nla_frame::{HeaderCount, NlaBuffer, fitting, next_attribute, write_frame};
 /// means, or `None` if it does not fit. Requires that the attribute is accepted. Does not allocate.
 #[cycle(nested_canonical_len)]
 pub fn nested_canonical_len<F: NestedFamily>(nla: &NlaBuffer<'_>, lists: u8) -> Option<usize>
-    requires { IsOk (meaning_in F.FAMILY F.other (λ n. row_of (F.rows lists n)) nla.now) }
-    ensures { let canonical =
-        attribute_for F.canonical
-        (meaning_in F.FAMILY F.other (λ n. row_of (F.rows lists n)) nla.now) in
+    requires { IsOk (meaning_by F.RowFamily.own lists nla.now) }
+    ensures { let canonical = canonical_by F.RowFamily.own lists nla.now in
         SomeIff result (Fits canonical) (length canonical.value) }
 {
     if nla.kind() == LIST_TYPE && lists < MOST_LISTS {
@@ -35,14 +31,10 @@ pub fn nested_canonical_len<F: NestedFamily>(nla: &NlaBuffer<'_>, lists: u8) -> 
 /// 65531.
 #[cycle(nested_canonical_len)]
 fn nested_list_canonical_len<F: NestedFamily>(bytes: &[u8], lists: u8) -> Option<usize>
-    requires accepted { IsOk
-        (values (meaning_in F.FAMILY F.other (λ n. row_of (F.rows lists n)))
-        (nla_items bytes.now)) }
+    requires accepted { IsOk (values (meaning_by F.RowFamily.own lists) (nla_items bytes.now)) }
     requires within { lists ≤ 128 }
-    ensures { let len =
-        length (canonical_list F.canonical
-        (meaning_in F.FAMILY F.other (λ n. row_of (F.rows lists n))) (nla_items bytes.now)) in
-        SomeIff result (len ≤ 65531) len }
+    ensures { let len = length (canonical_list F.canonical (meaning_by F.RowFamily.own lists)
+        (nla_items bytes.now)) in SomeIff result (len ≤ 65531) len }
 {
     let mut count = HeaderCount::new();
     let mut rest = bytes;
@@ -67,18 +59,11 @@ pub fn nested_write_canonical<F: NestedFamily>(
     lists: u8,
     buffer: &mut [u8],
 ) -> usize
-    requires accepted { IsOk (meaning_in F.FAMILY F.other (λ n. row_of (F.rows lists n)) nla.now) }
-    requires fits { Fits (attribute_for F.canonical
-        (meaning_in F.FAMILY F.other (λ n. row_of (F.rows lists n)) nla.now)) }
-    requires room { buffer_len_of
-        (attribute_for F.canonical
-        (meaning_in F.FAMILY F.other (λ n. row_of (F.rows lists n)) nla.now)) ≤ length buffer.old }
-    ensures taken { result
-        ≡ buffer_len_of (attribute_for F.canonical
-        (meaning_in F.FAMILY F.other (λ n. row_of (F.rows lists n)) nla.now)) }
-    ensures written { let canonical =
-        attribute_for F.canonical
-        (meaning_in F.FAMILY F.other (λ n. row_of (F.rows lists n)) nla.now) in
+    requires accepted { IsOk (meaning_by F.RowFamily.own lists nla.now) }
+    requires fits { Fits (canonical_by F.RowFamily.own lists nla.now) }
+    requires room { buffer_len_of (canonical_by F.RowFamily.own lists nla.now) ≤ length buffer.old }
+    ensures taken { result ≡ buffer_len_of (canonical_by F.RowFamily.own lists nla.now) }
+    ensures written { let canonical = canonical_by F.RowFamily.own lists nla.now in
         buffer.new ≡ canonical_string canonical ++ drop (buffer_len_of canonical) buffer.old }
 {
     if nla.kind() == LIST_TYPE && lists < MOST_LISTS {
@@ -93,37 +78,31 @@ pub fn nested_write_canonical<F: NestedFamily>(
 /// is accepted and fits, and that the buffer has at least that length.
 #[cycle(nested_write_canonical)]
 fn nested_write_list<F: NestedFamily>(bytes: &[u8], lists: u8, buffer: &mut [u8]) -> usize
-    requires accepted { IsOk
-        (values (meaning_in F.FAMILY F.other (λ n. row_of (F.rows lists n)))
-        (nla_items bytes.now)) }
+    requires accepted { IsOk (values (meaning_by F.RowFamily.own lists) (nla_items bytes.now)) }
     requires within { lists ≤ 128 }
-    requires fits { length (canonical_list F.canonical
-        (meaning_in F.FAMILY F.other (λ n. row_of (F.rows lists n))) (nla_items bytes.now))
-        ≤ 65531 }
-    requires room { buffer_len_of
+    requires fits { length (canonical_list F.canonical (meaning_by F.RowFamily.own lists)
+        (nla_items bytes.now)) ≤ 65531 }
+    requires room { buffer_len_of (record {
+      kind = 5;
+      value = canonical_list F.canonical
+          (meaning_by F.RowFamily.own lists) (nla_items bytes.now);
+    }) ≤ length buffer.old }
+    ensures taken { result ≡ buffer_len_of
         (record {
           kind = 5;
-          value =
-              canonical_list F.canonical
-              (meaning_in F.FAMILY F.other (λ n. row_of (F.rows lists n))) (nla_items bytes.now);
-        }) ≤ length buffer.old }
-    ensures taken { result
-        ≡ buffer_len_of (record {
-          kind = 5;
-          value =
-              canonical_list F.canonical
-              (meaning_in F.FAMILY F.other (λ n. row_of (F.rows lists n))) (nla_items bytes.now);
+          value = canonical_list F.canonical (meaning_by F.RowFamily.own lists)
+              (nla_items bytes.now);
         }) }
-    ensures written { buffer.new
-        ≡ canonical_string (record {
+    ensures written { buffer.new ≡ canonical_string
+        (record {
           kind = 5;
-          value =
-              canonical_list F.canonical
-              (meaning_in F.FAMILY F.other (λ n. row_of (F.rows lists n))) (nla_items bytes.now);
-        }) ++ drop (buffer_len_of (record {
+          value = canonical_list F.canonical (meaning_by F.RowFamily.own lists)
+              (nla_items bytes.now);
+        }) ++ drop (buffer_len_of
+        (record {
           kind = 5;
-          value = canonical_list F.canonical
-              (meaning_in F.FAMILY F.other (λ n. row_of (F.rows lists n))) (nla_items bytes.now);
+          value = canonical_list F.canonical (meaning_by F.RowFamily.own lists)
+              (nla_items bytes.now);
         })) buffer.old }
 {
     let len = nested_list_write_canonical::<F>(bytes, lists, &mut buffer[4..]);
@@ -136,21 +115,15 @@ fn nested_write_list<F: NestedFamily>(bytes: &[u8], lists: u8, buffer: &mut [u8]
 /// least that length.
 #[cycle(nested_write_canonical)]
 fn nested_list_write_canonical<F: NestedFamily>(bytes: &[u8], lists: u8, buffer: &mut [u8]) -> usize
-    requires accepted { IsOk
-        (values (meaning_in F.FAMILY F.other (λ n. row_of (F.rows lists n)))
-        (nla_items bytes.now)) }
+    requires accepted { IsOk (values (meaning_by F.RowFamily.own lists) (nla_items bytes.now)) }
     requires within { lists ≤ 128 }
-    requires fits { length (canonical_list F.canonical
-        (meaning_in F.FAMILY F.other (λ n. row_of (F.rows lists n))) (nla_items bytes.now))
-        ≤ 65531 }
-    requires room { length (canonical_list F.canonical
-        (meaning_in F.FAMILY F.other (λ n. row_of (F.rows lists n))) (nla_items bytes.now))
-        ≤ length buffer.old }
-    ensures taken { result
-        ≡ length (canonical_list F.canonical
-        (meaning_in F.FAMILY F.other (λ n. row_of (F.rows lists n))) (nla_items bytes.now)) }
-    ensures written { let string =
-        canonical_list F.canonical (meaning_in F.FAMILY F.other (λ n. row_of (F.rows lists n)))
+    requires fits { length (canonical_list F.canonical (meaning_by F.RowFamily.own lists)
+        (nla_items bytes.now)) ≤ 65531 }
+    requires room { length (canonical_list F.canonical (meaning_by F.RowFamily.own lists)
+        (nla_items bytes.now)) ≤ length buffer.old }
+    ensures taken { result ≡ length (canonical_list F.canonical (meaning_by F.RowFamily.own lists)
+        (nla_items bytes.now)) }
+    ensures written { let string = canonical_list F.canonical (meaning_by F.RowFamily.own lists)
         (nla_items bytes.now) in buffer.new ≡ string ++ drop (length string) buffer.old }
 {
     let mut count = HeaderCount::new();

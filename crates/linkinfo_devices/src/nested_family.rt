@@ -4,9 +4,9 @@ ghost use Rattle.std.specs.Prelude.{◌≡◌, ◌+◌, ◌==◌, ◌&&◌, ◌<
 ghost use Rattle.nla_frame.specs.Attribute.{Attribute, list_string, masked};
 ghost use Rattle.nla_frame.specs.NlaItems.{nla_items};
 ghost use Rattle.linkinfo_shapes.specs.Table.{shape_of};
-ghost use Rattle.linkinfo_table.specs.FamilyRows.{IsFlat, lookup_in, row_of};
+ghost use Rattle.linkinfo_table.specs.FamilyMeaning.{alike_by, headers_by, meaning_by, memory_by};
+ghost use Rattle.linkinfo_table.specs.FamilyRows.{IsFlat, lookup_in};
 ghost use Rattle.linkinfo_table.specs.Lists.{alike_pairs, headers_of, memory_of, values};
-ghost use Rattle.linkinfo_table.specs.Rows.{alike_in, headers_inside, meaning_in, memory_in};
 ghost use Rattle.linkinfo_devices.specs.Nested.{LendsList, in_list, nested_lookup};
 
 use linkinfo_table::{Lookup, RowFamily, table_lookup};
@@ -40,25 +40,25 @@ pub trait NestedFamily: RowFamily<Context = u8> {
         ≡ record { kind = 5; value = list_string (map Self.canonical xs) } };
 
     ghost list_means: { (c : ℕ) (a : Attribute) → c < 128 → masked a.kind ≡ 5 →
-        meaning_in Self.FAMILY Self.other (λ n. row_of (Self.rows c n)) a
+        meaning_by Self.RowFamily.own c a
         ≡ in_list list_value (values
-        (meaning_in Self.FAMILY Self.other (λ n. row_of (Self.rows (c + 1) n)))
+        (meaning_by Self.RowFamily.own (c + 1))
         (nla_items a.value)) };
 
     ghost list_needs_memory: { (c : ℕ) (a : Attribute) → c < 128 → masked a.kind ≡ 5 →
-        memory_in (λ n. row_of (Self.rows c n)) a
-        ≡ memory_of (meaning_in Self.FAMILY Self.other (λ n. row_of (Self.rows (c + 1) n)))
-        (memory_in (λ n. row_of (Self.rows (c + 1) n))) (nla_items a.value) };
+        memory_by Self.RowFamily.own c a
+        ≡ memory_of (meaning_by Self.RowFamily.own (c + 1))
+        (memory_by Self.RowFamily.own (c + 1)) (nla_items a.value) };
 
     ghost list_headers: { (c : ℕ) (a : Attribute) → c < 128 → masked a.kind ≡ 5 →
-        headers_inside (λ n. row_of (Self.rows c n)) a
-        ≡ headers_of (meaning_in Self.FAMILY Self.other (λ n. row_of (Self.rows (c + 1) n)))
-        (headers_inside (λ n. row_of (Self.rows (c + 1) n))) (nla_items a.value) };
+        headers_by Self.RowFamily.own c a
+        ≡ headers_of (meaning_by Self.RowFamily.own (c + 1))
+        (headers_by Self.RowFamily.own (c + 1)) (nla_items a.value) };
 
     ghost list_alike: { (c : ℕ) (a b : Attribute) → c < 128 → masked a.kind ≡ 5 →
-        alike_in (λ n. row_of (Self.rows c n)) a b
+        alike_by Self.RowFamily.own c a b
         ≡ ((masked b.kind == masked a.kind)
-        && alike_pairs (alike_in (λ n. row_of (Self.rows (c + 1) n))) (nla_items a.value)
+        && alike_pairs (alike_by Self.RowFamily.own (c + 1)) (nla_items a.value)
         (nla_items b.value)) };
 
     ghost flat_elsewhere: { (c n : ℕ) → (n ≡ 5 → 128 ≤ c) → IsFlat (Self.rows c n) };

@@ -17,8 +17,7 @@ ghost use Rattle.nla_frame.specs.Answers.{CertainUnless, Gives, verdict};
 ghost use Rattle.nla_frame.specs.Attribute.{Fits, masked};
 ghost use Rattle.nla_frame.specs.Error.{memory_error};
 ghost use Rattle.nla_frame.specs.declared.error.Cause.TheVariants as cause;
-ghost use Rattle.linkinfo_table.specs.FamilyRows.{row_of};
-ghost use Rattle.linkinfo_table.specs.Rows.{alike_in, meaning_in, memory_in};
+ghost use Rattle.linkinfo_table.specs.FamilyMeaning.{alike_by, meaning_by, memory_by};
 ghost use Rattle.linkinfo_peers.specs.PeerRows.{peer_meaning};
 
 use crate::peer_family::PeerFamily;
@@ -92,10 +91,9 @@ pub fn peer_read<F: PeerFamily>(
     nla: &NlaBuffer<'_>,
     ctx: F::Context,
 ) -> Result<F, DecodeError>
-    ensures answer { Gives (λ value. value) result
-        (meaning_in F.FAMILY F.other (λ n. row_of (F.rows ctx n)) nla.now) }
-    ensures certain { CertainUnless (memory_in (λ n. row_of (F.rows ctx n)) nla.now)
-        (λ value. value) result (meaning_in F.FAMILY F.other (λ n. row_of (F.rows ctx n)) nla.now) }
+    ensures answer { Gives (λ value. value) result (meaning_by F.RowFamily.own ctx nla.now) }
+    ensures certain { CertainUnless (memory_by F.RowFamily.own ctx nla.now) (λ value. value) result
+        (meaning_by F.RowFamily.own ctx nla.now) }
 {
     if nla.kind() == PEER {
         read_as_peer(alloc, nla)
@@ -106,7 +104,7 @@ pub fn peer_read<F: PeerFamily>(
 
 /// Checks whether `peer_read` would succeed, and returns the error if not. Does not allocate.
 pub fn peer_check<F: PeerFamily>(nla: &NlaBuffer<'_>, ctx: F::Context) -> Result<(), DecodeError>
-    ensures { result ≡ verdict (meaning_in F.FAMILY F.other (λ n. row_of (F.rows ctx n)) nla.now) }
+    ensures { result ≡ verdict (meaning_by F.RowFamily.own ctx nla.now) }
 {
     if nla.kind() == PEER {
         check_as_peer::<F>(nla)
@@ -118,9 +116,9 @@ pub fn peer_check<F: PeerFamily>(nla: &NlaBuffer<'_>, ctx: F::Context) -> Result
 /// Whether two attributes are equivalent: they mean equal values. Requires that both are accepted.
 /// Does not allocate.
 pub fn peer_same<F: PeerFamily>(a: &NlaBuffer<'_>, b: &NlaBuffer<'_>, ctx: F::Context) -> bool
-    requires first { IsOk (meaning_in F.FAMILY F.other (λ n. row_of (F.rows ctx n)) a.now) }
-    requires second { IsOk (meaning_in F.FAMILY F.other (λ n. row_of (F.rows ctx n)) b.now) }
-    ensures { result ≡ alike_in (λ n. row_of (F.rows ctx n)) a.now b.now }
+    requires first { IsOk (meaning_by F.RowFamily.own ctx a.now) }
+    requires second { IsOk (meaning_by F.RowFamily.own ctx b.now) }
+    ensures { result ≡ alike_by F.RowFamily.own ctx a.now b.now }
 {
     if a.kind() == PEER {
         same_as_peer::<F>(a, b)

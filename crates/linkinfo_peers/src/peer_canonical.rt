@@ -2,10 +2,8 @@
 
 ghost use Rattle.std.specs.Prelude.{◌≡◌, ◌≤◌, ◌++◌, IsOk, IsSome, SomeIff, drop, length};
 ghost use Rattle.nla_frame.specs.Attribute.{Fits, buffer_len_of, canonical_string};
-ghost use Rattle.nla_frame.specs.Canonical.{attribute_for};
-ghost use Rattle.linkinfo_table.specs.FamilyRows.{row_of};
+ghost use Rattle.linkinfo_table.specs.FamilyMeaning.{canonical_by, meaning_by};
 ghost use Rattle.linkinfo_table.specs.Peers.{payload_for};
-ghost use Rattle.linkinfo_table.specs.Rows.{meaning_in};
 
 use crate::peer_calls::PEER;
 use crate::peer_family::PeerFamily;
@@ -52,10 +50,8 @@ fn write_as_peer<F: PeerFamily>(nla: &NlaBuffer<'_>, buffer: &mut [u8]) -> usize
 /// Returns the length of the canonical payload of the value that an attribute means, or `None` if
 /// it does not fit. Requires that the attribute is accepted. Does not allocate.
 pub fn peer_canonical_len<F: PeerFamily>(nla: &NlaBuffer<'_>, ctx: F::Context) -> Option<usize>
-    requires { IsOk (meaning_in F.FAMILY F.other (λ n. row_of (F.rows ctx n)) nla.now) }
-    ensures { let canonical =
-        attribute_for F.canonical
-        (meaning_in F.FAMILY F.other (λ n. row_of (F.rows ctx n)) nla.now) in
+    requires { IsOk (meaning_by F.RowFamily.own ctx nla.now) }
+    ensures { let canonical = canonical_by F.RowFamily.own ctx nla.now in
         SomeIff result (Fits canonical) (length canonical.value) }
 {
     if nla.kind() == PEER {
@@ -75,18 +71,11 @@ pub fn peer_write_canonical<F: PeerFamily>(
     ctx: F::Context,
     buffer: &mut [u8],
 ) -> usize
-    requires accepted { IsOk (meaning_in F.FAMILY F.other (λ n. row_of (F.rows ctx n)) nla.now) }
-    requires fits { Fits (attribute_for F.canonical
-        (meaning_in F.FAMILY F.other (λ n. row_of (F.rows ctx n)) nla.now)) }
-    requires room { buffer_len_of
-        (attribute_for F.canonical
-        (meaning_in F.FAMILY F.other (λ n. row_of (F.rows ctx n)) nla.now)) ≤ length buffer.old }
-    ensures taken { result
-        ≡ buffer_len_of (attribute_for F.canonical
-        (meaning_in F.FAMILY F.other (λ n. row_of (F.rows ctx n)) nla.now)) }
-    ensures written { let canonical =
-        attribute_for F.canonical
-        (meaning_in F.FAMILY F.other (λ n. row_of (F.rows ctx n)) nla.now) in
+    requires accepted { IsOk (meaning_by F.RowFamily.own ctx nla.now) }
+    requires fits { Fits (canonical_by F.RowFamily.own ctx nla.now) }
+    requires room { buffer_len_of (canonical_by F.RowFamily.own ctx nla.now) ≤ length buffer.old }
+    ensures taken { result ≡ buffer_len_of (canonical_by F.RowFamily.own ctx nla.now) }
+    ensures written { let canonical = canonical_by F.RowFamily.own ctx nla.now in
         buffer.new ≡ canonical_string canonical ++ drop (buffer_len_of canonical) buffer.old }
 {
     if nla.kind() == PEER {

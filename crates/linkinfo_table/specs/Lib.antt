@@ -5,6 +5,7 @@ pub mod Codecs
 pub mod Conditions
 pub mod ErrorMemory
 pub mod ErrorNames
+pub mod FamilyMeaning
 pub mod FamilyRowLaws
 pub mod FamilyRows
 pub mod FlatLaws

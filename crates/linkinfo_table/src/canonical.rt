@@ -2,10 +2,9 @@
 
 ghost use Rattle.std.specs.Prelude.{◌≡◌, ◌≤◌, ◌++◌, IsOk, SomeIff, drop, length};
 ghost use Rattle.nla_frame.specs.Attribute.{Fits, buffer_len_of, canonical_string, masked};
-ghost use Rattle.nla_frame.specs.Canonical.{attribute_for};
+ghost use Rattle.linkinfo_table.specs.FamilyMeaning.{canonical_by, meaning_by};
 ghost use Rattle.linkinfo_table.specs.Canonical.{IsWrittenFrom};
-ghost use Rattle.linkinfo_table.specs.FamilyRows.{IsFlat, row_of};
-ghost use Rattle.linkinfo_table.specs.Rows.{meaning_in};
+ghost use Rattle.linkinfo_table.specs.FamilyRows.{IsFlat};
 
 use crate::lookup::Lookup;
 use crate::row_family::RowFamily;
@@ -26,10 +25,8 @@ pub(crate) enum Written<'a> {
 #[inline(always)]
 fn written_from<'a, F: RowFamily>(nla: &NlaBuffer<'a>, ctx: F::Context) -> Written<'a>
     requires flat { IsFlat (F.rows ctx (masked nla.now.kind)) }
-    requires accepted { IsOk (meaning_in F.FAMILY F.other (λ n. row_of (F.rows ctx n)) nla.now) }
-    ensures { IsWrittenFrom result
-        (attribute_for F.canonical
-        (meaning_in F.FAMILY F.other (λ n. row_of (F.rows ctx n)) nla.now)) }
+    requires accepted { IsOk (meaning_by F.RowFamily.own ctx nla.now) }
+    ensures { IsWrittenFrom result (canonical_by F.RowFamily.own ctx nla.now) }
 {
     let kind = nla.kind();
     match F::shape(ctx, kind) {
@@ -46,10 +43,8 @@ fn written_from<'a, F: RowFamily>(nla: &NlaBuffer<'a>, ctx: F::Context) -> Writt
 #[inline(always)]
 pub fn row_canonical_len<F: RowFamily>(nla: &NlaBuffer<'_>, ctx: F::Context) -> Option<usize>
     requires flat { IsFlat (F.rows ctx (masked nla.now.kind)) }
-    requires accepted { IsOk (meaning_in F.FAMILY F.other (λ n. row_of (F.rows ctx n)) nla.now) }
-    ensures { let canonical =
-        attribute_for F.canonical
-        (meaning_in F.FAMILY F.other (λ n. row_of (F.rows ctx n)) nla.now) in
+    requires accepted { IsOk (meaning_by F.RowFamily.own ctx nla.now) }
+    ensures { let canonical = canonical_by F.RowFamily.own ctx nla.now in
         SomeIff result (Fits canonical) (length canonical.value) }
 {
     match written_from::<F>(nla, ctx) {
@@ -70,18 +65,11 @@ pub fn row_write_canonical<F: RowFamily>(
     buffer: &mut [u8],
 ) -> usize
     requires flat { IsFlat (F.rows ctx (masked nla.now.kind)) }
-    requires accepted { IsOk (meaning_in F.FAMILY F.other (λ n. row_of (F.rows ctx n)) nla.now) }
-    requires fits { Fits (attribute_for F.canonical
-        (meaning_in F.FAMILY F.other (λ n. row_of (F.rows ctx n)) nla.now)) }
-    requires room { buffer_len_of
-        (attribute_for F.canonical
-        (meaning_in F.FAMILY F.other (λ n. row_of (F.rows ctx n)) nla.now)) ≤ length buffer.old }
-    ensures taken { result
-        ≡ buffer_len_of (attribute_for F.canonical
-        (meaning_in F.FAMILY F.other (λ n. row_of (F.rows ctx n)) nla.now)) }
-    ensures written { let canonical =
-        attribute_for F.canonical
-        (meaning_in F.FAMILY F.other (λ n. row_of (F.rows ctx n)) nla.now) in
+    requires accepted { IsOk (meaning_by F.RowFamily.own ctx nla.now) }
+    requires fits { Fits (canonical_by F.RowFamily.own ctx nla.now) }
+    requires room { buffer_len_of (canonical_by F.RowFamily.own ctx nla.now) ≤ length buffer.old }
+    ensures taken { result ≡ buffer_len_of (canonical_by F.RowFamily.own ctx nla.now) }
+    ensures written { let canonical = canonical_by F.RowFamily.own ctx nla.now in
         buffer.new ≡ canonical_string canonical ++ drop (buffer_len_of canonical) buffer.old }
 {
     match written_from::<F>(nla, ctx) {

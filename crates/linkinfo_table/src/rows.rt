@@ -18,9 +18,9 @@ ghost use Rattle.nla_frame.specs.Answers.{CertainUnless, Gives, verdict};
 ghost use Rattle.nla_frame.specs.Attribute.{Fits, masked};
 ghost use Rattle.linkinfo_shapes.specs.Shapes.{IsAccepted, IsPlain, payload_alike};
 ghost use Rattle.linkinfo_shapes.specs.Table.{shape_of};
-ghost use Rattle.linkinfo_table.specs.FamilyRows.{IsFlat, lookup_in, row_of};
+ghost use Rattle.linkinfo_table.specs.FamilyMeaning.{alike_by, meaning_by, memory_by};
+ghost use Rattle.linkinfo_table.specs.FamilyRows.{IsFlat, lookup_in};
 ghost use Rattle.linkinfo_table.specs.Lists.{StoreGives, store_memory};
-ghost use Rattle.linkinfo_table.specs.Rows.{alike_in, meaning_in, memory_in};
 
 use crate::decoded::Decoded;
 use crate::encodable::Encodable;
@@ -66,11 +66,11 @@ pub fn row_store<F: RowFamily, P: Slot<F>>(
 ) -> Result<(), DecodeError>
     requires { IsFlat (F.rows ctx (masked nla.now.kind)) }
     ensures answer { StoreGives (P.with slot.old) (P.held slot.new) result
-        (meaning_in F.FAMILY F.other (λ n. row_of (F.rows ctx n)) nla.now) }
+        (meaning_by F.RowFamily.own ctx nla.now) }
     ensures unchanged { OnErr result (P.held slot.new ≡ P.held slot.old) }
-    ensures certain { store_memory P.is_certain (memory_in (λ n. row_of (F.rows ctx n)) nla.now)
-        (meaning_in F.FAMILY F.other (λ n. row_of (F.rows ctx n)) nla.now) ≡ false →
-        result ≡ verdict (meaning_in F.FAMILY F.other (λ n. row_of (F.rows ctx n)) nla.now) }
+    ensures certain { store_memory P.is_certain (memory_by F.RowFamily.own ctx nla.now)
+        (meaning_by F.RowFamily.own ctx nla.now) ≡ false →
+        result ≡ verdict (meaning_by F.RowFamily.own ctx nla.now) }
 {
     let kind = nla.kind();
     match F::shape(ctx, kind) {
@@ -93,10 +93,9 @@ pub fn row_read<F: RowFamily>(
     ctx: F::Context,
 ) -> Result<F, DecodeError>
     requires { IsFlat (F.rows ctx (masked nla.now.kind)) }
-    ensures answer { Gives (λ value. value) result
-        (meaning_in F.FAMILY F.other (λ n. row_of (F.rows ctx n)) nla.now) }
-    ensures certain { CertainUnless (memory_in (λ n. row_of (F.rows ctx n)) nla.now)
-        (λ value. value) result (meaning_in F.FAMILY F.other (λ n. row_of (F.rows ctx n)) nla.now) }
+    ensures answer { Gives (λ value. value) result (meaning_by F.RowFamily.own ctx nla.now) }
+    ensures certain { CertainUnless (memory_by F.RowFamily.own ctx nla.now) (λ value. value) result
+        (meaning_by F.RowFamily.own ctx nla.now) }
 {
     let mut slot = None;
     row_store::<F, Option<F>>(&mut slot, alloc, nla, ctx)?;
@@ -111,7 +110,7 @@ pub fn row_read<F: RowFamily>(
 #[inline(always)]
 pub fn row_check<F: RowFamily>(nla: &NlaBuffer<'_>, ctx: F::Context) -> Result<(), DecodeError>
     requires { IsFlat (F.rows ctx (masked nla.now.kind)) }
-    ensures { result ≡ verdict (meaning_in F.FAMILY F.other (λ n. row_of (F.rows ctx n)) nla.now) }
+    ensures { result ≡ verdict (meaning_by F.RowFamily.own ctx nla.now) }
 {
     let kind = nla.kind();
     match F::shape(ctx, kind) {
@@ -131,9 +130,9 @@ pub fn row_check<F: RowFamily>(nla: &NlaBuffer<'_>, ctx: F::Context) -> Result<(
 #[inline(always)]
 pub fn row_same<F: RowFamily>(a: &NlaBuffer<'_>, b: &NlaBuffer<'_>, ctx: F::Context) -> bool
     requires flat { IsFlat (F.rows ctx (masked a.now.kind)) }
-    requires first { IsOk (meaning_in F.FAMILY F.other (λ n. row_of (F.rows ctx n)) a.now) }
-    requires second { IsOk (meaning_in F.FAMILY F.other (λ n. row_of (F.rows ctx n)) b.now) }
-    ensures { result ≡ alike_in (λ n. row_of (F.rows ctx n)) a.now b.now }
+    requires first { IsOk (meaning_by F.RowFamily.own ctx a.now) }
+    requires second { IsOk (meaning_by F.RowFamily.own ctx b.now) }
+    ensures { result ≡ alike_by F.RowFamily.own ctx a.now b.now }
 {
     match F::shape(ctx, a.kind()) {
         Lookup::Is(shape) => typed_same(shape, a, b),

@@ -4,12 +4,12 @@ ghost use Rattle.std.specs.Prelude.{◌≡◌, ◌≤◌, ◌++◌, ℕ, false, 
 ghost use Rattle.std.proofs.Common.{◌∙◌};
 ghost use Rattle.nla_frame.specs.Answers.{CertainUnless, Gives, verdict};
 ghost use Rattle.nla_frame.specs.Attribute.{Fits, buffer_len_of, canonical_string, masked};
-ghost use Rattle.nla_frame.specs.Canonical.{attribute_for};
+ghost use Rattle.linkinfo_table.specs.FamilyMeaning.{alike_by, canonical_by, meaning_by, memory_by};
 ghost use Rattle.linkinfo_table.specs.FamilyRows.{IsUnnested, lookup_of, row_of};
 ghost use Rattle.linkinfo_table.specs.ErrorMemory.{rows_certain, unnested_other};
 ghost use Rattle.linkinfo_table.specs.Lists.{Appends, push_memory};
 ghost use Rattle.linkinfo_table.specs.LookupLaws.{rows_say};
-ghost use Rattle.linkinfo_table.specs.Rows.{alike_in, meaning_in, memory_in, WellFormed};
+ghost use Rattle.linkinfo_table.specs.Rows.{WellFormed};
 ghost use Rattle.linkinfo_table.specs.FlatLaws.{
   flat_alike_is,
   none_inside,
@@ -34,11 +34,9 @@ pub trait UnnestedFamily: RowFamily + Nla {
         nla: &NlaBuffer<'_>,
         ctx: <Self as RowFamily>::Context,
     ) -> Result<Self, DecodeError>
-        ensures answer { Gives (λ value. value) result
-            (meaning_in Self.FAMILY Self.other (λ n. row_of (Self.rows ctx n)) nla.now) }
-        ensures certain { CertainUnless (memory_in (λ n. row_of (Self.rows ctx n)) nla.now)
-            (λ value. value) result
-            (meaning_in Self.FAMILY Self.other (λ n. row_of (Self.rows ctx n)) nla.now) };
+        ensures answer { Gives (λ value. value) result (meaning_by Self.RowFamily.own ctx nla.now) }
+        ensures certain { CertainUnless (memory_by Self.RowFamily.own ctx nla.now) (λ value. value)
+            result (meaning_by Self.RowFamily.own ctx nla.now) };
 
     /// Reads an attribute by its row, and pushes its value to the end of a list. An error leaves
     /// the list unchanged.
@@ -49,12 +47,11 @@ pub trait UnnestedFamily: RowFamily + Nla {
         ctx: <Self as RowFamily>::Context,
     ) -> Result<(), DecodeError>
         ensures answer { Appends items.old.items items.new.items result
-            (meaning_in Self.FAMILY Self.other (λ n. row_of (Self.rows ctx n)) nla.now) }
+            (meaning_by Self.RowFamily.own ctx nla.now) }
         ensures unchanged { OnErr result (items.new.items ≡ items.old.items) }
-        ensures certain { push_memory (memory_in (λ n. row_of (Self.rows ctx n)) nla.now)
-            (meaning_in Self.FAMILY Self.other (λ n. row_of (Self.rows ctx n)) nla.now) ≡ false →
-            result
-            ≡ verdict (meaning_in Self.FAMILY Self.other (λ n. row_of (Self.rows ctx n)) nla.now) }
+        ensures certain { push_memory (memory_by Self.RowFamily.own ctx nla.now)
+            (meaning_by Self.RowFamily.own ctx nla.now) ≡ false →
+            result ≡ verdict (meaning_by Self.RowFamily.own ctx nla.now) }
     {
         items.push(Self::read_by_row(alloc, nla, ctx)?)?;
         Ok(())
@@ -65,26 +62,20 @@ pub trait UnnestedFamily: RowFamily + Nla {
         nla: &NlaBuffer<'_>,
         ctx: <Self as RowFamily>::Context,
     ) -> Result<(), DecodeError>
-        ensures { result
-            ≡ verdict (meaning_in Self.FAMILY Self.other (λ n. row_of (Self.rows ctx n)) nla.now) };
+        ensures { result ≡ verdict (meaning_by Self.RowFamily.own ctx nla.now) };
 
     /// Whether two attributes are equivalent: they mean equal values. Requires that both are
     /// accepted. Does not allocate.
     fn same_by_row(a: &NlaBuffer<'_>, b: &NlaBuffer<'_>, ctx: <Self as RowFamily>::Context) -> bool
-        requires first { IsOk
-            (meaning_in Self.FAMILY Self.other (λ n. row_of (Self.rows ctx n)) a.now) }
-        requires second { IsOk
-            (meaning_in Self.FAMILY Self.other (λ n. row_of (Self.rows ctx n)) b.now) }
-        ensures { result ≡ alike_in (λ n. row_of (Self.rows ctx n)) a.now b.now };
+        requires first { IsOk (meaning_by Self.RowFamily.own ctx a.now) }
+        requires second { IsOk (meaning_by Self.RowFamily.own ctx b.now) }
+        ensures { result ≡ alike_by Self.RowFamily.own ctx a.now b.now };
 
     /// Returns the length of the canonical payload of the value that an attribute means, or `None`
     /// if it does not fit. Requires that the attribute is accepted. Does not allocate.
     fn canonical_len_by_row(nla: &NlaBuffer<'_>, ctx: <Self as RowFamily>::Context) -> Option<usize>
-        requires { IsOk
-            (meaning_in Self.FAMILY Self.other (λ n. row_of (Self.rows ctx n)) nla.now) }
-        ensures { let canonical =
-            attribute_for Self.canonical
-            (meaning_in Self.FAMILY Self.other (λ n. row_of (Self.rows ctx n)) nla.now) in
+        requires { IsOk (meaning_by Self.RowFamily.own ctx nla.now) }
+        ensures { let canonical = canonical_by Self.RowFamily.own ctx nla.now in
             SomeIff result (Fits canonical) (length canonical.value) };
 
     /// Writes the canonical encoding of the value that an attribute means at the front of the
@@ -97,20 +88,12 @@ pub trait UnnestedFamily: RowFamily + Nla {
         ctx: <Self as RowFamily>::Context,
         buffer: &mut [u8],
     ) -> usize
-        requires accepted { IsOk
-            (meaning_in Self.FAMILY Self.other (λ n. row_of (Self.rows ctx n)) nla.now) }
-        requires fits { Fits (attribute_for Self.canonical
-            (meaning_in Self.FAMILY Self.other (λ n. row_of (Self.rows ctx n)) nla.now)) }
-        requires room { buffer_len_of
-            (attribute_for Self.canonical
-            (meaning_in Self.FAMILY Self.other (λ n. row_of (Self.rows ctx n)) nla.now))
+        requires accepted { IsOk (meaning_by Self.RowFamily.own ctx nla.now) }
+        requires fits { Fits (canonical_by Self.RowFamily.own ctx nla.now) }
+        requires room { buffer_len_of (canonical_by Self.RowFamily.own ctx nla.now)
             ≤ length buffer.old }
-        ensures taken { result
-            ≡ buffer_len_of (attribute_for Self.canonical
-            (meaning_in Self.FAMILY Self.other (λ n. row_of (Self.rows ctx n)) nla.now)) }
-        ensures written { let canonical =
-            attribute_for Self.canonical
-            (meaning_in Self.FAMILY Self.other (λ n. row_of (Self.rows ctx n)) nla.now) in
+        ensures taken { result ≡ buffer_len_of (canonical_by Self.RowFamily.own ctx nla.now) }
+        ensures written { let canonical = canonical_by Self.RowFamily.own ctx nla.now in
             buffer.new ≡ canonical_string canonical ++ drop (buffer_len_of canonical) buffer.old };
 
     ghost written: { (x : Self) → Self.attribute x ≡ Self.canonical x };
@@ -129,13 +112,13 @@ impl<F: UnnestedFamily> LinkFamily for F {
 
     ghost keeping = { F.other };
 
-    ghost meaning = { λ c a. meaning_in F.RowFamily.FAMILY F.other (λ n. row_of (F.rows c n)) a };
+    ghost meaning = { meaning_by F.RowFamily.own };
 
-    ghost needs_memory = { λ c a. memory_in (λ n. row_of (F.rows c n)) a };
+    ghost needs_memory = { memory_by F.RowFamily.own };
 
     ghost headers = { λ _ _. 0 };
 
-    ghost alike = { λ c a b. alike_in (λ n. row_of (F.rows c n)) a b };
+    ghost alike = { alike_by F.RowFamily.own };
 
     ghost well = { λ c x. WellFormed F.other F.canonical (λ n. row_of (F.rows c n)) x };
 
@@ -143,7 +126,7 @@ impl<F: UnnestedFamily> LinkFamily for F {
 
     ghost looked_up = { λ c a.
         rows_say F.RowFamily.FAMILY F.other F.canonical F.attribute F.written
-        (λ d b. meaning_in F.RowFamily.FAMILY F.other (λ n. row_of (F.rows d n)) b) (F.rows c) a
+        (meaning_by F.RowFamily.own) (F.rows c) a
         (F.unnested c (masked a.kind)) (F.owes c (masked a.kind)) };
 
     ghost alike_is = { λ c a b x y.

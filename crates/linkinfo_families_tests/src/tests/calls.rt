@@ -2,8 +2,7 @@
 //! checking, comparing and writing by the row of a type, and the slots for values.
 
 ghost use Rattle.std.specs.Prelude.{IsOk};
-ghost use Rattle.linkinfo_table.specs.FamilyRows.{row_of};
-ghost use Rattle.linkinfo_table.specs.Rows.{meaning_in};
+ghost use Rattle.linkinfo_table.specs.FamilyMeaning.{meaning_by};
 
 use super::rows::{assert_is, attribute, error, kept};
 use linkinfo_devices::InfoXfrm;
@@ -94,7 +93,7 @@ fn accepted<'a, F: FlatFamily>(
     ctx: <F as RowFamily>::Context,
     bytes: &'a [u8],
 ) -> NlaBuffer<'a>
-    ensures { IsOk (meaning_in F.RowFamily.FAMILY F.other (λ n. row_of (F.rows ctx n)) result) }
+    ensures { IsOk (meaning_by F.RowFamily.own ctx result) }
 {
     let nla = attribute(rt, bytes);
     F::check_by_row(&nla, ctx).expect(rt, "an accepted attribute");
