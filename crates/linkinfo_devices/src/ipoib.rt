@@ -7,8 +7,7 @@ ghost use Rattle.linkinfo_devices.specs.Ipoib.{
   ipoib_lookup,
   ipoib_rows,
 };
-ghost use Rattle.linkinfo_table.specs.FamilyRows.{row_of, table_row};
-ghost use Rattle.linkinfo_table.specs.Rows.{meaning_in, memory_in};
+ghost use Rattle.linkinfo_table.specs.FamilyMeaning.{table_meaning, table_memory};
 ghost use Rattle.nla_frame.specs.declared.error.Family.TheVariants as family;
 ghost use Rattle.std.specs.Prelude.{◌≡◌, refl};
 
@@ -117,10 +116,9 @@ impl WrittenByTable for InfoIpoib {
 
 /// Reads the attribute. A payload of invalid length is rejected as `(Ipoib, type, Length)`.
 impl<'a> Parseable<NlaBuffer<'a>> for InfoIpoib {
-    ghost meaning = { λ nla.
-        meaning_in family.Ipoib (λ d. Other d) (λ n. row_of (table_row ipoib_rows n)) nla };
+    ghost meaning = { table_meaning family.Ipoib (λ d. Other d) ipoib_rows };
 
-    ghost needs_memory = { λ nla. memory_in (λ n. row_of (table_row ipoib_rows n)) nla };
+    ghost needs_memory = { table_memory ipoib_rows };
 
     fn parse(alloc: Global, buffer: &NlaBuffer<'a>) -> Result<InfoIpoib, DecodeError> {
         row_read(alloc, buffer, ())

@@ -8,8 +8,7 @@ ghost use Rattle.linkinfo_devices.specs.Ipvlan.{
   ip_vlan_lookup,
   ip_vlan_rows,
 };
-ghost use Rattle.linkinfo_table.specs.FamilyRows.{row_of, table_row};
-ghost use Rattle.linkinfo_table.specs.Rows.{meaning_in, memory_in};
+ghost use Rattle.linkinfo_table.specs.FamilyMeaning.{table_meaning, table_memory};
 ghost use Rattle.std.specs.Prelude.{◌≡◌, refl};
 
 use bitflags::Flags;
@@ -132,12 +131,9 @@ impl<const TAP: bool> WrittenByTable for InfoIpVlanOf<TAP> {
 /// Reads the attribute. A payload of invalid length is rejected as `(IpVlan, type, Length)` or
 /// `(IpVtap, type, Length)`, by the family.
 impl<'a, const TAP: bool> Parseable<NlaBuffer<'a>> for InfoIpVlanOf<TAP> {
-    ghost meaning = { λ nla.
-        meaning_in (ip_vlan_family TAP) (λ d. Other d)
-        (λ n. row_of (table_row ip_vlan_rows n)) nla };
+    ghost meaning = { table_meaning (ip_vlan_family TAP) (λ d. Other d) ip_vlan_rows };
 
-    ghost needs_memory = { λ nla.
-        memory_in (λ n. row_of (table_row ⟦<InfoIpVlanOf<TAP> as TableFamily>⟧.table n)) nla };
+    ghost needs_memory = { table_memory ⟦<InfoIpVlanOf<TAP> as TableFamily>⟧.table };
 
     fn parse(alloc: Global, buffer: &NlaBuffer<'a>) -> Result<InfoIpVlanOf<TAP>, DecodeError> {
         row_read(alloc, buffer, ())

@@ -7,8 +7,7 @@ ghost use Rattle.linkinfo_devices.specs.Macsec.{
   mac_sec_lookup,
   mac_sec_rows,
 };
-ghost use Rattle.linkinfo_table.specs.FamilyRows.{row_of, table_row};
-ghost use Rattle.linkinfo_table.specs.Rows.{meaning_in, memory_in};
+ghost use Rattle.linkinfo_table.specs.FamilyMeaning.{table_meaning, table_memory};
 ghost use Rattle.nla_frame.specs.declared.error.Family.TheVariants as family;
 ghost use Rattle.std.specs.Prelude.{◌≡◌, refl};
 
@@ -150,10 +149,9 @@ impl WrittenByTable for InfoMacSec {
 
 /// Reads the attribute. A payload of invalid length is rejected as `(MacSec, type, Length)`.
 impl<'a> Parseable<NlaBuffer<'a>> for InfoMacSec {
-    ghost meaning = { λ nla.
-        meaning_in family.MacSec (λ d. Other d) (λ n. row_of (table_row mac_sec_rows n)) nla };
+    ghost meaning = { table_meaning family.MacSec (λ d. Other d) mac_sec_rows };
 
-    ghost needs_memory = { λ nla. memory_in (λ n. row_of (table_row mac_sec_rows n)) nla };
+    ghost needs_memory = { table_memory mac_sec_rows };
 
     fn parse(alloc: Global, buffer: &NlaBuffer<'a>) -> Result<InfoMacSec, DecodeError> {
         row_read(alloc, buffer, ())

@@ -8,8 +8,7 @@ ghost use Rattle.linkinfo_devices.specs.Rmnet.{
   rm_net_lookup,
   rm_net_rows,
 };
-ghost use Rattle.linkinfo_table.specs.FamilyRows.{row_of, table_row};
-ghost use Rattle.linkinfo_table.specs.Rows.{meaning_in, memory_in};
+ghost use Rattle.linkinfo_table.specs.FamilyMeaning.{table_meaning, table_memory};
 ghost use Rattle.nla_frame.specs.declared.error.Family.TheVariants as family;
 ghost use Rattle.std.specs.Prelude.{◌≡◌, refl};
 
@@ -134,10 +133,9 @@ impl WrittenByTable for InfoRmNet {
 
 /// Reads the attribute. A payload of invalid length is rejected as `(RmNet, type, Length)`.
 impl<'a> Parseable<NlaBuffer<'a>> for InfoRmNet {
-    ghost meaning = { λ nla.
-        meaning_in family.RmNet (λ d. Other d) (λ n. row_of (table_row rm_net_rows n)) nla };
+    ghost meaning = { table_meaning family.RmNet (λ d. Other d) rm_net_rows };
 
-    ghost needs_memory = { λ nla. memory_in (λ n. row_of (table_row rm_net_rows n)) nla };
+    ghost needs_memory = { table_memory rm_net_rows };
 
     fn parse(alloc: Global, buffer: &NlaBuffer<'a>) -> Result<InfoRmNet, DecodeError> {
         row_read(alloc, buffer, ())

@@ -3,8 +3,7 @@
 
 ghost use Rattle.linkinfo_devices.specs.declared.vrf.InfoVrf.TheVariants.{Other};
 ghost use Rattle.linkinfo_devices.specs.Vrf.{vrf_attribute, vrf_keeps, vrf_lookup, vrf_rows};
-ghost use Rattle.linkinfo_table.specs.FamilyRows.{row_of, table_row};
-ghost use Rattle.linkinfo_table.specs.Rows.{meaning_in, memory_in};
+ghost use Rattle.linkinfo_table.specs.FamilyMeaning.{table_meaning, table_memory};
 ghost use Rattle.nla_frame.specs.declared.error.Family.TheVariants as family;
 ghost use Rattle.std.specs.Prelude.{◌≡◌, refl};
 
@@ -107,10 +106,9 @@ impl WrittenByTable for InfoVrf {
 
 /// Reads the attribute. A payload of invalid length is rejected as `(Vrf, type, Length)`.
 impl<'a> Parseable<NlaBuffer<'a>> for InfoVrf {
-    ghost meaning = { λ nla.
-        meaning_in family.Vrf (λ d. Other d) (λ n. row_of (table_row vrf_rows n)) nla };
+    ghost meaning = { table_meaning family.Vrf (λ d. Other d) vrf_rows };
 
-    ghost needs_memory = { λ nla. memory_in (λ n. row_of (table_row vrf_rows n)) nla };
+    ghost needs_memory = { table_memory vrf_rows };
 
     fn parse(alloc: Global, buffer: &NlaBuffer<'a>) -> Result<InfoVrf, DecodeError> {
         row_read(alloc, buffer, ())

@@ -2,8 +2,7 @@
 
 ghost use Rattle.linkinfo_devices.specs.declared.xfrm.InfoXfrm.TheVariants.{Other};
 ghost use Rattle.linkinfo_devices.specs.Xfrm.{xfrm_attribute, xfrm_keeps, xfrm_lookup, xfrm_rows};
-ghost use Rattle.linkinfo_table.specs.FamilyRows.{row_of, table_row};
-ghost use Rattle.linkinfo_table.specs.Rows.{meaning_in, memory_in};
+ghost use Rattle.linkinfo_table.specs.FamilyMeaning.{table_meaning, table_memory};
 ghost use Rattle.nla_frame.specs.declared.error.Family.TheVariants as family;
 ghost use Rattle.std.specs.Prelude.{◌≡◌, refl};
 
@@ -106,10 +105,9 @@ impl WrittenByTable for InfoXfrm {
 
 /// Reads the attribute. A payload of invalid length is rejected as `(Xfrm, type, Length)`.
 impl<'a> Parseable<NlaBuffer<'a>> for InfoXfrm {
-    ghost meaning = { λ nla.
-        meaning_in family.Xfrm (λ d. Other d) (λ n. row_of (table_row xfrm_rows n)) nla };
+    ghost meaning = { table_meaning family.Xfrm (λ d. Other d) xfrm_rows };
 
-    ghost needs_memory = { λ nla. memory_in (λ n. row_of (table_row xfrm_rows n)) nla };
+    ghost needs_memory = { table_memory xfrm_rows };
 
     fn parse(alloc: Global, buffer: &NlaBuffer<'a>) -> Result<InfoXfrm, DecodeError> {
         row_read(alloc, buffer, ())

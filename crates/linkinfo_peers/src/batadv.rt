@@ -2,8 +2,7 @@
 
 ghost use Rattle.linkinfo_peers.specs.declared.batadv.InfoBatAdv.TheVariants.{Other};
 ghost use Rattle.linkinfo_peers.specs.Batadv.{batadv_attribute, batadv_keeps, batadv_rows};
-ghost use Rattle.linkinfo_table.specs.FamilyRows.{row_of, table_row};
-ghost use Rattle.linkinfo_table.specs.Rows.{meaning_in, memory_in};
+ghost use Rattle.linkinfo_table.specs.FamilyMeaning.{table_meaning, table_memory};
 ghost use Rattle.linkinfo_table.specs.FamilyRowLaws.{table_lookup};
 ghost use Rattle.nla_frame.specs.declared.error.Family.TheVariants as family;
 ghost use Rattle.std.specs.Prelude.{◌≡◌, refl};
@@ -104,10 +103,9 @@ impl WrittenByTable for InfoBatAdv {
 
 /// Reads the attribute. A name that is not UTF-8 is rejected as `(BatAdv, 1, Utf8)`.
 impl<'a> Parseable<NlaBuffer<'a>> for InfoBatAdv {
-    ghost meaning = { λ nla.
-        meaning_in family.BatAdv (λ d. Other d) (λ n. row_of (table_row batadv_rows n)) nla };
+    ghost meaning = { table_meaning family.BatAdv (λ d. Other d) batadv_rows };
 
-    ghost needs_memory = { λ nla. memory_in (λ n. row_of (table_row batadv_rows n)) nla };
+    ghost needs_memory = { table_memory batadv_rows };
 
     fn parse(alloc: Global, buffer: &NlaBuffer<'a>) -> Result<InfoBatAdv, DecodeError> {
         row_read(alloc, buffer, ())

@@ -2,8 +2,7 @@
 
 ghost use Rattle.linkinfo_peers.specs.declared.wwan.InfoWwan.TheVariants.{Other};
 ghost use Rattle.linkinfo_peers.specs.Wwan.{wwan_attribute, wwan_keeps, wwan_rows};
-ghost use Rattle.linkinfo_table.specs.FamilyRows.{row_of, table_row};
-ghost use Rattle.linkinfo_table.specs.Rows.{meaning_in, memory_in};
+ghost use Rattle.linkinfo_table.specs.FamilyMeaning.{table_meaning, table_memory};
 ghost use Rattle.linkinfo_table.specs.FamilyRowLaws.{table_lookup};
 ghost use Rattle.nla_frame.specs.declared.error.Family.TheVariants as family;
 ghost use Rattle.std.specs.Prelude.{◌≡◌, refl};
@@ -104,10 +103,9 @@ impl WrittenByTable for InfoWwan {
 
 /// Reads the attribute. A payload of invalid length is rejected as `(Wwan, 1, Length)`.
 impl<'a> Parseable<NlaBuffer<'a>> for InfoWwan {
-    ghost meaning = { λ nla.
-        meaning_in family.Wwan (λ d. Other d) (λ n. row_of (table_row wwan_rows n)) nla };
+    ghost meaning = { table_meaning family.Wwan (λ d. Other d) wwan_rows };
 
-    ghost needs_memory = { λ nla. memory_in (λ n. row_of (table_row wwan_rows n)) nla };
+    ghost needs_memory = { table_memory wwan_rows };
 
     fn parse(alloc: Global, buffer: &NlaBuffer<'a>) -> Result<InfoWwan, DecodeError> {
         row_read(alloc, buffer, ())

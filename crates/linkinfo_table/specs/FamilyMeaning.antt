@@ -1,9 +1,11 @@
--- What an attribute means in a family by rows, as `RowFamily` has them.
-use Rattle.std.specs.Prelude.{ℕ, Bool, Result}
+-- What an attribute means by the rows of a family: as `RowFamily` has them, or by one table.
+use Rattle.std.specs.Prelude.{ℕ, Bool, List, Result}
 use Rattle.nla_frame.specs.Attribute.{Attribute}
 use Rattle.nla_frame.specs.Canonical.{attribute_for}
+use Rattle.nla_frame.specs.declared.default_nla.DefaultNla.{DefaultNla}
 use Rattle.nla_frame.specs.declared.error.DecodeError.{DecodeError}
-use Rattle.linkinfo_table.specs.FamilyRows.{row_of}
+use Rattle.nla_frame.specs.declared.error.Family.{Family}
+use Rattle.linkinfo_table.specs.FamilyRows.{PlainRow, row_of, table_row}
 use Rattle.linkinfo_table.specs.Rows.{alike_in, headers_inside, meaning_in, memory_in}
 use Rattle.linkinfo_table.specs.declared.row_family.RowFamily.{Ghosts}
 
@@ -27,3 +29,12 @@ module _ {F Context : Type 0} (own : Ghosts F Context) (c : Context) where
   -- the canonical attribute of what the attribute means
   abbrev pub canonical_by : Attribute → Attribute
   canonical_by a = attribute_for own.canonical (meaning_by a)
+
+-- ---- by one table of plain rows
+
+abbrev pub table_meaning : {F : Type 0} → Family → (DefaultNla → F) → List (PlainRow F) →
+    Attribute → Result F DecodeError
+table_meaning family other rows a = meaning_in family other (λ n. row_of (table_row rows n)) a
+
+abbrev pub table_memory : {F : Type 0} → List (PlainRow F) → Attribute → Bool
+table_memory rows a = memory_in (λ n. row_of (table_row rows n)) a

@@ -2,8 +2,7 @@
 
 ghost use Rattle.linkinfo_tunnels.specs.declared.amt.InfoAmt.TheVariants.{Other};
 ghost use Rattle.linkinfo_tunnels.specs.Amt.{amt_attribute, amt_keeps, amt_lookup, amt_rows};
-ghost use Rattle.linkinfo_table.specs.FamilyRows.{row_of, table_row};
-ghost use Rattle.linkinfo_table.specs.Rows.{meaning_in, memory_in};
+ghost use Rattle.linkinfo_table.specs.FamilyMeaning.{table_meaning, table_memory};
 ghost use Rattle.nla_frame.specs.declared.error.Family.TheVariants as family;
 ghost use Rattle.std.specs.Prelude.{◌≡◌, refl};
 
@@ -127,10 +126,9 @@ impl WrittenByTable for InfoAmt {
 
 /// Reads the attribute. A payload of invalid length is rejected as `(Amt, type, Length)`.
 impl<'a> Parseable<NlaBuffer<'a>> for InfoAmt {
-    ghost meaning = { λ nla.
-        meaning_in family.Amt (λ d. Other d) (λ n. row_of (table_row amt_rows n)) nla };
+    ghost meaning = { table_meaning family.Amt (λ d. Other d) amt_rows };
 
-    ghost needs_memory = { λ nla. memory_in (λ n. row_of (table_row amt_rows n)) nla };
+    ghost needs_memory = { table_memory amt_rows };
 
     fn parse(alloc: Global, buffer: &NlaBuffer<'a>) -> Result<InfoAmt, DecodeError> {
         row_read(alloc, buffer, ())

@@ -7,8 +7,7 @@ ghost use Rattle.linkinfo_tunnels.specs.BareUdp.{
   bare_udp_lookup,
   bare_udp_rows,
 };
-ghost use Rattle.linkinfo_table.specs.FamilyRows.{row_of, table_row};
-ghost use Rattle.linkinfo_table.specs.Rows.{meaning_in, memory_in};
+ghost use Rattle.linkinfo_table.specs.FamilyMeaning.{table_meaning, table_memory};
 ghost use Rattle.nla_frame.specs.declared.error.Family.TheVariants as family;
 ghost use Rattle.std.specs.Prelude.{◌≡◌, refl};
 
@@ -119,10 +118,9 @@ impl WrittenByTable for InfoBareUdp {
 
 /// Reads the attribute. A payload of invalid length is rejected as `(BareUdp, type, Length)`.
 impl<'a> Parseable<NlaBuffer<'a>> for InfoBareUdp {
-    ghost meaning = { λ nla.
-        meaning_in family.BareUdp (λ d. Other d) (λ n. row_of (table_row bare_udp_rows n)) nla };
+    ghost meaning = { table_meaning family.BareUdp (λ d. Other d) bare_udp_rows };
 
-    ghost needs_memory = { λ nla. memory_in (λ n. row_of (table_row bare_udp_rows n)) nla };
+    ghost needs_memory = { table_memory bare_udp_rows };
 
     fn parse(alloc: Global, buffer: &NlaBuffer<'a>) -> Result<InfoBareUdp, DecodeError> {
         row_read(alloc, buffer, ())

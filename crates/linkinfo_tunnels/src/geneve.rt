@@ -7,8 +7,7 @@ ghost use Rattle.linkinfo_tunnels.specs.Geneve.{
   geneve_lookup,
   geneve_rows,
 };
-ghost use Rattle.linkinfo_table.specs.FamilyRows.{row_of, table_row};
-ghost use Rattle.linkinfo_table.specs.Rows.{meaning_in, memory_in};
+ghost use Rattle.linkinfo_table.specs.FamilyMeaning.{table_meaning, table_memory};
 ghost use Rattle.nla_frame.specs.declared.error.Family.TheVariants as family;
 ghost use Rattle.std.specs.Prelude.{◌≡◌, refl};
 
@@ -160,10 +159,9 @@ impl WrittenByTable for InfoGeneve {
 /// Reads the attribute. An address of the other IP version is rejected as `(Geneve, type,
 /// AddressKind)`, any other payload of invalid length as `(Geneve, type, Length)`.
 impl<'a> Parseable<NlaBuffer<'a>> for InfoGeneve {
-    ghost meaning = { λ nla.
-        meaning_in family.Geneve (λ d. Other d) (λ n. row_of (table_row geneve_rows n)) nla };
+    ghost meaning = { table_meaning family.Geneve (λ d. Other d) geneve_rows };
 
-    ghost needs_memory = { λ nla. memory_in (λ n. row_of (table_row geneve_rows n)) nla };
+    ghost needs_memory = { table_memory geneve_rows };
 
     fn parse(alloc: Global, buffer: &NlaBuffer<'a>) -> Result<InfoGeneve, DecodeError> {
         row_read(alloc, buffer, ())

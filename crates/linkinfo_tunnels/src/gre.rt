@@ -2,8 +2,7 @@
 
 ghost use Rattle.linkinfo_tunnels.specs.declared.gre.InfoGre.TheVariants.{Other};
 ghost use Rattle.linkinfo_tunnels.specs.Gre.{gre_attribute, gre_keeps, gre_lookup, gre_rows};
-ghost use Rattle.linkinfo_table.specs.FamilyRows.{row_of, table_row};
-ghost use Rattle.linkinfo_table.specs.Rows.{meaning_in, memory_in};
+ghost use Rattle.linkinfo_table.specs.FamilyMeaning.{table_meaning, table_memory};
 ghost use Rattle.nla_frame.specs.declared.error.Family.TheVariants as family;
 ghost use Rattle.std.specs.Prelude.{◌≡◌, refl};
 
@@ -165,10 +164,9 @@ impl WrittenByTable for InfoGre {
 
 /// Reads the attribute. A payload of invalid length is rejected as `(Gre, type, Length)`.
 impl<'a> Parseable<NlaBuffer<'a>> for InfoGre {
-    ghost meaning = { λ nla.
-        meaning_in family.Gre (λ d. Other d) (λ n. row_of (table_row gre_rows n)) nla };
+    ghost meaning = { table_meaning family.Gre (λ d. Other d) gre_rows };
 
-    ghost needs_memory = { λ nla. memory_in (λ n. row_of (table_row gre_rows n)) nla };
+    ghost needs_memory = { table_memory gre_rows };
 
     fn parse(alloc: Global, buffer: &NlaBuffer<'a>) -> Result<InfoGre, DecodeError> {
         row_read(alloc, buffer, ())

@@ -2,8 +2,7 @@
 
 ghost use Rattle.linkinfo_tunnels.specs.declared.gre6.InfoGre6.TheVariants.{Other};
 ghost use Rattle.linkinfo_tunnels.specs.Gre6.{gre6_attribute, gre6_keeps, gre6_lookup, gre6_rows};
-ghost use Rattle.linkinfo_table.specs.FamilyRows.{row_of, table_row};
-ghost use Rattle.linkinfo_table.specs.Rows.{meaning_in, memory_in};
+ghost use Rattle.linkinfo_table.specs.FamilyMeaning.{table_meaning, table_memory};
 ghost use Rattle.nla_frame.specs.declared.error.Family.TheVariants as family;
 ghost use Rattle.std.specs.Prelude.{◌≡◌, refl};
 
@@ -168,10 +167,9 @@ impl WrittenByTable for InfoGre6 {
 
 /// Reads the attribute. A payload of invalid length is rejected as `(Gre6, type, Length)`.
 impl<'a> Parseable<NlaBuffer<'a>> for InfoGre6 {
-    ghost meaning = { λ nla.
-        meaning_in family.Gre6 (λ d. Other d) (λ n. row_of (table_row gre6_rows n)) nla };
+    ghost meaning = { table_meaning family.Gre6 (λ d. Other d) gre6_rows };
 
-    ghost needs_memory = { λ nla. memory_in (λ n. row_of (table_row gre6_rows n)) nla };
+    ghost needs_memory = { table_memory gre6_rows };
 
     fn parse(alloc: Global, buffer: &NlaBuffer<'a>) -> Result<InfoGre6, DecodeError> {
         row_read(alloc, buffer, ())

@@ -2,8 +2,7 @@
 
 ghost use Rattle.linkinfo_tunnels.specs.declared.gtp.InfoGtp.TheVariants.{Other};
 ghost use Rattle.linkinfo_tunnels.specs.Gtp.{gtp_attribute, gtp_keeps, gtp_lookup, gtp_rows};
-ghost use Rattle.linkinfo_table.specs.FamilyRows.{row_of, table_row};
-ghost use Rattle.linkinfo_table.specs.Rows.{meaning_in, memory_in};
+ghost use Rattle.linkinfo_table.specs.FamilyMeaning.{table_meaning, table_memory};
 ghost use Rattle.nla_frame.specs.declared.error.Family.TheVariants as family;
 ghost use Rattle.std.specs.Prelude.{◌≡◌, refl};
 
@@ -126,10 +125,9 @@ impl WrittenByTable for InfoGtp {
 
 /// Reads the attribute. A payload of invalid length is rejected as `(Gtp, type, Length)`.
 impl<'a> Parseable<NlaBuffer<'a>> for InfoGtp {
-    ghost meaning = { λ nla.
-        meaning_in family.Gtp (λ d. Other d) (λ n. row_of (table_row gtp_rows n)) nla };
+    ghost meaning = { table_meaning family.Gtp (λ d. Other d) gtp_rows };
 
-    ghost needs_memory = { λ nla. memory_in (λ n. row_of (table_row gtp_rows n)) nla };
+    ghost needs_memory = { table_memory gtp_rows };
 
     fn parse(alloc: Global, buffer: &NlaBuffer<'a>) -> Result<InfoGtp, DecodeError> {
         row_read(alloc, buffer, ())

@@ -2,8 +2,7 @@
 
 ghost use Rattle.linkinfo_tunnels.specs.declared.vti.InfoVti.TheVariants.{Other};
 ghost use Rattle.linkinfo_tunnels.specs.Vti.{vti_attribute, vti_keeps, vti_lookup, vti_rows};
-ghost use Rattle.linkinfo_table.specs.FamilyRows.{row_of, table_row};
-ghost use Rattle.linkinfo_table.specs.Rows.{meaning_in, memory_in};
+ghost use Rattle.linkinfo_table.specs.FamilyMeaning.{table_meaning, table_memory};
 ghost use Rattle.nla_frame.specs.declared.error.Family.TheVariants as family;
 ghost use Rattle.std.specs.Prelude.{◌≡◌, refl};
 
@@ -120,10 +119,9 @@ impl WrittenByTable for InfoVti {
 
 /// Reads the attribute. A payload of invalid length is rejected as `(Vti, type, Length)`.
 impl<'a> Parseable<NlaBuffer<'a>> for InfoVti {
-    ghost meaning = { λ nla.
-        meaning_in family.Vti (λ d. Other d) (λ n. row_of (table_row vti_rows n)) nla };
+    ghost meaning = { table_meaning family.Vti (λ d. Other d) vti_rows };
 
-    ghost needs_memory = { λ nla. memory_in (λ n. row_of (table_row vti_rows n)) nla };
+    ghost needs_memory = { table_memory vti_rows };
 
     fn parse(alloc: Global, buffer: &NlaBuffer<'a>) -> Result<InfoVti, DecodeError> {
         row_read(alloc, buffer, ())

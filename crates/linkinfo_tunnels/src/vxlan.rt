@@ -7,8 +7,7 @@ ghost use Rattle.linkinfo_tunnels.specs.Vxlan.{
   vxlan_lookup,
   vxlan_rows,
 };
-ghost use Rattle.linkinfo_table.specs.FamilyRows.{row_of, table_row};
-ghost use Rattle.linkinfo_table.specs.Rows.{meaning_in, memory_in};
+ghost use Rattle.linkinfo_table.specs.FamilyMeaning.{table_meaning, table_memory};
 ghost use Rattle.nla_frame.specs.declared.error.Family.TheVariants as family;
 ghost use Rattle.std.specs.Prelude.{◌≡◌, refl};
 
@@ -219,10 +218,9 @@ impl WrittenByTable for InfoVxlan {
 
 /// Reads the attribute. A payload of invalid length is rejected as `(Vxlan, type, Length)`.
 impl<'a> Parseable<NlaBuffer<'a>> for InfoVxlan {
-    ghost meaning = { λ nla.
-        meaning_in family.Vxlan (λ d. Other d) (λ n. row_of (table_row vxlan_rows n)) nla };
+    ghost meaning = { table_meaning family.Vxlan (λ d. Other d) vxlan_rows };
 
-    ghost needs_memory = { λ nla. memory_in (λ n. row_of (table_row vxlan_rows n)) nla };
+    ghost needs_memory = { table_memory vxlan_rows };
 
     fn parse(alloc: Global, buffer: &NlaBuffer<'a>) -> Result<InfoVxlan, DecodeError> {
         row_read(alloc, buffer, ())
