@@ -22,6 +22,10 @@ use Rattle.linkinfo_table.specs.Rows.{
   alike_in,
   headers_inside,
   memory_in,
+  row_alike,
+  row_headers,
+  row_meaning,
+  row_needs_memory,
   WellFormed,
 }
 use Rattle.linkinfo.specs.declared.link_info.LinkInfoOf.{LinkInfoOf}
@@ -84,6 +88,23 @@ link_row peer role.Unknown = Unknown
 
 abbrev pub link_rows : {P : Type 0} → Families P → CurrentKinds → ℕ → Row (LinkInfoOf P)
 link_rows peer t n = link_row peer (role_of t n)
+
+-- what an attribute means by its role, or its error
+abbrev pub item_meaning : {P : Type 0} → Families P → Role → Attribute →
+    Result (LinkInfoOf P) DecodeError
+item_meaning peer role a = row_meaning family.LinkInfo link_other (link_row peer role) a
+
+-- whether parsing an attribute may allocate, by its role
+abbrev pub item_memory : {P : Type 0} → Families P → Role → Attribute → Bool
+item_memory peer role a = row_needs_memory (link_row peer role) a
+
+-- the headers inside an attribute, by its role
+abbrev pub item_headers : {P : Type 0} → Families P → Role → Attribute → ℕ
+item_headers peer role a = row_headers (link_row peer role) a
+
+-- whether two accepted attributes are equivalent, by the role of the first
+abbrev pub item_alike : {P : Type 0} → Families P → Role → Attribute → Attribute → Bool
+item_alike peer role a b = row_alike (link_row peer role) a b
 
 -- what an attribute of the list means under the current kinds, or its error
 abbrev pub link_meaning : {P : Type 0} → Families P → CurrentKinds → Attribute →

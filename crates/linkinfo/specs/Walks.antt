@@ -3,6 +3,7 @@ use Rattle.std.specs.Prelude.{
   ◌≡◌,
   ◌≤◌,
   ℕ,
+  Bool,
   ◌+◌,
   ◌*◌,
   min,
@@ -31,11 +32,19 @@ use Rattle.nla_frame.specs.Walk.{Walk, unread}
 use Rattle.nla_frame.specs.declared.error.DecodeError.{DecodeError}
 use Rattle.linkinfo_numbers.specs.declared.tags.KindTag.{KindTag}
 use Rattle.linkinfo_numbers.specs.declared.tags.PortTag.{PortTag}
+use Rattle.linkinfo_data.specs.Families.{Families}
+use Rattle.linkinfo.specs.declared.link_info.LinkInfoOf.{LinkInfoOf}
 use Rattle.linkinfo.specs.declared.role.CurrentKinds.{CurrentKinds}
 use Rattle.linkinfo.specs.declared.role.Role.{Role}
 use Rattle.linkinfo.specs.declared.walk.LinkInfoItem.{LinkInfoItem}
 use Rattle.linkinfo.specs.Roles.{kinds_after, no_kinds, role_at}
-use Rattle.linkinfo.specs.Strings.{last_kind, last_port}
+use Rattle.linkinfo.specs.Strings.{
+  headers_from,
+  last_kind,
+  last_port,
+  memory_from,
+  values_from,
+}
 
 -- the attributes of the byte string, the current kinds before the next one, and the offset of the
 -- attribute that has the error, once the walk has met one
@@ -74,6 +83,19 @@ abbrev pub walk_items : CurrentKinds → List (Result Attribute ℕ) →
 walk_items t [] = []
 walk_items t ((Err n) ∷ more) = Err header_error ∷ []
 walk_items t ((Ok a) ∷ more) = item_or_error a (kinds_after t a) (λ u. walk_items u more)
+
+-- what the attributes to come mean: their values in order, or the first error
+abbrev pub values_left : {P : Type 0} → Families P → LinkWalk →
+    Result (List (LinkInfoOf P)) DecodeError
+values_left peer w = values_from peer w.kinds (nla_items (left w))
+
+-- whether parsing them may allocate
+abbrev pub memory_left : {P : Type 0} → Families P → LinkWalk → Bool
+memory_left peer w = memory_from peer w.kinds (nla_items (left w))
+
+-- the headers examined for them, up to the first error
+abbrev pub headers_left : {P : Type 0} → Families P → LinkWalk → ℕ
+headers_left peer w = headers_from peer w.kinds (nla_items (left w))
 
 -- the items to come
 abbrev pub items_left : LinkWalk → List (Result Attribute DecodeError)

@@ -27,8 +27,8 @@ ghost use Rattle.linkinfo.specs.Canon.{
   into_error,
 };
 ghost use Rattle.linkinfo.specs.Items.{link_attribute};
-ghost use Rattle.linkinfo.specs.Strings.{reading, values_from};
-ghost use Rattle.linkinfo.specs.Walks.{left};
+ghost use Rattle.linkinfo.specs.Strings.{reading};
+ghost use Rattle.linkinfo.specs.Walks.{values_left};
 
 use crate::canonical::CanonError;
 use crate::item::{item_canonical_len, write_item};
@@ -99,11 +99,9 @@ impl ExactEq for CanonIntoError {
 /// The length, in bytes, of the canonical encoding of the attributes that a walk has not visited,
 /// or `None` if they do not fit. Each attribute is measured once.
 fn rest_canonical_len<P: LinkPeer>(walk: &mut LinkInfoWalk<'_>) -> Option<usize>
-    requires { IsOk
-        (values_from ⟦<P as DataFamilies>⟧.families walk.old.kinds (nla_items (left walk.old))) }
-    ensures { let attributes =
-        attributes_for (link_attribute ⟦<P as DataFamilies>⟧.families)
-        (values_from ⟦<P as DataFamilies>⟧.families walk.old.kinds (nla_items (left walk.old))) in
+    requires { IsOk (values_left ⟦<P as DataFamilies>⟧.families walk.old) }
+    ensures { let attributes = attributes_for (link_attribute ⟦<P as DataFamilies>⟧.families)
+        (values_left ⟦<P as DataFamilies>⟧.families walk.old) in
         SomeIff result (ListFits attributes) (length (list_string attributes)) }
 {
     families_lawful::<P>();
@@ -119,17 +117,15 @@ fn rest_canonical_len<P: LinkPeer>(walk: &mut LinkInfoWalk<'_>) -> Option<usize>
 /// Writes the canonical encoding of the attributes that a walk has not visited to the front of the
 /// buffer. The rest of the buffer is unchanged.
 fn write_rest<P: LinkPeer>(walk: &mut LinkInfoWalk<'_>, buffer: &mut [u8])
-    requires accepted { IsOk
-        (values_from ⟦<P as DataFamilies>⟧.families walk.old.kinds (nla_items (left walk.old))) }
+    requires accepted { IsOk (values_left ⟦<P as DataFamilies>⟧.families walk.old) }
     requires fits { ListFits (attributes_for (link_attribute ⟦<P as DataFamilies>⟧.families)
-        (values_from ⟦<P as DataFamilies>⟧.families walk.old.kinds (nla_items (left walk.old)))) }
-    requires room { length (list_string
-        (attributes_for (link_attribute ⟦<P as DataFamilies>⟧.families)
-        (values_from ⟦<P as DataFamilies>⟧.families walk.old.kinds (nla_items (left walk.old)))))
-        ≤ length buffer.old }
-    ensures { let string =
-        list_string (attributes_for (link_attribute ⟦<P as DataFamilies>⟧.families)
-        (values_from ⟦<P as DataFamilies>⟧.families walk.old.kinds (nla_items (left walk.old)))) in
+        (values_left ⟦<P as DataFamilies>⟧.families walk.old)) }
+    requires room { length (list_string (attributes_for
+        (link_attribute ⟦<P as DataFamilies>⟧.families)
+        (values_left ⟦<P as DataFamilies>⟧.families walk.old))) ≤ length buffer.old }
+    ensures { let string = list_string (attributes_for
+        (link_attribute ⟦<P as DataFamilies>⟧.families)
+        (values_left ⟦<P as DataFamilies>⟧.families walk.old)) in
         buffer.new ≡ string ++ drop (length string) buffer.old }
 {
     families_lawful::<P>();

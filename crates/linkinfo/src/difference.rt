@@ -2,12 +2,10 @@
 
 ghost use Rattle.std.specs.Prelude.{◌≡◌, ◌≢◌, ◌+◌, ◌<◌, ◌^◌, IfErr, IsOk, length};
 ghost use Rattle.nla_frame.specs.Error.{memory_error};
-ghost use Rattle.nla_frame.specs.declared.error.Family.TheVariants as family;
-ghost use Rattle.linkinfo_table.specs.Rows.{row_meaning};
 ghost use Rattle.linkinfo_data.specs.BytesPeer.{bytes_peer};
 ghost use Rattle.linkinfo.specs.Comparing.{either_error, placed_answer};
 ghost use Rattle.linkinfo.specs.Difference.{data_difference, role_difference, strings_difference};
-ghost use Rattle.linkinfo.specs.Items.{link_other, link_row};
+ghost use Rattle.linkinfo.specs.Items.{item_meaning};
 ghost use Rattle.linkinfo.specs.Strings.{reading};
 
 use crate::item::same_item;
@@ -51,10 +49,8 @@ fn role_difference<P: LinkPeer>(
     p: &PlacedNla<'_>,
     q: &PlacedNla<'_>,
 ) -> Option<Difference>
-    requires first { IsOk (row_meaning family.LinkInfo link_other
-        (link_row ⟦<P as DataFamilies>⟧.families role) p.now.nla) }
-    requires second { IsOk (row_meaning family.LinkInfo link_other
-        (link_row ⟦<P as DataFamilies>⟧.families role) q.now.nla) }
+    requires first { IsOk (item_meaning ⟦<P as DataFamilies>⟧.families role p.now.nla) }
+    requires second { IsOk (item_meaning ⟦<P as DataFamilies>⟧.families role q.now.nla) }
     requires first_room { p.now.offset + (4 + length p.now.nla.value) < 2 ^ 64 }
     requires second_room { q.now.offset + (4 + length q.now.nla.value) < 2 ^ 64 }
     ensures { result ≡ role_difference ⟦<P as DataFamilies>⟧.families role p.now q.now }

@@ -21,9 +21,13 @@ ghost use Rattle.std.specs.Prelude.{
 ghost use Rattle.std.specs.Bool.{OnTrue};
 ghost use Rattle.std.specs.Str.{bytes_eq};
 ghost use Rattle.nla_frame.specs.Answers.{CertainUnless, Gives, OnAnswer, verdict};
-ghost use Rattle.nla_frame.specs.declared.error.Family.TheVariants as family;
-ghost use Rattle.linkinfo_table.specs.Rows.{row_alike, row_headers, row_meaning, row_needs_memory};
-ghost use Rattle.linkinfo.specs.Items.{link_other, link_row, written_attribute};
+ghost use Rattle.linkinfo.specs.Items.{
+  item_alike,
+  item_headers,
+  item_meaning,
+  item_memory,
+  written_attribute,
+};
 ghost use Rattle.linkinfo_numbers.specs.Kind.{kind_of_name, tag_of_name};
 ghost use Rattle.linkinfo_numbers.specs.PortKind.{port_kind_of_name, port_tag_of_name};
 ghost use Rattle.linkinfo_shapes.specs.Shapes.{needs_memory};
@@ -62,15 +66,11 @@ pub(crate) fn read_item<P: LinkPeer>(
         × (kinds_after_role role before nla.now ≡ Ok kinds_after) }
     requires room { count.old + length nla.now.value / 4 < 2 ^ 64 }
     ensures answer { Gives (λ value. value) result
-        (row_meaning family.LinkInfo link_other (link_row ⟦<P as DataFamilies>⟧.families role)
-        nla.now) }
-    ensures certain { CertainUnless
-        (row_needs_memory (link_row ⟦<P as DataFamilies>⟧.families role) nla.now) (λ value. value)
-        result (row_meaning family.LinkInfo link_other
-        (link_row ⟦<P as DataFamilies>⟧.families role) nla.now) }
-    ensures counted { OnAnswer result
-        (count.new
-        ≡ count.old + row_headers (link_row ⟦<P as DataFamilies>⟧.families role) nla.now) }
+        (item_meaning ⟦<P as DataFamilies>⟧.families role nla.now) }
+    ensures certain { CertainUnless (item_memory ⟦<P as DataFamilies>⟧.families role nla.now)
+        (λ value. value) result (item_meaning ⟦<P as DataFamilies>⟧.families role nla.now) }
+    ensures counted { OnAnswer result (count.new ≡ count.old
+        + item_headers ⟦<P as DataFamilies>⟧.families role nla.now) }
     ensures rises { count.old ≤ count.new }
     ensures quarter { 4 * count.new ≤ 4 * count.old + length nla.now.value }
 {
@@ -143,11 +143,9 @@ pub(crate) fn check_item<P: LinkPeer>(
 ) -> Result<(), DecodeError>
     requires entered { IsOk (kinds_after_role role no_kinds nla.now) }
     requires room { count.old + length nla.now.value / 4 < 2 ^ 64 }
-    ensures answer { result
-        ≡ verdict (row_meaning family.LinkInfo link_other
-        (link_row ⟦<P as DataFamilies>⟧.families role) nla.now) }
-    ensures counted { count.new
-        ≡ count.old + row_headers (link_row ⟦<P as DataFamilies>⟧.families role) nla.now }
+    ensures answer { result ≡ verdict (item_meaning ⟦<P as DataFamilies>⟧.families role nla.now) }
+    ensures counted { count.new ≡ count.old
+        + item_headers ⟦<P as DataFamilies>⟧.families role nla.now }
     ensures quarter { 4 * count.new ≤ 4 * count.old + length nla.now.value }
 {
     match role {
@@ -177,16 +175,14 @@ pub(crate) fn same_item<P: LinkPeer>(
     role: Role,
     count: &mut HeaderCount,
 ) -> bool
-    requires first { IsOk (row_meaning family.LinkInfo link_other
-        (link_row ⟦<P as DataFamilies>⟧.families role) a.now) }
+    requires first { IsOk (item_meaning ⟦<P as DataFamilies>⟧.families role a.now) }
     requires second { masked b.now.kind ≡ masked a.now.kind →
-        IsOk (row_meaning family.LinkInfo link_other (link_row ⟦<P as DataFamilies>⟧.families role)
-        b.now) }
+        IsOk (item_meaning ⟦<P as DataFamilies>⟧.families role b.now) }
     requires room { count.old + (length a.now.value + length b.now.value) / 4 < 2 ^ 64 }
-    ensures same { result ≡ row_alike (link_row ⟦<P as DataFamilies>⟧.families role) a.now b.now }
-    ensures counted { OnTrue result
-        (count.new ≡ count.old + (row_headers (link_row ⟦<P as DataFamilies>⟧.families role) a.now
-        + row_headers (link_row ⟦<P as DataFamilies>⟧.families role) b.now)) }
+    ensures same { result ≡ item_alike ⟦<P as DataFamilies>⟧.families role a.now b.now }
+    ensures counted { OnTrue result (count.new ≡ count.old
+        + (item_headers ⟦<P as DataFamilies>⟧.families role a.now
+        + item_headers ⟦<P as DataFamilies>⟧.families role b.now)) }
     ensures rises { count.old ≤ count.new }
     ensures quarter { 4 * count.new ≤ 4 * count.old + (length a.now.value + length b.now.value) }
 {
@@ -221,8 +217,7 @@ pub(crate) fn same_item<P: LinkPeer>(
 /// The length, in bytes, of the canonical payload of an attribute by its role, or `None` if it is
 /// above 65531. Requires that the attribute is accepted. Does not allocate.
 pub(crate) fn item_canonical_len<P: LinkPeer>(nla: &NlaBuffer<'_>, role: Role) -> Option<usize>
-    requires { IsOk (row_meaning family.LinkInfo link_other
-        (link_row ⟦<P as DataFamilies>⟧.families role) nla.now) }
+    requires { IsOk (item_meaning ⟦<P as DataFamilies>⟧.families role nla.now) }
     ensures { let canonical = written_attribute ⟦<P as DataFamilies>⟧.families role nla.now in
         SomeIff result (Fits canonical) (length canonical.value) }
 {
@@ -247,8 +242,7 @@ pub(crate) fn item_canonical_len<P: LinkPeer>(nla: &NlaBuffer<'_>, role: Role) -
 /// accepted, that its canonical payload has at most 65531 bytes, and that the buffer has room. Does
 /// not allocate.
 pub(crate) fn write_item<P: LinkPeer>(nla: &NlaBuffer<'_>, role: Role, buffer: &mut [u8]) -> usize
-    requires accepted { IsOk (row_meaning family.LinkInfo link_other
-        (link_row ⟦<P as DataFamilies>⟧.families role) nla.now) }
+    requires accepted { IsOk (item_meaning ⟦<P as DataFamilies>⟧.families role nla.now) }
     requires fits { Fits (written_attribute ⟦<P as DataFamilies>⟧.families role nla.now) }
     requires room { buffer_len_of (written_attribute ⟦<P as DataFamilies>⟧.families role nla.now)
         ≤ length buffer.old }

@@ -31,7 +31,6 @@ ghost use Rattle.linkinfo.specs.Roles.{no_kinds};
 ghost use Rattle.linkinfo.specs.Strings.{
   alike_from,
   headers_from,
-  memory_from,
   values_from,
   alike_strings,
   headers_of_string,
@@ -39,7 +38,7 @@ ghost use Rattle.linkinfo.specs.Strings.{
   reading_needs_memory,
   WellFormed,
 };
-ghost use Rattle.linkinfo.specs.Walks.{left};
+ghost use Rattle.linkinfo.specs.Walks.{headers_left, left, memory_left, values_left};
 
 use crate::item::{check_item, read_item, same_item};
 use crate::link_info::LinkInfoOf;
@@ -65,15 +64,12 @@ fn read_rest<P: LinkPeer>(
     requires { 4 * (count.old + walk.old.attributes.examined) + length (left walk.old)
         < 4 * 2 ^ 64 }
     ensures answer { Gives (λ v. v.items) result
-        (values_from ⟦<P as DataFamilies>⟧.families walk.old.kinds (nla_items (left walk.old))) }
-    ensures certain { CertainUnless
-        (memory_from ⟦<P as DataFamilies>⟧.families walk.old.kinds (nla_items (left walk.old)))
-        (λ v. v.items) result
-        (values_from ⟦<P as DataFamilies>⟧.families walk.old.kinds (nla_items (left walk.old))) }
-    ensures counted { OnAnswer result
-        (count.new + walk.new.attributes.examined
+        (values_left ⟦<P as DataFamilies>⟧.families walk.old) }
+    ensures certain { CertainUnless (memory_left ⟦<P as DataFamilies>⟧.families walk.old)
+        (λ v. v.items) result (values_left ⟦<P as DataFamilies>⟧.families walk.old) }
+    ensures counted { OnAnswer result (count.new + walk.new.attributes.examined
         ≡ (count.old + walk.old.attributes.examined)
-        + headers_from ⟦<P as DataFamilies>⟧.families walk.old.kinds (nla_items (left walk.old))) }
+        + headers_left ⟦<P as DataFamilies>⟧.families walk.old) }
     ensures rises { count.old + walk.old.attributes.examined
         ≤ count.new + walk.new.attributes.examined }
     ensures quarter { 4 * (count.new + walk.new.attributes.examined)
@@ -99,12 +95,10 @@ fn check_rest<P: LinkPeer>(
 ) -> Result<(), DecodeError>
     requires { 4 * (count.old + walk.old.attributes.examined) + length (left walk.old)
         < 4 * 2 ^ 64 }
-    ensures answer { result
-        ≡ verdict
-        (values_from ⟦<P as DataFamilies>⟧.families walk.old.kinds (nla_items (left walk.old))) }
+    ensures answer { result ≡ verdict (values_left ⟦<P as DataFamilies>⟧.families walk.old) }
     ensures counted { count.new + walk.new.attributes.examined
         ≡ (count.old + walk.old.attributes.examined)
-        + headers_from ⟦<P as DataFamilies>⟧.families walk.old.kinds (nla_items (left walk.old)) }
+        + headers_left ⟦<P as DataFamilies>⟧.families walk.old }
     ensures quarter { 4 * (count.new + walk.new.attributes.examined)
         ≤ 4 * (count.old + walk.old.attributes.examined) + length (left walk.old) }
 {

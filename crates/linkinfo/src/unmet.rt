@@ -16,9 +16,8 @@ ghost use Rattle.nla_frame.specs.declared.error.Family.TheVariants as family;
 ghost use Rattle.std.specs.Option.{option_copied, option_map};
 ghost use Rattle.linkinfo_table.specs.Last.{attributes_of, covers};
 ghost use Rattle.linkinfo_data.specs.Unmet.{first_told};
-ghost use Rattle.linkinfo_table.specs.Rows.{row_alike, row_meaning};
 ghost use Rattle.linkinfo_data.specs.BytesPeer.{bytes_peer};
-ghost use Rattle.linkinfo.specs.Items.{link_other, link_row};
+ghost use Rattle.linkinfo.specs.Items.{item_alike, item_meaning};
 ghost use Rattle.linkinfo.specs.Strings.{reading};
 ghost use Rattle.linkinfo.specs.Unmet.{
   counted_unmet,
@@ -247,12 +246,10 @@ fn placed_unmet<P: LinkPeer>(
 /// What of an attribute that is no data another one of its type and role does not meet: nothing, or
 /// the whole.
 fn item_unmet<P: LinkPeer>(role: Role, have: &PlacedNla<'_>, want: &PlacedNla<'_>) -> Option<Unmet>
-    requires have { IsOk (row_meaning family.LinkInfo link_other
-        (link_row ⟦<P as DataFamilies>⟧.families role) have.now.nla) }
-    requires want { IsOk (row_meaning family.LinkInfo link_other
-        (link_row ⟦<P as DataFamilies>⟧.families role) want.now.nla) }
-    ensures { result
-        ≡ item_unmet (row_alike (link_row ⟦<P as DataFamilies>⟧.families role)) have.now want.now }
+    requires have { IsOk (item_meaning ⟦<P as DataFamilies>⟧.families role have.now.nla) }
+    requires want { IsOk (item_meaning ⟦<P as DataFamilies>⟧.families role want.now.nla) }
+    ensures { result ≡ item_unmet (item_alike ⟦<P as DataFamilies>⟧.families role) have.now
+        want.now }
 {
     if have.nla.value() == want.nla.value()
         || same_item::<P>(&have.nla, &want.nla, role, &mut HeaderCount::new())

@@ -118,6 +118,11 @@ flow_members name n = (name, json.string (hex_text n))
     ∷ (codes "flowlabel", json.string (label_text n))
     ∷ []
 
+-- an address, by one name if it is a multicast address, and by another if not
+abbrev pub group_members : List ℕ → List ℕ → Value → List ℕ → List Named
+group_members name other value payload =
+    (if is_multicast payload then name else other, plain_data value) ∷ []
+
 -- the names of flags, and a mask
 abbrev pub names_members : Flags → List ℕ → List ℕ → ℕ → ℕ → List Named
 names_members flags name mask_name n mask = (name, names_data flags n)
@@ -130,9 +135,9 @@ abbrev pub format_members : (Table → List ℕ → Data) → List ℕ → Forma
 format_members nested name format.Mask value payload = mask_members name (first_of value)
 format_members nested name format.FlowInfo value payload = flow_members name (first_of value)
 format_members nested name format.Group value payload =
-    (if is_multicast payload then name else codes "remote", plain_data value) ∷ []
+    group_members name (codes "remote") value payload
 format_members nested name format.Group6 value payload =
-    (if is_multicast payload then name else codes "remote6", plain_data value) ∷ []
+    group_members name (codes "remote6") value payload
 format_members nested name (format.Bits flags) value payload =
     (name, flags_data value) ∷ bits_from 16 0 flags (first_of value)
 format_members nested name (format.Options flags) value payload =

@@ -38,6 +38,7 @@ ghost use Rattle.linkinfo_view.specs.View.{
   elements_data,
   flow_members,
   format_members,
+  group_members,
   mask_members,
   members_of,
   names_members,
@@ -394,6 +395,22 @@ fn group_name<'a>(payload: &[u8], name: &'a str, other: &'a str) -> &'a str
     if is_multicast(payload) { name } else { other }
 }
 
+/// Puts an address: by the first name where it is a multicast address, and by the second if not.
+fn put_group(
+    alloc: Global,
+    names: (&str, &str),
+    datum: &Datum<'_>,
+    payload: &[u8],
+    map: &mut Map<String, Value>,
+) -> Result<(), AllocError>
+    ensures { OnOk result (members_view map.new.entries
+        ≡ put_all (group_members names.entry.0.now names.entry.1.now (value_of datum.now)
+        payload.now) (members_view map.old.entries)) }
+{
+    let name = group_name(payload, names.0, names.1);
+    put(map, alloc, name, plain_json(alloc, datum)?)
+}
+
 /// Puts the members of an attribute by the format of its row.
 fn put_formatted<N: Nesting>(
     alloc: Global,
@@ -411,14 +428,8 @@ fn put_formatted<N: Nesting>(
     match row.format {
         Format::Mask => put_mask(alloc, name, first_of(datum), map),
         Format::FlowInfo => put_flow_info(alloc, name, first_of(datum), map),
-        Format::Group => {
-            let name = group_name(payload, name, "remote");
-            put(map, alloc, name, plain_json(alloc, datum)?)
-        }
-        Format::Group6 => {
-            let name = group_name(payload, name, "remote6");
-            put(map, alloc, name, plain_json(alloc, datum)?)
-        }
+        Format::Group => put_group(alloc, (name, "remote"), datum, payload, map),
+        Format::Group6 => put_group(alloc, (name, "remote6"), datum, payload, map),
         Format::Bits(flags) => {
             put(map, alloc, name, flags_json(alloc, datum)?)?;
             put_bits(alloc, flags, first_of(datum), map)
