@@ -38,7 +38,7 @@ use Rattle.linkinfo.specs.declared.role.CurrentKinds.{CurrentKinds}
 use Rattle.linkinfo.specs.Roles.{name_meaning, name_or_error, with_name}
 
 module _ {X : Type 0} (label : List ℕ → X) where
-  abbrev named : Attribute → Result X DecodeError
+  abbrev pub named : Attribute → Result X DecodeError
   named a = labelled family.LinkInfo (masked a.kind) label (own (means Name a.value))
 
   pub named_ok : (a : Attribute) (name : List ℕ) (x : X) → name_meaning a ≡ Ok name →
