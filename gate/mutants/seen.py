@@ -98,7 +98,7 @@ def chosen(edits):
     crates = {it.crate for it in edits if not it.is_control and it.label not in left}
     left -= {it.label for it in same if it.is_control and it.crate in crates}
     if left and not is_committed():
-        said += " (beside changes that are not committed, for which the draw is not made)"
+        said += " (some changes are not committed; the draw is by the last commit)"
     mutants = sum(not it.is_control for it in same) - len(drawn)
     return [it for it in edits if it.label not in left], drawn, mutants, said
 
