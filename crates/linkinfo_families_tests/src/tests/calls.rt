@@ -27,13 +27,12 @@ const OTHER_LINK: [u8; 8] = [8, 0, 1, 0, 5, 3, 2, 1];
 /// An interface index of one byte.
 const SHORT: [u8; 5] = [5, 0, 1, 0, 4];
 
-/// Whether the value read alone, and the one pushed to a list, are equal to the value.
-fn are_equal<F: ExactEq>(alone: &F, list: &[F], value: &F) -> [bool; 2] {
-    let last = match list {
-        [only] => is_equal(only, value),
+/// Whether the list has two values, and both are equal to the value.
+fn are_equal<F: ExactEq>(list: &[F], value: &F) -> bool {
+    match list {
+        [first, second] => is_equal(first, value) && is_equal(second, value),
         _ => false,
-    };
-    [is_equal(alone, value), last]
+    }
 }
 
 /// Asserts that the attribute is read as the value by its row, alone and into a list.
@@ -45,22 +44,22 @@ fn is_read_by_row<F: FlatFamily + ExactEq>(
     value: &F,
 ) {
     let read = row_read::<F>(alloc, nla, ctx).expect(rt, "a value");
+    let again = F::read_by_row(alloc, nla, ctx).expect(rt, "a value");
     let mut list = Vec::new(alloc);
     row_store::<F, Vec<F>>(&mut list, alloc, nla, ctx).expect(rt, "a value");
-    assert_is(
-        rt,
-        "row_read, row_store",
-        are_equal(&read, &list, value),
-        [true; 2],
-    );
-    let read = F::read_by_row(alloc, nla, ctx).expect(rt, "a value");
-    let mut list = Vec::new(alloc);
     F::push_by_row(&mut list, alloc, nla, ctx).expect(rt, "a value");
     assert_is(
         rt,
-        "read_by_row, push_by_row",
-        are_equal(&read, &list, value),
-        [true; 2],
+        (
+            "row_read, read_by_row, row_store and push_by_row",
+            nla.value(),
+        ),
+        [
+            is_equal(&read, value),
+            is_equal(&again, value),
+            are_equal(&list, value),
+        ],
+        [true; 3],
     );
 }
 

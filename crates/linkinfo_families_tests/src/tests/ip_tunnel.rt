@@ -2,16 +2,13 @@
 
 use super::rows::{
     UNLISTED, assert_is, attribute, error, has_one_length, is_kept, is_mark, is_rejected, is_row,
-    unlisted,
+    unlisted, value_of,
 };
 use bitflags::Flags;
-use linkinfo_numbers::{
-    InfoKind, Ip6TunnelFlags, IpProtocol, KindTag, TunnelEncapFlags, TunnelEncapType,
-};
+use linkinfo_numbers::{InfoKind, Ip6TunnelFlags, IpProtocol, KindTag};
 use linkinfo_tunnels::InfoIpTunnel;
 use nla_frame::{Cause, DecodeError, Family, ParseableParametrized};
 use std::alloc::Global;
-use std::net::{IpAddr, Ipv4Addr, Ipv6Addr};
 use std::process::Abort;
 
 fn parsed(
@@ -37,91 +34,65 @@ fn has_row(rt: &impl Abort, alloc: Global, bytes: &[u8], value: &InfoIpTunnel) {
     has_one_length::<InfoIpTunnel>(rt, alloc, KindTag::Other, bytes);
 }
 
-/// Canonical attributes, and what they mean.
-const ROWS: [(&[u8], InfoIpTunnel); 14] = [
-    (&[8, 0, 1, 0, 4, 3, 2, 1], InfoIpTunnel::Link(0x0102_0304)),
-    (&[5, 0, 4, 0, 64, 0, 0, 0], InfoIpTunnel::Ttl(0x40)),
-    (&[5, 0, 5, 0, 64, 0, 0, 0], InfoIpTunnel::Tos(0x40)),
-    (&[5, 0, 6, 0, 64, 0, 0, 0], InfoIpTunnel::EncapLimit(0x40)),
-    (
-        &[8, 0, 7, 0, 1, 2, 3, 4],
-        InfoIpTunnel::FlowInfo(0x0102_0304),
-    ),
-    (
-        &[5, 0, 9, 0, 41, 0, 0, 0],
-        InfoIpTunnel::Protocol(IpProtocol::Ipv6),
-    ),
-    (&[5, 0, 10, 0, 1, 0, 0, 0], InfoIpTunnel::PMtuDisc(true)),
-    (
-        &[6, 0, 13, 0, 2, 1, 0, 0],
-        InfoIpTunnel::Ipv6RdPrefixLen(0x0102),
-    ),
-    (
-        &[6, 0, 14, 0, 2, 1, 0, 0],
-        InfoIpTunnel::Ipv6RdRelayPrefixLen(0x0102),
-    ),
-    (
-        &[6, 0, 15, 0, 3, 0, 0, 0],
-        InfoIpTunnel::EncapType(TunnelEncapType::Mpls),
-    ),
+/// Canonical attributes, and their values as `Debug` writes them.
+const ROWS: &[(&[u8], &str)] = &[
+    (&[8, 0, 1, 0, 4, 3, 2, 1], "Link(16909060)"),
+    (&[5, 0, 4, 0, 64, 0, 0, 0], "Ttl(64)"),
+    (&[5, 0, 5, 0, 64, 0, 0, 0], "Tos(64)"),
+    (&[5, 0, 6, 0, 64, 0, 0, 0], "EncapLimit(64)"),
+    (&[8, 0, 7, 0, 1, 2, 3, 4], "FlowInfo(16909060)"),
+    (&[5, 0, 9, 0, 41, 0, 0, 0], "Protocol(Ipv6)"),
+    (&[5, 0, 10, 0, 1, 0, 0, 0], "PMtuDisc(true)"),
+    (&[6, 0, 13, 0, 2, 1, 0, 0], "Ipv6RdPrefixLen(258)"),
+    (&[6, 0, 14, 0, 2, 1, 0, 0], "Ipv6RdRelayPrefixLen(258)"),
+    (&[6, 0, 15, 0, 3, 0, 0, 0], "EncapType(Mpls)"),
     (
         &[6, 0, 16, 0, 2, 0, 0, 0],
-        InfoIpTunnel::EncapFlags(TunnelEncapFlags::CSum6),
+        "EncapFlags(TunnelEncapFlags(2))",
     ),
-    (&[6, 0, 17, 0, 1, 2, 0, 0], InfoIpTunnel::EncapSPort(0x0102)),
-    (&[6, 0, 18, 0, 1, 2, 0, 0], InfoIpTunnel::EncapDPort(0x0102)),
-    (
-        &[8, 0, 20, 0, 4, 3, 2, 1],
-        InfoIpTunnel::FwMark(0x0102_0304),
-    ),
+    (&[6, 0, 17, 0, 1, 2, 0, 0], "EncapSPort(258)"),
+    (&[6, 0, 18, 0, 1, 2, 0, 0], "EncapDPort(258)"),
+    (&[8, 0, 20, 0, 4, 3, 2, 1], "FwMark(16909060)"),
 ];
 
 /// Canonical attributes of 10.0.0.1 and fe80::2.
-const ADDRESSES: &[&[u8]] = &[
-    &[8, 0, 2, 0, 10, 0, 0, 1],
-    &[
-        20, 0, 2, 0, 0xfe, 0x80, 0, 0, 0, 0, 0, 0, 0, 0, 0, 0, 0, 0, 0, 2,
-    ],
-    &[8, 0, 3, 0, 10, 0, 0, 1],
-    &[
-        20, 0, 3, 0, 0xfe, 0x80, 0, 0, 0, 0, 0, 0, 0, 0, 0, 0, 0, 0, 0, 2,
-    ],
-    &[
-        20, 0, 11, 0, 0xfe, 0x80, 0, 0, 0, 0, 0, 0, 0, 0, 0, 0, 0, 0, 0, 2,
-    ],
-    &[8, 0, 12, 0, 10, 0, 0, 1],
+const ADDRESSES: &[(&[u8], &str)] = &[
+    (&[8, 0, 2, 0, 10, 0, 0, 1], "Local(10.0.0.1)"),
+    (
+        &[
+            20, 0, 2, 0, 0xfe, 0x80, 0, 0, 0, 0, 0, 0, 0, 0, 0, 0, 0, 0, 0, 2,
+        ],
+        "Local(fe80::2)",
+    ),
+    (&[8, 0, 3, 0, 10, 0, 0, 1], "Remote(10.0.0.1)"),
+    (
+        &[
+            20, 0, 3, 0, 0xfe, 0x80, 0, 0, 0, 0, 0, 0, 0, 0, 0, 0, 0, 0, 0, 2,
+        ],
+        "Remote(fe80::2)",
+    ),
+    (
+        &[
+            20, 0, 11, 0, 0xfe, 0x80, 0, 0, 0, 0, 0, 0, 0, 0, 0, 0, 0, 0, 0, 2,
+        ],
+        "Ipv6RdPrefix(fe80::2)",
+    ),
+    (&[8, 0, 12, 0, 10, 0, 0, 1], "Ipv6RdRelayPrefix(10.0.0.1)"),
 ];
 
-/// Asserts that each attribute is the canonical one of the value with the same index.
-fn has_rows_of<const N: usize>(
-    rt: &impl Abort,
-    alloc: Global,
-    attributes: &[&[u8]],
-    values: [InfoIpTunnel; N],
-) {
-    assert!(rt; attributes.len() == N);
-    for (bytes, value) in attributes.iter().zip(&values) {
-        has_row(rt, alloc, bytes, value);
+/// Asserts that each attribute is the canonical one of the value that `Debug` writes as its text.
+fn has_rows(rt: &impl Abort, alloc: Global, rows: &[(&[u8], &str)]) {
+    for (bytes, text) in rows {
+        let value = value_of(rt, alloc, KindTag::Vrf, bytes, text);
+        has_row(rt, alloc, bytes, &value);
     }
 }
 
 #[test]
 fn rows_of_ip_tunnel(rt: HostRuntime) {
     let alloc = rt.alloc();
-    for (bytes, value) in &ROWS {
-        has_row(&rt, alloc, bytes, value);
-    }
-    let v4 = Ipv4Addr::new(10, 0, 0, 1);
-    let v6 = Ipv6Addr::new(0xfe80, 0, 0, 0, 0, 0, 0, 2);
-    let addresses = [
-        InfoIpTunnel::Local(IpAddr::V4(v4)),
-        InfoIpTunnel::Local(IpAddr::V6(v6)),
-        InfoIpTunnel::Remote(IpAddr::V4(v4)),
-        InfoIpTunnel::Remote(IpAddr::V6(v6)),
-        InfoIpTunnel::Ipv6RdPrefix(v6),
-        InfoIpTunnel::Ipv6RdRelayPrefix(v4),
-    ];
-    has_rows_of(&rt, alloc, ADDRESSES, addresses);
+    has_rows(&rt, alloc, ROWS);
+    has_rows(&rt, alloc, ADDRESSES);
 }
 
 /// Asserts that the value is a presence flag.

@@ -1,7 +1,6 @@
 //! Rows of `ipvlan` and `ipvtap` links.
 
-use super::rows::{UNLISTED, has_row_of, is_list, keeps_unlisted, unlisted};
-use bitflags::Flags;
+use super::rows::{UNLISTED, has_rows, is_list, keeps_unlisted, unlisted};
 use linkinfo_devices::{InfoIpVlan, InfoIpVlanOf, InfoIpVtap};
 use linkinfo_numbers::{IpVlanFlags, IpVlanMode};
 use std::alloc::Global;
@@ -13,19 +12,16 @@ const VEPA: [u8; 16] = [6, 0, 1, 0, 0, 0, 0, 0, 6, 0, 2, 0, 2, 0, 0, 0];
 /// A list of the mode L2 and no flag.
 const NO_FLAG: [u8; 16] = [6, 0, 1, 0, 0, 0, 0, 0, 6, 0, 2, 0, 0, 0, 0, 0];
 
-/// Canonical attributes of modes, and what they mean.
-const MODES: &[(&[u8], IpVlanMode)] = &[
-    (&[6, 0, 1, 0, 0, 0, 0, 0], IpVlanMode::L2),
-    (&[6, 0, 1, 0, 1, 0, 0, 0], IpVlanMode::L3),
-    (&[6, 0, 1, 0, 2, 0, 0, 0], IpVlanMode::L3S),
-    (&[6, 0, 1, 0, 0, 1, 0, 0], IpVlanMode::Other(256)),
+/// Canonical attributes, and their values as `Debug` writes them. The first flags are `private`
+/// alone, the last are all known flags and another.
+const ROWS: &[(&[u8], &str)] = &[
+    (&[6, 0, 1, 0, 0, 0, 0, 0], "Mode(L2)"),
+    (&[6, 0, 1, 0, 1, 0, 0, 0], "Mode(L3)"),
+    (&[6, 0, 1, 0, 2, 0, 0, 0], "Mode(L3S)"),
+    (&[6, 0, 1, 0, 0, 1, 0, 0], "Mode(Other(256))"),
+    (&[6, 0, 2, 0, 1, 0, 0, 0], "Flags(IpVlanFlags(1))"),
+    (&[6, 0, 2, 0, 3, 0x80, 0, 0], "Flags(IpVlanFlags(32771))"),
 ];
-
-/// The canonical attribute of the flag `private`.
-const PRIVATE: &[u8] = &[6, 0, 2, 0, 1, 0, 0, 0];
-
-/// The canonical attribute of all flags.
-const EVERY_FLAG: &[u8] = &[6, 0, 2, 0, 3, 0x80, 0, 0];
 
 /// Asserts that the list is read as the mode L2 and these flags.
 fn is_list_of_flags<const TAP: bool>(
@@ -41,13 +37,7 @@ fn is_list_of_flags<const TAP: bool>(
 /// Asserts each row, and that `UNLISTED` is parsed as the value, an opaque attribute.
 fn has_rows_and_others<const TAP: bool>(rt: &impl Abort, alloc: Global, other: InfoIpVlanOf<TAP>) {
     keeps_unlisted(rt, alloc, (), &UNLISTED, other);
-    for (bytes, mode) in MODES {
-        has_row_of(rt, alloc, bytes, InfoIpVlanOf::<TAP>::Mode(*mode));
-    }
-    let private = InfoIpVlanOf::<TAP>::Flags(IpVlanFlags::Private);
-    has_row_of(rt, alloc, PRIVATE, private);
-    let every = InfoIpVlanOf::<TAP>::Flags(IpVlanFlags::from_bits_retain(0x8003));
-    has_row_of(rt, alloc, EVERY_FLAG, every);
+    has_rows::<InfoIpVlanOf<TAP>>(rt, alloc, ROWS);
     is_list_of_flags::<TAP>(rt, alloc, &VEPA, IpVlanFlags::Vepa);
     is_list_of_flags::<TAP>(rt, alloc, &NO_FLAG, IpVlanFlags::default());
 }

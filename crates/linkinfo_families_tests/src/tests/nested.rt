@@ -186,46 +186,61 @@ fn lists_at_the_maximum_depth(rt: HostRuntime) {
     has_most_lists::<InfoMacVtap>(&rt, alloc);
 }
 
-/// Asserts a list of one address, with its padding and without.
-fn has_worked_list(rt: &impl Abort, alloc: Global, value: InfoMacVlan) {
-    let padded = [16, 0, 5, 0, 10, 0, 4, 0, 2, 0, 0, 0, 0, 1, 0, 0];
-    let bare = [14, 0, 5, 0, 10, 0, 4, 0, 2, 0, 0, 0, 0, 1];
-    is_parsed(rt, alloc, &padded, &value);
-    is_parsed(rt, alloc, &bare, &value);
-    is_emitted(rt, &value, &padded);
-    assert!(rt; value.fit_len() == Some(12));
+/// A list of one address.
+const PADDED: &[u8] = &[16, 0, 5, 0, 10, 0, 4, 0, 2, 0, 0, 0, 0, 1, 0, 0];
+
+/// The payload of `PADDED`.
+const PAYLOAD: &[u8] = &[10, 0, 4, 0, 2, 0, 0, 0, 0, 1, 0, 0];
+
+/// `PADDED` without the padding of the address.
+const BARE: &[u8] = &[14, 0, 5, 0, 10, 0, 4, 0, 2, 0, 0, 0, 0, 1];
+
+/// Asserts that the value has a payload of 12 bytes, which `emit_value` writes as these.
+fn emits_value<F: Nla>(rt: &impl Abort, value: &F, wanted: &[u8]) {
+    let len = value.fit_len().expect(rt, "a value that fits");
+    assert!(rt; len == 12);
     let mut payload = [255; 12];
     value.emit_value(&mut payload);
     assert_is(
         rt,
         "value_len, emit_value",
         (value.value_len(), payload.as_slice()),
-        (12, &padded[4..]),
+        (12, wanted),
     );
+}
+
+/// Asserts a list of one address, with its padding and without.
+fn has_worked_list(rt: &impl Abort, alloc: Global, value: &InfoMacVlan) {
+    is_parsed(rt, alloc, PADDED, value);
+    is_parsed(rt, alloc, BARE, value);
+    is_emitted(rt, value, PADDED);
+    emits_value(rt, value, PAYLOAD);
 }
 
 #[test]
 fn worked_lists(rt: HostRuntime) {
     let alloc = rt.alloc();
     let address = InfoMacVlan::MacAddr([2, 0, 0, 0, 0, 1]);
-    has_worked_list(&rt, alloc, list_of(&rt, alloc, address));
+    has_worked_list(&rt, alloc, &list_of(&rt, alloc, address));
 }
+
+/// A list of an address of one byte.
+const SHORT: &[u8] = &[12, 0, 5, 0, 5, 0, 4, 0, 1, 0, 0, 0];
+
+/// A list of an attribute whose length field is one more than the bytes of the list.
+const BROKEN: &[u8] = &[8, 0, 5, 0, 5, 0, 4, 0];
 
 #[test]
 fn worked_strings_of_lists(rt: HostRuntime) {
     let alloc = rt.alloc();
-    let padded = [16, 0, 5, 0, 10, 0, 4, 0, 2, 0, 0, 0, 0, 1, 0, 0];
-    let bare = [14, 0, 5, 0, 10, 0, 4, 0, 2, 0, 0, 0, 0, 1];
-    compare_lists::<InfoMacVlan>(&rt, 0, &[(&padded, &bare, Some(4))]);
-    laws::reading_back::<InfoMacVlan>(&padded, 0);
-    laws::reading_back::<InfoMacVtap>(&padded, 0);
+    compare_lists::<InfoMacVlan>(&rt, 0, &[(PADDED, BARE, Some(4))]);
+    laws::reading_back::<InfoMacVlan>(PADDED, 0);
+    laws::reading_back::<InfoMacVtap>(PADDED, 0);
 
-    let short = [12, 0, 5, 0, 5, 0, 4, 0, 1, 0, 0, 0];
     let expected = error(Family::MacVtap, 4, Cause::Length);
-    is_not_parsed::<InfoMacVtap>(&rt, alloc, &short, expected);
-    let broken = [8, 0, 5, 0, 5, 0, 4, 0];
+    is_not_parsed::<InfoMacVtap>(&rt, alloc, SHORT, expected);
     let expected = error(Family::Frame, 0, Cause::Header);
-    is_not_parsed::<InfoMacVtap>(&rt, alloc, &broken, expected);
+    is_not_parsed::<InfoMacVtap>(&rt, alloc, BROKEN, expected);
 }
 
 /// Two nested lists, the inner one of a count.
@@ -386,16 +401,15 @@ fn is_too_deep<F: LinkFamily<Context = u8>>(rt: &impl Abort, lists: u16, bytes: 
     );
 }
 
-/// Asserts that a value deeper than a well-formed one is measured and written too, and is not read
-/// back.
-fn is_written_at_any_depth<F>(rt: &impl Abort, alloc: Global, lists: u16)
+/// Asserts that the value of a chain deeper than a well-formed one is measured and written too, as
+/// the byte string of the chain, and is not read back.
+fn is_written_at_any_depth<F>(rt: &impl Abort, alloc: Global, bytes: &[u8], lists: u16)
 where
     F: HoldsLists + LinkFamily<Context = u8>,
 {
     let items: Vec<F> = only(rt, alloc, chain_value(rt, alloc, lists));
-    let bytes = chain(rt, alloc, lists);
-    list_is_emitted(rt, alloc, items.as_slice(), bytes.as_slice());
-    is_too_deep::<F>(rt, lists, bytes.as_slice());
+    list_is_emitted(rt, alloc, items.as_slice(), bytes);
+    is_too_deep::<F>(rt, lists, bytes);
 }
 
 /// Asserts that the value of a chain has this length, if it fits.
@@ -411,8 +425,9 @@ const TOO_DEEP: &[u16] = &[129, 1000, 16000, LONGEST_CHAIN];
 fn values_beyond_the_maximum_depth(rt: HostRuntime) {
     let alloc = rt.alloc();
     for lists in TOO_DEEP {
-        is_written_at_any_depth::<InfoMacVlan>(&rt, alloc, *lists);
-        is_written_at_any_depth::<InfoMacVtap>(&rt, alloc, *lists);
+        let bytes = chain(&rt, alloc, *lists);
+        is_written_at_any_depth::<InfoMacVlan>(&rt, alloc, bytes.as_slice(), *lists);
+        is_written_at_any_depth::<InfoMacVtap>(&rt, alloc, bytes.as_slice(), *lists);
     }
     has_fit_len(&rt, alloc, LONGEST_CHAIN, Some(65528));
     has_fit_len(&rt, alloc, LONGEST_CHAIN + 1, None);

@@ -1,17 +1,19 @@
 //! Rows of `netkit` links.
 
 use super::rows::{
-    UNLISTED, error, has_row_of, has_shapes, is_list, is_not_parsed, is_parsed, is_read,
-    is_rejected, keeps_unlisted, unlisted,
+    UNLISTED, error, has_rows, has_shapes, is_list, is_not_parsed, is_parsed, is_read, is_rejected,
+    keeps_unlisted, unlisted,
 };
-use linkinfo_numbers::{NetkitMode, NetkitPolicy, NetkitScrub};
+use linkinfo_numbers::{NetkitPolicy, NetkitScrub};
 use linkinfo_peers::{BitPeer, InfoNetkit, InfoNetkitOf};
 use linkinfo_table::{LinkPeer, Shape};
 use nla_frame::{Bytes, Cause, Family};
 use std::alloc::Global;
+use std::fmt::Debug;
 use std::process::Abort;
 
-const ROWS: [(u16, Shape); 9] = [
+/// Types, and the shapes of their rows.
+const SHAPES: &[(u16, Shape)] = &[
     (1, Shape::Peer),
     (2, Shape::Truth),
     (3, Shape::Le32),
@@ -23,41 +25,30 @@ const ROWS: [(u16, Shape); 9] = [
     (9, Shape::Le16),
 ];
 
+/// Canonical attributes of all rows except the peer's, and their values as `Debug` writes them.
+const ROWS: &[(&[u8], &str)] = &[
+    (&[5, 0, 2, 0, 1, 0, 0, 0], "Primary(true)"),
+    (&[5, 0, 2, 0, 0, 0, 0, 0], "Primary(false)"),
+    (&[8, 0, 3, 0, 2, 0, 0, 0], "Policy(Drop)"),
+    (&[8, 0, 4, 0, 7, 0, 0, 0], "PeerPolicy(Redirect)"),
+    (&[8, 0, 4, 0, 4, 3, 2, 1], "PeerPolicy(Other(16909060))"),
+    (&[8, 0, 5, 0, 1, 0, 0, 0], "Mode(L3)"),
+    (&[6, 0, 8, 0, 2, 1, 0, 0], "Headroom(258)"),
+    (&[6, 0, 9, 0, 2, 1, 0, 0], "Tailroom(258)"),
+    // The scrubbing, of the link and of its peer.
+    (&[8, 0, 6, 0, 1, 0, 0, 0], "Scrub(Default)"),
+    (&[8, 0, 6, 0, 0, 0, 0, 0], "Scrub(None)"),
+    (&[8, 0, 7, 0, 1, 0, 0, 0], "PeerScrub(Default)"),
+    (&[8, 0, 7, 0, 0, 0, 0, 0], "PeerScrub(None)"),
+];
+
 /// Asserts each row except the peer's, and an opaque attribute of a type without a row, for any
 /// type of peer.
-fn has_rows_beside_peer<P: LinkPeer + Clone>(rt: &impl Abort, alloc: Global) {
-    has_shapes::<InfoNetkitOf<P>>(rt, (), &ROWS);
-    let value = InfoNetkitOf::<P>::Primary(true);
-    has_row_of(rt, alloc, &[5, 0, 2, 0, 1, 0, 0, 0], value);
-    let value = InfoNetkitOf::<P>::Primary(false);
-    has_row_of(rt, alloc, &[5, 0, 2, 0, 0, 0, 0, 0], value);
-    let value = InfoNetkitOf::<P>::Policy(NetkitPolicy::Drop);
-    has_row_of(rt, alloc, &[8, 0, 3, 0, 2, 0, 0, 0], value);
-    let value = InfoNetkitOf::<P>::PeerPolicy(NetkitPolicy::Redirect);
-    has_row_of(rt, alloc, &[8, 0, 4, 0, 7, 0, 0, 0], value);
-    let value = InfoNetkitOf::<P>::PeerPolicy(NetkitPolicy::Other(0x0102_0304));
-    has_row_of(rt, alloc, &[8, 0, 4, 0, 4, 3, 2, 1], value);
-    let value = InfoNetkitOf::<P>::Mode(NetkitMode::L3);
-    has_row_of(rt, alloc, &[8, 0, 5, 0, 1, 0, 0, 0], value);
-    let value = InfoNetkitOf::<P>::Headroom(0x0102);
-    has_row_of(rt, alloc, &[6, 0, 8, 0, 2, 1, 0, 0], value);
-    let value = InfoNetkitOf::<P>::Tailroom(0x0102);
-    has_row_of(rt, alloc, &[6, 0, 9, 0, 2, 1, 0, 0], value);
-    has_scrubs::<P>(rt, alloc);
+fn has_rows_beside_peer<P: LinkPeer + Clone + Debug>(rt: &impl Abort, alloc: Global) {
+    has_shapes::<InfoNetkitOf<P>>(rt, (), SHAPES);
+    has_rows::<InfoNetkitOf<P>>(rt, alloc, ROWS);
     let kept = InfoNetkitOf::<P>::Other(unlisted(rt, alloc));
     keeps_unlisted(rt, alloc, (), &UNLISTED, kept);
-}
-
-/// Asserts the scrubbing, of the link and of its peer.
-fn has_scrubs<P: LinkPeer>(rt: &impl Abort, alloc: Global) {
-    let value = InfoNetkitOf::<P>::Scrub(NetkitScrub::Default);
-    has_row_of(rt, alloc, &[8, 0, 6, 0, 1, 0, 0, 0], value);
-    let value = InfoNetkitOf::<P>::Scrub(NetkitScrub::None);
-    has_row_of(rt, alloc, &[8, 0, 6, 0, 0, 0, 0, 0], value);
-    let value = InfoNetkitOf::<P>::PeerScrub(NetkitScrub::Default);
-    has_row_of(rt, alloc, &[8, 0, 7, 0, 1, 0, 0, 0], value);
-    let value = InfoNetkitOf::<P>::PeerScrub(NetkitScrub::None);
-    has_row_of(rt, alloc, &[8, 0, 7, 0, 0, 0, 0, 0], value);
 }
 
 #[test]

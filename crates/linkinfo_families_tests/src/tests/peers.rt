@@ -35,6 +35,9 @@ const EMPTY: &[u8] = &[4, 0, 1, 0];
 /// A peer of two bytes.
 const TWO: &[u8] = &[6, 0, 1, 0, 0xaa, 0xbb, 0, 0];
 
+/// `TWO` without its padding.
+const BARE: &[u8] = &[6, 0, 1, 0, 0xaa, 0xbb];
+
 /// `TWO`, and an attribute of a type without a row.
 const TAIL: &[u8] = &[6, 0, 1, 0, 0xaa, 0xbb, 0, 0, 5, 0, 39, 0, 7];
 
@@ -157,13 +160,13 @@ fn compares_bits<F: LinkFamily<Context = ()>>(rt: &impl Abort) {
     compare_lists::<F>(rt, (), PAIRS_OF_LISTS_OF_BITS);
 }
 
-/// Asserts that the first attribute of `TAIL` alone is read as the value, and what follows it is
-/// not examined.
+/// Asserts that `BARE` and the first attribute of `TAIL` alone are read as the value, and what
+/// follows it is not examined.
 fn has_first<F>(rt: &impl Abort, alloc: Global, value: &F)
 where
     F: LinkFamily<Context = ()> + ExactEq,
 {
-    is_first(rt, alloc, (), &TAIL[..6], value);
+    is_first(rt, alloc, (), BARE, value);
     is_first(rt, alloc, (), TAIL, value);
     let same = firsts_same::<F>(rt, (), TAIL, TAIL);
     assert_is(rt, "first_same", same, (true, 2));

@@ -1,6 +1,6 @@
 //! Rows of `rmnet` links.
 
-use super::rows::{UNLISTED, has_rows_of, is_list, is_rejected, keeps_unlisted, unlisted};
+use super::rows::{UNLISTED, has_row_of, has_rows, is_list, is_rejected, keeps_unlisted, unlisted};
 use bitflags::Flags;
 use linkinfo_devices::InfoRmNet;
 use linkinfo_numbers::{InfoRmNetFlags, RmNetFlags};
@@ -13,11 +13,20 @@ fn flags_under(flags: u32, mask: u32) -> InfoRmNet {
     ))
 }
 
-/// Canonical attributes.
-const ATTRIBUTES: &[&[u8]] = &[
-    &[6, 0, 1, 0, 2, 1, 0, 0],
-    &[12, 0, 2, 0, 4, 3, 2, 1, 8, 7, 6, 5],
-    &[12, 0, 2, 0, 1, 0, 0, 0, 255, 0, 0, 0],
+/// The canonical attribute of the flag of ingress deaggregation, under the mask 255.
+const DEAGGREGATION: &[u8] = &[12, 0, 2, 0, 1, 0, 0, 0, 255, 0, 0, 0];
+
+/// Canonical attributes, and their values as `Debug` writes them.
+const ROWS: &[(&[u8], &str)] = &[
+    (&[6, 0, 1, 0, 2, 1, 0, 0], "MuxId(258)"),
+    (
+        &[12, 0, 2, 0, 4, 3, 2, 1, 8, 7, 6, 5],
+        "Flags(InfoRmNetFlags { flags: RmNetFlags(16909060), mask: RmNetFlags(84281096) })",
+    ),
+    (
+        DEAGGREGATION,
+        "Flags(InfoRmNetFlags { flags: RmNetFlags(1), mask: RmNetFlags(255) })",
+    ),
 ];
 
 #[test]
@@ -27,13 +36,10 @@ fn rows_of_rmnet(rt: HostRuntime) {
         flags: RmNetFlags::IngressDeaggregation,
         mask: RmNetFlags::from_bits_retain(255),
     };
-    let values = [
-        InfoRmNet::MuxId(0x0102),
-        flags_under(0x0102_0304, 0x0506_0708),
-        InfoRmNet::Flags(flags),
-    ];
-    has_rows_of(&rt, alloc, ATTRIBUTES, values);
-    is_list(&rt, alloc, (), ATTRIBUTES[2], [flags_under(1, 255)]);
+    has_rows::<InfoRmNet>(&rt, alloc, ROWS);
+    let masked = flags_under(0x0102_0304, 0x0506_0708);
+    has_row_of(&rt, alloc, &[12, 0, 2, 0, 4, 3, 2, 1, 8, 7, 6, 5], masked);
+    is_list(&rt, alloc, (), DEAGGREGATION, [InfoRmNet::Flags(flags)]);
     let longer = [13, 0, 2, 0, 1, 0, 0, 0, 255, 0, 0, 0, 0];
     is_rejected::<InfoRmNet>(&rt, alloc, (), &longer, Cause::Length);
     keeps_unlisted(

@@ -370,6 +370,22 @@ where
     has_one_length::<F>(rt, alloc, (), bytes);
 }
 
+/// Reads the attribute, and asserts that `Debug` writes its value as this text. In many texts the
+/// number is 258, which is 0x0102, or 16909060, which is 0x01020304: it shows the order of bytes.
+pub(super) fn value_of<F: LinkFamily + Debug>(
+    rt: &impl Abort,
+    alloc: Global,
+    ctx: F::Context,
+    bytes: &[u8],
+    text: &str,
+) -> F {
+    let nla = attribute(rt, bytes);
+    let value = F::read(alloc, &nla, ctx, &mut HeaderCount::new()).expect(rt, "a value");
+    let found = format!(in alloc; "{value:?}").expect(rt, "memory");
+    assert_is(rt, ("value of", bytes), found.as_str(), text);
+    value
+}
+
 /// Asserts that the attribute is the canonical one of the value.
 pub(super) fn has_row_of<'a, F>(rt: &impl Abort, alloc: Global, bytes: &'a [u8], value: F)
 where
@@ -378,42 +394,27 @@ where
     has_row(rt, alloc, bytes, &value);
 }
 
-/// Asserts that each attribute is the canonical one of the value with the same index.
-pub(super) fn has_rows_of<'a, F, const N: usize>(
-    rt: &impl Abort,
-    alloc: Global,
-    attributes: &[&'a [u8]],
-    values: [F; N],
-)
+/// Asserts that each attribute is the canonical one of the value that `Debug` writes as its text.
+pub(super) fn has_rows<'a, F>(rt: &impl Abort, alloc: Global, rows: &[(&'a [u8], &str)])
 where
-    F: LinkFamily<Context = ()> + Parseable<NlaBuffer<'a>> + ExactEq,
+    F: LinkFamily<Context = ()> + Parseable<NlaBuffer<'a>> + ExactEq + Debug,
 {
-    has_row_at_each_place(rt, alloc, attributes, values.as_slice());
-}
-
-fn has_row_at_each_place<'a, F>(
-    rt: &impl Abort,
-    alloc: Global,
-    attributes: &[&'a [u8]],
-    values: &[F],
-)
-where
-    F: LinkFamily<Context = ()> + Parseable<NlaBuffer<'a>> + ExactEq,
-{
-    assert!(rt; attributes.len() == values.len());
-    for (bytes, value) in attributes.iter().zip(values) {
-        has_row(rt, alloc, bytes, value);
+    for (bytes, text) in rows {
+        let value: F = value_of(rt, alloc, (), bytes, text);
+        has_row(rt, alloc, bytes, &value);
     }
 }
 
-/// Asserts that each attribute is the canonical one of a presence flag, and is parsed as its value.
-pub(super) fn has_marks<'a, F>(rt: &impl Abort, alloc: Global, rows: &[(&'a [u8; 4], F)])
+/// Asserts that each attribute is the canonical one of the presence flag that `Debug` writes as its
+/// text, and is parsed as it.
+pub(super) fn has_marks<'a, F>(rt: &impl Abort, alloc: Global, rows: &[(&'a [u8; 4], &str)])
 where
-    F: LinkFamily<Context = ()> + Parseable<NlaBuffer<'a>> + ExactEq,
+    F: LinkFamily<Context = ()> + Parseable<NlaBuffer<'a>> + ExactEq + Debug,
 {
-    for (bytes, value) in rows {
-        is_parsed(rt, alloc, bytes.as_slice(), value);
-        is_mark(rt, alloc, (), bytes, value);
+    for (bytes, text) in rows {
+        let value: F = value_of(rt, alloc, (), bytes.as_slice(), text);
+        is_parsed(rt, alloc, bytes.as_slice(), &value);
+        is_mark(rt, alloc, (), bytes, &value);
     }
 }
 
@@ -432,21 +433,19 @@ where
     is_kept(rt, alloc, ctx, unlisted, &value);
 }
 
-/// Asserts that each attribute is the canonical one of its value, and that the attribute `UNLISTED`
-/// is parsed as the last value, an opaque attribute.
+/// Asserts that each attribute is the canonical one of the value that `Debug` writes as its text,
+/// and that the attribute `UNLISTED` is parsed as the last value, an opaque attribute.
 pub(super) fn has_rows_and_others<'a, F>(
     rt: &impl Abort,
     alloc: Global,
-    rows: &[(&'a [u8], F)],
+    rows: &[(&'a [u8], &str)],
     unlisted: &'a [u8],
     other: F,
 )
 where
-    F: LinkFamily<Context = ()> + Parseable<NlaBuffer<'a>> + ExactEq + Clone,
+    F: LinkFamily<Context = ()> + Parseable<NlaBuffer<'a>> + ExactEq + Clone + Debug,
 {
-    for (bytes, value) in rows {
-        has_row(rt, alloc, bytes, value);
-    }
+    has_rows::<F>(rt, alloc, rows);
     keeps_unlisted(rt, alloc, (), unlisted, other);
 }
 

@@ -8,9 +8,7 @@ use std::process::Abort;
 
 /// Asserts that the payload is read as a peer that is emitted as the payload.
 fn is_peer(rt: &impl Abort, alloc: Global, payload: &[u8; 2]) {
-    let Ok(peer) = <Bytes as LinkPeer>::read(alloc, payload) else {
-        panic!(rt; "the payload is a peer");
-    };
+    let peer = <Bytes as LinkPeer>::read(alloc, payload).expect(rt, "a peer");
     assert!(rt; peer.len() == 2);
     let mut buffer = [0; 2];
     LinkPeer::emit(&peer, &mut buffer);

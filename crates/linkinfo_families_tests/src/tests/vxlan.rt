@@ -1,96 +1,83 @@
 //! Rows of VXLAN tunnels.
 
 use super::rows::{
-    UNLISTED, has_marks, has_rows_and_others, has_rows_of, is_parsed, is_rejected, is_rewritten,
+    UNLISTED, has_marks, has_rows, has_rows_and_others, is_parsed, is_rejected, is_rewritten,
     is_row, unlisted,
 };
-use linkinfo_numbers::VxlanDf;
 use linkinfo_tunnels::InfoVxlan;
 use nla_frame::Cause;
 use std::alloc::Global;
-use std::net::{Ipv4Addr, Ipv6Addr};
 use std::process::Abort;
 
-/// Canonical attributes, and what they mean.
-const ROWS: [(&[u8], InfoVxlan); 29] = [
-    (&[8, 0, 1, 0, 4, 3, 2, 1], InfoVxlan::Id(0x0102_0304)),
-    (&[8, 0, 3, 0, 4, 3, 2, 1], InfoVxlan::Link(0x0102_0304)),
-    (&[5, 0, 5, 0, 64, 0, 0, 0], InfoVxlan::Ttl(0x40)),
-    (&[5, 0, 6, 0, 64, 0, 0, 0], InfoVxlan::Tos(0x40)),
-    (&[5, 0, 7, 0, 1, 0, 0, 0], InfoVxlan::Learning(true)),
-    (&[8, 0, 8, 0, 4, 3, 2, 1], InfoVxlan::Ageing(0x0102_0304)),
-    (&[8, 0, 9, 0, 4, 3, 2, 1], InfoVxlan::Limit(0x0102_0304)),
-    (
-        &[8, 0, 10, 0, 1, 2, 3, 4],
-        InfoVxlan::PortRange((0x0102, 0x0304)),
-    ),
-    (&[5, 0, 11, 0, 1, 0, 0, 0], InfoVxlan::Proxy(true)),
-    (&[5, 0, 12, 0, 1, 0, 0, 0], InfoVxlan::Rsc(true)),
-    (&[5, 0, 13, 0, 1, 0, 0, 0], InfoVxlan::L2Miss(true)),
-    (&[5, 0, 14, 0, 1, 0, 0, 0], InfoVxlan::L3Miss(true)),
-    (&[6, 0, 15, 0, 1, 2, 0, 0], InfoVxlan::Port(0x0102)),
-    (&[5, 0, 18, 0, 1, 0, 0, 0], InfoVxlan::UDPCsum(true)),
-    (&[5, 0, 19, 0, 1, 0, 0, 0], InfoVxlan::UDPZeroCsumTX(true)),
-    (&[5, 0, 20, 0, 1, 0, 0, 0], InfoVxlan::UDPZeroCsumRX(true)),
-    (&[5, 0, 21, 0, 1, 0, 0, 0], InfoVxlan::RemCsumTX(true)),
-    (&[5, 0, 22, 0, 1, 0, 0, 0], InfoVxlan::RemCsumRX(true)),
-    (&[5, 0, 25, 0, 1, 0, 0, 0], InfoVxlan::CollectMetadata(true)),
-    (&[8, 0, 26, 0, 1, 2, 3, 4], InfoVxlan::Label(0x0102_0304)),
-    (&[5, 0, 29, 0, 2, 0, 0, 0], InfoVxlan::Df(VxlanDf::Inherit)),
-    (&[5, 0, 30, 0, 1, 0, 0, 0], InfoVxlan::Vnifilter(true)),
-    (&[5, 0, 31, 0, 1, 0, 0, 0], InfoVxlan::Localbypass(true)),
-    (
-        &[8, 0, 32, 0, 4, 3, 2, 1],
-        InfoVxlan::LabelPolicy(0x0102_0304),
-    ),
+/// Canonical attributes, and their values as `Debug` writes them.
+const ROWS: &[(&[u8], &str)] = &[
+    (&[8, 0, 1, 0, 4, 3, 2, 1], "Id(16909060)"),
+    (&[8, 0, 3, 0, 4, 3, 2, 1], "Link(16909060)"),
+    (&[5, 0, 5, 0, 64, 0, 0, 0], "Ttl(64)"),
+    (&[5, 0, 6, 0, 64, 0, 0, 0], "Tos(64)"),
+    (&[5, 0, 7, 0, 1, 0, 0, 0], "Learning(true)"),
+    (&[8, 0, 8, 0, 4, 3, 2, 1], "Ageing(16909060)"),
+    (&[8, 0, 9, 0, 4, 3, 2, 1], "Limit(16909060)"),
+    (&[8, 0, 10, 0, 1, 2, 3, 4], "PortRange((258, 772))"),
+    (&[5, 0, 11, 0, 1, 0, 0, 0], "Proxy(true)"),
+    (&[5, 0, 12, 0, 1, 0, 0, 0], "Rsc(true)"),
+    (&[5, 0, 13, 0, 1, 0, 0, 0], "L2Miss(true)"),
+    (&[5, 0, 14, 0, 1, 0, 0, 0], "L3Miss(true)"),
+    (&[6, 0, 15, 0, 1, 2, 0, 0], "Port(258)"),
+    (&[5, 0, 18, 0, 1, 0, 0, 0], "UDPCsum(true)"),
+    (&[5, 0, 19, 0, 1, 0, 0, 0], "UDPZeroCsumTX(true)"),
+    (&[5, 0, 20, 0, 1, 0, 0, 0], "UDPZeroCsumRX(true)"),
+    (&[5, 0, 21, 0, 1, 0, 0, 0], "RemCsumTX(true)"),
+    (&[5, 0, 22, 0, 1, 0, 0, 0], "RemCsumRX(true)"),
+    (&[5, 0, 25, 0, 1, 0, 0, 0], "CollectMetadata(true)"),
+    (&[8, 0, 26, 0, 1, 2, 3, 4], "Label(16909060)"),
+    (&[5, 0, 29, 0, 2, 0, 0, 0], "Df(Inherit)"),
+    (&[5, 0, 30, 0, 1, 0, 0, 0], "Vnifilter(true)"),
+    (&[5, 0, 31, 0, 1, 0, 0, 0], "Localbypass(true)"),
+    (&[8, 0, 32, 0, 4, 3, 2, 1], "LabelPolicy(16909060)"),
     (
         &[12, 0, 33, 0, 1, 2, 3, 4, 5, 6, 7, 8],
-        InfoVxlan::ReservedBits(0x0102_0304_0506_0708),
+        "ReservedBits(72623859790382856)",
     ),
-    (&[5, 0, 34, 0, 1, 0, 0, 0], InfoVxlan::McRoute(true)),
-    (&[6, 0, 15, 0, 0x12, 0xb5, 0, 0], InfoVxlan::Port(4789)),
+    (&[5, 0, 34, 0, 1, 0, 0, 0], "McRoute(true)"),
+    (&[6, 0, 15, 0, 0x12, 0xb5, 0, 0], "Port(4789)"),
     // The low port may be above the high one.
-    (&[8, 0, 10, 0, 0, 2, 0, 1], InfoVxlan::PortRange((2, 1))),
-    (
-        &[12, 0, 33, 0, 0, 0, 0, 0, 0, 0, 0, 1],
-        InfoVxlan::ReservedBits(1),
-    ),
+    (&[8, 0, 10, 0, 0, 2, 0, 1], "PortRange((2, 1))"),
+    (&[12, 0, 33, 0, 0, 0, 0, 0, 0, 0, 0, 1], "ReservedBits(1)"),
 ];
 
-/// Canonical attributes of presence flags, and what they mean.
-const MARKS: [(&[u8; 4], InfoVxlan); 3] = [
-    (&[4, 0, 23, 0], InfoVxlan::Gbp),
-    (&[4, 0, 24, 0], InfoVxlan::RemCsumNoPartial),
-    (&[4, 0, 27, 0], InfoVxlan::Gpe),
+/// Canonical attributes of presence flags, and their values as `Debug` writes them.
+const MARKS: &[(&[u8; 4], &str)] = &[
+    (&[4, 0, 23, 0], "Gbp"),
+    (&[4, 0, 24, 0], "RemCsumNoPartial"),
+    (&[4, 0, 27, 0], "Gpe"),
 ];
 
 /// Canonical attributes of 10.0.0.1 and fe80::2: group and local address.
-const ADDRESSES: &[&[u8]] = &[
-    &[8, 0, 2, 0, 10, 0, 0, 1],
-    &[8, 0, 4, 0, 10, 0, 0, 1],
-    &[
-        20, 0, 16, 0, 0xfe, 0x80, 0, 0, 0, 0, 0, 0, 0, 0, 0, 0, 0, 0, 0, 2,
-    ],
-    &[
-        20, 0, 17, 0, 0xfe, 0x80, 0, 0, 0, 0, 0, 0, 0, 0, 0, 0, 0, 0, 0, 2,
-    ],
+const ADDRESSES: &[(&[u8], &str)] = &[
+    (&[8, 0, 2, 0, 10, 0, 0, 1], "Group(10.0.0.1)"),
+    (&[8, 0, 4, 0, 10, 0, 0, 1], "Local(10.0.0.1)"),
+    (
+        &[
+            20, 0, 16, 0, 0xfe, 0x80, 0, 0, 0, 0, 0, 0, 0, 0, 0, 0, 0, 0, 0, 2,
+        ],
+        "Group6(fe80::2)",
+    ),
+    (
+        &[
+            20, 0, 17, 0, 0xfe, 0x80, 0, 0, 0, 0, 0, 0, 0, 0, 0, 0, 0, 0, 0, 2,
+        ],
+        "Local6(fe80::2)",
+    ),
 ];
 
 #[test]
 fn rows_of_vxlan(rt: HostRuntime) {
     let alloc = rt.alloc();
     let other = InfoVxlan::Other(unlisted(&rt, alloc));
-    has_rows_and_others(&rt, alloc, &ROWS, &UNLISTED, other);
-    has_marks(&rt, alloc, &MARKS);
-    let v4 = Ipv4Addr::new(10, 0, 0, 1);
-    let v6 = Ipv6Addr::new(0xfe80, 0, 0, 0, 0, 0, 0, 2);
-    let addresses = [
-        InfoVxlan::Group(v4),
-        InfoVxlan::Local(v4),
-        InfoVxlan::Group6(v6),
-        InfoVxlan::Local6(v6),
-    ];
-    has_rows_of(&rt, alloc, ADDRESSES, addresses);
+    has_rows_and_others(&rt, alloc, ROWS, &UNLISTED, other);
+    has_marks::<InfoVxlan>(&rt, alloc, MARKS);
+    has_rows::<InfoVxlan>(&rt, alloc, ADDRESSES);
 }
 
 /// Asserts that the attribute is the canonical one of the value, and is parsed as it.

@@ -1,8 +1,9 @@
 //! Rows of `xfrm` and `vrf` links, and lists and first attributes of a family.
 
 use super::rows::{
-    UNLISTED, assert_is, compare_lists, error, first_checked, firsts_same, has_rows_and_others,
-    has_shapes, is_first, is_list, is_not_parsed, list_checked, list_error, reads, unlisted,
+    UNLISTED, assert_is, compare_lists, error, first_checked, firsts_same, has_row_of,
+    has_rows_and_others, has_shapes, is_first, is_list, is_not_parsed, list_checked, list_error,
+    reads, unlisted,
 };
 use linkinfo_devices::{InfoVrf, InfoXfrm};
 use linkinfo_table::{Shape, laws};
@@ -10,24 +11,24 @@ use nla_frame::{Cause, Family};
 use std::alloc::Global;
 use std::process::Abort;
 
-/// Canonical attributes, and what they mean.
-const ROWS_OF_XFRM: [(&[u8], InfoXfrm); 2] = [
-    (&[8, 0, 1, 0, 4, 3, 2, 1], InfoXfrm::Link(0x0102_0304)),
-    (&[8, 0, 2, 0, 4, 3, 2, 1], InfoXfrm::IfId(0x0102_0304)),
+/// Canonical attributes, and their values as `Debug` writes them.
+const ROWS_OF_XFRM: &[(&[u8], &str)] = &[
+    (&[8, 0, 1, 0, 4, 3, 2, 1], "Link(16909060)"),
+    (&[8, 0, 2, 0, 4, 3, 2, 1], "IfId(16909060)"),
 ];
 
-/// Canonical attributes, and what they mean.
-const ROWS_OF_VRF: [(&[u8], InfoVrf); 1] = [(
-    &[8, 0, 1, 0, 4, 3, 2, 1],
-    InfoVrf::TableId(0x0102_0304),
-)];
+/// Canonical attributes, and their values as `Debug` writes them.
+const ROWS_OF_VRF: &[(&[u8], &str)] = &[(&[8, 0, 1, 0, 4, 3, 2, 1], "TableId(16909060)")];
+
+/// `UNLISTED` without its padding.
+const BARE: &[u8] = &[5, 0, 0xff, 0x80, 1];
 
 #[test]
 fn rows_of_xfrm(rt: HostRuntime) {
     let alloc = rt.alloc();
     has_shapes::<InfoXfrm>(&rt, (), &[(1, Shape::Le32), (2, Shape::Le32)]);
     let other = InfoXfrm::Other(unlisted(&rt, alloc));
-    has_rows_and_others(&rt, alloc, &ROWS_OF_XFRM, &UNLISTED, other);
+    has_rows_and_others(&rt, alloc, ROWS_OF_XFRM, &UNLISTED, other);
     let data = [8, 0, 1, 0, 2, 0, 0, 0, 8, 0, 2, 0, 10, 0, 0, 0];
     is_list(
         &rt,
@@ -37,7 +38,7 @@ fn rows_of_xfrm(rt: HostRuntime) {
         [InfoXfrm::Link(2), InfoXfrm::IfId(10)],
     );
     let kept = InfoXfrm::Other(unlisted(&rt, alloc));
-    reads(&rt, alloc, (), &UNLISTED[..5], kept);
+    reads(&rt, alloc, (), BARE, kept);
 }
 
 #[test]
@@ -46,7 +47,13 @@ fn rows_of_vrf(rt: HostRuntime) {
     laws::lawful::<InfoVrf>();
     has_shapes::<InfoVrf>(&rt, (), &[(1, Shape::Le32)]);
     let other = InfoVrf::Other(unlisted(&rt, alloc));
-    has_rows_and_others(&rt, alloc, &ROWS_OF_VRF, &UNLISTED, other);
+    has_rows_and_others(&rt, alloc, ROWS_OF_VRF, &UNLISTED, other);
+    has_row_of(
+        &rt,
+        alloc,
+        &[8, 0, 1, 0, 4, 3, 2, 1],
+        InfoVrf::TableId(0x0102_0304),
+    );
 }
 
 /// Asserts that a number of this type is not parsed from an attribute of this length.
