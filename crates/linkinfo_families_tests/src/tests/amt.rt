@@ -1,8 +1,8 @@
 //! Rows of AMT tunnels.
 
-use super::rows::{UNLISTED, has_row_of, has_rows, has_rows_and_others, is_rejected, unlisted};
+use super::rows::{HasExample, HoldsOthers, UNLISTED, has_rows, has_rows_and_others, is_rejected};
 use linkinfo_tunnels::InfoAmt;
-use nla_frame::Cause;
+use nla_frame::{Cause, DefaultNla};
 use std::net::{IpAddr, Ipv4Addr};
 
 /// Canonical attributes, and their values as `Debug` writes them.
@@ -41,14 +41,23 @@ const ADDRESSES: &[(&[u8], &str)] = &[
     ),
 ];
 
+impl HoldsOthers for InfoAmt {
+    fn from_other(nla: DefaultNla) -> InfoAmt {
+        InfoAmt::Other(nla)
+    }
+}
+
+impl HasExample for InfoAmt {
+    fn example() -> InfoAmt {
+        InfoAmt::LocalIp(IpAddr::V4(Ipv4Addr::new(10, 0, 0, 1)))
+    }
+}
+
 #[test]
 fn rows_of_amt(rt: HostRuntime) {
     let alloc = rt.alloc();
-    let other = InfoAmt::Other(unlisted(&rt, alloc));
-    has_rows_and_others(&rt, alloc, ROWS, &UNLISTED, other);
+    has_rows_and_others::<InfoAmt>(&rt, alloc, ROWS, UNLISTED, &[8, 0, 5, 0, 10, 0, 0, 1]);
     has_rows::<InfoAmt>(&rt, alloc, ADDRESSES);
-    let local = InfoAmt::LocalIp(IpAddr::V4(Ipv4Addr::new(10, 0, 0, 1)));
-    has_row_of(&rt, alloc, &[8, 0, 5, 0, 10, 0, 0, 1], local);
     let short = [6, 0, 5, 0, 1, 2, 0, 0];
     is_rejected::<InfoAmt>(&rt, alloc, (), &short, Cause::Length);
 }

@@ -1,9 +1,11 @@
 //! Rows of bare UDP tunnels.
 
-use super::rows::{UNLISTED, has_marks, has_rows_and_others, is_list, is_rejected, unlisted};
+use super::rows::{
+    HasExample, HoldsOthers, UNLISTED, has_marks, has_rows_and_others, is_list, is_rejected,
+};
 use linkinfo_numbers::EthernetProtocol;
 use linkinfo_tunnels::InfoBareUdp;
-use nla_frame::Cause;
+use nla_frame::{Cause, DefaultNla};
 
 /// Canonical attributes, and their values as `Debug` writes them.
 const ROWS: &[(&[u8], &str)] = &[
@@ -15,18 +17,26 @@ const ROWS: &[(&[u8], &str)] = &[
 /// Canonical attributes of presence flags, and their values as `Debug` writes them.
 const MARKS: &[(&[u8; 4], &str)] = &[(&[4, 0, 4, 0], "MultiprotoMode")];
 
+impl HoldsOthers for InfoBareUdp {
+    fn from_other(nla: DefaultNla) -> InfoBareUdp {
+        InfoBareUdp::Other(nla)
+    }
+}
+
+impl HasExample for InfoBareUdp {
+    fn example() -> InfoBareUdp {
+        InfoBareUdp::Ethertype(EthernetProtocol::MplsUc)
+    }
+}
+
 #[test]
 fn rows_of_bare_udp(rt: HostRuntime) {
     let alloc = rt.alloc();
-    let other = InfoBareUdp::Other(unlisted(&rt, alloc));
-    has_rows_and_others(&rt, alloc, ROWS, &UNLISTED, other);
+    has_rows_and_others::<InfoBareUdp>(&rt, alloc, ROWS, UNLISTED, &[6, 0, 2, 0, 0x88, 71, 0, 0]);
     has_marks::<InfoBareUdp>(&rt, alloc, MARKS);
     let short = [5, 0, 3, 0, 7, 0, 0, 0];
     is_rejected::<InfoBareUdp>(&rt, alloc, (), &short, Cause::Length);
     let data = [6, 0, 1, 0, 0x19, 0xeb, 0, 0, 6, 0, 2, 0, 0x88, 0x47, 0, 0];
-    let wanted = [
-        InfoBareUdp::Port(6635),
-        InfoBareUdp::Ethertype(EthernetProtocol::MplsUc),
-    ];
-    is_list(&rt, alloc, (), &data, wanted);
+    let text = "[Port(6635), Ethertype(MplsUc)]";
+    is_list::<InfoBareUdp>(&rt, alloc, (), &data, text);
 }

@@ -11,21 +11,21 @@ use linkinfo_table::{
     row_check, row_emit_payload, row_emit_value, row_fit_len, row_kind, row_read, row_same,
     row_store, row_value_len, table_lookup,
 };
-use nla_frame::{Cause, ExactEq, Family, NlaBuffer, is_equal};
+use nla_frame::{Cause, DecodeError, ExactEq, Family, NlaBuffer, is_equal};
 use std::alloc::Global;
 use std::process::Abort;
 
 /// The interface index 0x01020304.
-const LINK: [u8; 8] = [8, 0, 1, 0, 4, 3, 2, 1];
+const LINK: &[u8] = &[8, 0, 1, 0, 4, 3, 2, 1];
 
 /// `LINK` with a flag bit in its type.
-const MARKED: [u8; 8] = [8, 0, 1, 0x80, 4, 3, 2, 1];
+const MARKED: &[u8] = &[8, 0, 1, 0x80, 4, 3, 2, 1];
 
 /// Another interface index.
-const OTHER_LINK: [u8; 8] = [8, 0, 1, 0, 5, 3, 2, 1];
+const OTHER_LINK: &[u8] = &[8, 0, 1, 0, 5, 3, 2, 1];
 
 /// An interface index of one byte.
-const SHORT: [u8; 5] = [5, 0, 1, 0, 4];
+const SHORT: &[u8] = &[5, 0, 1, 0, 4];
 
 /// Whether the list has two values, and both are equal to the value.
 fn are_equal<F: ExactEq>(list: &[F], value: &F) -> bool {
@@ -39,10 +39,11 @@ fn are_equal<F: ExactEq>(list: &[F], value: &F) -> bool {
 fn is_read_by_row<F: FlatFamily + ExactEq>(
     rt: &impl Abort,
     alloc: Global,
-    nla: &NlaBuffer<'_>,
+    bytes: &[u8],
     ctx: <F as RowFamily>::Context,
     value: &F,
 ) {
+    let nla = &attribute(rt, bytes);
     let read = row_read::<F>(alloc, nla, ctx).expect(rt, "a value");
     let again = F::read_by_row(alloc, nla, ctx).expect(rt, "a value");
     let mut list = Vec::new(alloc);
@@ -50,10 +51,7 @@ fn is_read_by_row<F: FlatFamily + ExactEq>(
     F::push_by_row(&mut list, alloc, nla, ctx).expect(rt, "a value");
     assert_is(
         rt,
-        (
-            "row_read, read_by_row, row_store and push_by_row",
-            nla.value(),
-        ),
+        ("row_read, read_by_row, row_store and push_by_row", bytes),
         [
             is_equal(&read, value),
             is_equal(&again, value),
@@ -63,27 +61,33 @@ fn is_read_by_row<F: FlatFamily + ExactEq>(
     );
 }
 
+/// Asserts that the attribute is rejected with this error by its row.
+fn is_rejected_by_row<F: FlatFamily>(
+    rt: &impl Abort,
+    alloc: Global,
+    bytes: &[u8],
+    ctx: <F as RowFamily>::Context,
+    expected: DecodeError,
+) {
+    let nla = &attribute(rt, bytes);
+    let found = [
+        row_read::<F>(alloc, nla, ctx).err(),
+        row_check::<F>(nla, ctx).err(),
+        F::check_by_row(nla, ctx).err(),
+    ];
+    assert_is(rt, ("rejected", bytes), found, [Some(expected); 3]);
+}
+
 #[test]
 fn reads_by_rows(rt: HostRuntime) {
     let alloc = rt.alloc();
     let value = InfoXfrm::Link(0x0102_0304);
-    is_read_by_row(&rt, alloc, &attribute(&rt, &LINK), (), &value);
-    is_read_by_row(&rt, alloc, &attribute(&rt, &MARKED), (), &value);
+    is_read_by_row(&rt, alloc, LINK, (), &value);
+    is_read_by_row(&rt, alloc, MARKED, (), &value);
     let other = InfoXfrm::Other(kept(&rt, alloc, 0x8003, &[7]));
-    let nla = [5, 0, 3, 0x80, 7];
-    is_read_by_row(&rt, alloc, &attribute(&rt, &nla), (), &other);
-    let short = attribute(&rt, &SHORT);
-    let expected = Some(error(Family::Xfrm, 1, Cause::Length));
-    assert_is(
-        &rt,
-        "a short number",
-        [
-            row_read::<InfoXfrm>(alloc, &short, ()).err(),
-            row_check::<InfoXfrm>(&short, ()).err(),
-            InfoXfrm::check_by_row(&short, ()).err(),
-        ],
-        [expected; 3],
-    );
+    is_read_by_row(&rt, alloc, &[5, 0, 3, 0x80, 7], (), &other);
+    let expected = error(Family::Xfrm, 1, Cause::Length);
+    is_rejected_by_row::<InfoXfrm>(&rt, alloc, SHORT, (), expected);
 }
 
 /// The attribute of the bytes, which its row accepts.
@@ -118,23 +122,31 @@ fn compares_by_rows(rt: HostRuntime) {
         &rt,
         "same_by_row",
         [
-            same_by_row::<InfoXfrm>(&rt, (), &LINK, &LINK),
-            same_by_row::<InfoXfrm>(&rt, (), &LINK, &MARKED),
-            same_by_row::<InfoXfrm>(&rt, (), &LINK, &OTHER_LINK),
+            same_by_row::<InfoXfrm>(&rt, (), LINK, LINK),
+            same_by_row::<InfoXfrm>(&rt, (), LINK, MARKED),
+            same_by_row::<InfoXfrm>(&rt, (), LINK, OTHER_LINK),
         ],
         [[true; 2], [true; 2], [false; 2]],
     );
 }
 
-/// Asserts that the value is written with this type and this payload by its row.
-fn is_written_by_row<F: FlatFamily>(rt: &impl Abort, value: &F, kind: u16, payload: [u8; 4]) {
-    assert!(rt; row_fit_len(value) == Some(4), "fit_len of type {kind}");
+/// Asserts that the value is written with this type and this payload of four bytes by its row, also
+/// to a buffer of six 255s.
+fn is_written_by_row<F: FlatFamily>(
+    rt: &impl Abort,
+    value: &F,
+    kind: u16,
+    payload: &[u8],
+    buffer: &[u8],
+) {
+    let len = row_fit_len(value).expect(rt, "a value that fits");
     assert_is(
         rt,
-        ("kind, value_len of type", kind),
-        (row_kind(value), row_value_len(value)),
-        (kind, 4),
+        ("kind, fit_len, value_len of type", kind),
+        (row_kind(value), [len, row_value_len(value)]),
+        (kind, [4; 2]),
     );
+    assert!(rt; len == 4);
     let mut exact = [255; 4];
     row_emit_value(value, &mut exact);
     let mut longer = [255; 6];
@@ -142,16 +154,17 @@ fn is_written_by_row<F: FlatFamily>(rt: &impl Abort, value: &F, kind: u16, paylo
     assert_is(
         rt,
         ("emit_value, emit_payload of type", kind),
-        (exact, taken, &longer[..4], &longer[4..]),
-        (payload, 4, payload.as_slice(), [255; 2].as_slice()),
+        (taken, [exact.as_slice(), longer.as_slice()]),
+        (4, [payload, buffer]),
     );
 }
 
 #[test]
 fn writes_by_rows(rt: HostRuntime) {
-    is_written_by_row(&rt, &InfoXfrm::Link(0x0102_0304), 1, [4, 3, 2, 1]);
-    let kept = kept(&rt, rt.alloc(), 0x8003, &[7, 8, 9, 10]);
-    is_written_by_row(&rt, &InfoXfrm::Other(kept), 0x8003, [7, 8, 9, 10]);
+    let link = InfoXfrm::Link(0x0102_0304);
+    is_written_by_row(&rt, &link, 1, &[4, 3, 2, 1], &[4, 3, 2, 1, 255, 255]);
+    let kept = InfoXfrm::Other(kept(&rt, rt.alloc(), 0x8003, &[7, 8, 9, 10]));
+    is_written_by_row(&rt, &kept, 0x8003, &[7, 8, 9, 10], &[7, 8, 9, 10, 255, 255]);
 }
 
 /// Families and types, and what the table of all families gives for them.

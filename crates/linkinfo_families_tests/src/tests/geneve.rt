@@ -1,10 +1,10 @@
 //! Rows of Geneve tunnels.
 
 use super::rows::{
-    UNLISTED, has_marks, has_row_of, has_rows, has_rows_and_others, is_rejected, unlisted,
+    HasExample, HoldsOthers, UNLISTED, has_marks, has_rows, has_rows_and_others, is_rejected,
 };
 use linkinfo_tunnels::InfoGeneve;
-use nla_frame::Cause;
+use nla_frame::{Cause, DefaultNla};
 use std::net::Ipv4Addr;
 
 /// Canonical attributes, and their values as `Debug` writes them.
@@ -45,15 +45,24 @@ const MARKS: &[(&[u8; 4], &str)] = &[
     (&[4, 0, 14, 0], "InnerProtoInherit"),
 ];
 
+impl HoldsOthers for InfoGeneve {
+    fn from_other(nla: DefaultNla) -> InfoGeneve {
+        InfoGeneve::Other(nla)
+    }
+}
+
+impl HasExample for InfoGeneve {
+    fn example() -> InfoGeneve {
+        InfoGeneve::Remote(Ipv4Addr::new(10, 0, 0, 1))
+    }
+}
+
 #[test]
 fn rows_of_geneve(rt: HostRuntime) {
     let alloc = rt.alloc();
-    let other = InfoGeneve::Other(unlisted(&rt, alloc));
-    has_rows_and_others(&rt, alloc, ROWS, &UNLISTED, other);
+    has_rows_and_others::<InfoGeneve>(&rt, alloc, ROWS, UNLISTED, &[8, 0, 2, 0, 10, 0, 0, 1]);
     has_marks::<InfoGeneve>(&rt, alloc, MARKS);
     has_rows::<InfoGeneve>(&rt, alloc, ADDRESSES);
-    let remote = InfoGeneve::Remote(Ipv4Addr::new(10, 0, 0, 1));
-    has_row_of(&rt, alloc, &[8, 0, 2, 0, 10, 0, 0, 1], remote);
 }
 
 #[test]

@@ -1,11 +1,12 @@
 //! Rows of GRE tunnels over IPv4.
 
 use super::rows::{
-    UNLISTED, has_marks, has_row_of, has_rows, has_rows_and_others, is_rewritten, kept, parses,
-    unlisted,
+    HasExample, HoldsOthers, UNLISTED, has_marks, has_rows, has_rows_and_others, is_rewritten,
+    keeps_other,
 };
 use linkinfo_numbers::GreIOFlags;
 use linkinfo_tunnels::InfoGre;
+use nla_frame::DefaultNla;
 
 /// Canonical attributes, and their values as `Debug` writes them.
 const ROWS: &[(&[u8], &str)] = &[
@@ -37,22 +38,40 @@ const ADDRESSES: &[(&[u8], &str)] = &[
     (&[8, 0, 7, 0, 10, 0, 0, 1], "Remote(10.0.0.1)"),
 ];
 
+/// Path MTU Discovery of a byte that is neither 0 nor 1.
+const TWO: &[u8] = &[5, 0, 10, 0, 2, 0, 0, 0];
+
+/// Empty attributes of types without a row, and these types.
+const WITHOUT_ROW: &[(&[u8], u16)] = &[
+    (&[4, 0, 11, 0], 11),
+    (&[4, 0, 12, 0], 12),
+    (&[4, 0, 13, 0], 13),
+    (&[4, 0, 19, 0], 19),
+];
+
+impl HoldsOthers for InfoGre {
+    fn from_other(nla: DefaultNla) -> InfoGre {
+        InfoGre::Other(nla)
+    }
+}
+
+impl HasExample for InfoGre {
+    fn example() -> InfoGre {
+        InfoGre::IFlags(GreIOFlags::Key)
+    }
+}
+
 #[test]
 fn rows_of_gre(rt: HostRuntime) {
     let alloc = rt.alloc();
-    let other = InfoGre::Other(unlisted(&rt, alloc));
-    has_rows_and_others(&rt, alloc, ROWS, &UNLISTED, other);
+    has_rows_and_others::<InfoGre>(&rt, alloc, ROWS, UNLISTED, &[6, 0, 2, 0, 32, 0, 0, 0]);
     has_marks::<InfoGre>(&rt, alloc, MARKS);
     has_rows::<InfoGre>(&rt, alloc, ADDRESSES);
-    let key = InfoGre::IFlags(GreIOFlags::Key);
-    has_row_of(&rt, alloc, &[6, 0, 2, 0, 32, 0, 0, 0], key);
     // Path MTU Discovery is true for 1 alone.
-    let discovery = InfoGre::PathMTUDiscovery(false);
-    let two = [5, 0, 10, 0, 2, 0, 0, 0];
-    is_rewritten(&rt, alloc, &two, discovery, &[5, 0, 10, 0, 0, 0, 0, 0]);
+    let text = "PathMTUDiscovery(false)";
+    is_rewritten::<InfoGre>(&rt, alloc, TWO, text, &[5, 0, 10, 0, 0, 0, 0, 0]);
     // Types without a row here, two of which have one over IPv6.
-    for kind in [11, 12, 13, 19] {
-        let kept = kept(&rt, alloc, u16::from(kind), &[]);
-        parses(&rt, alloc, &[4, 0, kind, 0], InfoGre::Other(kept));
+    for (bytes, kind) in WITHOUT_ROW {
+        keeps_other::<InfoGre>(&rt, alloc, bytes, *kind, &[]);
     }
 }

@@ -1,9 +1,10 @@
 //! Rows of GRE tunnels over IPv6.
 
 use super::rows::{
-    UNLISTED, has_marks, has_row_of, has_rows, has_rows_and_others, kept, parses, unlisted,
+    HasExample, HoldsOthers, UNLISTED, has_marks, has_rows, has_rows_and_others, keeps_other,
 };
 use linkinfo_tunnels::InfoGre6;
+use nla_frame::DefaultNla;
 
 /// Canonical attributes, and their values as `Debug` writes them.
 const ROWS: &[(&[u8], &str)] = &[
@@ -46,25 +47,24 @@ const ADDRESSES: &[(&[u8], &str)] = &[
     ),
 ];
 
+impl HoldsOthers for InfoGre6 {
+    fn from_other(nla: DefaultNla) -> InfoGre6 {
+        InfoGre6::Other(nla)
+    }
+}
+
+impl HasExample for InfoGre6 {
+    fn example() -> InfoGre6 {
+        InfoGre6::FlowLabel(0x0102_0304)
+    }
+}
+
 #[test]
 fn rows_of_gre6(rt: HostRuntime) {
     let alloc = rt.alloc();
-    let other = InfoGre6::Other(unlisted(&rt, alloc));
-    has_rows_and_others(&rt, alloc, ROWS, &UNLISTED, other);
+    has_rows_and_others::<InfoGre6>(&rt, alloc, ROWS, UNLISTED, &[8, 0, 12, 0, 1, 2, 3, 4]);
     has_marks::<InfoGre6>(&rt, alloc, MARKS);
     has_rows::<InfoGre6>(&rt, alloc, ADDRESSES);
-    has_row_of(
-        &rt,
-        alloc,
-        &[8, 0, 12, 0, 1, 2, 3, 4],
-        InfoGre6::FlowLabel(0x0102_0304),
-    );
     // Path MTU Discovery has no row over IPv6.
-    let discovery = [5, 0, 10, 0, 1, 0, 0, 0];
-    parses(
-        &rt,
-        alloc,
-        &discovery,
-        InfoGre6::Other(kept(&rt, alloc, 10, &[1])),
-    );
+    keeps_other::<InfoGre6>(&rt, alloc, &[5, 0, 10, 0, 1, 0, 0, 0], 10, &[1]);
 }

@@ -1,8 +1,9 @@
 //! Rows of GTP tunnels.
 
-use super::rows::{UNLISTED, has_rows, has_rows_and_others, is_list, unlisted};
+use super::rows::{HasExample, HoldsOthers, UNLISTED, has_rows, has_rows_and_others, is_list};
 use linkinfo_numbers::GtpRole;
 use linkinfo_tunnels::InfoGtp;
+use nla_frame::DefaultNla;
 
 /// Canonical attributes, and their values as `Debug` writes them.
 const ROWS: &[(&[u8], &str)] = &[
@@ -25,19 +26,26 @@ const ADDRESSES: &[(&[u8], &str)] = &[
     ),
 ];
 
+impl HoldsOthers for InfoGtp {
+    fn from_other(nla: DefaultNla) -> InfoGtp {
+        InfoGtp::Other(nla)
+    }
+}
+
+impl HasExample for InfoGtp {
+    fn example() -> InfoGtp {
+        InfoGtp::Role(GtpRole::Sgsn)
+    }
+}
+
 #[test]
 fn rows_of_gtp(rt: HostRuntime) {
     let alloc = rt.alloc();
-    let other = InfoGtp::Other(unlisted(&rt, alloc));
-    has_rows_and_others(&rt, alloc, ROWS, &UNLISTED, other);
+    has_rows_and_others::<InfoGtp>(&rt, alloc, ROWS, UNLISTED, &[8, 0, 4, 0, 1, 0, 0, 0]);
     has_rows::<InfoGtp>(&rt, alloc, ADDRESSES);
     let data = [
         5, 0, 5, 0, 1, 0, 0, 0, 8, 0, 4, 0, 1, 0, 0, 0, 8, 0, 3, 0, 0, 4, 0, 0,
     ];
-    let wanted = [
-        InfoGtp::CreateSockets(true),
-        InfoGtp::Role(GtpRole::Sgsn),
-        InfoGtp::PdpHashsize(1024),
-    ];
-    is_list(&rt, alloc, (), &data, wanted);
+    let text = "[CreateSockets(true), Role(Sgsn), PdpHashsize(1024)]";
+    is_list::<InfoGtp>(&rt, alloc, (), &data, text);
 }

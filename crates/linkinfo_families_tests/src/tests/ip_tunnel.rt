@@ -1,37 +1,24 @@
 //! Rows of IP tunnels, and their flags by the kind of the link.
 
 use super::rows::{
-    UNLISTED, assert_is, attribute, error, has_one_length, is_kept, is_mark, is_rejected, is_row,
-    unlisted, value_of,
+    HasExample, HoldsOthers, UNLISTED, assert_is, attribute, error, has_one_length, is_kept,
+    is_mark, is_rejected, is_row, is_text, unlisted, value_of,
 };
-use bitflags::Flags;
-use linkinfo_numbers::{InfoKind, Ip6TunnelFlags, IpProtocol, KindTag};
+use linkinfo_numbers::{InfoKind, KindTag};
+use linkinfo_table::LinkFamily;
 use linkinfo_tunnels::InfoIpTunnel;
-use nla_frame::{Cause, DecodeError, Family, ParseableParametrized};
+use nla_frame::{Cause, DefaultNla, ExactEq, Family, NlaBuffer, ParseableParametrized, is_equal};
 use std::alloc::Global;
+use std::fmt::Debug;
 use std::process::Abort;
 
-fn parsed(
-    rt: &impl Abort,
-    alloc: Global,
-    bytes: &[u8],
-    kind: &InfoKind,
-) -> Result<InfoIpTunnel, DecodeError> {
-    InfoIpTunnel::parse_with_param(alloc, &attribute(rt, bytes), kind)
-}
-
 /// Asserts that the attribute is read as the value in a link of this kind.
-fn is_parsed(rt: &impl Abort, alloc: Global, kind: &InfoKind, bytes: &[u8], value: &InfoIpTunnel) {
-    let read = parsed(rt, alloc, bytes, kind).expect(rt, "a value");
-    assert_is(rt, ("parsed", bytes), read == *value, true);
-}
-
-/// Asserts that the attribute is the canonical one of the value under every kind, and that payloads
-/// of other lengths are rejected.
-fn has_row(rt: &impl Abort, alloc: Global, bytes: &[u8], value: &InfoIpTunnel) {
-    is_parsed(rt, alloc, &InfoKind::Ip6Tnl, bytes, value);
-    is_row(rt, alloc, KindTag::IpIp, bytes, value);
-    has_one_length::<InfoIpTunnel>(rt, alloc, KindTag::Other, bytes);
+fn is_parsed<'a, F>(rt: &impl Abort, alloc: Global, kind: &'a InfoKind, bytes: &'a [u8], value: &F)
+where
+    F: ParseableParametrized<NlaBuffer<'a>, &'a InfoKind> + ExactEq + Drop,
+{
+    let read = F::parse_with_param(alloc, &attribute(rt, bytes), kind).expect(rt, "a value");
+    assert_is(rt, ("parsed", bytes), is_equal(&read, value), true);
 }
 
 /// Canonical attributes, and their values as `Debug` writes them.
@@ -80,94 +67,148 @@ const ADDRESSES: &[(&[u8], &str)] = &[
     (&[8, 0, 12, 0, 10, 0, 0, 1], "Ipv6RdRelayPrefix(10.0.0.1)"),
 ];
 
-/// Asserts that each attribute is the canonical one of the value that `Debug` writes as its text.
-fn has_rows(rt: &impl Abort, alloc: Global, rows: &[(&[u8], &str)]) {
+/// Asserts that each attribute is the canonical one of the value that `Debug` writes as its text
+/// under every kind, this one among them, and that payloads of other lengths are rejected.
+fn has_rows<'a, F>(rt: &impl Abort, alloc: Global, kind: &'a InfoKind, rows: &[(&'a [u8], &str)])
+where
+    F: LinkFamily<Context = KindTag>
+        + ParseableParametrized<NlaBuffer<'a>, &'a InfoKind>
+        + ExactEq
+        + Debug,
+{
     for (bytes, text) in rows {
-        let value = value_of(rt, alloc, KindTag::Vrf, bytes, text);
-        has_row(rt, alloc, bytes, &value);
+        let value: F = value_of(rt, alloc, KindTag::Vrf, bytes, text);
+        is_parsed(rt, alloc, kind, bytes, &value);
+        is_row(rt, alloc, KindTag::IpIp, bytes, &value);
+        has_one_length::<F>(rt, alloc, KindTag::Other, bytes);
     }
 }
 
 #[test]
 fn rows_of_ip_tunnel(rt: HostRuntime) {
     let alloc = rt.alloc();
-    has_rows(&rt, alloc, ROWS);
-    has_rows(&rt, alloc, ADDRESSES);
+    has_rows::<InfoIpTunnel>(&rt, alloc, &InfoKind::Ip6Tnl, ROWS);
+    has_rows::<InfoIpTunnel>(&rt, alloc, &InfoKind::Ip6Tnl, ADDRESSES);
 }
 
-/// Asserts that the value is a presence flag.
-fn has_mark(rt: &impl Abort, alloc: Global, value: InfoIpTunnel) {
-    is_mark(rt, alloc, KindTag::SitTun, &[4, 0, 19, 0], &value);
+impl HoldsOthers for InfoIpTunnel {
+    fn from_other(nla: DefaultNla) -> InfoIpTunnel {
+        InfoIpTunnel::Other(nla)
+    }
 }
 
-/// Asserts that `UNLISTED` is parsed as the value, an opaque attribute.
-fn keeps_unlisted(rt: &impl Abort, alloc: Global, value: InfoIpTunnel) {
-    is_parsed(rt, alloc, &InfoKind::SitTun, &UNLISTED, &value);
-    is_kept(rt, alloc, KindTag::Ip6Tnl, &UNLISTED, &value);
+impl HasExample for InfoIpTunnel {
+    fn example() -> InfoIpTunnel {
+        InfoIpTunnel::CollectMetadata
+    }
+}
+
+/// Asserts that the example is a presence flag.
+fn has_mark<F: HasExample + LinkFamily<Context = KindTag> + ExactEq>(
+    rt: &impl Abort,
+    alloc: Global,
+) {
+    is_mark(rt, alloc, KindTag::SitTun, &[4, 0, 19, 0], &F::example());
+}
+
+/// Asserts that `UNLISTED` is parsed as an opaque attribute in a link of this kind.
+fn keeps_unlisted<'a, F>(
+    rt: &impl Abort,
+    alloc: Global,
+    kind: &'a InfoKind,
+    unlisted_bytes: &'a [u8],
+)
+where
+    F: HoldsOthers
+        + LinkFamily<Context = KindTag>
+        + ParseableParametrized<NlaBuffer<'a>, &'a InfoKind>
+        + ExactEq
+        + Clone,
+{
+    let value = F::from_other(unlisted(rt, alloc));
+    is_parsed(rt, alloc, kind, unlisted_bytes, &value);
+    is_kept(rt, alloc, KindTag::Ip6Tnl, unlisted_bytes, &value);
 }
 
 #[test]
 fn marks_and_other_types_of_ip_tunnel(rt: HostRuntime) {
     let alloc = rt.alloc();
-    has_mark(&rt, alloc, InfoIpTunnel::CollectMetadata);
-    keeps_unlisted(&rt, alloc, InfoIpTunnel::Other(unlisted(&rt, alloc)));
+    has_mark::<InfoIpTunnel>(&rt, alloc);
+    keeps_unlisted::<InfoIpTunnel>(&rt, alloc, &InfoKind::SitTun, UNLISTED);
 }
 
 /// Flags of two bytes.
-const TWO: [u8; 8] = [6, 0, 8, 0, 0, 16, 0, 0];
+const TWO: &[u8] = &[6, 0, 8, 0, 0, 16, 0, 0];
 
 /// Flags of four bytes.
-const FOUR: [u8; 8] = [8, 0, 8, 0, 1, 0, 1, 0];
+const FOUR: &[u8] = &[8, 0, 8, 0, 1, 0, 1, 0];
 
-/// Asserts that the flags are the value in a link of this kind, and that payloads of other lengths
-/// are rejected.
-fn has_flags(rt: &impl Abort, alloc: Global, kind: InfoKind, bytes: &[u8], value: InfoIpTunnel) {
-    is_parsed(rt, alloc, &kind, bytes, &value);
+/// Asserts that the flags are the value that `Debug` writes as this text in a link of this kind,
+/// and that payloads of other lengths are rejected.
+fn has_flags<'a, F>(rt: &impl Abort, alloc: Global, kind: &'a InfoKind, bytes: &'a [u8], text: &str)
+where
+    F: LinkFamily<Context = KindTag>
+        + ParseableParametrized<NlaBuffer<'a>, &'a InfoKind>
+        + ExactEq
+        + Debug,
+{
+    let value: F = value_of(rt, alloc, kind.tag(), bytes, text);
+    is_parsed(rt, alloc, kind, bytes, &value);
     is_row(rt, alloc, kind.tag(), bytes, &value);
-    has_one_length::<InfoIpTunnel>(rt, alloc, kind.tag(), bytes);
+    has_one_length::<F>(rt, alloc, kind.tag(), bytes);
 }
 
 #[test]
 fn flags_by_kind(rt: HostRuntime) {
     let alloc = rt.alloc();
-    let v4 = InfoIpTunnel::Ipv4Flags(16);
-    has_flags(&rt, alloc, InfoKind::IpIp, &TWO, v4);
-    let sit = InfoIpTunnel::Ipv6SitFlags(16);
-    has_flags(&rt, alloc, InfoKind::SitTun, &TWO, sit);
-    let v6 = InfoIpTunnel::Ipv6Flags(Ip6TunnelFlags::from_bits_retain(0x0001_0001));
-    has_flags(&rt, alloc, InfoKind::Ip6Tnl, &FOUR, v6);
+    has_flags::<InfoIpTunnel>(&rt, alloc, &InfoKind::IpIp, TWO, "Ipv4Flags(16)");
+    has_flags::<InfoIpTunnel>(&rt, alloc, &InfoKind::SitTun, TWO, "Ipv6SitFlags(16)");
+    let text = "Ipv6Flags(Ip6TunnelFlags(65537))";
+    has_flags::<InfoIpTunnel>(&rt, alloc, &InfoKind::Ip6Tnl, FOUR, text);
 }
 
 /// Asserts that the flags are rejected in a link of this kind.
-fn refuses_flags(rt: &impl Abort, alloc: Global, kind: InfoKind, bytes: &[u8], cause: Cause) {
+fn refuses_flags<'a, F>(
+    rt: &impl Abort,
+    alloc: Global,
+    kind: &'a InfoKind,
+    bytes: &'a [u8],
+    cause: Cause,
+)
+where
+    F: LinkFamily<Context = KindTag> + ParseableParametrized<NlaBuffer<'a>, &'a InfoKind>,
+{
+    let found = F::parse_with_param(alloc, &attribute(rt, bytes), kind).err();
     let expected = error(Family::IpTunnel, 8, cause);
-    let found = parsed(rt, alloc, bytes, &kind).err();
     assert_is(rt, ("not parsed", bytes), found, Some(expected));
-    is_rejected::<InfoIpTunnel>(rt, alloc, kind.tag(), bytes, cause);
+    is_rejected::<F>(rt, alloc, kind.tag(), bytes, cause);
 }
 
 #[test]
 fn flags_rejected_by_kind(rt: HostRuntime) {
     let alloc = rt.alloc();
-    refuses_flags(&rt, alloc, InfoKind::IpIp, &FOUR, Cause::Length);
-    refuses_flags(&rt, alloc, InfoKind::SitTun, &FOUR, Cause::Length);
-    refuses_flags(&rt, alloc, InfoKind::Ip6Tnl, &TWO, Cause::Length);
-    refuses_flags(&rt, alloc, InfoKind::Vrf, &TWO, Cause::Kind);
-    refuses_flags(&rt, alloc, InfoKind::Vti6, &FOUR, Cause::Kind);
+    refuses_flags::<InfoIpTunnel>(&rt, alloc, &InfoKind::IpIp, FOUR, Cause::Length);
+    refuses_flags::<InfoIpTunnel>(&rt, alloc, &InfoKind::SitTun, FOUR, Cause::Length);
+    refuses_flags::<InfoIpTunnel>(&rt, alloc, &InfoKind::Ip6Tnl, TWO, Cause::Length);
+    refuses_flags::<InfoIpTunnel>(&rt, alloc, &InfoKind::Vrf, TWO, Cause::Kind);
+    refuses_flags::<InfoIpTunnel>(&rt, alloc, &InfoKind::Vti6, FOUR, Cause::Kind);
 }
 
-/// Asserts that the attribute is parsed as the value in a link of this kind.
-fn parses(rt: &impl Abort, alloc: Global, kind: InfoKind, bytes: &[u8], value: InfoIpTunnel) {
-    is_parsed(rt, alloc, &kind, bytes, &value);
+/// Asserts that the attribute is parsed as the value that `Debug` writes as this text in a link of
+/// this kind.
+fn parses<'a, F>(rt: &impl Abort, alloc: Global, kind: &'a InfoKind, bytes: &'a [u8], text: &str)
+where
+    F: ParseableParametrized<NlaBuffer<'a>, &'a InfoKind> + Debug + Drop,
+{
+    let read = F::parse_with_param(alloc, &attribute(rt, bytes), kind).expect(rt, "a value");
+    is_text(rt, alloc, ("parsed", bytes), &read, text);
 }
 
 #[test]
 fn worked_ip_tunnel(rt: HostRuntime) {
     let alloc = rt.alloc();
-    let protocol = InfoIpTunnel::Protocol(IpProtocol::Ipv6);
-    let bytes = [5, 0, 9, 0, 0x29, 0, 0, 0];
-    parses(&rt, alloc, InfoKind::IpIp, &bytes, protocol);
-    let discovery = InfoIpTunnel::PMtuDisc(true);
-    let bytes = [5, 0, 10, 0, 2, 0, 0, 0];
-    parses(&rt, alloc, InfoKind::SitTun, &bytes, discovery);
+    let protocol = &[5, 0, 9, 0, 0x29, 0, 0, 0];
+    parses::<InfoIpTunnel>(&rt, alloc, &InfoKind::IpIp, protocol, "Protocol(Ipv6)");
+    let discovery = &[5, 0, 10, 0, 2, 0, 0, 0];
+    parses::<InfoIpTunnel>(&rt, alloc, &InfoKind::SitTun, discovery, "PMtuDisc(true)");
 }

@@ -1,8 +1,9 @@
 //! Rows of `ipoib` links.
 
-use super::rows::{UNLISTED, has_rows_and_others, is_list, unlisted};
+use super::rows::{HasExample, HoldsOthers, UNLISTED, has_rows_and_others, is_list};
 use linkinfo_devices::InfoIpoib;
 use linkinfo_numbers::IpoibMode;
+use nla_frame::DefaultNla;
 
 /// Canonical attributes, and their values as `Debug` writes them.
 const ROWS: &[(&[u8], &str)] = &[
@@ -13,15 +14,23 @@ const ROWS: &[(&[u8], &str)] = &[
     (&[6, 0, 3, 0, 2, 1, 0, 0], "UmCast(258)"),
 ];
 
+impl HoldsOthers for InfoIpoib {
+    fn from_other(nla: DefaultNla) -> InfoIpoib {
+        InfoIpoib::Other(nla)
+    }
+}
+
+impl HasExample for InfoIpoib {
+    fn example() -> InfoIpoib {
+        InfoIpoib::Mode(IpoibMode::Connected)
+    }
+}
+
 #[test]
 fn rows_of_ipoib(rt: HostRuntime) {
     let alloc = rt.alloc();
-    let other = InfoIpoib::Other(unlisted(&rt, alloc));
-    has_rows_and_others(&rt, alloc, ROWS, &UNLISTED, other);
+    has_rows_and_others::<InfoIpoib>(&rt, alloc, ROWS, UNLISTED, &[6, 0, 2, 0, 1, 0, 0, 0]);
     let bytes = [6, 0, 1, 0, 1, 0x80, 0, 0, 6, 0, 2, 0, 1, 0, 0, 0];
-    let values = [
-        InfoIpoib::Pkey(0x8001),
-        InfoIpoib::Mode(IpoibMode::Connected),
-    ];
-    is_list(&rt, alloc, (), &bytes, values);
+    let text = "[Pkey(32769), Mode(Connected)]";
+    is_list::<InfoIpoib>(&rt, alloc, (), &bytes, text);
 }

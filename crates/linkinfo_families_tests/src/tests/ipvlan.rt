@@ -1,16 +1,19 @@
 //! Rows of `ipvlan` and `ipvtap` links.
 
-use super::rows::{UNLISTED, has_rows, is_list, keeps_unlisted, unlisted};
+use super::rows::{HasExample, HoldsOthers, UNLISTED, has_rows_and_others, is_list};
 use linkinfo_devices::{InfoIpVlan, InfoIpVlanOf, InfoIpVtap};
-use linkinfo_numbers::{IpVlanFlags, IpVlanMode};
+use linkinfo_numbers::IpVlanFlags;
+use linkinfo_table::LinkFamily;
+use nla_frame::{DefaultNla, ExactEq, NlaBuffer, Parseable};
 use std::alloc::Global;
+use std::fmt::Debug;
 use std::process::Abort;
 
 /// A list of the mode L2 and the flag VEPA.
-const VEPA: [u8; 16] = [6, 0, 1, 0, 0, 0, 0, 0, 6, 0, 2, 0, 2, 0, 0, 0];
+const VEPA: &[u8] = &[6, 0, 1, 0, 0, 0, 0, 0, 6, 0, 2, 0, 2, 0, 0, 0];
 
 /// A list of the mode L2 and no flag.
-const NO_FLAG: [u8; 16] = [6, 0, 1, 0, 0, 0, 0, 0, 6, 0, 2, 0, 0, 0, 0, 0];
+const NO_FLAG: &[u8] = &[6, 0, 1, 0, 0, 0, 0, 0, 6, 0, 2, 0, 0, 0, 0, 0];
 
 /// Canonical attributes, and their values as `Debug` writes them. The first flags are `private`
 /// alone, the last are all known flags and another.
@@ -23,33 +26,37 @@ const ROWS: &[(&[u8], &str)] = &[
     (&[6, 0, 2, 0, 3, 0x80, 0, 0], "Flags(IpVlanFlags(32771))"),
 ];
 
-/// Asserts that the list is read as the mode L2 and these flags.
-fn is_list_of_flags<const TAP: bool>(
-    rt: &impl Abort,
-    alloc: Global,
-    list: &[u8],
-    flags: IpVlanFlags,
-) {
-    let mode = InfoIpVlanOf::<TAP>::Mode(IpVlanMode::L2);
-    is_list(rt, alloc, (), list, [mode, InfoIpVlanOf::Flags(flags)]);
+impl<const TAP: bool> HoldsOthers for InfoIpVlanOf<TAP> {
+    fn from_other(nla: DefaultNla) -> InfoIpVlanOf<TAP> {
+        InfoIpVlanOf::Other(nla)
+    }
 }
 
-/// Asserts each row, and that `UNLISTED` is parsed as the value, an opaque attribute.
-fn has_rows_and_others<const TAP: bool>(rt: &impl Abort, alloc: Global, other: InfoIpVlanOf<TAP>) {
-    keeps_unlisted(rt, alloc, (), &UNLISTED, other);
-    has_rows::<InfoIpVlanOf<TAP>>(rt, alloc, ROWS);
-    is_list_of_flags::<TAP>(rt, alloc, &VEPA, IpVlanFlags::Vepa);
-    is_list_of_flags::<TAP>(rt, alloc, &NO_FLAG, IpVlanFlags::default());
+impl<const TAP: bool> HasExample for InfoIpVlanOf<TAP> {
+    fn example() -> InfoIpVlanOf<TAP> {
+        InfoIpVlanOf::Flags(IpVlanFlags::default())
+    }
 }
+
+/// Asserts each row, an opaque attribute, and lists.
+fn has_rows_and_lists<'a, F>(rt: &impl Abort, alloc: Global, unlisted: &'a [u8], example: &'a [u8])
+where
+    F: HasExample + LinkFamily<Context = ()> + Parseable<NlaBuffer<'a>> + ExactEq + Clone + Debug,
+{
+    has_rows_and_others::<F>(rt, alloc, ROWS, unlisted, example);
+    is_list::<F>(rt, alloc, (), VEPA, "[Mode(L2), Flags(IpVlanFlags(2))]");
+    is_list::<F>(rt, alloc, (), NO_FLAG, "[Mode(L2), Flags(IpVlanFlags(0))]");
+}
+
+/// The canonical attribute of no flags.
+const EXAMPLE: &[u8] = &[6, 0, 2, 0, 0, 0, 0, 0];
 
 #[test]
 fn rows_of_ipvlan(rt: HostRuntime) {
-    let alloc = rt.alloc();
-    has_rows_and_others(&rt, alloc, InfoIpVlan::Other(unlisted(&rt, alloc)));
+    has_rows_and_lists::<InfoIpVlan>(&rt, rt.alloc(), UNLISTED, EXAMPLE);
 }
 
 #[test]
 fn rows_of_ipvtap(rt: HostRuntime) {
-    let alloc = rt.alloc();
-    has_rows_and_others(&rt, alloc, InfoIpVtap::Other(unlisted(&rt, alloc)));
+    has_rows_and_lists::<InfoIpVtap>(&rt, rt.alloc(), UNLISTED, EXAMPLE);
 }

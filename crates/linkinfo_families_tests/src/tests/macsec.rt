@@ -1,6 +1,8 @@
 //! Rows of `macsec` links.
 
-use super::rows::{UNLISTED, has_rows_and_others, is_list, parses, unlisted};
+use super::rows::{
+    HasExample, HoldsOthers, UNLISTED, has_rows_and_others, is_list, is_list_of_other, keeps_other,
+};
 use linkinfo_devices::InfoMacSec;
 use linkinfo_numbers::MacSecCipherId;
 use nla_frame::DefaultNla;
@@ -39,17 +41,27 @@ const ROWS: &[(&[u8], &str)] = &[
     (&[5, 0, 15, 0, 9, 0, 0, 0], "Offload(Other(9))"),
 ];
 
+/// The canonical attribute of the cipher suite GCM-AES-128.
+const SUITE: &[u8] = &[12, 0, 4, 0, 1, 0, 0, 1, 0, 0xc2, 0x80, 0];
+
+impl HoldsOthers for InfoMacSec {
+    fn from_other(nla: DefaultNla) -> InfoMacSec {
+        InfoMacSec::Other(nla)
+    }
+}
+
+impl HasExample for InfoMacSec {
+    fn example() -> InfoMacSec {
+        InfoMacSec::CipherSuite(MacSecCipherId::GcmAes128)
+    }
+}
+
 #[test]
 fn rows_of_macsec(rt: HostRuntime) {
     let alloc = rt.alloc();
-    let other = InfoMacSec::Other(unlisted(&rt, alloc));
-    has_rows_and_others(&rt, alloc, ROWS, &UNLISTED, other);
-    let suite = [12, 0, 4, 0, 1, 0, 0, 1, 0, 0xc2, 0x80, 0];
-    let suites = [InfoMacSec::CipherSuite(MacSecCipherId::GcmAes128)];
-    is_list(&rt, alloc, (), &suite, suites);
+    has_rows_and_others::<InfoMacSec>(&rt, alloc, ROWS, UNLISTED, SUITE);
+    is_list::<InfoMacSec>(&rt, alloc, (), SUITE, "[CipherSuite(GcmAes128)]");
     // Type 14 has no row.
-    let kept = InfoMacSec::Other(DefaultNla::new(14, Vec::new(alloc)));
-    parses(&rt, alloc, &[4, 0, 14, 0], kept);
-    let kept = InfoMacSec::Other(DefaultNla::new(14, Vec::new(alloc)));
-    is_list(&rt, alloc, (), &[4, 0, 14, 0], [kept]);
+    keeps_other::<InfoMacSec>(&rt, alloc, &[4, 0, 14, 0], 14, &[]);
+    is_list_of_other::<InfoMacSec>(&rt, alloc, (), &[4, 0, 14, 0], 14, &[]);
 }

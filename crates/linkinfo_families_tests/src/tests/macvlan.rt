@@ -1,13 +1,13 @@
 //! Rows of `macvlan` and `macvtap` links.
 
 use super::rows::{
-    UNLISTED, has_one_length, is_parsed, is_row, keeps_unlisted, unlisted, value_of,
+    HasExample, HoldsOthers, UNLISTED, has_one_length, is_parsed, is_row, keeps_unlisted, value_of,
 };
 use bitflags::Flags;
 use linkinfo_devices::{InfoMacVlan, InfoMacVtap};
 use linkinfo_numbers::MacVlanFlags;
 use linkinfo_table::LinkFamily;
-use nla_frame::{ExactEq, NlaBuffer, Parseable};
+use nla_frame::{DefaultNla, ExactEq, NlaBuffer, Parseable};
 use std::alloc::Global;
 use std::fmt::Debug;
 use std::process::Abort;
@@ -52,12 +52,12 @@ where
 /// The canonical attribute of all flags.
 const EVERY_FLAG: &[u8] = &[6, 0, 2, 0, 3, 0x80, 0, 0];
 
-/// Asserts that the attribute is the canonical one of the value, at any depth.
-fn has_row_everywhere<'a, F>(rt: &impl Abort, alloc: Global, bytes: &'a [u8], value: F)
+/// Asserts that the attribute is the canonical one of the example, at any depth.
+fn has_example_everywhere<'a, F>(rt: &impl Abort, alloc: Global, bytes: &'a [u8])
 where
-    F: LinkFamily<Context = u8> + Parseable<NlaBuffer<'a>> + ExactEq,
+    F: HasExample + LinkFamily<Context = u8> + Parseable<NlaBuffer<'a>> + ExactEq,
 {
-    is_row_everywhere(rt, alloc, bytes, &value);
+    is_row_everywhere(rt, alloc, bytes, &F::example());
 }
 
 /// Canonical attributes, and their values as `Debug` writes them.
@@ -79,19 +79,24 @@ const ROWS_OF_MACVLAN: &[(&[u8], &str)] = &[
     (&[8, 0, 9, 0, 255, 255, 255, 255], "BcCutoff(-1)"),
 ];
 
+impl HoldsOthers for InfoMacVlan {
+    fn from_other(nla: DefaultNla) -> InfoMacVlan {
+        InfoMacVlan::Other(nla)
+    }
+}
+
+impl HasExample for InfoMacVlan {
+    fn example() -> InfoMacVlan {
+        InfoMacVlan::Flags(MacVlanFlags::from_bits_retain(0x8003))
+    }
+}
+
 #[test]
 fn rows_of_macvlan(rt: HostRuntime) {
     let alloc = rt.alloc();
     has_rows_everywhere::<InfoMacVlan>(&rt, alloc, ROWS_OF_MACVLAN);
-    let every = InfoMacVlan::Flags(MacVlanFlags::from_bits_retain(0x8003));
-    has_row_everywhere(&rt, alloc, EVERY_FLAG, every);
-    keeps_unlisted(
-        &rt,
-        alloc,
-        128,
-        &UNLISTED,
-        InfoMacVlan::Other(unlisted(&rt, alloc)),
-    );
+    has_example_everywhere::<InfoMacVlan>(&rt, alloc, EVERY_FLAG);
+    keeps_unlisted::<InfoMacVlan>(&rt, alloc, 128, UNLISTED);
 }
 
 /// Canonical attributes, and their values as `Debug` writes them.
@@ -112,17 +117,22 @@ const ROWS_OF_MACVTAP: &[(&[u8], &str)] = &[
     (&[8, 0, 9, 0, 254, 255, 255, 255], "BcCutoff(-2)"),
 ];
 
+impl HoldsOthers for InfoMacVtap {
+    fn from_other(nla: DefaultNla) -> InfoMacVtap {
+        InfoMacVtap::Other(nla)
+    }
+}
+
+impl HasExample for InfoMacVtap {
+    fn example() -> InfoMacVtap {
+        InfoMacVtap::Flags(MacVlanFlags::from_bits_retain(0x8003))
+    }
+}
+
 #[test]
 fn rows_of_macvtap(rt: HostRuntime) {
     let alloc = rt.alloc();
     has_rows_everywhere::<InfoMacVtap>(&rt, alloc, ROWS_OF_MACVTAP);
-    let every = InfoMacVtap::Flags(MacVlanFlags::from_bits_retain(0x8003));
-    has_row_everywhere(&rt, alloc, EVERY_FLAG, every);
-    keeps_unlisted(
-        &rt,
-        alloc,
-        128,
-        &UNLISTED,
-        InfoMacVtap::Other(unlisted(&rt, alloc)),
-    );
+    has_example_everywhere::<InfoMacVtap>(&rt, alloc, EVERY_FLAG);
+    keeps_unlisted::<InfoMacVtap>(&rt, alloc, 128, UNLISTED);
 }

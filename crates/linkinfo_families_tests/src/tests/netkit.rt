@@ -1,16 +1,13 @@
 //! Rows of `netkit` links.
 
 use super::rows::{
-    UNLISTED, error, has_rows, has_shapes, is_list, is_not_parsed, is_parsed, is_read, is_rejected,
-    keeps_unlisted, unlisted,
+    HasExample, HoldsOthers, UNLISTED, error, has_rows_and_others, has_shapes, is_list,
+    is_not_parsed, is_rejected, reads,
 };
-use linkinfo_numbers::{NetkitPolicy, NetkitScrub};
+use linkinfo_numbers::NetkitPolicy;
 use linkinfo_peers::{BitPeer, InfoNetkit, InfoNetkitOf};
 use linkinfo_table::{LinkPeer, Shape};
-use nla_frame::{Bytes, Cause, Family};
-use std::alloc::Global;
-use std::fmt::Debug;
-use std::process::Abort;
+use nla_frame::{Cause, DefaultNla, Family};
 
 /// Types, and the shapes of their rows.
 const SHAPES: &[(u16, Shape)] = &[
@@ -42,49 +39,46 @@ const ROWS: &[(&[u8], &str)] = &[
     (&[8, 0, 7, 0, 0, 0, 0, 0], "PeerScrub(None)"),
 ];
 
-/// Asserts each row except the peer's, and an opaque attribute of a type without a row, for any
-/// type of peer.
-fn has_rows_beside_peer<P: LinkPeer + Clone + Debug>(rt: &impl Abort, alloc: Global) {
-    has_shapes::<InfoNetkitOf<P>>(rt, (), SHAPES);
-    has_rows::<InfoNetkitOf<P>>(rt, alloc, ROWS);
-    let kept = InfoNetkitOf::<P>::Other(unlisted(rt, alloc));
-    keeps_unlisted(rt, alloc, (), &UNLISTED, kept);
+impl<P: LinkPeer> HoldsOthers for InfoNetkitOf<P> {
+    fn from_other(nla: DefaultNla) -> InfoNetkitOf<P> {
+        InfoNetkitOf::Other(nla)
+    }
+}
+
+impl<P: LinkPeer> HasExample for InfoNetkitOf<P> {
+    fn example() -> InfoNetkitOf<P> {
+        InfoNetkitOf::Policy(NetkitPolicy::Drop)
+    }
 }
 
 #[test]
 fn rows_of_netkit(rt: HostRuntime) {
-    has_rows_beside_peer::<Bytes>(&rt, rt.alloc());
+    has_shapes::<InfoNetkit>(&rt, (), SHAPES);
+    has_rows_and_others::<InfoNetkit>(&rt, rt.alloc(), ROWS, UNLISTED, EXAMPLE);
 }
 
 #[test]
 fn rows_of_netkit_with_peers_of_bits(rt: HostRuntime) {
-    has_rows_beside_peer::<BitPeer>(&rt, rt.alloc());
+    has_shapes::<InfoNetkitOf<BitPeer>>(&rt, (), SHAPES);
+    has_rows_and_others::<InfoNetkitOf<BitPeer>>(&rt, rt.alloc(), ROWS, UNLISTED, EXAMPLE);
 }
 
-/// Asserts that the attribute is parsed and read as the value.
-fn is_parsed_and_read(rt: &impl Abort, alloc: Global, bytes: &[u8], value: InfoNetkit) {
-    is_parsed(rt, alloc, bytes, &value);
-    is_read(rt, alloc, (), bytes, &value);
-}
+/// The canonical attribute of the example.
+const EXAMPLE: &[u8] = &[8, 0, 3, 0, 2, 0, 0, 0];
+
+/// A headroom of four bytes.
+const WIDE: &[u8] = &[8, 0, 8, 0, 5, 0, 0, 0];
 
 #[test]
 fn worked_netkit(rt: HostRuntime) {
     let alloc = rt.alloc();
-    let three = [5, 0, 2, 0, 3, 0, 0, 0];
-    is_parsed_and_read(&rt, alloc, &three, InfoNetkit::Primary(true));
-    let redirect = InfoNetkit::Policy(NetkitPolicy::Redirect);
-    is_parsed_and_read(&rt, alloc, &[8, 0, 3, 0, 7, 0, 0, 0], redirect);
+    reads::<InfoNetkit>(&rt, alloc, &[5, 0, 2, 0, 3, 0, 0, 0], "Primary(true)");
+    reads::<InfoNetkit>(&rt, alloc, &[8, 0, 3, 0, 7, 0, 0, 0], "Policy(Redirect)");
     // Every number but 0 is the default.
-    let scrub = InfoNetkit::Scrub(NetkitScrub::Default);
-    is_parsed_and_read(&rt, alloc, &[8, 0, 6, 0, 5, 0, 0, 0], scrub);
+    reads::<InfoNetkit>(&rt, alloc, &[8, 0, 6, 0, 5, 0, 0, 0], "Scrub(Default)");
     let list = [8, 0, 6, 0, 1, 0, 0, 0, 6, 0, 8, 0, 5, 0, 0, 0];
-    let values = [
-        InfoNetkit::Scrub(NetkitScrub::Default),
-        InfoNetkit::Headroom(5),
-    ];
-    is_list(&rt, alloc, (), &list, values);
-    let wide = [8, 0, 8, 0, 5, 0, 0, 0];
-    is_rejected::<InfoNetkit>(&rt, alloc, (), &wide, Cause::Length);
+    is_list::<InfoNetkit>(&rt, alloc, (), &list, "[Scrub(Default), Headroom(5)]");
+    is_rejected::<InfoNetkit>(&rt, alloc, (), WIDE, Cause::Length);
     let expected = error(Family::Netkit, 8, Cause::Length);
-    is_not_parsed::<InfoNetkit>(&rt, alloc, &wide, expected);
+    is_not_parsed::<InfoNetkit>(&rt, alloc, WIDE, expected);
 }

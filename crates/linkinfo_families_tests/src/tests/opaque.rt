@@ -1,9 +1,9 @@
 //! Families without rows keep every attribute verbatim.
 
 use super::rows::{
-    UNLISTED, are_same, assert_is, attribute, compare, compare_lists, error, first_checked,
-    has_shapes, is_emitted, is_list, is_parsed, is_read, keeps_unlisted, kept, list_checked,
-    list_error, unlisted,
+    HEADER, HoldsOthers, UNLISTED, are_same, assert_is, attribute, checks_first, checks_list,
+    compare, compare_lists, has_shapes, is_emitted, is_list_of, is_parsed, is_read, keeps_unlisted,
+    kept, refuses_list,
 };
 use linkinfo_devices::laws as device_laws;
 use linkinfo_lower::{
@@ -13,29 +13,24 @@ use linkinfo_lower::{
 use linkinfo_peers::{InfoPfcp, InfoTeamPort, InfoTun, InfoWireguard, laws as peer_laws};
 use linkinfo_table::{LinkFamily, Opaque, laws};
 use linkinfo_tunnels::laws as tunnel_laws;
-use nla_frame::{Bytes, Cause, DefaultNla, ExactEq, Family, NlaBuffer, Parseable};
+use nla_frame::{Bytes, DefaultNla, ExactEq, Family, NlaBuffer, Parseable};
 use std::alloc::Global;
 use std::process::Abort;
 
 /// An attribute of type 1 with four bytes.
-const PLAIN: [u8; 8] = [8, 0, 1, 0, 1, 2, 3, 4];
+const PLAIN: &[u8] = &[8, 0, 1, 0, 1, 2, 3, 4];
 
 /// `PLAIN` with both flag bits in its type.
-const MARKED: [u8; 8] = [8, 0, 1, 0xc0, 1, 2, 3, 4];
+const MARKED: &[u8] = &[8, 0, 1, 0xc0, 1, 2, 3, 4];
 
 /// An empty attribute of the highest type without flag bits.
-const EMPTY: [u8; 4] = [4, 0, 0xff, 0x3f];
+const EMPTY: &[u8] = &[4, 0, 0xff, 0x3f];
 
 /// `PLAIN`, and an attribute of type 2 with one byte, a flag bit in its type, and padding.
-const LIST: [u8; 16] = [8, 0, 1, 0, 1, 2, 3, 4, 5, 0, 2, 0x80, 7, 0, 0, 0];
+const LIST: &[u8] = &[8, 0, 1, 0, 1, 2, 3, 4, 5, 0, 2, 0x80, 7, 0, 0, 0];
 
 /// `PLAIN`, and one stray byte.
-const STRAY: [u8; 9] = [8, 0, 1, 0, 1, 2, 3, 4, 0];
-
-/// A family without rows.
-trait HoldsOthers: Sized + Drop {
-    fn from_other(nla: DefaultNla) -> Self;
-}
+const STRAY: &[u8] = &[8, 0, 1, 0, 1, 2, 3, 4, 0];
 
 impl<const NUMBER: u8> HoldsOthers for Opaque<NUMBER> {
     fn from_other(nla: DefaultNla) -> Opaque<NUMBER> {
@@ -81,13 +76,13 @@ where
 /// padding does not.
 const PAIRS: &[(&[u8], &[u8], bool)] = &[
     (&[5, 0, 2, 0x80, 7, 0, 0, 0], &[5, 0, 2, 0x80, 7], true),
-    (&PLAIN, &MARKED, false),
-    (&PLAIN, &[8, 0, 1, 0, 1, 2, 3, 5], false),
+    (PLAIN, MARKED, false),
+    (PLAIN, &[8, 0, 1, 0, 1, 2, 3, 5], false),
 ];
 
 /// `LIST`, and `LIST` without the padding of its last attribute.
 const PAIRS_OF_LISTS: &[(&[u8], &[u8], Option<usize>)] = &[(
-    &LIST,
+    LIST,
     &[8, 0, 1, 0, 1, 2, 3, 4, 5, 0, 2, 0x80, 7],
     Some(4),
 )];
@@ -95,22 +90,9 @@ const PAIRS_OF_LISTS: &[(&[u8], &[u8], Option<usize>)] = &[(
 /// Asserts that a list with a stray byte is rejected as `(Frame, 0, Header)`, and that its first
 /// attribute alone is accepted.
 fn refuses_stray_bytes<F: LinkFamily<Context = ()>>(rt: &impl Abort, alloc: Global) {
-    let expected = error(Family::Frame, 0, Cause::Header);
-    assert_is(
-        rt,
-        "list_check, first_check",
-        [
-            list_checked::<F>(rt, (), &STRAY),
-            first_checked::<F>(rt, (), &STRAY),
-        ],
-        [(Err(expected), 1), (Ok(()), 1)],
-    );
-    assert_is(
-        rt,
-        "list_read",
-        list_error::<F>(rt, alloc, (), &STRAY),
-        (Some(expected), 1),
-    );
+    checks_list::<F>(rt, (), STRAY, (Err(HEADER), 1));
+    checks_first::<F>(rt, (), STRAY, (Ok(()), 1));
+    refuses_list::<F>(rt, alloc, (), STRAY, (HEADER, 1));
 }
 
 /// Asserts that lists of the family are read and emitted.
@@ -120,7 +102,7 @@ fn has_lists<const NUMBER: u8>(rt: &impl Abort, alloc: Global) {
         Opaque::<NUMBER>::Other(first),
         Opaque::Other(last(rt, alloc)),
     ];
-    is_list(rt, alloc, (), &LIST, values);
+    is_list_of(rt, alloc, (), LIST, values.as_slice());
 }
 
 /// Asserts that `MARKED` is kept verbatim as the value.
@@ -145,11 +127,10 @@ where
 {
     keeps_marked(rt, alloc, marked_bytes, value);
     has_shapes::<F>(rt, (), &[]);
-    keeps::<F>(rt, alloc, &PLAIN, plain(rt, alloc));
-    keeps::<F>(rt, alloc, &MARKED, marked(rt, alloc));
-    keeps::<F>(rt, alloc, &EMPTY, DefaultNla::new(0x3fff, Vec::new(alloc)));
-    let other = F::from_other(unlisted(rt, alloc));
-    keeps_unlisted(rt, alloc, (), unlisted_bytes, other);
+    keeps::<F>(rt, alloc, PLAIN, plain(rt, alloc));
+    keeps::<F>(rt, alloc, MARKED, marked(rt, alloc));
+    keeps::<F>(rt, alloc, EMPTY, DefaultNla::new(0x3fff, Vec::new(alloc)));
+    keeps_unlisted::<F>(rt, alloc, (), unlisted_bytes);
     compare::<F>(rt, (), PAIRS);
     compare_lists::<F>(rt, (), PAIRS_OF_LISTS);
     refuses_stray_bytes::<F>(rt, alloc);
@@ -170,7 +151,7 @@ fn keeps_every_attribute<const NUMBER: u8>(
         <Opaque<NUMBER> as LinkFamily>::FAMILY,
         family,
     );
-    keeps_each(rt, alloc, (&MARKED, &UNLISTED), value);
+    keeps_each(rt, alloc, (MARKED, UNLISTED), value);
     has_lists::<NUMBER>(rt, alloc);
 }
 

@@ -1,16 +1,17 @@
 //! Both types of peer in each call of the families with a peer.
 
 use super::rows::{
-    UNLISTED, are_same, assert_is, compare, compare_lists, error, first_checked,
-    first_is_written_as, firsts_same, has_shapes, is_emitted, is_first, is_list_of, is_not_parsed,
-    is_parsed, is_read, is_rejected, keeps_unlisted, list_checked, list_is_written_as,
-    same_with_flags, unlisted,
+    HoldsOthers, UNLISTED, assert_is, checks_first, checks_list, compare, compare_lists, error,
+    first_is_written_as, firsts_same, has_canonical, has_shapes, is_first, is_list_of,
+    is_not_parsed, is_rejected, keeps_unlisted, list_is_written_as,
 };
 use linkinfo_peers::{
     BitPeer, InfoNetkit, InfoNetkitOf, InfoVeth, InfoVethOf, InfoVxcan, InfoVxcanOf,
 };
-use linkinfo_table::{LinkFamily, Shape};
-use nla_frame::{Bytes, Cause, DecodeError, ExactEq, Family, Nla, NlaBuffer, Parseable, is_equal};
+use linkinfo_table::{LinkFamily, LinkPeer, Shape};
+use nla_frame::{
+    Bytes, Cause, DecodeError, DefaultNla, ExactEq, Family, Nla, NlaBuffer, Parseable, is_equal,
+};
 use std::alloc::Global;
 use std::process::Abort;
 
@@ -60,28 +61,6 @@ fn two_bytes(rt: &impl Abort, alloc: Global) -> Bytes {
     Bytes::copy_of(alloc, &[0xaa, 0xbb]).expect(rt, "memory")
 }
 
-/// Asserts that the attribute contains this peer, whose canonical attribute is the other one.
-fn has_peer<'a, F>(rt: &impl Abort, alloc: Global, bytes: &'a [u8], value: &F, canonical: &[u8])
-where
-    F: LinkFamily<Context = ()> + Parseable<NlaBuffer<'a>> + ExactEq + Clone,
-{
-    is_parsed(rt, alloc, bytes, value);
-    is_read(rt, alloc, (), bytes, value);
-    let marked = same_with_flags::<F>(rt, (), bytes);
-    let same = are_same::<F>(rt, (), bytes, canonical);
-    assert_is(
-        rt,
-        ("flag bits, same, a clone", bytes),
-        (
-            marked,
-            same,
-            is_equal(&value.clone().expect(rt, "memory"), value),
-        ),
-        (true, true, true),
-    );
-    is_emitted(rt, value, canonical);
-}
-
 /// Asserts that the family reads peers as bytes: the values are those of the byte strings `EMPTY`
 /// and `TWO`.
 fn has_peers_of_bytes<'a, F>(
@@ -94,8 +73,8 @@ where
     F: LinkFamily<Context = ()> + Parseable<NlaBuffer<'a>> + ExactEq + Clone,
 {
     let [empty, two] = &values;
-    has_peer(rt, alloc, empty_bytes, empty, EMPTY);
-    has_peer(rt, alloc, two_bytes, two, TWO);
+    has_canonical(rt, alloc, empty_bytes, empty, EMPTY);
+    has_canonical(rt, alloc, two_bytes, two, TWO);
     has_first(rt, alloc, two);
     assert_is(rt, "peers equal", is_equal(empty, two), false);
     compares_bytes::<F>(rt);
@@ -133,9 +112,9 @@ where
 {
     assert_is(rt, "family", <F as LinkFamily>::FAMILY, family);
     let [set, clear] = &values;
-    has_peer(rt, alloc, seven, set, ONE);
-    has_peer(rt, alloc, nine, set, ONE);
-    has_peer(rt, alloc, zero, clear, ZERO);
+    has_canonical(rt, alloc, seven, set, ONE);
+    has_canonical(rt, alloc, nine, set, ONE);
+    has_canonical(rt, alloc, zero, clear, ZERO);
     assert_is(rt, "peers equal", is_equal(set, clear), false);
     is_not_parsed::<F>(rt, alloc, two, rejected(family));
     // The peer, and not the family, rejects a payload of another length.
@@ -178,15 +157,8 @@ where
 /// rejected.
 fn refuses_two_bytes<F: LinkFamily<Context = ()>>(rt: &impl Abort) {
     let expected = rejected(F::FAMILY);
-    assert_is(
-        rt,
-        "first_check, list_check",
-        [
-            first_checked::<F>(rt, (), TAIL),
-            list_checked::<F>(rt, (), TAIL),
-        ],
-        [(Err(expected), 1), (Err(expected), 1)],
-    );
+    checks_first::<F>(rt, (), TAIL, (Err(expected), 1));
+    checks_list::<F>(rt, (), TAIL, (Err(expected), 1));
 }
 
 #[test]
@@ -247,17 +219,25 @@ fn netkit_with_peers_of_bits(rt: HostRuntime) {
     has_peers_of_bits(&rt, alloc, Family::Netkit, (SEVEN, NINE, ZERO, TWO), values);
 }
 
+impl<P: LinkPeer> HoldsOthers for InfoVethOf<P> {
+    fn from_other(nla: DefaultNla) -> InfoVethOf<P> {
+        InfoVethOf::Other(nla)
+    }
+}
+
+impl<P: LinkPeer> HoldsOthers for InfoVxcanOf<P> {
+    fn from_other(nla: DefaultNla) -> InfoVxcanOf<P> {
+        InfoVxcanOf::Other(nla)
+    }
+}
+
 #[test]
 fn types_without_a_row(rt: HostRuntime) {
     let alloc = rt.alloc();
-    let veth = InfoVeth::Other(unlisted(&rt, alloc));
-    keeps_unlisted(&rt, alloc, (), &UNLISTED, veth);
-    let veth = InfoVethOf::<BitPeer>::Other(unlisted(&rt, alloc));
-    keeps_unlisted(&rt, alloc, (), &UNLISTED, veth);
-    let vxcan = InfoVxcan::Other(unlisted(&rt, alloc));
-    keeps_unlisted(&rt, alloc, (), &UNLISTED, vxcan);
-    let vxcan = InfoVxcanOf::<BitPeer>::Other(unlisted(&rt, alloc));
-    keeps_unlisted(&rt, alloc, (), &UNLISTED, vxcan);
+    keeps_unlisted::<InfoVeth>(&rt, alloc, (), UNLISTED);
+    keeps_unlisted::<InfoVethOf<BitPeer>>(&rt, alloc, (), UNLISTED);
+    keeps_unlisted::<InfoVxcan>(&rt, alloc, (), UNLISTED);
+    keeps_unlisted::<InfoVxcanOf<BitPeer>>(&rt, alloc, (), UNLISTED);
 }
 
 /// Asserts that the value has this length, if it fits.

@@ -1,17 +1,10 @@
 //! Rows of `rmnet` links.
 
-use super::rows::{UNLISTED, has_row_of, has_rows, is_list, is_rejected, keeps_unlisted, unlisted};
+use super::rows::{HasExample, HoldsOthers, UNLISTED, has_rows_and_others, is_list, is_rejected};
 use bitflags::Flags;
 use linkinfo_devices::InfoRmNet;
 use linkinfo_numbers::{InfoRmNetFlags, RmNetFlags};
-use nla_frame::Cause;
-
-fn flags_under(flags: u32, mask: u32) -> InfoRmNet {
-    InfoRmNet::Flags(InfoRmNetFlags::new(
-        RmNetFlags::from_bits_retain(flags),
-        RmNetFlags::from_bits_retain(mask),
-    ))
-}
+use nla_frame::{Cause, DefaultNla};
 
 /// The canonical attribute of the flag of ingress deaggregation, under the mask 255.
 const DEAGGREGATION: &[u8] = &[12, 0, 2, 0, 1, 0, 0, 0, 255, 0, 0, 0];
@@ -29,24 +22,27 @@ const ROWS: &[(&[u8], &str)] = &[
     ),
 ];
 
+impl HoldsOthers for InfoRmNet {
+    fn from_other(nla: DefaultNla) -> InfoRmNet {
+        InfoRmNet::Other(nla)
+    }
+}
+
+impl HasExample for InfoRmNet {
+    fn example() -> InfoRmNet {
+        InfoRmNet::Flags(InfoRmNetFlags::new(
+            RmNetFlags::IngressDeaggregation,
+            RmNetFlags::from_bits_retain(255),
+        ))
+    }
+}
+
 #[test]
 fn rows_of_rmnet(rt: HostRuntime) {
     let alloc = rt.alloc();
-    let flags = InfoRmNetFlags {
-        flags: RmNetFlags::IngressDeaggregation,
-        mask: RmNetFlags::from_bits_retain(255),
-    };
-    has_rows::<InfoRmNet>(&rt, alloc, ROWS);
-    let masked = flags_under(0x0102_0304, 0x0506_0708);
-    has_row_of(&rt, alloc, &[12, 0, 2, 0, 4, 3, 2, 1, 8, 7, 6, 5], masked);
-    is_list(&rt, alloc, (), DEAGGREGATION, [InfoRmNet::Flags(flags)]);
+    has_rows_and_others::<InfoRmNet>(&rt, alloc, ROWS, UNLISTED, DEAGGREGATION);
+    let text = "[Flags(InfoRmNetFlags { flags: RmNetFlags(1), mask: RmNetFlags(255) })]";
+    is_list::<InfoRmNet>(&rt, alloc, (), DEAGGREGATION, text);
     let longer = [13, 0, 2, 0, 1, 0, 0, 0, 255, 0, 0, 0, 0];
     is_rejected::<InfoRmNet>(&rt, alloc, (), &longer, Cause::Length);
-    keeps_unlisted(
-        &rt,
-        alloc,
-        (),
-        &UNLISTED,
-        InfoRmNet::Other(unlisted(&rt, alloc)),
-    );
 }

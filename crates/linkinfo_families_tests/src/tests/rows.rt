@@ -29,7 +29,7 @@ pub(super) fn assert_is<T: PartialEq + Debug + Drop>(
 }
 
 /// An attribute with one byte, of a type that no family here defines, flag bits included.
-pub(super) const UNLISTED: [u8; 8] = [5, 0, 0xff, 0x80, 1, 0, 0, 0];
+pub(super) const UNLISTED: &[u8] = &[5, 0, 0xff, 0x80, 1, 0, 0, 0];
 
 /// An opaque attribute of a type and a payload.
 pub(super) fn kept(rt: &impl Abort, alloc: Global, kind: u16, payload: &[u8]) -> DefaultNla {
@@ -40,6 +40,29 @@ pub(super) fn kept(rt: &impl Abort, alloc: Global, kind: u16, payload: &[u8]) ->
 pub(super) fn unlisted(rt: &impl Abort, alloc: Global) -> DefaultNla {
     kept(rt, alloc, 0x80ff, &[1])
 }
+
+/// A family that keeps opaque attributes. Values are made by calls of the family, and not in the
+/// tests: the borrow checker's proof has an arm for each variant of a value that a function passes.
+pub(super) trait HoldsOthers: Sized + Drop {
+    /// The value of an opaque attribute.
+    fn from_other(nla: DefaultNla) -> Self;
+}
+
+/// A family with rows.
+pub(super) trait HasExample: HoldsOthers {
+    /// A value of a row.
+    fn example() -> Self;
+}
+
+/// The error of a header, and of stray bytes.
+pub(super) const HEADER: DecodeError = DecodeError {
+    family: Family::Frame,
+    kind: 0,
+    cause: Cause::Header,
+};
+
+/// The result of a check, and the headers examined.
+pub(super) type Checked = (Result<(), DecodeError>, usize);
 
 /// The first attribute of the bytes.
 pub(super) fn attribute<'a>(rt: &impl Abort, bytes: &'a [u8]) -> NlaBuffer<'a> {
@@ -112,17 +135,6 @@ pub(super) fn is_read<F: LinkFamily + ExactEq>(
         (is_equal(&read, value), checked::<F>(rt, ctx, bytes)),
         (true, (None, 0)),
     );
-}
-
-/// Asserts that the attribute is read as the value, with no header examined inside.
-pub(super) fn reads<F: LinkFamily + ExactEq>(
-    rt: &impl Abort,
-    alloc: Global,
-    ctx: F::Context,
-    bytes: &[u8],
-    value: F,
-) {
-    is_read(rt, alloc, ctx, bytes, &value);
 }
 
 /// The error of reading the attribute, if any, and the headers examined inside it.
@@ -328,6 +340,29 @@ pub(super) fn is_mark<F: LinkFamily + ExactEq>(
     is_written_as::<F>(rt, ctx, &longer, bytes);
 }
 
+/// Asserts that the attribute is read as the value, whose canonical attribute is the other one.
+pub(super) fn has_canonical<'a, F>(
+    rt: &impl Abort,
+    alloc: Global,
+    bytes: &'a [u8],
+    value: &F,
+    canonical: &[u8],
+)
+where
+    F: LinkFamily<Context = ()> + Parseable<NlaBuffer<'a>> + ExactEq + Clone,
+{
+    is_parsed(rt, alloc, bytes, value);
+    is_read(rt, alloc, (), bytes, value);
+    let found = [
+        same_with_flags::<F>(rt, (), bytes),
+        are_same::<F>(rt, (), bytes, canonical),
+        are_same::<F>(rt, (), canonical, bytes),
+        is_equal(&value.clone().expect(rt, "memory"), value),
+    ];
+    assert_is(rt, ("flag bits, same, a clone", bytes), found, [true; 4]);
+    is_emitted(rt, value, canonical);
+}
+
 /// Asserts that the attribute `UNLISTED` is the value, an opaque attribute whose flag bits matter,
 /// and that a clone is equal.
 pub(super) fn is_kept<F: LinkFamily + ExactEq + Clone>(
@@ -381,17 +416,20 @@ pub(super) fn value_of<F: LinkFamily + Debug>(
 ) -> F {
     let nla = attribute(rt, bytes);
     let value = F::read(alloc, &nla, ctx, &mut HeaderCount::new()).expect(rt, "a value");
-    let found = format!(in alloc; "{value:?}").expect(rt, "memory");
-    assert_is(rt, ("value of", bytes), found.as_str(), text);
+    is_text(rt, alloc, bytes, &value, text);
     value
 }
 
-/// Asserts that the attribute is the canonical one of the value.
-pub(super) fn has_row_of<'a, F>(rt: &impl Abort, alloc: Global, bytes: &'a [u8], value: F)
-where
-    F: LinkFamily<Context = ()> + Parseable<NlaBuffer<'a>> + ExactEq,
-{
-    has_row(rt, alloc, bytes, &value);
+/// Asserts that `Debug` writes the value of this case as this text.
+pub(super) fn is_text<T: Debug>(
+    rt: &impl Abort,
+    alloc: Global,
+    case: impl Debug + Drop,
+    value: &T,
+    text: &str,
+) {
+    let found = format!(in alloc; "{value:?}").expect(rt, "memory");
+    assert_is(rt, case, found.as_str(), text);
 }
 
 /// Asserts that each attribute is the canonical one of the value that `Debug` writes as its text.
@@ -418,57 +456,79 @@ where
     }
 }
 
-/// Asserts that the attribute `UNLISTED` is parsed as the value, an opaque attribute.
+/// Asserts that the attribute `UNLISTED` is parsed as an opaque attribute.
 pub(super) fn keeps_unlisted<'a, F>(
     rt: &impl Abort,
     alloc: Global,
     ctx: F::Context,
-    unlisted: &'a [u8],
-    value: F,
+    unlisted_bytes: &'a [u8],
 )
 where
-    F: LinkFamily + Parseable<NlaBuffer<'a>> + ExactEq + Clone,
+    F: HoldsOthers + LinkFamily + Parseable<NlaBuffer<'a>> + ExactEq + Clone,
 {
-    is_parsed(rt, alloc, unlisted, &value);
-    is_kept(rt, alloc, ctx, unlisted, &value);
+    let value = F::from_other(unlisted(rt, alloc));
+    is_parsed(rt, alloc, unlisted_bytes, &value);
+    is_kept(rt, alloc, ctx, unlisted_bytes, &value);
 }
 
 /// Asserts that each attribute is the canonical one of the value that `Debug` writes as its text,
-/// and that the attribute `UNLISTED` is parsed as the last value, an opaque attribute.
+/// that the attribute `UNLISTED` is parsed as an opaque attribute, and that the last attribute is
+/// the canonical one of the example.
 pub(super) fn has_rows_and_others<'a, F>(
     rt: &impl Abort,
     alloc: Global,
     rows: &[(&'a [u8], &str)],
-    unlisted: &'a [u8],
-    other: F,
+    unlisted_bytes: &'a [u8],
+    example: &'a [u8],
 )
 where
-    F: LinkFamily<Context = ()> + Parseable<NlaBuffer<'a>> + ExactEq + Clone + Debug,
+    F: HasExample + LinkFamily<Context = ()> + Parseable<NlaBuffer<'a>> + ExactEq + Clone + Debug,
 {
     has_rows::<F>(rt, alloc, rows);
-    keeps_unlisted(rt, alloc, (), unlisted, other);
+    keeps_unlisted::<F>(rt, alloc, (), unlisted_bytes);
+    has_row(rt, alloc, example, &F::example());
 }
 
-/// Asserts that the attribute is parsed as the value.
-pub(super) fn parses<'a, F: Parseable<NlaBuffer<'a>> + ExactEq + Drop>(
+/// Asserts that the attribute is parsed as an opaque attribute of this type and payload.
+pub(super) fn keeps_other<'a, F>(
     rt: &impl Abort,
     alloc: Global,
     bytes: &'a [u8],
-    value: F,
-) {
+    kind: u16,
+    payload: &[u8],
+)
+where
+    F: HoldsOthers + Parseable<NlaBuffer<'a>> + ExactEq,
+{
+    let value = F::from_other(kept(rt, alloc, kind, payload));
     is_parsed(rt, alloc, bytes, &value);
 }
 
-/// Asserts that the attribute is parsed as the value, which is emitted as the canonical one.
-pub(super) fn is_rewritten<'a, F: Parseable<NlaBuffer<'a>> + Nla + ExactEq + Drop>(
+/// Asserts that the attribute is parsed as the value that `Debug` writes as this text, which is
+/// emitted as the canonical attribute.
+pub(super) fn is_rewritten<'a, F>(
     rt: &impl Abort,
     alloc: Global,
     bytes: &'a [u8],
-    value: F,
+    text: &str,
     canonical: &[u8],
-) {
-    is_parsed(rt, alloc, bytes, &value);
+)
+where
+    F: Parseable<NlaBuffer<'a>> + Nla + Debug + Drop,
+{
+    let value = F::parse(alloc, &attribute(rt, bytes)).expect(rt, "a value");
+    is_text(rt, alloc, bytes, &value, text);
     is_emitted(rt, &value, canonical);
+}
+
+/// Asserts that the attribute is parsed and read as the value that `Debug` writes as this text.
+pub(super) fn reads<'a, F>(rt: &impl Abort, alloc: Global, bytes: &'a [u8], text: &str)
+where
+    F: LinkFamily<Context = ()> + Parseable<NlaBuffer<'a>> + ExactEq + Debug,
+{
+    let value: F = value_of(rt, alloc, (), bytes, text);
+    is_parsed(rt, alloc, bytes, &value);
+    is_read(rt, alloc, (), bytes, &value);
 }
 
 /// Asserts that `parse` rejects the attribute with this error.
@@ -482,38 +542,47 @@ pub(super) fn is_not_parsed<'a, F: Parseable<NlaBuffer<'a>> + Drop>(
     assert_is(rt, ("not parsed", bytes), read.err(), Some(expected));
 }
 
-/// The result of `list_check`, and the headers examined.
-pub(super) fn list_checked<F: LinkFamily>(
+/// Asserts the result of `list_check`, and the headers examined.
+pub(super) fn checks_list<F: LinkFamily>(
     rt: &impl Abort,
     ctx: F::Context,
     bytes: &[u8],
-) -> (Result<(), DecodeError>, usize) {
+    wanted: Checked,
+) {
     let mut count = HeaderCount::new();
     let checked = list_check::<F>(bytes, ctx, &mut count);
-    (checked, count.get())
+    assert_is(rt, ("list_check", bytes), (checked, count.get()), wanted);
 }
 
-/// The error of `list_read`, if any, and the headers examined.
-pub(super) fn list_error<F: LinkFamily>(
+/// Asserts that `list_read` returns this error, with this number of headers examined.
+pub(super) fn refuses_list<F: LinkFamily>(
     rt: &impl Abort,
     alloc: Global,
     ctx: F::Context,
     bytes: &[u8],
-) -> (Option<DecodeError>, usize) {
+    wanted: (DecodeError, usize),
+) {
+    let (expected, headers) = wanted;
     let mut count = HeaderCount::new();
     let read: Result<Vec<F>, DecodeError> = list_read(alloc, bytes, ctx, &mut count);
-    (read.err(), count.get())
+    assert_is(
+        rt,
+        ("list_read", bytes),
+        (read.err(), count.get()),
+        (Some(expected), headers),
+    );
 }
 
-/// The result of `first_check`, and the headers examined.
-pub(super) fn first_checked<F: LinkFamily>(
+/// Asserts the result of `first_check`, and the headers examined.
+pub(super) fn checks_first<F: LinkFamily>(
     rt: &impl Abort,
     ctx: F::Context,
     bytes: &[u8],
-) -> (Result<(), DecodeError>, usize) {
+    wanted: Checked,
+) {
     let mut count = HeaderCount::new();
     let checked = first_check::<F>(bytes, ctx, &mut count);
-    (checked, count.get())
+    assert_is(rt, ("first_check", bytes), (checked, count.get()), wanted);
 }
 
 /// Asserts that the list is accepted.
@@ -605,18 +674,25 @@ pub(super) fn first_is_written_as<F: LinkFamily>(
     begins_with(rt, &buffer, canonical);
 }
 
-/// Whether two accepted lists are equivalent, and the headers examined.
-fn lists_same<F: LinkFamily>(
+/// Asserts that two accepted lists are equivalent, with this number of headers examined, or are
+/// not.
+pub(super) fn compare_two_lists<F: LinkFamily>(
     rt: &impl Abort,
     ctx: F::Context,
     a: &[u8],
     b: &[u8],
-) -> (bool, usize) {
+    wanted: Option<usize>,
+) {
     is_accepted::<F>(rt, ctx, a);
     is_accepted::<F>(rt, ctx, b);
     let mut count = HeaderCount::new();
     let same = list_same::<F>(a, b, ctx, &mut count);
-    (same, count.get())
+    assert_is(
+        rt,
+        ("lists, headers", a, b),
+        same.then_some(count.get()),
+        wanted,
+    );
 }
 
 /// Asserts of each pair of accepted lists that they are equivalent, with this number of headers
@@ -627,13 +703,7 @@ pub(super) fn compare_lists<F: LinkFamily>(
     pairs: &[(&[u8], &[u8], Option<usize>)],
 ) {
     for (a, b, wanted) in pairs {
-        let (same, headers) = lists_same::<F>(rt, ctx, a, b);
-        assert_is(
-            rt,
-            ("lists, headers", a, b),
-            same.then_some(headers),
-            *wanted,
-        );
+        compare_two_lists::<F>(rt, ctx, a, b, *wanted);
     }
 }
 
@@ -689,13 +759,32 @@ pub(super) fn is_list_of<F: LinkFamily + ExactEq>(
     list_is_emitted(rt, alloc, values, bytes);
 }
 
-/// Asserts that the list is read as the values, which are emitted as the list.
-pub(super) fn is_list<F: LinkFamily + ExactEq, const N: usize>(
+/// Asserts that the list is read as the values that `Debug` writes as this text, which are emitted
+/// as the list.
+pub(super) fn is_list<F: LinkFamily + ExactEq + Debug>(
     rt: &impl Abort,
     alloc: Global,
     ctx: F::Context,
     bytes: &[u8],
-    values: [F; N],
+    text: &str,
 ) {
+    let values = list_read::<F>(alloc, bytes, ctx, &mut HeaderCount::new()).expect(rt, "a list");
+    is_text(rt, alloc, bytes, &values.as_slice(), text);
+    is_list_of(rt, alloc, ctx, bytes, values.as_slice());
+}
+
+/// Asserts that the list is read as one opaque attribute of this type and payload, which is emitted
+/// as the list.
+pub(super) fn is_list_of_other<F: HoldsOthers + LinkFamily + ExactEq>(
+    rt: &impl Abort,
+    alloc: Global,
+    ctx: F::Context,
+    bytes: &[u8],
+    kind: u16,
+    payload: &[u8],
+) {
+    let mut values = Vec::new(alloc);
+    let value = F::from_other(kept(rt, alloc, kind, payload));
+    values.push(value).expect(rt, "memory");
     is_list_of(rt, alloc, ctx, bytes, values.as_slice());
 }

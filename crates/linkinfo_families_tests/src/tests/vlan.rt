@@ -1,13 +1,18 @@
 //! A custom family: lists of it read, checked, compared and written.
 
 use super::rows::{
-    UNLISTED, compare_lists, has_shapes, is_kept, is_list, is_rejected, is_row, unlisted, value_of,
+    HasExample, HoldsOthers, UNLISTED, compare_lists, has_shapes, is_kept, is_list, is_rejected,
+    is_row, unlisted, value_of,
 };
 use crate::InfoVlanRow;
-use linkinfo_table::{Shape, laws};
-use nla_frame::Cause;
+use linkinfo_table::{LinkFamily, Shape, laws};
+use nla_frame::{Cause, DefaultNla, ExactEq};
 use std::alloc::Global;
+use std::fmt::Debug;
 use std::process::Abort;
+
+/// Types, and the shapes of their rows.
+const SHAPES: &[(u16, Shape)] = &[(1, Shape::Le16), (2, Shape::FlagPair), (5, Shape::Be16)];
 
 /// Canonical attributes, and their values as `Debug` writes them.
 const ROWS: &[(&[u8], &str)] = &[
@@ -20,44 +25,54 @@ const ROWS: &[(&[u8], &str)] = &[
 ];
 
 /// VLAN ID 7 with the protocol 802.1Q.
-const LIST: [u8; 16] = [6, 0, 1, 0, 7, 0, 0, 0, 6, 0, 5, 0, 0x81, 0, 0, 0];
+const LIST: &[u8] = &[6, 0, 1, 0, 7, 0, 0, 0, 6, 0, 5, 0, 0x81, 0, 0, 0];
 
 /// `LIST`, and lists that are equivalent or not: flag bits of known types and padding do not
 /// matter.
 const PAIRS: &[(&[u8], &[u8], Option<usize>)] = &[
     (
-        &LIST,
+        LIST,
         &[6, 0, 1, 0x80, 7, 0, 9, 9, 6, 0, 5, 0, 0x81, 0],
         Some(4),
     ),
-    (&LIST, &[6, 0, 1, 0, 7, 0, 0, 0], None),
+    (LIST, &[6, 0, 1, 0, 7, 0, 0, 0], None),
 ];
 
-/// Asserts that each attribute of `ROWS` is the canonical one of the value that `Debug` writes as
-/// its text.
-fn has_rows(rt: &impl Abort, alloc: Global) {
-    for (bytes, text) in ROWS {
-        let value: InfoVlanRow = value_of(rt, alloc, (), bytes, text);
-        is_row(rt, alloc, (), bytes, &value);
+impl HoldsOthers for InfoVlanRow {
+    fn from_other(nla: DefaultNla) -> InfoVlanRow {
+        InfoVlanRow::Other(nla)
     }
 }
+
+impl HasExample for InfoVlanRow {
+    fn example() -> InfoVlanRow {
+        InfoVlanRow::Id(0x0107)
+    }
+}
+
+/// Asserts each row, the example, which is the value of the first, and an opaque attribute.
+fn has_rows_and_others<F>(rt: &impl Abort, alloc: Global)
+where
+    F: HasExample + LinkFamily<Context = ()> + ExactEq + Clone + Debug,
+{
+    for (bytes, text) in ROWS {
+        let value: F = value_of(rt, alloc, (), bytes, text);
+        is_row(rt, alloc, (), bytes, &value);
+    }
+    is_row(rt, alloc, (), EXAMPLE, &F::example());
+    is_kept(rt, alloc, (), UNLISTED, &F::from_other(unlisted(rt, alloc)));
+}
+
+/// The canonical attribute of the example.
+const EXAMPLE: &[u8] = &[6, 0, 1, 0, 7, 1, 0, 0];
 
 #[test]
 fn custom_family(rt: HostRuntime) {
     let alloc = rt.alloc();
     laws::lawful::<InfoVlanRow>();
-    let shapes = [(1, Shape::Le16), (2, Shape::FlagPair), (5, Shape::Be16)];
-    has_shapes::<InfoVlanRow>(&rt, (), &shapes);
-    has_rows(&rt, alloc);
-    let other = InfoVlanRow::Other(unlisted(&rt, alloc));
-    is_kept(&rt, alloc, (), &UNLISTED, &other);
-    is_list(
-        &rt,
-        alloc,
-        (),
-        &LIST,
-        [InfoVlanRow::Id(7), InfoVlanRow::Protocol(0x8100)],
-    );
+    has_shapes::<InfoVlanRow>(&rt, (), SHAPES);
+    has_rows_and_others::<InfoVlanRow>(&rt, alloc);
+    is_list::<InfoVlanRow>(&rt, alloc, (), LIST, "[Id(7), Protocol(33024)]");
     compare_lists::<InfoVlanRow>(&rt, (), PAIRS);
     is_rejected::<InfoVlanRow>(&rt, alloc, (), &[5, 0, 1, 0, 7], Cause::Length);
 }

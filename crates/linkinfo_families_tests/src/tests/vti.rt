@@ -1,7 +1,8 @@
 //! Rows of VTI tunnels.
 
-use super::rows::{UNLISTED, has_row_of, has_rows, has_rows_and_others, unlisted};
+use super::rows::{HasExample, HoldsOthers, UNLISTED, has_rows, has_rows_and_others};
 use linkinfo_tunnels::InfoVti;
+use nla_frame::DefaultNla;
 use std::net::{IpAddr, Ipv6Addr};
 
 /// Canonical attributes, and their values as `Debug` writes them.
@@ -37,12 +38,21 @@ const LOCAL: &[u8] = &[
     20, 0, 4, 0, 0xfe, 0x80, 0, 0, 0, 0, 0, 0, 0, 0, 0, 0, 0, 0, 0, 2,
 ];
 
+impl HoldsOthers for InfoVti {
+    fn from_other(nla: DefaultNla) -> InfoVti {
+        InfoVti::Other(nla)
+    }
+}
+
+impl HasExample for InfoVti {
+    fn example() -> InfoVti {
+        InfoVti::Local(IpAddr::V6(Ipv6Addr::new(0xfe80, 0, 0, 0, 0, 0, 0, 2)))
+    }
+}
+
 #[test]
 fn rows_of_vti(rt: HostRuntime) {
     let alloc = rt.alloc();
-    let other = InfoVti::Other(unlisted(&rt, alloc));
-    has_rows_and_others(&rt, alloc, ROWS, &UNLISTED, other);
+    has_rows_and_others::<InfoVti>(&rt, alloc, ROWS, UNLISTED, LOCAL);
     has_rows::<InfoVti>(&rt, alloc, ADDRESSES);
-    let local = InfoVti::Local(IpAddr::V6(Ipv6Addr::new(0xfe80, 0, 0, 0, 0, 0, 0, 2)));
-    has_row_of(&rt, alloc, LOCAL, local);
 }

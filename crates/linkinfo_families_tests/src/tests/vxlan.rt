@@ -1,12 +1,14 @@
 //! Rows of VXLAN tunnels.
 
 use super::rows::{
-    UNLISTED, has_marks, has_rows, has_rows_and_others, is_parsed, is_rejected, is_rewritten,
-    is_row, unlisted,
+    HasExample, HoldsOthers, UNLISTED, has_marks, has_rows, has_rows_and_others, is_parsed,
+    is_rejected, is_rewritten, is_row, value_of,
 };
+use linkinfo_table::LinkFamily;
 use linkinfo_tunnels::InfoVxlan;
-use nla_frame::Cause;
+use nla_frame::{Cause, DefaultNla, ExactEq, NlaBuffer, Parseable};
 use std::alloc::Global;
+use std::fmt::Debug;
 use std::process::Abort;
 
 /// Canonical attributes, and their values as `Debug` writes them.
@@ -71,38 +73,70 @@ const ADDRESSES: &[(&[u8], &str)] = &[
     ),
 ];
 
+impl HoldsOthers for InfoVxlan {
+    fn from_other(nla: DefaultNla) -> InfoVxlan {
+        InfoVxlan::Other(nla)
+    }
+}
+
+impl HasExample for InfoVxlan {
+    fn example() -> InfoVxlan {
+        InfoVxlan::Port(4789)
+    }
+}
+
 #[test]
 fn rows_of_vxlan(rt: HostRuntime) {
     let alloc = rt.alloc();
-    let other = InfoVxlan::Other(unlisted(&rt, alloc));
-    has_rows_and_others(&rt, alloc, ROWS, &UNLISTED, other);
+    has_rows_and_others::<InfoVxlan>(&rt, alloc, ROWS, UNLISTED, &[6, 0, 15, 0, 0x12, 0xb5, 0, 0]);
     has_marks::<InfoVxlan>(&rt, alloc, MARKS);
     has_rows::<InfoVxlan>(&rt, alloc, ADDRESSES);
 }
 
-/// Asserts that the attribute is the canonical one of the value, and is parsed as it.
-fn is_parsed_row(rt: &impl Abort, alloc: Global, bytes: &[u8], value: InfoVxlan) {
-    is_parsed(rt, alloc, bytes, &value);
-    is_row(rt, alloc, (), bytes, &value);
+/// Canonical attributes of the one type with a payload that may be empty or one byte, and their
+/// values as `Debug` writes them.
+const INHERIT: &[(&[u8], &str)] = &[
+    (&[5, 0, 28, 0, 0, 0, 0, 0], "TtlInherit(0)"),
+    (&[4, 0, 28, 0], "TtlInheritFlag"),
+];
+
+/// Attributes, their values as `Debug` writes them, and the canonical attributes of these.
+const REWRITTEN: &[(&[u8], &str, &[u8])] = &[
+    // Every nonzero byte is true, and is written as 1.
+    (
+        &[5, 0, 7, 0, 2, 0, 0, 0],
+        "Learning(true)",
+        &[5, 0, 7, 0, 1, 0, 0, 0],
+    ),
+    (
+        &[5, 0, 25, 0, 7, 0, 0, 0],
+        "CollectMetadata(true)",
+        &[5, 0, 25, 0, 1, 0, 0, 0],
+    ),
+    // A presence flag is set whatever its payload, and is written without one.
+    (&[5, 0, 23, 0, 7, 0, 0, 0], "Gbp", &[4, 0, 23, 0]),
+];
+
+/// Asserts that each attribute is the canonical one of the value that `Debug` writes as its text,
+/// and is parsed as it. Other lengths may be accepted.
+fn has_parsed_rows<'a, F>(rt: &impl Abort, alloc: Global, rows: &[(&'a [u8], &str)])
+where
+    F: LinkFamily<Context = ()> + Parseable<NlaBuffer<'a>> + ExactEq + Debug,
+{
+    for (bytes, text) in rows {
+        let value: F = value_of(rt, alloc, (), bytes, text);
+        is_parsed(rt, alloc, bytes, &value);
+        is_row(rt, alloc, (), bytes, &value);
+    }
 }
 
 #[test]
 fn worked_vxlan(rt: HostRuntime) {
     let alloc = rt.alloc();
-    // The only type with a payload that may be empty or one byte.
-    let zero = [5, 0, 28, 0, 0, 0, 0, 0];
-    is_parsed_row(&rt, alloc, &zero, InfoVxlan::TtlInherit(0));
-    is_parsed_row(&rt, alloc, &[4, 0, 28, 0], InfoVxlan::TtlInheritFlag);
+    has_parsed_rows::<InfoVxlan>(&rt, alloc, INHERIT);
     let long = [6, 0, 28, 0, 0, 0, 0, 0];
     is_rejected::<InfoVxlan>(&rt, alloc, (), &long, Cause::Length);
-    // Every nonzero byte is true, and is written as 1.
-    let two = [5, 0, 7, 0, 2, 0, 0, 0];
-    let learning = InfoVxlan::Learning(true);
-    is_rewritten(&rt, alloc, &two, learning, &[5, 0, 7, 0, 1, 0, 0, 0]);
-    let seven = [5, 0, 25, 0, 7, 0, 0, 0];
-    let collect = InfoVxlan::CollectMetadata(true);
-    is_rewritten(&rt, alloc, &seven, collect, &[5, 0, 25, 0, 1, 0, 0, 0]);
-    // A presence flag is set whatever its payload, and is written without one.
-    let seven = [5, 0, 23, 0, 7, 0, 0, 0];
-    is_rewritten(&rt, alloc, &seven, InfoVxlan::Gbp, &[4, 0, 23, 0]);
+    for (bytes, text, canonical) in REWRITTEN {
+        is_rewritten::<InfoVxlan>(&rt, alloc, bytes, text, canonical);
+    }
 }

@@ -1,13 +1,13 @@
 //! Rows of `xfrm` and `vrf` links, and lists and first attributes of a family.
 
 use super::rows::{
-    UNLISTED, assert_is, compare_lists, error, first_checked, firsts_same, has_row_of,
-    has_rows_and_others, has_shapes, is_first, is_list, is_not_parsed, list_checked, list_error,
-    reads, unlisted,
+    HEADER, HasExample, HoldsOthers, UNLISTED, assert_is, checks_first, checks_list, compare_lists,
+    error, firsts_same, has_rows_and_others, has_shapes, is_first, is_list, is_not_parsed, is_read,
+    refuses_list, unlisted,
 };
 use linkinfo_devices::{InfoVrf, InfoXfrm};
-use linkinfo_table::{Shape, laws};
-use nla_frame::{Cause, Family};
+use linkinfo_table::{LinkFamily, Shape, laws};
+use nla_frame::{Cause, DefaultNla, ExactEq, Family};
 use std::alloc::Global;
 use std::process::Abort;
 
@@ -20,25 +20,55 @@ const ROWS_OF_XFRM: &[(&[u8], &str)] = &[
 /// Canonical attributes, and their values as `Debug` writes them.
 const ROWS_OF_VRF: &[(&[u8], &str)] = &[(&[8, 0, 1, 0, 4, 3, 2, 1], "TableId(16909060)")];
 
+impl HoldsOthers for InfoXfrm {
+    fn from_other(nla: DefaultNla) -> InfoXfrm {
+        InfoXfrm::Other(nla)
+    }
+}
+
+impl HasExample for InfoXfrm {
+    fn example() -> InfoXfrm {
+        InfoXfrm::IfId(0x0102_0304)
+    }
+}
+
 /// `UNLISTED` without its padding.
 const BARE: &[u8] = &[5, 0, 0xff, 0x80, 1];
+
+/// Asserts that the bytes are read as `UNLISTED`.
+fn keeps_bare<F>(rt: &impl Abort, alloc: Global, bytes: &[u8])
+where
+    F: HoldsOthers + LinkFamily<Context = ()> + ExactEq,
+{
+    is_read(rt, alloc, (), bytes, &F::from_other(unlisted(rt, alloc)));
+}
 
 #[test]
 fn rows_of_xfrm(rt: HostRuntime) {
     let alloc = rt.alloc();
     has_shapes::<InfoXfrm>(&rt, (), &[(1, Shape::Le32), (2, Shape::Le32)]);
-    let other = InfoXfrm::Other(unlisted(&rt, alloc));
-    has_rows_and_others(&rt, alloc, ROWS_OF_XFRM, &UNLISTED, other);
-    let data = [8, 0, 1, 0, 2, 0, 0, 0, 8, 0, 2, 0, 10, 0, 0, 0];
-    is_list(
+    has_rows_and_others::<InfoXfrm>(
         &rt,
         alloc,
-        (),
-        &data,
-        [InfoXfrm::Link(2), InfoXfrm::IfId(10)],
+        ROWS_OF_XFRM,
+        UNLISTED,
+        &[8, 0, 2, 0, 4, 3, 2, 1],
     );
-    let kept = InfoXfrm::Other(unlisted(&rt, alloc));
-    reads(&rt, alloc, (), BARE, kept);
+    let data = [8, 0, 1, 0, 2, 0, 0, 0, 8, 0, 2, 0, 10, 0, 0, 0];
+    is_list::<InfoXfrm>(&rt, alloc, (), &data, "[Link(2), IfId(10)]");
+    keeps_bare::<InfoXfrm>(&rt, alloc, BARE);
+}
+
+impl HoldsOthers for InfoVrf {
+    fn from_other(nla: DefaultNla) -> InfoVrf {
+        InfoVrf::Other(nla)
+    }
+}
+
+impl HasExample for InfoVrf {
+    fn example() -> InfoVrf {
+        InfoVrf::TableId(0x0102_0304)
+    }
 }
 
 #[test]
@@ -46,14 +76,7 @@ fn rows_of_vrf(rt: HostRuntime) {
     let alloc = rt.alloc();
     laws::lawful::<InfoVrf>();
     has_shapes::<InfoVrf>(&rt, (), &[(1, Shape::Le32)]);
-    let other = InfoVrf::Other(unlisted(&rt, alloc));
-    has_rows_and_others(&rt, alloc, ROWS_OF_VRF, &UNLISTED, other);
-    has_row_of(
-        &rt,
-        alloc,
-        &[8, 0, 1, 0, 4, 3, 2, 1],
-        InfoVrf::TableId(0x0102_0304),
-    );
+    has_rows_and_others::<InfoVrf>(&rt, alloc, ROWS_OF_VRF, UNLISTED, &[8, 0, 1, 0, 4, 3, 2, 1]);
 }
 
 /// Asserts that a number of this type is not parsed from an attribute of this length.
@@ -79,30 +102,18 @@ fn other_lengths(rt: HostRuntime) {
     }
 }
 
+/// A table ID of one byte, and a stray byte.
+const LATE: &[u8] = &[5, 0, 1, 0, 7, 0, 0, 0, 1];
+
 #[test]
 fn lists_are_checked(rt: HostRuntime) {
-    let header = error(Family::Frame, 0, Cause::Header);
-    let length = error(Family::Vrf, 1, Cause::Length);
+    // A stray byte, and no bytes.
+    checks_list::<InfoXfrm>(&rt, (), &[4, 0, 9, 0, 0], (Err(HEADER), 1));
+    checks_list::<InfoXfrm>(&rt, (), &[], (Ok(()), 0));
     // The first error in byte order: a length before a stray byte.
-    let late = [5, 0, 1, 0, 7, 0, 0, 0, 1];
-    assert_is(
-        &rt,
-        "a stray byte, no bytes",
-        [
-            list_checked::<InfoXfrm>(&rt, (), &[4, 0, 9, 0, 0]),
-            list_checked::<InfoXfrm>(&rt, (), &[]),
-        ],
-        [(Err(header), 1), (Ok(()), 0)],
-    );
-    assert_is(
-        &rt,
-        "list_check, list_read",
-        (
-            list_checked::<InfoVrf>(&rt, (), &late),
-            list_error::<InfoVrf>(&rt, rt.alloc(), (), &late),
-        ),
-        ((Err(length), 1), (Some(length), 1)),
-    );
+    let length = error(Family::Vrf, 1, Cause::Length);
+    checks_list::<InfoVrf>(&rt, (), LATE, (Err(length), 1));
+    refuses_list::<InfoVrf>(&rt, rt.alloc(), (), LATE, (length, 1));
 }
 
 /// An attribute of type 1.
@@ -125,24 +136,21 @@ fn lists_are_compared(rt: HostRuntime) {
     compare_lists::<InfoXfrm>(&rt, (), PAIRS);
 }
 
+/// The table ID 7, and two stray bytes.
+const TABLE: &[u8] = &[8, 0, 1, 0, 7, 0, 0, 0, 9, 9];
+
+/// The table ID 7, with a flag bit in its type.
+const MARKED: &[u8] = &[8, 0, 1, 0x40, 7, 0, 0, 0];
+
 #[test]
 fn first_attributes_are_read_alone(rt: HostRuntime) {
-    let header = error(Family::Frame, 0, Cause::Header);
-    let one = [8, 0, 1, 0x40, 7, 0, 0, 0];
-    let two = [8, 0, 1, 0, 7, 0, 0, 0, 9, 9];
-    is_first(&rt, rt.alloc(), (), &two, &InfoVrf::TableId(7));
-    assert_is(
-        &rt,
-        "a stray byte, no bytes, a length below the header's",
-        [
-            first_checked::<InfoVrf>(&rt, (), &two),
-            first_checked::<InfoVrf>(&rt, (), &[]),
-            first_checked::<InfoVrf>(&rt, (), &[3, 0, 1, 0]),
-        ],
-        [(Ok(()), 1), (Err(header), 0), (Err(header), 1)],
-    );
-    let same = firsts_same::<InfoVrf>(&rt, (), &one, &two);
+    is_first(&rt, rt.alloc(), (), TABLE, &InfoVrf::TableId(7));
+    // A stray byte, no bytes, and a length below that of a header.
+    checks_first::<InfoVrf>(&rt, (), TABLE, (Ok(()), 1));
+    checks_first::<InfoVrf>(&rt, (), &[], (Err(HEADER), 0));
+    checks_first::<InfoVrf>(&rt, (), &[3, 0, 1, 0], (Err(HEADER), 1));
+    let same = firsts_same::<InfoVrf>(&rt, (), MARKED, TABLE);
     assert_is(&rt, "first_same", same, (true, 2));
-    laws::reading_back::<InfoVrf>(&one, ());
-    laws::first_framed::<InfoVrf>(&two, ());
+    laws::reading_back::<InfoVrf>(MARKED, ());
+    laws::first_framed::<InfoVrf>(TABLE, ());
 }
