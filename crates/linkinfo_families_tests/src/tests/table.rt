@@ -91,8 +91,8 @@ fn are_equal(a: &Encodable<'_>, b: &Encodable<'_>) -> (bool, bool) {
     (*a == *b, *a != *b)
 }
 
-/// Asserts that parts of a type with a row compare by shape and datum, and that `Custom` is equal to
-/// itself alone.
+/// Asserts that parts of a type with a row compare by shape and datum, and that `Custom` is equal
+/// to itself alone.
 fn parts_compare(rt: &impl Abort, bytes: &[u8], same: &[u8]) {
     let part = Encodable::Typed(1, Shape::Raw, Datum::Bytes(bytes));
     let of_other_shape = Encodable::Typed(1, Shape::Name, Datum::Bytes(same));
