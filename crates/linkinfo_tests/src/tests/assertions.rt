@@ -135,9 +135,20 @@ pub fn bytes_of(rt: &impl Abort, alloc: Global, text: &str) -> Vec<u8> {
     bytes
 }
 
+/// The first field of a row of a table in text, and the fields after it. Each is a line.
+pub fn first_field<'a>(rt: &impl Abort, row: &'a str) -> (&'a str, &'a str) {
+    assert!(rt; row.contains('\n'), "a further field after {row}");
+    row.split_once('\n').expect(rt, "a further field")
+}
+
 /// A list of attributes of a family.
 pub fn nlas<T: Drop, const N: usize>(rt: &impl Abort, alloc: Global, items: [T; N]) -> Nlas<T> {
     Nlas::new(Vec::from_array(alloc, items).expect(rt, "memory"))
+}
+
+/// The number of bytes that the value is written as, if it fits.
+pub fn len_of<T: Nla + Drop>(value: T) -> Option<usize> {
+    value.fit_len()
 }
 
 /// A copy of the bytes.

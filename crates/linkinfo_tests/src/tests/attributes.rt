@@ -1,7 +1,8 @@
 //! Values written as attributes.
 
 use super::assertions::{
-    assert_attribute, assert_equal, assert_holds, bytes_of, copied, default_nla, nlas, repeated,
+    assert_attribute, assert_equal, assert_holds, bytes_of, copied, default_nla, len_of, nlas,
+    repeated,
 };
 use linkinfo::families::BitPeer;
 use linkinfo::{
@@ -42,11 +43,6 @@ fn data_is_written(rt: HostRuntime) {
     // Data without a family.
     let other = InfoData::Other(copied(&rt, alloc, &[7]));
     assert_clones(&rt, alloc, other, "05000200 07000000");
-}
-
-/// The number of bytes that the value is written as, if it fits.
-fn len_of<T: Nla + Drop>(value: T) -> Option<usize> {
-    value.fit_len()
 }
 
 /// The number of bytes that data of this many bytes is written as, if it fits.

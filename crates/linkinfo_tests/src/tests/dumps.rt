@@ -8,8 +8,11 @@ use linkinfo::{check, same};
 use std::alloc::Global;
 use std::process::Abort;
 
-/// The names of the links, and the contents of `IFLA_LINKINFO`.
-const DUMPS: &[(&str, &[u8])] = &[
+/// The name of a link, and the contents of `IFLA_LINKINFO`.
+pub type Reply = (&'static str, &'static [u8]);
+
+/// The names of links, and the contents of `IFLA_LINKINFO`.
+const BRIDGES: &[Reply] = &[
     (
         "br0",
         b"\x0b\0\x01\0bridge\0\0\x8c\x01\x02\0\x0c\0\x10\0\0\0\0\0\0\0\0\0\x0c\0\x11\0\0\0\0\0\0\0\
@@ -42,6 +45,10 @@ const DUMPS: &[(&str, &[u8])] = &[
           \0\x05\0%\0\0\0\0\0\x05\0&\0\0\0\0\0",
     ),
     ("ifb0", b"\x08\0\x01\0ifb\0"),
+];
+
+/// Macvlan and macvtap links, as in `BRIDGES`.
+const MACVLANS: &[Reply] = &[
     (
         "mvl-br",
         b"\x0c\0\x01\0macvlan\x004\0\x02\0\x08\0\x01\0\x04\0\0\0\x06\0\x02\0\0\0\0\0\x08\0\x06\0\0\
@@ -106,6 +113,10 @@ const DUMPS: &[(&str, &[u8])] = &[
         b"\x0c\0\x01\0macvtap\0,\0\x02\0\x08\0\x01\0\x02\0\0\0\x06\0\x02\0\0\0\0\0\x08\0\x06\0\0\0\
           \0\0\x08\0\x07\0\xe8\x03\0\0\x08\0\x08\0\xe8\x03\0\0",
     ),
+];
+
+/// Tun, tap and veth links, as in `BRIDGES`.
+const TUNS: &[Reply] = &[
     (
         "tap-mq",
         b"\x08\0\x01\0tun\0<\0\x02\0\x05\0\x03\0\x02\0\0\0\x05\0\x04\0\x01\0\0\0\x05\0\x05\0\0\0\0\
@@ -174,6 +185,10 @@ const DUMPS: &[(&str, &[u8])] = &[
           \0\0\0",
     ),
     ("ve10", b"\x09\0\x01\0veth\0\0\0\0"),
+];
+
+/// Vxlan links, as in `BRIDGES`.
+const VXLANS: &[Reply] = &[
     (
         "vx-ext",
         b"\x0a\0\x01\0vxlan\0\0\0\xc8\0\x02\0\x08\0\x01\0\0\0\0\0\x05\0\x05\0\0\0\0\0\x05\0\x1c\0\0\
@@ -277,12 +292,16 @@ const DUMPS: &[(&str, &[u8])] = &[
     ),
 ];
 
-/// The names of the links, and the contents of `IFLA_LINKINFO`.
+/// The replies of all tables.
 ///
-/// A function that names a long constant takes time to check, for each byte. So this one alone
-/// names it.
-pub fn dumps() -> &'static [(&'static str, &'static [u8])] {
-    DUMPS
+/// A function that names a table takes time to prove, with the square of its rows. So this one
+/// alone names the tables.
+pub fn dumps(rt: &impl Abort, alloc: Global) -> Vec<Reply> {
+    let mut replies = Vec::new(alloc);
+    for table in [BRIDGES, MACVLANS, TUNS, VXLANS] {
+        replies.extend_from_slice(table).expect(rt, "memory");
+    }
+    replies
 }
 
 /// Asserts that the bytes are accepted, and that the list that they parse as is written as them.
@@ -296,7 +315,8 @@ fn assert_canonical(rt: &impl Abort, alloc: Global, name: &str, bytes: &[u8]) {
 
 #[test]
 fn dumps_are_canonical(rt: HostRuntime) {
-    for (name, bytes) in dumps() {
-        assert_canonical(&rt, rt.alloc(), name, bytes);
+    let alloc = rt.alloc();
+    for (name, bytes) in &dumps(&rt, alloc) {
+        assert_canonical(&rt, alloc, name, bytes);
     }
 }

@@ -2,7 +2,8 @@
 
 use super::answers::{is_emitted, is_refused, reads};
 use crate::tests::assertions::{
-    DATA_ORDER, HEADER_ERROR, NAME_ERROR, PORT_DATA_ORDER, XSTATS_ORDER, assert_equal, assert_holds,
+    DATA_ORDER, HEADER_ERROR, NAME_ERROR, PORT_DATA_ORDER, XSTATS_ORDER, assert_equal,
+    assert_holds, assert_parsed,
 };
 use linkinfo::{
     CanonError, DecodeError, HeaderCount, InfoKind, InfoPortKind, LinkInfo, Nla, VecLinkInfo,
@@ -136,7 +137,7 @@ fn canonical_encoding_of_nothing(rt: HostRuntime) {
 fn known_names(rt: HostRuntime) {
     let alloc = rt.alloc();
     let kind = InfoKind::from_text(alloc, "xfrm");
-    assert_holds(&rt, &"xfrm", matches!(kind, Ok(InfoKind::Xfrm)));
+    assert_parsed(&rt, &"xfrm", kind, InfoKind::Xfrm);
     let kind = InfoPortKind::from_text(alloc, "vrf");
-    assert_holds(&rt, &"vrf", matches!(kind, Ok(InfoPortKind::Vrf)));
+    assert_parsed(&rt, &"vrf", kind, InfoPortKind::Vrf);
 }
