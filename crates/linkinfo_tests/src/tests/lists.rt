@@ -6,6 +6,7 @@ use super::assertions::{
 use super::worked::{EMPTY_NAME, LATER_KIND, OTHER_PORT, PORT_DATA, VETH, XFRM, XSTATS};
 use linkinfo::{InfoData, InfoKind, InfoXfrm, LinkInfo, Nla, Nlas, VecLinkInfo, nlas_fit_len};
 use std::alloc::Global;
+use std::fmt::Debug;
 use std::process::Abort;
 use std::vec;
 
@@ -27,10 +28,16 @@ fn emits_what_is_not_well_formed(rt: HostRuntime) {
     assert_reads(&rt, alloc, text, own, text);
 }
 
+/// Asserts that a clone of the value is equal to it.
+///
+/// Its type is a parameter, so that what a list must have is not shown here.
+fn assert_cloned<T: Clone + PartialEq + Drop>(rt: &impl Abort, case: &str, value: T) {
+    assert_holds(rt, &case, value.clone().expect(rt, "memory") == value);
+}
+
 /// Asserts that a clone of the list that the bytes of the text parse as is equal to it.
 fn assert_clones(rt: &impl Abort, alloc: Global, text: &str) {
-    let list = parsed(rt, alloc, &bytes_of(rt, alloc, text));
-    assert_holds(rt, &text, list.clone().expect(rt, "memory") == list);
+    assert_cloned(rt, text, parsed(rt, alloc, &bytes_of(rt, alloc, text)));
 }
 
 /// An encoding of each sort of attribute.
@@ -45,9 +52,9 @@ fn clones_are_equal(rt: HostRuntime) {
     }
 }
 
-/// Asserts that `Debug` writes the list as this text.
-fn assert_displays(rt: &impl Abort, alloc: Global, list: VecLinkInfo, wanted: &str) {
-    let text = format!(in alloc; "{list:?}").expect(rt, "memory");
+/// Asserts that `Debug` writes the value as this text.
+fn assert_displays<T: Debug + Drop>(rt: &impl Abort, alloc: Global, value: T, wanted: &str) {
+    let text = format!(in alloc; "{value:?}").expect(rt, "memory");
     assert_equal(rt, &"as text", &text.as_str(), &wanted);
 }
 
