@@ -41,8 +41,8 @@ pub(super) fn unlisted(rt: &impl Abort, alloc: Global) -> DefaultNla {
     kept(rt, alloc, 0x80ff, &[1])
 }
 
-/// A family that keeps opaque attributes. Values are made by calls of the family, and not in the
-/// tests: the borrow checker's proof has an arm for each variant of a value that a function passes.
+/// A family that keeps opaque attributes. The helpers make such a value by this call, and no test
+/// passes one to them.
 pub(super) trait HoldsOthers: Sized + Drop {
     /// The value of an opaque attribute.
     fn from_other(nla: DefaultNla) -> Self;

@@ -294,7 +294,7 @@ const VXLANS: &[Reply] = &[
 
 /// The replies of all tables.
 ///
-/// A function that names a table takes time to prove, with the square of its rows. So this one
+/// A function that names a table takes time to check, with the square of its rows. So this one
 /// alone names the tables.
 pub fn dumps(rt: &impl Abort, alloc: Global) -> Vec<Reply> {
     let mut replies = Vec::new(alloc);

@@ -241,6 +241,17 @@ fn group_name<'a>(payload: &[u8], name: &'a str, other: &'a str) -> &'a str {
     if is_multicast(payload) { name } else { other }
 }
 
+/// Puts an address: by the first name where it is a multicast address, and by the second if not.
+fn put_group(
+    names: (&str, &str),
+    datum: &Datum<'_>,
+    payload: &[u8],
+    map: &mut Map<String, Value>,
+) -> Result<(), AllocError> {
+    let name = group_name(payload, names.0, names.1);
+    put(map, name, plain_json(datum)?)
+}
+
 /// Puts the members of an attribute by the format of its row.
 fn put_formatted<N: Nesting>(
     row: &Row,
@@ -252,14 +263,8 @@ fn put_formatted<N: Nesting>(
     match row.format {
         Format::Mask => put_mask(name, first_of(datum), map),
         Format::FlowInfo => put_flow_info(name, first_of(datum), map),
-        Format::Group => {
-            let name = group_name(payload, name, "remote");
-            put(map, name, plain_json(datum)?)
-        }
-        Format::Group6 => {
-            let name = group_name(payload, name, "remote6");
-            put(map, name, plain_json(datum)?)
-        }
+        Format::Group => put_group((name, "remote"), datum, payload, map),
+        Format::Group6 => put_group((name, "remote6"), datum, payload, map),
         Format::Bits(flags) => {
             put(map, name, flags_json(datum)?)?;
             put_bits(flags, first_of(datum), map)

@@ -3,7 +3,7 @@
 
 use super::rows::{assert_is, attribute, error, kept};
 use linkinfo::layers::devices::InfoXfrm;
-use linkinfo::layers::nla_frame::{Cause, ExactEq, Family, NlaBuffer, is_equal};
+use linkinfo::layers::nla_frame::{Cause, DecodeError, ExactEq, Family, NlaBuffer, is_equal};
 use linkinfo::layers::table::{
     Datum, Decoded, Encodable, FlatFamily, Lookup, RowFamily, Shape, Slot, UnnestedFamily,
     row_check, row_emit_payload, row_emit_value, row_fit_len, row_kind, row_read, row_same,
@@ -11,69 +11,72 @@ use linkinfo::layers::table::{
 };
 
 /// The interface index 0x01020304.
-const LINK: [u8; 8] = [8, 0, 1, 0, 4, 3, 2, 1];
+const LINK: &[u8] = &[8, 0, 1, 0, 4, 3, 2, 1];
 
 /// `LINK` with a flag bit in its type.
-const MARKED: [u8; 8] = [8, 0, 1, 0x80, 4, 3, 2, 1];
+const MARKED: &[u8] = &[8, 0, 1, 0x80, 4, 3, 2, 1];
 
 /// Another interface index.
-const OTHER_LINK: [u8; 8] = [8, 0, 1, 0, 5, 3, 2, 1];
+const OTHER_LINK: &[u8] = &[8, 0, 1, 0, 5, 3, 2, 1];
 
 /// An interface index of one byte.
-const SHORT: [u8; 5] = [5, 0, 1, 0, 4];
+const SHORT: &[u8] = &[5, 0, 1, 0, 4];
 
-/// Whether the value read alone, and the one pushed to a list, are equal to the value.
-fn are_equal<F: ExactEq>(alone: &F, list: &[F], value: &F) -> [bool; 2] {
-    let last = match list {
-        [only] => is_equal(only, value),
+/// Whether the list has two values, and both are equal to the value.
+fn are_equal<F: ExactEq>(list: &[F], value: &F) -> bool {
+    match list {
+        [first, second] => is_equal(first, value) && is_equal(second, value),
         _ => false,
-    };
-    [is_equal(alone, value), last]
+    }
 }
 
 /// Asserts that the attribute is read as the value by its row, alone and into a list.
 fn is_read_by_row<F: FlatFamily + ExactEq>(
-    nla: &NlaBuffer<'_>,
+    bytes: &[u8],
     ctx: <F as RowFamily>::Context,
     value: &F,
 ) {
+    let nla = &attribute(bytes);
     let read = row_read::<F>(nla, ctx).expect("a value");
+    let again = F::read_by_row(nla, ctx).expect("a value");
     let mut list = Vec::new();
     row_store::<F, Vec<F>>(&mut list, nla, ctx).expect("a value");
-    assert_is(
-        "row_read, row_store",
-        are_equal(&read, &list, value),
-        [true; 2],
-    );
-    let read = F::read_by_row(nla, ctx).expect("a value");
-    let mut list = Vec::new();
     F::push_by_row(&mut list, nla, ctx).expect("a value");
     assert_is(
-        "read_by_row, push_by_row",
-        are_equal(&read, &list, value),
-        [true; 2],
+        ("row_read, read_by_row, row_store and push_by_row", bytes),
+        [
+            is_equal(&read, value),
+            is_equal(&again, value),
+            are_equal(&list, value),
+        ],
+        [true; 3],
     );
+}
+
+/// Asserts that the attribute is rejected with this error by its row.
+fn is_rejected_by_row<F: FlatFamily>(
+    bytes: &[u8],
+    ctx: <F as RowFamily>::Context,
+    expected: DecodeError,
+) {
+    let nla = &attribute(bytes);
+    let found = [
+        row_read::<F>(nla, ctx).err(),
+        row_check::<F>(nla, ctx).err(),
+        F::check_by_row(nla, ctx).err(),
+    ];
+    assert_is(("rejected", bytes), found, [Some(expected); 3]);
 }
 
 #[test]
 fn reads_by_rows() {
     let value = InfoXfrm::Link(0x0102_0304);
-    is_read_by_row(&attribute(&LINK), (), &value);
-    is_read_by_row(&attribute(&MARKED), (), &value);
+    is_read_by_row(LINK, (), &value);
+    is_read_by_row(MARKED, (), &value);
     let other = InfoXfrm::Other(kept(0x8003, &[7]));
-    let nla = [5, 0, 3, 0x80, 7];
-    is_read_by_row(&attribute(&nla), (), &other);
-    let short = attribute(&SHORT);
-    let expected = Some(error(Family::Xfrm, 1, Cause::Length));
-    assert_is(
-        "a short number",
-        [
-            row_read::<InfoXfrm>(&short, ()).err(),
-            row_check::<InfoXfrm>(&short, ()).err(),
-            InfoXfrm::check_by_row(&short, ()).err(),
-        ],
-        [expected; 3],
-    );
+    is_read_by_row(&[5, 0, 3, 0x80, 7], (), &other);
+    let expected = error(Family::Xfrm, 1, Cause::Length);
+    is_rejected_by_row::<InfoXfrm>(SHORT, (), expected);
 }
 
 /// The attribute of the bytes, which its row accepts.
@@ -96,38 +99,41 @@ fn compares_by_rows() {
     assert_is(
         "same_by_row",
         [
-            same_by_row::<InfoXfrm>((), &LINK, &LINK),
-            same_by_row::<InfoXfrm>((), &LINK, &MARKED),
-            same_by_row::<InfoXfrm>((), &LINK, &OTHER_LINK),
+            same_by_row::<InfoXfrm>((), LINK, LINK),
+            same_by_row::<InfoXfrm>((), LINK, MARKED),
+            same_by_row::<InfoXfrm>((), LINK, OTHER_LINK),
         ],
         [[true; 2], [true; 2], [false; 2]],
     );
 }
 
-/// Asserts that the value is written with this type and this payload by its row.
-fn is_written_by_row<F: FlatFamily>(value: &F, kind: u16, payload: [u8; 4]) {
-    assert!(row_fit_len(value) == Some(4), "fit_len of type {kind}");
+/// Asserts that the value is written with this type and this payload of four bytes by its row, also
+/// to a buffer of six 255s.
+fn is_written_by_row<F: FlatFamily>(value: &F, kind: u16, payload: &[u8], buffer: &[u8]) {
+    let len = row_fit_len(value).expect("a value that fits");
     assert_is(
-        ("kind, value_len of type", kind),
-        (row_kind(value), row_value_len(value)),
-        (kind, 4),
+        ("kind, fit_len, value_len of type", kind),
+        (row_kind(value), [len, row_value_len(value)]),
+        (kind, [4; 2]),
     );
+    assert!(len == 4);
     let mut exact = [255; 4];
     row_emit_value(value, &mut exact);
     let mut longer = [255; 6];
     let taken = row_emit_payload(value, &mut longer);
     assert_is(
         ("emit_value, emit_payload of type", kind),
-        (exact, taken, &longer[..4], &longer[4..]),
-        (payload, 4, payload.as_slice(), [255; 2].as_slice()),
+        (taken, [exact.as_slice(), longer.as_slice()]),
+        (4, [payload, buffer]),
     );
 }
 
 #[test]
 fn writes_by_rows() {
-    is_written_by_row(&InfoXfrm::Link(0x0102_0304), 1, [4, 3, 2, 1]);
-    let kept = kept(0x8003, &[7, 8, 9, 10]);
-    is_written_by_row(&InfoXfrm::Other(kept), 0x8003, [7, 8, 9, 10]);
+    let link = InfoXfrm::Link(0x0102_0304);
+    is_written_by_row(&link, 1, &[4, 3, 2, 1], &[4, 3, 2, 1, 255, 255]);
+    let kept = InfoXfrm::Other(kept(0x8003, &[7, 8, 9, 10]));
+    is_written_by_row(&kept, 0x8003, &[7, 8, 9, 10], &[7, 8, 9, 10, 255, 255]);
 }
 
 /// Families and types, and what the table of all families gives for them.

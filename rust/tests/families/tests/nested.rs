@@ -1,8 +1,8 @@
 //! Nested address lists.
 
 use super::rows::{
-    assert_is, attribute, compare_lists, error, is_emitted, is_list_read, is_not_parsed, is_parsed,
-    is_rejected, list_checked, list_is_emitted,
+    HEADER, assert_is, attribute, checks_list, compare_lists, compare_two_lists, error, is_emitted,
+    is_list_read, is_not_parsed, is_parsed, is_rejected, list_is_emitted,
 };
 use crate::support::*;
 use linkinfo::layers::devices::{InfoMacVlan, InfoMacVtap};
@@ -17,17 +17,39 @@ const LONGEST_CHAIN: u16 = 16383;
 /// A family in which a value may contain a list of values.
 trait HoldsLists: Sized {
     fn from_list(items: Nlas<Self>) -> Self;
+
+    /// A value without a list.
+    fn one() -> Self;
+
+    /// Another value without a list: of another type, or of the same type with another datum.
+    fn other() -> Self;
 }
 
 impl HoldsLists for InfoMacVlan {
     fn from_list(items: Nlas<InfoMacVlan>) -> InfoMacVlan {
         InfoMacVlan::MacAddrData(items)
     }
+
+    fn one() -> InfoMacVlan {
+        InfoMacVlan::MacAddrCount(1)
+    }
+
+    fn other() -> InfoMacVlan {
+        InfoMacVlan::BcQueueLen(1)
+    }
 }
 
 impl HoldsLists for InfoMacVtap {
     fn from_list(items: Nlas<InfoMacVtap>) -> InfoMacVtap {
         InfoMacVtap::MacAddrData(items)
+    }
+
+    fn one() -> InfoMacVtap {
+        InfoMacVtap::MacAddr([2, 0, 0, 0, 0, 1])
+    }
+
+    fn other() -> InfoMacVtap {
+        InfoMacVtap::MacAddr([2, 0, 0, 0, 0, 2])
     }
 }
 
@@ -76,11 +98,7 @@ where
     let values = only(value);
     let headers = usize::from(lists);
     is_list_read(0, bytes, values.as_slice(), headers);
-    assert_is(
-        ("list_check", lists),
-        list_checked::<F>(0, bytes),
-        (Ok(()), headers),
-    );
+    checks_list::<F>(0, bytes, (Ok(()), headers));
     list_is_emitted(values.as_slice(), bytes);
 }
 
@@ -105,20 +123,23 @@ fn begins_with(bytes: Vec<u8>, len: usize, header: [u8; 4]) {
     );
 }
 
+/// Asserts that the byte string of a chain is rejected at the 129th list, under the family's name.
+fn refuses_chain<'a, F>(bytes: &'a [u8], family: Family)
+where
+    F: LinkFamily<Context = u8> + Parseable<NlaBuffer<'a>>,
+{
+    let deep = error(family, 5, Cause::Depth);
+    is_not_parsed::<F>(bytes, deep);
+    checks_list::<F>(0, bytes, (Err(deep), 129));
+}
+
 #[test]
 fn chain_of_129_lists() {
     begins_with(chain(128), 512, [0, 2, 5, 0]);
     begins_with(chain(129), 516, [4, 2, 5, 0]);
     let bytes = chain(129);
-    let deep = error(Family::MacVlan, 5, Cause::Depth);
-    is_not_parsed::<InfoMacVlan>(bytes.as_slice(), deep);
-    assert_is(
-        "129 lists",
-        list_checked::<InfoMacVlan>(0, bytes.as_slice()),
-        (Err(deep), 129),
-    );
-    let deep = error(Family::MacVtap, 5, Cause::Depth);
-    is_not_parsed::<InfoMacVtap>(bytes.as_slice(), deep);
+    refuses_chain::<InfoMacVlan>(bytes.as_slice(), Family::MacVlan);
+    refuses_chain::<InfoMacVtap>(bytes.as_slice(), Family::MacVtap);
 }
 
 /// A list with a stray byte, with flag bits in its type.
@@ -134,7 +155,7 @@ fn examines_lists<F: LinkFamily<Context = u8>>(lists: u8) {
     assert_is(
         ("a stray byte inside lists", lists),
         F::check_value(&attribute(STRAY), lists, &mut HeaderCount::new()),
-        Err(error(Family::Frame, 0, Cause::Header)),
+        Err(HEADER),
     );
 }
 
@@ -151,14 +172,8 @@ fn refuses_lists<F: LinkFamily<Context = u8>>(lists: u8) {
 /// Asserts that a list nested in 127 others may be empty, and must not contain another.
 fn has_last_list<F: LinkFamily<Context = u8>>() {
     let deep = error(F::FAMILY, 5, Cause::Depth);
-    assert_is(
-        "inside 127 lists",
-        [
-            list_checked::<F>(127, &[4, 0, 5, 0]),
-            list_checked::<F>(127, &[8, 0, 5, 0, 4, 0, 5, 0]),
-        ],
-        [(Ok(()), 1), (Err(deep), 2)],
-    );
+    checks_list::<F>(127, &[4, 0, 5, 0], (Ok(()), 1));
+    checks_list::<F>(127, &[8, 0, 5, 0, 4, 0, 5, 0], (Err(deep), 2));
 }
 
 /// Asserts that a list nested in 127 others is accepted, and one nested in 128 is rejected before
@@ -177,41 +192,55 @@ fn lists_at_the_maximum_depth() {
     has_most_lists::<InfoMacVtap>();
 }
 
-/// Asserts a list of one address, with its padding and without.
-fn has_worked_list(value: InfoMacVlan) {
-    let padded = [16, 0, 5, 0, 10, 0, 4, 0, 2, 0, 0, 0, 0, 1, 0, 0];
-    let bare = [14, 0, 5, 0, 10, 0, 4, 0, 2, 0, 0, 0, 0, 1];
-    is_parsed(&padded, &value);
-    is_parsed(&bare, &value);
-    is_emitted(&value, &padded);
-    assert!(value.fit_len() == Some(12));
+/// A list of one address.
+const PADDED: &[u8] = &[16, 0, 5, 0, 10, 0, 4, 0, 2, 0, 0, 0, 0, 1, 0, 0];
+
+/// The payload of `PADDED`.
+const PAYLOAD: &[u8] = &[10, 0, 4, 0, 2, 0, 0, 0, 0, 1, 0, 0];
+
+/// `PADDED` without the padding of the address.
+const BARE: &[u8] = &[14, 0, 5, 0, 10, 0, 4, 0, 2, 0, 0, 0, 0, 1];
+
+/// Asserts that the value has a payload of 12 bytes, which `emit_value` writes as these.
+fn emits_value<F: Nla>(value: &F, wanted: &[u8]) {
+    let len = value.fit_len().expect("a value that fits");
+    assert!(len == 12);
     let mut payload = [255; 12];
     value.emit_value(&mut payload);
     assert_is(
         "value_len, emit_value",
         (value.value_len(), payload.as_slice()),
-        (12, &padded[4..]),
+        (12, wanted),
     );
+}
+
+/// Asserts a list of one address, with its padding and without.
+fn has_worked_list(value: &InfoMacVlan) {
+    is_parsed(PADDED, value);
+    is_parsed(BARE, value);
+    is_emitted(value, PADDED);
+    emits_value(value, PAYLOAD);
 }
 
 #[test]
 fn worked_lists() {
     let address = InfoMacVlan::MacAddr([2, 0, 0, 0, 0, 1]);
-    has_worked_list(list_of(address));
+    has_worked_list(&list_of(address));
 }
+
+/// A list of an address of one byte.
+const SHORT: &[u8] = &[12, 0, 5, 0, 5, 0, 4, 0, 1, 0, 0, 0];
+
+/// A list of an attribute whose length field is one more than the bytes of the list.
+const BROKEN: &[u8] = &[8, 0, 5, 0, 5, 0, 4, 0];
 
 #[test]
 fn worked_strings_of_lists() {
-    let padded = [16, 0, 5, 0, 10, 0, 4, 0, 2, 0, 0, 0, 0, 1, 0, 0];
-    let bare = [14, 0, 5, 0, 10, 0, 4, 0, 2, 0, 0, 0, 0, 1];
-    compare_lists::<InfoMacVlan>(0, &[(&padded, &bare, Some(4))]);
+    compare_lists::<InfoMacVlan>(0, &[(PADDED, BARE, Some(4))]);
 
-    let short = [12, 0, 5, 0, 5, 0, 4, 0, 1, 0, 0, 0];
     let expected = error(Family::MacVtap, 4, Cause::Length);
-    is_not_parsed::<InfoMacVtap>(&short, expected);
-    let broken = [8, 0, 5, 0, 5, 0, 4, 0];
-    let expected = error(Family::Frame, 0, Cause::Header);
-    is_not_parsed::<InfoMacVtap>(&broken, expected);
+    is_not_parsed::<InfoMacVtap>(SHORT, expected);
+    is_not_parsed::<InfoMacVtap>(BROKEN, HEADER);
 }
 
 /// Two nested lists, the inner one of a count.
@@ -260,7 +289,8 @@ where
     let a = chain(lists);
     let b = chain(lists - 1);
     let headers = 2 * usize::from(lists);
-    compare_lists::<F>(0, &[(&a, &a, Some(headers)), (&a, &b, None)]);
+    compare_two_lists::<F>(0, a.as_slice(), a.as_slice(), Some(headers));
+    compare_two_lists::<F>(0, a.as_slice(), b.as_slice(), None);
 }
 
 fn are_compared<F>()
@@ -310,15 +340,16 @@ where
 
 /// Asserts that values with lists are equal if and only if their items are, and so are their
 /// clones.
-fn are_equal_by_items<F>(values: [F; 2])
+fn are_equal_by_items<F>()
 where
     F: HoldsLists + Nla + ExactEq + Clone,
 {
-    let [one, other] = &values;
-    differs_from_list(one);
+    let one = F::one();
+    let other = F::other();
+    differs_from_list(&one);
     assert_is(
         "equal, other items",
-        [lists_equal(one, one), lists_equal(one, other)],
+        [lists_equal(&one, &one), lists_equal(&one, &other)],
         [true, false],
     );
 }
@@ -342,42 +373,32 @@ where
 
 #[test]
 fn nested_lists_are_equal() {
-    let values = [InfoMacVlan::MacAddrCount(1), InfoMacVlan::BcQueueLen(1)];
-    are_equal_by_items(values);
-    let values = [
-        InfoMacVtap::MacAddr([2, 0, 0, 0, 0, 1]),
-        InfoMacVtap::MacAddr([2, 0, 0, 0, 0, 2]),
-    ];
-    are_equal_by_items(values);
+    are_equal_by_items::<InfoMacVlan>();
+    are_equal_by_items::<InfoMacVtap>();
     are_equal_by_depth::<InfoMacVlan>();
     are_equal_by_depth::<InfoMacVtap>();
 }
 
-/// Asserts that the byte string of a chain of this many lists is rejected at the 129th.
-fn is_too_deep<F: LinkFamily<Context = u8>>(lists: u16, bytes: &[u8]) {
+/// Asserts that the byte string of a chain is rejected at the 129th list.
+fn is_too_deep<F: LinkFamily<Context = u8>>(bytes: &[u8]) {
     let deep = error(F::FAMILY, 5, Cause::Depth);
-    assert_is(
-        ("list_check", lists),
-        list_checked::<F>(0, bytes),
-        (Err(deep), 129),
-    );
+    checks_list::<F>(0, bytes, (Err(deep), 129));
 }
 
-/// Asserts that a value deeper than a well-formed one is measured and written too, and is not read
-/// back.
-fn is_written_at_any_depth<F>(lists: u16)
+/// Asserts that the value of a chain deeper than a well-formed one is measured and written too, as
+/// the byte string of the chain, and is not read back.
+fn is_written_at_any_depth<F>(bytes: &[u8], lists: u16)
 where
     F: HoldsLists + LinkFamily<Context = u8>,
 {
     let items: Vec<F> = only(chain_value(lists));
-    let bytes = chain(lists);
-    list_is_emitted(items.as_slice(), bytes.as_slice());
-    is_too_deep::<F>(lists, bytes.as_slice());
+    list_is_emitted(items.as_slice(), bytes);
+    is_too_deep::<F>(bytes);
 }
 
 /// Asserts that the value of a chain has this length, if it fits.
-fn has_fit_len(lists: u16, wanted: Option<usize>) {
-    let value: InfoMacVlan = chain_value(lists);
+fn has_fit_len<F: HoldsLists + Nla>(lists: u16, wanted: Option<usize>) {
+    let value: F = chain_value(lists);
     assert_is(("fit_len", lists), value.fit_len(), wanted);
 }
 
@@ -387,10 +408,11 @@ const TOO_DEEP: &[u16] = &[129, 1000, 16000, LONGEST_CHAIN];
 #[test]
 fn values_beyond_the_maximum_depth() {
     for lists in TOO_DEEP {
-        is_written_at_any_depth::<InfoMacVlan>(*lists);
-        is_written_at_any_depth::<InfoMacVtap>(*lists);
+        let bytes = chain(*lists);
+        is_written_at_any_depth::<InfoMacVlan>(bytes.as_slice(), *lists);
+        is_written_at_any_depth::<InfoMacVtap>(bytes.as_slice(), *lists);
     }
-    has_fit_len(LONGEST_CHAIN, Some(65528));
-    has_fit_len(LONGEST_CHAIN + 1, None);
-    has_fit_len(LONGEST_CHAIN + 2, None);
+    has_fit_len::<InfoMacVlan>(LONGEST_CHAIN, Some(65528));
+    has_fit_len::<InfoMacVlan>(LONGEST_CHAIN + 1, None);
+    has_fit_len::<InfoMacVlan>(LONGEST_CHAIN + 2, None);
 }

@@ -1,15 +1,16 @@
 //! Rows of `netkit` links.
 
 use super::rows::{
-    UNLISTED, error, has_row_of, has_shapes, is_list, is_not_parsed, is_parsed, is_read,
-    is_rejected, keeps_unlisted, unlisted,
+    HasExample, HoldsOthers, UNLISTED, error, has_rows_and_others, has_shapes, is_list,
+    is_not_parsed, is_rejected, reads,
 };
-use linkinfo::layers::nla_frame::{Bytes, Cause, Family};
-use linkinfo::layers::numbers::{NetkitMode, NetkitPolicy, NetkitScrub};
+use linkinfo::layers::nla_frame::{Cause, DefaultNla, Family};
+use linkinfo::layers::numbers::NetkitPolicy;
 use linkinfo::layers::peers::{BitPeer, InfoNetkit, InfoNetkitOf};
 use linkinfo::layers::table::{LinkPeer, Shape};
 
-const ROWS: [(u16, Shape); 9] = [
+/// Types, and the shapes of their rows.
+const SHAPES: &[(u16, Shape)] = &[
     (1, Shape::Peer),
     (2, Shape::Truth),
     (3, Shape::Le32),
@@ -21,76 +22,62 @@ const ROWS: [(u16, Shape); 9] = [
     (9, Shape::Le16),
 ];
 
-/// Asserts each row except the peer's, and an opaque attribute of a type without a row, for any
-/// type of peer.
-fn has_rows_beside_peer<P: LinkPeer + Clone>() {
-    has_shapes::<InfoNetkitOf<P>>((), &ROWS);
-    let value = InfoNetkitOf::<P>::Primary(true);
-    has_row_of(&[5, 0, 2, 0, 1, 0, 0, 0], value);
-    let value = InfoNetkitOf::<P>::Primary(false);
-    has_row_of(&[5, 0, 2, 0, 0, 0, 0, 0], value);
-    let value = InfoNetkitOf::<P>::Policy(NetkitPolicy::Drop);
-    has_row_of(&[8, 0, 3, 0, 2, 0, 0, 0], value);
-    let value = InfoNetkitOf::<P>::PeerPolicy(NetkitPolicy::Redirect);
-    has_row_of(&[8, 0, 4, 0, 7, 0, 0, 0], value);
-    let value = InfoNetkitOf::<P>::PeerPolicy(NetkitPolicy::Other(0x0102_0304));
-    has_row_of(&[8, 0, 4, 0, 4, 3, 2, 1], value);
-    let value = InfoNetkitOf::<P>::Mode(NetkitMode::L3);
-    has_row_of(&[8, 0, 5, 0, 1, 0, 0, 0], value);
-    let value = InfoNetkitOf::<P>::Headroom(0x0102);
-    has_row_of(&[6, 0, 8, 0, 2, 1, 0, 0], value);
-    let value = InfoNetkitOf::<P>::Tailroom(0x0102);
-    has_row_of(&[6, 0, 9, 0, 2, 1, 0, 0], value);
-    has_scrubs::<P>();
-    let kept = InfoNetkitOf::<P>::Other(unlisted());
-    keeps_unlisted((), &UNLISTED, kept);
+/// Canonical attributes of all rows except the peer's, and their values as `Debug` writes them.
+const ROWS: &[(&[u8], &str)] = &[
+    (&[5, 0, 2, 0, 1, 0, 0, 0], "Primary(true)"),
+    (&[5, 0, 2, 0, 0, 0, 0, 0], "Primary(false)"),
+    (&[8, 0, 3, 0, 2, 0, 0, 0], "Policy(Drop)"),
+    (&[8, 0, 4, 0, 7, 0, 0, 0], "PeerPolicy(Redirect)"),
+    (&[8, 0, 4, 0, 4, 3, 2, 1], "PeerPolicy(Other(16909060))"),
+    (&[8, 0, 5, 0, 1, 0, 0, 0], "Mode(L3)"),
+    (&[6, 0, 8, 0, 2, 1, 0, 0], "Headroom(258)"),
+    (&[6, 0, 9, 0, 2, 1, 0, 0], "Tailroom(258)"),
+    // The scrubbing, of the link and of its peer.
+    (&[8, 0, 6, 0, 1, 0, 0, 0], "Scrub(Default)"),
+    (&[8, 0, 6, 0, 0, 0, 0, 0], "Scrub(None)"),
+    (&[8, 0, 7, 0, 1, 0, 0, 0], "PeerScrub(Default)"),
+    (&[8, 0, 7, 0, 0, 0, 0, 0], "PeerScrub(None)"),
+];
+
+impl<P: LinkPeer> HoldsOthers for InfoNetkitOf<P> {
+    fn from_other(nla: DefaultNla) -> InfoNetkitOf<P> {
+        InfoNetkitOf::Other(nla)
+    }
 }
 
-/// Asserts the scrubbing, of the link and of its peer.
-fn has_scrubs<P: LinkPeer>() {
-    let value = InfoNetkitOf::<P>::Scrub(NetkitScrub::Default);
-    has_row_of(&[8, 0, 6, 0, 1, 0, 0, 0], value);
-    let value = InfoNetkitOf::<P>::Scrub(NetkitScrub::None);
-    has_row_of(&[8, 0, 6, 0, 0, 0, 0, 0], value);
-    let value = InfoNetkitOf::<P>::PeerScrub(NetkitScrub::Default);
-    has_row_of(&[8, 0, 7, 0, 1, 0, 0, 0], value);
-    let value = InfoNetkitOf::<P>::PeerScrub(NetkitScrub::None);
-    has_row_of(&[8, 0, 7, 0, 0, 0, 0, 0], value);
+impl<P: LinkPeer> HasExample for InfoNetkitOf<P> {
+    fn example() -> InfoNetkitOf<P> {
+        InfoNetkitOf::Policy(NetkitPolicy::Drop)
+    }
 }
 
 #[test]
 fn rows_of_netkit() {
-    has_rows_beside_peer::<Bytes>();
+    has_shapes::<InfoNetkit>((), SHAPES);
+    has_rows_and_others::<InfoNetkit>(ROWS, UNLISTED, EXAMPLE);
 }
 
 #[test]
 fn rows_of_netkit_with_peers_of_bits() {
-    has_rows_beside_peer::<BitPeer>();
+    has_shapes::<InfoNetkitOf<BitPeer>>((), SHAPES);
+    has_rows_and_others::<InfoNetkitOf<BitPeer>>(ROWS, UNLISTED, EXAMPLE);
 }
 
-/// Asserts that the attribute is parsed and read as the value.
-fn is_parsed_and_read(bytes: &[u8], value: InfoNetkit) {
-    is_parsed(bytes, &value);
-    is_read((), bytes, &value);
-}
+/// The canonical attribute of the example.
+const EXAMPLE: &[u8] = &[8, 0, 3, 0, 2, 0, 0, 0];
+
+/// A headroom of four bytes.
+const WIDE: &[u8] = &[8, 0, 8, 0, 5, 0, 0, 0];
 
 #[test]
 fn worked_netkit() {
-    let three = [5, 0, 2, 0, 3, 0, 0, 0];
-    is_parsed_and_read(&three, InfoNetkit::Primary(true));
-    let redirect = InfoNetkit::Policy(NetkitPolicy::Redirect);
-    is_parsed_and_read(&[8, 0, 3, 0, 7, 0, 0, 0], redirect);
+    reads::<InfoNetkit>(&[5, 0, 2, 0, 3, 0, 0, 0], "Primary(true)");
+    reads::<InfoNetkit>(&[8, 0, 3, 0, 7, 0, 0, 0], "Policy(Redirect)");
     // Every number but 0 is the default.
-    let scrub = InfoNetkit::Scrub(NetkitScrub::Default);
-    is_parsed_and_read(&[8, 0, 6, 0, 5, 0, 0, 0], scrub);
+    reads::<InfoNetkit>(&[8, 0, 6, 0, 5, 0, 0, 0], "Scrub(Default)");
     let list = [8, 0, 6, 0, 1, 0, 0, 0, 6, 0, 8, 0, 5, 0, 0, 0];
-    let values = [
-        InfoNetkit::Scrub(NetkitScrub::Default),
-        InfoNetkit::Headroom(5),
-    ];
-    is_list((), &list, values);
-    let wide = [8, 0, 8, 0, 5, 0, 0, 0];
-    is_rejected::<InfoNetkit>((), &wide, Cause::Length);
+    is_list::<InfoNetkit>((), &list, "[Scrub(Default), Headroom(5)]");
+    is_rejected::<InfoNetkit>((), WIDE, Cause::Length);
     let expected = error(Family::Netkit, 8, Cause::Length);
-    is_not_parsed::<InfoNetkit>(&wide, expected);
+    is_not_parsed::<InfoNetkit>(WIDE, expected);
 }

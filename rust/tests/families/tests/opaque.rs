@@ -1,36 +1,31 @@
 //! Families without rows keep every attribute verbatim.
 
 use super::rows::{
-    UNLISTED, are_same, assert_is, attribute, compare, compare_lists, error, first_checked,
-    has_shapes, is_emitted, is_list, is_parsed, is_read, keeps_unlisted, kept, list_checked,
-    list_error, unlisted,
+    HEADER, HoldsOthers, UNLISTED, are_same, assert_is, attribute, checks_first, checks_list,
+    compare, compare_lists, has_shapes, is_emitted, is_list_of, is_parsed, is_read, keeps_unlisted,
+    kept, refuses_list,
 };
 use linkinfo::layers::lower::{
     InfoBond, InfoBondPort, InfoBridge, InfoBridgePort, InfoCan, InfoDsa, InfoHsr, InfoVlan,
 };
-use linkinfo::layers::nla_frame::{Cause, DefaultNla, ExactEq, Family, NlaBuffer, Parseable};
+use linkinfo::layers::nla_frame::{DefaultNla, ExactEq, Family, NlaBuffer, Parseable};
 use linkinfo::layers::peers::{InfoPfcp, InfoTeamPort, InfoTun, InfoWireguard};
 use linkinfo::layers::table::{LinkFamily, Opaque};
 
 /// An attribute of type 1 with four bytes.
-const PLAIN: [u8; 8] = [8, 0, 1, 0, 1, 2, 3, 4];
+const PLAIN: &[u8] = &[8, 0, 1, 0, 1, 2, 3, 4];
 
 /// `PLAIN` with both flag bits in its type.
-const MARKED: [u8; 8] = [8, 0, 1, 0xc0, 1, 2, 3, 4];
+const MARKED: &[u8] = &[8, 0, 1, 0xc0, 1, 2, 3, 4];
 
 /// An empty attribute of the highest type without flag bits.
-const EMPTY: [u8; 4] = [4, 0, 0xff, 0x3f];
+const EMPTY: &[u8] = &[4, 0, 0xff, 0x3f];
 
 /// `PLAIN`, and an attribute of type 2 with one byte, a flag bit in its type, and padding.
-const LIST: [u8; 16] = [8, 0, 1, 0, 1, 2, 3, 4, 5, 0, 2, 0x80, 7, 0, 0, 0];
+const LIST: &[u8] = &[8, 0, 1, 0, 1, 2, 3, 4, 5, 0, 2, 0x80, 7, 0, 0, 0];
 
 /// `PLAIN`, and one stray byte.
-const STRAY: [u8; 9] = [8, 0, 1, 0, 1, 2, 3, 4, 0];
-
-/// A family without rows.
-trait HoldsOthers: Sized {
-    fn from_other(nla: DefaultNla) -> Self;
-}
+const STRAY: &[u8] = &[8, 0, 1, 0, 1, 2, 3, 4, 0];
 
 impl<const NUMBER: u8> HoldsOthers for Opaque<NUMBER> {
     fn from_other(nla: DefaultNla) -> Opaque<NUMBER> {
@@ -75,38 +70,27 @@ where
 /// padding does not.
 const PAIRS: &[(&[u8], &[u8], bool)] = &[
     (&[5, 0, 2, 0x80, 7, 0, 0, 0], &[5, 0, 2, 0x80, 7], true),
-    (&PLAIN, &MARKED, false),
-    (&PLAIN, &[8, 0, 1, 0, 1, 2, 3, 5], false),
+    (PLAIN, MARKED, false),
+    (PLAIN, &[8, 0, 1, 0, 1, 2, 3, 5], false),
 ];
 
 /// `LIST`, and `LIST` without the padding of its last attribute.
 const PAIRS_OF_LISTS: &[(&[u8], &[u8], Option<usize>)] =
-    &[(&LIST, &[8, 0, 1, 0, 1, 2, 3, 4, 5, 0, 2, 0x80, 7], Some(4))];
+    &[(LIST, &[8, 0, 1, 0, 1, 2, 3, 4, 5, 0, 2, 0x80, 7], Some(4))];
 
 /// Asserts that a list with a stray byte is rejected as `(Frame, 0, Header)`, and that its first
 /// attribute alone is accepted.
 fn refuses_stray_bytes<F: LinkFamily<Context = ()>>() {
-    let expected = error(Family::Frame, 0, Cause::Header);
-    assert_is(
-        "list_check, first_check",
-        [
-            list_checked::<F>((), &STRAY),
-            first_checked::<F>((), &STRAY),
-        ],
-        [(Err(expected), 1), (Ok(()), 1)],
-    );
-    assert_is(
-        "list_read",
-        list_error::<F>((), &STRAY),
-        (Some(expected), 1),
-    );
+    checks_list::<F>((), STRAY, (Err(HEADER), 1));
+    checks_first::<F>((), STRAY, (Ok(()), 1));
+    refuses_list::<F>((), STRAY, (HEADER, 1));
 }
 
 /// Asserts that lists of the family are read and emitted.
 fn has_lists<const NUMBER: u8>() {
     let first = plain();
     let values = [Opaque::<NUMBER>::Other(first), Opaque::Other(last())];
-    is_list((), &LIST, values);
+    is_list_of((), LIST, values.as_slice());
 }
 
 /// Asserts that `MARKED` is kept verbatim as the value.
@@ -126,11 +110,10 @@ where
 {
     keeps_marked(marked_bytes, value);
     has_shapes::<F>((), &[]);
-    keeps::<F>(&PLAIN, plain());
-    keeps::<F>(&MARKED, marked());
-    keeps::<F>(&EMPTY, DefaultNla::new(0x3fff, Vec::new()));
-    let other = F::from_other(unlisted());
-    keeps_unlisted((), unlisted_bytes, other);
+    keeps::<F>(PLAIN, plain());
+    keeps::<F>(MARKED, marked());
+    keeps::<F>(EMPTY, DefaultNla::new(0x3fff, Vec::new()));
+    keeps_unlisted::<F>((), unlisted_bytes);
     compare::<F>((), PAIRS);
     compare_lists::<F>((), PAIRS_OF_LISTS);
     refuses_stray_bytes::<F>();
@@ -144,7 +127,7 @@ fn keeps_every_attribute<const NUMBER: u8>(family: Family, value: Opaque<NUMBER>
         <Opaque<NUMBER> as LinkFamily>::FAMILY,
         family,
     );
-    keeps_each((&MARKED, &UNLISTED), value);
+    keeps_each((MARKED, UNLISTED), value);
     has_lists::<NUMBER>();
 }
 

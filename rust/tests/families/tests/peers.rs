@@ -1,19 +1,17 @@
 //! Both types of peer in each call of the families with a peer.
 
 use super::rows::{
-    UNLISTED, are_same, assert_is, compare, compare_lists, error, first_checked,
-    first_is_written_as, firsts_same, has_shapes, is_emitted, is_first, is_list_of, is_not_parsed,
-    is_parsed, is_read, is_rejected, keeps_unlisted, list_checked, list_is_written_as,
-    same_with_flags, unlisted,
+    HoldsOthers, UNLISTED, assert_is, checks_first, checks_list, compare, compare_lists, error,
+    first_is_written_as, firsts_same, has_canonical, has_shapes, is_first, is_list_of,
+    is_not_parsed, is_rejected, keeps_unlisted, list_is_written_as,
 };
-use crate::support::*;
 use linkinfo::layers::nla_frame::{
-    Bytes, Cause, DecodeError, ExactEq, Family, Nla, NlaBuffer, Parseable, is_equal,
+    Bytes, Cause, DecodeError, DefaultNla, ExactEq, Family, Nla, NlaBuffer, Parseable, is_equal,
 };
 use linkinfo::layers::peers::{
     BitPeer, InfoNetkit, InfoNetkitOf, InfoVeth, InfoVethOf, InfoVxcan, InfoVxcanOf,
 };
-use linkinfo::layers::table::{LinkFamily, Shape};
+use linkinfo::layers::table::{LinkFamily, LinkPeer, Shape};
 
 /// A peer of the byte 7.
 const SEVEN: &[u8] = &[5, 0, 1, 0, 7];
@@ -35,6 +33,9 @@ const EMPTY: &[u8] = &[4, 0, 1, 0];
 
 /// A peer of two bytes.
 const TWO: &[u8] = &[6, 0, 1, 0, 0xaa, 0xbb, 0, 0];
+
+/// `TWO` without its padding.
+const BARE: &[u8] = &[6, 0, 1, 0, 0xaa, 0xbb];
 
 /// `TWO`, and an attribute of a type without a row.
 const TAIL: &[u8] = &[6, 0, 1, 0, 0xaa, 0xbb, 0, 0, 5, 0, 39, 0, 7];
@@ -58,27 +59,6 @@ fn two_bytes() -> Bytes {
     Bytes::copy_of(&[0xaa, 0xbb]).expect("memory")
 }
 
-/// Asserts that the attribute contains this peer, whose canonical attribute is the other one.
-fn has_peer<'a, F>(bytes: &'a [u8], value: &F, canonical: &[u8])
-where
-    F: LinkFamily<Context = ()> + Parseable<NlaBuffer<'a>> + ExactEq + Clone,
-{
-    is_parsed(bytes, value);
-    is_read((), bytes, value);
-    let marked = same_with_flags::<F>((), bytes);
-    let same = are_same::<F>((), bytes, canonical);
-    assert_is(
-        ("flag bits, same, a clone", bytes),
-        (
-            marked,
-            same,
-            is_equal(&value.try_clone().expect("memory"), value),
-        ),
-        (true, true, true),
-    );
-    is_emitted(value, canonical);
-}
-
 /// Asserts that the family reads peers as bytes: the values are those of the byte strings `EMPTY`
 /// and `TWO`.
 fn has_peers_of_bytes<'a, F>((empty_bytes, two_bytes): (&'a [u8], &'a [u8]), values: [F; 2])
@@ -86,8 +66,8 @@ where
     F: LinkFamily<Context = ()> + Parseable<NlaBuffer<'a>> + ExactEq + Clone,
 {
     let [empty, two] = &values;
-    has_peer(empty_bytes, empty, EMPTY);
-    has_peer(two_bytes, two, TWO);
+    has_canonical(empty_bytes, empty, EMPTY);
+    has_canonical(two_bytes, two, TWO);
     has_first(two);
     assert_is("peers equal", is_equal(empty, two), false);
     compares_bytes::<F>();
@@ -122,9 +102,9 @@ fn has_peers_of_bits<'a, F>(
 {
     assert_is("family", <F as LinkFamily>::FAMILY, family);
     let [set, clear] = &values;
-    has_peer(seven, set, ONE);
-    has_peer(nine, set, ONE);
-    has_peer(zero, clear, ZERO);
+    has_canonical(seven, set, ONE);
+    has_canonical(nine, set, ONE);
+    has_canonical(zero, clear, ZERO);
     assert_is("peers equal", is_equal(set, clear), false);
     is_not_parsed::<F>(two, rejected(family));
     // The peer, and not the family, rejects a payload of another length.
@@ -149,13 +129,13 @@ fn compares_bits<F: LinkFamily<Context = ()>>() {
     compare_lists::<F>((), PAIRS_OF_LISTS_OF_BITS);
 }
 
-/// Asserts that the first attribute of `TAIL` alone is read as the value, and what follows it is
-/// not examined.
+/// Asserts that `BARE` and the first attribute of `TAIL` alone are read as the value, and what
+/// follows it is not examined.
 fn has_first<F>(value: &F)
 where
     F: LinkFamily<Context = ()> + ExactEq,
 {
-    is_first((), &TAIL[..6], value);
+    is_first((), BARE, value);
     is_first((), TAIL, value);
     let same = firsts_same::<F>((), TAIL, TAIL);
     assert_is("first_same", same, (true, 2));
@@ -167,11 +147,8 @@ where
 /// rejected.
 fn refuses_two_bytes<F: LinkFamily<Context = ()>>() {
     let expected = rejected(F::FAMILY);
-    assert_is(
-        "first_check, list_check",
-        [first_checked::<F>((), TAIL), list_checked::<F>((), TAIL)],
-        [(Err(expected), 1), (Err(expected), 1)],
-    );
+    checks_first::<F>((), TAIL, (Err(expected), 1));
+    checks_list::<F>((), TAIL, (Err(expected), 1));
 }
 
 #[test]
@@ -226,16 +203,24 @@ fn netkit_with_peers_of_bits() {
     has_peers_of_bits(Family::Netkit, (SEVEN, NINE, ZERO, TWO), values);
 }
 
+impl<P: LinkPeer> HoldsOthers for InfoVethOf<P> {
+    fn from_other(nla: DefaultNla) -> InfoVethOf<P> {
+        InfoVethOf::Other(nla)
+    }
+}
+
+impl<P: LinkPeer> HoldsOthers for InfoVxcanOf<P> {
+    fn from_other(nla: DefaultNla) -> InfoVxcanOf<P> {
+        InfoVxcanOf::Other(nla)
+    }
+}
+
 #[test]
 fn types_without_a_row() {
-    let veth = InfoVeth::Other(unlisted());
-    keeps_unlisted((), &UNLISTED, veth);
-    let veth = InfoVethOf::<BitPeer>::Other(unlisted());
-    keeps_unlisted((), &UNLISTED, veth);
-    let vxcan = InfoVxcan::Other(unlisted());
-    keeps_unlisted((), &UNLISTED, vxcan);
-    let vxcan = InfoVxcanOf::<BitPeer>::Other(unlisted());
-    keeps_unlisted((), &UNLISTED, vxcan);
+    keeps_unlisted::<InfoVeth>((), UNLISTED);
+    keeps_unlisted::<InfoVethOf<BitPeer>>((), UNLISTED);
+    keeps_unlisted::<InfoVxcan>((), UNLISTED);
+    keeps_unlisted::<InfoVxcanOf<BitPeer>>((), UNLISTED);
 }
 
 /// Asserts that the value has this length, if it fits.

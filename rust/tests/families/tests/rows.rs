@@ -18,7 +18,7 @@ pub(super) fn assert_is<T: PartialEq + Debug>(case: impl Debug, found: T, wanted
 }
 
 /// An attribute with one byte, of a type that no family here defines, flag bits included.
-pub(super) const UNLISTED: [u8; 8] = [5, 0, 0xff, 0x80, 1, 0, 0, 0];
+pub(super) const UNLISTED: &[u8] = &[5, 0, 0xff, 0x80, 1, 0, 0, 0];
 
 /// An opaque attribute of a type and a payload.
 pub(super) fn kept(kind: u16, payload: &[u8]) -> DefaultNla {
@@ -29,6 +29,29 @@ pub(super) fn kept(kind: u16, payload: &[u8]) -> DefaultNla {
 pub(super) fn unlisted() -> DefaultNla {
     kept(0x80ff, &[1])
 }
+
+/// A family that keeps opaque attributes. The helpers make such a value by this call, and no test
+/// passes one to them.
+pub(super) trait HoldsOthers: Sized {
+    /// The value of an opaque attribute.
+    fn from_other(nla: DefaultNla) -> Self;
+}
+
+/// A family with rows.
+pub(super) trait HasExample: HoldsOthers {
+    /// A value of a row.
+    fn example() -> Self;
+}
+
+/// The error of a header, and of stray bytes.
+pub(super) const HEADER: DecodeError = DecodeError {
+    family: Family::Frame,
+    kind: 0,
+    cause: Cause::Header,
+};
+
+/// The result of a check, and the headers examined.
+pub(super) type Checked = (Result<(), DecodeError>, usize);
 
 /// The first attribute of the bytes.
 pub(super) fn attribute<'a>(bytes: &'a [u8]) -> NlaBuffer<'a> {
@@ -86,11 +109,6 @@ pub(super) fn is_read<F: LinkFamily + ExactEq>(ctx: F::Context, bytes: &[u8], va
         (is_equal(&read, value), checked::<F>(ctx, bytes)),
         (true, (None, 0)),
     );
-}
-
-/// Asserts that the attribute is read as the value, with no header examined inside.
-pub(super) fn reads<F: LinkFamily + ExactEq>(ctx: F::Context, bytes: &[u8], value: F) {
-    is_read(ctx, bytes, &value);
 }
 
 /// The error of reading the attribute, if any, and the headers examined inside it.
@@ -236,6 +254,23 @@ pub(super) fn is_mark<F: LinkFamily + ExactEq>(ctx: F::Context, bytes: &[u8; 4],
     is_written_as::<F>(ctx, &longer, bytes);
 }
 
+/// Asserts that the attribute is read as the value, whose canonical attribute is the other one.
+pub(super) fn has_canonical<'a, F>(bytes: &'a [u8], value: &F, canonical: &[u8])
+where
+    F: LinkFamily<Context = ()> + Parseable<NlaBuffer<'a>> + ExactEq + Clone,
+{
+    is_parsed(bytes, value);
+    is_read((), bytes, value);
+    let found = [
+        same_with_flags::<F>((), bytes),
+        are_same::<F>((), bytes, canonical),
+        are_same::<F>((), canonical, bytes),
+        is_equal(&value.try_clone().expect("memory"), value),
+    ];
+    assert_is(("flag bits, same, a clone", bytes), found, [true; 4]);
+    is_emitted(value, canonical);
+}
+
 /// Asserts that the attribute `UNLISTED` is the value, an opaque attribute whose flag bits matter,
 /// and that a clone is equal.
 pub(super) fn is_kept<F: LinkFamily + ExactEq + Clone>(
@@ -270,77 +305,98 @@ where
     has_one_length::<F>((), bytes);
 }
 
-/// Asserts that the attribute is the canonical one of the value.
-pub(super) fn has_row_of<'a, F>(bytes: &'a [u8], value: F)
-where
-    F: LinkFamily<Context = ()> + Parseable<NlaBuffer<'a>> + ExactEq,
-{
-    has_row(bytes, &value);
+/// Reads the attribute, and asserts that `Debug` writes its value as this text. In many texts the
+/// number is 258, which is 0x0102, or 16909060, which is 0x01020304: it shows the order of bytes.
+pub(super) fn value_of<F: LinkFamily + Debug>(ctx: F::Context, bytes: &[u8], text: &str) -> F {
+    let nla = attribute(bytes);
+    let value = F::read(&nla, ctx, &mut HeaderCount::new()).expect("a value");
+    is_text(bytes, &value, text);
+    value
 }
 
-/// Asserts that each attribute is the canonical one of the value with the same index.
-pub(super) fn has_rows_of<'a, F, const N: usize>(attributes: &[&'a [u8]], values: [F; N])
-where
-    F: LinkFamily<Context = ()> + Parseable<NlaBuffer<'a>> + ExactEq,
-{
-    has_row_at_each_place(attributes, values.as_slice());
+/// Asserts that `Debug` writes the value of this case as this text.
+pub(super) fn is_text<T: Debug>(case: impl Debug, value: &T, text: &str) {
+    let found = try_format!("{value:?}").expect("memory");
+    assert_is(case, found.as_str(), text);
 }
 
-fn has_row_at_each_place<'a, F>(attributes: &[&'a [u8]], values: &[F])
+/// Asserts that each attribute is the canonical one of the value that `Debug` writes as its text.
+pub(super) fn has_rows<'a, F>(rows: &[(&'a [u8], &str)])
 where
-    F: LinkFamily<Context = ()> + Parseable<NlaBuffer<'a>> + ExactEq,
+    F: LinkFamily<Context = ()> + Parseable<NlaBuffer<'a>> + ExactEq + Debug,
 {
-    assert!(attributes.len() == values.len());
-    for (bytes, value) in attributes.iter().zip(values) {
-        has_row(bytes, value);
+    for (bytes, text) in rows {
+        let value: F = value_of((), bytes, text);
+        has_row(bytes, &value);
     }
 }
 
-/// Asserts that each attribute is the canonical one of a presence flag, and is parsed as its value.
-pub(super) fn has_marks<'a, F>(rows: &[(&'a [u8; 4], F)])
+/// Asserts that each attribute is the canonical one of the presence flag that `Debug` writes as its
+/// text, and is parsed as it.
+pub(super) fn has_marks<'a, F>(rows: &[(&'a [u8; 4], &str)])
 where
-    F: LinkFamily<Context = ()> + Parseable<NlaBuffer<'a>> + ExactEq,
+    F: LinkFamily<Context = ()> + Parseable<NlaBuffer<'a>> + ExactEq + Debug,
 {
-    for (bytes, value) in rows {
-        is_parsed(bytes.as_slice(), value);
-        is_mark((), bytes, value);
+    for (bytes, text) in rows {
+        let value: F = value_of((), bytes.as_slice(), text);
+        is_parsed(bytes.as_slice(), &value);
+        is_mark((), bytes, &value);
     }
 }
 
-/// Asserts that the attribute `UNLISTED` is parsed as the value, an opaque attribute.
-pub(super) fn keeps_unlisted<'a, F>(ctx: F::Context, unlisted: &'a [u8], value: F)
+/// Asserts that the attribute `UNLISTED` is parsed as an opaque attribute.
+pub(super) fn keeps_unlisted<'a, F>(ctx: F::Context, unlisted_bytes: &'a [u8])
 where
-    F: LinkFamily + Parseable<NlaBuffer<'a>> + ExactEq + Clone,
+    F: HoldsOthers + LinkFamily + Parseable<NlaBuffer<'a>> + ExactEq + Clone,
 {
-    is_parsed(unlisted, &value);
-    is_kept(ctx, unlisted, &value);
+    let value = F::from_other(unlisted());
+    is_parsed(unlisted_bytes, &value);
+    is_kept(ctx, unlisted_bytes, &value);
 }
 
-/// Asserts that each attribute is the canonical one of its value, and that the attribute `UNLISTED`
-/// is parsed as the last value, an opaque attribute.
-pub(super) fn has_rows_and_others<'a, F>(rows: &[(&'a [u8], F)], unlisted: &'a [u8], other: F)
-where
-    F: LinkFamily<Context = ()> + Parseable<NlaBuffer<'a>> + ExactEq + Clone,
+/// Asserts that each attribute is the canonical one of the value that `Debug` writes as its text,
+/// that the attribute `UNLISTED` is parsed as an opaque attribute, and that the last attribute is
+/// the canonical one of the example.
+pub(super) fn has_rows_and_others<'a, F>(
+    rows: &[(&'a [u8], &str)],
+    unlisted_bytes: &'a [u8],
+    example: &'a [u8],
+) where
+    F: HasExample + LinkFamily<Context = ()> + Parseable<NlaBuffer<'a>> + ExactEq + Clone + Debug,
 {
-    for (bytes, value) in rows {
-        has_row(bytes, value);
-    }
-    keeps_unlisted((), unlisted, other);
+    has_rows::<F>(rows);
+    keeps_unlisted::<F>((), unlisted_bytes);
+    has_row(example, &F::example());
 }
 
-/// Asserts that the attribute is parsed as the value.
-pub(super) fn parses<'a, F: Parseable<NlaBuffer<'a>> + ExactEq>(bytes: &'a [u8], value: F) {
+/// Asserts that the attribute is parsed as an opaque attribute of this type and payload.
+pub(super) fn keeps_other<'a, F>(bytes: &'a [u8], kind: u16, payload: &[u8])
+where
+    F: HoldsOthers + Parseable<NlaBuffer<'a>> + ExactEq,
+{
+    let value = F::from_other(kept(kind, payload));
     is_parsed(bytes, &value);
 }
 
-/// Asserts that the attribute is parsed as the value, which is emitted as the canonical one.
-pub(super) fn is_rewritten<'a, F: Parseable<NlaBuffer<'a>> + Nla + ExactEq>(
-    bytes: &'a [u8],
-    value: F,
-    canonical: &[u8],
-) {
-    is_parsed(bytes, &value);
+/// Asserts that the attribute is parsed as the value that `Debug` writes as this text, which is
+/// emitted as the canonical attribute.
+pub(super) fn is_rewritten<'a, F>(bytes: &'a [u8], text: &str, canonical: &[u8])
+where
+    F: Parseable<NlaBuffer<'a>> + Nla + Debug,
+{
+    let value = F::parse(&attribute(bytes)).expect("a value");
+    is_text(bytes, &value, text);
     is_emitted(&value, canonical);
+}
+
+/// Asserts that the attribute is parsed and read as the value that `Debug` writes as this text.
+pub(super) fn reads<'a, F>(bytes: &'a [u8], text: &str)
+where
+    F: LinkFamily<Context = ()> + Parseable<NlaBuffer<'a>> + ExactEq + Debug,
+{
+    let value: F = value_of((), bytes, text);
+    is_parsed(bytes, &value);
+    is_read((), bytes, &value);
 }
 
 /// Asserts that `parse` rejects the attribute with this error.
@@ -352,34 +408,34 @@ pub(super) fn is_not_parsed<'a, F: Parseable<NlaBuffer<'a>>>(
     assert_is(("not parsed", bytes), read.err(), Some(expected));
 }
 
-/// The result of `list_check`, and the headers examined.
-pub(super) fn list_checked<F: LinkFamily>(
-    ctx: F::Context,
-    bytes: &[u8],
-) -> (Result<(), DecodeError>, usize) {
+/// Asserts the result of `list_check`, and the headers examined.
+pub(super) fn checks_list<F: LinkFamily>(ctx: F::Context, bytes: &[u8], wanted: Checked) {
     let mut count = HeaderCount::new();
     let checked = list_check::<F>(bytes, ctx, &mut count);
-    (checked, count.get())
+    assert_is(("list_check", bytes), (checked, count.get()), wanted);
 }
 
-/// The error of `list_read`, if any, and the headers examined.
-pub(super) fn list_error<F: LinkFamily>(
+/// Asserts that `list_read` returns this error, with this number of headers examined.
+pub(super) fn refuses_list<F: LinkFamily>(
     ctx: F::Context,
     bytes: &[u8],
-) -> (Option<DecodeError>, usize) {
+    wanted: (DecodeError, usize),
+) {
+    let (expected, headers) = wanted;
     let mut count = HeaderCount::new();
     let read: Result<Vec<F>, DecodeError> = list_read(bytes, ctx, &mut count);
-    (read.err(), count.get())
+    assert_is(
+        ("list_read", bytes),
+        (read.err(), count.get()),
+        (Some(expected), headers),
+    );
 }
 
-/// The result of `first_check`, and the headers examined.
-pub(super) fn first_checked<F: LinkFamily>(
-    ctx: F::Context,
-    bytes: &[u8],
-) -> (Result<(), DecodeError>, usize) {
+/// Asserts the result of `first_check`, and the headers examined.
+pub(super) fn checks_first<F: LinkFamily>(ctx: F::Context, bytes: &[u8], wanted: Checked) {
     let mut count = HeaderCount::new();
     let checked = first_check::<F>(bytes, ctx, &mut count);
-    (checked, count.get())
+    assert_is(("first_check", bytes), (checked, count.get()), wanted);
 }
 
 /// Asserts that the list is accepted.
@@ -443,13 +499,23 @@ pub(super) fn first_is_written_as<F: LinkFamily>(ctx: F::Context, bytes: &[u8], 
     begins_with(&buffer, canonical);
 }
 
-/// Whether two accepted lists are equivalent, and the headers examined.
-fn lists_same<F: LinkFamily>(ctx: F::Context, a: &[u8], b: &[u8]) -> (bool, usize) {
+/// Asserts that two accepted lists are equivalent, with this number of headers examined, or are
+/// not.
+pub(super) fn compare_two_lists<F: LinkFamily>(
+    ctx: F::Context,
+    a: &[u8],
+    b: &[u8],
+    wanted: Option<usize>,
+) {
     is_accepted::<F>(ctx, a);
     is_accepted::<F>(ctx, b);
     let mut count = HeaderCount::new();
     let same = list_same::<F>(a, b, ctx, &mut count);
-    (same, count.get())
+    assert_is(
+        ("lists, headers", a, b),
+        same.then_some(count.get()),
+        wanted,
+    );
 }
 
 /// Asserts of each pair of accepted lists that they are equivalent, with this number of headers
@@ -459,8 +525,7 @@ pub(super) fn compare_lists<F: LinkFamily>(
     pairs: &[(&[u8], &[u8], Option<usize>)],
 ) {
     for (a, b, wanted) in pairs {
-        let (same, headers) = lists_same::<F>(ctx, a, b);
-        assert_is(("lists, headers", a, b), same.then_some(headers), *wanted);
+        compare_two_lists::<F>(ctx, a, b, *wanted);
     }
 }
 
@@ -504,11 +569,24 @@ pub(super) fn is_list_of<F: LinkFamily + ExactEq>(ctx: F::Context, bytes: &[u8],
     list_is_emitted(values, bytes);
 }
 
-/// Asserts that the list is read as the values, which are emitted as the list.
-pub(super) fn is_list<F: LinkFamily + ExactEq, const N: usize>(
+/// Asserts that the list is read as the values that `Debug` writes as this text, which are emitted
+/// as the list.
+pub(super) fn is_list<F: LinkFamily + ExactEq + Debug>(ctx: F::Context, bytes: &[u8], text: &str) {
+    let values = list_read::<F>(bytes, ctx, &mut HeaderCount::new()).expect("a list");
+    is_text(bytes, &values.as_slice(), text);
+    is_list_of(ctx, bytes, values.as_slice());
+}
+
+/// Asserts that the list is read as one opaque attribute of this type and payload, which is emitted
+/// as the list.
+pub(super) fn is_list_of_other<F: HoldsOthers + LinkFamily + ExactEq>(
     ctx: F::Context,
     bytes: &[u8],
-    values: [F; N],
+    kind: u16,
+    payload: &[u8],
 ) {
+    let mut values = Vec::new();
+    let value = F::from_other(kept(kind, payload));
+    values.try_push(value).expect("memory");
     is_list_of(ctx, bytes, values.as_slice());
 }

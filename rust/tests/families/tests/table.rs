@@ -7,9 +7,7 @@ use linkinfo::layers::table::{Datum, Decoded, Encodable, LinkPeer, PeerFault, Sh
 
 /// Asserts that the payload is read as a peer that is emitted as the payload.
 fn is_peer(payload: &[u8; 2]) {
-    let Ok(peer) = <Bytes as LinkPeer>::read(payload) else {
-        panic!("the payload is a peer");
-    };
+    let peer = <Bytes as LinkPeer>::read(payload).expect("a peer");
     assert!(peer.len() == 2);
     let mut buffer = [0; 2];
     LinkPeer::emit(&peer, &mut buffer);
@@ -79,6 +77,26 @@ fn kept_compare(first: DefaultNla, second: DefaultNla) -> [bool; 2] {
     [encodables, Decoded::Kept(first) == Decoded::Kept(second)]
 }
 
+/// Whether two parts are equal, by `==` and by `!=`.
+fn are_equal(a: &Encodable<'_>, b: &Encodable<'_>) -> (bool, bool) {
+    (*a == *b, *a != *b)
+}
+
+/// Asserts that parts of a type with a row compare by shape and datum, and that `Custom` is equal
+/// to itself alone.
+fn parts_compare(bytes: &[u8], same: &[u8]) {
+    let part = Encodable::Typed(1, Shape::Raw, Datum::Bytes(bytes));
+    let of_other_shape = Encodable::Typed(1, Shape::Name, Datum::Bytes(same));
+    let compared = [
+        are_equal(&part, &Encodable::Typed(1, Shape::Raw, Datum::Bytes(same))),
+        are_equal(&part, &of_other_shape),
+        are_equal(&part, &Encodable::Custom),
+        are_equal(&Encodable::Custom, &Encodable::Custom),
+    ];
+    let wanted = [(true, false), (false, true), (false, true), (true, false)];
+    assert_is("parts", compared, wanted);
+}
+
 #[test]
 fn parts_compare_by_value() {
     let text = [b'a', b'b'];
@@ -86,14 +104,5 @@ fn parts_compare_by_value() {
     typed_compare(&Decoded::Typed(1, Datum::Bytes(&text)), &same);
     let kept = kept_compare(kept(7, &[1]), kept(7, &[1]));
     assert_is("kept attributes", kept, [true; 2]);
-    let part = Encodable::Typed(1, Shape::Raw, Datum::Bytes(&text));
-    let equal = Encodable::Typed(1, Shape::Raw, Datum::Bytes(&same));
-    let of_other_shape = Encodable::Typed(1, Shape::Name, Datum::Bytes(&same));
-    let compared = [
-        Encodable::Custom == Encodable::Custom,
-        part == equal,
-        part != of_other_shape,
-        part != Encodable::Custom,
-    ];
-    assert_is("parts", compared, [true; 4]);
+    parts_compare(&text, &same);
 }

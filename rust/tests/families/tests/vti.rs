@@ -1,42 +1,57 @@
 //! Rows of VTI tunnels.
 
-use super::rows::{UNLISTED, has_rows_and_others, has_rows_of, unlisted};
+use super::rows::{HasExample, HoldsOthers, UNLISTED, has_rows, has_rows_and_others};
+use linkinfo::layers::nla_frame::DefaultNla;
 use linkinfo::layers::tunnels::InfoVti;
-use std::net::{IpAddr, Ipv4Addr, Ipv6Addr};
+use std::net::{IpAddr, Ipv6Addr};
 
-/// Canonical attributes, and what they mean.
-const ROWS: [(&[u8], InfoVti); 6] = [
-    (&[8, 0, 1, 0, 4, 3, 2, 1], InfoVti::Link(0x0102_0304)),
-    (&[8, 0, 2, 0, 1, 2, 3, 4], InfoVti::IKey(0x0102_0304)),
-    (&[8, 0, 3, 0, 1, 2, 3, 4], InfoVti::OKey(0x0102_0304)),
-    (&[8, 0, 6, 0, 4, 3, 2, 1], InfoVti::FwMark(0x0102_0304)),
-    (&[8, 0, 2, 0, 0, 0, 0, 1], InfoVti::IKey(1)),
-    (&[8, 0, 1, 0, 1, 0, 0, 0], InfoVti::Link(1)),
+/// Canonical attributes, and their values as `Debug` writes them.
+const ROWS: &[(&[u8], &str)] = &[
+    (&[8, 0, 1, 0, 4, 3, 2, 1], "Link(16909060)"),
+    (&[8, 0, 2, 0, 1, 2, 3, 4], "IKey(16909060)"),
+    (&[8, 0, 3, 0, 1, 2, 3, 4], "OKey(16909060)"),
+    (&[8, 0, 6, 0, 4, 3, 2, 1], "FwMark(16909060)"),
+    (&[8, 0, 2, 0, 0, 0, 0, 1], "IKey(1)"),
+    (&[8, 0, 1, 0, 1, 0, 0, 0], "Link(1)"),
 ];
 
 /// Canonical attributes of 10.0.0.1 and fe80::2: local and remote address.
-const ADDRESSES: &[&[u8]] = &[
-    &[8, 0, 4, 0, 10, 0, 0, 1],
-    &[
-        20, 0, 4, 0, 0xfe, 0x80, 0, 0, 0, 0, 0, 0, 0, 0, 0, 0, 0, 0, 0, 2,
-    ],
-    &[8, 0, 5, 0, 10, 0, 0, 1],
-    &[
-        20, 0, 5, 0, 0xfe, 0x80, 0, 0, 0, 0, 0, 0, 0, 0, 0, 0, 0, 0, 0, 2,
-    ],
+const ADDRESSES: &[(&[u8], &str)] = &[
+    (&[8, 0, 4, 0, 10, 0, 0, 1], "Local(10.0.0.1)"),
+    (
+        &[
+            20, 0, 4, 0, 0xfe, 0x80, 0, 0, 0, 0, 0, 0, 0, 0, 0, 0, 0, 0, 0, 2,
+        ],
+        "Local(fe80::2)",
+    ),
+    (&[8, 0, 5, 0, 10, 0, 0, 1], "Remote(10.0.0.1)"),
+    (
+        &[
+            20, 0, 5, 0, 0xfe, 0x80, 0, 0, 0, 0, 0, 0, 0, 0, 0, 0, 0, 0, 0, 2,
+        ],
+        "Remote(fe80::2)",
+    ),
 ];
+
+/// The canonical attribute of the local address fe80::2.
+const LOCAL: &[u8] = &[
+    20, 0, 4, 0, 0xfe, 0x80, 0, 0, 0, 0, 0, 0, 0, 0, 0, 0, 0, 0, 0, 2,
+];
+
+impl HoldsOthers for InfoVti {
+    fn from_other(nla: DefaultNla) -> InfoVti {
+        InfoVti::Other(nla)
+    }
+}
+
+impl HasExample for InfoVti {
+    fn example() -> InfoVti {
+        InfoVti::Local(IpAddr::V6(Ipv6Addr::new(0xfe80, 0, 0, 0, 0, 0, 0, 2)))
+    }
+}
 
 #[test]
 fn rows_of_vti() {
-    let other = InfoVti::Other(unlisted());
-    has_rows_and_others(&ROWS, &UNLISTED, other);
-    let v4 = IpAddr::V4(Ipv4Addr::new(10, 0, 0, 1));
-    let v6 = IpAddr::V6(Ipv6Addr::new(0xfe80, 0, 0, 0, 0, 0, 0, 2));
-    let addresses = [
-        InfoVti::Local(v4),
-        InfoVti::Local(v6),
-        InfoVti::Remote(v4),
-        InfoVti::Remote(v6),
-    ];
-    has_rows_of(ADDRESSES, addresses);
+    has_rows_and_others::<InfoVti>(ROWS, UNLISTED, LOCAL);
+    has_rows::<InfoVti>(ADDRESSES);
 }

@@ -1,39 +1,71 @@
 //! Rows of `xfrm` and `vrf` links, and lists and first attributes of a family.
 
 use super::rows::{
-    UNLISTED, assert_is, compare_lists, error, first_checked, firsts_same, has_rows_and_others,
-    has_shapes, is_first, is_list, is_not_parsed, list_checked, list_error, reads, unlisted,
+    HEADER, HasExample, HoldsOthers, UNLISTED, assert_is, checks_first, checks_list, compare_lists,
+    error, firsts_same, has_rows_and_others, has_shapes, is_first, is_list, is_not_parsed, is_read,
+    refuses_list, unlisted,
 };
 use linkinfo::layers::devices::{InfoVrf, InfoXfrm};
-use linkinfo::layers::nla_frame::{Cause, Family};
-use linkinfo::layers::table::Shape;
+use linkinfo::layers::nla_frame::{Cause, DefaultNla, ExactEq, Family};
+use linkinfo::layers::table::{LinkFamily, Shape};
 
-/// Canonical attributes, and what they mean.
-const ROWS_OF_XFRM: [(&[u8], InfoXfrm); 2] = [
-    (&[8, 0, 1, 0, 4, 3, 2, 1], InfoXfrm::Link(0x0102_0304)),
-    (&[8, 0, 2, 0, 4, 3, 2, 1], InfoXfrm::IfId(0x0102_0304)),
+/// Canonical attributes, and their values as `Debug` writes them.
+const ROWS_OF_XFRM: &[(&[u8], &str)] = &[
+    (&[8, 0, 1, 0, 4, 3, 2, 1], "Link(16909060)"),
+    (&[8, 0, 2, 0, 4, 3, 2, 1], "IfId(16909060)"),
 ];
 
-/// Canonical attributes, and what they mean.
-const ROWS_OF_VRF: [(&[u8], InfoVrf); 1] =
-    [(&[8, 0, 1, 0, 4, 3, 2, 1], InfoVrf::TableId(0x0102_0304))];
+/// Canonical attributes, and their values as `Debug` writes them.
+const ROWS_OF_VRF: &[(&[u8], &str)] = &[(&[8, 0, 1, 0, 4, 3, 2, 1], "TableId(16909060)")];
+
+impl HoldsOthers for InfoXfrm {
+    fn from_other(nla: DefaultNla) -> InfoXfrm {
+        InfoXfrm::Other(nla)
+    }
+}
+
+impl HasExample for InfoXfrm {
+    fn example() -> InfoXfrm {
+        InfoXfrm::IfId(0x0102_0304)
+    }
+}
+
+/// `UNLISTED` without its padding.
+const BARE: &[u8] = &[5, 0, 0xff, 0x80, 1];
+
+/// Asserts that the bytes are read as `UNLISTED`.
+fn keeps_bare<F>(bytes: &[u8])
+where
+    F: HoldsOthers + LinkFamily<Context = ()> + ExactEq,
+{
+    is_read((), bytes, &F::from_other(unlisted()));
+}
 
 #[test]
 fn rows_of_xfrm() {
     has_shapes::<InfoXfrm>((), &[(1, Shape::Le32), (2, Shape::Le32)]);
-    let other = InfoXfrm::Other(unlisted());
-    has_rows_and_others(&ROWS_OF_XFRM, &UNLISTED, other);
+    has_rows_and_others::<InfoXfrm>(ROWS_OF_XFRM, UNLISTED, &[8, 0, 2, 0, 4, 3, 2, 1]);
     let data = [8, 0, 1, 0, 2, 0, 0, 0, 8, 0, 2, 0, 10, 0, 0, 0];
-    is_list((), &data, [InfoXfrm::Link(2), InfoXfrm::IfId(10)]);
-    let kept = InfoXfrm::Other(unlisted());
-    reads((), &UNLISTED[..5], kept);
+    is_list::<InfoXfrm>((), &data, "[Link(2), IfId(10)]");
+    keeps_bare::<InfoXfrm>(BARE);
+}
+
+impl HoldsOthers for InfoVrf {
+    fn from_other(nla: DefaultNla) -> InfoVrf {
+        InfoVrf::Other(nla)
+    }
+}
+
+impl HasExample for InfoVrf {
+    fn example() -> InfoVrf {
+        InfoVrf::TableId(0x0102_0304)
+    }
 }
 
 #[test]
 fn rows_of_vrf() {
     has_shapes::<InfoVrf>((), &[(1, Shape::Le32)]);
-    let other = InfoVrf::Other(unlisted());
-    has_rows_and_others(&ROWS_OF_VRF, &UNLISTED, other);
+    has_rows_and_others::<InfoVrf>(ROWS_OF_VRF, UNLISTED, &[8, 0, 1, 0, 4, 3, 2, 1]);
 }
 
 /// Asserts that a number of this type is not parsed from an attribute of this length.
@@ -58,28 +90,18 @@ fn other_lengths() {
     }
 }
 
+/// A table ID of one byte, and a stray byte.
+const LATE: &[u8] = &[5, 0, 1, 0, 7, 0, 0, 0, 1];
+
 #[test]
 fn lists_are_checked() {
-    let header = error(Family::Frame, 0, Cause::Header);
-    let length = error(Family::Vrf, 1, Cause::Length);
+    // A stray byte, and no bytes.
+    checks_list::<InfoXfrm>((), &[4, 0, 9, 0, 0], (Err(HEADER), 1));
+    checks_list::<InfoXfrm>((), &[], (Ok(()), 0));
     // The first error in byte order: a length before a stray byte.
-    let late = [5, 0, 1, 0, 7, 0, 0, 0, 1];
-    assert_is(
-        "a stray byte, no bytes",
-        [
-            list_checked::<InfoXfrm>((), &[4, 0, 9, 0, 0]),
-            list_checked::<InfoXfrm>((), &[]),
-        ],
-        [(Err(header), 1), (Ok(()), 0)],
-    );
-    assert_is(
-        "list_check, list_read",
-        (
-            list_checked::<InfoVrf>((), &late),
-            list_error::<InfoVrf>((), &late),
-        ),
-        ((Err(length), 1), (Some(length), 1)),
-    );
+    let length = error(Family::Vrf, 1, Cause::Length);
+    checks_list::<InfoVrf>((), LATE, (Err(length), 1));
+    refuses_list::<InfoVrf>((), LATE, (length, 1));
 }
 
 /// An attribute of type 1.
@@ -102,21 +124,19 @@ fn lists_are_compared() {
     compare_lists::<InfoXfrm>((), PAIRS);
 }
 
+/// The table ID 7, and two stray bytes.
+const TABLE: &[u8] = &[8, 0, 1, 0, 7, 0, 0, 0, 9, 9];
+
+/// The table ID 7, with a flag bit in its type.
+const MARKED: &[u8] = &[8, 0, 1, 0x40, 7, 0, 0, 0];
+
 #[test]
 fn first_attributes_are_read_alone() {
-    let header = error(Family::Frame, 0, Cause::Header);
-    let one = [8, 0, 1, 0x40, 7, 0, 0, 0];
-    let two = [8, 0, 1, 0, 7, 0, 0, 0, 9, 9];
-    is_first((), &two, &InfoVrf::TableId(7));
-    assert_is(
-        "a stray byte, no bytes, a length below the header's",
-        [
-            first_checked::<InfoVrf>((), &two),
-            first_checked::<InfoVrf>((), &[]),
-            first_checked::<InfoVrf>((), &[3, 0, 1, 0]),
-        ],
-        [(Ok(()), 1), (Err(header), 0), (Err(header), 1)],
-    );
-    let same = firsts_same::<InfoVrf>((), &one, &two);
+    is_first((), TABLE, &InfoVrf::TableId(7));
+    // A stray byte, no bytes, and a length below that of a header.
+    checks_first::<InfoVrf>((), TABLE, (Ok(()), 1));
+    checks_first::<InfoVrf>((), &[], (Err(HEADER), 0));
+    checks_first::<InfoVrf>((), &[3, 0, 1, 0], (Err(HEADER), 1));
+    let same = firsts_same::<InfoVrf>((), MARKED, TABLE);
     assert_is("first_same", same, (true, 2));
 }

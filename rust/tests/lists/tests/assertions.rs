@@ -116,9 +116,20 @@ pub fn bytes_of(text: &str) -> Vec<u8> {
     bytes
 }
 
+/// The first field of a row of a table in text, and the fields after it. Each is a line.
+pub fn first_field<'a>(row: &'a str) -> (&'a str, &'a str) {
+    assert!(row.contains('\n'), "a further field after {row}");
+    row.split_once('\n').expect("a further field")
+}
+
 /// A list of attributes of a family.
 pub fn nlas<T, const N: usize>(items: [T; N]) -> Nlas<T> {
     Nlas::new(Vec::try_from_array(items).expect("memory"))
+}
+
+/// The number of bytes that the value is written as, if it fits.
+pub fn len_of<T: Nla>(value: T) -> Option<usize> {
+    value.fit_len()
 }
 
 /// A copy of the bytes.

@@ -1,7 +1,8 @@
 //! Values written as attributes.
 
 use super::assertions::{
-    assert_attribute, assert_equal, assert_holds, bytes_of, copied, default_nla, nlas, repeated,
+    assert_attribute, assert_equal, assert_holds, bytes_of, copied, default_nla, len_of, nlas,
+    repeated,
 };
 use crate::support::*;
 use linkinfo::layers::link::families::BitPeer;
@@ -35,11 +36,6 @@ fn data_is_written() {
     // Data without a family.
     let other = InfoData::Other(copied(&[7]));
     assert_clones(other, "05000200 07000000");
-}
-
-/// The number of bytes that the value is written as, if it fits.
-fn len_of<T: Nla>(value: T) -> Option<usize> {
-    value.fit_len()
 }
 
 /// The number of bytes that data of this many bytes is written as, if it fits.

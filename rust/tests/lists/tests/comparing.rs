@@ -10,7 +10,7 @@ use super::worked::{
 use linkinfo::layers::link::{HeaderCount, same, same_counted};
 
 /// Accepted byte strings, and whether they are equivalent.
-const PAIRS: &[(&str, &str, bool)] = &[
+const LISTS: &[(&str, &str, bool)] = &[
     ("", "", true),
     ("", "04000900", false),
     (PFCP_NO_NUL, PFCP, true),
@@ -34,6 +34,10 @@ const PAIRS: &[(&str, &str, bool)] = &[
     ),
     (LATER_KIND, "09000100 7866726d 00000000 04000200", false),
     (DATA_TWICE, XFRM, false),
+];
+
+/// Links with data, and whether they are equivalent.
+const LINKS: &[(&str, &str, bool)] = &[
     (MACVLAN_LIST, MACVLAN_SHORT_LIST, true),
     (GRE_DISCOVERY, GRE_NO_DISCOVERY, true),
     (NETKIT_SCRUB, NETKIT_SCRUB_DEFAULT, true),
@@ -60,9 +64,15 @@ fn assert_compared((a, b, wanted): (&str, &str, bool)) {
     assert_equal(&case, &equal, &wanted);
 }
 
-#[test]
-fn compares_strings() {
-    for pair in PAIRS {
+/// Asserts of each pair what `assert_compared` says.
+fn assert_all_compared(pairs: &[(&str, &str, bool)]) {
+    for pair in pairs {
         assert_compared(*pair);
     }
+}
+
+#[test]
+fn compares_strings() {
+    assert_all_compared(LISTS);
+    assert_all_compared(LINKS);
 }

@@ -4,10 +4,14 @@
 //! by `RTM_GETLINK`. Each byte string is accepted and is its own canonical encoding.
 
 use super::assertions::{assert_canon_into, assert_emitted, assert_equal, parsed};
+use crate::support::*;
 use linkinfo::layers::link::{check, same};
 
-/// The names of the links, and the contents of `IFLA_LINKINFO`.
-const DUMPS: &[(&str, &[u8])] = &[
+/// The name of a link, and the contents of `IFLA_LINKINFO`.
+pub type Reply = (&'static str, &'static [u8]);
+
+/// The names of links, and the contents of `IFLA_LINKINFO`.
+const BRIDGES: &[Reply] = &[
     (
         "br0",
         b"\x0b\0\x01\0bridge\0\0\x8c\x01\x02\0\x0c\0\x10\0\0\0\0\0\0\0\0\0\x0c\0\x11\0\0\0\0\0\0\0\
@@ -40,6 +44,10 @@ const DUMPS: &[(&str, &[u8])] = &[
           \0\x05\0%\0\0\0\0\0\x05\0&\0\0\0\0\0",
     ),
     ("ifb0", b"\x08\0\x01\0ifb\0"),
+];
+
+/// Macvlan and macvtap links, as in `BRIDGES`.
+const MACVLANS: &[Reply] = &[
     (
         "mvl-br",
         b"\x0c\0\x01\0macvlan\x004\0\x02\0\x08\0\x01\0\x04\0\0\0\x06\0\x02\0\0\0\0\0\x08\0\x06\0\0\
@@ -104,6 +112,10 @@ const DUMPS: &[(&str, &[u8])] = &[
         b"\x0c\0\x01\0macvtap\0,\0\x02\0\x08\0\x01\0\x02\0\0\0\x06\0\x02\0\0\0\0\0\x08\0\x06\0\0\0\
           \0\0\x08\0\x07\0\xe8\x03\0\0\x08\0\x08\0\xe8\x03\0\0",
     ),
+];
+
+/// Tun, tap and veth links, as in `BRIDGES`.
+const TUNS: &[Reply] = &[
     (
         "tap-mq",
         b"\x08\0\x01\0tun\0<\0\x02\0\x05\0\x03\0\x02\0\0\0\x05\0\x04\0\x01\0\0\0\x05\0\x05\0\0\0\0\
@@ -172,6 +184,10 @@ const DUMPS: &[(&str, &[u8])] = &[
           \0\0\0",
     ),
     ("ve10", b"\x09\0\x01\0veth\0\0\0\0"),
+];
+
+/// Vxlan links, as in `BRIDGES`.
+const VXLANS: &[Reply] = &[
     (
         "vx-ext",
         b"\x0a\0\x01\0vxlan\0\0\0\xc8\0\x02\0\x08\0\x01\0\0\0\0\0\x05\0\x05\0\0\0\0\0\x05\0\x1c\0\0\
@@ -275,12 +291,16 @@ const DUMPS: &[(&str, &[u8])] = &[
     ),
 ];
 
-/// The names of the links, and the contents of `IFLA_LINKINFO`.
+/// The replies of all tables.
 ///
-/// A function that names a long constant takes time to check, for each byte. So this one alone
-/// names it.
-pub fn dumps() -> &'static [(&'static str, &'static [u8])] {
-    DUMPS
+/// A function that names a table takes time to check, with the square of its rows. So this one
+/// alone names the tables.
+pub fn dumps() -> Vec<Reply> {
+    let mut replies = Vec::new();
+    for table in [BRIDGES, MACVLANS, TUNS, VXLANS] {
+        replies.try_extend_from_slice(table).expect("memory");
+    }
+    replies
 }
 
 /// Asserts that the bytes are accepted, and that the list that they parse as is written as them.
@@ -294,7 +314,7 @@ fn assert_canonical(name: &str, bytes: &[u8]) {
 
 #[test]
 fn dumps_are_canonical() {
-    for (name, bytes) in dumps() {
+    for (name, bytes) in &dumps() {
         assert_canonical(name, bytes);
     }
 }

@@ -33,6 +33,7 @@ const VNI: &str = "0a000100 76786c61 6e000000 0c000200 08000100 2a000000";
 const MAC_VLAN: &str = "0c000100 6d616376 6c616e00 20000200 1c000500 0a000400 0a0b0c0d 0e0f0000 \
      0a000400 0a0b0c0d 0e100000";
 
+/// Lists with other attributes, and with fewer.
 const CASES: &[Case] = &[
     ("", "", None),
     (VXLAN, VXLAN, None),
@@ -62,6 +63,10 @@ const CASES: &[Case] = &[
         Some((Family::LinkInfo, 2, Some(12), None)),
     ),
     ("", VNI, Some((Family::LinkInfo, 1, None, Some(0)))),
+];
+
+/// Lists with another order, lists in data, other kinds, and ports.
+const ORDERS: &[Case] = &[
     // Another order: a VNI beside a port; and offsets that differ, since a text is longer.
     (
         VXLAN,
@@ -133,11 +138,17 @@ fn assert_differ(a: &str, b: &str, wanted: Result<Option<Difference>, ErrorIn>) 
     assert_equal(&(a, b), &same(&first, &second), &are_same);
 }
 
-#[test]
-fn tells_where_lists_differ() {
-    for (a, b, at) in CASES {
+/// Asserts where the lists of each case differ.
+fn assert_all_differ(cases: &[Case]) {
+    for (a, b, at) in cases {
         assert_differ(a, b, Ok(difference(at)));
     }
+}
+
+#[test]
+fn tells_where_lists_differ() {
+    assert_all_differ(CASES);
+    assert_all_differ(ORDERS);
 }
 
 /// Two lists, and the error of one of them.

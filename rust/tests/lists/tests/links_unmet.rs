@@ -27,6 +27,7 @@ const VXLAN: &str =
 /// A list that is a kind and data with one attribute: of vxlan, the VNI 42.
 const VNI: &str = "0a000100 76786c61 6e000000 0c000200 08000100 2a000000";
 
+/// Links and requests of some kinds.
 const CASES: &[Case] = &[
     // An empty request, and one that is met.
     ("", "", None),
@@ -59,6 +60,10 @@ const CASES: &[Case] = &[
         Some((Family::LinkInfo, 2, 12, None)),
     ),
     ("", VNI, Some((Family::LinkInfo, 1, 0, None))),
+];
+
+/// Types that are there twice, other kinds, other encodings, and data without rows.
+const ENCODINGS: &[Case] = &[
     // The last of a type counts in both: VNIs 41 and 42, requested and there.
     (
         VXLAN,
@@ -106,6 +111,10 @@ const CASES: &[Case] = &[
         "09000100 626f6e64 00000000 14000200 0500ff3f 02000000 05004000 03000000",
         Some((Family::Bond, 64, 24, Some(16))),
     ),
+];
+
+/// Data as bytes, statistics and unknown attributes.
+const BYTES: &[Case] = &[
     // Veth: the first attribute of the data, as a whole.
     (
         "09000100 76657468 00000000 0c000200 06000100 aabb0000",
@@ -130,7 +139,11 @@ const CASES: &[Case] = &[
         "05000900 02000000",
         Some((Family::LinkInfo, 9, 0, Some(0))),
     ),
-    // .. of types that an index from 0 on does not have: the first in byte order.
+];
+
+/// Types that an index from 0 on does not have, ports, and data of two kinds.
+const LARGE_TYPES: &[Case] = &[
+    // Unknown attributes of such types: the first in byte order.
     (
         "05004000 01000000 05000900 01000000",
         "05004000 02000000 05000900 02000000",
@@ -178,11 +191,19 @@ fn assert_unmet(have: &str, want: &str, wanted: Result<Option<Unmet>, ErrorIn>) 
     assert_equal(&(have, want), &first_unmet(&had, &request), &wanted);
 }
 
-#[test]
-fn tells_what_is_not_met() {
-    for (have, want, at) in CASES {
+/// Asserts what of each request a link does not meet.
+fn assert_all_unmet(cases: &[Case]) {
+    for (have, want, at) in cases {
         assert_unmet(have, want, Ok(unmet(at)));
     }
+}
+
+#[test]
+fn tells_what_is_not_met() {
+    assert_all_unmet(CASES);
+    assert_all_unmet(ENCODINGS);
+    assert_all_unmet(BYTES);
+    assert_all_unmet(LARGE_TYPES);
 }
 
 /// What a link has, a request, and the error of one of them.

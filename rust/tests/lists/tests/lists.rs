@@ -8,6 +8,8 @@ use crate::support::*;
 use linkinfo::layers::link::{
     InfoData, InfoKind, InfoXfrm, LinkInfo, Nla, Nlas, VecLinkInfo, nlas_fit_len,
 };
+use std::fmt::Debug;
+use std::vec;
 
 #[test]
 fn the_empty_list_fits() {
@@ -26,10 +28,16 @@ fn emits_what_is_not_well_formed() {
     assert_reads(text, own, text);
 }
 
+/// Asserts that a clone of the value is equal to it.
+///
+/// Its type is a parameter, so that what a list must have is not shown here.
+fn assert_cloned<T: Clone + PartialEq>(case: &str, value: T) {
+    assert_holds(&case, value.try_clone().expect("memory") == value);
+}
+
 /// Asserts that a clone of the list that the bytes of the text parse as is equal to it.
 fn assert_clones(text: &str) {
-    let list = parsed(&bytes_of(text));
-    assert_holds(&text, list.try_clone().expect("memory") == list);
+    assert_cloned(text, parsed(&bytes_of(text)));
 }
 
 /// An encoding of each sort of attribute.
@@ -44,9 +52,9 @@ fn clones_are_equal() {
     }
 }
 
-/// Asserts that `Debug` writes the list as this text.
-fn assert_displays(list: VecLinkInfo, wanted: &str) {
-    let text = try_format!("{list:?}").expect("memory");
+/// Asserts that `Debug` writes the value as this text.
+fn assert_displays<T: Debug>(value: T, wanted: &str) {
+    let text = try_format!("{value:?}").expect("memory");
     assert_equal(&"as text", &text.as_str(), &wanted);
 }
 
@@ -85,20 +93,23 @@ fn assert_types(list: &VecLinkInfo, wanted: &[u16]) {
     assert_holds(&wanted, ends);
 }
 
-/// The list of the attributes of a list, iterated over by value.
-fn collected(list: VecLinkInfo) -> VecLinkInfo {
-    let mut items = Vec::new();
-    for item in list {
-        items.try_push(item).expect("memory");
+/// The items that an iterator returns by value.
+///
+/// Their type is a parameter, so that no drop of a large enum has an arm for each variant here.
+fn collected<T>(items: vec::IntoIter<T>) -> Vec<T> {
+    let mut kept = Vec::new();
+    for item in items {
+        kept.try_push(item).expect("memory");
     }
-    VecLinkInfo::from(items)
+    kept
 }
 
 /// Asserts the attributes of the list by reference and by value, and their number.
 fn assert_iterated(text: &str, types: &[u16]) {
     let list = parsed(&bytes_of(text));
     assert_types(&list, types);
-    let items = collected(list.try_clone().expect("memory"));
+    let copy = list.try_clone().expect("memory");
+    let items = VecLinkInfo::from(collected(copy.into_iter()));
     assert_holds(&text, items == list);
     assert_equal(&text, &list.into_vec().len(), &types.len());
 }

@@ -2,7 +2,7 @@
 
 use super::assertions::{
     HEADER_ERROR, assert_attribute, assert_built, assert_equal, assert_not_written, assert_read_as,
-    assert_refused, parsed, repeated,
+    assert_refused, len_of, parsed, repeated,
 };
 use super::fronts::assert_fronts;
 use crate::support::*;
@@ -63,7 +63,7 @@ fn assert_longest(string: &[u8]) {
 
 /// The number of bytes that a kind whose name is this many letters is written as, if it fits.
 fn len_of_letters(count: usize) -> Option<usize> {
-    kind_of_letters(count).fit_len()
+    len_of(kind_of_letters(count))
 }
 
 /// Asserts that the list that the bytes parse as does not fit.

@@ -10,7 +10,7 @@ use std::fmt::Display;
 
 /// By family, the beginning of the names in the kernel's headers, and the rest of the names of
 /// types 1, 2, 3 and so on; `-` is a type without a name.
-const NAMES: &[(Family, &str, &str)] = &[
+const FIRST_NAMES: &[(Family, &str, &str)] = &[
     (Family::Frame, "", "-"),
     (
         Family::LinkInfo,
@@ -47,6 +47,10 @@ const NAMES: &[(Family, &str, &str)] = &[
          ENCAP_FLAGS ENCAP_SPORT ENCAP_DPORT COLLECT_METADATA - FWMARK ERSPAN_INDEX \
          ERSPAN_VER ERSPAN_DIR ERSPAN_HWID",
     ),
+];
+
+/// The names of further families, as in `FIRST_NAMES`.
+const MIDDLE_NAMES: &[(Family, &str, &str)] = &[
     (
         Family::Gre6,
         "IFLA_GRE_",
@@ -94,6 +98,10 @@ const NAMES: &[(Family, &str, &str)] = &[
         "PEER_INFO PRIMARY POLICY PEER_POLICY MODE SCRUB PEER_SCRUB HEADROOM TAILROOM",
     ),
     (Family::Pfcp, "", "-"),
+];
+
+/// The names of the last families, as in `FIRST_NAMES`.
+const NAMES: &[(Family, &str, &str)] = &[
     (Family::RmNet, "IFLA_RMNET_", "MUX_ID FLAGS"),
     (Family::TeamPort, "", "-"),
     (Family::Tun, "", "-"),
@@ -127,7 +135,7 @@ fn assert_name(family: Family, kind: u16, prefix: &str, rest: Option<&str>) {
     assert_equal(&(family, kind), &found, &rest);
 }
 
-/// Asserts the names of the types of a family, as in `NAMES`.
+/// Asserts the names of the types of a family, as in `FIRST_NAMES`.
 fn assert_names(family: Family, prefix: &str, names: &str) {
     assert_name(family, 0, prefix, None);
     assert_name(family, u16::MAX, prefix, None);
@@ -138,11 +146,18 @@ fn assert_names(family: Family, prefix: &str, names: &str) {
     }
 }
 
-#[test]
-fn has_each_name() {
-    for (family, prefix, names) in NAMES {
+/// Asserts the names of each family, as in `FIRST_NAMES`.
+fn assert_all_names(rows: &[(Family, &str, &str)]) {
+    for (family, prefix, names) in rows {
         assert_names(*family, prefix, names);
     }
+}
+
+#[test]
+fn has_each_name() {
+    assert_all_names(FIRST_NAMES);
+    assert_all_names(MIDDLE_NAMES);
+    assert_all_names(NAMES);
 }
 
 /// Asserts that a value is displayed as the text.

@@ -11,7 +11,7 @@ use super::worked::{
 
 /// A byte string, the canonical encoding of the same list, and the value that both parse as, as
 /// `Debug` writes it.
-const VALUES: &[(&str, &str, &str)] = &[
+const TUNNELS: &[(&str, &str, &str)] = &[
     (
         GTP,
         GTP,
@@ -47,6 +47,10 @@ const VALUES: &[(&str, &str, &str)] = &[
         VTI6,
         "[Kind(Vti6), Data(Vti(Nlas { items: [IKey(9)] }))]",
     ),
+];
+
+/// Devices, as in `TUNNELS`.
+const DEVICES: &[(&str, &str, &str)] = &[
     (
         IPVLAN,
         IPVLAN,
@@ -82,6 +86,10 @@ const VALUES: &[(&str, &str, &str)] = &[
         BATADV,
         r#"[Kind(BatAdv), Data(BatAdv(Nlas { items: [AlgoName(Text { text: "BATMAN_IV" })] }))]"#,
     ),
+];
+
+/// Ports, as in `TUNNELS`.
+const PORTS: &[(&str, &str, &str)] = &[
     (
         BOND_PORT,
         BOND_PORT,
@@ -99,7 +107,7 @@ const VALUES: &[(&str, &str, &str)] = &[
     ),
 ];
 
-/// Examples of the list itself, as in `VALUES`: its attributes, and the current kinds before them.
+/// Examples of the list itself, as in `TUNNELS`: its attributes, and the current kinds before them.
 const LISTS: &[(&str, &str, &str)] = &[
     ("", "", "[]"),
     (PFCP_NO_NUL, PFCP, "[Kind(Pfcp)]"),
@@ -123,6 +131,10 @@ const LISTS: &[(&str, &str, &str)] = &[
         LATER_KIND,
         "[Kind(Vrf), Kind(Xfrm), Data(Xfrm(Nlas { items: [] }))]",
     ),
+];
+
+/// Examples of further attributes of the list, as in `TUNNELS`.
+const ATTRIBUTES: &[(&str, &str, &str)] = &[
     (
         VETH_TAIL,
         VETH,
@@ -155,12 +167,19 @@ const LISTS: &[(&str, &str, &str)] = &[
     ),
 ];
 
+/// Asserts of each row that its byte string parses as the value, and is written as the canonical
+/// encoding.
+fn assert_values(rows: &[(&str, &str, &str)]) {
+    for (text, canonical, value) in rows {
+        assert_value(text, canonical, value);
+    }
+}
+
 #[test]
 fn worked_values() {
-    for (text, canonical, value) in VALUES {
-        assert_value(text, canonical, value);
-    }
-    for (text, canonical, value) in LISTS {
-        assert_value(text, canonical, value);
-    }
+    assert_values(TUNNELS);
+    assert_values(DEVICES);
+    assert_values(PORTS);
+    assert_values(LISTS);
+    assert_values(ATTRIBUTES);
 }

@@ -60,8 +60,9 @@ const STRINGS: &[(&str, &[u8], &[u8])] = &[
     ),
 ];
 
-/// What each canonical encoding has, and the encoding: at least one of each family.
-const CANONICAL: &[(&str, &[u8])] = &[
+/// What each canonical encoding has, and the encoding. The five tables have at least one of each
+/// family.
+const LISTS: &[(&str, &[u8])] = &[
     (
         "xfrm",
         b"\x09\0\x01\0xfrm\0\0\0\0\x14\0\x02\0\x08\0\x01\0\x02\0\0\0\x08\0\x02\0\x0a\0\0\0",
@@ -85,6 +86,10 @@ const CANONICAL: &[(&str, &[u8])] = &[
     ("an unknown attribute with a flag bit", b"\x04\0\x09\x80"),
     ("an unknown attribute", b"\x04\0\x09\0"),
     ("a kind", b"\x09\0\x01\0xfrm\0\0\0\0"),
+];
+
+/// Tunnels and devices, as in `LISTS`.
+const TUNNELS: &[(&str, &[u8])] = &[
     (
         "gtp",
         b"\x08\0\x01\0gtp\0\x1c\0\x02\0\x05\0\x05\0\x01\0\0\0\x08\0\x04\0\x01\0\0\0\x08\0\x03\0\
@@ -126,6 +131,10 @@ const CANONICAL: &[(&str, &[u8])] = &[
         "batadv",
         b"\x0b\0\x01\0batadv\0\0\x14\0\x02\0\x0e\0\x01\0BATMAN_IV\0\0\0",
     ),
+];
+
+/// Attributes and lists in data, as in `LISTS`.
+const ATTRIBUTES: &[(&str, &[u8])] = &[
     (
         "a port of a bond",
         b"\x09\0\x04\0bond\0\0\0\0\x0c\0\x05\0\x08\0\x01\0\x01\x02\x03\x04",
@@ -167,6 +176,10 @@ const CANONICAL: &[(&str, &[u8])] = &[
         "a padded list of macvlan",
         b"\x0c\0\x01\0macvlan\0\x14\0\x02\0\x10\0\x05\0\x0a\0\x04\0\x02\0\0\0\0\x01\0\0",
     ),
+];
+
+/// Tunnels and devices by name, as in `LISTS`.
+const DEVICES: &[(&str, &[u8])] = &[
     (
         "geneve",
         b"\x0b\0\x01\0geneve\0\0,\0\x02\0\x08\0\x01\0\x05\0\0\0\x08\0\x02\0\x0a\0\0\x09\x05\0\
@@ -211,6 +224,10 @@ const CANONICAL: &[(&str, &[u8])] = &[
         "wwan",
         b"\x09\0\x01\0wwan\0\0\0\0\x0c\0\x02\0\x08\0\x01\0\x04\0\0\0",
     ),
+];
+
+/// Opaque families and ports, as in `LISTS`.
+const OPAQUE: &[(&str, &[u8])] = &[
     (
         "tun",
         b"\x08\0\x01\0tun\0,\0\x02\0\x05\0\x03\0\x01\0\0\0\x05\0\x04\0\0\0\0\0\x05\0\x05\0\0\0\0\
@@ -280,5 +297,9 @@ fn accepted_strings() {
 
 #[test]
 fn canonical_strings() {
-    assert_all_canonical(CANONICAL);
+    assert_all_canonical(LISTS);
+    assert_all_canonical(TUNNELS);
+    assert_all_canonical(ATTRIBUTES);
+    assert_all_canonical(DEVICES);
+    assert_all_canonical(OPAQUE);
 }

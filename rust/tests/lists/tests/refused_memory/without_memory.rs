@@ -2,7 +2,8 @@
 
 use super::answers::{is_emitted, is_refused, reads};
 use crate::tests::assertions::{
-    DATA_ORDER, HEADER_ERROR, NAME_ERROR, PORT_DATA_ORDER, XSTATS_ORDER, assert_equal, assert_holds,
+    DATA_ORDER, HEADER_ERROR, NAME_ERROR, PORT_DATA_ORDER, XSTATS_ORDER, assert_equal,
+    assert_holds, assert_parsed,
 };
 use linkinfo::layers::link::{
     CanonError, DecodeError, HeaderCount, InfoKind, InfoPortKind, LinkInfo, Nla, VecLinkInfo,
@@ -132,7 +133,7 @@ fn canonical_encoding_of_nothing() {
 #[test]
 fn known_names() {
     let kind = InfoKind::from_text("xfrm");
-    assert_holds(&"xfrm", matches!(kind, Ok(InfoKind::Xfrm)));
+    assert_parsed(&"xfrm", kind, InfoKind::Xfrm);
     let kind = InfoPortKind::from_text("vrf");
-    assert_holds(&"vrf", matches!(kind, Ok(InfoPortKind::Vrf)));
+    assert_parsed(&"vrf", kind, InfoPortKind::Vrf);
 }
