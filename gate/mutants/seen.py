@@ -1,4 +1,4 @@
-"""wrong.seen: the commit and the toolchain at which every mutant was last seen rejected.
+"""wrong.seen: for each toolchain, the commit at which every mutant was last seen rejected by it.
 
 `./wrong --all` alone writes it. At a landing, a mutant is not tried again where nothing that its
 verdict depends on has changed since that commit, but for a draw.
@@ -41,21 +41,35 @@ def draw():
     return random.Random(commit_name())
 
 
-def seen_commit():
-    """The commit of wrong.seen, and the reason why it cannot be used, if there is one."""
+def seen_lines():
+    """The lines of wrong.seen, or none where there is no such file."""
     try:
         with open(SEEN, encoding="utf-8") as it:
-            lines = it.read().splitlines()
+            return it.read().splitlines()
     except OSError:
-        return "", "there is no file wrong.seen"
-    named = re.fullmatch(r"([0-9a-f]{40}) (.+)", lines[0] if len(lines) == 1 else "")
-    if not named:
-        return "", "wrong.seen is no line of a commit and a toolchain"
-    if named[2] != toolchain():
-        return "", f"wrong.seen is of another toolchain: {named[2]}"
-    if git("merge-base", "--is-ancestor", named[1], "HEAD") is None:
-        return "", f"the history here has no commit {named[1]} before the present one"
-    return named[1], ""
+        return []
+
+
+def seen_commits():
+    """The commits that wrong.seen names, by toolchain, or nothing where one of its lines does not
+    name a commit and a toolchain, or two name the same toolchain."""
+    named = [re.fullmatch(r"([0-9a-f]{40}) (.+)", it) for it in seen_lines()]
+    commits = {it[2]: it[1] for it in named if it}
+    return commits if len(commits) == len(named) else {}
+
+
+def seen_commit():
+    """The commit of wrong.seen for this toolchain, and the reason why it cannot be used, if there
+    is one."""
+    commits = seen_commits()
+    if not commits:
+        return "", "wrong.seen is missing, or does not name a commit and a toolchain on each line"
+    commit = commits.get(toolchain())
+    if not commit:
+        return "", f"wrong.seen is of other toolchains: {', '.join(commits)}"
+    if git("merge-base", "--is-ancestor", commit, "HEAD") is None:
+        return "", f"the history here has no commit {commit} before the present one"
+    return commit, ""
 
 
 def unchanged(edits):
@@ -110,9 +124,11 @@ def is_committed():
 
 
 def write_seen():
-    """Names the present commit in wrong.seen, and returns whether it could: only where the files
-    that verdicts depend on are those of the commit."""
+    """Names the present commit in wrong.seen for this toolchain, and returns whether it could: only
+    where the files that verdicts depend on are those of the commit. Lines of other toolchains stay:
+    each still names a commit at which that one rejected every mutant."""
     if not is_committed():
         return False
-    write(SEEN, f"{commit_name()} {toolchain()}\n")
+    commits = {**seen_commits(), toolchain(): commit_name()}
+    write(SEEN, "".join(f"{commits[it]} {it}\n" for it in sorted(commits)))
     return True

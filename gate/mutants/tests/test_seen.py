@@ -226,7 +226,39 @@ class Seen(unittest.TestCase):
     def test_another_toolchain(self):
         with mock.patch.object(seen, "toolchain", lambda: "another"):
             self.assertEqual(self.tried(), ["four", "once", "twice"])
-        self.assertIn("another toolchain", self.said)
+        self.assertIn("is of other toolchains: the toolchain", self.said)
+
+    def seen_by(self, name):
+        """Names the present commit in wrong.seen for the toolchain of that name."""
+        with mock.patch.object(seen, "toolchain", lambda: name):
+            self.assertTrue(seen.write_seen())
+
+    def lines(self):
+        with open(f"{self.root}/wrong.seen", encoding="utf-8") as it:
+            return it.read().splitlines()
+
+    def test_each_toolchain_has_its_commit(self):
+        first = seen.commit_name()
+        self.change("crates/low/src/lib.rt", "2 * u16::from(n)", "u16::from(n) * 2")
+        self.commit()
+        self.seen_by("another")
+        later = seen.commit_name()
+        self.assertEqual(self.lines(), [f"{later} another", f"{first} the toolchain"])
+        self.assertEqual(self.tried(), ["twice"])
+        with mock.patch.object(seen, "toolchain", lambda: "another"):
+            self.assertEqual(self.tried(), [])
+        self.seen_by("the toolchain")
+        self.assertEqual(self.lines(), [f"{later} another", f"{later} the toolchain"])
+        self.assertEqual(self.tried(), [])
+
+    def test_lines_that_are_none(self):
+        own = f"{seen.commit_name()} the toolchain"
+        for text in ("", f"{own}\nno commit\n", f"{own}\n{own}\n", f"{own}\n\n"):
+            write(f"{self.root}/wrong.seen", text)
+            self.assertEqual(self.tried(), ["four", "once", "twice"])
+            self.assertIn("does not name a commit", self.said)
+        self.seen_by("the toolchain")
+        self.assertEqual(self.lines(), [own])
 
     def test_without_history(self):
         write(f"{self.root}/wrong.seen", f"{'0' * 40} the toolchain\n")
