@@ -17,7 +17,8 @@ from .rooms import leave_stamps, stamps_of
 from .tally import Tally
 
 USAGE = """./wrong: tries the mutants whose verdict can have changed, and a draw of the others.
-./wrong --all: tries every mutant, and writes wrong.seen.
+./wrong --all: tries every mutant, and writes wrong.seen, a line as each crate is done.
+./wrong --all CRATE..: tries every mutant of the named crates, and writes their lines.
 ./wrong CRATE..: tries those of the named crates that were not seen rejected unchanged.
 ./wrong --after-gate [--all]: the same without proving anything first, right after `rt ci`.
 ./wrong --stamps: right after `rt ci`, marks the libraries that it built as up to date."""
@@ -56,8 +57,9 @@ def has_contracts(folder):
     return any(re.search(r"^ *ensures ", folder.read(it), re.M) for it in files)
 
 
-def try_crate(crates, edits, tally, top, stamps, lanes):
-    """Tries these edits of a crate, in this many lanes in parallel."""
+def try_crate(crates, edits, tally, top, stamps, lanes, notes):
+    """Tries these edits of a crate, in this many lanes in parallel. Where they are all of its edits
+    and each passes, has wrong.seen name the present commit if it notes that."""
     lanes = min(lanes, len(edits))
     with ThreadPoolExecutor(lanes or 1) as pool:
         shares = [edits[at::lanes] for at in range(lanes)]
@@ -65,12 +67,15 @@ def try_crate(crates, edits, tally, top, stamps, lanes):
                          .try_all(shares[at], seen.draw()), range(lanes))
         for it in tried:
             tally.add(it)
+    if notes and edits and not tally.failures:
+        tally.is_noted = seen.write_seen(tally.crate)
     print("\n".join([*tally.lines, tally.summary()]), flush=True)
     return tally
 
 
-def try_crates(crates, edits, tallies, stamps):
-    """Tries the edits of all crates, those of the slowest first."""
+def try_crates(crates, edits, tallies, stamps, noting=()):
+    """Tries the edits of all crates, those of the slowest first. For the crates in `noting`,
+    wrong.seen names the present commit once each of their edits has passed."""
     by_crate = {name: [it for it in edits if it.crate == name] for name in tallies}
     names = sorted(tallies, key=lambda it: -len(by_crate[it]) * (1 + len(below(crates, it))))
     busy = sum(bool(it) for it in by_crate.values()) or 1
@@ -79,7 +84,7 @@ def try_crates(crates, edits, tallies, stamps):
             # (where few crates have edits, those of each are in several lanes)
             lanes = max(1, jobs() // busy)
             list(pool.map(lambda it: try_crate(crates, by_crate[it], tallies[it], top, stamps,
-                                               lanes), names))
+                                               lanes, it in noting), names))
 
 
 def kept_path(crate):
@@ -118,7 +123,7 @@ def main(words):
     crates, named = crates_of(), [it for it in words if not it.startswith("--")]
     flags = {*words} - {*named}
     unknown = [it for it in named if it not in crates]
-    if unknown or flags - {"--all", "--after-gate", "--stamps"} or named and flags:
+    if unknown or flags - {"--all", "--after-gate", "--stamps"} or named and flags - {"--all"}:
         why = f"wrong: crates.txt names no crate {unknown[0]}" if unknown else USAGE
         print(why, file=sys.stderr)
         return 2
@@ -139,16 +144,17 @@ def main(words):
     if unproved is None:
         print("0 passed, 1 failed")
         return 1
-    if named:
+    is_all = "--all" in flags
+    if named and not is_all:
         edits, left = new_of(edits, tallies)
-    elif "--all" not in flags:
+    elif not is_all:
         edits, drawn, left, said = seen.chosen(edits)
         print(f"wrong: {said}", flush=True)
-    try_crates(crates, edits, tallies, stamps)
+    try_crates(crates, edits, tallies, stamps, {*tallies}.difference(unproved) if is_all else ())
     if named:
         keep(tallies)
     tried = sum(not it.is_control for it in edits)
-    return conclude(tallies, unproved, named, (tried, drawn, left), "--all" in flags)
+    return conclude(tallies, unproved, named, (tried, drawn, left), is_all)
 
 
 def conclude(tallies, unproved, named, numbers, is_all):
@@ -167,11 +173,14 @@ def conclude(tallies, unproved, named, numbers, is_all):
     void = [it.label for it in drawn if it.label not in rejected]
     if void:
         print(f"wrong: FAILED: wrong.seen is void: drawn and not rejected: {', '.join(void)}")
-    if is_all and not failed:
-        is_written = seen.write_seen()
-        failed += not is_written
-        print("wrong: wrong.seen names the present commit" if is_written else "wrong: FAILED: "
-              "wrong.seen stays, since what was tried is not the present commit")
+    if is_all:
+        noted = [it.crate for it in tallies.values() if it.is_noted]
+        lost = [it.crate for it in tallies.values() if it.is_noted is False]
+        failed += len(lost)
+        print(f"wrong: wrong.seen names the present commit for {', '.join(noted) or 'no crate'}")
+        if lost:
+            print(f"wrong: FAILED: wrong.seen keeps its lines of {', '.join(lost)}, since what was "
+                  "tried is not the present commit")
     print(f"wrong: {tried} mutants tried, {len(drawn)} of them drawn; {left} not tried, since "
           "nothing that their verdict rests on has changed")
     print(f"{passed} passed, {failed} failed")

@@ -1,7 +1,9 @@
-"""wrong.seen: for each toolchain, the commit at which every mutant was last seen rejected by it.
+"""wrong.seen: the commits at which all mutants of a crate were last seen rejected.
 
-`./wrong --all` alone writes it. At a landing, a mutant is not tried again where nothing that its
-verdict depends on has changed since that commit, but for a draw.
+It has a line for each crate and each toolchain: `CRATE COMMIT TOOLCHAIN`. `./wrong --all` alone
+writes it, a line as soon as each mutant of the crate is rejected, so that a run that is stopped
+keeps what it has seen. At a landing, a mutant is not tried again where nothing that its verdict
+depends on has changed since that commit, but for a draw.
 """
 import io
 import random
@@ -9,6 +11,7 @@ import re
 import subprocess
 import tarfile
 import tempfile
+import threading
 
 from .crates import ROOT, toolchain, write
 from .marks import Marks
@@ -18,6 +21,8 @@ SEEN = f"{ROOT}/wrong.seen"
 # another crate is drawn.
 DRAWN = 48
 OF_A_CRATE = 24
+LINE = re.compile(r"(\w+) ([0-9a-f]{40}) (.+)")
+WRITING = threading.Lock()
 
 
 def git(*words):
@@ -42,51 +47,52 @@ def draw():
 
 
 def seen_lines():
-    """The lines of wrong.seen, or none where there is no such file."""
+    """What wrong.seen has: the commit of each crate and toolchain, or nothing where one of its
+    lines is no such line, or two are of the same crate and toolchain."""
     try:
         with open(SEEN, encoding="utf-8") as it:
-            return it.read().splitlines()
+            lines = [LINE.fullmatch(line) for line in it.read().splitlines()]
     except OSError:
-        return []
+        return {}
+    commits = {(it[1], it[3]): it[2] for it in lines if it}
+    return commits if len(commits) == len(lines) else {}
 
 
-def seen_commits():
-    """The commits that wrong.seen names, by toolchain, or nothing where one of its lines does not
-    name a commit and a toolchain, or two name the same toolchain."""
-    named = [re.fullmatch(r"([0-9a-f]{40}) (.+)", it) for it in seen_lines()]
-    commits = {it[2]: it[1] for it in named if it}
-    return commits if len(commits) == len(named) else {}
+def seen_commits(crates):
+    """The commits of these crates in wrong.seen for this toolchain that can be used, and those that
+    are not before the present commit in the history here."""
+    lines = seen_lines()
+    commits = {it: lines[it, toolchain()] for it in crates if (it, toolchain()) in lines}
+    lost = {it for it in {*commits.values()}
+            if git("merge-base", "--is-ancestor", it, "HEAD") is None}
+    return {crate: it for crate, it in commits.items() if it not in lost}, lost
 
 
-def seen_commit():
-    """The commit of wrong.seen for this toolchain, and the reason why it cannot be used, if there
-    is one."""
-    commits = seen_commits()
-    if not commits:
-        return "", "wrong.seen is missing, or does not name a commit and a toolchain on each line"
-    commit = commits.get(toolchain())
-    if not commit:
-        return "", f"wrong.seen is of other toolchains: {', '.join(commits)}"
-    if git("merge-base", "--is-ancestor", commit, "HEAD") is None:
-        return "", f"the history here has no commit {commit} before the present one"
-    return commit, ""
+def marks_at(commit, folder):
+    """The sums of the repository at a commit, whose files go to this folder, or None where the
+    commit lacks the code that judges."""
+    archive = git("archive", commit, "crates", "crates.txt", "gate", "wrong")
+    if archive is None:
+        return None
+    with tarfile.open(fileobj=io.BytesIO(archive)) as it:
+        it.extractall(folder, filter="data")
+    return Marks(folder)
 
 
 def unchanged(edits):
-    """The edits for which nothing that the verdict depends on has changed since the commit of
-    wrong.seen, and a line about it."""
-    commit, why = seen_commit()
-    if why:
-        return [], f"every mutant is tried: {why}"
-    with tempfile.TemporaryDirectory(prefix="wrong-seen-") as old:
-        archive = git("archive", commit, "crates", "crates.txt", "gate", "wrong")
-        if archive is None:
-            return [], f"every mutant is tried: commit {commit} lacks the code that judges"
-        with tarfile.open(fileobj=io.BytesIO(archive)) as it:
-            it.extractall(old, filter="data")
-        before, now = Marks(old), Marks(ROOT)
-        same = [it for it in edits if before.of_label(it.crate, it.path) == now.mark(it)]
-    return same, f"all mutants were last seen rejected at commit {commit}"
+    """The edits for which nothing that the verdict depends on has changed since the commit of their
+    crate in wrong.seen, and a line about it."""
+    crates = {it.crate for it in edits}
+    commits, lost = seen_commits(crates)
+    now, same = Marks(ROOT), []
+    for commit in sorted({*commits.values()}):
+        with tempfile.TemporaryDirectory(prefix="wrong-seen-") as old:
+            before = marks_at(commit, old)
+            same += [it for it in edits if before and commits.get(it.crate) == commit
+                     and before.of_label(it.crate, it.path) == now.mark(it)]
+    others = f"; the history here has no commit {', '.join(sorted(lost))}" if lost else ""
+    return same, (f"wrong.seen has a commit of {len(commits)} of {len(crates)} crates for this "
+                  f"toolchain, at which each of their mutants was rejected{others}")
 
 
 def drawn_among(same, lots):
@@ -123,12 +129,13 @@ def is_committed():
     return told is not None and not told.strip() and bool(commit_name())
 
 
-def write_seen():
-    """Names the present commit in wrong.seen for this toolchain, and returns whether it could: only
-    where the files that verdicts depend on are those of the commit. Lines of other toolchains stay:
-    each still names a commit at which that one rejected every mutant."""
-    if not is_committed():
-        return False
-    commits = {**seen_commits(), toolchain(): commit_name()}
-    write(SEEN, "".join(f"{commits[it]} {it}\n" for it in sorted(commits)))
-    return True
+def write_seen(crate):
+    """Names the present commit in wrong.seen for the crate and this toolchain, and returns whether
+    it could: only where the files that verdicts depend on are those of the commit. Other lines
+    stay: each names a commit at which that toolchain rejected every mutant of that crate."""
+    with WRITING:
+        if not is_committed():
+            return False
+        lines = {**seen_lines(), (crate, toolchain()): commit_name()}
+        write(SEEN, "".join(f"{it} {lines[it, by]} {by}\n" for it, by in sorted(lines)))
+        return True

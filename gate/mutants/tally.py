@@ -8,6 +8,8 @@ class Tally:
         self.crate, self.lines, self.seen, self.controls = crate, [], [], set()
         self.passes = self.failures = self.checks = 0
         self.seconds = 0.0
+        # Whether wrong.seen could name the present commit for the crate, where that was tried.
+        self.is_noted = None
 
     def add(self, other):
         """Adds the results for further mutants of the crate."""

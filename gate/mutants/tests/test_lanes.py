@@ -240,15 +240,31 @@ class Conclusion(unittest.TestCase):
         self.assertEqual(status, 0)
         self.assertNotIn("void", said)
 
-    def test_only_a_run_without_failures_writes(self):
-        good, bad = Tally("a_crate"), Tally("a_crate")
-        good.controls = set(main.CONTROLS)
-        bad.failed(edits(1)[0], "NOT REJECTED")
-        with mock.patch.object(seen, "write_seen", return_value=True) as written:
-            self.assertEqual(self.concluded(bad, [], True, 0)[0], 1)
-            written.assert_not_called()
-            self.assertEqual(self.concluded(good, [], True, 0)[0], 0)
-            written.assert_called_once()
+    def tried(self, edit, passes, notes=True):
+        """The tally of a crate with one edit, which passes or fails."""
+        made, tally = Tally("a_crate"), Tally("a_crate")
+        made.say(edit.label, "rejected", passes)
+        with mock.patch.object(main, "Lane", return_value=mock.Mock(try_all=lambda *_: made)):
+            with mock.patch.object(main.seen, "draw"), contextlib.redirect_stdout(io.StringIO()):
+                return main.try_crate({}, [edit], tally, "", None, 1, notes)
+
+    def test_only_a_crate_without_failures_is_noted(self):
+        edit = edits(1)[0]
+        for could in (True, False):
+            with mock.patch.object(seen, "write_seen", return_value=could) as written:
+                bad = self.tried(edit, False)
+                written.assert_not_called()
+                self.assertIsNone(self.tried(edit, True, False).is_noted)
+                written.assert_not_called()
+                good = self.tried(edit, True)
+                written.assert_called_once_with("a_crate")
+            self.assertEqual((bad.is_noted, good.is_noted), (None, could))
+            good.controls = set(main.CONTROLS)
+            status, said = self.concluded(good, [], True, 0)
+            self.assertEqual(status, 0 if could else 1)
+            self.assertIn("names the present commit for a_crate" if could else
+                          "FAILED: wrong.seen keeps its lines of a_crate", said)
+            self.assertIn("for no crate", self.concluded(bad, [], True, 0)[1])
 
 
 if __name__ == "__main__":

@@ -63,7 +63,11 @@ class Seen(unittest.TestCase):
         patch = mock.patch.object(seen, "toolchain", lambda: "the toolchain")
         patch.start()
         self.addCleanup(patch.stop)
-        seen.write_seen()
+        self.write_all()
+
+    def write_all(self):
+        """Names the present commit in wrong.seen for both crates."""
+        return [seen.write_seen(it) for it in ("low", "high")]
 
     def put(self, path, text):
         os.makedirs(os.path.dirname(f"{self.root}/{path}"), exist_ok=True)
@@ -93,7 +97,7 @@ class Seen(unittest.TestCase):
 
     def test_nothing_changed(self):
         self.assertEqual(self.tried(), [])
-        self.assertIn("were last seen rejected at commit", self.said)
+        self.assertIn("has a commit of 2 of 2 crates for this toolchain", self.said)
 
     def test_draw(self):
         self.assertEqual(len(self.tried(drawn=2)), 2)
@@ -119,7 +123,7 @@ class Seen(unittest.TestCase):
         path = "crates/low/wrong/control/sum.edit"
         self.put(path, "fn: low::once\nfile: src/lib.rt\nold: n\nnew: n + 0\n")
         self.commit()
-        seen.write_seen()
+        self.write_all()
         edit = Edit("low", "wrong/control/sum.edit", self.root)
         self.assertTrue(edit.is_control)
         return edit
@@ -163,7 +167,7 @@ class Seen(unittest.TestCase):
         """What is tried where a contract changes that this text outside of functions may name."""
         self.put(path, text)
         self.commit()
-        seen.write_seen()
+        self.write_all()
         self.change("crates/low/src/lib.rt", "result ≡ n }", "result ≡ 0 + n }")
         return self.tried()
 
@@ -178,7 +182,7 @@ class Seen(unittest.TestCase):
             write(f"{self.root}/crates/high/wrong/lib/four.edit",
                   f"fn: high::four_times\nfile: src/lib.rt\nold: {body}\nnew: 0\n")
             self.commit()
-            seen.write_seen()
+            self.write_all()
             self.change("crates/low/src/lib.rt", "n: u8) -> u8", "n: u8, _m: u8) -> u8")
             self.assertEqual(self.tried(), ["four", "once"] if "once" in body else ["once"])
             self.change("crates/low/src/lib.rt", "n: u8, _m: u8", "n: u8")
@@ -194,7 +198,7 @@ class Seen(unittest.TestCase):
         self.assertEqual(self.named_outside("crates/high/src/once.rt", text), ["once"])
         self.change("crates/high/src/once.rt", "low::once;", "low::once as first;")
         self.commit()
-        seen.write_seen()
+        self.write_all()
         self.change("crates/low/src/lib.rt", "result ≡ 0 + n }", "result ≡ n }")
         self.assertEqual(self.tried(), ["four", "once"])
 
@@ -203,7 +207,7 @@ class Seen(unittest.TestCase):
         text = "impl Drop for One {\n    fn drop(&mut self)\n        ensures { tt }\n    {\n"
         self.put("crates/low/src/one.rt", text + "    }\n}\n")
         self.commit()
-        seen.write_seen()
+        self.write_all()
         self.change("crates/low/src/one.rt", "ensures { tt }", "ensures { self.new ≡ self.old }")
         self.assertEqual(self.tried(), ["four", "once", "twice"])
 
@@ -226,43 +230,50 @@ class Seen(unittest.TestCase):
     def test_another_toolchain(self):
         with mock.patch.object(seen, "toolchain", lambda: "another"):
             self.assertEqual(self.tried(), ["four", "once", "twice"])
-        self.assertIn("is of other toolchains: the toolchain", self.said)
+        self.assertIn("has a commit of 0 of 2 crates", self.said)
 
-    def seen_by(self, name):
-        """Names the present commit in wrong.seen for the toolchain of that name."""
+    def seen_by(self, name, *crates):
+        """Names the present commit in wrong.seen for these crates and that toolchain."""
         with mock.patch.object(seen, "toolchain", lambda: name):
-            self.assertTrue(seen.write_seen())
+            self.assertTrue(all(map(seen.write_seen, crates)))
 
     def lines(self):
         with open(f"{self.root}/wrong.seen", encoding="utf-8") as it:
             return it.read().splitlines()
 
-    def test_each_toolchain_has_its_commit(self):
+    def test_each_crate_and_toolchain_has_its_commit(self):
         first = seen.commit_name()
         self.change("crates/low/src/lib.rt", "2 * u16::from(n)", "u16::from(n) * 2")
+        self.change("crates/high/src/lib.rt", "2 * low::twice(n)", "low::twice(n) * 2")
+        write(f"{self.root}/crates/high/wrong/lib/four.edit",
+              "fn: high::four_times\nfile: src/lib.rt\nold: * 2\nnew: * 3\n")
         self.commit()
-        self.seen_by("another")
+        self.assertEqual(self.tried(), ["four", "twice"])
         later = seen.commit_name()
-        self.assertEqual(self.lines(), [f"{later} another", f"{first} the toolchain"])
+        self.seen_by("the toolchain", "high")
+        self.seen_by("another", "low")
+        self.assertEqual(self.lines(), [f"high {later} the toolchain", f"low {later} another",
+                                        f"low {first} the toolchain"])
         self.assertEqual(self.tried(), ["twice"])
         with mock.patch.object(seen, "toolchain", lambda: "another"):
-            self.assertEqual(self.tried(), [])
-        self.seen_by("the toolchain")
-        self.assertEqual(self.lines(), [f"{later} another", f"{later} the toolchain"])
+            self.assertEqual(self.tried(), ["four"])
+        self.seen_by("the toolchain", "low")
         self.assertEqual(self.tried(), [])
 
     def test_lines_that_are_none(self):
-        own = f"{seen.commit_name()} the toolchain"
+        own = f"low {seen.commit_name()} the toolchain"
         for text in ("", f"{own}\nno commit\n", f"{own}\n{own}\n", f"{own}\n\n"):
             write(f"{self.root}/wrong.seen", text)
             self.assertEqual(self.tried(), ["four", "once", "twice"])
-            self.assertIn("does not name a commit", self.said)
-        self.seen_by("the toolchain")
+            self.assertIn("has a commit of 0 of 2 crates", self.said)
+        self.seen_by("the toolchain", "low")
         self.assertEqual(self.lines(), [own])
 
     def test_without_history(self):
-        write(f"{self.root}/wrong.seen", f"{'0' * 40} the toolchain\n")
+        lines = [f"{it} {'0' * 40} the toolchain\n" for it in ("low", "high")]
+        write(f"{self.root}/wrong.seen", "".join(lines))
         self.assertEqual(self.tried(), ["four", "once", "twice"])
+        self.assertIn("has no commit 0000", self.said)
         os.remove(f"{self.root}/wrong.seen")
         self.assertEqual(self.tried(), ["four", "once", "twice"])
 
@@ -271,12 +282,12 @@ class Seen(unittest.TestCase):
         self.change("crates/low/src/lib.rt", "Twice", "Two times")
         self.commit()
         self.assertEqual(self.tried(), ["four", "once", "twice"])
-        self.assertIn("has no commit", self.said)
+        self.assertIn("the history here has no commit", self.said)
 
     def test_uncommitted_changes_are_not_named(self):
         os.remove(f"{self.root}/wrong.seen")
         self.change("crates/low/src/lib.rt", "Twice", "Two times")
-        self.assertFalse(seen.write_seen())
+        self.assertEqual(self.write_all(), [False, False])
         self.assertFalse(os.path.exists(f"{self.root}/wrong.seen"))
 
     def test_same_marks_of_the_same_state(self):
