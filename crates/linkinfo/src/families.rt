@@ -9,7 +9,7 @@ pub use linkinfo_numbers::{KeepsEveryBit, bits_again};
 pub use linkinfo_peers::BitPeer;
 pub use linkinfo_table::{
     Datum, Decoded, Encodable, FlatFamily, LinkFamily, LinkPeer, ListedFamily, Lookup, Opaque,
-    PeerFault, RowFamily, Shape, Slot, TableFamily, UnnestedFamily, WrittenByTable, datum_len,
+    PeerFault, RowFamily, Shape, Slot, datum_len,
     encodable_by_rows, encodables, first_canonical_len, first_check, first_read, first_same,
     first_write_canonical, list_canonical_len, list_check, list_read, list_same,
     list_write_canonical, opaque, read_datum, row_canonical_len, row_check, row_emit_payload,

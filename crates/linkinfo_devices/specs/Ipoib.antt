@@ -1,20 +1,14 @@
 -- The rows of `ipoib` links.
-use Rattle.std.specs.Prelude.{◌≡◌, ℕ, List, [], ◌∷◌, refl}
+use Rattle.std.specs.Prelude.{ℕ, List, [], ◌∷◌, refl}
 use Rattle.std.proofs.Common.{ap}
 use Rattle.nla_frame.specs.Attribute.{Attribute}
 use Rattle.nla_frame.specs.Kept.{attribute_of}
-use Rattle.nla_frame.specs.declared.error.Family.TheVariants as family
 use Rattle.linkinfo_table.specs.FamilyRows.{
   PlainRow,
   row,
   typed,
-  table_row,
-  lookup_of,
-  lookup_in,
   EachKeeps,
 }
-use Rattle.linkinfo_table.specs.FamilyRowLaws.{table_lookup}
-use Rattle.linkinfo_shapes.specs.Table.{shape_of}
 use Rattle.linkinfo_shapes.specs.declared.shape.Shape.TheVariants.{Le16}
 use Rattle.linkinfo_numbers.specs.Table.{key-value_of}
 use Rattle.linkinfo_numbers.specs.Ipoib.{ipoib_mode, ipoib_mode_number, ipoib_mode_table_holds}
@@ -38,8 +32,3 @@ ipoib_attribute (Other nla) = attribute_of nla
 pub ipoib_keeps : EachKeeps ipoib_attribute ipoib_rows
 ipoib_keeps = each_keeps ipoib_attribute ipoib_rows refl
     (λ n. refl, (λ n. ap (typed 2 Le16) (key-value_of ipoib_mode_table_holds n), (λ n. refl, tt)))
-
--- these are the rows of the table of all families
-pub ipoib_lookup : (number : ℕ) →
-    lookup_of (table_row ipoib_rows number) ≡ lookup_in (shape_of family.Ipoib number)
-ipoib_lookup number = table_lookup ipoib_rows number

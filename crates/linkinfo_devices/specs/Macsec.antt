@@ -1,21 +1,15 @@
 -- The rows of `macsec` links.
-use Rattle.std.specs.Prelude.{◌≡◌, ℕ, List, [], ◌∷◌, refl}
+use Rattle.std.specs.Prelude.{ℕ, List, [], ◌∷◌, refl}
 use Rattle.std.proofs.Common.{ap}
 use Rattle.nla_frame.specs.Attribute.{Attribute}
 use Rattle.nla_frame.specs.Kept.{attribute_of}
-use Rattle.nla_frame.specs.declared.error.Family.TheVariants as family
 use Rattle.nla_frame.specs.Pairs.{◌&◌}
 use Rattle.linkinfo_table.specs.FamilyRows.{
   PlainRow,
   row,
   typed,
-  table_row,
-  lookup_of,
-  lookup_in,
   EachKeeps,
 }
-use Rattle.linkinfo_table.specs.FamilyRowLaws.{table_lookup}
-use Rattle.linkinfo_shapes.specs.Table.{shape_of}
 use Rattle.linkinfo_shapes.specs.declared.shape.Shape.TheVariants.{Le64, Be16, U8, Le32}
 use Rattle.linkinfo_numbers.specs.Table.{key-value_of}
 use Rattle.linkinfo_numbers.specs.Macsec.{
@@ -101,8 +95,3 @@ mac_sec_keeps = each_keeps mac_sec_attribute mac_sec_rows refl
     & (λ n. ap (typed 13 U8) (key-value_of mac_sec_validate_table_holds n))
     & (λ n. ap (typed 15 U8) (key-value_of mac_sec_offload_table_holds n))
     & tt)
-
--- these are the rows of the table of all families
-pub mac_sec_lookup : (number : ℕ) →
-    lookup_of (table_row mac_sec_rows number) ≡ lookup_in (shape_of family.MacSec number)
-mac_sec_lookup number = table_lookup mac_sec_rows number

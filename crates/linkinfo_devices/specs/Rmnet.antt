@@ -1,19 +1,13 @@
 -- The rows of `rmnet` links.
-use Rattle.std.specs.Prelude.{◌≡◌, ℕ, List, [], ◌∷◌, refl}
+use Rattle.std.specs.Prelude.{ℕ, List, [], ◌∷◌, refl}
 use Rattle.nla_frame.specs.Attribute.{Attribute}
 use Rattle.nla_frame.specs.Kept.{attribute_of}
-use Rattle.nla_frame.specs.declared.error.Family.TheVariants as family
 use Rattle.linkinfo_table.specs.FamilyRows.{
   PlainRow,
   row,
   typed,
-  table_row,
-  lookup_of,
-  lookup_in,
   EachKeeps,
 }
-use Rattle.linkinfo_table.specs.FamilyRowLaws.{table_lookup}
-use Rattle.linkinfo_shapes.specs.Table.{shape_of}
 use Rattle.linkinfo_shapes.specs.declared.shape.Shape.TheVariants.{Le16, FlagPair}
 use Rattle.linkinfo_numbers.specs.Rmnet.{rm_net_flags}
 use Rattle.linkinfo_numbers.specs.declared.rmnet.InfoRmNetFlags.{InfoRmNetFlags}
@@ -39,8 +33,3 @@ rm_net_attribute (Other nla) = attribute_of nla
 pub rm_net_keeps : EachKeeps rm_net_attribute rm_net_rows
 rm_net_keeps = each_keeps rm_net_attribute rm_net_rows refl
     (λ n. refl, (λ pair. refl, tt))
-
--- these are the rows of the table of all families
-pub rm_net_lookup : (number : ℕ) →
-    lookup_of (table_row rm_net_rows number) ≡ lookup_in (shape_of family.RmNet number)
-rm_net_lookup number = table_lookup rm_net_rows number

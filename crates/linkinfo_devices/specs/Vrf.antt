@@ -1,20 +1,14 @@
 -- The rows of a `vrf`, and of its ports.
-use Rattle.std.specs.Prelude.{◌≡◌, ℕ, List, [], ◌∷◌, refl}
+use Rattle.std.specs.Prelude.{ℕ, List, [], ◌∷◌, refl}
 use Rattle.std.proofs.Common.{lit<}
 use Rattle.nla_frame.specs.Attribute.{Attribute}
 use Rattle.nla_frame.specs.Kept.{attribute_of}
-use Rattle.nla_frame.specs.declared.error.Family.TheVariants as family
 use Rattle.linkinfo_table.specs.FamilyRows.{
   PlainRow,
   row,
   typed,
-  table_row,
-  lookup_of,
-  lookup_in,
   EachKeeps,
 }
-use Rattle.linkinfo_table.specs.FamilyRowLaws.{table_lookup}
-use Rattle.linkinfo_shapes.specs.Table.{shape_of}
 use Rattle.linkinfo_shapes.specs.declared.shape.Shape.TheVariants.{Le32}
 use Rattle.linkinfo_devices.specs.declared.vrf.InfoVrf.{InfoVrf}
 use Rattle.linkinfo_devices.specs.declared.vrf.InfoVrf.TheVariants.{TableId, Other}
@@ -30,8 +24,3 @@ vrf_attribute (Other nla) = attribute_of nla
 
 pub vrf_keeps : EachKeeps vrf_attribute vrf_rows
 vrf_keeps = (record { low = lit< tt; plain = tt; keeps = λ n. refl }, tt)
-
--- these are the rows of the table of all families
-pub vrf_lookup : (number : ℕ) →
-    lookup_of (table_row vrf_rows number) ≡ lookup_in (shape_of family.Vrf number)
-vrf_lookup number = table_lookup vrf_rows number

@@ -1,20 +1,14 @@
 -- The rows of `xfrm` links.
-use Rattle.std.specs.Prelude.{◌≡◌, ℕ, List, [], ◌∷◌, refl}
+use Rattle.std.specs.Prelude.{ℕ, List, [], ◌∷◌, refl}
 use Rattle.std.proofs.Common.{lit<}
 use Rattle.nla_frame.specs.Attribute.{Attribute}
 use Rattle.nla_frame.specs.Kept.{attribute_of}
-use Rattle.nla_frame.specs.declared.error.Family.TheVariants as family
 use Rattle.linkinfo_table.specs.FamilyRows.{
   PlainRow,
   row,
   typed,
-  table_row,
-  lookup_of,
-  lookup_in,
   EachKeeps,
 }
-use Rattle.linkinfo_table.specs.FamilyRowLaws.{table_lookup}
-use Rattle.linkinfo_shapes.specs.Table.{shape_of}
 use Rattle.linkinfo_shapes.specs.declared.shape.Shape.TheVariants.{Le32}
 use Rattle.linkinfo_devices.specs.declared.xfrm.InfoXfrm.{InfoXfrm}
 use Rattle.linkinfo_devices.specs.declared.xfrm.InfoXfrm.TheVariants.{Link, IfId, Other}
@@ -35,8 +29,3 @@ xfrm_keeps = (
   record { low = lit< tt; plain = tt; keeps = λ n. refl },
   (record { low = lit< tt; plain = tt; keeps = λ n. refl }, tt),
 )
-
--- these are the rows of the table of all families
-pub xfrm_lookup : (number : ℕ) →
-    lookup_of (table_row xfrm_rows number) ≡ lookup_in (shape_of family.Xfrm number)
-xfrm_lookup number = table_lookup xfrm_rows number

@@ -1,21 +1,18 @@
 //! IP over InfiniBand.
 
 ghost use Rattle.linkinfo_devices.specs.declared.ipoib.InfoIpoib.TheVariants.{Other};
-ghost use Rattle.linkinfo_devices.specs.Ipoib.{
-  ipoib_attribute,
-  ipoib_keeps,
-  ipoib_lookup,
-  ipoib_rows,
-};
+ghost use Rattle.linkinfo_devices.specs.Ipoib.{ipoib_attribute, ipoib_keeps, ipoib_rows};
 ghost use Rattle.linkinfo_table.specs.FamilyMeaning.{table_meaning, table_memory};
+ghost use Rattle.linkinfo_table.specs.FamilyRowLaws.{table_flat, table_owes};
+ghost use Rattle.linkinfo_table.specs.FamilyRows.{table_row};
 ghost use Rattle.nla_frame.specs.declared.error.Family.TheVariants as family;
-ghost use Rattle.std.specs.Prelude.{◌≡◌, refl};
+ghost use Rattle.std.specs.Prelude.{◌≡◌, false, refl};
 
 use linkinfo_numbers::IpoibMode;
 use linkinfo_table::{
-    Decoded, Encodable, Slot, TableFamily, WrittenByTable, clone_by_rows, encodable_by_rows,
+    Decoded, Encodable, FlatFamily, Lookup, RowFamily, Slot, clone_by_rows, encodable_by_rows,
     row_emit_payload, row_emit_value, row_fit_len, row_kind, row_read, row_value_len,
-    store_by_rows,
+    store_by_rows, table_lookup,
 };
 use nla_frame::{DecodeError, DefaultNla, ExactEq, Family, Nla, NlaBuffer, Parseable};
 use std::alloc::{AllocError, Global};
@@ -54,27 +51,36 @@ impl Clone for InfoIpoib {
     }
 }
 
-impl TableFamily for InfoIpoib {
+impl RowFamily for InfoIpoib {
+    type Context = ();
+
     const FAMILY: Family = Family::Ipoib;
 
     ghost FAMILY = { family.Ipoib };
 
-    ghost table = { ipoib_rows };
+    ghost rows = { λ _ n. table_row ipoib_rows n };
 
     ghost other = { λ nla. Other nla };
 
     ghost canonical = { ipoib_attribute };
 
-    ghost keeps = { ipoib_keeps };
+    ghost is_custom = { λ _. false };
+
+    ghost owes = { λ _ n. table_owes ipoib_attribute ipoib_rows ipoib_keeps n };
 
     ghost keeps_other = { λ _. refl };
 
-    ghost in_table = { ipoib_lookup };
+    #[tactic(auto, using(linkinfo_table::specs::FamilyRowLaws::table_lookup))]
+    #[inline(always)]
+    fn shape(_ctx: (), kind: u16) -> Lookup {
+        table_lookup(Family::Ipoib, kind)
+    }
 
     #[inline(always)]
     fn store_decoded<P: Slot<InfoIpoib>>(
         slot: &mut P,
         alloc: Global,
+        _ctx: (),
         decoded: Decoded<'_>,
     ) -> Result<(), AllocError> {
         rows!(store_by_rows(slot, alloc, decoded))
@@ -110,7 +116,9 @@ impl Nla for InfoIpoib {
     }
 }
 
-impl WrittenByTable for InfoIpoib {
+impl FlatFamily for InfoIpoib {
+    ghost flat = { λ _ n. table_flat ipoib_attribute ipoib_rows ipoib_keeps n };
+
     ghost written = { λ _. refl };
 }
 

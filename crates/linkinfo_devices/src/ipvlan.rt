@@ -5,18 +5,19 @@ ghost use Rattle.linkinfo_devices.specs.Ipvlan.{
   ip_vlan_attribute,
   ip_vlan_family,
   ip_vlan_keeps,
-  ip_vlan_lookup,
   ip_vlan_rows,
 };
-ghost use Rattle.linkinfo_table.specs.FamilyMeaning.{table_meaning, table_memory};
-ghost use Rattle.std.specs.Prelude.{◌≡◌, refl};
+ghost use Rattle.linkinfo_table.specs.FamilyMeaning.{memory_by, table_meaning};
+ghost use Rattle.linkinfo_table.specs.FamilyRowLaws.{table_flat, table_owes};
+ghost use Rattle.linkinfo_table.specs.FamilyRows.{table_row};
+ghost use Rattle.std.specs.Prelude.{◌≡◌, false, refl};
 
 use bitflags::Flags;
 use linkinfo_numbers::{IpVlanFlags, IpVlanMode};
 use linkinfo_table::{
-    Decoded, Encodable, Slot, TableFamily, WrittenByTable, clone_by_rows, encodable_by_rows,
+    Decoded, Encodable, FlatFamily, Lookup, RowFamily, Slot, clone_by_rows, encodable_by_rows,
     row_emit_payload, row_emit_value, row_fit_len, row_kind, row_read, row_value_len,
-    store_by_rows,
+    store_by_rows, table_lookup,
 };
 use nla_frame::{DecodeError, DefaultNla, ExactEq, Family, Nla, NlaBuffer, Parseable};
 use std::alloc::{AllocError, Global};
@@ -68,27 +69,36 @@ impl<const TAP: bool> Clone for InfoIpVlanOf<TAP> {
     }
 }
 
-impl<const TAP: bool> TableFamily for InfoIpVlanOf<TAP> {
+impl<const TAP: bool> RowFamily for InfoIpVlanOf<TAP> {
+    type Context = ();
+
     const FAMILY: Family = family_of(TAP);
 
     ghost FAMILY = { ip_vlan_family TAP };
 
-    ghost table = { ip_vlan_rows };
+    ghost rows = { λ _ n. table_row ip_vlan_rows n };
 
     ghost other = { λ nla. Other nla };
 
     ghost canonical = { ip_vlan_attribute };
 
-    ghost keeps = { ip_vlan_keeps _ };
+    ghost is_custom = { λ _. false };
+
+    ghost owes = { λ _ n. table_owes ip_vlan_attribute ip_vlan_rows (ip_vlan_keeps _) n };
 
     ghost keeps_other = { λ _. refl };
 
-    ghost in_table = { ip_vlan_lookup _ TAP };
+    #[tactic(auto, using(linkinfo_table::specs::FamilyRowLaws::table_lookup))]
+    #[inline(always)]
+    fn shape(_ctx: (), kind: u16) -> Lookup {
+        table_lookup(family_of(TAP), kind)
+    }
 
     #[inline(always)]
     fn store_decoded<P: Slot<InfoIpVlanOf<TAP>>>(
         slot: &mut P,
         alloc: Global,
+        _ctx: (),
         decoded: Decoded<'_>,
     ) -> Result<(), AllocError> {
         rows!(store_by_rows(slot, alloc, decoded))
@@ -124,7 +134,9 @@ impl<const TAP: bool> Nla for InfoIpVlanOf<TAP> {
     }
 }
 
-impl<const TAP: bool> WrittenByTable for InfoIpVlanOf<TAP> {
+impl<const TAP: bool> FlatFamily for InfoIpVlanOf<TAP> {
+    ghost flat = { λ _ n. table_flat ip_vlan_attribute ip_vlan_rows (ip_vlan_keeps _) n };
+
     ghost written = { λ _. refl };
 }
 
@@ -133,7 +145,7 @@ impl<const TAP: bool> WrittenByTable for InfoIpVlanOf<TAP> {
 impl<'a, const TAP: bool> Parseable<NlaBuffer<'a>> for InfoIpVlanOf<TAP> {
     ghost meaning = { table_meaning (ip_vlan_family TAP) (λ d. Other d) ip_vlan_rows };
 
-    ghost needs_memory = { table_memory ⟦<InfoIpVlanOf<TAP> as TableFamily>⟧.table };
+    ghost needs_memory = { memory_by ⟦<InfoIpVlanOf<TAP> as RowFamily>⟧ tt };
 
     fn parse(alloc: Global, buffer: &NlaBuffer<'a>) -> Result<InfoIpVlanOf<TAP>, DecodeError> {
         row_read(alloc, buffer, ())

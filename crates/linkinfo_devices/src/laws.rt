@@ -16,6 +16,9 @@ ghost use Rattle.linkinfo_devices.specs.Conditions.{
   xfrm_conditions,
 };
 ghost use Rattle.linkinfo_devices.specs.declared.ipvlan.InfoIpVlanOf.{InfoIpVlanOf};
+ghost use Rattle.linkinfo_devices.specs.Nested.{nested_lookup};
+ghost use Rattle.linkinfo_shapes.specs.Table.{shape_of};
+ghost use Rattle.linkinfo_table.specs.FamilyRows.{lookup_in};
 ghost use Rattle.nla_frame.specs.declared.error.Family.TheVariants as family;
 
 use crate::ipoib::InfoIpoib;
@@ -40,6 +43,30 @@ pub fn named()
     ensures vrf { ⟦<InfoVrf as LinkFamily>⟧.FAMILY ≡ family.Vrf }
     ensures vrf_port { ⟦<InfoVrfPort as LinkFamily>⟧.FAMILY ≡ family.Vrf }
     ensures xfrm { ⟦<InfoXfrm as LinkFamily>⟧.FAMILY ≡ family.Xfrm }
+{}
+
+/// Each family reads a type without flag bits by its row of the table of all families
+/// (`linkinfo_shapes::table_shape`), and keeps a type without a row. A list of `macvlan` or
+/// `macvtap` attributes that is nested in 128 others is rejected.
+pub fn tabled()
+    ensures ip_vlan { (n : ℕ) →
+        ⟦<InfoIpVlan as LinkFamily>⟧.lookup tt n ≡ lookup_in (shape_of family.IpVlan n) }
+    ensures ip_vtap { (n : ℕ) →
+        ⟦<InfoIpVtap as LinkFamily>⟧.lookup tt n ≡ lookup_in (shape_of family.IpVtap n) }
+    ensures ipoib { (n : ℕ) →
+        ⟦<InfoIpoib as LinkFamily>⟧.lookup tt n ≡ lookup_in (shape_of family.Ipoib n) }
+    ensures mac_sec { (n : ℕ) →
+        ⟦<InfoMacSec as LinkFamily>⟧.lookup tt n ≡ lookup_in (shape_of family.MacSec n) }
+    ensures mac_vlan { (lists n : ℕ) → ⟦<InfoMacVlan as LinkFamily>⟧.lookup lists n
+        ≡ nested_lookup lists n (lookup_in (shape_of family.MacVlan n)) }
+    ensures mac_vtap { (lists n : ℕ) → ⟦<InfoMacVtap as LinkFamily>⟧.lookup lists n
+        ≡ nested_lookup lists n (lookup_in (shape_of family.MacVtap n)) }
+    ensures rm_net { (n : ℕ) →
+        ⟦<InfoRmNet as LinkFamily>⟧.lookup tt n ≡ lookup_in (shape_of family.RmNet n) }
+    ensures vrf { (n : ℕ) →
+        ⟦<InfoVrf as LinkFamily>⟧.lookup tt n ≡ lookup_in (shape_of family.Vrf n) }
+    ensures xfrm { (n : ℕ) →
+        ⟦<InfoXfrm as LinkFamily>⟧.lookup tt n ≡ lookup_in (shape_of family.Xfrm n) }
 {}
 
 /// Which attributes of each family are well formed, by the variant of the attribute. No number is

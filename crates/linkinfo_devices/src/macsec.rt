@@ -1,21 +1,18 @@
 //! MACsec interfaces.
 
 ghost use Rattle.linkinfo_devices.specs.declared.macsec.InfoMacSec.TheVariants.{Other};
-ghost use Rattle.linkinfo_devices.specs.Macsec.{
-  mac_sec_attribute,
-  mac_sec_keeps,
-  mac_sec_lookup,
-  mac_sec_rows,
-};
+ghost use Rattle.linkinfo_devices.specs.Macsec.{mac_sec_attribute, mac_sec_keeps, mac_sec_rows};
 ghost use Rattle.linkinfo_table.specs.FamilyMeaning.{table_meaning, table_memory};
+ghost use Rattle.linkinfo_table.specs.FamilyRowLaws.{table_flat, table_owes};
+ghost use Rattle.linkinfo_table.specs.FamilyRows.{table_row};
 ghost use Rattle.nla_frame.specs.declared.error.Family.TheVariants as family;
-ghost use Rattle.std.specs.Prelude.{◌≡◌, refl};
+ghost use Rattle.std.specs.Prelude.{◌≡◌, false, refl};
 
 use linkinfo_numbers::{MacSecCipherId, MacSecOffload, MacSecValidate};
 use linkinfo_table::{
-    Decoded, Encodable, Slot, TableFamily, WrittenByTable, clone_by_rows, encodable_by_rows,
+    Decoded, Encodable, FlatFamily, Lookup, RowFamily, Slot, clone_by_rows, encodable_by_rows,
     row_emit_payload, row_emit_value, row_fit_len, row_kind, row_read, row_value_len,
-    store_by_rows,
+    store_by_rows, table_lookup,
 };
 use nla_frame::{DecodeError, DefaultNla, ExactEq, Family, Nla, NlaBuffer, Parseable};
 use std::alloc::{AllocError, Global};
@@ -87,27 +84,36 @@ impl Clone for InfoMacSec {
     }
 }
 
-impl TableFamily for InfoMacSec {
+impl RowFamily for InfoMacSec {
+    type Context = ();
+
     const FAMILY: Family = Family::MacSec;
 
     ghost FAMILY = { family.MacSec };
 
-    ghost table = { mac_sec_rows };
+    ghost rows = { λ _ n. table_row mac_sec_rows n };
 
     ghost other = { λ nla. Other nla };
 
     ghost canonical = { mac_sec_attribute };
 
-    ghost keeps = { mac_sec_keeps };
+    ghost is_custom = { λ _. false };
+
+    ghost owes = { λ _ n. table_owes mac_sec_attribute mac_sec_rows mac_sec_keeps n };
 
     ghost keeps_other = { λ _. refl };
 
-    ghost in_table = { mac_sec_lookup };
+    #[tactic(auto, using(linkinfo_table::specs::FamilyRowLaws::table_lookup))]
+    #[inline(always)]
+    fn shape(_ctx: (), kind: u16) -> Lookup {
+        table_lookup(Family::MacSec, kind)
+    }
 
     #[inline(always)]
     fn store_decoded<P: Slot<InfoMacSec>>(
         slot: &mut P,
         alloc: Global,
+        _ctx: (),
         decoded: Decoded<'_>,
     ) -> Result<(), AllocError> {
         rows!(store_by_rows(slot, alloc, decoded))
@@ -143,7 +149,9 @@ impl Nla for InfoMacSec {
     }
 }
 
-impl WrittenByTable for InfoMacSec {
+impl FlatFamily for InfoMacSec {
+    ghost flat = { λ _ n. table_flat mac_sec_attribute mac_sec_rows mac_sec_keeps n };
+
     ghost written = { λ _. refl };
 }
 

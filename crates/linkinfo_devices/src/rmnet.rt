@@ -5,19 +5,20 @@ ghost use Rattle.linkinfo_devices.specs.Rmnet.{
   flags_under_mask,
   rm_net_attribute,
   rm_net_keeps,
-  rm_net_lookup,
   rm_net_rows,
 };
 ghost use Rattle.linkinfo_table.specs.FamilyMeaning.{table_meaning, table_memory};
+ghost use Rattle.linkinfo_table.specs.FamilyRowLaws.{table_flat, table_owes};
+ghost use Rattle.linkinfo_table.specs.FamilyRows.{table_row};
 ghost use Rattle.nla_frame.specs.declared.error.Family.TheVariants as family;
-ghost use Rattle.std.specs.Prelude.{◌≡◌, refl};
+ghost use Rattle.std.specs.Prelude.{◌≡◌, false, refl};
 
 use bitflags::Flags;
 use linkinfo_numbers::{InfoRmNetFlags, RmNetFlags};
 use linkinfo_table::{
-    Decoded, Encodable, Slot, TableFamily, WrittenByTable, clone_by_rows, encodable_by_rows,
+    Decoded, Encodable, FlatFamily, Lookup, RowFamily, Slot, clone_by_rows, encodable_by_rows,
     row_emit_payload, row_emit_value, row_fit_len, row_kind, row_read, row_value_len,
-    store_by_rows,
+    store_by_rows, table_lookup,
 };
 use nla_frame::{DecodeError, DefaultNla, ExactEq, Family, Nla, NlaBuffer, Parseable};
 use std::alloc::{AllocError, Global};
@@ -53,27 +54,36 @@ impl Clone for InfoRmNet {
     }
 }
 
-impl TableFamily for InfoRmNet {
+impl RowFamily for InfoRmNet {
+    type Context = ();
+
     const FAMILY: Family = Family::RmNet;
 
     ghost FAMILY = { family.RmNet };
 
-    ghost table = { rm_net_rows };
+    ghost rows = { λ _ n. table_row rm_net_rows n };
 
     ghost other = { λ nla. Other nla };
 
     ghost canonical = { rm_net_attribute };
 
-    ghost keeps = { rm_net_keeps };
+    ghost is_custom = { λ _. false };
+
+    ghost owes = { λ _ n. table_owes rm_net_attribute rm_net_rows rm_net_keeps n };
 
     ghost keeps_other = { λ _. refl };
 
-    ghost in_table = { rm_net_lookup };
+    #[tactic(auto, using(linkinfo_table::specs::FamilyRowLaws::table_lookup))]
+    #[inline(always)]
+    fn shape(_ctx: (), kind: u16) -> Lookup {
+        table_lookup(Family::RmNet, kind)
+    }
 
     #[inline(always)]
     fn store_decoded<P: Slot<InfoRmNet>>(
         slot: &mut P,
         alloc: Global,
+        _ctx: (),
         decoded: Decoded<'_>,
     ) -> Result<(), AllocError> {
         rows!(store_by_rows(slot, alloc, decoded))
@@ -127,7 +137,9 @@ impl Nla for InfoRmNet {
     }
 }
 
-impl WrittenByTable for InfoRmNet {
+impl FlatFamily for InfoRmNet {
+    ghost flat = { λ _ n. table_flat rm_net_attribute rm_net_rows rm_net_keeps n };
+
     ghost written = { λ _. refl };
 }
 

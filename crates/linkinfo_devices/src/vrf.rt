@@ -2,15 +2,17 @@
 //! (include/uapi/linux/if_link.h).
 
 ghost use Rattle.linkinfo_devices.specs.declared.vrf.InfoVrf.TheVariants.{Other};
-ghost use Rattle.linkinfo_devices.specs.Vrf.{vrf_attribute, vrf_keeps, vrf_lookup, vrf_rows};
+ghost use Rattle.linkinfo_devices.specs.Vrf.{vrf_attribute, vrf_keeps, vrf_rows};
 ghost use Rattle.linkinfo_table.specs.FamilyMeaning.{table_meaning, table_memory};
+ghost use Rattle.linkinfo_table.specs.FamilyRowLaws.{table_flat, table_owes};
+ghost use Rattle.linkinfo_table.specs.FamilyRows.{table_row};
 ghost use Rattle.nla_frame.specs.declared.error.Family.TheVariants as family;
-ghost use Rattle.std.specs.Prelude.{◌≡◌, refl};
+ghost use Rattle.std.specs.Prelude.{◌≡◌, false, refl};
 
 use linkinfo_table::{
-    Decoded, Encodable, Slot, TableFamily, WrittenByTable, clone_by_rows, encodable_by_rows,
+    Decoded, Encodable, FlatFamily, Lookup, RowFamily, Slot, clone_by_rows, encodable_by_rows,
     row_emit_payload, row_emit_value, row_fit_len, row_kind, row_read, row_value_len,
-    store_by_rows,
+    store_by_rows, table_lookup,
 };
 use nla_frame::{DecodeError, DefaultNla, ExactEq, Family, Nla, NlaBuffer, Parseable};
 use std::alloc::{AllocError, Global};
@@ -44,27 +46,36 @@ impl Clone for InfoVrf {
     }
 }
 
-impl TableFamily for InfoVrf {
+impl RowFamily for InfoVrf {
+    type Context = ();
+
     const FAMILY: Family = Family::Vrf;
 
     ghost FAMILY = { family.Vrf };
 
-    ghost table = { vrf_rows };
+    ghost rows = { λ _ n. table_row vrf_rows n };
 
     ghost other = { λ nla. Other nla };
 
     ghost canonical = { vrf_attribute };
 
-    ghost keeps = { vrf_keeps };
+    ghost is_custom = { λ _. false };
+
+    ghost owes = { λ _ n. table_owes vrf_attribute vrf_rows vrf_keeps n };
 
     ghost keeps_other = { λ _. refl };
 
-    ghost in_table = { vrf_lookup };
+    #[tactic(auto, using(linkinfo_table::specs::FamilyRowLaws::table_lookup))]
+    #[inline(always)]
+    fn shape(_ctx: (), kind: u16) -> Lookup {
+        table_lookup(Family::Vrf, kind)
+    }
 
     #[inline(always)]
     fn store_decoded<P: Slot<InfoVrf>>(
         slot: &mut P,
         alloc: Global,
+        _ctx: (),
         decoded: Decoded<'_>,
     ) -> Result<(), AllocError> {
         rows!(store_by_rows(slot, alloc, decoded))
@@ -100,7 +111,9 @@ impl Nla for InfoVrf {
     }
 }
 
-impl WrittenByTable for InfoVrf {
+impl FlatFamily for InfoVrf {
+    ghost flat = { λ _ n. table_flat vrf_attribute vrf_rows vrf_keeps n };
+
     ghost written = { λ _. refl };
 }
 

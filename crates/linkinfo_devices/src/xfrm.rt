@@ -1,15 +1,17 @@
 //! XFRM interfaces: `IFLA_XFRM_*` (include/uapi/linux/if_link.h).
 
 ghost use Rattle.linkinfo_devices.specs.declared.xfrm.InfoXfrm.TheVariants.{Other};
-ghost use Rattle.linkinfo_devices.specs.Xfrm.{xfrm_attribute, xfrm_keeps, xfrm_lookup, xfrm_rows};
+ghost use Rattle.linkinfo_devices.specs.Xfrm.{xfrm_attribute, xfrm_keeps, xfrm_rows};
 ghost use Rattle.linkinfo_table.specs.FamilyMeaning.{table_meaning, table_memory};
+ghost use Rattle.linkinfo_table.specs.FamilyRowLaws.{table_flat, table_owes};
+ghost use Rattle.linkinfo_table.specs.FamilyRows.{table_row};
 ghost use Rattle.nla_frame.specs.declared.error.Family.TheVariants as family;
-ghost use Rattle.std.specs.Prelude.{◌≡◌, refl};
+ghost use Rattle.std.specs.Prelude.{◌≡◌, false, refl};
 
 use linkinfo_table::{
-    Decoded, Encodable, Slot, TableFamily, WrittenByTable, clone_by_rows, encodable_by_rows,
+    Decoded, Encodable, FlatFamily, Lookup, RowFamily, Slot, clone_by_rows, encodable_by_rows,
     row_emit_payload, row_emit_value, row_fit_len, row_kind, row_read, row_value_len,
-    store_by_rows,
+    store_by_rows, table_lookup,
 };
 use nla_frame::{DecodeError, DefaultNla, ExactEq, Family, Nla, NlaBuffer, Parseable};
 use std::alloc::{AllocError, Global};
@@ -43,27 +45,36 @@ impl Clone for InfoXfrm {
     }
 }
 
-impl TableFamily for InfoXfrm {
+impl RowFamily for InfoXfrm {
+    type Context = ();
+
     const FAMILY: Family = Family::Xfrm;
 
     ghost FAMILY = { family.Xfrm };
 
-    ghost table = { xfrm_rows };
+    ghost rows = { λ _ n. table_row xfrm_rows n };
 
     ghost other = { λ nla. Other nla };
 
     ghost canonical = { xfrm_attribute };
 
-    ghost keeps = { xfrm_keeps };
+    ghost is_custom = { λ _. false };
+
+    ghost owes = { λ _ n. table_owes xfrm_attribute xfrm_rows xfrm_keeps n };
 
     ghost keeps_other = { λ _. refl };
 
-    ghost in_table = { xfrm_lookup };
+    #[tactic(auto, using(linkinfo_table::specs::FamilyRowLaws::table_lookup))]
+    #[inline(always)]
+    fn shape(_ctx: (), kind: u16) -> Lookup {
+        table_lookup(Family::Xfrm, kind)
+    }
 
     #[inline(always)]
     fn store_decoded<P: Slot<InfoXfrm>>(
         slot: &mut P,
         alloc: Global,
+        _ctx: (),
         decoded: Decoded<'_>,
     ) -> Result<(), AllocError> {
         rows!(store_by_rows(slot, alloc, decoded))
@@ -99,7 +110,9 @@ impl Nla for InfoXfrm {
     }
 }
 
-impl WrittenByTable for InfoXfrm {
+impl FlatFamily for InfoXfrm {
+    ghost flat = { λ _ n. table_flat xfrm_attribute xfrm_rows xfrm_keeps n };
+
     ghost written = { λ _. refl };
 }
 

@@ -21,12 +21,13 @@ use Rattle.std.specs.Prelude.{
 use Rattle.std.proofs.Common.{sym, ap, subst, cond, lit<, ◌∙◌}
 use Rattle.std.proofs.lemmas.Bool.{ne_eqb}
 use Rattle.nla_frame.specs.Attribute.{Attribute, IsBytes, masked}
+use Rattle.nla_frame.specs.declared.default_nla.DefaultNla.{DefaultNla}
 use Rattle.nla_frame.specs.declared.error.Family.{Family}
 use Rattle.nla_frame.specs.declared.error.DecodeError.{DecodeError}
 use Rattle.nla_frame.specs.declared.error.Cause.TheVariants as cause
 use Rattle.linkinfo_shapes.specs.Table.{found}
 use Rattle.linkinfo_shapes.specs.declared.shape.Shape.TheVariants as shape
-use Rattle.linkinfo_table.specs.Rows.{labelled}
+use Rattle.linkinfo_table.specs.Rows.{labelled, meaning_in, memory_in}
 use Rattle.linkinfo_table.specs.FamilyRows.{
   FamilyRow,
   Custom,
@@ -43,7 +44,14 @@ use Rattle.linkinfo_table.specs.FamilyRows.{
   EachKeeps,
 }
 use Rattle.linkinfo_table.specs.FamilyRowLaws.{row_if_owes, table_flat, table_lookup, table_owes}
-use Rattle.linkinfo_table.specs.LookupLaws.{flat_unnested}
+use Rattle.linkinfo_table.specs.ByRows.{members_by_rows, rows_are_family}
+use Rattle.linkinfo_table.specs.ErrorMemory.{rows_certain, unnested_other}
+use Rattle.linkinfo_table.specs.FlatLaws.{none_inside}
+use Rattle.linkinfo_table.specs.LookupLaws.{flat_unnested, rows_say}
+use Rattle.linkinfo_table.specs.Lookups.{HoldsNone, LookupSays}
+use Rattle.linkinfo_table.specs.Members.{IsFamily}
+use Rattle.linkinfo_table.specs.PeerLaws.{IsPeer}
+use Rattle.linkinfo_table.specs.declared.peer.LinkPeer.{Ghosts}
 use Rattle.linkinfo_table.specs.Codecs.{Own, PayloadError}
 use Rattle.linkinfo_table.specs.Peers.{peer_codec, peer_is_codec, peer_or_error}
 
@@ -119,3 +127,59 @@ module _ {P F : Type 0} (meaning : List ℕ → Option P) (alike : List ℕ → 
               some_same x y (sym (well_means x h) ∙ ap meaning payloads ∙ well_means y g);
         })
         (table_owes attribute plain keeps n)
+
+-- ---- such a family is lawful
+
+-- what `LinkFamily` requires of a family without attributes inside others
+pub record IsUnnestedFamily {F : Type 0} (f : Family) (other : DefaultNla → F)
+    (attribute : F → Attribute) (rows : ℕ → FamilyRow F) : Type 0 where
+  pub says : (a : Attribute) →
+      LookupSays f other attribute
+      (λ (_ : Unit {0}) (b : Attribute). meaning_in f other (λ n. row_of (rows n)) b) a
+      (lookup_of (rows (masked a.kind))) (meaning_in f other (λ n. row_of (rows n)) a)
+  pub certain : (a : Attribute) (e : DecodeError) → HoldsNone (lookup_of (rows (masked a.kind))) →
+      meaning_in f other (λ n. row_of (rows n)) a ≡ Err e →
+      memory_in (λ n. row_of (rows n)) a ≡ false
+  pub laws : IsFamily (members_by_rows f other attribute rows (λ _. 0))
+
+pub is_peer : {P : Type 0} (peer : Ghosts P) →
+    ((p q : List ℕ) (x y : P) → IsBytes p → IsBytes q → peer.meaning p ≡ Some x →
+    peer.meaning q ≡ Some y → (peer.alike p q ≡ true) ↔ (x ≡ y)) →
+    ((p : List ℕ) (x : P) → IsBytes p → peer.meaning p ≡ Some x → peer.well x) →
+    ((x : P) → peer.well x → peer.meaning (peer.canonical x) ≡ Some x) →
+    ((x : P) → peer.well x → IsBytes (peer.canonical x)) → IsPeer peer
+is_peer peer alike_is meaning_well well_means well_bytes = record {
+  alike_is = alike_is;
+  meaning_well = meaning_well;
+  well_means = well_means;
+  well_bytes = well_bytes;
+}
+
+module _ {P F : Type 0} (peer : Ghosts P) (is : IsPeer peer) (value : P → F) (f : Family)
+    (other : DefaultNla → F) (attribute : F → Attribute) (plain : List (PlainRow F))
+    (keeps : EachKeeps attribute plain)
+    (shown : (x : P) → attribute (value x) ≡ record { kind = 1; value = peer.canonical x })
+    (keeps_other : (d : DefaultNla) →
+    attribute (other d) ≡ record { kind = d.kind; value = d.value }) where
+  abbrev rows : ℕ → FamilyRow F
+  rows n = peer_rows peer.meaning peer.alike peer.canonical peer.well value plain n
+
+  owes : (n : ℕ) → RowOwes attribute n (row_of (rows n))
+  owes n = peer_owes peer.meaning peer.alike peer.canonical peer.well value attribute plain keeps
+      is.alike_is is.meaning_well is.well_means is.well_bytes shown n
+
+  unnested : (n : ℕ) → IsUnnested (rows n)
+  unnested n =
+      peer_unnested peer.meaning peer.alike peer.canonical peer.well value attribute plain keeps n
+
+  pub peer_lawful : IsUnnestedFamily f other attribute (λ n. rows n)
+  peer_lawful = record {
+    says = λ a.
+        rows_say f other attribute attribute (λ _. refl)
+        (λ (_ : Unit {0}) (b : Attribute). meaning_in f other (λ n. row_of (rows n)) b)
+        (λ n. rows n) a (unnested (masked a.kind)) (owes (masked a.kind));
+    certain = λ a e.
+        rows_certain f other (λ n. rows n) a e
+        (unnested_other (rows (masked a.kind)) (unnested (masked a.kind)));
+    laws = rows_are_family f other attribute (λ n. rows n) owes keeps_other (λ _. 0) none_inside;
+  }

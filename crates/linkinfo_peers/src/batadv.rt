@@ -3,14 +3,15 @@
 ghost use Rattle.linkinfo_peers.specs.declared.batadv.InfoBatAdv.TheVariants.{Other};
 ghost use Rattle.linkinfo_peers.specs.Batadv.{batadv_attribute, batadv_keeps, batadv_rows};
 ghost use Rattle.linkinfo_table.specs.FamilyMeaning.{table_meaning, table_memory};
-ghost use Rattle.linkinfo_table.specs.FamilyRowLaws.{table_lookup};
+ghost use Rattle.linkinfo_table.specs.FamilyRowLaws.{table_flat, table_owes};
+ghost use Rattle.linkinfo_table.specs.FamilyRows.{table_row};
 ghost use Rattle.nla_frame.specs.declared.error.Family.TheVariants as family;
-ghost use Rattle.std.specs.Prelude.{◌≡◌, refl};
+ghost use Rattle.std.specs.Prelude.{◌≡◌, false, refl};
 
 use linkinfo_table::{
-    Decoded, Encodable, Slot, TableFamily, WrittenByTable, clone_by_rows, encodable_by_rows,
+    Decoded, Encodable, FlatFamily, Lookup, RowFamily, Slot, clone_by_rows, encodable_by_rows,
     row_emit_payload, row_emit_value, row_fit_len, row_kind, row_read, row_value_len,
-    store_by_rows,
+    store_by_rows, table_lookup,
 };
 use nla_frame::{DecodeError, DefaultNla, ExactEq, Family, Nla, NlaBuffer, Parseable, Text};
 use std::alloc::{AllocError, Global};
@@ -41,27 +42,36 @@ impl Clone for InfoBatAdv {
     }
 }
 
-impl TableFamily for InfoBatAdv {
+impl RowFamily for InfoBatAdv {
+    type Context = ();
+
     const FAMILY: Family = Family::BatAdv;
 
     ghost FAMILY = { family.BatAdv };
 
-    ghost table = { batadv_rows };
+    ghost rows = { λ _ n. table_row batadv_rows n };
 
     ghost other = { λ nla. Other nla };
 
     ghost canonical = { batadv_attribute };
 
-    ghost keeps = { batadv_keeps };
+    ghost is_custom = { λ _. false };
+
+    ghost owes = { λ _ n. table_owes batadv_attribute batadv_rows batadv_keeps n };
 
     ghost keeps_other = { λ _. refl };
 
-    ghost in_table = { λ n. table_lookup batadv_rows n };
+    #[tactic(auto, using(linkinfo_table::specs::FamilyRowLaws::table_lookup))]
+    #[inline(always)]
+    fn shape(_ctx: (), kind: u16) -> Lookup {
+        table_lookup(Family::BatAdv, kind)
+    }
 
     #[inline(always)]
     fn store_decoded<P: Slot<InfoBatAdv>>(
         slot: &mut P,
         alloc: Global,
+        _ctx: (),
         decoded: Decoded<'_>,
     ) -> Result<(), AllocError> {
         rows!(store_by_rows(slot, alloc, decoded))
@@ -97,7 +107,9 @@ impl Nla for InfoBatAdv {
     }
 }
 
-impl WrittenByTable for InfoBatAdv {
+impl FlatFamily for InfoBatAdv {
+    ghost flat = { λ _ n. table_flat batadv_attribute batadv_rows batadv_keeps n };
+
     ghost written = { λ _. refl };
 }
 

@@ -1,9 +1,16 @@
 //! Virtual CAN links that come in pairs: `VXCAN_INFO_*` (include/uapi/linux/can/vxcan.h).
 
-ghost use Rattle.linkinfo_peers.specs.PeerRows.{flat_elsewhere, peer_owes, peer_unnested};
-ghost use Rattle.linkinfo_peers.specs.Vxcan.{vxcan_attribute, vxcan_is_custom, vxcan_rows};
+ghost use Rattle.linkinfo_peers.specs.PeerRows.{flat_elsewhere, is_peer, peer_owes};
+ghost use Rattle.linkinfo_peers.specs.Vxcan.{
+  vxcan_attribute,
+  vxcan_is_custom,
+  vxcan_lawful,
+  vxcan_members,
+  vxcan_rows,
+};
 ghost use Rattle.linkinfo_peers.specs.declared.vxcan.InfoVxcanOf.TheVariants as vxcan;
-ghost use Rattle.linkinfo_table.specs.FamilyRows.{row_of};
+ghost use Rattle.linkinfo_table.specs.FamilyRows.{lookup_of, row_of};
+ghost use Rattle.linkinfo_table.specs.FlatLaws.{none_inside};
 ghost use Rattle.linkinfo_table.specs.Rows.{meaning_in, memory_in};
 ghost use Rattle.nla_frame.specs.declared.error.Family.TheVariants as family;
 ghost use Rattle.std.specs.Prelude.{[], refl};
@@ -15,9 +22,11 @@ use crate::peer_calls::{
 use crate::peer_canonical::{peer_canonical_len, peer_write_canonical};
 use crate::peer_family::PeerFamily;
 use linkinfo_table::{
-    Decoded, Encodable, LinkPeer, Lookup, RowFamily, Slot, UnnestedFamily, table_lookup,
+    Decoded, Encodable, LinkFamily, LinkPeer, Lookup, RowFamily, Slot, table_lookup,
 };
-use nla_frame::{Bytes, DecodeError, DefaultNla, ExactEq, Family, Nla, NlaBuffer, Parseable};
+use nla_frame::{
+    Bytes, DecodeError, DefaultNla, ExactEq, Family, HeaderCount, Nla, NlaBuffer, Parseable,
+};
 use std::alloc::{AllocError, Global};
 
 /// An attribute in the data of a `vxcan` link, with a peer of type `P`.
@@ -148,34 +157,91 @@ impl<'a, P: LinkPeer> Parseable<NlaBuffer<'a>> for InfoVxcanOf<P> {
     }
 }
 
-impl<P: LinkPeer> UnnestedFamily for InfoVxcanOf<P> {
-    ghost written = { λ _. refl };
+impl<P: LinkPeer> LinkFamily for InfoVxcanOf<P> {
+    type Context = ();
 
-    ghost unnested = { λ _ n.
-        peer_unnested P.meaning P.alike P.canonical P.well (λ peer. vxcan.Peer peer)
-        (vxcan_attribute P.canonical) [] tt n };
+    const FAMILY: Family = Family::Vxcan;
 
-    fn read_by_row(
+    ghost FAMILY = { family.Vxcan };
+
+    ghost lookup = { λ _ n.
+        lookup_of (vxcan_rows P.meaning P.alike P.canonical P.well n) };
+
+    ghost keeping = { λ nla. vxcan.Other nla };
+
+    ghost meaning = { λ _ a. (vxcan_members P.LinkPeer.own).meaning a };
+
+    ghost needs_memory = { λ _ a. (vxcan_members P.LinkPeer.own).needs_memory a };
+
+    ghost headers = { λ _ _. 0 };
+
+    ghost alike = { λ _ a b. (vxcan_members P.LinkPeer.own).alike a b };
+
+    ghost well = { λ _ x. (vxcan_members P.LinkPeer.own).well x };
+
+    ghost keeps = { λ _. refl };
+
+    ghost looked_up = { λ _ a.
+        (vxcan_lawful P.LinkPeer.own
+        (is_peer P.LinkPeer.own P.alike_is P.meaning_well P.well_means P.well_bytes)).says a };
+
+    ghost alike_is = { λ _ a b x y.
+        (vxcan_lawful P.LinkPeer.own
+        (is_peer P.LinkPeer.own P.alike_is P.meaning_well P.well_means P.well_bytes)).laws.alike_is a b x y };
+
+    ghost headers_quarter = { λ _ a. none_inside a };
+
+    ghost no_memory = { λ _ a.
+        (vxcan_lawful P.LinkPeer.own
+        (is_peer P.LinkPeer.own P.alike_is P.meaning_well P.well_means P.well_bytes)).laws.no_memory a };
+
+    ghost error_certain = { λ _ a e.
+        (vxcan_lawful P.LinkPeer.own
+        (is_peer P.LinkPeer.own P.alike_is P.meaning_well P.well_means P.well_bytes)).certain a e };
+
+    ghost read_well = { λ _ a x.
+        (vxcan_lawful P.LinkPeer.own
+        (is_peer P.LinkPeer.own P.alike_is P.meaning_well P.well_means P.well_bytes)).laws.read_well a x };
+
+    ghost well_reads = { λ _ x.
+        (vxcan_lawful P.LinkPeer.own
+        (is_peer P.LinkPeer.own P.alike_is P.meaning_well P.well_means P.well_bytes)).laws.well_reads x };
+
+    ghost well_attribute = { λ _ x.
+        (vxcan_lawful P.LinkPeer.own
+        (is_peer P.LinkPeer.own P.alike_is P.meaning_well P.well_means P.well_bytes)).laws.well_attribute x };
+
+    #[inline(always)]
+    fn shape(ctx: (), kind: u16) -> Lookup {
+        <InfoVxcanOf<P> as RowFamily>::shape(ctx, kind)
+    }
+
+    fn read(
         alloc: Global,
         nla: &NlaBuffer<'_>,
         ctx: (),
+        _count: &mut HeaderCount,
     ) -> Result<InfoVxcanOf<P>, DecodeError> {
         peer_read(alloc, nla, ctx)
     }
 
-    fn check_by_row(nla: &NlaBuffer<'_>, ctx: ()) -> Result<(), DecodeError> {
+    fn check_value(
+        nla: &NlaBuffer<'_>,
+        ctx: (),
+        _count: &mut HeaderCount,
+    ) -> Result<(), DecodeError> {
         peer_check::<InfoVxcanOf<P>>(nla, ctx)
     }
 
-    fn same_by_row(a: &NlaBuffer<'_>, b: &NlaBuffer<'_>, ctx: ()) -> bool {
+    fn same_value(a: &NlaBuffer<'_>, b: &NlaBuffer<'_>, ctx: (), _count: &mut HeaderCount) -> bool {
         peer_same::<InfoVxcanOf<P>>(a, b, ctx)
     }
 
-    fn canonical_len_by_row(nla: &NlaBuffer<'_>, ctx: ()) -> Option<usize> {
+    fn canonical_len(nla: &NlaBuffer<'_>, ctx: ()) -> Option<usize> {
         peer_canonical_len::<InfoVxcanOf<P>>(nla, ctx)
     }
 
-    fn write_canonical_by_row(nla: &NlaBuffer<'_>, ctx: (), buffer: &mut [u8]) -> usize {
+    fn write_canonical(nla: &NlaBuffer<'_>, ctx: (), buffer: &mut [u8]) -> usize {
         peer_write_canonical::<InfoVxcanOf<P>>(nla, ctx, buffer)
     }
 }

@@ -3,14 +3,15 @@
 ghost use Rattle.linkinfo_peers.specs.declared.wwan.InfoWwan.TheVariants.{Other};
 ghost use Rattle.linkinfo_peers.specs.Wwan.{wwan_attribute, wwan_keeps, wwan_rows};
 ghost use Rattle.linkinfo_table.specs.FamilyMeaning.{table_meaning, table_memory};
-ghost use Rattle.linkinfo_table.specs.FamilyRowLaws.{table_lookup};
+ghost use Rattle.linkinfo_table.specs.FamilyRowLaws.{table_flat, table_owes};
+ghost use Rattle.linkinfo_table.specs.FamilyRows.{table_row};
 ghost use Rattle.nla_frame.specs.declared.error.Family.TheVariants as family;
-ghost use Rattle.std.specs.Prelude.{◌≡◌, refl};
+ghost use Rattle.std.specs.Prelude.{◌≡◌, false, refl};
 
 use linkinfo_table::{
-    Decoded, Encodable, Slot, TableFamily, WrittenByTable, clone_by_rows, encodable_by_rows,
+    Decoded, Encodable, FlatFamily, Lookup, RowFamily, Slot, clone_by_rows, encodable_by_rows,
     row_emit_payload, row_emit_value, row_fit_len, row_kind, row_read, row_value_len,
-    store_by_rows,
+    store_by_rows, table_lookup,
 };
 use nla_frame::{DecodeError, DefaultNla, ExactEq, Family, Nla, NlaBuffer, Parseable};
 use std::alloc::{AllocError, Global};
@@ -41,27 +42,36 @@ impl Clone for InfoWwan {
     }
 }
 
-impl TableFamily for InfoWwan {
+impl RowFamily for InfoWwan {
+    type Context = ();
+
     const FAMILY: Family = Family::Wwan;
 
     ghost FAMILY = { family.Wwan };
 
-    ghost table = { wwan_rows };
+    ghost rows = { λ _ n. table_row wwan_rows n };
 
     ghost other = { λ nla. Other nla };
 
     ghost canonical = { wwan_attribute };
 
-    ghost keeps = { wwan_keeps };
+    ghost is_custom = { λ _. false };
+
+    ghost owes = { λ _ n. table_owes wwan_attribute wwan_rows wwan_keeps n };
 
     ghost keeps_other = { λ _. refl };
 
-    ghost in_table = { λ n. table_lookup wwan_rows n };
+    #[tactic(auto, using(linkinfo_table::specs::FamilyRowLaws::table_lookup))]
+    #[inline(always)]
+    fn shape(_ctx: (), kind: u16) -> Lookup {
+        table_lookup(Family::Wwan, kind)
+    }
 
     #[inline(always)]
     fn store_decoded<P: Slot<InfoWwan>>(
         slot: &mut P,
         alloc: Global,
+        _ctx: (),
         decoded: Decoded<'_>,
     ) -> Result<(), AllocError> {
         rows!(store_by_rows(slot, alloc, decoded))
@@ -97,7 +107,9 @@ impl Nla for InfoWwan {
     }
 }
 
-impl WrittenByTable for InfoWwan {
+impl FlatFamily for InfoWwan {
+    ghost flat = { λ _ n. table_flat wwan_attribute wwan_rows wwan_keeps n };
+
     ghost written = { λ _. refl };
 }
 

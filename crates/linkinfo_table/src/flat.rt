@@ -1,54 +1,132 @@
-//! Families in which each row has a shape of the table read, check and compare by that shape alone.
+//! A family in which each row has a shape of the table is a `LinkFamily`.
 
-ghost use Rattle.linkinfo_table.specs.LookupLaws.{flat_unnested};
+ghost use Rattle.std.proofs.Common.{◌∙◌};
+ghost use Rattle.nla_frame.specs.Attribute.{masked};
+ghost use Rattle.linkinfo_table.specs.FamilyMeaning.{alike_by, meaning_by, memory_by};
+ghost use Rattle.linkinfo_table.specs.FamilyRows.{lookup_of, row_of};
+ghost use Rattle.linkinfo_table.specs.ErrorMemory.{rows_certain, unnested_other};
+ghost use Rattle.linkinfo_table.specs.LookupLaws.{flat_unnested, rows_say};
+ghost use Rattle.linkinfo_table.specs.Rows.{WellFormed};
+ghost use Rattle.linkinfo_table.specs.FlatLaws.{
+  flat_alike_is,
+  none_inside,
+  flat_no_memory,
+  flat_read_well,
+  flat_well_reads,
+  flat_well_attribute,
+};
 
 use crate::canonical::{row_canonical_len, row_write_canonical};
+use crate::family::LinkFamily;
+use crate::lookup::Lookup;
 use crate::row_family::{FlatFamily, RowFamily};
 use crate::rows::{row_check, row_read, row_same, row_store};
-use crate::unnested::UnnestedFamily;
-use nla_frame::{DecodeError, NlaBuffer};
+use nla_frame::{DecodeError, Family, HeaderCount, NlaBuffer};
 use std::alloc::Global;
 
-impl<F: FlatFamily> UnnestedFamily for F {
-    ghost written = { F.written };
+impl<F: FlatFamily> LinkFamily for F {
+    type Context = <F as RowFamily>::Context;
 
-    ghost unnested = { λ c n. flat_unnested (F.rows c n) (F.flat c n) };
+    const FAMILY: Family = <F as RowFamily>::FAMILY;
+
+    ghost FAMILY = { F.RowFamily.FAMILY };
+
+    ghost lookup = { λ c n. lookup_of (F.rows c n) };
+
+    ghost keeping = { F.other };
+
+    ghost meaning = { meaning_by F.RowFamily.own };
+
+    ghost needs_memory = { memory_by F.RowFamily.own };
+
+    ghost headers = { λ _ _. 0 };
+
+    ghost alike = { alike_by F.RowFamily.own };
+
+    ghost well = { λ c x. WellFormed F.other F.canonical (λ n. row_of (F.rows c n)) x };
+
+    ghost keeps = { λ nla. F.written (F.other nla) ∙ F.keeps_other nla };
+
+    ghost looked_up = { λ c a.
+        rows_say F.RowFamily.FAMILY F.other F.canonical F.attribute F.written
+        (meaning_by F.RowFamily.own) (F.rows c) a
+        (flat_unnested (F.rows c (masked a.kind)) (F.flat c (masked a.kind)))
+        (F.owes c (masked a.kind)) };
+
+    ghost alike_is = { λ c a b x y.
+        flat_alike_is F.RowFamily.FAMILY F.other F.canonical (F.rows c) (F.owes c) F.keeps_other a b
+        x y };
+
+    ghost headers_quarter = { λ _ a. none_inside a };
+
+    ghost no_memory = { λ c a.
+        flat_no_memory F.RowFamily.FAMILY F.other F.canonical (F.rows c) (F.owes c) F.keeps_other
+        a };
+
+    ghost error_certain = { λ c a e.
+        rows_certain F.RowFamily.FAMILY F.other (F.rows c) a e
+        (unnested_other (F.rows c (masked a.kind))
+        (flat_unnested (F.rows c (masked a.kind)) (F.flat c (masked a.kind)))) };
+
+    ghost read_well = { λ c a x.
+        flat_read_well F.RowFamily.FAMILY F.other F.canonical (F.rows c) (F.owes c) F.keeps_other a
+        x };
+
+    ghost well_reads = { λ c x.
+        flat_well_reads F.RowFamily.FAMILY F.other F.canonical (F.rows c) (F.owes c) F.keeps_other
+        F.attribute F.written x };
+
+    ghost well_attribute = { λ c x.
+        flat_well_attribute F.RowFamily.FAMILY F.other F.canonical (F.rows c) (F.owes c)
+        F.keeps_other F.attribute F.written x };
+
+    fn shape(ctx: <F as RowFamily>::Context, kind: u16) -> Lookup {
+        <F as RowFamily>::shape(ctx, kind)
+    }
 
     #[inline(always)]
-    fn read_by_row(
+    fn read(
         alloc: Global,
         nla: &NlaBuffer<'_>,
         ctx: <F as RowFamily>::Context,
+        _count: &mut HeaderCount,
     ) -> Result<F, DecodeError> {
         row_read(alloc, nla, ctx)
     }
 
     #[inline(always)]
-    fn push_by_row(
+    fn push(
         items: &mut Vec<F>,
         alloc: Global,
         nla: &NlaBuffer<'_>,
         ctx: <F as RowFamily>::Context,
+        _count: &mut HeaderCount,
     ) -> Result<(), DecodeError> {
         row_store::<F, Vec<F>>(items, alloc, nla, ctx)
     }
 
-    fn check_by_row(
+    fn check_value(
         nla: &NlaBuffer<'_>,
         ctx: <F as RowFamily>::Context,
+        _count: &mut HeaderCount,
     ) -> Result<(), DecodeError> {
         row_check::<F>(nla, ctx)
     }
 
-    fn same_by_row(a: &NlaBuffer<'_>, b: &NlaBuffer<'_>, ctx: <F as RowFamily>::Context) -> bool {
+    fn same_value(
+        a: &NlaBuffer<'_>,
+        b: &NlaBuffer<'_>,
+        ctx: <F as RowFamily>::Context,
+        _count: &mut HeaderCount,
+    ) -> bool {
         row_same::<F>(a, b, ctx)
     }
 
-    fn canonical_len_by_row(nla: &NlaBuffer<'_>, ctx: <F as RowFamily>::Context) -> Option<usize> {
+    fn canonical_len(nla: &NlaBuffer<'_>, ctx: <F as RowFamily>::Context) -> Option<usize> {
         row_canonical_len::<F>(nla, ctx)
     }
 
-    fn write_canonical_by_row(
+    fn write_canonical(
         nla: &NlaBuffer<'_>,
         ctx: <F as RowFamily>::Context,
         buffer: &mut [u8],

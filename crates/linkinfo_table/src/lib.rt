@@ -21,8 +21,6 @@ mod peer;
 mod row_family;
 mod rows;
 mod slot;
-mod table_family;
-mod unnested;
 
 pub use canonical::{row_canonical_len, row_write_canonical};
 pub use decoded::Decoded;
@@ -45,5 +43,3 @@ pub use rows::{
     row_store, row_value_len, table_lookup,
 };
 pub use slot::Slot;
-pub use table_family::{TableFamily, WrittenByTable};
-pub use unnested::UnnestedFamily;

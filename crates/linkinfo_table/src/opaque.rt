@@ -1,14 +1,16 @@
 //! Families without rows: each of their attributes is opaque.
 
-ghost use Rattle.std.specs.Prelude.{◌≡◌, [], Ok, refl, true};
+ghost use Rattle.std.specs.Prelude.{◌≡◌, Ok, false, refl, true};
 ghost use Rattle.nla_frame.specs.Kept.{attribute_of, kept};
-ghost use Rattle.linkinfo_table.specs.Opaque.{no_rows, opaque_family};
+ghost use Rattle.linkinfo_table.specs.FamilyRows.{Absent};
+ghost use Rattle.linkinfo_table.specs.Opaque.{opaque_family};
 ghost use Rattle.linkinfo_table.specs.declared.opaque.Opaque.TheVariants as opaque;
 
 use crate::decoded::Decoded;
 use crate::encodable::Encodable;
+use crate::lookup::Lookup;
+use crate::row_family::{FlatFamily, RowFamily};
 use crate::slot::Slot;
-use crate::table_family::{TableFamily, WrittenByTable};
 use nla_frame::{DecodeError, DefaultNla, ExactEq, Family, Nla, NlaBuffer, Parseable};
 use std::alloc::{AllocError, Global};
 
@@ -91,30 +93,35 @@ impl<const NUMBER: u8> Opaque<NUMBER> {
     }
 }
 
-impl<const NUMBER: u8> TableFamily for Opaque<NUMBER> {
-    const FAMILY: Family = family_of(NUMBER);
+impl<const NUMBER: u8> RowFamily for Opaque<NUMBER> {
+    type Context = ();
 
-    ghost use Rattle.std.proofs.Common.{ap, sym};
-    ghost use Rattle.linkinfo_table.specs.FamilyRows.{lookup_in};
+    const FAMILY: Family = family_of(NUMBER);
 
     ghost FAMILY = { opaque_family NUMBER };
 
-    ghost table = { [] };
+    ghost rows = { λ _ _. Absent };
 
     ghost other = { λ nla. opaque.Other nla };
 
     ghost canonical = { elim [ opaque.Other nla ↦ attribute_of nla ] };
 
-    ghost keeps = { tt };
+    ghost is_custom = { λ _. false };
+
+    ghost owes = { λ _ _. tt };
 
     ghost keeps_other = { λ _. refl };
 
-    ghost in_table = { λ n. ap lookup_in (sym (no_rows NUMBER n)) };
+    #[inline(always)]
+    fn shape(_ctx: (), _kind: u16) -> Lookup {
+        Lookup::Unknown
+    }
 
     #[inline(always)]
     fn store_decoded<P: Slot<Opaque<NUMBER>>>(
         slot: &mut P,
         _alloc: Global,
+        _ctx: (),
         decoded: Decoded<'_>,
     ) -> Result<(), AllocError> {
         match decoded {
@@ -149,7 +156,9 @@ impl<const NUMBER: u8> Nla for Opaque<NUMBER> {
     }
 }
 
-impl<const NUMBER: u8> WrittenByTable for Opaque<NUMBER> {
+impl<const NUMBER: u8> FlatFamily for Opaque<NUMBER> {
+    ghost flat = { λ _ _. tt };
+
     ghost written = { λ _. refl };
 }
 

@@ -79,11 +79,10 @@ pub trait RowFamily: Sized + Drop {
         canonical (other d) ≡ record { kind = d.kind; value = d.value } };
 }
 
-/// A family in which each row has a shape of the table. It is a `LinkFamily` by its rows.
+/// A family in which each row has a shape of the table, and that writes its attributes as its rows
+/// define them. It is a `LinkFamily` by its rows.
 pub trait FlatFamily: RowFamily + Nla {
     ghost flat: { (c : Self.Context) (n : ℕ) → IsFlat (Self.rows c n) };
-
-    ghost never_custom: { (x : Self) → Self.is_custom x ≡ false };
 
     ghost written: { (x : Self) → Self.attribute x ≡ Self.canonical x };
 }

@@ -1,21 +1,15 @@
 -- The rows of AMT tunnels.
-use Rattle.std.specs.Prelude.{◌≡◌, ℕ, List, [], ◌∷◌, refl}
+use Rattle.std.specs.Prelude.{ℕ, List, [], ◌∷◌, refl}
 use Rattle.std.proofs.Common.{ap}
 use Rattle.nla_frame.specs.Attribute.{Attribute}
 use Rattle.nla_frame.specs.Kept.{attribute_of}
-use Rattle.nla_frame.specs.declared.error.Family.TheVariants as family
 use Rattle.nla_frame.specs.Pairs.{◌&◌}
 use Rattle.linkinfo_table.specs.FamilyRows.{
   PlainRow,
   row,
   typed,
-  table_row,
-  lookup_of,
-  lookup_in,
   EachKeeps,
 }
-use Rattle.linkinfo_table.specs.FamilyRowLaws.{table_lookup}
-use Rattle.linkinfo_shapes.specs.Table.{shape_of}
 use Rattle.linkinfo_shapes.specs.declared.shape.Shape.TheVariants.{Le32, Be16, Ip}
 use Rattle.linkinfo_numbers.specs.Table.{key-value_of}
 use Rattle.linkinfo_numbers.specs.Amt.{amt_mode, amt_mode_number, amt_mode_table_holds}
@@ -67,8 +61,3 @@ amt_keeps = each_keeps amt_attribute amt_rows refl
     & (λ a. refl)
     & (λ n. refl)
     & tt)
-
--- these are the rows of the table of all families
-pub amt_lookup : (number : ℕ) →
-    lookup_of (table_row amt_rows number) ≡ lookup_in (shape_of family.Amt number)
-amt_lookup number = table_lookup amt_rows number

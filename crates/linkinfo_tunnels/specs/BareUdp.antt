@@ -1,20 +1,14 @@
 -- The rows of bare UDP tunnels.
-use Rattle.std.specs.Prelude.{◌≡◌, ℕ, List, [], ◌∷◌, refl}
+use Rattle.std.specs.Prelude.{ℕ, List, [], ◌∷◌, refl}
 use Rattle.std.proofs.Common.{ap}
 use Rattle.nla_frame.specs.Attribute.{Attribute}
 use Rattle.nla_frame.specs.Kept.{attribute_of}
-use Rattle.nla_frame.specs.declared.error.Family.TheVariants as family
 use Rattle.linkinfo_table.specs.FamilyRows.{
   PlainRow,
   row,
   typed,
-  table_row,
-  lookup_of,
-  lookup_in,
   EachKeeps,
 }
-use Rattle.linkinfo_table.specs.FamilyRowLaws.{table_lookup}
-use Rattle.linkinfo_shapes.specs.Table.{shape_of}
 use Rattle.linkinfo_shapes.specs.declared.shape.Shape.TheVariants.{Be16, Le16, Mark}
 use Rattle.linkinfo_numbers.specs.Table.{key-value_of}
 use Rattle.linkinfo_numbers.specs.Ethernet.{
@@ -55,8 +49,3 @@ bare_udp_keeps = each_keeps bare_udp_attribute bare_udp_rows refl (
     (λ n. refl, (λ _. refl, tt)),
   ),
 )
-
--- these are the rows of the table of all families
-pub bare_udp_lookup : (number : ℕ) →
-    lookup_of (table_row bare_udp_rows number) ≡ lookup_in (shape_of family.BareUdp number)
-bare_udp_lookup number = table_lookup bare_udp_rows number

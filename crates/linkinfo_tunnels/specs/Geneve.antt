@@ -1,21 +1,15 @@
 -- The rows of Geneve tunnels.
-use Rattle.std.specs.Prelude.{◌≡◌, ℕ, List, [], ◌∷◌, refl}
+use Rattle.std.specs.Prelude.{ℕ, List, [], ◌∷◌, refl}
 use Rattle.std.proofs.Common.{ap}
 use Rattle.nla_frame.specs.Attribute.{Attribute}
 use Rattle.nla_frame.specs.Kept.{attribute_of}
-use Rattle.nla_frame.specs.declared.error.Family.TheVariants as family
 use Rattle.nla_frame.specs.Pairs.{◌&◌}
 use Rattle.linkinfo_table.specs.FamilyRows.{
   PlainRow,
   row,
   typed,
-  table_row,
-  lookup_of,
-  lookup_in,
   EachKeeps,
 }
-use Rattle.linkinfo_table.specs.FamilyRowLaws.{table_lookup}
-use Rattle.linkinfo_shapes.specs.Table.{shape_of}
 use Rattle.linkinfo_shapes.specs.declared.shape.Shape.TheVariants.{
   Le32,
   GeneveV4,
@@ -108,8 +102,3 @@ geneve_keeps = each_keeps geneve_attribute geneve_rows refl
     & (λ a. refl)
     & (λ a. refl)
     & tt)
-
--- these are the rows of the table of all families
-pub geneve_lookup : (number : ℕ) →
-    lookup_of (table_row geneve_rows number) ≡ lookup_in (shape_of family.Geneve number)
-geneve_lookup number = table_lookup geneve_rows number

@@ -1,21 +1,15 @@
 -- The rows of GRE tunnels over IPv4.
-use Rattle.std.specs.Prelude.{◌≡◌, ℕ, List, [], ◌∷◌, refl}
+use Rattle.std.specs.Prelude.{ℕ, List, [], ◌∷◌, refl}
 use Rattle.std.proofs.Common.{ap}
 use Rattle.nla_frame.specs.Attribute.{Attribute}
 use Rattle.nla_frame.specs.Kept.{attribute_of}
-use Rattle.nla_frame.specs.declared.error.Family.TheVariants as family
 use Rattle.nla_frame.specs.Pairs.{◌&◌}
 use Rattle.linkinfo_table.specs.FamilyRows.{
   PlainRow,
   row,
   typed,
-  table_row,
-  lookup_of,
-  lookup_in,
   EachKeeps,
 }
-use Rattle.linkinfo_table.specs.FamilyRowLaws.{table_lookup}
-use Rattle.linkinfo_shapes.specs.Table.{shape_of}
 use Rattle.linkinfo_shapes.specs.declared.shape.Shape.TheVariants.{
   Le32,
   Be16,
@@ -133,8 +127,3 @@ gre_keeps = each_keeps gre_attribute gre_rows refl
     & (λ n. ap (typed 23 U8) (key-value_of er_span_dir_table_holds n))
     & (λ n. refl)
     & tt)
-
--- these are the rows of the table of all families
-pub gre_lookup : (number : ℕ) →
-    lookup_of (table_row gre_rows number) ≡ lookup_in (shape_of family.Gre number)
-gre_lookup number = table_lookup gre_rows number

@@ -1,21 +1,15 @@
 -- The rows of GRE tunnels over IPv6.
-use Rattle.std.specs.Prelude.{◌≡◌, ℕ, List, [], ◌∷◌, refl}
+use Rattle.std.specs.Prelude.{ℕ, List, [], ◌∷◌, refl}
 use Rattle.std.proofs.Common.{ap}
 use Rattle.nla_frame.specs.Attribute.{Attribute}
 use Rattle.nla_frame.specs.Kept.{attribute_of}
-use Rattle.nla_frame.specs.declared.error.Family.TheVariants as family
 use Rattle.nla_frame.specs.Pairs.{◌&◌}
 use Rattle.linkinfo_table.specs.FamilyRows.{
   PlainRow,
   row,
   typed,
-  table_row,
-  lookup_of,
-  lookup_in,
   EachKeeps,
 }
-use Rattle.linkinfo_table.specs.FamilyRowLaws.{table_lookup}
-use Rattle.linkinfo_shapes.specs.Table.{shape_of}
 use Rattle.linkinfo_shapes.specs.declared.shape.Shape.TheVariants.{
   Le32,
   Be16,
@@ -136,8 +130,3 @@ gre6_keeps = each_keeps gre6_attribute gre6_rows refl
     & (λ n. ap (typed 23 U8) (key-value_of er_span_dir_table_holds n))
     & (λ n. refl)
     & tt)
-
--- these are the rows of the table of all families
-pub gre6_lookup : (number : ℕ) →
-    lookup_of (table_row gre6_rows number) ≡ lookup_in (shape_of family.Gre6 number)
-gre6_lookup number = table_lookup gre6_rows number

@@ -1,21 +1,15 @@
 -- The rows of GTP tunnels.
-use Rattle.std.specs.Prelude.{◌≡◌, ℕ, List, [], ◌∷◌, refl}
+use Rattle.std.specs.Prelude.{ℕ, List, [], ◌∷◌, refl}
 use Rattle.std.proofs.Common.{ap}
 use Rattle.nla_frame.specs.Attribute.{Attribute}
 use Rattle.nla_frame.specs.Kept.{attribute_of}
-use Rattle.nla_frame.specs.declared.error.Family.TheVariants as family
 use Rattle.nla_frame.specs.Pairs.{◌&◌}
 use Rattle.linkinfo_table.specs.FamilyRows.{
   PlainRow,
   row,
   typed,
-  table_row,
-  lookup_of,
-  lookup_in,
   EachKeeps,
 }
-use Rattle.linkinfo_table.specs.FamilyRowLaws.{table_lookup}
-use Rattle.linkinfo_shapes.specs.Table.{shape_of}
 use Rattle.linkinfo_shapes.specs.declared.shape.Shape.TheVariants.{Le32, Truth, U8, V4, V6}
 use Rattle.linkinfo_numbers.specs.Table.{key-value_of}
 use Rattle.linkinfo_numbers.specs.Gtp.{gtp_role, gtp_role_number, gtp_role_table_holds}
@@ -67,8 +61,3 @@ gtp_keeps = each_keeps gtp_attribute gtp_rows refl
     & (λ a. refl)
     & (λ a. refl)
     & tt)
-
--- these are the rows of the table of all families
-pub gtp_lookup : (number : ℕ) →
-    lookup_of (table_row gtp_rows number) ≡ lookup_in (shape_of family.Gtp number)
-gtp_lookup number = table_lookup gtp_rows number

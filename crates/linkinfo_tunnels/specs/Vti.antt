@@ -1,19 +1,13 @@
 -- The rows of VTI tunnels.
-use Rattle.std.specs.Prelude.{◌≡◌, ℕ, List, [], ◌∷◌, refl}
+use Rattle.std.specs.Prelude.{ℕ, List, [], ◌∷◌, refl}
 use Rattle.nla_frame.specs.Attribute.{Attribute}
 use Rattle.nla_frame.specs.Kept.{attribute_of}
-use Rattle.nla_frame.specs.declared.error.Family.TheVariants as family
 use Rattle.linkinfo_table.specs.FamilyRows.{
   PlainRow,
   row,
   typed,
-  table_row,
-  lookup_of,
-  lookup_in,
   EachKeeps,
 }
-use Rattle.linkinfo_table.specs.FamilyRowLaws.{table_lookup}
-use Rattle.linkinfo_shapes.specs.Table.{shape_of}
 use Rattle.linkinfo_shapes.specs.declared.shape.Shape.TheVariants.{Le32, Be32, Ip}
 use Rattle.linkinfo_table.specs.Labels.{each_keeps}
 use Rattle.linkinfo_tunnels.specs.declared.vti.InfoVti.{InfoVti}
@@ -49,8 +43,3 @@ vti_attribute (Other nla) = attribute_of nla
 pub vti_keeps : EachKeeps vti_attribute vti_rows
 vti_keeps = each_keeps vti_attribute vti_rows refl
     (λ n. refl, (λ n. refl, (λ n. refl, (λ a. refl, (λ a. refl, (λ n. refl, tt))))))
-
--- these are the rows of the table of all families
-pub vti_lookup : (number : ℕ) →
-    lookup_of (table_row vti_rows number) ≡ lookup_in (shape_of family.Vti number)
-vti_lookup number = table_lookup vti_rows number

@@ -3,19 +3,13 @@ use Rattle.std.specs.Prelude.{◌≡◌, ℕ, List, [], ◌∷◌, Option, Some,
 use Rattle.std.proofs.Common.{ap}
 use Rattle.nla_frame.specs.Attribute.{Attribute}
 use Rattle.nla_frame.specs.Kept.{attribute_of}
-use Rattle.nla_frame.specs.declared.error.Family.TheVariants as family
 use Rattle.nla_frame.specs.Pairs.{◌&◌}
 use Rattle.linkinfo_table.specs.FamilyRows.{
   PlainRow,
   row,
   typed,
-  table_row,
-  lookup_of,
-  lookup_in,
   EachKeeps,
 }
-use Rattle.linkinfo_table.specs.FamilyRowLaws.{table_lookup}
-use Rattle.linkinfo_shapes.specs.Table.{shape_of}
 use Rattle.linkinfo_shapes.specs.declared.shape.Shape.TheVariants.{
   Le32,
   V4,
@@ -194,8 +188,3 @@ vxlan_keeps = each_keeps vxlan_attribute vxlan_rows refl
     & (λ n. refl)
     & (λ b. refl)
     & tt)
-
--- these are the rows of the table of all families
-pub vxlan_lookup : (number : ℕ) →
-    lookup_of (table_row vxlan_rows number) ≡ lookup_in (shape_of family.Vxlan number)
-vxlan_lookup number = table_lookup vxlan_rows number

@@ -1,16 +1,18 @@
 //! AMT tunnels.
 
 ghost use Rattle.linkinfo_tunnels.specs.declared.amt.InfoAmt.TheVariants.{Other};
-ghost use Rattle.linkinfo_tunnels.specs.Amt.{amt_attribute, amt_keeps, amt_lookup, amt_rows};
+ghost use Rattle.linkinfo_tunnels.specs.Amt.{amt_attribute, amt_keeps, amt_rows};
 ghost use Rattle.linkinfo_table.specs.FamilyMeaning.{table_meaning, table_memory};
+ghost use Rattle.linkinfo_table.specs.FamilyRowLaws.{table_flat, table_owes};
+ghost use Rattle.linkinfo_table.specs.FamilyRows.{table_row};
 ghost use Rattle.nla_frame.specs.declared.error.Family.TheVariants as family;
-ghost use Rattle.std.specs.Prelude.{◌≡◌, refl};
+ghost use Rattle.std.specs.Prelude.{◌≡◌, false, refl};
 
 use linkinfo_numbers::AmtMode;
 use linkinfo_table::{
-    Decoded, Encodable, Slot, TableFamily, WrittenByTable, clone_by_rows, encodable_by_rows,
+    Decoded, Encodable, FlatFamily, Lookup, RowFamily, Slot, clone_by_rows, encodable_by_rows,
     row_emit_payload, row_emit_value, row_fit_len, row_kind, row_read, row_value_len,
-    store_by_rows,
+    store_by_rows, table_lookup,
 };
 use nla_frame::{DecodeError, DefaultNla, ExactEq, Family, Nla, NlaBuffer, Parseable};
 use std::alloc::{AllocError, Global};
@@ -64,27 +66,36 @@ impl Clone for InfoAmt {
     }
 }
 
-impl TableFamily for InfoAmt {
+impl RowFamily for InfoAmt {
+    type Context = ();
+
     const FAMILY: Family = Family::Amt;
 
     ghost FAMILY = { family.Amt };
 
-    ghost table = { amt_rows };
+    ghost rows = { λ _ n. table_row amt_rows n };
 
     ghost other = { λ nla. Other nla };
 
     ghost canonical = { amt_attribute };
 
-    ghost keeps = { amt_keeps };
+    ghost is_custom = { λ _. false };
+
+    ghost owes = { λ _ n. table_owes amt_attribute amt_rows amt_keeps n };
 
     ghost keeps_other = { λ _. refl };
 
-    ghost in_table = { amt_lookup };
+    #[tactic(auto, using(linkinfo_table::specs::FamilyRowLaws::table_lookup))]
+    #[inline(always)]
+    fn shape(_ctx: (), kind: u16) -> Lookup {
+        table_lookup(Family::Amt, kind)
+    }
 
     #[inline(always)]
     fn store_decoded<P: Slot<InfoAmt>>(
         slot: &mut P,
         alloc: Global,
+        _ctx: (),
         decoded: Decoded<'_>,
     ) -> Result<(), AllocError> {
         rows!(store_by_rows(slot, alloc, decoded))
@@ -120,7 +131,9 @@ impl Nla for InfoAmt {
     }
 }
 
-impl WrittenByTable for InfoAmt {
+impl FlatFamily for InfoAmt {
+    ghost flat = { λ _ n. table_flat amt_attribute amt_rows amt_keeps n };
+
     ghost written = { λ _. refl };
 }
 

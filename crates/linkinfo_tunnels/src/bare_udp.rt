@@ -1,21 +1,18 @@
 //! Bare UDP tunnels.
 
 ghost use Rattle.linkinfo_tunnels.specs.declared.bare_udp.InfoBareUdp.TheVariants.{Other};
-ghost use Rattle.linkinfo_tunnels.specs.BareUdp.{
-  bare_udp_attribute,
-  bare_udp_keeps,
-  bare_udp_lookup,
-  bare_udp_rows,
-};
+ghost use Rattle.linkinfo_tunnels.specs.BareUdp.{bare_udp_attribute, bare_udp_keeps, bare_udp_rows};
 ghost use Rattle.linkinfo_table.specs.FamilyMeaning.{table_meaning, table_memory};
+ghost use Rattle.linkinfo_table.specs.FamilyRowLaws.{table_flat, table_owes};
+ghost use Rattle.linkinfo_table.specs.FamilyRows.{table_row};
 ghost use Rattle.nla_frame.specs.declared.error.Family.TheVariants as family;
-ghost use Rattle.std.specs.Prelude.{◌≡◌, refl};
+ghost use Rattle.std.specs.Prelude.{◌≡◌, false, refl};
 
 use linkinfo_numbers::EthernetProtocol;
 use linkinfo_table::{
-    Decoded, Encodable, Slot, TableFamily, WrittenByTable, clone_by_rows, encodable_by_rows,
+    Decoded, Encodable, FlatFamily, Lookup, RowFamily, Slot, clone_by_rows, encodable_by_rows,
     row_emit_payload, row_emit_value, row_fit_len, row_kind, row_read, row_value_len,
-    store_by_rows,
+    store_by_rows, table_lookup,
 };
 use nla_frame::{DecodeError, DefaultNla, ExactEq, Family, Nla, NlaBuffer, Parseable};
 use std::alloc::{AllocError, Global};
@@ -56,27 +53,36 @@ impl Clone for InfoBareUdp {
     }
 }
 
-impl TableFamily for InfoBareUdp {
+impl RowFamily for InfoBareUdp {
+    type Context = ();
+
     const FAMILY: Family = Family::BareUdp;
 
     ghost FAMILY = { family.BareUdp };
 
-    ghost table = { bare_udp_rows };
+    ghost rows = { λ _ n. table_row bare_udp_rows n };
 
     ghost other = { λ nla. Other nla };
 
     ghost canonical = { bare_udp_attribute };
 
-    ghost keeps = { bare_udp_keeps };
+    ghost is_custom = { λ _. false };
+
+    ghost owes = { λ _ n. table_owes bare_udp_attribute bare_udp_rows bare_udp_keeps n };
 
     ghost keeps_other = { λ _. refl };
 
-    ghost in_table = { bare_udp_lookup };
+    #[tactic(auto, using(linkinfo_table::specs::FamilyRowLaws::table_lookup))]
+    #[inline(always)]
+    fn shape(_ctx: (), kind: u16) -> Lookup {
+        table_lookup(Family::BareUdp, kind)
+    }
 
     #[inline(always)]
     fn store_decoded<P: Slot<InfoBareUdp>>(
         slot: &mut P,
         alloc: Global,
+        _ctx: (),
         decoded: Decoded<'_>,
     ) -> Result<(), AllocError> {
         rows!(store_by_rows(slot, alloc, decoded))
@@ -112,7 +118,9 @@ impl Nla for InfoBareUdp {
     }
 }
 
-impl WrittenByTable for InfoBareUdp {
+impl FlatFamily for InfoBareUdp {
+    ghost flat = { λ _ n. table_flat bare_udp_attribute bare_udp_rows bare_udp_keeps n };
+
     ghost written = { λ _. refl };
 }
 

@@ -1,21 +1,18 @@
 //! Geneve tunnels.
 
 ghost use Rattle.linkinfo_tunnels.specs.declared.geneve.InfoGeneve.TheVariants.{Other};
-ghost use Rattle.linkinfo_tunnels.specs.Geneve.{
-  geneve_attribute,
-  geneve_keeps,
-  geneve_lookup,
-  geneve_rows,
-};
+ghost use Rattle.linkinfo_tunnels.specs.Geneve.{geneve_attribute, geneve_keeps, geneve_rows};
 ghost use Rattle.linkinfo_table.specs.FamilyMeaning.{table_meaning, table_memory};
+ghost use Rattle.linkinfo_table.specs.FamilyRowLaws.{table_flat, table_owes};
+ghost use Rattle.linkinfo_table.specs.FamilyRows.{table_row};
 ghost use Rattle.nla_frame.specs.declared.error.Family.TheVariants as family;
-ghost use Rattle.std.specs.Prelude.{◌≡◌, refl};
+ghost use Rattle.std.specs.Prelude.{◌≡◌, false, refl};
 
 use linkinfo_numbers::GeneveDf;
 use linkinfo_table::{
-    Decoded, Encodable, Slot, TableFamily, WrittenByTable, clone_by_rows, encodable_by_rows,
+    Decoded, Encodable, FlatFamily, Lookup, RowFamily, Slot, clone_by_rows, encodable_by_rows,
     row_emit_payload, row_emit_value, row_fit_len, row_kind, row_read, row_value_len,
-    store_by_rows,
+    store_by_rows, table_lookup,
 };
 use nla_frame::{DecodeError, DefaultNla, ExactEq, Family, Nla, NlaBuffer, Parseable};
 use std::alloc::{AllocError, Global};
@@ -96,27 +93,36 @@ impl Clone for InfoGeneve {
     }
 }
 
-impl TableFamily for InfoGeneve {
+impl RowFamily for InfoGeneve {
+    type Context = ();
+
     const FAMILY: Family = Family::Geneve;
 
     ghost FAMILY = { family.Geneve };
 
-    ghost table = { geneve_rows };
+    ghost rows = { λ _ n. table_row geneve_rows n };
 
     ghost other = { λ nla. Other nla };
 
     ghost canonical = { geneve_attribute };
 
-    ghost keeps = { geneve_keeps };
+    ghost is_custom = { λ _. false };
+
+    ghost owes = { λ _ n. table_owes geneve_attribute geneve_rows geneve_keeps n };
 
     ghost keeps_other = { λ _. refl };
 
-    ghost in_table = { geneve_lookup };
+    #[tactic(auto, using(linkinfo_table::specs::FamilyRowLaws::table_lookup))]
+    #[inline(always)]
+    fn shape(_ctx: (), kind: u16) -> Lookup {
+        table_lookup(Family::Geneve, kind)
+    }
 
     #[inline(always)]
     fn store_decoded<P: Slot<InfoGeneve>>(
         slot: &mut P,
         alloc: Global,
+        _ctx: (),
         decoded: Decoded<'_>,
     ) -> Result<(), AllocError> {
         rows!(store_by_rows(slot, alloc, decoded))
@@ -152,7 +158,9 @@ impl Nla for InfoGeneve {
     }
 }
 
-impl WrittenByTable for InfoGeneve {
+impl FlatFamily for InfoGeneve {
+    ghost flat = { λ _ n. table_flat geneve_attribute geneve_rows geneve_keeps n };
+
     ghost written = { λ _. refl };
 }
 

@@ -1,17 +1,19 @@
 //! GRE tunnels over IPv4.
 
 ghost use Rattle.linkinfo_tunnels.specs.declared.gre.InfoGre.TheVariants.{Other};
-ghost use Rattle.linkinfo_tunnels.specs.Gre.{gre_attribute, gre_keeps, gre_lookup, gre_rows};
+ghost use Rattle.linkinfo_tunnels.specs.Gre.{gre_attribute, gre_keeps, gre_rows};
 ghost use Rattle.linkinfo_table.specs.FamilyMeaning.{table_meaning, table_memory};
+ghost use Rattle.linkinfo_table.specs.FamilyRowLaws.{table_flat, table_owes};
+ghost use Rattle.linkinfo_table.specs.FamilyRows.{table_row};
 ghost use Rattle.nla_frame.specs.declared.error.Family.TheVariants as family;
-ghost use Rattle.std.specs.Prelude.{◌≡◌, refl};
+ghost use Rattle.std.specs.Prelude.{◌≡◌, false, refl};
 
 use bitflags::Flags;
 use linkinfo_numbers::{ErSpanDir, GreEncapFlags, GreEncapType, GreIOFlags};
 use linkinfo_table::{
-    Decoded, Encodable, Slot, TableFamily, WrittenByTable, clone_by_rows, encodable_by_rows,
+    Decoded, Encodable, FlatFamily, Lookup, RowFamily, Slot, clone_by_rows, encodable_by_rows,
     row_emit_payload, row_emit_value, row_fit_len, row_kind, row_read, row_value_len,
-    store_by_rows,
+    store_by_rows, table_lookup,
 };
 use nla_frame::{DecodeError, DefaultNla, ExactEq, Family, Nla, NlaBuffer, Parseable};
 use std::alloc::{AllocError, Global};
@@ -102,27 +104,36 @@ impl Clone for InfoGre {
     }
 }
 
-impl TableFamily for InfoGre {
+impl RowFamily for InfoGre {
+    type Context = ();
+
     const FAMILY: Family = Family::Gre;
 
     ghost FAMILY = { family.Gre };
 
-    ghost table = { gre_rows };
+    ghost rows = { λ _ n. table_row gre_rows n };
 
     ghost other = { λ nla. Other nla };
 
     ghost canonical = { gre_attribute };
 
-    ghost keeps = { gre_keeps };
+    ghost is_custom = { λ _. false };
+
+    ghost owes = { λ _ n. table_owes gre_attribute gre_rows gre_keeps n };
 
     ghost keeps_other = { λ _. refl };
 
-    ghost in_table = { gre_lookup };
+    #[tactic(auto, using(linkinfo_table::specs::FamilyRowLaws::table_lookup))]
+    #[inline(always)]
+    fn shape(_ctx: (), kind: u16) -> Lookup {
+        table_lookup(Family::Gre, kind)
+    }
 
     #[inline(always)]
     fn store_decoded<P: Slot<InfoGre>>(
         slot: &mut P,
         alloc: Global,
+        _ctx: (),
         decoded: Decoded<'_>,
     ) -> Result<(), AllocError> {
         rows!(store_by_rows(slot, alloc, decoded))
@@ -158,7 +169,9 @@ impl Nla for InfoGre {
     }
 }
 
-impl WrittenByTable for InfoGre {
+impl FlatFamily for InfoGre {
+    ghost flat = { λ _ n. table_flat gre_attribute gre_rows gre_keeps n };
+
     ghost written = { λ _. refl };
 }
 

@@ -1,17 +1,19 @@
 //! GRE tunnels over IPv6.
 
 ghost use Rattle.linkinfo_tunnels.specs.declared.gre6.InfoGre6.TheVariants.{Other};
-ghost use Rattle.linkinfo_tunnels.specs.Gre6.{gre6_attribute, gre6_keeps, gre6_lookup, gre6_rows};
+ghost use Rattle.linkinfo_tunnels.specs.Gre6.{gre6_attribute, gre6_keeps, gre6_rows};
 ghost use Rattle.linkinfo_table.specs.FamilyMeaning.{table_meaning, table_memory};
+ghost use Rattle.linkinfo_table.specs.FamilyRowLaws.{table_flat, table_owes};
+ghost use Rattle.linkinfo_table.specs.FamilyRows.{table_row};
 ghost use Rattle.nla_frame.specs.declared.error.Family.TheVariants as family;
-ghost use Rattle.std.specs.Prelude.{◌≡◌, refl};
+ghost use Rattle.std.specs.Prelude.{◌≡◌, false, refl};
 
 use bitflags::Flags;
 use linkinfo_numbers::{ErSpanDir, GreEncapFlags, GreEncapType, GreIOFlags};
 use linkinfo_table::{
-    Decoded, Encodable, Slot, TableFamily, WrittenByTable, clone_by_rows, encodable_by_rows,
+    Decoded, Encodable, FlatFamily, Lookup, RowFamily, Slot, clone_by_rows, encodable_by_rows,
     row_emit_payload, row_emit_value, row_fit_len, row_kind, row_read, row_value_len,
-    store_by_rows,
+    store_by_rows, table_lookup,
 };
 use nla_frame::{DecodeError, DefaultNla, ExactEq, Family, Nla, NlaBuffer, Parseable};
 use std::alloc::{AllocError, Global};
@@ -105,27 +107,36 @@ impl Clone for InfoGre6 {
     }
 }
 
-impl TableFamily for InfoGre6 {
+impl RowFamily for InfoGre6 {
+    type Context = ();
+
     const FAMILY: Family = Family::Gre6;
 
     ghost FAMILY = { family.Gre6 };
 
-    ghost table = { gre6_rows };
+    ghost rows = { λ _ n. table_row gre6_rows n };
 
     ghost other = { λ nla. Other nla };
 
     ghost canonical = { gre6_attribute };
 
-    ghost keeps = { gre6_keeps };
+    ghost is_custom = { λ _. false };
+
+    ghost owes = { λ _ n. table_owes gre6_attribute gre6_rows gre6_keeps n };
 
     ghost keeps_other = { λ _. refl };
 
-    ghost in_table = { gre6_lookup };
+    #[tactic(auto, using(linkinfo_table::specs::FamilyRowLaws::table_lookup))]
+    #[inline(always)]
+    fn shape(_ctx: (), kind: u16) -> Lookup {
+        table_lookup(Family::Gre6, kind)
+    }
 
     #[inline(always)]
     fn store_decoded<P: Slot<InfoGre6>>(
         slot: &mut P,
         alloc: Global,
+        _ctx: (),
         decoded: Decoded<'_>,
     ) -> Result<(), AllocError> {
         rows!(store_by_rows(slot, alloc, decoded))
@@ -161,7 +172,9 @@ impl Nla for InfoGre6 {
     }
 }
 
-impl WrittenByTable for InfoGre6 {
+impl FlatFamily for InfoGre6 {
+    ghost flat = { λ _ n. table_flat gre6_attribute gre6_rows gre6_keeps n };
+
     ghost written = { λ _. refl };
 }
 

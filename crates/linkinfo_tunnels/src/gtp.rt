@@ -1,16 +1,18 @@
 //! GTP tunnels.
 
 ghost use Rattle.linkinfo_tunnels.specs.declared.gtp.InfoGtp.TheVariants.{Other};
-ghost use Rattle.linkinfo_tunnels.specs.Gtp.{gtp_attribute, gtp_keeps, gtp_lookup, gtp_rows};
+ghost use Rattle.linkinfo_tunnels.specs.Gtp.{gtp_attribute, gtp_keeps, gtp_rows};
 ghost use Rattle.linkinfo_table.specs.FamilyMeaning.{table_meaning, table_memory};
+ghost use Rattle.linkinfo_table.specs.FamilyRowLaws.{table_flat, table_owes};
+ghost use Rattle.linkinfo_table.specs.FamilyRows.{table_row};
 ghost use Rattle.nla_frame.specs.declared.error.Family.TheVariants as family;
-ghost use Rattle.std.specs.Prelude.{◌≡◌, refl};
+ghost use Rattle.std.specs.Prelude.{◌≡◌, false, refl};
 
 use linkinfo_numbers::GtpRole;
 use linkinfo_table::{
-    Decoded, Encodable, Slot, TableFamily, WrittenByTable, clone_by_rows, encodable_by_rows,
+    Decoded, Encodable, FlatFamily, Lookup, RowFamily, Slot, clone_by_rows, encodable_by_rows,
     row_emit_payload, row_emit_value, row_fit_len, row_kind, row_read, row_value_len,
-    store_by_rows,
+    store_by_rows, table_lookup,
 };
 use nla_frame::{DecodeError, DefaultNla, ExactEq, Family, Nla, NlaBuffer, Parseable};
 use std::alloc::{AllocError, Global};
@@ -63,27 +65,36 @@ impl Clone for InfoGtp {
     }
 }
 
-impl TableFamily for InfoGtp {
+impl RowFamily for InfoGtp {
+    type Context = ();
+
     const FAMILY: Family = Family::Gtp;
 
     ghost FAMILY = { family.Gtp };
 
-    ghost table = { gtp_rows };
+    ghost rows = { λ _ n. table_row gtp_rows n };
 
     ghost other = { λ nla. Other nla };
 
     ghost canonical = { gtp_attribute };
 
-    ghost keeps = { gtp_keeps };
+    ghost is_custom = { λ _. false };
+
+    ghost owes = { λ _ n. table_owes gtp_attribute gtp_rows gtp_keeps n };
 
     ghost keeps_other = { λ _. refl };
 
-    ghost in_table = { gtp_lookup };
+    #[tactic(auto, using(linkinfo_table::specs::FamilyRowLaws::table_lookup))]
+    #[inline(always)]
+    fn shape(_ctx: (), kind: u16) -> Lookup {
+        table_lookup(Family::Gtp, kind)
+    }
 
     #[inline(always)]
     fn store_decoded<P: Slot<InfoGtp>>(
         slot: &mut P,
         alloc: Global,
+        _ctx: (),
         decoded: Decoded<'_>,
     ) -> Result<(), AllocError> {
         rows!(store_by_rows(slot, alloc, decoded))
@@ -119,7 +130,9 @@ impl Nla for InfoGtp {
     }
 }
 
-impl WrittenByTable for InfoGtp {
+impl FlatFamily for InfoGtp {
+    ghost flat = { λ _ n. table_flat gtp_attribute gtp_rows gtp_keeps n };
+
     ghost written = { λ _. refl };
 }
 

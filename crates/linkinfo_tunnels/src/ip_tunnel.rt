@@ -225,8 +225,6 @@ impl Nla for InfoIpTunnel {
 impl FlatFamily for InfoIpTunnel {
     ghost flat = { ip_tunnel_flat };
 
-    ghost never_custom = { λ _. refl };
-
     ghost written = { λ _. refl };
 }
 

@@ -1,6 +1,6 @@
 //! Laws of the families of tunnels, each the contract of a function without code.
 
-ghost use Rattle.std.specs.Prelude.{◌≡◌, ◌↔◌};
+ghost use Rattle.std.specs.Prelude.{◌≡◌, ◌≢◌, ◌↔◌, ℕ};
 ghost use Rattle.linkinfo_tunnels.specs.Conditions.{
   amt_conditions,
   bare_udp_conditions,
@@ -13,6 +13,8 @@ ghost use Rattle.linkinfo_tunnels.specs.Conditions.{
   vxlan_conditions,
 };
 ghost use Rattle.linkinfo_numbers.specs.declared.tags.KindTag.{KindTag};
+ghost use Rattle.linkinfo_shapes.specs.Table.{shape_of};
+ghost use Rattle.linkinfo_table.specs.FamilyRows.{lookup_in};
 ghost use Rattle.nla_frame.specs.declared.error.Family.TheVariants as family;
 
 use crate::amt::InfoAmt;
@@ -37,6 +39,30 @@ pub fn named()
     ensures ip_tunnel { ⟦<InfoIpTunnel as LinkFamily>⟧.FAMILY ≡ family.IpTunnel }
     ensures vti { ⟦<InfoVti as LinkFamily>⟧.FAMILY ≡ family.Vti }
     ensures vxlan { ⟦<InfoVxlan as LinkFamily>⟧.FAMILY ≡ family.Vxlan }
+{}
+
+/// Each family reads a type without flag bits by its row of the table of all families
+/// (`linkinfo_shapes::table_shape`), and keeps a type without a row. Type 8 of `InfoIpTunnel`
+/// depends on the kind.
+pub fn tabled()
+    ensures amt { (n : ℕ) →
+        ⟦<InfoAmt as LinkFamily>⟧.lookup tt n ≡ lookup_in (shape_of family.Amt n) }
+    ensures bare_udp { (n : ℕ) →
+        ⟦<InfoBareUdp as LinkFamily>⟧.lookup tt n ≡ lookup_in (shape_of family.BareUdp n) }
+    ensures geneve { (n : ℕ) →
+        ⟦<InfoGeneve as LinkFamily>⟧.lookup tt n ≡ lookup_in (shape_of family.Geneve n) }
+    ensures gre { (n : ℕ) →
+        ⟦<InfoGre as LinkFamily>⟧.lookup tt n ≡ lookup_in (shape_of family.Gre n) }
+    ensures gre6 { (n : ℕ) →
+        ⟦<InfoGre6 as LinkFamily>⟧.lookup tt n ≡ lookup_in (shape_of family.Gre6 n) }
+    ensures gtp { (n : ℕ) →
+        ⟦<InfoGtp as LinkFamily>⟧.lookup tt n ≡ lookup_in (shape_of family.Gtp n) }
+    ensures ip_tunnel { (tag : KindTag) (n : ℕ) → n ≢ 8 →
+        ⟦<InfoIpTunnel as LinkFamily>⟧.lookup tag n ≡ lookup_in (shape_of family.IpTunnel n) }
+    ensures vti { (n : ℕ) →
+        ⟦<InfoVti as LinkFamily>⟧.lookup tt n ≡ lookup_in (shape_of family.Vti n) }
+    ensures vxlan { (n : ℕ) →
+        ⟦<InfoVxlan as LinkFamily>⟧.lookup tt n ≡ lookup_in (shape_of family.Vxlan n) }
 {}
 
 /// Which attributes of each family are well formed, by the variant of the attribute. No number is

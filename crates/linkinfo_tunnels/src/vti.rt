@@ -1,15 +1,17 @@
 //! VTI tunnels.
 
 ghost use Rattle.linkinfo_tunnels.specs.declared.vti.InfoVti.TheVariants.{Other};
-ghost use Rattle.linkinfo_tunnels.specs.Vti.{vti_attribute, vti_keeps, vti_lookup, vti_rows};
+ghost use Rattle.linkinfo_tunnels.specs.Vti.{vti_attribute, vti_keeps, vti_rows};
 ghost use Rattle.linkinfo_table.specs.FamilyMeaning.{table_meaning, table_memory};
+ghost use Rattle.linkinfo_table.specs.FamilyRowLaws.{table_flat, table_owes};
+ghost use Rattle.linkinfo_table.specs.FamilyRows.{table_row};
 ghost use Rattle.nla_frame.specs.declared.error.Family.TheVariants as family;
-ghost use Rattle.std.specs.Prelude.{◌≡◌, refl};
+ghost use Rattle.std.specs.Prelude.{◌≡◌, false, refl};
 
 use linkinfo_table::{
-    Decoded, Encodable, Slot, TableFamily, WrittenByTable, clone_by_rows, encodable_by_rows,
+    Decoded, Encodable, FlatFamily, Lookup, RowFamily, Slot, clone_by_rows, encodable_by_rows,
     row_emit_payload, row_emit_value, row_fit_len, row_kind, row_read, row_value_len,
-    store_by_rows,
+    store_by_rows, table_lookup,
 };
 use nla_frame::{DecodeError, DefaultNla, ExactEq, Family, Nla, NlaBuffer, Parseable};
 use std::alloc::{AllocError, Global};
@@ -57,27 +59,36 @@ impl Clone for InfoVti {
     }
 }
 
-impl TableFamily for InfoVti {
+impl RowFamily for InfoVti {
+    type Context = ();
+
     const FAMILY: Family = Family::Vti;
 
     ghost FAMILY = { family.Vti };
 
-    ghost table = { vti_rows };
+    ghost rows = { λ _ n. table_row vti_rows n };
 
     ghost other = { λ nla. Other nla };
 
     ghost canonical = { vti_attribute };
 
-    ghost keeps = { vti_keeps };
+    ghost is_custom = { λ _. false };
+
+    ghost owes = { λ _ n. table_owes vti_attribute vti_rows vti_keeps n };
 
     ghost keeps_other = { λ _. refl };
 
-    ghost in_table = { vti_lookup };
+    #[tactic(auto, using(linkinfo_table::specs::FamilyRowLaws::table_lookup))]
+    #[inline(always)]
+    fn shape(_ctx: (), kind: u16) -> Lookup {
+        table_lookup(Family::Vti, kind)
+    }
 
     #[inline(always)]
     fn store_decoded<P: Slot<InfoVti>>(
         slot: &mut P,
         alloc: Global,
+        _ctx: (),
         decoded: Decoded<'_>,
     ) -> Result<(), AllocError> {
         rows!(store_by_rows(slot, alloc, decoded))
@@ -113,7 +124,9 @@ impl Nla for InfoVti {
     }
 }
 
-impl WrittenByTable for InfoVti {
+impl FlatFamily for InfoVti {
+    ghost flat = { λ _ n. table_flat vti_attribute vti_rows vti_keeps n };
+
     ghost written = { λ _. refl };
 }
 

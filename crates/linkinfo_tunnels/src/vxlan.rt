@@ -1,21 +1,18 @@
 //! VXLAN tunnels.
 
 ghost use Rattle.linkinfo_tunnels.specs.declared.vxlan.InfoVxlan.TheVariants.{Other};
-ghost use Rattle.linkinfo_tunnels.specs.Vxlan.{
-  vxlan_attribute,
-  vxlan_keeps,
-  vxlan_lookup,
-  vxlan_rows,
-};
+ghost use Rattle.linkinfo_tunnels.specs.Vxlan.{vxlan_attribute, vxlan_keeps, vxlan_rows};
 ghost use Rattle.linkinfo_table.specs.FamilyMeaning.{table_meaning, table_memory};
+ghost use Rattle.linkinfo_table.specs.FamilyRowLaws.{table_flat, table_owes};
+ghost use Rattle.linkinfo_table.specs.FamilyRows.{table_row};
 ghost use Rattle.nla_frame.specs.declared.error.Family.TheVariants as family;
-ghost use Rattle.std.specs.Prelude.{◌≡◌, refl};
+ghost use Rattle.std.specs.Prelude.{◌≡◌, false, refl};
 
 use linkinfo_numbers::VxlanDf;
 use linkinfo_table::{
-    Decoded, Encodable, Slot, TableFamily, WrittenByTable, clone_by_rows, encodable_by_rows,
+    Decoded, Encodable, FlatFamily, Lookup, RowFamily, Slot, clone_by_rows, encodable_by_rows,
     row_emit_payload, row_emit_value, row_fit_len, row_kind, row_read, row_value_len,
-    store_by_rows,
+    store_by_rows, table_lookup,
 };
 use nla_frame::{DecodeError, DefaultNla, ExactEq, Family, Nla, NlaBuffer, Parseable};
 use std::alloc::{AllocError, Global};
@@ -156,27 +153,36 @@ impl Clone for InfoVxlan {
     }
 }
 
-impl TableFamily for InfoVxlan {
+impl RowFamily for InfoVxlan {
+    type Context = ();
+
     const FAMILY: Family = Family::Vxlan;
 
     ghost FAMILY = { family.Vxlan };
 
-    ghost table = { vxlan_rows };
+    ghost rows = { λ _ n. table_row vxlan_rows n };
 
     ghost other = { λ nla. Other nla };
 
     ghost canonical = { vxlan_attribute };
 
-    ghost keeps = { vxlan_keeps };
+    ghost is_custom = { λ _. false };
+
+    ghost owes = { λ _ n. table_owes vxlan_attribute vxlan_rows vxlan_keeps n };
 
     ghost keeps_other = { λ _. refl };
 
-    ghost in_table = { vxlan_lookup };
+    #[tactic(auto, using(linkinfo_table::specs::FamilyRowLaws::table_lookup))]
+    #[inline(always)]
+    fn shape(_ctx: (), kind: u16) -> Lookup {
+        table_lookup(Family::Vxlan, kind)
+    }
 
     #[inline(always)]
     fn store_decoded<P: Slot<InfoVxlan>>(
         slot: &mut P,
         alloc: Global,
+        _ctx: (),
         decoded: Decoded<'_>,
     ) -> Result<(), AllocError> {
         rows!(store_by_rows(slot, alloc, decoded))
@@ -212,7 +218,9 @@ impl Nla for InfoVxlan {
     }
 }
 
-impl WrittenByTable for InfoVxlan {
+impl FlatFamily for InfoVxlan {
+    ghost flat = { λ _ n. table_flat vxlan_attribute vxlan_rows vxlan_keeps n };
+
     ghost written = { λ _. refl };
 }
 

@@ -5,7 +5,7 @@ use Rattle.linkinfo_table.specs.FamilyRowLaws.{no_row_read, row_stored}
 use Rattle.linkinfo_table.specs.FamilyRows.{table_row}
 use Rattle.linkinfo_tunnels.specs.declared.geneve.InfoGeneve.TheVariants.{Df, Other}
 use Rattle.linkinfo_tunnels.specs.Geneve.{geneve_rows}
-use Rattle.linkinfo_tunnels.proofs.geneve.InfoGeneveTableFamily.store_decoded.Goals as goal
+use Rattle.linkinfo_tunnels.proofs.geneve.InfoGeneveRowFamily.store_decoded.Goals as goal
 
 pub store_by_rows-unreachable-requires : goal.store_by_rows-unreachable-requires
 store_by_rows-unreachable-requires g c =

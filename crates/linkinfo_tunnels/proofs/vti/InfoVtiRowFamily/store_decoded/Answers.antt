@@ -5,7 +5,7 @@ use Rattle.linkinfo_table.specs.FamilyRowLaws.{no_row_read, row_stored}
 use Rattle.linkinfo_table.specs.FamilyRows.{table_row}
 use Rattle.linkinfo_tunnels.specs.declared.vti.InfoVti.TheVariants.{Other}
 use Rattle.linkinfo_tunnels.specs.Vti.{vti_rows}
-use Rattle.linkinfo_tunnels.proofs.vti.InfoVtiTableFamily.store_decoded.Goals as goal
+use Rattle.linkinfo_tunnels.proofs.vti.InfoVtiRowFamily.store_decoded.Goals as goal
 
 pub store_by_rows-unreachable-requires : goal.store_by_rows-unreachable-requires
 store_by_rows-unreachable-requires g c =

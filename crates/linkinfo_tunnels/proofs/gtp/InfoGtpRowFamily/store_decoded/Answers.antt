@@ -5,7 +5,7 @@ use Rattle.linkinfo_table.specs.FamilyRowLaws.{no_row_read, row_stored}
 use Rattle.linkinfo_table.specs.FamilyRows.{table_row}
 use Rattle.linkinfo_tunnels.specs.declared.gtp.InfoGtp.TheVariants.{Role, Other}
 use Rattle.linkinfo_tunnels.specs.Gtp.{gtp_rows}
-use Rattle.linkinfo_tunnels.proofs.gtp.InfoGtpTableFamily.store_decoded.Goals as goal
+use Rattle.linkinfo_tunnels.proofs.gtp.InfoGtpRowFamily.store_decoded.Goals as goal
 
 pub store_by_rows-unreachable-requires : goal.store_by_rows-unreachable-requires
 store_by_rows-unreachable-requires g c =

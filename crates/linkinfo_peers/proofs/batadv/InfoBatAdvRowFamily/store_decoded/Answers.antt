@@ -3,7 +3,7 @@ use Rattle.std.proofs.Common.{refl}
 use Rattle.linkinfo_table.specs.FamilyRowLaws.{owner_needs}
 use Rattle.linkinfo_table.specs.FamilyRows.{table_row}
 use Rattle.linkinfo_peers.specs.Batadv.{batadv_rows}
-use Rattle.linkinfo_peers.proofs.batadv.InfoBatAdvTableFamily.store_decoded.Goals as goal
+use Rattle.linkinfo_peers.proofs.batadv.InfoBatAdvRowFamily.store_decoded.Goals as goal
 
 pub returns-in-1-clause-certain : goal.returns-in-1-clause-certain
 returns-in-1-clause-certain g c = λ certain none.

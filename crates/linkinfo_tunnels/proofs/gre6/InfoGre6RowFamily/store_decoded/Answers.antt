@@ -13,7 +13,7 @@ use Rattle.linkinfo_tunnels.specs.declared.gre6.InfoGre6.TheVariants.{
 }
 use Rattle.linkinfo_numbers.specs.Gre.{gre_io_flags, gre_encap_flags}
 use Rattle.linkinfo_tunnels.specs.Gre6.{gre6_rows}
-use Rattle.linkinfo_tunnels.proofs.gre6.InfoGre6TableFamily.store_decoded.Goals as goal
+use Rattle.linkinfo_tunnels.proofs.gre6.InfoGre6RowFamily.store_decoded.Goals as goal
 
 pub store_by_rows-unreachable-requires : goal.store_by_rows-unreachable-requires
 store_by_rows-unreachable-requires g c =

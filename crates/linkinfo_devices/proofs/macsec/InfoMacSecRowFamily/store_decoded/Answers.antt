@@ -10,7 +10,7 @@ use Rattle.linkinfo_devices.specs.declared.macsec.InfoMacSec.TheVariants.{
   Other,
 }
 use Rattle.linkinfo_devices.specs.Macsec.{mac_sec_rows}
-use Rattle.linkinfo_devices.proofs.macsec.InfoMacSecTableFamily.store_decoded.Goals as goal
+use Rattle.linkinfo_devices.proofs.macsec.InfoMacSecRowFamily.store_decoded.Goals as goal
 
 pub store_by_rows-unreachable-requires : goal.store_by_rows-unreachable-requires
 store_by_rows-unreachable-requires g c =
