@@ -119,6 +119,8 @@ impl Nla for InfoIpoib {
 impl FlatFamily for InfoIpoib {
     ghost flat = { λ _ n. table_flat ipoib_attribute ipoib_rows ipoib_keeps n };
 
+    ghost never_custom = { λ _. refl };
+
     ghost written = { λ _. refl };
 }
 

@@ -137,6 +137,8 @@ impl<const TAP: bool> Nla for InfoIpVlanOf<TAP> {
 impl<const TAP: bool> FlatFamily for InfoIpVlanOf<TAP> {
     ghost flat = { λ _ n. table_flat ip_vlan_attribute ip_vlan_rows (ip_vlan_keeps _) n };
 
+    ghost never_custom = { λ _. refl };
+
     ghost written = { λ _. refl };
 }
 

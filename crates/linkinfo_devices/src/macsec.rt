@@ -152,6 +152,8 @@ impl Nla for InfoMacSec {
 impl FlatFamily for InfoMacSec {
     ghost flat = { λ _ n. table_flat mac_sec_attribute mac_sec_rows mac_sec_keeps n };
 
+    ghost never_custom = { λ _. refl };
+
     ghost written = { λ _. refl };
 }
 

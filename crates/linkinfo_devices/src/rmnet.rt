@@ -140,6 +140,8 @@ impl Nla for InfoRmNet {
 impl FlatFamily for InfoRmNet {
     ghost flat = { λ _ n. table_flat rm_net_attribute rm_net_rows rm_net_keeps n };
 
+    ghost never_custom = { λ _. refl };
+
     ghost written = { λ _. refl };
 }
 

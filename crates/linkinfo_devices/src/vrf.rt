@@ -114,6 +114,8 @@ impl Nla for InfoVrf {
 impl FlatFamily for InfoVrf {
     ghost flat = { λ _ n. table_flat vrf_attribute vrf_rows vrf_keeps n };
 
+    ghost never_custom = { λ _. refl };
+
     ghost written = { λ _. refl };
 }
 

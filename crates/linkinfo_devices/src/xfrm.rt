@@ -113,6 +113,8 @@ impl Nla for InfoXfrm {
 impl FlatFamily for InfoXfrm {
     ghost flat = { λ _ n. table_flat xfrm_attribute xfrm_rows xfrm_keeps n };
 
+    ghost never_custom = { λ _. refl };
+
     ghost written = { λ _. refl };
 }
 

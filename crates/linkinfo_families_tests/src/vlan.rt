@@ -83,6 +83,8 @@ impl RowFamily for InfoVlanRow {
 impl FlatFamily for InfoVlanRow {
     ghost flat = { λ _ n. table_flat vlan_attribute vlan_rows vlan_keeps n };
 
+    ghost never_custom = { λ _. refl };
+
     ghost written = { λ _. refl };
 }
 

@@ -110,6 +110,8 @@ impl Nla for InfoBatAdv {
 impl FlatFamily for InfoBatAdv {
     ghost flat = { λ _ n. table_flat batadv_attribute batadv_rows batadv_keeps n };
 
+    ghost never_custom = { λ _. refl };
+
     ghost written = { λ _. refl };
 }
 

@@ -110,6 +110,8 @@ impl Nla for InfoWwan {
 impl FlatFamily for InfoWwan {
     ghost flat = { λ _ n. table_flat wwan_attribute wwan_rows wwan_keeps n };
 
+    ghost never_custom = { λ _. refl };
+
     ghost written = { λ _. refl };
 }
 

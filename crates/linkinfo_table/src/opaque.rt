@@ -159,6 +159,8 @@ impl<const NUMBER: u8> Nla for Opaque<NUMBER> {
 impl<const NUMBER: u8> FlatFamily for Opaque<NUMBER> {
     ghost flat = { λ _ _. tt };
 
+    ghost never_custom = { λ _. refl };
+
     ghost written = { λ _. refl };
 }
 

@@ -84,5 +84,7 @@ pub trait RowFamily: Sized + Drop {
 pub trait FlatFamily: RowFamily + Nla {
     ghost flat: { (c : Self.Context) (n : ℕ) → IsFlat (Self.rows c n) };
 
+    ghost never_custom: { (x : Self) → Self.is_custom x ≡ false };
+
     ghost written: { (x : Self) → Self.attribute x ≡ Self.canonical x };
 }

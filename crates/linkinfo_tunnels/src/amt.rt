@@ -134,6 +134,8 @@ impl Nla for InfoAmt {
 impl FlatFamily for InfoAmt {
     ghost flat = { λ _ n. table_flat amt_attribute amt_rows amt_keeps n };
 
+    ghost never_custom = { λ _. refl };
+
     ghost written = { λ _. refl };
 }
 

@@ -121,6 +121,8 @@ impl Nla for InfoBareUdp {
 impl FlatFamily for InfoBareUdp {
     ghost flat = { λ _ n. table_flat bare_udp_attribute bare_udp_rows bare_udp_keeps n };
 
+    ghost never_custom = { λ _. refl };
+
     ghost written = { λ _. refl };
 }
 

@@ -161,6 +161,8 @@ impl Nla for InfoGeneve {
 impl FlatFamily for InfoGeneve {
     ghost flat = { λ _ n. table_flat geneve_attribute geneve_rows geneve_keeps n };
 
+    ghost never_custom = { λ _. refl };
+
     ghost written = { λ _. refl };
 }
 

@@ -172,6 +172,8 @@ impl Nla for InfoGre {
 impl FlatFamily for InfoGre {
     ghost flat = { λ _ n. table_flat gre_attribute gre_rows gre_keeps n };
 
+    ghost never_custom = { λ _. refl };
+
     ghost written = { λ _. refl };
 }
 

@@ -175,6 +175,8 @@ impl Nla for InfoGre6 {
 impl FlatFamily for InfoGre6 {
     ghost flat = { λ _ n. table_flat gre6_attribute gre6_rows gre6_keeps n };
 
+    ghost never_custom = { λ _. refl };
+
     ghost written = { λ _. refl };
 }
 

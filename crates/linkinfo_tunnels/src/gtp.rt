@@ -133,6 +133,8 @@ impl Nla for InfoGtp {
 impl FlatFamily for InfoGtp {
     ghost flat = { λ _ n. table_flat gtp_attribute gtp_rows gtp_keeps n };
 
+    ghost never_custom = { λ _. refl };
+
     ghost written = { λ _. refl };
 }
 

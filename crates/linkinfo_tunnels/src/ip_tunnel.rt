@@ -225,6 +225,8 @@ impl Nla for InfoIpTunnel {
 impl FlatFamily for InfoIpTunnel {
     ghost flat = { ip_tunnel_flat };
 
+    ghost never_custom = { λ _. refl };
+
     ghost written = { λ _. refl };
 }
 

@@ -127,6 +127,8 @@ impl Nla for InfoVti {
 impl FlatFamily for InfoVti {
     ghost flat = { λ _ n. table_flat vti_attribute vti_rows vti_keeps n };
 
+    ghost never_custom = { λ _. refl };
+
     ghost written = { λ _. refl };
 }
 

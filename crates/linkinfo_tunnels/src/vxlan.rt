@@ -221,6 +221,8 @@ impl Nla for InfoVxlan {
 impl FlatFamily for InfoVxlan {
     ghost flat = { λ _ n. table_flat vxlan_attribute vxlan_rows vxlan_keeps n };
 
+    ghost never_custom = { λ _. refl };
+
     ghost written = { λ _. refl };
 }
 

@@ -52,25 +52,6 @@ fn headers_seen(bytes: &[u8]) -> usize
     if bytes.len() < HEADER_LEN { 0 } else { 1 }
 }
 
-#[tactic(auto, unfolding(crate::specs::NlaItems::attribute_at))]
-#[inline(always)]
-fn first_of<'a>(bytes: &'a [u8]) -> Result<NlaBuffer<'a>, DecodeError>
-    ensures { result ≡ attribute_at bytes.now }
-{
-    if bytes.len() < HEADER_LEN {
-        return Err(header_error());
-    }
-    let length = u16::from_le_bytes([bytes[0], bytes[1]]) as usize;
-    if length < HEADER_LEN || length > bytes.len() {
-        return Err(header_error());
-    }
-    let kind = u16::from_le_bytes([bytes[2], bytes[3]]);
-    Ok(NlaBuffer {
-        kind,
-        value: &bytes[HEADER_LEN..length],
-    })
-}
-
 /// The bytes after an attribute of this length and its padding.
 #[inline(always)]
 fn rest_after<'a>(bytes: &'a [u8], length: u16) -> &'a [u8]
@@ -89,12 +70,24 @@ impl<'a> NlaBuffer<'a> {
     ///
     /// Returns the error `(Frame, 0, Header)` if there are fewer than four bytes, if the length
     /// field is below four, or if it exceeds the number of bytes.
+    #[tactic(auto, unfolding(crate::specs::NlaItems::attribute_at))]
     #[inline(always)]
     pub fn new_checked(bytes: &'a [u8]) -> Result<NlaBuffer<'a>, DecodeError>
         ensures answer { result ≡ attribute_at bytes.now }
         ensures attribute { IfOk result IsAttribute }
     {
-        first_of(bytes)
+        if bytes.len() < HEADER_LEN {
+            return Err(header_error());
+        }
+        let length = u16::from_le_bytes([bytes[0], bytes[1]]) as usize;
+        if length < HEADER_LEN || length > bytes.len() {
+            return Err(header_error());
+        }
+        let kind = u16::from_le_bytes([bytes[2], bytes[3]]);
+        Ok(NlaBuffer {
+            kind,
+            value: &bytes[HEADER_LEN..length],
+        })
     }
 
     /// Reads the attribute at the front of the bytes as `new_checked` does, and counts its header

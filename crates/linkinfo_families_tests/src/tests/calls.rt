@@ -7,11 +7,11 @@ ghost use Rattle.linkinfo_table.specs.FamilyMeaning.{meaning_by};
 use super::rows::{assert_is, attribute, error, kept};
 use linkinfo_devices::InfoXfrm;
 use linkinfo_table::{
-    Datum, Decoded, Encodable, FlatFamily, Lookup, RowFamily, Shape, Slot, UnnestedFamily,
-    row_check, row_emit_payload, row_emit_value, row_fit_len, row_kind, row_read, row_same,
-    row_store, row_value_len, table_lookup,
+    Datum, Decoded, Encodable, FlatFamily, LinkFamily, Lookup, RowFamily, Shape, Slot, row_check,
+    row_emit_payload, row_emit_value, row_fit_len, row_kind, row_read, row_same, row_store,
+    row_value_len, table_lookup,
 };
-use nla_frame::{Cause, DecodeError, ExactEq, Family, NlaBuffer, is_equal};
+use nla_frame::{Cause, DecodeError, ExactEq, Family, HeaderCount, NlaBuffer, is_equal};
 use std::alloc::Global;
 use std::process::Abort;
 
@@ -35,7 +35,8 @@ fn are_equal<F: ExactEq>(list: &[F], value: &F) -> bool {
     }
 }
 
-/// Asserts that the attribute is read as the value by its row, alone and into a list.
+/// Asserts that the attribute is read as the value by its row and by its family, alone and into a
+/// list.
 fn is_read_by_row<F: FlatFamily + ExactEq>(
     rt: &impl Abort,
     alloc: Global,
@@ -45,13 +46,14 @@ fn is_read_by_row<F: FlatFamily + ExactEq>(
 ) {
     let nla = &attribute(rt, bytes);
     let read = row_read::<F>(alloc, nla, ctx).expect(rt, "a value");
-    let again = F::read_by_row(alloc, nla, ctx).expect(rt, "a value");
+    let mut count = HeaderCount::new();
+    let again = F::read(alloc, nla, ctx, &mut count).expect(rt, "a value");
     let mut list = Vec::new(alloc);
     row_store::<F, Vec<F>>(&mut list, alloc, nla, ctx).expect(rt, "a value");
-    F::push_by_row(&mut list, alloc, nla, ctx).expect(rt, "a value");
+    F::push(&mut list, alloc, nla, ctx, &mut count).expect(rt, "a value");
     assert_is(
         rt,
-        ("row_read, read_by_row, row_store and push_by_row", bytes),
+        ("row_read, read, row_store and push", bytes),
         [
             is_equal(&read, value),
             is_equal(&again, value),
@@ -73,7 +75,7 @@ fn is_rejected_by_row<F: FlatFamily>(
     let found = [
         row_read::<F>(alloc, nla, ctx).err(),
         row_check::<F>(nla, ctx).err(),
-        F::check_by_row(nla, ctx).err(),
+        F::check_value(nla, ctx, &mut HeaderCount::new()).err(),
     ];
     assert_is(rt, ("rejected", bytes), found, [Some(expected); 3]);
 }
@@ -99,12 +101,12 @@ fn accepted<'a, F: FlatFamily>(
     ensures { IsOk (meaning_by F.RowFamily.own ctx result) }
 {
     let nla = attribute(rt, bytes);
-    F::check_by_row(&nla, ctx).expect(rt, "an accepted attribute");
+    F::check_value(&nla, ctx, &mut HeaderCount::new()).expect(rt, "an accepted attribute");
     row_check::<F>(&nla, ctx).expect(rt, "an accepted attribute");
     nla
 }
 
-/// Whether two accepted attributes are equivalent by their row.
+/// Whether two accepted attributes are equivalent, by their row and by their family.
 fn same_by_row<F: FlatFamily>(
     rt: &impl Abort,
     ctx: <F as RowFamily>::Context,
@@ -113,7 +115,8 @@ fn same_by_row<F: FlatFamily>(
 ) -> [bool; 2] {
     let a = accepted::<F>(rt, ctx, a);
     let b = accepted::<F>(rt, ctx, b);
-    [row_same::<F>(&a, &b, ctx), F::same_by_row(&a, &b, ctx)]
+    let mut count = HeaderCount::new();
+    [row_same::<F>(&a, &b, ctx), F::same_value(&a, &b, ctx, &mut count)]
 }
 
 #[test]
