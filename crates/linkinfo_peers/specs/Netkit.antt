@@ -113,4 +113,5 @@ module _ {P : Type 0} (peer : Ghosts P) where
       (λ n. netkit_rows peer.meaning peer.alike peer.canonical peer.well n)
   netkit_lawful is =
       peer_lawful peer is (λ x. Peer x) family.Netkit (λ d. Other d)
-      (netkit_attribute peer.canonical) netkit_plain (netkit_keeps peer.canonical) (λ _. refl) (λ _. refl)
+      (netkit_attribute peer.canonical) netkit_plain (netkit_keeps peer.canonical) (λ _. refl)
+      (λ _. refl)

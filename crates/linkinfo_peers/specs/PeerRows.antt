@@ -142,13 +142,13 @@ pub record IsUnnestedFamily {F : Type 0} (f : Family) (other : DefaultNla → F)
       memory_in (λ n. row_of (rows n)) a ≡ false
   pub laws : IsFamily (members_by_rows f other attribute rows (λ _. 0))
 
-pub is_peer : {P : Type 0} (peer : Ghosts P) →
+pub is_peer : {P : Type 0} {peer : Ghosts P} →
     ((p q : List ℕ) (x y : P) → IsBytes p → IsBytes q → peer.meaning p ≡ Some x →
     peer.meaning q ≡ Some y → (peer.alike p q ≡ true) ↔ (x ≡ y)) →
     ((p : List ℕ) (x : P) → IsBytes p → peer.meaning p ≡ Some x → peer.well x) →
     ((x : P) → peer.well x → peer.meaning (peer.canonical x) ≡ Some x) →
     ((x : P) → peer.well x → IsBytes (peer.canonical x)) → IsPeer peer
-is_peer peer alike_is meaning_well well_means well_bytes = record {
+is_peer alike_is meaning_well well_means well_bytes = record {
   alike_is = alike_is;
   meaning_well = meaning_well;
   well_means = well_means;

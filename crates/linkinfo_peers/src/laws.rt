@@ -1,6 +1,6 @@
 //! Laws of the families, each the contract of a function without code.
 
-ghost use Rattle.std.specs.Prelude.{◌≡◌, ◌↔◌};
+ghost use Rattle.std.specs.Prelude.{◌≡◌, ◌↔◌, ℕ};
 ghost use Rattle.linkinfo_peers.specs.Conditions.{
   batadv_conditions,
   netkit_conditions,
@@ -8,6 +8,8 @@ ghost use Rattle.linkinfo_peers.specs.Conditions.{
   vxcan_conditions,
   wwan_conditions,
 };
+ghost use Rattle.linkinfo_shapes.specs.Table.{shape_of};
+ghost use Rattle.linkinfo_table.specs.FamilyRows.{lookup_in};
 ghost use Rattle.nla_frame.specs.declared.error.Family.TheVariants as family;
 
 use crate::batadv::InfoBatAdv;
@@ -34,6 +36,28 @@ pub fn peers_named<P: LinkPeer>()
     ensures netkit { ⟦<InfoNetkitOf<P> as LinkFamily>⟧.FAMILY ≡ family.Netkit }
     ensures veth { ⟦<InfoVethOf<P> as LinkFamily>⟧.FAMILY ≡ family.Veth }
     ensures vxcan { ⟦<InfoVxcanOf<P> as LinkFamily>⟧.FAMILY ≡ family.Vxcan }
+{}
+
+/// `batadv` and `wwan` read a type without flag bits by its row of the table of all families
+/// (`linkinfo_shapes::table_shape`), and keep a type without a row.
+#[tactic(auto, using(linkinfo_table::specs::FamilyRowLaws::table_lookup))]
+pub fn tabled()
+    ensures bat_adv { (n : ℕ) →
+        ⟦<InfoBatAdv as LinkFamily>⟧.lookup tt n ≡ lookup_in (shape_of family.BatAdv n) }
+    ensures wwan { (n : ℕ) →
+        ⟦<InfoWwan as LinkFamily>⟧.lookup tt n ≡ lookup_in (shape_of family.Wwan n) }
+{}
+
+/// The families with a peer read a type without flag bits by its row of the table of all families,
+/// and keep a type without a row, whatever the type of the peer.
+#[tactic(auto, using(crate::specs::PeerRows::peer_lookup))]
+pub fn peers_tabled<P: LinkPeer>()
+    ensures netkit { (n : ℕ) →
+        ⟦<InfoNetkitOf<P> as LinkFamily>⟧.lookup tt n ≡ lookup_in (shape_of family.Netkit n) }
+    ensures veth { (n : ℕ) →
+        ⟦<InfoVethOf<P> as LinkFamily>⟧.lookup tt n ≡ lookup_in (shape_of family.Veth n) }
+    ensures vxcan { (n : ℕ) →
+        ⟦<InfoVxcanOf<P> as LinkFamily>⟧.lookup tt n ≡ lookup_in (shape_of family.Vxcan n) }
 {}
 
 /// Which attributes of `batadv` and `wwan` links are well formed, by the variant of the attribute.

@@ -230,33 +230,33 @@ impl<P: LinkPeer> LinkFamily for InfoNetkitOf<P> {
 
     ghost looked_up = { λ _ a.
         (netkit_lawful P.LinkPeer.own
-        (is_peer P.LinkPeer.own P.alike_is P.meaning_well P.well_means P.well_bytes)).says a };
+        (is_peer P.alike_is P.meaning_well P.well_means P.well_bytes)).says a };
 
     ghost alike_is = { λ _ a b x y.
         (netkit_lawful P.LinkPeer.own
-        (is_peer P.LinkPeer.own P.alike_is P.meaning_well P.well_means P.well_bytes)).laws.alike_is a b x y };
+        (is_peer P.alike_is P.meaning_well P.well_means P.well_bytes)).laws.alike_is a b x y };
 
     ghost headers_quarter = { λ _ a. none_inside a };
 
     ghost no_memory = { λ _ a.
         (netkit_lawful P.LinkPeer.own
-        (is_peer P.LinkPeer.own P.alike_is P.meaning_well P.well_means P.well_bytes)).laws.no_memory a };
+        (is_peer P.alike_is P.meaning_well P.well_means P.well_bytes)).laws.no_memory a };
 
     ghost error_certain = { λ _ a e.
         (netkit_lawful P.LinkPeer.own
-        (is_peer P.LinkPeer.own P.alike_is P.meaning_well P.well_means P.well_bytes)).certain a e };
+        (is_peer P.alike_is P.meaning_well P.well_means P.well_bytes)).certain a e };
 
     ghost read_well = { λ _ a x.
         (netkit_lawful P.LinkPeer.own
-        (is_peer P.LinkPeer.own P.alike_is P.meaning_well P.well_means P.well_bytes)).laws.read_well a x };
+        (is_peer P.alike_is P.meaning_well P.well_means P.well_bytes)).laws.read_well a x };
 
     ghost well_reads = { λ _ x.
         (netkit_lawful P.LinkPeer.own
-        (is_peer P.LinkPeer.own P.alike_is P.meaning_well P.well_means P.well_bytes)).laws.well_reads x };
+        (is_peer P.alike_is P.meaning_well P.well_means P.well_bytes)).laws.well_reads x };
 
     ghost well_attribute = { λ _ x.
         (netkit_lawful P.LinkPeer.own
-        (is_peer P.LinkPeer.own P.alike_is P.meaning_well P.well_means P.well_bytes)).laws.well_attribute x };
+        (is_peer P.alike_is P.meaning_well P.well_means P.well_bytes)).laws.well_attribute x };
 
     #[inline(always)]
     fn shape(ctx: (), kind: u16) -> Lookup {
