@@ -6,8 +6,8 @@ use crate::layers::nla_frame::{
 };
 use crate::layers::numbers::IpoibMode;
 use crate::layers::table::{
-    Decoded, Encodable, Slot, TableFamily, WrittenByTable, encodable_by_rows, row_emit_payload,
-    row_emit_value, row_fit_len, row_kind, row_read, row_value_len, store_by_rows,
+    Decoded, Encodable, FlatFamily, Lookup, RowFamily, Slot, encodable_by_rows, row_emit_payload,
+    row_emit_value, row_fit_len, row_kind, row_read, row_value_len, store_by_rows, table_lookup,
 };
 
 /// An attribute in the data of an `ipoib` link, an IP over InfiniBand interface
@@ -35,12 +35,20 @@ macro_rules! rows {
     };
 }
 
-impl TableFamily for InfoIpoib {
+impl RowFamily for InfoIpoib {
+    type Context = ();
+
     const FAMILY: Family = Family::Ipoib;
+
+    #[inline(always)]
+    fn shape(_ctx: (), kind: u16) -> Lookup {
+        table_lookup(Family::Ipoib, kind)
+    }
 
     #[inline(always)]
     fn store_decoded<P: Slot<InfoIpoib>>(
         slot: &mut P,
+        _ctx: (),
         decoded: Decoded<'_>,
     ) -> Result<(), AllocError> {
         rows!(store_by_rows(slot, decoded))
@@ -79,7 +87,7 @@ impl Nla for InfoIpoib {
     }
 }
 
-impl WrittenByTable for InfoIpoib {}
+impl FlatFamily for InfoIpoib {}
 
 /// Reads the attribute. A payload of invalid length is rejected as `(Ipoib, type, Length)`.
 impl<'a> Parseable<NlaBuffer<'a>> for InfoIpoib {

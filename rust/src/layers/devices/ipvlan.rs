@@ -6,8 +6,8 @@ use crate::layers::nla_frame::{
 };
 use crate::layers::numbers::{IpVlanFlags, IpVlanMode};
 use crate::layers::table::{
-    Decoded, Encodable, Slot, TableFamily, WrittenByTable, encodable_by_rows, row_emit_payload,
-    row_emit_value, row_fit_len, row_kind, row_read, row_value_len, store_by_rows,
+    Decoded, Encodable, FlatFamily, Lookup, RowFamily, Slot, encodable_by_rows, row_emit_payload,
+    row_emit_value, row_fit_len, row_kind, row_read, row_value_len, store_by_rows, table_lookup,
 };
 use bitflags::Flags;
 
@@ -47,12 +47,20 @@ macro_rules! rows {
     };
 }
 
-impl<const TAP: bool> TableFamily for InfoIpVlanOf<TAP> {
+impl<const TAP: bool> RowFamily for InfoIpVlanOf<TAP> {
+    type Context = ();
+
     const FAMILY: Family = family_of(TAP);
+
+    #[inline(always)]
+    fn shape(_ctx: (), kind: u16) -> Lookup {
+        table_lookup(family_of(TAP), kind)
+    }
 
     #[inline(always)]
     fn store_decoded<P: Slot<InfoIpVlanOf<TAP>>>(
         slot: &mut P,
+        _ctx: (),
         decoded: Decoded<'_>,
     ) -> Result<(), AllocError> {
         rows!(store_by_rows(slot, decoded))
@@ -91,7 +99,7 @@ impl<const TAP: bool> Nla for InfoIpVlanOf<TAP> {
     }
 }
 
-impl<const TAP: bool> WrittenByTable for InfoIpVlanOf<TAP> {}
+impl<const TAP: bool> FlatFamily for InfoIpVlanOf<TAP> {}
 
 /// Reads the attribute. A payload of invalid length is rejected as `(IpVlan, type, Length)` or
 /// `(IpVtap, type, Length)`, by the family.

@@ -6,8 +6,8 @@ use crate::layers::nla_frame::{
 };
 use crate::layers::numbers::{MacSecCipherId, MacSecOffload, MacSecValidate};
 use crate::layers::table::{
-    Decoded, Encodable, Slot, TableFamily, WrittenByTable, encodable_by_rows, row_emit_payload,
-    row_emit_value, row_fit_len, row_kind, row_read, row_value_len, store_by_rows,
+    Decoded, Encodable, FlatFamily, Lookup, RowFamily, Slot, encodable_by_rows, row_emit_payload,
+    row_emit_value, row_fit_len, row_kind, row_read, row_value_len, store_by_rows, table_lookup,
 };
 
 /// An attribute in the data of a `macsec` link, an IEEE 802.1AE MACsec interface
@@ -68,12 +68,20 @@ macro_rules! rows {
     };
 }
 
-impl TableFamily for InfoMacSec {
+impl RowFamily for InfoMacSec {
+    type Context = ();
+
     const FAMILY: Family = Family::MacSec;
+
+    #[inline(always)]
+    fn shape(_ctx: (), kind: u16) -> Lookup {
+        table_lookup(Family::MacSec, kind)
+    }
 
     #[inline(always)]
     fn store_decoded<P: Slot<InfoMacSec>>(
         slot: &mut P,
+        _ctx: (),
         decoded: Decoded<'_>,
     ) -> Result<(), AllocError> {
         rows!(store_by_rows(slot, decoded))
@@ -112,7 +120,7 @@ impl Nla for InfoMacSec {
     }
 }
 
-impl WrittenByTable for InfoMacSec {}
+impl FlatFamily for InfoMacSec {}
 
 /// Reads the attribute. A payload of invalid length is rejected as `(MacSec, type, Length)`.
 impl<'a> Parseable<NlaBuffer<'a>> for InfoMacSec {

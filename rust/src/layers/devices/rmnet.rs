@@ -6,8 +6,8 @@ use crate::layers::nla_frame::{
 };
 use crate::layers::numbers::{InfoRmNetFlags, RmNetFlags};
 use crate::layers::table::{
-    Decoded, Encodable, Slot, TableFamily, WrittenByTable, encodable_by_rows, row_emit_payload,
-    row_emit_value, row_fit_len, row_kind, row_read, row_value_len, store_by_rows,
+    Decoded, Encodable, FlatFamily, Lookup, RowFamily, Slot, encodable_by_rows, row_emit_payload,
+    row_emit_value, row_fit_len, row_kind, row_read, row_value_len, store_by_rows, table_lookup,
 };
 use bitflags::Flags;
 
@@ -33,12 +33,20 @@ macro_rules! rows {
     };
 }
 
-impl TableFamily for InfoRmNet {
+impl RowFamily for InfoRmNet {
+    type Context = ();
+
     const FAMILY: Family = Family::RmNet;
+
+    #[inline(always)]
+    fn shape(_ctx: (), kind: u16) -> Lookup {
+        table_lookup(Family::RmNet, kind)
+    }
 
     #[inline(always)]
     fn store_decoded<P: Slot<InfoRmNet>>(
         slot: &mut P,
+        _ctx: (),
         decoded: Decoded<'_>,
     ) -> Result<(), AllocError> {
         rows!(store_by_rows(slot, decoded))
@@ -91,7 +99,7 @@ impl Nla for InfoRmNet {
     }
 }
 
-impl WrittenByTable for InfoRmNet {}
+impl FlatFamily for InfoRmNet {}
 
 /// Reads the attribute. A payload of invalid length is rejected as `(RmNet, type, Length)`.
 impl<'a> Parseable<NlaBuffer<'a>> for InfoRmNet {

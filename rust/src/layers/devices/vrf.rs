@@ -6,8 +6,8 @@ use crate::layers::nla_frame::{
     DecodeError, DefaultNla, ExactEq, Family, Nla, NlaBuffer, Parseable,
 };
 use crate::layers::table::{
-    Decoded, Encodable, Slot, TableFamily, WrittenByTable, encodable_by_rows, row_emit_payload,
-    row_emit_value, row_fit_len, row_kind, row_read, row_value_len, store_by_rows,
+    Decoded, Encodable, FlatFamily, Lookup, RowFamily, Slot, encodable_by_rows, row_emit_payload,
+    row_emit_value, row_fit_len, row_kind, row_read, row_value_len, store_by_rows, table_lookup,
 };
 
 /// An attribute in the data of a `vrf` link, or in the data of its ports.
@@ -30,12 +30,20 @@ macro_rules! rows {
     };
 }
 
-impl TableFamily for InfoVrf {
+impl RowFamily for InfoVrf {
+    type Context = ();
+
     const FAMILY: Family = Family::Vrf;
+
+    #[inline(always)]
+    fn shape(_ctx: (), kind: u16) -> Lookup {
+        table_lookup(Family::Vrf, kind)
+    }
 
     #[inline(always)]
     fn store_decoded<P: Slot<InfoVrf>>(
         slot: &mut P,
+        _ctx: (),
         decoded: Decoded<'_>,
     ) -> Result<(), AllocError> {
         rows!(store_by_rows(slot, decoded))
@@ -74,7 +82,7 @@ impl Nla for InfoVrf {
     }
 }
 
-impl WrittenByTable for InfoVrf {}
+impl FlatFamily for InfoVrf {}
 
 /// Reads the attribute. A payload of invalid length is rejected as `(Vrf, type, Length)`.
 impl<'a> Parseable<NlaBuffer<'a>> for InfoVrf {

@@ -5,8 +5,8 @@ use crate::layers::nla_frame::{
     DecodeError, DefaultNla, ExactEq, Family, Nla, NlaBuffer, Parseable,
 };
 use crate::layers::table::{
-    Decoded, Encodable, Slot, TableFamily, WrittenByTable, encodable_by_rows, row_emit_payload,
-    row_emit_value, row_fit_len, row_kind, row_read, row_value_len, store_by_rows,
+    Decoded, Encodable, FlatFamily, Lookup, RowFamily, Slot, encodable_by_rows, row_emit_payload,
+    row_emit_value, row_fit_len, row_kind, row_read, row_value_len, store_by_rows, table_lookup,
 };
 
 /// An attribute in the data of an `xfrm` link, an XFRM (IPsec) interface.
@@ -29,12 +29,20 @@ macro_rules! rows {
     };
 }
 
-impl TableFamily for InfoXfrm {
+impl RowFamily for InfoXfrm {
+    type Context = ();
+
     const FAMILY: Family = Family::Xfrm;
+
+    #[inline(always)]
+    fn shape(_ctx: (), kind: u16) -> Lookup {
+        table_lookup(Family::Xfrm, kind)
+    }
 
     #[inline(always)]
     fn store_decoded<P: Slot<InfoXfrm>>(
         slot: &mut P,
+        _ctx: (),
         decoded: Decoded<'_>,
     ) -> Result<(), AllocError> {
         rows!(store_by_rows(slot, decoded))
@@ -73,7 +81,7 @@ impl Nla for InfoXfrm {
     }
 }
 
-impl WrittenByTable for InfoXfrm {}
+impl FlatFamily for InfoXfrm {}
 
 /// Reads the attribute. A payload of invalid length is rejected as `(Xfrm, type, Length)`.
 impl<'a> Parseable<NlaBuffer<'a>> for InfoXfrm {

@@ -32,22 +32,6 @@ fn headers_seen(bytes: &[u8]) -> usize {
     if bytes.len() < HEADER_LEN { 0 } else { 1 }
 }
 
-#[inline(always)]
-fn first_of<'a>(bytes: &'a [u8]) -> Result<NlaBuffer<'a>, DecodeError> {
-    if bytes.len() < HEADER_LEN {
-        return Err(header_error());
-    }
-    let length = u16::from_le_bytes([bytes[0], bytes[1]]) as usize;
-    if length < HEADER_LEN || length > bytes.len() {
-        return Err(header_error());
-    }
-    let kind = u16::from_le_bytes([bytes[2], bytes[3]]);
-    Ok(NlaBuffer {
-        kind,
-        value: &bytes[HEADER_LEN..length],
-    })
-}
-
 /// The bytes after an attribute of this length and its padding.
 #[inline(always)]
 fn rest_after<'a>(bytes: &'a [u8], length: u16) -> &'a [u8] {
@@ -66,7 +50,18 @@ impl<'a> NlaBuffer<'a> {
     /// field is below four, or if it exceeds the number of bytes.
     #[inline(always)]
     pub fn new_checked(bytes: &'a [u8]) -> Result<NlaBuffer<'a>, DecodeError> {
-        first_of(bytes)
+        if bytes.len() < HEADER_LEN {
+            return Err(header_error());
+        }
+        let length = u16::from_le_bytes([bytes[0], bytes[1]]) as usize;
+        if length < HEADER_LEN || length > bytes.len() {
+            return Err(header_error());
+        }
+        let kind = u16::from_le_bytes([bytes[2], bytes[3]]);
+        Ok(NlaBuffer {
+            kind,
+            value: &bytes[HEADER_LEN..length],
+        })
     }
 
     /// Reads the attribute at the front of the bytes as `new_checked` does, and counts its header

@@ -5,8 +5,8 @@ use crate::layers::nla_frame::{
     DecodeError, DefaultNla, ExactEq, Family, Nla, NlaBuffer, Parseable, Text,
 };
 use crate::layers::table::{
-    Decoded, Encodable, Slot, TableFamily, WrittenByTable, encodable_by_rows, row_emit_payload,
-    row_emit_value, row_fit_len, row_kind, row_read, row_value_len, store_by_rows,
+    Decoded, Encodable, FlatFamily, Lookup, RowFamily, Slot, encodable_by_rows, row_emit_payload,
+    row_emit_value, row_fit_len, row_kind, row_read, row_value_len, store_by_rows, table_lookup,
 };
 
 /// An attribute in the data of a `batadv` link, a B.A.T.M.A.N. Advanced mesh interface.
@@ -26,12 +26,20 @@ macro_rules! rows {
     };
 }
 
-impl TableFamily for InfoBatAdv {
+impl RowFamily for InfoBatAdv {
+    type Context = ();
+
     const FAMILY: Family = Family::BatAdv;
+
+    #[inline(always)]
+    fn shape(_ctx: (), kind: u16) -> Lookup {
+        table_lookup(Family::BatAdv, kind)
+    }
 
     #[inline(always)]
     fn store_decoded<P: Slot<InfoBatAdv>>(
         slot: &mut P,
+        _ctx: (),
         decoded: Decoded<'_>,
     ) -> Result<(), AllocError> {
         rows!(store_by_rows(slot, decoded))
@@ -70,7 +78,7 @@ impl Nla for InfoBatAdv {
     }
 }
 
-impl WrittenByTable for InfoBatAdv {}
+impl FlatFamily for InfoBatAdv {}
 
 /// Reads the attribute. A name that is not UTF-8 is rejected as `(BatAdv, 1, Utf8)`.
 impl<'a> Parseable<NlaBuffer<'a>> for InfoBatAdv {

@@ -2,7 +2,7 @@
 
 use crate::compat::AllocError;
 use crate::layers::nla_frame::{
-    Bytes, DecodeError, DefaultNla, ExactEq, Family, Nla, NlaBuffer, Parseable,
+    Bytes, DecodeError, DefaultNla, ExactEq, Family, HeaderCount, Nla, NlaBuffer, Parseable,
 };
 use crate::layers::numbers::{NetkitMode, NetkitPolicy, NetkitScrub};
 use crate::layers::peers::peer_calls::{
@@ -12,7 +12,7 @@ use crate::layers::peers::peer_calls::{
 use crate::layers::peers::peer_canonical::{peer_canonical_len, peer_write_canonical};
 use crate::layers::peers::peer_family::PeerFamily;
 use crate::layers::table::{
-    Decoded, Encodable, LinkPeer, Lookup, RowFamily, Slot, UnnestedFamily, encodable_by_rows,
+    Decoded, Encodable, LinkFamily, LinkPeer, Lookup, RowFamily, Slot, encodable_by_rows,
     store_by_rows, table_lookup,
 };
 
@@ -145,24 +145,41 @@ impl<'a, P: LinkPeer> Parseable<NlaBuffer<'a>> for InfoNetkitOf<P> {
     }
 }
 
-impl<P: LinkPeer> UnnestedFamily for InfoNetkitOf<P> {
-    fn read_by_row(nla: &NlaBuffer<'_>, ctx: ()) -> Result<InfoNetkitOf<P>, DecodeError> {
+impl<P: LinkPeer> LinkFamily for InfoNetkitOf<P> {
+    type Context = ();
+
+    const FAMILY: Family = Family::Netkit;
+
+    #[inline(always)]
+    fn shape(ctx: (), kind: u16) -> Lookup {
+        <InfoNetkitOf<P> as RowFamily>::shape(ctx, kind)
+    }
+
+    fn read(
+        nla: &NlaBuffer<'_>,
+        ctx: (),
+        _count: &mut HeaderCount,
+    ) -> Result<InfoNetkitOf<P>, DecodeError> {
         peer_read(nla, ctx)
     }
 
-    fn check_by_row(nla: &NlaBuffer<'_>, ctx: ()) -> Result<(), DecodeError> {
+    fn check_value(
+        nla: &NlaBuffer<'_>,
+        ctx: (),
+        _count: &mut HeaderCount,
+    ) -> Result<(), DecodeError> {
         peer_check::<InfoNetkitOf<P>>(nla, ctx)
     }
 
-    fn same_by_row(a: &NlaBuffer<'_>, b: &NlaBuffer<'_>, ctx: ()) -> bool {
+    fn same_value(a: &NlaBuffer<'_>, b: &NlaBuffer<'_>, ctx: (), _count: &mut HeaderCount) -> bool {
         peer_same::<InfoNetkitOf<P>>(a, b, ctx)
     }
 
-    fn canonical_len_by_row(nla: &NlaBuffer<'_>, ctx: ()) -> Option<usize> {
+    fn canonical_len(nla: &NlaBuffer<'_>, ctx: ()) -> Option<usize> {
         peer_canonical_len::<InfoNetkitOf<P>>(nla, ctx)
     }
 
-    fn write_canonical_by_row(nla: &NlaBuffer<'_>, ctx: (), buffer: &mut [u8]) -> usize {
+    fn write_canonical(nla: &NlaBuffer<'_>, ctx: (), buffer: &mut [u8]) -> usize {
         peer_write_canonical::<InfoNetkitOf<P>>(nla, ctx, buffer)
     }
 }

@@ -2,7 +2,7 @@
 
 use crate::compat::AllocError;
 use crate::layers::nla_frame::{
-    Bytes, DecodeError, DefaultNla, ExactEq, Family, Nla, NlaBuffer, Parseable,
+    Bytes, DecodeError, DefaultNla, ExactEq, Family, HeaderCount, Nla, NlaBuffer, Parseable,
 };
 use crate::layers::peers::peer_calls::{
     peer_check, peer_emit_payload, peer_emit_value, peer_fit_len, peer_kind, peer_read, peer_same,
@@ -11,7 +11,7 @@ use crate::layers::peers::peer_calls::{
 use crate::layers::peers::peer_canonical::{peer_canonical_len, peer_write_canonical};
 use crate::layers::peers::peer_family::PeerFamily;
 use crate::layers::table::{
-    Decoded, Encodable, LinkPeer, Lookup, RowFamily, Slot, UnnestedFamily, table_lookup,
+    Decoded, Encodable, LinkFamily, LinkPeer, Lookup, RowFamily, Slot, table_lookup,
 };
 
 /// An attribute in the data of a `veth` link, with a peer of type `P`.
@@ -106,24 +106,41 @@ impl<'a, P: LinkPeer> Parseable<NlaBuffer<'a>> for InfoVethOf<P> {
     }
 }
 
-impl<P: LinkPeer> UnnestedFamily for InfoVethOf<P> {
-    fn read_by_row(nla: &NlaBuffer<'_>, ctx: ()) -> Result<InfoVethOf<P>, DecodeError> {
+impl<P: LinkPeer> LinkFamily for InfoVethOf<P> {
+    type Context = ();
+
+    const FAMILY: Family = Family::Veth;
+
+    #[inline(always)]
+    fn shape(ctx: (), kind: u16) -> Lookup {
+        <InfoVethOf<P> as RowFamily>::shape(ctx, kind)
+    }
+
+    fn read(
+        nla: &NlaBuffer<'_>,
+        ctx: (),
+        _count: &mut HeaderCount,
+    ) -> Result<InfoVethOf<P>, DecodeError> {
         peer_read(nla, ctx)
     }
 
-    fn check_by_row(nla: &NlaBuffer<'_>, ctx: ()) -> Result<(), DecodeError> {
+    fn check_value(
+        nla: &NlaBuffer<'_>,
+        ctx: (),
+        _count: &mut HeaderCount,
+    ) -> Result<(), DecodeError> {
         peer_check::<InfoVethOf<P>>(nla, ctx)
     }
 
-    fn same_by_row(a: &NlaBuffer<'_>, b: &NlaBuffer<'_>, ctx: ()) -> bool {
+    fn same_value(a: &NlaBuffer<'_>, b: &NlaBuffer<'_>, ctx: (), _count: &mut HeaderCount) -> bool {
         peer_same::<InfoVethOf<P>>(a, b, ctx)
     }
 
-    fn canonical_len_by_row(nla: &NlaBuffer<'_>, ctx: ()) -> Option<usize> {
+    fn canonical_len(nla: &NlaBuffer<'_>, ctx: ()) -> Option<usize> {
         peer_canonical_len::<InfoVethOf<P>>(nla, ctx)
     }
 
-    fn write_canonical_by_row(nla: &NlaBuffer<'_>, ctx: (), buffer: &mut [u8]) -> usize {
+    fn write_canonical(nla: &NlaBuffer<'_>, ctx: (), buffer: &mut [u8]) -> usize {
         peer_write_canonical::<InfoVethOf<P>>(nla, ctx, buffer)
     }
 }

@@ -5,8 +5,8 @@ use crate::layers::nla_frame::{
     DecodeError, DefaultNla, ExactEq, Family, Nla, NlaBuffer, Parseable,
 };
 use crate::layers::table::{
-    Decoded, Encodable, Slot, TableFamily, WrittenByTable, encodable_by_rows, row_emit_payload,
-    row_emit_value, row_fit_len, row_kind, row_read, row_value_len, store_by_rows,
+    Decoded, Encodable, FlatFamily, Lookup, RowFamily, Slot, encodable_by_rows, row_emit_payload,
+    row_emit_value, row_fit_len, row_kind, row_read, row_value_len, store_by_rows, table_lookup,
 };
 
 /// An attribute in the data of a `wwan` link, a link of a wireless modem.
@@ -26,12 +26,20 @@ macro_rules! rows {
     };
 }
 
-impl TableFamily for InfoWwan {
+impl RowFamily for InfoWwan {
+    type Context = ();
+
     const FAMILY: Family = Family::Wwan;
+
+    #[inline(always)]
+    fn shape(_ctx: (), kind: u16) -> Lookup {
+        table_lookup(Family::Wwan, kind)
+    }
 
     #[inline(always)]
     fn store_decoded<P: Slot<InfoWwan>>(
         slot: &mut P,
+        _ctx: (),
         decoded: Decoded<'_>,
     ) -> Result<(), AllocError> {
         rows!(store_by_rows(slot, decoded))
@@ -70,7 +78,7 @@ impl Nla for InfoWwan {
     }
 }
 
-impl WrittenByTable for InfoWwan {}
+impl FlatFamily for InfoWwan {}
 
 /// Reads the attribute. A payload of invalid length is rejected as `(Wwan, 1, Length)`.
 impl<'a> Parseable<NlaBuffer<'a>> for InfoWwan {

@@ -1,43 +1,63 @@
-//! Families in which each row has a shape of the table read, check and compare by that shape alone.
+//! A family in which each row has a shape of the table is a `LinkFamily`.
 
-use crate::layers::nla_frame::{DecodeError, NlaBuffer};
+use crate::layers::nla_frame::{DecodeError, Family, HeaderCount, NlaBuffer};
 use crate::layers::table::canonical::{row_canonical_len, row_write_canonical};
+use crate::layers::table::family::LinkFamily;
+use crate::layers::table::lookup::Lookup;
 use crate::layers::table::row_family::{FlatFamily, RowFamily};
 use crate::layers::table::rows::{row_check, row_read, row_same, row_store};
-use crate::layers::table::unnested::UnnestedFamily;
 use alloc::vec::Vec;
 
-impl<F: FlatFamily> UnnestedFamily for F {
+impl<F: FlatFamily> LinkFamily for F {
+    type Context = <F as RowFamily>::Context;
+
+    const FAMILY: Family = <F as RowFamily>::FAMILY;
+
+    fn shape(ctx: <F as RowFamily>::Context, kind: u16) -> Lookup {
+        <F as RowFamily>::shape(ctx, kind)
+    }
+
     #[inline(always)]
-    fn read_by_row(nla: &NlaBuffer<'_>, ctx: <F as RowFamily>::Context) -> Result<F, DecodeError> {
+    fn read(
+        nla: &NlaBuffer<'_>,
+        ctx: <F as RowFamily>::Context,
+        _count: &mut HeaderCount,
+    ) -> Result<F, DecodeError> {
         row_read(nla, ctx)
     }
 
     #[inline(always)]
-    fn push_by_row(
+    fn push(
         items: &mut Vec<F>,
         nla: &NlaBuffer<'_>,
         ctx: <F as RowFamily>::Context,
+        _count: &mut HeaderCount,
     ) -> Result<(), DecodeError> {
         row_store::<F, Vec<F>>(items, nla, ctx)
     }
 
-    fn check_by_row(
+    fn check_value(
         nla: &NlaBuffer<'_>,
         ctx: <F as RowFamily>::Context,
+        _count: &mut HeaderCount,
     ) -> Result<(), DecodeError> {
         row_check::<F>(nla, ctx)
     }
 
-    fn same_by_row(a: &NlaBuffer<'_>, b: &NlaBuffer<'_>, ctx: <F as RowFamily>::Context) -> bool {
+    fn same_value(
+        a: &NlaBuffer<'_>,
+        b: &NlaBuffer<'_>,
+        ctx: <F as RowFamily>::Context,
+        _count: &mut HeaderCount,
+    ) -> bool {
         row_same::<F>(a, b, ctx)
     }
 
-    fn canonical_len_by_row(nla: &NlaBuffer<'_>, ctx: <F as RowFamily>::Context) -> Option<usize> {
+    fn canonical_len(nla: &NlaBuffer<'_>, ctx: <F as RowFamily>::Context) -> Option<usize> {
         row_canonical_len::<F>(nla, ctx)
     }
 
-    fn write_canonical_by_row(
+    fn write_canonical(
         nla: &NlaBuffer<'_>,
         ctx: <F as RowFamily>::Context,
         buffer: &mut [u8],

@@ -18,8 +18,6 @@ mod peer;
 mod row_family;
 mod rows;
 mod slot;
-mod table_family;
-mod unnested;
 
 pub use crate::layers::shapes::{
     Datum, Shape, datum_len, read_datum, shape_canonical_len, shape_check, shape_same,
@@ -42,8 +40,6 @@ pub use rows::{
     row_store, row_value_len, table_lookup,
 };
 pub use slot::Slot;
-pub use table_family::{TableFamily, WrittenByTable};
-pub use unnested::UnnestedFamily;
 
 #[doc(inline)]
 pub use crate::{

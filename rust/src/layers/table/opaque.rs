@@ -6,8 +6,9 @@ use crate::layers::nla_frame::{
 };
 use crate::layers::table::decoded::Decoded;
 use crate::layers::table::encodable::Encodable;
+use crate::layers::table::lookup::Lookup;
+use crate::layers::table::row_family::{FlatFamily, RowFamily};
 use crate::layers::table::slot::Slot;
-use crate::layers::table::table_family::{TableFamily, WrittenByTable};
 
 /// The number of the family `bond`.
 pub const BOND: u8 = 1;
@@ -84,12 +85,20 @@ impl<const NUMBER: u8> Opaque<NUMBER> {
     }
 }
 
-impl<const NUMBER: u8> TableFamily for Opaque<NUMBER> {
+impl<const NUMBER: u8> RowFamily for Opaque<NUMBER> {
+    type Context = ();
+
     const FAMILY: Family = family_of(NUMBER);
+
+    #[inline(always)]
+    fn shape(_ctx: (), _kind: u16) -> Lookup {
+        Lookup::Unknown
+    }
 
     #[inline(always)]
     fn store_decoded<P: Slot<Opaque<NUMBER>>>(
         slot: &mut P,
+        _ctx: (),
         decoded: Decoded<'_>,
     ) -> Result<(), AllocError> {
         match decoded {
@@ -126,7 +135,7 @@ impl<const NUMBER: u8> Nla for Opaque<NUMBER> {
     }
 }
 
-impl<const NUMBER: u8> WrittenByTable for Opaque<NUMBER> {}
+impl<const NUMBER: u8> FlatFamily for Opaque<NUMBER> {}
 
 /// Keeps the attribute verbatim. Reading fails only if memory runs out.
 impl<'a, const NUMBER: u8> Parseable<NlaBuffer<'a>> for Opaque<NUMBER> {

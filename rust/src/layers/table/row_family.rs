@@ -40,5 +40,6 @@ pub trait RowFamily: Sized {
     fn to_encodable(&self) -> Encodable<'_>;
 }
 
-/// A family in which each row has a shape of the table. It is a `LinkFamily` by its rows.
+/// A family in which each row has a shape of the table, and that writes its attributes as its rows
+/// define them. It is a `LinkFamily` by its rows.
 pub trait FlatFamily: RowFamily + Nla {}

@@ -6,8 +6,8 @@ use crate::layers::nla_frame::{
 };
 use crate::layers::numbers::AmtMode;
 use crate::layers::table::{
-    Decoded, Encodable, Slot, TableFamily, WrittenByTable, encodable_by_rows, row_emit_payload,
-    row_emit_value, row_fit_len, row_kind, row_read, row_value_len, store_by_rows,
+    Decoded, Encodable, FlatFamily, Lookup, RowFamily, Slot, encodable_by_rows, row_emit_payload,
+    row_emit_value, row_fit_len, row_kind, row_read, row_value_len, store_by_rows, table_lookup,
 };
 use core::net::IpAddr;
 
@@ -50,12 +50,20 @@ macro_rules! rows {
     };
 }
 
-impl TableFamily for InfoAmt {
+impl RowFamily for InfoAmt {
+    type Context = ();
+
     const FAMILY: Family = Family::Amt;
+
+    #[inline(always)]
+    fn shape(_ctx: (), kind: u16) -> Lookup {
+        table_lookup(Family::Amt, kind)
+    }
 
     #[inline(always)]
     fn store_decoded<P: Slot<InfoAmt>>(
         slot: &mut P,
+        _ctx: (),
         decoded: Decoded<'_>,
     ) -> Result<(), AllocError> {
         rows!(store_by_rows(slot, decoded))
@@ -94,7 +102,7 @@ impl Nla for InfoAmt {
     }
 }
 
-impl WrittenByTable for InfoAmt {}
+impl FlatFamily for InfoAmt {}
 
 /// Reads the attribute. A payload of invalid length is rejected as `(Amt, type, Length)`.
 impl<'a> Parseable<NlaBuffer<'a>> for InfoAmt {

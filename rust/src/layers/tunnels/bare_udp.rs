@@ -6,8 +6,8 @@ use crate::layers::nla_frame::{
 };
 use crate::layers::numbers::EthernetProtocol;
 use crate::layers::table::{
-    Decoded, Encodable, Slot, TableFamily, WrittenByTable, encodable_by_rows, row_emit_payload,
-    row_emit_value, row_fit_len, row_kind, row_read, row_value_len, store_by_rows,
+    Decoded, Encodable, FlatFamily, Lookup, RowFamily, Slot, encodable_by_rows, row_emit_payload,
+    row_emit_value, row_fit_len, row_kind, row_read, row_value_len, store_by_rows, table_lookup,
 };
 
 /// An attribute in the data of a `bareudp` link, a bare UDP tunnel (include/uapi/linux/if_link.h).
@@ -37,12 +37,20 @@ macro_rules! rows {
     };
 }
 
-impl TableFamily for InfoBareUdp {
+impl RowFamily for InfoBareUdp {
+    type Context = ();
+
     const FAMILY: Family = Family::BareUdp;
+
+    #[inline(always)]
+    fn shape(_ctx: (), kind: u16) -> Lookup {
+        table_lookup(Family::BareUdp, kind)
+    }
 
     #[inline(always)]
     fn store_decoded<P: Slot<InfoBareUdp>>(
         slot: &mut P,
+        _ctx: (),
         decoded: Decoded<'_>,
     ) -> Result<(), AllocError> {
         rows!(store_by_rows(slot, decoded))
@@ -81,7 +89,7 @@ impl Nla for InfoBareUdp {
     }
 }
 
-impl WrittenByTable for InfoBareUdp {}
+impl FlatFamily for InfoBareUdp {}
 
 /// Reads the attribute. A payload of invalid length is rejected as `(BareUdp, type, Length)`.
 impl<'a> Parseable<NlaBuffer<'a>> for InfoBareUdp {

@@ -6,8 +6,8 @@ use crate::layers::nla_frame::{
 };
 use crate::layers::numbers::GeneveDf;
 use crate::layers::table::{
-    Decoded, Encodable, Slot, TableFamily, WrittenByTable, encodable_by_rows, row_emit_payload,
-    row_emit_value, row_fit_len, row_kind, row_read, row_value_len, store_by_rows,
+    Decoded, Encodable, FlatFamily, Lookup, RowFamily, Slot, encodable_by_rows, row_emit_payload,
+    row_emit_value, row_fit_len, row_kind, row_read, row_value_len, store_by_rows, table_lookup,
 };
 use core::net::{Ipv4Addr, Ipv6Addr};
 
@@ -77,12 +77,20 @@ macro_rules! rows {
     };
 }
 
-impl TableFamily for InfoGeneve {
+impl RowFamily for InfoGeneve {
+    type Context = ();
+
     const FAMILY: Family = Family::Geneve;
+
+    #[inline(always)]
+    fn shape(_ctx: (), kind: u16) -> Lookup {
+        table_lookup(Family::Geneve, kind)
+    }
 
     #[inline(always)]
     fn store_decoded<P: Slot<InfoGeneve>>(
         slot: &mut P,
+        _ctx: (),
         decoded: Decoded<'_>,
     ) -> Result<(), AllocError> {
         rows!(store_by_rows(slot, decoded))
@@ -121,7 +129,7 @@ impl Nla for InfoGeneve {
     }
 }
 
-impl WrittenByTable for InfoGeneve {}
+impl FlatFamily for InfoGeneve {}
 
 /// Reads the attribute. An address of the other IP version is rejected as `(Geneve, type,
 /// AddressKind)`, any other payload of invalid length as `(Geneve, type, Length)`.

@@ -6,8 +6,8 @@ use crate::layers::nla_frame::{
 };
 use crate::layers::numbers::{ErSpanDir, GreEncapFlags, GreEncapType, GreIOFlags};
 use crate::layers::table::{
-    Decoded, Encodable, Slot, TableFamily, WrittenByTable, encodable_by_rows, row_emit_payload,
-    row_emit_value, row_fit_len, row_kind, row_read, row_value_len, store_by_rows,
+    Decoded, Encodable, FlatFamily, Lookup, RowFamily, Slot, encodable_by_rows, row_emit_payload,
+    row_emit_value, row_fit_len, row_kind, row_read, row_value_len, store_by_rows, table_lookup,
 };
 use bitflags::Flags;
 use core::net::Ipv4Addr;
@@ -88,12 +88,20 @@ macro_rules! rows {
     };
 }
 
-impl TableFamily for InfoGre {
+impl RowFamily for InfoGre {
+    type Context = ();
+
     const FAMILY: Family = Family::Gre;
+
+    #[inline(always)]
+    fn shape(_ctx: (), kind: u16) -> Lookup {
+        table_lookup(Family::Gre, kind)
+    }
 
     #[inline(always)]
     fn store_decoded<P: Slot<InfoGre>>(
         slot: &mut P,
+        _ctx: (),
         decoded: Decoded<'_>,
     ) -> Result<(), AllocError> {
         rows!(store_by_rows(slot, decoded))
@@ -132,7 +140,7 @@ impl Nla for InfoGre {
     }
 }
 
-impl WrittenByTable for InfoGre {}
+impl FlatFamily for InfoGre {}
 
 /// Reads the attribute. A payload of invalid length is rejected as `(Gre, type, Length)`.
 impl<'a> Parseable<NlaBuffer<'a>> for InfoGre {

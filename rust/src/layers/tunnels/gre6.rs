@@ -6,8 +6,8 @@ use crate::layers::nla_frame::{
 };
 use crate::layers::numbers::{ErSpanDir, GreEncapFlags, GreEncapType, GreIOFlags};
 use crate::layers::table::{
-    Decoded, Encodable, Slot, TableFamily, WrittenByTable, encodable_by_rows, row_emit_payload,
-    row_emit_value, row_fit_len, row_kind, row_read, row_value_len, store_by_rows,
+    Decoded, Encodable, FlatFamily, Lookup, RowFamily, Slot, encodable_by_rows, row_emit_payload,
+    row_emit_value, row_fit_len, row_kind, row_read, row_value_len, store_by_rows, table_lookup,
 };
 use bitflags::Flags;
 use core::net::Ipv6Addr;
@@ -91,12 +91,20 @@ macro_rules! rows {
     };
 }
 
-impl TableFamily for InfoGre6 {
+impl RowFamily for InfoGre6 {
+    type Context = ();
+
     const FAMILY: Family = Family::Gre6;
+
+    #[inline(always)]
+    fn shape(_ctx: (), kind: u16) -> Lookup {
+        table_lookup(Family::Gre6, kind)
+    }
 
     #[inline(always)]
     fn store_decoded<P: Slot<InfoGre6>>(
         slot: &mut P,
+        _ctx: (),
         decoded: Decoded<'_>,
     ) -> Result<(), AllocError> {
         rows!(store_by_rows(slot, decoded))
@@ -135,7 +143,7 @@ impl Nla for InfoGre6 {
     }
 }
 
-impl WrittenByTable for InfoGre6 {}
+impl FlatFamily for InfoGre6 {}
 
 /// Reads the attribute. A payload of invalid length is rejected as `(Gre6, type, Length)`.
 impl<'a> Parseable<NlaBuffer<'a>> for InfoGre6 {

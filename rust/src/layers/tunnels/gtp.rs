@@ -6,8 +6,8 @@ use crate::layers::nla_frame::{
 };
 use crate::layers::numbers::GtpRole;
 use crate::layers::table::{
-    Decoded, Encodable, Slot, TableFamily, WrittenByTable, encodable_by_rows, row_emit_payload,
-    row_emit_value, row_fit_len, row_kind, row_read, row_value_len, store_by_rows,
+    Decoded, Encodable, FlatFamily, Lookup, RowFamily, Slot, encodable_by_rows, row_emit_payload,
+    row_emit_value, row_fit_len, row_kind, row_read, row_value_len, store_by_rows, table_lookup,
 };
 use core::net::{Ipv4Addr, Ipv6Addr};
 
@@ -49,12 +49,20 @@ macro_rules! rows {
     };
 }
 
-impl TableFamily for InfoGtp {
+impl RowFamily for InfoGtp {
+    type Context = ();
+
     const FAMILY: Family = Family::Gtp;
+
+    #[inline(always)]
+    fn shape(_ctx: (), kind: u16) -> Lookup {
+        table_lookup(Family::Gtp, kind)
+    }
 
     #[inline(always)]
     fn store_decoded<P: Slot<InfoGtp>>(
         slot: &mut P,
+        _ctx: (),
         decoded: Decoded<'_>,
     ) -> Result<(), AllocError> {
         rows!(store_by_rows(slot, decoded))
@@ -93,7 +101,7 @@ impl Nla for InfoGtp {
     }
 }
 
-impl WrittenByTable for InfoGtp {}
+impl FlatFamily for InfoGtp {}
 
 /// Reads the attribute. A payload of invalid length is rejected as `(Gtp, type, Length)`.
 impl<'a> Parseable<NlaBuffer<'a>> for InfoGtp {

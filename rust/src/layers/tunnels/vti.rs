@@ -5,8 +5,8 @@ use crate::layers::nla_frame::{
     DecodeError, DefaultNla, ExactEq, Family, Nla, NlaBuffer, Parseable,
 };
 use crate::layers::table::{
-    Decoded, Encodable, Slot, TableFamily, WrittenByTable, encodable_by_rows, row_emit_payload,
-    row_emit_value, row_fit_len, row_kind, row_read, row_value_len, store_by_rows,
+    Decoded, Encodable, FlatFamily, Lookup, RowFamily, Slot, encodable_by_rows, row_emit_payload,
+    row_emit_value, row_fit_len, row_kind, row_read, row_value_len, store_by_rows, table_lookup,
 };
 use core::net::IpAddr;
 
@@ -43,12 +43,20 @@ macro_rules! rows {
     };
 }
 
-impl TableFamily for InfoVti {
+impl RowFamily for InfoVti {
+    type Context = ();
+
     const FAMILY: Family = Family::Vti;
+
+    #[inline(always)]
+    fn shape(_ctx: (), kind: u16) -> Lookup {
+        table_lookup(Family::Vti, kind)
+    }
 
     #[inline(always)]
     fn store_decoded<P: Slot<InfoVti>>(
         slot: &mut P,
+        _ctx: (),
         decoded: Decoded<'_>,
     ) -> Result<(), AllocError> {
         rows!(store_by_rows(slot, decoded))
@@ -87,7 +95,7 @@ impl Nla for InfoVti {
     }
 }
 
-impl WrittenByTable for InfoVti {}
+impl FlatFamily for InfoVti {}
 
 /// Reads the attribute. A payload of invalid length is rejected as `(Vti, type, Length)`.
 impl<'a> Parseable<NlaBuffer<'a>> for InfoVti {

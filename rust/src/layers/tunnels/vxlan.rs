@@ -6,8 +6,8 @@ use crate::layers::nla_frame::{
 };
 use crate::layers::numbers::VxlanDf;
 use crate::layers::table::{
-    Decoded, Encodable, Slot, TableFamily, WrittenByTable, encodable_by_rows, row_emit_payload,
-    row_emit_value, row_fit_len, row_kind, row_read, row_value_len, store_by_rows,
+    Decoded, Encodable, FlatFamily, Lookup, RowFamily, Slot, encodable_by_rows, row_emit_payload,
+    row_emit_value, row_fit_len, row_kind, row_read, row_value_len, store_by_rows, table_lookup,
 };
 use core::net::{Ipv4Addr, Ipv6Addr};
 
@@ -137,12 +137,20 @@ macro_rules! rows {
     };
 }
 
-impl TableFamily for InfoVxlan {
+impl RowFamily for InfoVxlan {
+    type Context = ();
+
     const FAMILY: Family = Family::Vxlan;
+
+    #[inline(always)]
+    fn shape(_ctx: (), kind: u16) -> Lookup {
+        table_lookup(Family::Vxlan, kind)
+    }
 
     #[inline(always)]
     fn store_decoded<P: Slot<InfoVxlan>>(
         slot: &mut P,
+        _ctx: (),
         decoded: Decoded<'_>,
     ) -> Result<(), AllocError> {
         rows!(store_by_rows(slot, decoded))
@@ -181,7 +189,7 @@ impl Nla for InfoVxlan {
     }
 }
 
-impl WrittenByTable for InfoVxlan {}
+impl FlatFamily for InfoVxlan {}
 
 /// Reads the attribute. A payload of invalid length is rejected as `(Vxlan, type, Length)`.
 impl<'a> Parseable<NlaBuffer<'a>> for InfoVxlan {

@@ -3,11 +3,13 @@
 
 use super::rows::{assert_is, attribute, error, kept};
 use linkinfo::layers::devices::InfoXfrm;
-use linkinfo::layers::nla_frame::{Cause, DecodeError, ExactEq, Family, NlaBuffer, is_equal};
+use linkinfo::layers::nla_frame::{
+    Cause, DecodeError, ExactEq, Family, HeaderCount, NlaBuffer, is_equal,
+};
 use linkinfo::layers::table::{
-    Datum, Decoded, Encodable, FlatFamily, Lookup, RowFamily, Shape, Slot, UnnestedFamily,
-    row_check, row_emit_payload, row_emit_value, row_fit_len, row_kind, row_read, row_same,
-    row_store, row_value_len, table_lookup,
+    Datum, Decoded, Encodable, FlatFamily, LinkFamily, Lookup, RowFamily, Shape, Slot, row_check,
+    row_emit_payload, row_emit_value, row_fit_len, row_kind, row_read, row_same, row_store,
+    row_value_len, table_lookup,
 };
 
 /// The interface index 0x01020304.
@@ -30,7 +32,8 @@ fn are_equal<F: ExactEq>(list: &[F], value: &F) -> bool {
     }
 }
 
-/// Asserts that the attribute is read as the value by its row, alone and into a list.
+/// Asserts that the attribute is read as the value by its row and by its family, alone and into a
+/// list.
 fn is_read_by_row<F: FlatFamily + ExactEq>(
     bytes: &[u8],
     ctx: <F as RowFamily>::Context,
@@ -38,12 +41,13 @@ fn is_read_by_row<F: FlatFamily + ExactEq>(
 ) {
     let nla = &attribute(bytes);
     let read = row_read::<F>(nla, ctx).expect("a value");
-    let again = F::read_by_row(nla, ctx).expect("a value");
+    let mut count = HeaderCount::new();
+    let again = F::read(nla, ctx, &mut count).expect("a value");
     let mut list = Vec::new();
     row_store::<F, Vec<F>>(&mut list, nla, ctx).expect("a value");
-    F::push_by_row(&mut list, nla, ctx).expect("a value");
+    F::push(&mut list, nla, ctx, &mut count).expect("a value");
     assert_is(
-        ("row_read, read_by_row, row_store and push_by_row", bytes),
+        ("row_read, read, row_store and push", bytes),
         [
             is_equal(&read, value),
             is_equal(&again, value),
@@ -63,7 +67,7 @@ fn is_rejected_by_row<F: FlatFamily>(
     let found = [
         row_read::<F>(nla, ctx).err(),
         row_check::<F>(nla, ctx).err(),
-        F::check_by_row(nla, ctx).err(),
+        F::check_value(nla, ctx, &mut HeaderCount::new()).err(),
     ];
     assert_is(("rejected", bytes), found, [Some(expected); 3]);
 }
@@ -82,16 +86,20 @@ fn reads_by_rows() {
 /// The attribute of the bytes, which its row accepts.
 fn accepted<'a, F: FlatFamily>(ctx: <F as RowFamily>::Context, bytes: &'a [u8]) -> NlaBuffer<'a> {
     let nla = attribute(bytes);
-    F::check_by_row(&nla, ctx).expect("an accepted attribute");
+    F::check_value(&nla, ctx, &mut HeaderCount::new()).expect("an accepted attribute");
     row_check::<F>(&nla, ctx).expect("an accepted attribute");
     nla
 }
 
-/// Whether two accepted attributes are equivalent by their row.
+/// Whether two accepted attributes are equivalent, by their row and by their family.
 fn same_by_row<F: FlatFamily>(ctx: <F as RowFamily>::Context, a: &[u8], b: &[u8]) -> [bool; 2] {
     let a = accepted::<F>(ctx, a);
     let b = accepted::<F>(ctx, b);
-    [row_same::<F>(&a, &b, ctx), F::same_by_row(&a, &b, ctx)]
+    let mut count = HeaderCount::new();
+    [
+        row_same::<F>(&a, &b, ctx),
+        F::same_value(&a, &b, ctx, &mut count),
+    ]
 }
 
 #[test]
