@@ -73,7 +73,7 @@ impl RowFamily for InfoIpoib {
     #[tactic(auto, using(linkinfo_table::specs::FamilyRowLaws::table_lookup))]
     #[inline(always)]
     fn shape(_ctx: (), kind: u16) -> Lookup {
-        table_lookup(Family::Ipoib, kind)
+        table_lookup(Self::FAMILY, kind)
     }
 
     #[inline(always)]

@@ -91,7 +91,7 @@ impl<const TAP: bool> RowFamily for InfoIpVlanOf<TAP> {
     #[tactic(auto, using(linkinfo_table::specs::FamilyRowLaws::table_lookup))]
     #[inline(always)]
     fn shape(_ctx: (), kind: u16) -> Lookup {
-        table_lookup(family_of(TAP), kind)
+        table_lookup(Self::FAMILY, kind)
     }
 
     #[inline(always)]

@@ -106,7 +106,7 @@ impl RowFamily for InfoMacSec {
     #[tactic(auto, using(linkinfo_table::specs::FamilyRowLaws::table_lookup))]
     #[inline(always)]
     fn shape(_ctx: (), kind: u16) -> Lookup {
-        table_lookup(Family::MacSec, kind)
+        table_lookup(Self::FAMILY, kind)
     }
 
     #[inline(always)]

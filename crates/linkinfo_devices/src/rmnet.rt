@@ -76,7 +76,7 @@ impl RowFamily for InfoRmNet {
     #[tactic(auto, using(linkinfo_table::specs::FamilyRowLaws::table_lookup))]
     #[inline(always)]
     fn shape(_ctx: (), kind: u16) -> Lookup {
-        table_lookup(Family::RmNet, kind)
+        table_lookup(Self::FAMILY, kind)
     }
 
     #[inline(always)]

@@ -68,7 +68,7 @@ impl RowFamily for InfoVrf {
     #[tactic(auto, using(linkinfo_table::specs::FamilyRowLaws::table_lookup))]
     #[inline(always)]
     fn shape(_ctx: (), kind: u16) -> Lookup {
-        table_lookup(Family::Vrf, kind)
+        table_lookup(Self::FAMILY, kind)
     }
 
     #[inline(always)]

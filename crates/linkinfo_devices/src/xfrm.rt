@@ -67,7 +67,7 @@ impl RowFamily for InfoXfrm {
     #[tactic(auto, using(linkinfo_table::specs::FamilyRowLaws::table_lookup))]
     #[inline(always)]
     fn shape(_ctx: (), kind: u16) -> Lookup {
-        table_lookup(Family::Xfrm, kind)
+        table_lookup(Self::FAMILY, kind)
     }
 
     #[inline(always)]

@@ -22,11 +22,8 @@ use Rattle.linkinfo_numbers.specs.declared.netkit.NetkitScrub.{NetkitScrub}
 use Rattle.linkinfo_table.specs.FamilyRows.{FamilyRow, PlainRow, row, typed, EachKeeps}
 use Rattle.linkinfo_table.specs.Labels.{each_keeps}
 use Rattle.linkinfo_peers.specs.PeerRows.{IsUnnestedFamily, peer_lawful, peer_rows}
-use Rattle.linkinfo_table.specs.ByRows.{members_by_rows}
-use Rattle.linkinfo_table.specs.Members.{Members}
 use Rattle.linkinfo_table.specs.PeerLaws.{IsPeer}
 use Rattle.linkinfo_table.specs.declared.peer.LinkPeer.{Ghosts}
-use Rattle.nla_frame.specs.declared.error.Family.TheVariants as family
 use Rattle.linkinfo_peers.specs.declared.netkit.InfoNetkitOf.{InfoNetkitOf}
 use Rattle.linkinfo_peers.specs.declared.netkit.InfoNetkitOf.TheVariants.{
   Peer,
@@ -101,17 +98,9 @@ abbrev pub netkit_rows : {P : Type 0} → (List ℕ → Option P) → (List ℕ 
 netkit_rows meaning alike payload well n =
     peer_rows meaning alike payload well (λ peer. Peer peer) netkit_plain n
 
-module _ {P : Type 0} (peer : Ghosts P) where
-  -- what the family defines, given what the peer does
-  abbrev pub netkit_members : Members (InfoNetkitOf P)
-  netkit_members =
-      members_by_rows family.Netkit (λ d. Other d) (netkit_attribute peer.canonical)
-      (λ n. netkit_rows peer.meaning peer.alike peer.canonical peer.well n) (λ _. 0)
-
-  pub netkit_lawful : IsPeer peer →
-      IsUnnestedFamily family.Netkit (λ d. Other d) (netkit_attribute peer.canonical)
-      (λ n. netkit_rows peer.meaning peer.alike peer.canonical peer.well n)
-  netkit_lawful is =
-      peer_lawful peer is (λ x. Peer x) family.Netkit (λ d. Other d)
-      (netkit_attribute peer.canonical) netkit_plain (netkit_keeps peer.canonical) (λ _. refl)
-      (λ _. refl)
+pub netkit_lawful : {P : Type 0} (peer : Ghosts P) → IsPeer peer →
+    IsUnnestedFamily (λ d. Other d) (netkit_attribute peer.canonical)
+    (λ n. netkit_rows peer.meaning peer.alike peer.canonical peer.well n)
+netkit_lawful peer is =
+    peer_lawful peer is (λ x. Peer x) (λ d. Other d) (netkit_attribute peer.canonical) netkit_plain
+    (netkit_keeps peer.canonical) (λ _. refl) (λ _. refl)

@@ -130,17 +130,18 @@ module _ {P F : Type 0} (meaning : List ℕ → Option P) (alike : List ℕ → 
 
 -- ---- such a family is lawful
 
--- what `LinkFamily` requires of a family without attributes inside others
-pub record IsUnnestedFamily {F : Type 0} (f : Family) (other : DefaultNla → F)
-    (attribute : F → Attribute) (rows : ℕ → FamilyRow F) : Type 0 where
-  pub says : (a : Attribute) →
+-- what `LinkFamily` requires of a family without attributes inside others, whatever its name
+pub record IsUnnestedFamily {F : Type 0} (other : DefaultNla → F) (attribute : F → Attribute)
+    (rows : ℕ → FamilyRow F) : Type 0 where
+  pub says : (f : Family) (a : Attribute) →
       LookupSays f other attribute
       (λ (_ : Unit {0}) (b : Attribute). meaning_in f other (λ n. row_of (rows n)) b) a
       (lookup_of (rows (masked a.kind))) (meaning_in f other (λ n. row_of (rows n)) a)
-  pub certain : (a : Attribute) (e : DecodeError) → HoldsNone (lookup_of (rows (masked a.kind))) →
+  pub certain : (f : Family) (a : Attribute) (e : DecodeError) →
+      HoldsNone (lookup_of (rows (masked a.kind))) →
       meaning_in f other (λ n. row_of (rows n)) a ≡ Err e →
       memory_in (λ n. row_of (rows n)) a ≡ false
-  pub laws : IsFamily (members_by_rows f other attribute rows (λ _. 0))
+  pub laws : (f : Family) → IsFamily (members_by_rows f other attribute rows (λ _. 0))
 
 pub is_peer : {P : Type 0} {peer : Ghosts P} →
     ((p q : List ℕ) (x y : P) → IsBytes p → IsBytes q → peer.meaning p ≡ Some x →
@@ -155,7 +156,7 @@ is_peer alike_is meaning_well well_means well_bytes = record {
   well_bytes = well_bytes;
 }
 
-module _ {P F : Type 0} (peer : Ghosts P) (is : IsPeer peer) (value : P → F) (f : Family)
+module _ {P F : Type 0} (peer : Ghosts P) (is : IsPeer peer) (value : P → F)
     (other : DefaultNla → F) (attribute : F → Attribute) (plain : List (PlainRow F))
     (keeps : EachKeeps attribute plain)
     (shown : (x : P) → attribute (value x) ≡ record { kind = 1; value = peer.canonical x })
@@ -172,14 +173,15 @@ module _ {P F : Type 0} (peer : Ghosts P) (is : IsPeer peer) (value : P → F) (
   unnested n =
       peer_unnested peer.meaning peer.alike peer.canonical peer.well value attribute plain keeps n
 
-  pub peer_lawful : IsUnnestedFamily f other attribute (λ n. rows n)
+  pub peer_lawful : IsUnnestedFamily other attribute (λ n. rows n)
   peer_lawful = record {
-    says = λ a.
+    says = λ f a.
         rows_say f other attribute attribute (λ _. refl)
         (λ (_ : Unit {0}) (b : Attribute). meaning_in f other (λ n. row_of (rows n)) b)
         (λ n. rows n) a (unnested (masked a.kind)) (owes (masked a.kind));
-    certain = λ a e.
+    certain = λ f a e.
         rows_certain f other (λ n. rows n) a e
         (unnested_other (rows (masked a.kind)) (unnested (masked a.kind)));
-    laws = rows_are_family f other attribute (λ n. rows n) owes keeps_other (λ _. 0) none_inside;
+    laws = λ f.
+        rows_are_family f other attribute (λ n. rows n) owes keeps_other (λ _. 0) none_inside;
   }

@@ -5,11 +5,8 @@ use Rattle.nla_frame.specs.Attribute.{Attribute}
 use Rattle.nla_frame.specs.Kept.{attribute_of}
 use Rattle.linkinfo_table.specs.FamilyRows.{FamilyRow}
 use Rattle.linkinfo_peers.specs.PeerRows.{IsUnnestedFamily, peer_lawful, peer_rows}
-use Rattle.linkinfo_table.specs.ByRows.{members_by_rows}
-use Rattle.linkinfo_table.specs.Members.{Members}
 use Rattle.linkinfo_table.specs.PeerLaws.{IsPeer}
 use Rattle.linkinfo_table.specs.declared.peer.LinkPeer.{Ghosts}
-use Rattle.nla_frame.specs.declared.error.Family.TheVariants as family
 use Rattle.linkinfo_peers.specs.declared.veth.InfoVethOf.{InfoVethOf}
 use Rattle.linkinfo_peers.specs.declared.veth.InfoVethOf.TheVariants.{Peer, Other}
 
@@ -28,16 +25,9 @@ abbrev pub veth_rows : {P : Type 0} → (List ℕ → Option P) → (List ℕ �
 veth_rows meaning alike payload well n =
     peer_rows meaning alike payload well (λ peer. Peer peer) [] n
 
-module _ {P : Type 0} (peer : Ghosts P) where
-  -- what the family defines, given what the peer does
-  abbrev pub veth_members : Members (InfoVethOf P)
-  veth_members =
-      members_by_rows family.Veth (λ d. Other d) (veth_attribute peer.canonical)
-      (λ n. veth_rows peer.meaning peer.alike peer.canonical peer.well n) (λ _. 0)
-
-  pub veth_lawful : IsPeer peer →
-      IsUnnestedFamily family.Veth (λ d. Other d) (veth_attribute peer.canonical)
-      (λ n. veth_rows peer.meaning peer.alike peer.canonical peer.well n)
-  veth_lawful is =
-      peer_lawful peer is (λ x. Peer x) family.Veth (λ d. Other d)
-      (veth_attribute peer.canonical) [] tt (λ _. refl) (λ _. refl)
+pub veth_lawful : {P : Type 0} (peer : Ghosts P) → IsPeer peer →
+    IsUnnestedFamily (λ d. Other d) (veth_attribute peer.canonical)
+    (λ n. veth_rows peer.meaning peer.alike peer.canonical peer.well n)
+veth_lawful peer is =
+    peer_lawful peer is (λ x. Peer x) (λ d. Other d) (veth_attribute peer.canonical) []
+    tt (λ _. refl) (λ _. refl)

@@ -5,11 +5,8 @@ use Rattle.nla_frame.specs.Attribute.{Attribute}
 use Rattle.nla_frame.specs.Kept.{attribute_of}
 use Rattle.linkinfo_table.specs.FamilyRows.{FamilyRow}
 use Rattle.linkinfo_peers.specs.PeerRows.{IsUnnestedFamily, peer_lawful, peer_rows}
-use Rattle.linkinfo_table.specs.ByRows.{members_by_rows}
-use Rattle.linkinfo_table.specs.Members.{Members}
 use Rattle.linkinfo_table.specs.PeerLaws.{IsPeer}
 use Rattle.linkinfo_table.specs.declared.peer.LinkPeer.{Ghosts}
-use Rattle.nla_frame.specs.declared.error.Family.TheVariants as family
 use Rattle.linkinfo_peers.specs.declared.vxcan.InfoVxcanOf.{InfoVxcanOf}
 use Rattle.linkinfo_peers.specs.declared.vxcan.InfoVxcanOf.TheVariants.{Peer, Other}
 
@@ -28,16 +25,9 @@ abbrev pub vxcan_rows : {P : Type 0} → (List ℕ → Option P) → (List ℕ �
 vxcan_rows meaning alike payload well n =
     peer_rows meaning alike payload well (λ peer. Peer peer) [] n
 
-module _ {P : Type 0} (peer : Ghosts P) where
-  -- what the family defines, given what the peer does
-  abbrev pub vxcan_members : Members (InfoVxcanOf P)
-  vxcan_members =
-      members_by_rows family.Vxcan (λ d. Other d) (vxcan_attribute peer.canonical)
-      (λ n. vxcan_rows peer.meaning peer.alike peer.canonical peer.well n) (λ _. 0)
-
-  pub vxcan_lawful : IsPeer peer →
-      IsUnnestedFamily family.Vxcan (λ d. Other d) (vxcan_attribute peer.canonical)
-      (λ n. vxcan_rows peer.meaning peer.alike peer.canonical peer.well n)
-  vxcan_lawful is =
-      peer_lawful peer is (λ x. Peer x) family.Vxcan (λ d. Other d)
-      (vxcan_attribute peer.canonical) [] tt (λ _. refl) (λ _. refl)
+pub vxcan_lawful : {P : Type 0} (peer : Ghosts P) → IsPeer peer →
+    IsUnnestedFamily (λ d. Other d) (vxcan_attribute peer.canonical)
+    (λ n. vxcan_rows peer.meaning peer.alike peer.canonical peer.well n)
+vxcan_lawful peer is =
+    peer_lawful peer is (λ x. Peer x) (λ d. Other d) (vxcan_attribute peer.canonical) []
+    tt (λ _. refl) (λ _. refl)

@@ -64,7 +64,7 @@ impl RowFamily for InfoBatAdv {
     #[tactic(auto, using(linkinfo_table::specs::FamilyRowLaws::table_lookup))]
     #[inline(always)]
     fn shape(_ctx: (), kind: u16) -> Lookup {
-        table_lookup(Family::BatAdv, kind)
+        table_lookup(Self::FAMILY, kind)
     }
 
     #[inline(always)]

@@ -7,7 +7,6 @@ ghost use Rattle.linkinfo_peers.specs.Netkit.{
   netkit_is_custom,
   netkit_keeps,
   netkit_lawful,
-  netkit_members,
   netkit_plain,
   netkit_rows,
   scrub_of,
@@ -15,7 +14,8 @@ ghost use Rattle.linkinfo_peers.specs.Netkit.{
 ghost use Rattle.linkinfo_peers.specs.declared.netkit.InfoNetkitOf.TheVariants as netkit;
 ghost use Rattle.linkinfo_table.specs.FamilyRows.{lookup_of, row_of};
 ghost use Rattle.linkinfo_table.specs.FlatLaws.{none_inside};
-ghost use Rattle.linkinfo_table.specs.Rows.{meaning_in, memory_in};
+ghost use Rattle.linkinfo_table.specs.FamilyMeaning.{alike_by, meaning_by, memory_by};
+ghost use Rattle.linkinfo_table.specs.Rows.{WellFormed, meaning_in, memory_in};
 ghost use Rattle.nla_frame.specs.declared.error.Family.TheVariants as family;
 ghost use Rattle.std.specs.Prelude.{◌≡◌, refl};
 
@@ -207,56 +207,59 @@ impl<'a, P: LinkPeer> Parseable<NlaBuffer<'a>> for InfoNetkitOf<P> {
 impl<P: LinkPeer> LinkFamily for InfoNetkitOf<P> {
     type Context = ();
 
-    const FAMILY: Family = Family::Netkit;
+    const FAMILY: Family = <InfoNetkitOf<P> as RowFamily>::FAMILY;
 
-    ghost FAMILY = { family.Netkit };
+    ghost FAMILY = { ⟦<InfoNetkitOf<P> as RowFamily>⟧.FAMILY };
 
-    ghost lookup = { λ _ n.
-        lookup_of (netkit_rows P.meaning P.alike P.canonical P.well n) };
+    ghost lookup = { λ c n. lookup_of (⟦<InfoNetkitOf<P> as RowFamily>⟧.rows c n) };
 
     ghost keeping = { λ nla. netkit.Other nla };
 
-    ghost meaning = { λ _ a. (netkit_members P.LinkPeer.own).meaning a };
+    ghost meaning = { meaning_by ⟦<InfoNetkitOf<P> as RowFamily>⟧ };
 
-    ghost needs_memory = { λ _ a. (netkit_members P.LinkPeer.own).needs_memory a };
+    ghost needs_memory = { memory_by ⟦<InfoNetkitOf<P> as RowFamily>⟧ };
 
     ghost headers = { λ _ _. 0 };
 
-    ghost alike = { λ _ a b. (netkit_members P.LinkPeer.own).alike a b };
+    ghost alike = { alike_by ⟦<InfoNetkitOf<P> as RowFamily>⟧ };
 
-    ghost well = { λ _ x. (netkit_members P.LinkPeer.own).well x };
+    ghost well = { λ _ x.
+        WellFormed (λ d. netkit.Other d) (netkit_attribute P.canonical)
+        (λ n. row_of (netkit_rows P.meaning P.alike P.canonical P.well n)) x };
 
     ghost keeps = { λ _. refl };
 
     ghost looked_up = { λ _ a.
         (netkit_lawful P.LinkPeer.own
-        (is_peer P.alike_is P.meaning_well P.well_means P.well_bytes)).says a };
+        (is_peer P.alike_is P.meaning_well P.well_means P.well_bytes)).says _ a };
 
     ghost alike_is = { λ _ a b x y.
-        (netkit_lawful P.LinkPeer.own
-        (is_peer P.alike_is P.meaning_well P.well_means P.well_bytes)).laws.alike_is a b x y };
+        ((netkit_lawful P.LinkPeer.own
+        (is_peer P.alike_is P.meaning_well P.well_means P.well_bytes)).laws _).alike_is a b x y };
 
     ghost headers_quarter = { λ _ a. none_inside a };
 
     ghost no_memory = { λ _ a.
-        (netkit_lawful P.LinkPeer.own
-        (is_peer P.alike_is P.meaning_well P.well_means P.well_bytes)).laws.no_memory a };
+        ((netkit_lawful P.LinkPeer.own
+        (is_peer P.alike_is P.meaning_well P.well_means P.well_bytes)).laws _).no_memory a };
 
     ghost error_certain = { λ _ a e.
         (netkit_lawful P.LinkPeer.own
-        (is_peer P.alike_is P.meaning_well P.well_means P.well_bytes)).certain a e };
+        (is_peer P.alike_is P.meaning_well P.well_means P.well_bytes)).certain _ a e };
 
     ghost read_well = { λ _ a x.
-        (netkit_lawful P.LinkPeer.own
-        (is_peer P.alike_is P.meaning_well P.well_means P.well_bytes)).laws.read_well a x };
+        ((netkit_lawful P.LinkPeer.own
+        (is_peer P.alike_is P.meaning_well P.well_means P.well_bytes)).laws _).read_well a x };
 
     ghost well_reads = { λ _ x.
-        (netkit_lawful P.LinkPeer.own
-        (is_peer P.alike_is P.meaning_well P.well_means P.well_bytes)).laws.well_reads x };
+        ((netkit_lawful P.LinkPeer.own
+        (is_peer P.alike_is P.meaning_well P.well_means P.well_bytes)).laws _).well_reads x };
 
     ghost well_attribute = { λ _ x.
-        (netkit_lawful P.LinkPeer.own
-        (is_peer P.alike_is P.meaning_well P.well_means P.well_bytes)).laws.well_attribute x };
+        let lawful =
+        netkit_lawful P.LinkPeer.own
+        (is_peer P.alike_is P.meaning_well P.well_means P.well_bytes) in
+        (lawful.laws family.Netkit).well_attribute x };
 
     #[inline(always)]
     fn shape(ctx: (), kind: u16) -> Lookup {

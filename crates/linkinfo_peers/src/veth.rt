@@ -5,13 +5,13 @@ ghost use Rattle.linkinfo_peers.specs.Veth.{
   veth_attribute,
   veth_is_custom,
   veth_lawful,
-  veth_members,
   veth_rows,
 };
 ghost use Rattle.linkinfo_peers.specs.declared.veth.InfoVethOf.TheVariants as veth;
 ghost use Rattle.linkinfo_table.specs.FamilyRows.{lookup_of, row_of};
 ghost use Rattle.linkinfo_table.specs.FlatLaws.{none_inside};
-ghost use Rattle.linkinfo_table.specs.Rows.{meaning_in, memory_in};
+ghost use Rattle.linkinfo_table.specs.FamilyMeaning.{alike_by, meaning_by, memory_by};
+ghost use Rattle.linkinfo_table.specs.Rows.{WellFormed, meaning_in, memory_in};
 ghost use Rattle.nla_frame.specs.declared.error.Family.TheVariants as family;
 ghost use Rattle.std.specs.Prelude.{[], refl};
 
@@ -160,56 +160,59 @@ impl<'a, P: LinkPeer> Parseable<NlaBuffer<'a>> for InfoVethOf<P> {
 impl<P: LinkPeer> LinkFamily for InfoVethOf<P> {
     type Context = ();
 
-    const FAMILY: Family = Family::Veth;
+    const FAMILY: Family = <InfoVethOf<P> as RowFamily>::FAMILY;
 
-    ghost FAMILY = { family.Veth };
+    ghost FAMILY = { ⟦<InfoVethOf<P> as RowFamily>⟧.FAMILY };
 
-    ghost lookup = { λ _ n.
-        lookup_of (veth_rows P.meaning P.alike P.canonical P.well n) };
+    ghost lookup = { λ c n. lookup_of (⟦<InfoVethOf<P> as RowFamily>⟧.rows c n) };
 
     ghost keeping = { λ nla. veth.Other nla };
 
-    ghost meaning = { λ _ a. (veth_members P.LinkPeer.own).meaning a };
+    ghost meaning = { meaning_by ⟦<InfoVethOf<P> as RowFamily>⟧ };
 
-    ghost needs_memory = { λ _ a. (veth_members P.LinkPeer.own).needs_memory a };
+    ghost needs_memory = { memory_by ⟦<InfoVethOf<P> as RowFamily>⟧ };
 
     ghost headers = { λ _ _. 0 };
 
-    ghost alike = { λ _ a b. (veth_members P.LinkPeer.own).alike a b };
+    ghost alike = { alike_by ⟦<InfoVethOf<P> as RowFamily>⟧ };
 
-    ghost well = { λ _ x. (veth_members P.LinkPeer.own).well x };
+    ghost well = { λ _ x.
+        WellFormed (λ d. veth.Other d) (veth_attribute P.canonical)
+        (λ n. row_of (veth_rows P.meaning P.alike P.canonical P.well n)) x };
 
     ghost keeps = { λ _. refl };
 
     ghost looked_up = { λ _ a.
         (veth_lawful P.LinkPeer.own
-        (is_peer P.alike_is P.meaning_well P.well_means P.well_bytes)).says a };
+        (is_peer P.alike_is P.meaning_well P.well_means P.well_bytes)).says _ a };
 
     ghost alike_is = { λ _ a b x y.
-        (veth_lawful P.LinkPeer.own
-        (is_peer P.alike_is P.meaning_well P.well_means P.well_bytes)).laws.alike_is a b x y };
+        ((veth_lawful P.LinkPeer.own
+        (is_peer P.alike_is P.meaning_well P.well_means P.well_bytes)).laws _).alike_is a b x y };
 
     ghost headers_quarter = { λ _ a. none_inside a };
 
     ghost no_memory = { λ _ a.
-        (veth_lawful P.LinkPeer.own
-        (is_peer P.alike_is P.meaning_well P.well_means P.well_bytes)).laws.no_memory a };
+        ((veth_lawful P.LinkPeer.own
+        (is_peer P.alike_is P.meaning_well P.well_means P.well_bytes)).laws _).no_memory a };
 
     ghost error_certain = { λ _ a e.
         (veth_lawful P.LinkPeer.own
-        (is_peer P.alike_is P.meaning_well P.well_means P.well_bytes)).certain a e };
+        (is_peer P.alike_is P.meaning_well P.well_means P.well_bytes)).certain _ a e };
 
     ghost read_well = { λ _ a x.
-        (veth_lawful P.LinkPeer.own
-        (is_peer P.alike_is P.meaning_well P.well_means P.well_bytes)).laws.read_well a x };
+        ((veth_lawful P.LinkPeer.own
+        (is_peer P.alike_is P.meaning_well P.well_means P.well_bytes)).laws _).read_well a x };
 
     ghost well_reads = { λ _ x.
-        (veth_lawful P.LinkPeer.own
-        (is_peer P.alike_is P.meaning_well P.well_means P.well_bytes)).laws.well_reads x };
+        ((veth_lawful P.LinkPeer.own
+        (is_peer P.alike_is P.meaning_well P.well_means P.well_bytes)).laws _).well_reads x };
 
     ghost well_attribute = { λ _ x.
-        (veth_lawful P.LinkPeer.own
-        (is_peer P.alike_is P.meaning_well P.well_means P.well_bytes)).laws.well_attribute x };
+        let lawful =
+        veth_lawful P.LinkPeer.own
+        (is_peer P.alike_is P.meaning_well P.well_means P.well_bytes) in
+        (lawful.laws family.Veth).well_attribute x };
 
     #[inline(always)]
     fn shape(ctx: (), kind: u16) -> Lookup {

@@ -5,13 +5,13 @@ ghost use Rattle.linkinfo_peers.specs.Vxcan.{
   vxcan_attribute,
   vxcan_is_custom,
   vxcan_lawful,
-  vxcan_members,
   vxcan_rows,
 };
 ghost use Rattle.linkinfo_peers.specs.declared.vxcan.InfoVxcanOf.TheVariants as vxcan;
 ghost use Rattle.linkinfo_table.specs.FamilyRows.{lookup_of, row_of};
 ghost use Rattle.linkinfo_table.specs.FlatLaws.{none_inside};
-ghost use Rattle.linkinfo_table.specs.Rows.{meaning_in, memory_in};
+ghost use Rattle.linkinfo_table.specs.FamilyMeaning.{alike_by, meaning_by, memory_by};
+ghost use Rattle.linkinfo_table.specs.Rows.{WellFormed, meaning_in, memory_in};
 ghost use Rattle.nla_frame.specs.declared.error.Family.TheVariants as family;
 ghost use Rattle.std.specs.Prelude.{[], refl};
 
@@ -160,56 +160,59 @@ impl<'a, P: LinkPeer> Parseable<NlaBuffer<'a>> for InfoVxcanOf<P> {
 impl<P: LinkPeer> LinkFamily for InfoVxcanOf<P> {
     type Context = ();
 
-    const FAMILY: Family = Family::Vxcan;
+    const FAMILY: Family = <InfoVxcanOf<P> as RowFamily>::FAMILY;
 
-    ghost FAMILY = { family.Vxcan };
+    ghost FAMILY = { ⟦<InfoVxcanOf<P> as RowFamily>⟧.FAMILY };
 
-    ghost lookup = { λ _ n.
-        lookup_of (vxcan_rows P.meaning P.alike P.canonical P.well n) };
+    ghost lookup = { λ c n. lookup_of (⟦<InfoVxcanOf<P> as RowFamily>⟧.rows c n) };
 
     ghost keeping = { λ nla. vxcan.Other nla };
 
-    ghost meaning = { λ _ a. (vxcan_members P.LinkPeer.own).meaning a };
+    ghost meaning = { meaning_by ⟦<InfoVxcanOf<P> as RowFamily>⟧ };
 
-    ghost needs_memory = { λ _ a. (vxcan_members P.LinkPeer.own).needs_memory a };
+    ghost needs_memory = { memory_by ⟦<InfoVxcanOf<P> as RowFamily>⟧ };
 
     ghost headers = { λ _ _. 0 };
 
-    ghost alike = { λ _ a b. (vxcan_members P.LinkPeer.own).alike a b };
+    ghost alike = { alike_by ⟦<InfoVxcanOf<P> as RowFamily>⟧ };
 
-    ghost well = { λ _ x. (vxcan_members P.LinkPeer.own).well x };
+    ghost well = { λ _ x.
+        WellFormed (λ d. vxcan.Other d) (vxcan_attribute P.canonical)
+        (λ n. row_of (vxcan_rows P.meaning P.alike P.canonical P.well n)) x };
 
     ghost keeps = { λ _. refl };
 
     ghost looked_up = { λ _ a.
         (vxcan_lawful P.LinkPeer.own
-        (is_peer P.alike_is P.meaning_well P.well_means P.well_bytes)).says a };
+        (is_peer P.alike_is P.meaning_well P.well_means P.well_bytes)).says _ a };
 
     ghost alike_is = { λ _ a b x y.
-        (vxcan_lawful P.LinkPeer.own
-        (is_peer P.alike_is P.meaning_well P.well_means P.well_bytes)).laws.alike_is a b x y };
+        ((vxcan_lawful P.LinkPeer.own
+        (is_peer P.alike_is P.meaning_well P.well_means P.well_bytes)).laws _).alike_is a b x y };
 
     ghost headers_quarter = { λ _ a. none_inside a };
 
     ghost no_memory = { λ _ a.
-        (vxcan_lawful P.LinkPeer.own
-        (is_peer P.alike_is P.meaning_well P.well_means P.well_bytes)).laws.no_memory a };
+        ((vxcan_lawful P.LinkPeer.own
+        (is_peer P.alike_is P.meaning_well P.well_means P.well_bytes)).laws _).no_memory a };
 
     ghost error_certain = { λ _ a e.
         (vxcan_lawful P.LinkPeer.own
-        (is_peer P.alike_is P.meaning_well P.well_means P.well_bytes)).certain a e };
+        (is_peer P.alike_is P.meaning_well P.well_means P.well_bytes)).certain _ a e };
 
     ghost read_well = { λ _ a x.
-        (vxcan_lawful P.LinkPeer.own
-        (is_peer P.alike_is P.meaning_well P.well_means P.well_bytes)).laws.read_well a x };
+        ((vxcan_lawful P.LinkPeer.own
+        (is_peer P.alike_is P.meaning_well P.well_means P.well_bytes)).laws _).read_well a x };
 
     ghost well_reads = { λ _ x.
-        (vxcan_lawful P.LinkPeer.own
-        (is_peer P.alike_is P.meaning_well P.well_means P.well_bytes)).laws.well_reads x };
+        ((vxcan_lawful P.LinkPeer.own
+        (is_peer P.alike_is P.meaning_well P.well_means P.well_bytes)).laws _).well_reads x };
 
     ghost well_attribute = { λ _ x.
-        (vxcan_lawful P.LinkPeer.own
-        (is_peer P.alike_is P.meaning_well P.well_means P.well_bytes)).laws.well_attribute x };
+        let lawful =
+        vxcan_lawful P.LinkPeer.own
+        (is_peer P.alike_is P.meaning_well P.well_means P.well_bytes) in
+        (lawful.laws family.Vxcan).well_attribute x };
 
     #[inline(always)]
     fn shape(ctx: (), kind: u16) -> Lookup {

@@ -64,7 +64,7 @@ impl RowFamily for InfoWwan {
     #[tactic(auto, using(linkinfo_table::specs::FamilyRowLaws::table_lookup))]
     #[inline(always)]
     fn shape(_ctx: (), kind: u16) -> Lookup {
-        table_lookup(Family::Wwan, kind)
+        table_lookup(Self::FAMILY, kind)
     }
 
     #[inline(always)]

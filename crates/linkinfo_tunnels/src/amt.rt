@@ -88,7 +88,7 @@ impl RowFamily for InfoAmt {
     #[tactic(auto, using(linkinfo_table::specs::FamilyRowLaws::table_lookup))]
     #[inline(always)]
     fn shape(_ctx: (), kind: u16) -> Lookup {
-        table_lookup(Family::Amt, kind)
+        table_lookup(Self::FAMILY, kind)
     }
 
     #[inline(always)]

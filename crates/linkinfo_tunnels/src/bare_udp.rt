@@ -75,7 +75,7 @@ impl RowFamily for InfoBareUdp {
     #[tactic(auto, using(linkinfo_table::specs::FamilyRowLaws::table_lookup))]
     #[inline(always)]
     fn shape(_ctx: (), kind: u16) -> Lookup {
-        table_lookup(Family::BareUdp, kind)
+        table_lookup(Self::FAMILY, kind)
     }
 
     #[inline(always)]

@@ -115,7 +115,7 @@ impl RowFamily for InfoGeneve {
     #[tactic(auto, using(linkinfo_table::specs::FamilyRowLaws::table_lookup))]
     #[inline(always)]
     fn shape(_ctx: (), kind: u16) -> Lookup {
-        table_lookup(Family::Geneve, kind)
+        table_lookup(Self::FAMILY, kind)
     }
 
     #[inline(always)]

@@ -126,7 +126,7 @@ impl RowFamily for InfoGre {
     #[tactic(auto, using(linkinfo_table::specs::FamilyRowLaws::table_lookup))]
     #[inline(always)]
     fn shape(_ctx: (), kind: u16) -> Lookup {
-        table_lookup(Family::Gre, kind)
+        table_lookup(Self::FAMILY, kind)
     }
 
     #[inline(always)]

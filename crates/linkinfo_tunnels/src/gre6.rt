@@ -129,7 +129,7 @@ impl RowFamily for InfoGre6 {
     #[tactic(auto, using(linkinfo_table::specs::FamilyRowLaws::table_lookup))]
     #[inline(always)]
     fn shape(_ctx: (), kind: u16) -> Lookup {
-        table_lookup(Family::Gre6, kind)
+        table_lookup(Self::FAMILY, kind)
     }
 
     #[inline(always)]

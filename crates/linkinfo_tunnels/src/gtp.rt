@@ -87,7 +87,7 @@ impl RowFamily for InfoGtp {
     #[tactic(auto, using(linkinfo_table::specs::FamilyRowLaws::table_lookup))]
     #[inline(always)]
     fn shape(_ctx: (), kind: u16) -> Lookup {
-        table_lookup(Family::Gtp, kind)
+        table_lookup(Self::FAMILY, kind)
     }
 
     #[inline(always)]

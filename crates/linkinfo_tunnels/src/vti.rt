@@ -81,7 +81,7 @@ impl RowFamily for InfoVti {
     #[tactic(auto, using(linkinfo_table::specs::FamilyRowLaws::table_lookup))]
     #[inline(always)]
     fn shape(_ctx: (), kind: u16) -> Lookup {
-        table_lookup(Family::Vti, kind)
+        table_lookup(Self::FAMILY, kind)
     }
 
     #[inline(always)]

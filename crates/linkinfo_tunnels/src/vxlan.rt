@@ -175,7 +175,7 @@ impl RowFamily for InfoVxlan {
     #[tactic(auto, using(linkinfo_table::specs::FamilyRowLaws::table_lookup))]
     #[inline(always)]
     fn shape(_ctx: (), kind: u16) -> Lookup {
-        table_lookup(Family::Vxlan, kind)
+        table_lookup(Self::FAMILY, kind)
     }
 
     #[inline(always)]
