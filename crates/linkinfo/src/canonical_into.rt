@@ -109,7 +109,8 @@ fn rest_measure<P: LinkPeer>(walk: &mut LinkInfoWalk<'_>) -> Result<Option<usize
     let mut total = Some(0);
     while let Some(next) = walk.advance() {
         let (nla, role) = next?;
-        total = total_with(total, measure_item::<P>(&nla, role)?);
+        let len = measure_item::<P>(&nla, role)?;
+        total = total_with(total, len);
     }
     Ok(total)
 }

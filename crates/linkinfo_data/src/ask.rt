@@ -189,7 +189,11 @@ impl<'a> Ask for Measure<'a> {
     }
 
     #[inline(always)]
-    fn of_bytes(self, _count: &mut HeaderCount, _buffer: &mut [u8]) -> Result<Option<usize>, DecodeError> {
+    fn of_bytes(
+        self,
+        _count: &mut HeaderCount,
+        _buffer: &mut [u8],
+    ) -> Result<Option<usize>, DecodeError> {
         Ok(fitting(self.payload.len()))
     }
 }
