@@ -38,9 +38,8 @@ use crate::link_info::LinkInfoOf;
 use crate::role::{CurrentKinds, Role, error, name_in};
 use crate::xstats::LinkXstats;
 use linkinfo_data::{
-    DataFamilies, DataFamily, InfoDataOf, InfoPortData, PayloadFamily, PortFamily,
-    check_payload, family_of, measure_payload, port_family_of, same_payloads,
-    write_canonical_payload,
+    DataFamilies, DataFamily, InfoDataOf, InfoPortData, PayloadFamily, PortFamily, check_payload,
+    family_of, measure_payload, port_family_of, same_payloads, write_canonical_payload,
 };
 use linkinfo_numbers::{
     IFLA_INFO_DATA, IFLA_INFO_KIND, IFLA_INFO_SLAVE_DATA, IFLA_INFO_SLAVE_KIND, IFLA_INFO_XSTATS,
