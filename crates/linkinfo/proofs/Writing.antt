@@ -45,8 +45,9 @@ use Rattle.nla_frame.proofs.Emitting.{length-list_string-cons, whole, Written}
 use Rattle.linkinfo_data.specs.Families.{Families}
 use Rattle.linkinfo_data.specs.Lawful.{AreLawful}
 use Rattle.linkinfo_table.specs.Lists.{IsTotalWith}
-use Rattle.linkinfo_table.proofs.Measuring.{Remains, measured_after}
+use Rattle.linkinfo_table.proofs.Measuring.{Remains, measured_after, remains_none}
 use Rattle.linkinfo_table.proofs.Writing.{takes, with_first, write_first}
+use Rattle.linkinfo.specs.declared.link_info.LinkInfoOf.{LinkInfoOf}
 use Rattle.linkinfo.specs.declared.role.Role.{Role}
 use Rattle.linkinfo.specs.Items.{link_attribute, written_attribute}
 use Rattle.linkinfo.specs.Strings.{values_from}
@@ -203,6 +204,21 @@ module _ {P : Type 0} (peer : Families P) where
       (values_from peer t.kinds (nla_items (left t))) (meant peer r a) total len next whole before
       step.values accepted
       (subst (λ (w : Attribute). SomeIff len (Fits w) (length w.value)) (sym is) size) sum ok
+
+  -- at the end of a walk the total is that of the list
+  pub measured_end : (s : LinkWalk) (total : Option ℕ)
+      (all : Result (List (LinkInfoOf P)) DecodeError) → nla_items (left s) ≡ [] →
+      verdict (values_from peer s.kinds (nla_items (left s))) ≡ verdict all →
+      (IsOk (values_from peer s.kinds (nla_items (left s))) →
+      Remains total (left_of s) (attributes_for (link_attribute peer) all)) →
+      (verdict all ≡ Ok tt)
+      × SomeIff total (ListFits (attributes_for (link_attribute peer) all))
+      (length (list_string (attributes_for (link_attribute peer) all)))
+  measured_end s total all end answer so_far =
+      let last = rw end at so_far in (
+        sym (rw end at answer),
+        remains_none total (attributes_for (link_attribute peer) all) (last refl),
+      )
 
   -- one more attribute written at an offset: `chunk` is what the buffer holds from that offset on
   pub write_item : (whole : List ℕ) (s t : LinkWalk) (a : Attribute) (r : Role) (at : ℕ)

@@ -1,9 +1,9 @@
 -- The total of what the walk has visited, after each step and at its end.
-use Rattle.std.proofs.Common.{sym, ap, ◌∙◌, refl, rules, arith}
+use Rattle.std.proofs.Common.{sym, ap, ◌∙◌, rules, arith}
 use Rattle.nla_frame.specs.Answers.{verdict}
 use Rattle.linkinfo_data.specs.PeerFamilies.{families_of}
 use Rattle.linkinfo.proofs.Steps.{checked_error, checked_value, entered, stopped}
-use Rattle.linkinfo.proofs.Writing.{measured_step}
+use Rattle.linkinfo.proofs.Writing.{measured_end, measured_step}
 use Rattle.linkinfo.proofs.canonical_into.rest_measure.Goals as goal
 
 pub returns-in_err-nla : goal.returns-in_err-nla
@@ -34,7 +34,7 @@ loop-next-preserved g c =
       answer = checked_value _ _ _ _ inv.answer step.values (sym measured.0);
       so_far =
           measured_step peer c.families_lawful.ensures _ _ _ _ _ _ _ _ step inv.so_far
-          (sym measured.0) measured.1 c.total_with.ensures;
+          (sym measured.0) measured.1 c.total_with-total.ensures;
     }
 
 pub loop-next-smaller : goal.loop-next-smaller
@@ -45,4 +45,7 @@ loop-next-smaller g c =
     omega (arith, step.room)
 
 pub returns : goal.returns
-returns g c = ?
+returns g c =
+    let inv = c.loop-next.invariant in
+    measured_end (families_of g.row.P g.P.LinkPeer) c.loop-next.walk _ _ c.in_default.ensures.step.1 inv.answer
+    inv.so_far
