@@ -1,43 +1,14 @@
 -- What the length of a list's canonical encoding is, in the middle of measuring it.
-use Rattle.std.proofs.Common.{
-  ◌≡◌,
-  ℕ,
-  ◌+◌,
-  ◌<◌,
-  ◌≤◌,
-  ◌^◌,
-  List,
-  [],
-  ◌∷◌,
-  length,
-  refl,
-  sym,
-  ap,
-  subst,
-  ◌∙◌,
-  arith,
-  Option,
-  Some,
-  None,
-  Result,
-  Ok,
-  Err,
-}
-use Rattle.std.specs.Prelude.{IfSome, IsOk, SomeIff}
+use Rattle.std.proofs.Common.{◌≡◌, ℕ, ◌+◌, ◌<◌, ◌≤◌, ◌^◌, List, [], ◌∷◌, length, refl, sym, subst, arith, Option, Some, None, Result, Ok, Err}
+use Rattle.std.specs.Prelude.{IsOk, SomeIff}
 use Rattle.std.specs.List.{AllByRecursion}
 use Rattle.nla_frame.specs.Answers.{verdict}
-use Rattle.nla_frame.specs.Attribute.{Attribute, Fits, ListFits, buffer_len_of, list_string}
+use Rattle.nla_frame.specs.Attribute.{Attribute, Fits, ListFits, list_string}
 use Rattle.nla_frame.specs.Canonical.{attribute_for, attributes_for}
 use Rattle.nla_frame.proofs.Emitting.{length-list_string-cons, list_fits}
 use Rattle.nla_frame.specs.declared.error.DecodeError.{DecodeError}
 use Rattle.linkinfo_table.specs.Lists.{IsTotalWith}
 use Rattle.linkinfo_table.proofs.Writing.{with_first}
-
--- the length of a payload that fits
-pub len_within : (len : Option ℕ) (a : Attribute) → SomeIff len (Fits a) (length a.value) →
-    IfSome len (λ n. n ≤ 65531)
-len_within (Some n) a h = omega (arith, h.0, h.1)
-len_within None a h = tt
 
 -- the attributes that are left of a list, and the total of those before them, or that the whole
 -- list does not fit
@@ -48,9 +19,6 @@ Remains (Some total) left whole =
     × (AllByRecursion Fits left → AllByRecursion Fits whole)
     × (AllByRecursion Fits whole → AllByRecursion Fits left)
 Remains None left whole = ¬ ListFits whole
-
-pub remains_all : (whole : List Attribute) → Remains (Some 0) whole whole
-remains_all whole = (omega arith, omega arith, λ h. h, λ h. h)
 
 -- after one more attribute
 pub remains_after : (total len next : Option ℕ) (a : Attribute) (more whole : List Attribute) →
@@ -78,14 +46,7 @@ remains_none (Some total) whole h = (
 )
 remains_none None whole h = h
 
--- a list of at most so many bytes
-pub within_payload : (total : ℕ) (whole : List Attribute) (result : Option ℕ) →
-    SomeIff (Some total) (ListFits whole) (length (list_string whole)) →
-    SomeIff result (total ≤ 65531) total →
-    SomeIff result (length (list_string whole) ≤ 65531) (length (list_string whole))
-within_payload total whole (Some n) h fit = (omega (arith, h.1, fit.0), fit.1 ∙ h.1)
-within_payload total whole None h fit = λ short. fit (omega (arith, h.1, short))
-
+-- a list that does not fit is longer than a payload
 pub beyond_payload : (whole : List Attribute) → ¬ ListFits whole →
     ¬ (length (list_string whole) ≤ 65531)
 beyond_payload whole h short = h (list_fits whole short)
