@@ -450,7 +450,7 @@ struct linkinfo_canon_result {
  * that is needed.
  *
  * Return: the status, and the length of the encoding.
- * Time: linear; three passes.
+ * Time: linear; two passes.
  * Threads: MT-Safe.
  */
 LINKINFO_NODISCARD struct linkinfo_canon_result

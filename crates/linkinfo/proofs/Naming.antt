@@ -86,6 +86,17 @@ module _ {X : Type 0} (label : List ℕ → X) where
       go (Ok n) h = refl
       go (Err c) h = absurd cc
 
+-- a name that is UTF-8 is accepted by its shape
+pub entered_name : (a : Attribute) (p : List ℕ) → p ≡ a.value → IsOk (name_meaning a) →
+    IsAccepted Name p
+unfolding name_meaning
+entered_name a p e ok = accepted_name (λ (name : List ℕ). name) a p e (go (means Name a.value) ok)
+  where
+    go : (r : Result (List ℕ) Cause) → IsOk (name_or_error a r) →
+        IsOk (labelled family.LinkInfo (masked a.kind) (λ (name : List ℕ). name) (own r))
+    go (Ok n) h = refl
+    go (Err c) h = absurd cc
+
 pub with_name_ok : (r : Result (List ℕ) DecodeError) (f : List ℕ → CurrentKinds) →
     IsOk (with_name r f) →
     IsOk r

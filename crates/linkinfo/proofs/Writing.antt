@@ -27,10 +27,12 @@ use Rattle.std.proofs.Common.{
   None,
 }
 use borrow.Rule.Slice.PartMut.{put_mid}
-use Rattle.std.specs.Prelude.{IsOk}
+use Rattle.std.specs.Prelude.{IsOk, SomeIff}
 use Rattle.std.proofs.lemmas.List.{take_at, drop_at}
+use Rattle.nla_frame.specs.Answers.{verdict}
 use Rattle.nla_frame.specs.Attribute.{
   Attribute,
+  Fits,
   ListFits,
   buffer_len_of,
   canonical_string,
@@ -42,13 +44,16 @@ use Rattle.nla_frame.specs.NlaItems.{nla_items}
 use Rattle.nla_frame.proofs.Emitting.{length-list_string-cons, whole, Written}
 use Rattle.linkinfo_data.specs.Families.{Families}
 use Rattle.linkinfo_data.specs.Lawful.{AreLawful}
+use Rattle.linkinfo_table.specs.Lists.{IsTotalWith}
+use Rattle.linkinfo_table.proofs.Measuring.{Remains, measured_after, remains_none}
 use Rattle.linkinfo_table.proofs.Writing.{takes, with_first, write_first}
+use Rattle.linkinfo.specs.declared.link_info.LinkInfoOf.{LinkInfoOf}
 use Rattle.linkinfo.specs.declared.role.Role.{Role}
 use Rattle.linkinfo.specs.Items.{link_attribute, written_attribute}
 use Rattle.linkinfo.specs.Strings.{values_from}
 use Rattle.linkinfo.specs.Walks.{LinkWalk, Advances, left}
 use Rattle.linkinfo.proofs.Items.{role_written}
-use Rattle.linkinfo.proofs.Steps.{entered, meant, stopped}
+use Rattle.linkinfo.proofs.Steps.{Entered, entered, meant, stopped}
 use Rattle.linkinfo.specs.Canon.{IsCanonical, IsCanonicalLength, IsUnfit}
 
 module _ {F : Type 0} (attribute : F → Attribute) where
@@ -127,6 +132,10 @@ not_ok : {A : Type 0} (m : Result A DecodeError) (e : DecodeError) → m ≡ Err
 not_ok (Ok x) e h ok = absurd cc
 not_ok (Err d) e h ok = absurd cc
 
+accepted_by : {A : Type 0} (m : Result A DecodeError) → Ok tt ≡ verdict m → IsOk m
+accepted_by (Ok x) h = refl
+accepted_by (Err e) h = absurd cc
+
 pub measured_more : (total : ℕ) (all now rest : List Attribute) (a : Attribute) →
     total + length (list_string now) ≡ length (list_string all) → now ≡ a ∷ rest →
     (total + buffer_len_of a) + length (list_string rest) ≡ length (list_string all)
@@ -180,6 +189,36 @@ module _ {P : Type 0} (peer : Families P) where
         whole = took.whole ∙ ap (λ (a : Attribute). a ∷ left_of t) is;
         shorter = omega (arith, step.room);
       }
+
+  -- one more attribute measured
+  pub measured_step : AreLawful peer → (s t : LinkWalk) (a : Attribute) (r : Role)
+      (total len next : Option ℕ) (whole : List Attribute) → Entered peer s a r t →
+      (IsOk (values_from peer s.kinds (nla_items (left s))) → Remains total (left_of s) whole) →
+      Ok tt ≡ verdict (meant peer r a) →
+      SomeIff len (Fits (written_attribute peer r a)) (length (written_attribute peer r a).value) →
+      IsTotalWith total len next →
+      IsOk (values_from peer t.kinds (nla_items (left t))) → Remains next (left_of t) whole
+  measured_step law s t a r total len next whole step before accepted size sum ok =
+      let is = role_written peer law r a (accepted_by (meant peer r a) accepted) in
+      measured_after (link_attribute peer) (values_from peer s.kinds (nla_items (left s)))
+      (values_from peer t.kinds (nla_items (left t))) (meant peer r a) total len next whole before
+      step.values accepted
+      (subst (λ (w : Attribute). SomeIff len (Fits w) (length w.value)) (sym is) size) sum ok
+
+  -- at the end of a walk the total is that of the list
+  pub measured_end : (s : LinkWalk) (total : Option ℕ)
+      (all : Result (List (LinkInfoOf P)) DecodeError) → nla_items (left s) ≡ [] →
+      verdict (values_from peer s.kinds (nla_items (left s))) ≡ verdict all →
+      (IsOk (values_from peer s.kinds (nla_items (left s))) →
+      Remains total (left_of s) (attributes_for (link_attribute peer) all)) →
+      (verdict all ≡ Ok tt)
+      × SomeIff total (ListFits (attributes_for (link_attribute peer) all))
+      (length (list_string (attributes_for (link_attribute peer) all)))
+  measured_end s total all end answer so_far =
+      let last = rw end at so_far in (
+        sym (rw end at answer),
+        remains_none total (attributes_for (link_attribute peer) all) (last refl),
+      )
 
   -- one more attribute written at an offset: `chunk` is what the buffer holds from that offset on
   pub write_item : (whole : List ℕ) (s t : LinkWalk) (a : Attribute) (r : Role) (at : ℕ)

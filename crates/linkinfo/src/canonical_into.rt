@@ -12,12 +12,13 @@ ghost use Rattle.std.specs.Prelude.{
   IfOk,
   IsOk,
   OnErr,
-  SomeIff,
 };
+ghost use Rattle.nla_frame.specs.Answers.{verdict};
 ghost use Rattle.nla_frame.specs.Attribute.{ListFits, list_string};
 ghost use Rattle.nla_frame.specs.Canonical.{attributes_for};
 ghost use Rattle.nla_frame.specs.NlaItems.{nla_items};
 ghost use Rattle.linkinfo_data.specs.BytesPeer.{bytes_peer};
+ghost use Rattle.linkinfo_table.specs.Lists.{Measures};
 ghost use Rattle.linkinfo.specs.Canon.{
   IntoRefuses,
   IsCanonical,
@@ -31,12 +32,11 @@ ghost use Rattle.linkinfo.specs.Strings.{reading};
 ghost use Rattle.linkinfo.specs.Walks.{values_left};
 
 use crate::canonical::CanonError;
-use crate::item::{item_canonical_len, write_item};
-use crate::list::check_of;
+use crate::item::{measure_item, write_item};
 use crate::walk::LinkInfoWalk;
 use linkinfo_data::DataFamilies;
 use linkinfo_data::laws::families_lawful;
-use linkinfo_table::LinkPeer;
+use linkinfo_table::{LinkPeer, total_with};
 use nla_frame::{Bytes, DecodeError, ExactEq};
 use std::error::Error;
 use std::fmt;
@@ -96,22 +96,23 @@ impl ExactEq for CanonIntoError {
     ) };
 }
 
-/// The length, in bytes, of the canonical encoding of the attributes that a walk has not visited,
-/// or `None` if they do not fit. Each attribute is measured once.
-fn rest_canonical_len<P: LinkPeer>(walk: &mut LinkInfoWalk<'_>) -> Option<usize>
-    requires { IsOk (values_left ⟦<P as DataFamilies>⟧.families walk.old) }
-    ensures { let attributes = attributes_for (link_attribute ⟦<P as DataFamilies>⟧.families)
-        (values_left ⟦<P as DataFamilies>⟧.families walk.old) in
-        SomeIff result (ListFits attributes) (length (list_string attributes)) }
+/// Validates the attributes that a walk has not visited, and measures them in the same pass: the
+/// error is that of the list, and otherwise the result is the length, in bytes, of their canonical
+/// encoding, or `None` if they do not fit. An attribute that does not fit does not end the pass,
+/// since a later one may be rejected.
+fn rest_measure<P: LinkPeer>(walk: &mut LinkInfoWalk<'_>) -> Result<Option<usize>, DecodeError>
+    ensures { let values = values_left ⟦<P as DataFamilies>⟧.families walk.old in
+        let attributes = attributes_for (link_attribute ⟦<P as DataFamilies>⟧.families) values in
+        Measures (verdict values) (ListFits attributes) (length (list_string attributes)) result }
 {
     families_lawful::<P>();
-    let mut total: usize = 0;
+    let mut total = Some(0);
     while let Some(next) = walk.advance() {
-        let (nla, role) = next.unwrap();
-        let len = item_canonical_len::<P>(&nla, role)?;
-        total = total.checked_add(4 + len.next_multiple_of(4))?;
+        let (nla, role) = next?;
+        let len = measure_item::<P>(&nla, role)?;
+        total = total_with(total, len);
     }
-    Some(total)
+    Ok(total)
 }
 
 /// Writes the canonical encoding of the attributes that a walk has not visited to the front of the
@@ -137,7 +138,7 @@ fn write_rest<P: LinkPeer>(walk: &mut LinkInfoWalk<'_>, buffer: &mut [u8])
 }
 
 /// The length, in bytes, of the canonical encoding of the list that `bytes` encodes, or why there
-/// is none.
+/// is none. Each header is examined once.
 #[tactic(auto, unfolding(crate::specs::Strings::reading), using(crate::proofs::Writing::length_is, crate::proofs::Writing::unfit_is))]
 pub(crate) fn canonical_len_of<P: LinkPeer>(bytes: &[u8]) -> Result<usize, CanonError>
     ensures length { IfOk result
@@ -147,8 +148,7 @@ pub(crate) fn canonical_len_of<P: LinkPeer>(bytes: &[u8]) -> Result<usize, Canon
         (LengthRefuses (link_attribute ⟦<P as DataFamilies>⟧.families)
         (reading ⟦<P as DataFamilies>⟧.families bytes.now)) }
 {
-    check_of::<P>(bytes)?;
-    match rest_canonical_len::<P>(&mut LinkInfoWalk::new(bytes)) {
+    match rest_measure::<P>(&mut LinkInfoWalk::new(bytes))? {
         Some(len) => Ok(len),
         None => Err(CanonError::Unfit),
     }

@@ -14,13 +14,13 @@ ghost use Rattle.std.specs.Prelude.{
   IsOk,
   Ok,
   Some,
-  SomeIff,
   drop,
   length,
 };
 ghost use Rattle.std.specs.Bool.{OnTrue};
 ghost use Rattle.std.specs.Str.{bytes_eq};
 ghost use Rattle.nla_frame.specs.Answers.{CertainUnless, Gives, OnAnswer, verdict};
+ghost use Rattle.linkinfo_table.specs.Lists.{Measures};
 ghost use Rattle.linkinfo.specs.Items.{
   item_alike,
   item_headers,
@@ -38,9 +38,8 @@ use crate::link_info::LinkInfoOf;
 use crate::role::{CurrentKinds, Role, error, name_in};
 use crate::xstats::LinkXstats;
 use linkinfo_data::{
-    DataFamilies, DataFamily, InfoDataOf, InfoPortData, PayloadFamily, PortFamily,
-    canonical_payload_len, check_payload, family_of, port_family_of, same_payloads,
-    write_canonical_payload,
+    DataFamilies, DataFamily, InfoDataOf, InfoPortData, PayloadFamily, PortFamily, check_payload,
+    family_of, measure_payload, port_family_of, same_payloads, write_canonical_payload,
 };
 use linkinfo_numbers::{
     IFLA_INFO_DATA, IFLA_INFO_KIND, IFLA_INFO_SLAVE_DATA, IFLA_INFO_SLAVE_KIND, IFLA_INFO_XSTATS,
@@ -214,26 +213,30 @@ pub(crate) fn same_item<P: LinkPeer>(
     }
 }
 
-/// The length, in bytes, of the canonical payload of an attribute by its role, or `None` if it is
-/// above 65531. Requires that the attribute is accepted. Does not allocate.
-pub(crate) fn item_canonical_len<P: LinkPeer>(nla: &NlaBuffer<'_>, role: Role) -> Option<usize>
-    requires { IsOk (item_meaning ⟦<P as DataFamilies>⟧.families role nla.now) }
+/// Validates an attribute by its role as `check_item` does, and measures it in the same pass: the
+/// error is that of the attribute, and otherwise the result is the length, in bytes, of its
+/// canonical payload, or `None` if that is above 65531. Requires an attribute that a walk has
+/// returned. Does not allocate.
+pub(crate) fn measure_item<P: LinkPeer>(
+    nla: &NlaBuffer<'_>,
+    role: Role,
+) -> Result<Option<usize>, DecodeError>
+    requires { IsOk (kinds_after_role role no_kinds nla.now) }
     ensures { let canonical = written_attribute ⟦<P as DataFamilies>⟧.families role nla.now in
-        SomeIff result (Fits canonical) (length canonical.value) }
+        Measures (verdict (item_meaning ⟦<P as DataFamilies>⟧.families role nla.now))
+        (Fits canonical) (length canonical.value) result }
 {
     let value = nla.value();
     match role {
-        Role::Kind => shape_canonical_len(Shape::Name, value),
-        Role::Data(tag) => {
-            canonical_payload_len::<InfoDataOf<P>, DataFamily>(family_of(tag), value)
-        }
-        Role::Xstats => fitting(value.len()),
-        Role::PortKind => shape_canonical_len(Shape::Name, value),
+        Role::Kind => Ok(shape_canonical_len(Shape::Name, value)),
+        Role::Data(tag) => measure_payload::<InfoDataOf<P>, DataFamily>(family_of(tag), value),
+        Role::Xstats => Ok(fitting(value.len())),
+        Role::PortKind => Ok(shape_canonical_len(Shape::Name, value)),
         Role::PortData(tag) => {
-            canonical_payload_len::<InfoPortData, PortFamily>(port_family_of(tag), value)
+            measure_payload::<InfoPortData, PortFamily>(port_family_of(tag), value)
         }
-        Role::Misplaced => unreachable!(),
-        Role::Unknown => fitting(value.len()),
+        Role::Misplaced => Err(error(nla, Cause::Order)),
+        Role::Unknown => Ok(fitting(value.len())),
     }
 }
 

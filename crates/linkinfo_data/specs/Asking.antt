@@ -24,6 +24,7 @@ use Rattle.nla_frame.specs.Attribute.{Attribute}
 use Rattle.nla_frame.specs.NlaItems.{nla_items}
 use Rattle.nla_frame.specs.declared.error.DecodeError.{DecodeError}
 use Rattle.linkinfo_table.specs.Lists.{
+  Measures,
   alike_pairs,
   canonical_first,
   canonical_list,
@@ -33,7 +34,7 @@ use Rattle.linkinfo_table.specs.Lists.{
   headers_of,
   values,
 }
-use Rattle.linkinfo_data.specs.Encoding.{HasRoom, IsFitLen, IsWritten}
+use Rattle.linkinfo_data.specs.Encoding.{HasRoom, IsWritten}
 use Rattle.linkinfo_data.specs.Payloads.{Payload}
 
 -- of payloads, what does not depend on the variant: as in `Payload`
@@ -104,12 +105,11 @@ Compared facts p q old new result =
     × (old ≤ new)
     × (4 * new ≤ 4 * old + (length p + length q))
 
--- the length of the canonical payload, if it is one: the payload is accepted
-abbrev pub LenReady : Facts → List ℕ → Type 0
-LenReady facts p = IsOk (facts.verdicts p)
-
-abbrev pub Measured : Facts → List ℕ → Option ℕ → Type 0
-Measured facts p result = IsFitLen (facts.canonical p) result
+-- whether a payload is accepted, and the length of the canonical payload, if it is one
+abbrev pub Measured : Facts → List ℕ → Result (Option ℕ) DecodeError → Type 0
+Measured facts p result =
+    let len = length (facts.canonical p) in
+    Measures (facts.verdicts p) (len ≤ 65531) len result
 
 -- the canonical payload at the front of a buffer: the payload is accepted, the canonical one fits a
 -- payload, and the buffer has room for it

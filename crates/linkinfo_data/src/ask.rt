@@ -7,7 +7,6 @@ ghost use Rattle.linkinfo_data.specs.Asking.{
   Checked,
   Compared,
   Facts,
-  LenReady,
   Measured,
   SameReady,
   WriteReady,
@@ -18,8 +17,8 @@ ghost use Rattle.linkinfo_data.specs.Asking.{
 };
 
 use linkinfo_table::{
-    LinkFamily, first_canonical_len, first_check, first_same, first_write_canonical,
-    list_canonical_len, list_check, list_same, list_write_canonical,
+    LinkFamily, first_check, first_measure, first_same, first_write_canonical, list_check,
+    list_measure, list_same, list_write_canonical,
 };
 use nla_frame::{DecodeError, HeaderCount, fitting, write_bytes};
 
@@ -153,18 +152,18 @@ impl<'a> Ask for Same<'a> {
     }
 }
 
-/// The length, in bytes, of the canonical payload of an accepted payload, or `None` if it is above
-/// 65531.
+/// Whether a payload is accepted, and if not, its error. Of an accepted payload also the length, in
+/// bytes, of its canonical payload, or `None` if that is above 65531.
 #[derive(Clone, Copy)]
-pub struct CanonicalLen<'a> {
+pub struct Measure<'a> {
     /// The payload.
     pub payload: &'a [u8],
 }
 
-impl<'a> Ask for CanonicalLen<'a> {
-    type Answer = Option<usize>;
+impl<'a> Ask for Measure<'a> {
+    type Answer = Result<Option<usize>, DecodeError>;
 
-    ghost ready = { λ facts question _ _. LenReady facts question.payload.now };
+    ghost ready = { λ _ _ _ _. Unit {0} };
 
     ghost answered = { λ facts question _ _ _ _ answer.
         Measured facts question.payload.now answer };
@@ -175,8 +174,8 @@ impl<'a> Ask for CanonicalLen<'a> {
         ctx: F::Context,
         _count: &mut HeaderCount,
         _buffer: &mut [u8],
-    ) -> Option<usize> {
-        list_canonical_len::<F>(self.payload, ctx)
+    ) -> Result<Option<usize>, DecodeError> {
+        list_measure::<F>(self.payload, ctx)
     }
 
     #[inline(always)]
@@ -185,13 +184,17 @@ impl<'a> Ask for CanonicalLen<'a> {
         ctx: F::Context,
         _count: &mut HeaderCount,
         _buffer: &mut [u8],
-    ) -> Option<usize> {
-        first_canonical_len::<F>(self.payload, ctx)
+    ) -> Result<Option<usize>, DecodeError> {
+        first_measure::<F>(self.payload, ctx)
     }
 
     #[inline(always)]
-    fn of_bytes(self, _count: &mut HeaderCount, _buffer: &mut [u8]) -> Option<usize> {
-        fitting(self.payload.len())
+    fn of_bytes(
+        self,
+        _count: &mut HeaderCount,
+        _buffer: &mut [u8],
+    ) -> Result<Option<usize>, DecodeError> {
+        Ok(fitting(self.payload.len()))
     }
 }
 

@@ -12,19 +12,19 @@ ghost use Rattle.std.specs.Prelude.{
   ◌^◌,
   ◌++◌,
   IsOk,
-  SomeIff,
   drop,
   length,
 };
 ghost use Rattle.std.specs.Bool.{OnTrue};
 ghost use Rattle.nla_frame.specs.Answers.{verdict};
+ghost use Rattle.linkinfo_table.specs.Lists.{Measures};
 ghost use Rattle.linkinfo_data.specs.Asking.{facts_of};
 ghost use Rattle.linkinfo_data.specs.Listed.{IsKnown, IsNested};
 ghost use Rattle.linkinfo_data.specs.Listing.{family_in};
 ghost use Rattle.linkinfo_data.specs.Payloads.{Payload};
 ghost use Rattle.linkinfo_data.specs.Reading.{IsRead};
 
-use crate::ask::{Ask, CanonicalLen, Check, Same, WriteCanonical};
+use crate::ask::{Ask, Check, Measure, Same, WriteCanonical};
 use nla_frame::{DecodeError, Family, HeaderCount};
 use std::alloc::Global;
 
@@ -114,17 +114,17 @@ pub fn same_payloads<D: Drop, F: PayloadFamily<D>>(
     family.ask(Same { a, b }, count, &mut [])
 }
 
-/// The length, in bytes, of the canonical payload of the data that a payload parses as, or
-/// `None` if it is above 65531. Requires that the payload is accepted. Does not allocate.
-pub fn canonical_payload_len<D: Drop, F: PayloadFamily<D>>(
+/// Validates a payload as `check_payload` does, and measures it in the same pass: the error is that
+/// of the payload, and otherwise the result is the length, in bytes, of the canonical payload of the
+/// data that it parses as, or `None` if that is above 65531. Does not allocate.
+pub fn measure_payload<D: Drop, F: PayloadFamily<D>>(
     family: F,
     payload: &[u8],
-) -> Option<usize>
-    requires { IsOk ((F.data_of family).means payload.now) }
+) -> Result<Option<usize>, DecodeError>
     ensures { let len = length ((F.data_of family).canonical payload.now) in
-        SomeIff result (len ≤ 65531) len }
+        Measures (verdict ((F.data_of family).means payload.now)) (len ≤ 65531) len result }
 {
-    family.ask(CanonicalLen { payload }, &mut HeaderCount::new(), &mut [])
+    family.ask(Measure { payload }, &mut HeaderCount::new(), &mut [])
 }
 
 /// Writes the canonical payload of the data that a payload parses as to the front of the

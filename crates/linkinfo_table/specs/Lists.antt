@@ -7,6 +7,8 @@ use Rattle.std.specs.Prelude.{
   ◌≢◌,
   ℕ,
   ◌+◌,
+  ◌<◌,
+  ◌^◌,
   Bool,
   true,
   false,
@@ -17,11 +19,15 @@ use Rattle.std.specs.Prelude.{
   [],
   ◌∷◌,
   ◌++◌,
+  Option,
+  None,
+  Some,
+  SomeIff,
   Result,
   Ok,
   Err,
 }
-use Rattle.nla_frame.specs.Attribute.{Attribute, canonical_string, list_string}
+use Rattle.nla_frame.specs.Attribute.{Attribute, aligned, canonical_string, list_string}
 use Rattle.nla_frame.specs.Canonical.{attribute_for, attributes_for}
 use Rattle.nla_frame.specs.Error.{header_error, memory_error}
 use Rattle.nla_frame.specs.declared.error.DecodeError.{DecodeError}
@@ -153,3 +159,21 @@ first_memory needs ((Ok a) ∷ more) = needs a
 abbrev pub canonical_first : {X : Type 0} → (X → Attribute) → (Attribute → Result X DecodeError) →
     List (Result Attribute ℕ) → List ℕ
 canonical_first attribute m ps = canonical_string (attribute_for attribute (first_meaning m ps))
+
+-- ---- validated and measured at once
+
+-- The result is the error of what is rejected. Of what is accepted it is the length of the
+-- canonical encoding, or `None` if that does not fit.
+abbrev pub Measures : Result (Unit {0}) DecodeError → Type 0 → ℕ → Result (Option ℕ) DecodeError →
+    Type 0
+Measures verdict fits len (Ok measured) = (verdict ≡ Ok tt) × SomeIff measured fits len
+Measures verdict fits len (Err error) = verdict ≡ Err error
+
+-- a total with the encoding of an attribute added, whose payload has so many bytes: `None` if
+-- either is, and if a `usize` cannot count the sum
+abbrev pub IsTotalWith : Option ℕ → Option ℕ → Option ℕ → Type 0
+IsTotalWith None len result = result ≡ None
+IsTotalWith (Some total) None result = result ≡ None
+IsTotalWith (Some total) (Some len) result =
+    let sum = total + (4 + aligned len) in
+    SomeIff result (sum < 2 ^ 64) sum

@@ -12,7 +12,6 @@ ghost use Rattle.std.specs.Prelude.{
   ◌++◌,
   IsOk,
   IsTrue,
-  SomeIff,
   drop,
   length,
 };
@@ -21,6 +20,7 @@ ghost use Rattle.nla_frame.specs.Answers.{CertainUnless, Gives, OnAnswer, verdic
 ghost use Rattle.nla_frame.specs.Error.{header_error};
 ghost use Rattle.nla_frame.specs.NlaItems.{nla_items};
 ghost use Rattle.linkinfo_table.specs.Lists.{
+  Measures,
   canonical_first,
   first_alike,
   first_headers,
@@ -112,19 +112,30 @@ pub fn first_same<F: LinkFamily>(
     F::same_value(&p, &q, ctx, count)
 }
 
-/// Returns the length of the canonical encoding of the value that the first attribute means. It is
-/// `None` above 65531, the maximum length of a payload. Requires that there is an accepted first
-/// attribute. Does not allocate.
-pub fn first_canonical_len<F: LinkFamily>(bytes: &[u8], ctx: F::Context) -> Option<usize>
-    requires { IsOk (first_meaning (F.meaning ctx) (nla_items bytes.now)) }
+/// Validates the first attribute as `first_check` does, and measures it in the same pass: the error
+/// is that of `first_check`, and otherwise the result is the length of the canonical encoding of its
+/// value. The length is `None` above 65531, the maximum length of a payload. Does not allocate.
+pub fn first_measure<F: LinkFamily>(
+    bytes: &[u8],
+    ctx: F::Context,
+) -> Result<Option<usize>, DecodeError>
     ensures { let len =
         length (canonical_first F.attribute (F.meaning ctx) (nla_items bytes.now)) in
-        SomeIff result (len ≤ 65531) len }
+        Measures (verdict (first_meaning (F.meaning ctx) (nla_items bytes.now))) (len ≤ 65531) len
+        result }
 {
-    let (nla, _) = next_attribute(bytes, &mut HeaderCount::new())
-        .unwrap()
-        .unwrap();
-    fitting(4 + F::canonical_len(&nla, ctx)?.next_multiple_of(4))
+    let mut count = HeaderCount::new();
+    match next_attribute(bytes, &mut count) {
+        Some(Ok((nla, _))) => {
+            F::check_value(&nla, ctx, &mut count)?;
+            match F::canonical_len(&nla, ctx) {
+                Some(len) => Ok(fitting(4 + len.next_multiple_of(4))),
+                None => Ok(None),
+            }
+        }
+        Some(Err(error)) => Err(error),
+        None => Err(no_attribute()),
+    }
 }
 
 /// Writes the canonical encoding of the value that the first attribute means at the front of the

@@ -26,13 +26,13 @@ pub use canonical::{row_canonical_len, row_write_canonical};
 pub use decoded::Decoded;
 pub use encodable::Encodable;
 pub use family::LinkFamily;
-pub use first::{first_canonical_len, first_check, first_read, first_same, first_write_canonical};
+pub use first::{first_check, first_measure, first_read, first_same, first_write_canonical};
 pub use last::{INDEXED, LastOfType, PlacedNla, own_bytes, types_end};
 pub use linkinfo_shapes::{
     Datum, Shape, datum_len, read_datum, shape_canonical_len, shape_check, shape_same,
     shape_write_attribute, shape_write_canonical, table_shape, write_datum,
 };
-pub use list::{list_canonical_len, list_check, list_read, list_same, list_write_canonical};
+pub use list::{list_check, list_measure, list_read, list_same, list_write_canonical, total_with};
 pub use listed::ListedFamily;
 pub use lookup::Lookup;
 pub use opaque::Opaque;

@@ -11,9 +11,9 @@ ghost use Rattle.std.specs.Prelude.{
   ◌^◌,
   ◌++◌,
   [],
+  IfSome,
   IsOk,
   IsTrue,
-  SomeIff,
   drop,
   length,
 };
@@ -21,6 +21,8 @@ ghost use Rattle.std.specs.Bool.{OnTrue};
 ghost use Rattle.nla_frame.specs.Answers.{CertainUnless, Gives, OnAnswer, verdict};
 ghost use Rattle.nla_frame.specs.NlaItems.{nla_items};
 ghost use Rattle.linkinfo_table.specs.Lists.{
+  IsTotalWith,
+  Measures,
   alike_pairs,
   canonical_list,
   headers_of,
@@ -150,25 +152,43 @@ fn pairs_same<F: LinkFamily>(a: &[u8], b: &[u8], ctx: F::Context, count: &mut He
     next_attribute(y, count).is_none()
 }
 
-/// Returns the length of the canonical encoding of the list that a byte string means. It is `None`
-/// above 65531, the maximum length of a payload.
+/// Validates a list as `list_check` does, and measures it in the same pass: the error is that of the
+/// list, and otherwise the result is the length of its canonical encoding.
 ///
-/// Each attribute is measured once. Requires that the list is accepted. Does not allocate.
-pub fn list_canonical_len<F: LinkFamily>(bytes: &[u8], ctx: F::Context) -> Option<usize>
-    requires { IsOk (values (F.meaning ctx) (nla_items bytes.now)) }
+/// The length is `None` above 65531, the maximum length of a payload. An attribute that does not
+/// fit does not end the pass, since a later one may be rejected. Does not allocate.
+#[tactic(auto, using(crate::proofs::Measuring::beyond_payload))]
+pub fn list_measure<F: LinkFamily>(
+    bytes: &[u8],
+    ctx: F::Context,
+) -> Result<Option<usize>, DecodeError>
     ensures { let len = length (canonical_list F.attribute (F.meaning ctx) (nla_items bytes.now)) in
-        SomeIff result (len ≤ 65531) len }
+        Measures (verdict (values (F.meaning ctx) (nla_items bytes.now))) (len ≤ 65531) len result }
 {
     let mut count = HeaderCount::new();
     let mut rest = bytes;
-    let mut total: usize = 0;
+    let mut total = Some(0);
     while let Some(next) = next_attribute(rest, &mut count) {
-        let (nla, after) = next.unwrap();
-        let len = F::canonical_len(&nla, ctx)?;
-        total = fitting(total + 4 + len.next_multiple_of(4))?;
+        let (nla, after) = next?;
+        F::check_value(&nla, ctx, &mut count)?;
+        total = total_with(total, F::canonical_len(&nla, ctx));
         rest = after;
     }
-    Some(total)
+    match total {
+        Some(len) => Ok(fitting(len)),
+        None => Ok(None),
+    }
+}
+
+/// Adds the encoding of an attribute to a total of lengths: its header, its payload of `len` bytes,
+/// and the padding. The result is `None` if `total` or `len` is, and if a `usize` cannot count the
+/// sum. Requires that the payload fits.
+#[inline(always)]
+pub fn total_with(total: Option<usize>, len: Option<usize>) -> Option<usize>
+    requires { IfSome len (λ n. n ≤ 65531) }
+    ensures { IsTotalWith total len result }
+{
+    total?.checked_add(4 + len?.next_multiple_of(4))
 }
 
 /// Writes the canonical encoding of the list that a byte string means at the front of the buffer,

@@ -5,8 +5,8 @@ ghost use Rattle.nla_frame.specs.NlaItems.{nla_items};
 ghost use Rattle.linkinfo_table.specs.Lists.{first_meaning, values};
 
 use linkinfo_table::{
-    LinkFamily, Lookup, Shape, first_canonical_len, first_check, first_read, first_same,
-    first_write_canonical, laws, list_canonical_len, list_check, list_read, list_same,
+    LinkFamily, Lookup, Shape, first_check, first_measure, first_read, first_same,
+    first_write_canonical, laws, list_check, list_measure, list_read, list_same,
     list_write_canonical,
 };
 use nla_frame::{
@@ -601,7 +601,9 @@ pub(super) fn list_is_written_as<F: LinkFamily>(
     canonical: &[u8],
 ) {
     is_accepted::<F>(rt, ctx, bytes);
-    let len = list_canonical_len::<F>(bytes, ctx).expect(rt, "a list that fits");
+    let len = list_measure::<F>(bytes, ctx)
+        .expect(rt, "an accepted list")
+        .expect(rt, "a list that fits");
     assert!(rt; len <= 24);
     let mut buffer = [255; 27];
     assert_is(
@@ -662,7 +664,9 @@ pub(super) fn first_is_written_as<F: LinkFamily>(
     canonical: &[u8],
 ) {
     first_is_accepted::<F>(rt, ctx, bytes);
-    let len = first_canonical_len::<F>(bytes, ctx).expect(rt, "an attribute that fits");
+    let len = first_measure::<F>(bytes, ctx)
+        .expect(rt, "an accepted attribute")
+        .expect(rt, "an attribute that fits");
     assert!(rt; len <= 24);
     let mut buffer = [255; 27];
     assert_is(
