@@ -96,10 +96,10 @@ impl ExactEq for CanonIntoError {
     ) };
 }
 
-/// Validates the attributes that a walk has not visited, and measures them in the same pass: the
-/// error is that of the list, and otherwise the result is the length, in bytes, of their canonical
-/// encoding, or `None` if they do not fit. An attribute that does not fit does not end the pass,
-/// since a later one may be rejected.
+/// Validates the attributes that a walk has not visited, and measures them in the same pass. The
+/// error is that of the first attribute that is rejected. Of accepted attributes the result is the
+/// length, in bytes, of their canonical encoding, or `None` if they do not fit. An attribute that
+/// does not fit does not end the pass, since a later one may be rejected.
 fn rest_measure<P: LinkPeer>(walk: &mut LinkInfoWalk<'_>) -> Result<Option<usize>, DecodeError>
     ensures { let values = values_left ⟦<P as DataFamilies>⟧.families walk.old in
         let attributes = attributes_for (link_attribute ⟦<P as DataFamilies>⟧.families) values in

@@ -213,9 +213,9 @@ pub(crate) fn same_item<P: LinkPeer>(
     }
 }
 
-/// Validates an attribute by its role as `check_item` does, and measures it in the same pass: the
-/// error is that of the attribute, and otherwise the result is the length, in bytes, of its
-/// canonical payload, or `None` if that is above 65531. Requires an attribute that a walk has
+/// Validates an attribute by its role as `check_item` does, and measures it in the same pass. The
+/// error is that of the attribute. Of an accepted attribute the result is the length, in bytes, of
+/// its canonical payload, or `None` if that is above 65531. Requires an attribute that a walk has
 /// returned. Does not allocate.
 pub(crate) fn measure_item<P: LinkPeer>(
     nla: &NlaBuffer<'_>,

@@ -114,9 +114,9 @@ pub fn same_payloads<D: Drop, F: PayloadFamily<D>>(
     family.ask(Same { a, b }, count, &mut [])
 }
 
-/// Validates a payload as `check_payload` does, and measures it in the same pass: the error is that
-/// of the payload, and otherwise the result is the length, in bytes, of the canonical payload of the
-/// data that it parses as, or `None` if that is above 65531. Does not allocate.
+/// Validates a payload as `check_payload` does, and measures it in the same pass. The error is that
+/// of the payload. Of an accepted payload the result is the length, in bytes, of the canonical
+/// payload of the data that it parses as, or `None` if that is above 65531. Does not allocate.
 pub fn measure_payload<D: Drop, F: PayloadFamily<D>>(
     family: F,
     payload: &[u8],

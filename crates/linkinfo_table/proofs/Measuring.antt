@@ -1,5 +1,26 @@
 -- What the length of a list's canonical encoding is, in the middle of measuring it.
-use Rattle.std.proofs.Common.{◌≡◌, ℕ, ◌+◌, ◌<◌, ◌≤◌, ◌^◌, List, [], ◌∷◌, length, refl, sym, subst, arith, Option, Some, None, Result, Ok, Err}
+use Rattle.std.proofs.Common.{
+  ◌≡◌,
+  ℕ,
+  ◌+◌,
+  ◌<◌,
+  ◌≤◌,
+  ◌^◌,
+  List,
+  [],
+  ◌∷◌,
+  length,
+  refl,
+  sym,
+  subst,
+  arith,
+  Option,
+  Some,
+  None,
+  Result,
+  Ok,
+  Err,
+}
 use Rattle.std.specs.Prelude.{IsOk, SomeIff}
 use Rattle.std.specs.List.{AllByRecursion}
 use Rattle.nla_frame.specs.Answers.{verdict}
@@ -72,7 +93,7 @@ module _ {X : Type 0} (attribute : X → Attribute) where
           (length (attribute_for attribute m).value) →
           IsOk more → Remains next (attributes_for attribute more) whole
       go (Ok x) (Ok xs) h accepted size ok =
-          remains_after total len next (attribute x) (attributes_for {E = DecodeError} attribute (Ok xs)) whole
-          (h refl) size sum
+          remains_after total len next (attribute x)
+          (attributes_for {E = DecodeError} attribute (Ok xs)) whole (h refl) size sum
       go (Ok x) (Err d) h accepted size ok = absurd cc
       go (Err d) more h accepted size ok = absurd cc

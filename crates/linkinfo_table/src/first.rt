@@ -112,9 +112,10 @@ pub fn first_same<F: LinkFamily>(
     F::same_value(&p, &q, ctx, count)
 }
 
-/// Validates the first attribute as `first_check` does, and measures it in the same pass: the error
-/// is that of `first_check`, and otherwise the result is the length of the canonical encoding of its
-/// value. The length is `None` above 65531, the maximum length of a payload. Does not allocate.
+/// Validates the first attribute as `first_check` does, and measures it in the same pass. The error
+/// is that of `first_check`. Of an accepted attribute the result is the length of the canonical
+/// encoding of its value, or `None` above 65531, the maximum length of a payload. Does not
+/// allocate.
 pub fn first_measure<F: LinkFamily>(
     bytes: &[u8],
     ctx: F::Context,

@@ -152,11 +152,12 @@ fn pairs_same<F: LinkFamily>(a: &[u8], b: &[u8], ctx: F::Context, count: &mut He
     next_attribute(y, count).is_none()
 }
 
-/// Validates a list as `list_check` does, and measures it in the same pass: the error is that of the
-/// list, and otherwise the result is the length of its canonical encoding.
+/// Validates a list as `list_check` does, and measures it in the same pass. The error is that of
+/// the list. Of an accepted list the result is the length of its canonical encoding, or `None`
+/// above 65531, the maximum length of a payload.
 ///
-/// The length is `None` above 65531, the maximum length of a payload. An attribute that does not
-/// fit does not end the pass, since a later one may be rejected. Does not allocate.
+/// An attribute that does not fit does not end the pass, since a later one may be rejected. Does
+/// not allocate.
 #[tactic(auto, using(crate::proofs::Measuring::beyond_payload))]
 pub fn list_measure<F: LinkFamily>(
     bytes: &[u8],

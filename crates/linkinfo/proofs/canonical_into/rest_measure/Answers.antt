@@ -47,5 +47,5 @@ loop-next-smaller g c =
 pub returns : goal.returns
 returns g c =
     let inv = c.loop-next.invariant in
-    measured_end (families_of g.row.P g.P.LinkPeer) c.loop-next.walk _ _ c.in_default.ensures.step.1 inv.answer
-    inv.so_far
+    measured_end (families_of g.row.P g.P.LinkPeer) c.loop-next.walk _ _
+    c.in_default.ensures.step.1 inv.answer inv.so_far
