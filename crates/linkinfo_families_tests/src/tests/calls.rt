@@ -116,7 +116,10 @@ fn same_by_row<F: FlatFamily>(
     let a = accepted::<F>(rt, ctx, a);
     let b = accepted::<F>(rt, ctx, b);
     let mut count = HeaderCount::new();
-    [row_same::<F>(&a, &b, ctx), F::same_value(&a, &b, ctx, &mut count)]
+    [
+        row_same::<F>(&a, &b, ctx),
+        F::same_value(&a, &b, ctx, &mut count),
+    ]
 }
 
 #[test]

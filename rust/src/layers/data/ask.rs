@@ -3,8 +3,8 @@
 
 use crate::layers::nla_frame::{DecodeError, HeaderCount, fitting, write_bytes};
 use crate::layers::table::{
-    LinkFamily, first_canonical_len, first_check, first_same, first_write_canonical,
-    list_canonical_len, list_check, list_same, list_write_canonical,
+    LinkFamily, first_check, first_measure, first_same, first_write_canonical, list_check,
+    list_measure, list_same, list_write_canonical,
 };
 
 /// A call on payloads: lists of attributes, first attributes, or bytes. The family selects which
@@ -125,16 +125,16 @@ impl<'a> Ask for Same<'a> {
     }
 }
 
-/// The length, in bytes, of the canonical payload of an accepted payload, or `None` if it is above
-/// 65531.
+/// Whether a payload is accepted, and if not, its error. Of an accepted payload also the length, in
+/// bytes, of its canonical payload, or `None` if that is above 65531.
 #[derive(Clone, Copy)]
-pub struct CanonicalLen<'a> {
+pub struct Measure<'a> {
     /// The payload.
     pub payload: &'a [u8],
 }
 
-impl<'a> Ask for CanonicalLen<'a> {
-    type Answer = Option<usize>;
+impl<'a> Ask for Measure<'a> {
+    type Answer = Result<Option<usize>, DecodeError>;
 
     #[inline(always)]
     fn of_list<F: LinkFamily>(
@@ -142,8 +142,8 @@ impl<'a> Ask for CanonicalLen<'a> {
         ctx: F::Context,
         _count: &mut HeaderCount,
         _buffer: &mut [u8],
-    ) -> Option<usize> {
-        list_canonical_len::<F>(self.payload, ctx)
+    ) -> Result<Option<usize>, DecodeError> {
+        list_measure::<F>(self.payload, ctx)
     }
 
     #[inline(always)]
@@ -152,13 +152,17 @@ impl<'a> Ask for CanonicalLen<'a> {
         ctx: F::Context,
         _count: &mut HeaderCount,
         _buffer: &mut [u8],
-    ) -> Option<usize> {
-        first_canonical_len::<F>(self.payload, ctx)
+    ) -> Result<Option<usize>, DecodeError> {
+        first_measure::<F>(self.payload, ctx)
     }
 
     #[inline(always)]
-    fn of_bytes(self, _count: &mut HeaderCount, _buffer: &mut [u8]) -> Option<usize> {
-        fitting(self.payload.len())
+    fn of_bytes(
+        self,
+        _count: &mut HeaderCount,
+        _buffer: &mut [u8],
+    ) -> Result<Option<usize>, DecodeError> {
+        Ok(fitting(self.payload.len()))
     }
 }
 

@@ -17,7 +17,7 @@ mod reading;
 mod tunnels;
 mod unmet;
 
-pub use ask::{Ask, CanonicalLen, Check, Same, WriteCanonical};
+pub use ask::{Ask, Check, Measure, Same, WriteCanonical};
 pub use data::{DataFamily, family_of};
 pub use devices::DeviceFamily;
 pub use difference::{Difference, list_difference, list_error};
@@ -25,7 +25,7 @@ pub use families::{DataFamilies, Plain, PlainFamilies};
 pub use info_data::{InfoData, InfoDataOf};
 pub use lower::LowerFamily;
 pub use payload_family::{
-    PayloadFamily, canonical_payload_len, check_payload, same_payloads, write_canonical_payload,
+    PayloadFamily, check_payload, measure_payload, same_payloads, write_canonical_payload,
 };
 pub use peers::PeeredFamily;
 pub use port_data::{InfoPortData, PortFamily, port_family_of};

@@ -1,6 +1,6 @@
 //! Payloads that are parsed, validated, compared and written by a family chosen among several.
 
-use crate::layers::data::ask::{Ask, CanonicalLen, Check, Same, WriteCanonical};
+use crate::layers::data::ask::{Ask, Check, Measure, Same, WriteCanonical};
 use crate::layers::nla_frame::{DecodeError, Family, HeaderCount};
 
 /// A choice of a family: payloads are parsed, validated, compared and written as data of the family
@@ -72,15 +72,14 @@ pub fn same_payloads<D, F: PayloadFamily<D>>(
     family.ask(Same { a, b }, count, &mut [])
 }
 
-/// The length, in bytes, of the canonical payload of the data that a payload parses as, or `None`
-/// if it is above 65531. Requires that the payload is accepted. Does not allocate.
-///
-/// # Panics
-///
-/// May panic where a condition of the caller that is named here does not hold. Where it does
-/// not panic then, the result has no meaning.
-pub fn canonical_payload_len<D, F: PayloadFamily<D>>(family: F, payload: &[u8]) -> Option<usize> {
-    family.ask(CanonicalLen { payload }, &mut HeaderCount::new(), &mut [])
+/// Validates a payload as `check_payload` does, and measures it in the same pass. The error is that
+/// of the payload. Of an accepted payload the result is the length, in bytes, of the canonical
+/// payload of the data that it parses as, or `None` if that is above 65531. Does not allocate.
+pub fn measure_payload<D, F: PayloadFamily<D>>(
+    family: F,
+    payload: &[u8],
+) -> Result<Option<usize>, DecodeError> {
+    family.ask(Measure { payload }, &mut HeaderCount::new(), &mut [])
 }
 
 /// Writes the canonical payload of the data that a payload parses as to the front of the buffer,

@@ -42,7 +42,7 @@ impl RowFamily for InfoIpoib {
 
     #[inline(always)]
     fn shape(_ctx: (), kind: u16) -> Lookup {
-        table_lookup(Family::Ipoib, kind)
+        table_lookup(Self::FAMILY, kind)
     }
 
     #[inline(always)]

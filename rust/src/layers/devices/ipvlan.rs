@@ -54,7 +54,7 @@ impl<const TAP: bool> RowFamily for InfoIpVlanOf<TAP> {
 
     #[inline(always)]
     fn shape(_ctx: (), kind: u16) -> Lookup {
-        table_lookup(family_of(TAP), kind)
+        table_lookup(Self::FAMILY, kind)
     }
 
     #[inline(always)]

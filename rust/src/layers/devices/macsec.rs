@@ -75,7 +75,7 @@ impl RowFamily for InfoMacSec {
 
     #[inline(always)]
     fn shape(_ctx: (), kind: u16) -> Lookup {
-        table_lookup(Family::MacSec, kind)
+        table_lookup(Self::FAMILY, kind)
     }
 
     #[inline(always)]

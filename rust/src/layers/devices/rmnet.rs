@@ -40,7 +40,7 @@ impl RowFamily for InfoRmNet {
 
     #[inline(always)]
     fn shape(_ctx: (), kind: u16) -> Lookup {
-        table_lookup(Family::RmNet, kind)
+        table_lookup(Self::FAMILY, kind)
     }
 
     #[inline(always)]

@@ -37,7 +37,7 @@ impl RowFamily for InfoVrf {
 
     #[inline(always)]
     fn shape(_ctx: (), kind: u16) -> Lookup {
-        table_lookup(Family::Vrf, kind)
+        table_lookup(Self::FAMILY, kind)
     }
 
     #[inline(always)]

@@ -36,7 +36,7 @@ impl RowFamily for InfoXfrm {
 
     #[inline(always)]
     fn shape(_ctx: (), kind: u16) -> Lookup {
-        table_lookup(Family::Xfrm, kind)
+        table_lookup(Self::FAMILY, kind)
     }
 
     #[inline(always)]

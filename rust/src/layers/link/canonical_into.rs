@@ -1,13 +1,11 @@
 //! The canonical encoding of a list, from another encoding of it, in a buffer of the caller and
 //! without allocating.
 
-use crate::compat::NextMultiple;
 use crate::layers::link::canonical::CanonError;
-use crate::layers::link::item::{item_canonical_len, write_item};
-use crate::layers::link::list::check_of;
+use crate::layers::link::item::{measure_item, write_item};
 use crate::layers::link::walk::LinkInfoWalk;
 use crate::layers::nla_frame::{Bytes, DecodeError, ExactEq};
-use crate::layers::table::LinkPeer;
+use crate::layers::table::{LinkPeer, total_with};
 use core::error::Error;
 use core::fmt;
 
@@ -48,16 +46,18 @@ impl From<CanonError> for CanonIntoError {
 
 impl ExactEq for CanonIntoError {}
 
-/// The length, in bytes, of the canonical encoding of the attributes that a walk has not visited,
-/// or `None` if they do not fit. Each attribute is measured once.
-fn rest_canonical_len<P: LinkPeer>(walk: &mut LinkInfoWalk<'_>) -> Option<usize> {
-    let mut total: usize = 0;
+/// Validates the attributes that a walk has not visited, and measures them in the same pass. The
+/// error is that of the first attribute that is rejected. Of accepted attributes the result is the
+/// length, in bytes, of their canonical encoding, or `None` if they do not fit. An attribute that
+/// does not fit does not end the pass, since a later one may be rejected.
+fn rest_measure<P: LinkPeer>(walk: &mut LinkInfoWalk<'_>) -> Result<Option<usize>, DecodeError> {
+    let mut total = Some(0);
     while let Some(next) = walk.advance() {
-        let (nla, role) = next.unwrap();
-        let len = item_canonical_len::<P>(&nla, role)?;
-        total = total.checked_add(4 + len.next_multiple_of_four())?;
+        let (nla, role) = next?;
+        let len = measure_item::<P>(&nla, role)?;
+        total = total_with(total, len);
     }
-    Some(total)
+    Ok(total)
 }
 
 /// Writes the canonical encoding of the attributes that a walk has not visited to the front of the
@@ -71,10 +71,9 @@ fn write_rest<P: LinkPeer>(walk: &mut LinkInfoWalk<'_>, buffer: &mut [u8]) {
 }
 
 /// The length, in bytes, of the canonical encoding of the list that `bytes` encodes, or why there
-/// is none.
+/// is none. Each header is examined once.
 pub(crate) fn canonical_len_of<P: LinkPeer>(bytes: &[u8]) -> Result<usize, CanonError> {
-    check_of::<P>(bytes)?;
-    match rest_canonical_len::<P>(&mut LinkInfoWalk::new(bytes)) {
+    match rest_measure::<P>(&mut LinkInfoWalk::new(bytes))? {
         Some(len) => Ok(len),
         None => Err(CanonError::Unfit),
     }

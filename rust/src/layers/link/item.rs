@@ -2,8 +2,8 @@
 
 use crate::compat::NextMultiple;
 use crate::layers::data::{
-    DataFamily, InfoDataOf, InfoPortData, PayloadFamily, PortFamily, canonical_payload_len,
-    check_payload, family_of, port_family_of, same_payloads, write_canonical_payload,
+    DataFamily, InfoDataOf, InfoPortData, PayloadFamily, PortFamily, check_payload, family_of,
+    measure_payload, port_family_of, same_payloads, write_canonical_payload,
 };
 use crate::layers::link::link_info::LinkInfoOf;
 use crate::layers::link::role::{CurrentKinds, Role, error, name_in};
@@ -127,22 +127,25 @@ pub(crate) fn same_item<P: LinkPeer>(
     }
 }
 
-/// The length, in bytes, of the canonical payload of an attribute by its role, or `None` if it is
-/// above 65531. Requires that the attribute is accepted. Does not allocate.
-pub(crate) fn item_canonical_len<P: LinkPeer>(nla: &NlaBuffer<'_>, role: Role) -> Option<usize> {
+/// Validates an attribute by its role as `check_item` does, and measures it in the same pass. The
+/// error is that of the attribute. Of an accepted attribute the result is the length, in bytes, of
+/// its canonical payload, or `None` if that is above 65531. Requires an attribute that a walk has
+/// returned. Does not allocate.
+pub(crate) fn measure_item<P: LinkPeer>(
+    nla: &NlaBuffer<'_>,
+    role: Role,
+) -> Result<Option<usize>, DecodeError> {
     let value = nla.value();
     match role {
-        Role::Kind => shape_canonical_len(Shape::Name, value),
-        Role::Data(tag) => {
-            canonical_payload_len::<InfoDataOf<P>, DataFamily>(family_of(tag), value)
-        }
-        Role::Xstats => fitting(value.len()),
-        Role::PortKind => shape_canonical_len(Shape::Name, value),
+        Role::Kind => Ok(shape_canonical_len(Shape::Name, value)),
+        Role::Data(tag) => measure_payload::<InfoDataOf<P>, DataFamily>(family_of(tag), value),
+        Role::Xstats => Ok(fitting(value.len())),
+        Role::PortKind => Ok(shape_canonical_len(Shape::Name, value)),
         Role::PortData(tag) => {
-            canonical_payload_len::<InfoPortData, PortFamily>(port_family_of(tag), value)
+            measure_payload::<InfoPortData, PortFamily>(port_family_of(tag), value)
         }
-        Role::Misplaced => unreachable!(),
-        Role::Unknown => fitting(value.len()),
+        Role::Misplaced => Err(error(nla, Cause::Order)),
+        Role::Unknown => Ok(fitting(value.len())),
     }
 }
 

@@ -74,8 +74,8 @@ pub use bitflags::Flags;
 // of an error.
 pub use crate::layers::data::{
     DataFamily, DeviceFamily, Difference, LowerFamily, PayloadFamily, PeeredFamily, PortFamily,
-    TunnelFamily, Unmet, canonical_payload_len, check_payload, family_of, list_difference,
-    list_error, list_unmet, port_family_of, same_payloads, write_canonical_payload,
+    TunnelFamily, Unmet, check_payload, family_of, list_difference, list_error, list_unmet,
+    measure_payload, port_family_of, same_payloads, write_canonical_payload,
 };
 
 // Iteration over attributes: one attribute in a slice, an iterator, the last attribute of each

@@ -33,7 +33,7 @@ impl RowFamily for InfoBatAdv {
 
     #[inline(always)]
     fn shape(_ctx: (), kind: u16) -> Lookup {
-        table_lookup(Family::BatAdv, kind)
+        table_lookup(Self::FAMILY, kind)
     }
 
     #[inline(always)]

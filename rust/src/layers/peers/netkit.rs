@@ -148,7 +148,7 @@ impl<'a, P: LinkPeer> Parseable<NlaBuffer<'a>> for InfoNetkitOf<P> {
 impl<P: LinkPeer> LinkFamily for InfoNetkitOf<P> {
     type Context = ();
 
-    const FAMILY: Family = Family::Netkit;
+    const FAMILY: Family = <InfoNetkitOf<P> as RowFamily>::FAMILY;
 
     #[inline(always)]
     fn shape(ctx: (), kind: u16) -> Lookup {

@@ -109,7 +109,7 @@ impl<'a, P: LinkPeer> Parseable<NlaBuffer<'a>> for InfoVethOf<P> {
 impl<P: LinkPeer> LinkFamily for InfoVethOf<P> {
     type Context = ();
 
-    const FAMILY: Family = Family::Veth;
+    const FAMILY: Family = <InfoVethOf<P> as RowFamily>::FAMILY;
 
     #[inline(always)]
     fn shape(ctx: (), kind: u16) -> Lookup {

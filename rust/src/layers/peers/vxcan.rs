@@ -109,7 +109,7 @@ impl<'a, P: LinkPeer> Parseable<NlaBuffer<'a>> for InfoVxcanOf<P> {
 impl<P: LinkPeer> LinkFamily for InfoVxcanOf<P> {
     type Context = ();
 
-    const FAMILY: Family = Family::Vxcan;
+    const FAMILY: Family = <InfoVxcanOf<P> as RowFamily>::FAMILY;
 
     #[inline(always)]
     fn shape(ctx: (), kind: u16) -> Lookup {

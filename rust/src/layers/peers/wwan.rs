@@ -33,7 +33,7 @@ impl RowFamily for InfoWwan {
 
     #[inline(always)]
     fn shape(_ctx: (), kind: u16) -> Lookup {
-        table_lookup(Family::Wwan, kind)
+        table_lookup(Self::FAMILY, kind)
     }
 
     #[inline(always)]

@@ -67,19 +67,26 @@ pub fn first_same<F: LinkFamily>(
     F::same_value(&p, &q, ctx, count)
 }
 
-/// Returns the length of the canonical encoding of the value that the first attribute means. It is
-/// `None` above 65531, the maximum length of a payload. Requires that there is an accepted first
-/// attribute. Does not allocate.
-///
-/// # Panics
-///
-/// May panic where a condition of the caller that is named here does not hold. Where it does
-/// not panic then, the result has no meaning.
-pub fn first_canonical_len<F: LinkFamily>(bytes: &[u8], ctx: F::Context) -> Option<usize> {
-    let (nla, _) = next_attribute(bytes, &mut HeaderCount::new())
-        .unwrap()
-        .unwrap();
-    fitting(4 + F::canonical_len(&nla, ctx)?.next_multiple_of_four())
+/// Validates the first attribute as `first_check` does, and measures it in the same pass. The error
+/// is that of `first_check`. Of an accepted attribute the result is the length of the canonical
+/// encoding of its value, or `None` above 65531, the maximum length of a payload. Does not
+/// allocate.
+pub fn first_measure<F: LinkFamily>(
+    bytes: &[u8],
+    ctx: F::Context,
+) -> Result<Option<usize>, DecodeError> {
+    let mut count = HeaderCount::new();
+    match next_attribute(bytes, &mut count) {
+        Some(Ok((nla, _))) => {
+            F::check_value(&nla, ctx, &mut count)?;
+            match F::canonical_len(&nla, ctx) {
+                Some(len) => Ok(fitting(4 + len.next_multiple_of_four())),
+                None => Ok(None),
+            }
+        }
+        Some(Err(error)) => Err(error),
+        None => Err(no_attribute()),
+    }
 }
 
 /// Writes the canonical encoding of the value that the first attribute means at the front of the

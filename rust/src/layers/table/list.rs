@@ -99,26 +99,42 @@ fn pairs_same<F: LinkFamily>(a: &[u8], b: &[u8], ctx: F::Context, count: &mut He
     next_attribute(y, count).is_none()
 }
 
-/// Returns the length of the canonical encoding of the list that a byte string means. It is `None`
+/// Validates a list as `list_check` does, and measures it in the same pass. The error is that of
+/// the list. Of an accepted list the result is the length of its canonical encoding, or `None`
 /// above 65531, the maximum length of a payload.
 ///
-/// Each attribute is measured once. Requires that the list is accepted. Does not allocate.
+/// An attribute that does not fit does not end the pass, since a later one may be rejected. Does
+/// not allocate.
+pub fn list_measure<F: LinkFamily>(
+    bytes: &[u8],
+    ctx: F::Context,
+) -> Result<Option<usize>, DecodeError> {
+    let mut count = HeaderCount::new();
+    let mut rest = bytes;
+    let mut total = Some(0);
+    while let Some(next) = next_attribute(rest, &mut count) {
+        let (nla, after) = next?;
+        F::check_value(&nla, ctx, &mut count)?;
+        total = total_with(total, F::canonical_len(&nla, ctx));
+        rest = after;
+    }
+    match total {
+        Some(len) => Ok(fitting(len)),
+        None => Ok(None),
+    }
+}
+
+/// Adds the encoding of an attribute to a total of lengths: its header, its payload of `len` bytes,
+/// and the padding. The result is `None` if `total` or `len` is, and if a `usize` cannot count the
+/// sum. Requires that the payload fits.
 ///
 /// # Panics
 ///
 /// May panic where a condition of the caller that is named here does not hold. Where it does
 /// not panic then, the result has no meaning.
-pub fn list_canonical_len<F: LinkFamily>(bytes: &[u8], ctx: F::Context) -> Option<usize> {
-    let mut count = HeaderCount::new();
-    let mut rest = bytes;
-    let mut total: usize = 0;
-    while let Some(next) = next_attribute(rest, &mut count) {
-        let (nla, after) = next.unwrap();
-        let len = F::canonical_len(&nla, ctx)?;
-        total = fitting(total + 4 + len.next_multiple_of_four())?;
-        rest = after;
-    }
-    Some(total)
+#[inline(always)]
+pub fn total_with(total: Option<usize>, len: Option<usize>) -> Option<usize> {
+    total?.checked_add(4 + len?.next_multiple_of_four())
 }
 
 /// Writes the canonical encoding of the list that a byte string means at the front of the buffer,

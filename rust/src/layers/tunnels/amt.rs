@@ -57,7 +57,7 @@ impl RowFamily for InfoAmt {
 
     #[inline(always)]
     fn shape(_ctx: (), kind: u16) -> Lookup {
-        table_lookup(Family::Amt, kind)
+        table_lookup(Self::FAMILY, kind)
     }
 
     #[inline(always)]

@@ -44,7 +44,7 @@ impl RowFamily for InfoBareUdp {
 
     #[inline(always)]
     fn shape(_ctx: (), kind: u16) -> Lookup {
-        table_lookup(Family::BareUdp, kind)
+        table_lookup(Self::FAMILY, kind)
     }
 
     #[inline(always)]

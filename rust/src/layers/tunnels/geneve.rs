@@ -84,7 +84,7 @@ impl RowFamily for InfoGeneve {
 
     #[inline(always)]
     fn shape(_ctx: (), kind: u16) -> Lookup {
-        table_lookup(Family::Geneve, kind)
+        table_lookup(Self::FAMILY, kind)
     }
 
     #[inline(always)]

@@ -95,7 +95,7 @@ impl RowFamily for InfoGre {
 
     #[inline(always)]
     fn shape(_ctx: (), kind: u16) -> Lookup {
-        table_lookup(Family::Gre, kind)
+        table_lookup(Self::FAMILY, kind)
     }
 
     #[inline(always)]

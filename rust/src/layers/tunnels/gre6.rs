@@ -98,7 +98,7 @@ impl RowFamily for InfoGre6 {
 
     #[inline(always)]
     fn shape(_ctx: (), kind: u16) -> Lookup {
-        table_lookup(Family::Gre6, kind)
+        table_lookup(Self::FAMILY, kind)
     }
 
     #[inline(always)]

@@ -56,7 +56,7 @@ impl RowFamily for InfoGtp {
 
     #[inline(always)]
     fn shape(_ctx: (), kind: u16) -> Lookup {
-        table_lookup(Family::Gtp, kind)
+        table_lookup(Self::FAMILY, kind)
     }
 
     #[inline(always)]

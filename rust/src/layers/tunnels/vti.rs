@@ -50,7 +50,7 @@ impl RowFamily for InfoVti {
 
     #[inline(always)]
     fn shape(_ctx: (), kind: u16) -> Lookup {
-        table_lookup(Family::Vti, kind)
+        table_lookup(Self::FAMILY, kind)
     }
 
     #[inline(always)]

@@ -144,7 +144,7 @@ impl RowFamily for InfoVxlan {
 
     #[inline(always)]
     fn shape(_ctx: (), kind: u16) -> Lookup {
-        table_lookup(Family::Vxlan, kind)
+        table_lookup(Self::FAMILY, kind)
     }
 
     #[inline(always)]

@@ -6,9 +6,8 @@ use linkinfo::layers::nla_frame::{
     emit_nlas, is_equal, nlas_buffer_len, nlas_fit_len,
 };
 use linkinfo::layers::table::{
-    LinkFamily, Lookup, Shape, first_canonical_len, first_check, first_read, first_same,
-    first_write_canonical, list_canonical_len, list_check, list_read, list_same,
-    list_write_canonical,
+    LinkFamily, Lookup, Shape, first_check, first_measure, first_read, first_same,
+    first_write_canonical, list_check, list_measure, list_read, list_same, list_write_canonical,
 };
 use std::fmt::Debug;
 
@@ -447,7 +446,9 @@ fn is_accepted<F: LinkFamily>(ctx: F::Context, bytes: &[u8]) {
 /// after them are unchanged.
 pub(super) fn list_is_written_as<F: LinkFamily>(ctx: F::Context, bytes: &[u8], canonical: &[u8]) {
     is_accepted::<F>(ctx, bytes);
-    let len = list_canonical_len::<F>(bytes, ctx).expect("a list that fits");
+    let len = list_measure::<F>(bytes, ctx)
+        .expect("an accepted list")
+        .expect("a list that fits");
     assert!(len <= 24);
     let mut buffer = [255; 27];
     assert_is(
@@ -488,7 +489,9 @@ pub(super) fn firsts_same<F: LinkFamily>(ctx: F::Context, a: &[u8], b: &[u8]) ->
 /// after them are unchanged.
 pub(super) fn first_is_written_as<F: LinkFamily>(ctx: F::Context, bytes: &[u8], canonical: &[u8]) {
     first_is_accepted::<F>(ctx, bytes);
-    let len = first_canonical_len::<F>(bytes, ctx).expect("an attribute that fits");
+    let len = first_measure::<F>(bytes, ctx)
+        .expect("an accepted attribute")
+        .expect("an attribute that fits");
     assert!(len <= 24);
     let mut buffer = [255; 27];
     assert_is(
