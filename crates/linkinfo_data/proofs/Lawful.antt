@@ -1,35 +1,28 @@
 -- The families of data, by their rows: each is lawful, and its errors name it.
-use Rattle.std.specs.Prelude.{◌≡◌, ℕ, List, [], Some, refl}
-use Rattle.std.specs.Prelude.{◌↔◌, true}
-use denote.RattleType.{RattleType}
-use Rattle.nla_frame.specs.Attribute.{Attribute, IsBytes}
+use Rattle.std.specs.Prelude.{ℕ, List, [], refl}
 use Rattle.nla_frame.specs.NlaItems.{nla_items}
-use Rattle.nla_frame.specs.declared.default_nla.DefaultNla.{DefaultNla}
 use Rattle.nla_frame.specs.declared.error.Family.TheVariants as family
 use Rattle.nla_frame.specs.declared.error.Family.{Family}
 use Rattle.linkinfo_numbers.specs.declared.tags.KindTag.{KindTag}
 use Rattle.linkinfo_table.specs.ByRows.{members_by_rows, rows_are_family, rows_name}
-use Rattle.linkinfo_table.specs.ByRows.{rows_name_first, table_is_family, table_names}
+use Rattle.linkinfo_table.specs.ByRows.{table_is_family, table_names}
 use Rattle.linkinfo_table.specs.Conditions.{opaque_attribute}
-use Rattle.linkinfo_table.specs.FamilyRows.{EachKeeps, FamilyRow, IsUnnested, PlainRow, RowOwes}
 use Rattle.linkinfo_table.specs.FamilyRows.{lookup_of, row_of, table_row}
 use Rattle.linkinfo_table.specs.ErrorNames.{EachNames, names_list}
 use Rattle.linkinfo_table.specs.FlatLaws.{none_inside}
-use Rattle.linkinfo_table.specs.Lists.{first_meaning, values}
+use Rattle.linkinfo_table.specs.Lists.{values}
 use Rattle.linkinfo_table.specs.LookupLaws.{flat_unnested}
 use Rattle.linkinfo_table.specs.Members.{IsFamily, Members}
-use Rattle.linkinfo_table.specs.Rows.{headers_inside, meaning_in}
-use Rattle.linkinfo_table.specs.declared.peer.LinkPeer.{Ghosts}
+use Rattle.linkinfo_table.specs.Rows.{meaning_in}
 use Rattle.linkinfo_table.specs.declared.opaque.Opaque.TheVariants as opaque
 use Rattle.linkinfo_table.specs.declared.opaque.Opaque.{Opaque}
 use Rattle.linkinfo_devices.specs.Ipoib.{ipoib_attribute, ipoib_keeps, ipoib_rows}
 use Rattle.linkinfo_devices.specs.Ipvlan.{ip_vlan_attribute, ip_vlan_keeps, ip_vlan_rows}
 use Rattle.linkinfo_devices.specs.Macsec.{mac_sec_attribute, mac_sec_keeps, mac_sec_rows}
-use Rattle.linkinfo_devices.specs.Macvlan.{mac_vlan_attribute, mac_vlan_keep, mac_vlan_owes}
+use Rattle.linkinfo_devices.specs.Macvlan.{mac_vlan_attribute}
 use Rattle.linkinfo_devices.specs.Macvlan.{mac_vlan_rows, mac_vlan_says}
-use Rattle.linkinfo_devices.specs.Macvtap.{mac_vtap_attribute, mac_vtap_keep, mac_vtap_owes}
+use Rattle.linkinfo_devices.specs.Macvtap.{mac_vtap_attribute}
 use Rattle.linkinfo_devices.specs.Macvtap.{mac_vtap_rows, mac_vtap_says}
-use Rattle.linkinfo_devices.specs.Nested.{nested_quarter}
 use Rattle.linkinfo_devices.specs.Rmnet.{rm_net_attribute, rm_net_keeps, rm_net_rows}
 use Rattle.linkinfo_devices.specs.Vrf.{vrf_attribute, vrf_keeps, vrf_rows}
 use Rattle.linkinfo_devices.specs.Xfrm.{xfrm_attribute, xfrm_keeps, xfrm_rows}
@@ -61,7 +54,6 @@ use Rattle.linkinfo_tunnels.specs.declared.ip_tunnel.InfoIpTunnel.TheVariants as
 use Rattle.linkinfo_tunnels.specs.declared.vti.InfoVti.TheVariants as vti
 use Rattle.linkinfo_tunnels.specs.declared.vxlan.InfoVxlan.TheVariants as vxlan
 use Rattle.linkinfo_peers.specs.Batadv.{batadv_attribute, batadv_keeps, batadv_rows}
-use Rattle.linkinfo_peers.specs.PeerRows.{peer_owes, peer_rows, peer_unnested}
 use Rattle.linkinfo_peers.specs.Wwan.{wwan_attribute, wwan_keeps, wwan_rows}
 use Rattle.linkinfo_peers.specs.declared.batadv.InfoBatAdv.TheVariants as batadv
 use Rattle.linkinfo_peers.specs.declared.wwan.InfoWwan.TheVariants as wwan
@@ -236,13 +228,6 @@ ip_tunnel_names tag s = rows_name family.IpTunnel (λ d. ip_tunnel.Other d) ip_t
 
 -- ---- macvlan links, whose attributes may hold lists
 
-pub mac_vlan_is : (lists : ℕ) → IsFamily (plain.mac_vlan lists)
-mac_vlan_is lists = rows_are_family family.MacVlan (λ d. macvlan.Other d) mac_vlan_attribute
-    (λ n. mac_vlan_rows lists n) (mac_vlan_owes lists) mac_vlan_keep.other
-    (headers_inside (λ n. row_of (mac_vlan_rows lists n)))
-    (λ a. nested_quarter family.MacVlan (λ d. macvlan.Other d) mac_vlan_attribute
-    (λ n. mac_vlan_rows lists n) (mac_vlan_owes lists) mac_vlan_keep.other a)
-
 pub mac_vlan_names : (lists : ℕ) (s : List ℕ) →
     EachNames family.MacVlan (values (plain.mac_vlan lists).meaning (nla_items s))
 mac_vlan_names lists s = names_list family.MacVlan (λ d. macvlan.Other d) mac_vlan_attribute
@@ -251,13 +236,6 @@ mac_vlan_names lists s = names_list family.MacVlan (λ d. macvlan.Other d) mac_v
     (λ n. row_of (mac_vlan_rows c n)) a) mac_vlan_says lists s
 
 -- ---- macvtap links, whose attributes may hold lists
-
-pub mac_vtap_is : (lists : ℕ) → IsFamily (plain.mac_vtap lists)
-mac_vtap_is lists = rows_are_family family.MacVtap (λ d. macvtap.Other d) mac_vtap_attribute
-    (λ n. mac_vtap_rows lists n) (mac_vtap_owes lists) mac_vtap_keep.other
-    (headers_inside (λ n. row_of (mac_vtap_rows lists n)))
-    (λ a. nested_quarter family.MacVtap (λ d. macvtap.Other d) mac_vtap_attribute
-    (λ n. mac_vtap_rows lists n) (mac_vtap_owes lists) mac_vtap_keep.other a)
 
 pub mac_vtap_names : (lists : ℕ) (s : List ℕ) →
     EachNames family.MacVtap (values (plain.mac_vtap lists).meaning (nla_items s))
@@ -282,41 +260,3 @@ opaque_members number f =
 pub opaque_names : {number : ℕ} (f : Family) (s : List ℕ) →
     EachNames f (values (opaque_members number f).meaning (nla_items s))
 opaque_names f s = table_names f (λ d. opaque.Other d) opaque_attribute [] tt s
-
--- ---- links with a peer
-
-module _ (P : RattleType) (peer : Ghosts P.Denot)
-    (alike_is : (p q : List ℕ) (x y : P.Denot) → IsBytes p → IsBytes q → peer.meaning p ≡ Some x →
-    peer.meaning q ≡ Some y →
-    (peer.alike p q ≡ true) ↔ (x ≡ y))
-    (meaning_well : (p : List ℕ) (x : P.Denot) → IsBytes p → peer.meaning p ≡ Some x → peer.well x)
-    (well_means : (x : P.Denot) → peer.well x → peer.meaning (peer.canonical x) ≡ Some x)
-    (well_bytes : (x : P.Denot) → peer.well x → IsBytes (peer.canonical x)) where
-  module _ {F : Type 0} (f : Family) (value : P.Denot → F) (other : DefaultNla → F)
-      (attribute : F → Attribute) (plain_rows : List (PlainRow F))
-      (keeps : EachKeeps attribute plain_rows)
-      (shown : (x : P.Denot) →
-      attribute (value x) ≡ record { kind = 1; value = peer.canonical x })
-      (keeps_other : (d : DefaultNla) →
-      attribute (other d) ≡ record { kind = d.kind; value = d.value }) where
-    abbrev rows : ℕ → FamilyRow F
-    rows n = peer_rows peer.meaning peer.alike peer.canonical peer.well value plain_rows n
-
-    owes : (n : ℕ) → RowOwes attribute n (row_of (rows n))
-    owes n = peer_owes peer.meaning peer.alike peer.canonical peer.well value attribute plain_rows
-        keeps alike_is meaning_well well_means well_bytes shown n
-
-    unnested : (n : ℕ) → IsUnnested (rows n)
-    unnested n = peer_unnested peer.meaning peer.alike peer.canonical peer.well value attribute
-        plain_rows keeps n
-
-    pub peer_is : IsFamily (members_by_rows f other attribute (λ n. rows n) (λ _. 0))
-    peer_is = rows_are_family f other attribute (λ n. rows n) owes keeps_other (λ _. 0) none_inside
-
-    pub peer_names : (s : List ℕ) →
-        EachNames f (values (meaning_in f other (λ n. row_of (rows n))) (nla_items s))
-    peer_names s = rows_name f other attribute (λ n. rows n) owes unnested s
-
-    pub peer_names_first : (s : List ℕ) →
-        EachNames f (first_meaning (meaning_in f other (λ n. row_of (rows n))) (nla_items s))
-    peer_names_first s = rows_name_first f other attribute (λ n. rows n) owes unnested s

@@ -21,7 +21,9 @@ use Rattle.linkinfo_table.specs.FamilyRows.{
   typed,
 }
 use Rattle.linkinfo_table.specs.Lookups.{LookupSays}
-use Rattle.linkinfo_table.specs.Rows.{meaning_in}
+use Rattle.linkinfo_table.specs.ByRows.{members_by_rows, rows_are_family}
+use Rattle.linkinfo_table.specs.Members.{IsFamily}
+use Rattle.linkinfo_table.specs.Rows.{headers_inside, meaning_in}
 use Rattle.linkinfo_table.specs.declared.decoded.Decoded.{Decoded}
 use Rattle.linkinfo_devices.specs.MacRows.{
   MacLabels,
@@ -35,7 +37,7 @@ use Rattle.linkinfo_devices.specs.MacRows.{
   mac_says,
   mac_suits,
 }
-use Rattle.linkinfo_devices.specs.Nested.{nested_lookup}
+use Rattle.linkinfo_devices.specs.Nested.{nested_lookup, nested_quarter}
 use Rattle.linkinfo_shapes.specs.Table.{shape_of}
 use Rattle.linkinfo_devices.specs.declared.macvtap.InfoMacVtap.{InfoMacVtap}
 use Rattle.linkinfo_devices.specs.declared.macvtap.InfoMacVtap as macvtap
@@ -163,6 +165,16 @@ pub mac_vtap_says : (c : ℕ) (a : Attribute) →
     (lookup_of (mac_vtap_rows c (masked a.kind)))
     (meaning_in family.MacVtap (λ d. macvtap.Other d) (λ n. row_of (mac_vtap_rows c n)) a)
 mac_vtap_says c a = mac_says family.MacVtap mac_vtap_attribute mac_vtap_labels mac_vtap_keep c a
+
+-- the attributes inside so many lists are those of a lawful family
+pub mac_vtap_is : (c : ℕ) →
+    IsFamily (members_by_rows family.MacVtap (λ d. macvtap.Other d) mac_vtap_attribute
+    (λ n. mac_vtap_rows c n) (headers_inside (λ n. row_of (mac_vtap_rows c n))))
+mac_vtap_is c =
+    rows_are_family family.MacVtap (λ d. macvtap.Other d) mac_vtap_attribute (λ n. mac_vtap_rows c n)
+    (mac_vtap_owes c) mac_vtap_keep.other (headers_inside (λ n. row_of (mac_vtap_rows c n)))
+    (λ a. nested_quarter family.MacVtap (λ d. macvtap.Other d) mac_vtap_attribute
+    (λ n. mac_vtap_rows c n) (mac_vtap_owes c) mac_vtap_keep.other a)
 
 -- these are the rows of the table of all families, except that a list nested in 128 others is
 -- rejected

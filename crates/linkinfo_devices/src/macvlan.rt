@@ -3,6 +3,7 @@
 ghost use Rattle.linkinfo_devices.specs.Macvlan.{
   mac_vlan_attribute,
   mac_vlan_holds_list,
+  mac_vlan_is,
   mac_vlan_keep,
   mac_vlan_keeps,
   mac_vlan_owes,
@@ -18,7 +19,6 @@ ghost use Rattle.linkinfo_devices.specs.Nested.{
   list_means,
   list_needs_memory,
   nested_other,
-  nested_quarter,
 };
 ghost use Rattle.linkinfo_devices.specs.declared.macvlan.InfoMacVlan as macvlan;
 ghost use Rattle.linkinfo_table.specs.FamilyRows.{
@@ -30,13 +30,6 @@ ghost use Rattle.linkinfo_table.specs.FamilyRows.{
   table_row,
 };
 ghost use Rattle.linkinfo_table.specs.ErrorMemory.{rows_certain};
-ghost use Rattle.linkinfo_table.specs.FlatLaws.{
-  flat_alike_is,
-  flat_no_memory,
-  flat_read_well,
-  flat_well_attribute,
-  flat_well_reads,
-};
 ghost use Rattle.linkinfo_table.specs.Rows.{
   WellFormed,
   alike_in,
@@ -246,34 +239,12 @@ impl LinkFamily for InfoMacVlan {
 
     ghost looked_up = { λ c a. mac_vlan_says c a };
 
-    ghost alike_is = { λ c a b x y.
-        flat_alike_is family.MacVlan (λ d. macvlan.Other d) mac_vlan_attribute (mac_vlan_rows c)
-        (mac_vlan_owes c) mac_vlan_keep.other a b x y };
-
-    ghost headers_quarter = { λ c a.
-        nested_quarter family.MacVlan (λ d. macvlan.Other d) mac_vlan_attribute (mac_vlan_rows c)
-        (mac_vlan_owes c) mac_vlan_keep.other a };
-
-    ghost no_memory = { λ c a.
-        flat_no_memory family.MacVlan (λ d. macvlan.Other d) mac_vlan_attribute (mac_vlan_rows c)
-        (mac_vlan_owes c) mac_vlan_keep.other a };
+    ghost lawful = { mac_vlan_is };
 
     ghost error_certain = { λ c a e.
         rows_certain family.MacVlan (λ d. macvlan.Other d) (mac_vlan_rows c) a e
         (nested_other family.MacVlan (λ d. macvlan.Other d) mac_vlan_attribute
         (λ xs. macvlan.MacAddrData xs) mac_vlan_plain_rows c (masked a.kind)) };
-
-    ghost read_well = { λ c a x.
-        flat_read_well family.MacVlan (λ d. macvlan.Other d) mac_vlan_attribute (mac_vlan_rows c)
-        (mac_vlan_owes c) mac_vlan_keep.other a x };
-
-    ghost well_reads = { λ c x.
-        flat_well_reads family.MacVlan (λ d. macvlan.Other d) mac_vlan_attribute (mac_vlan_rows c)
-        (mac_vlan_owes c) mac_vlan_keep.other mac_vlan_attribute (λ _. refl) x };
-
-    ghost well_attribute = { λ c x.
-        flat_well_attribute family.MacVlan (λ d. macvlan.Other d) mac_vlan_attribute
-        (mac_vlan_rows c) (mac_vlan_owes c) mac_vlan_keep.other mac_vlan_attribute (λ _. refl) x };
 
     #[inline(always)]
     fn shape(lists: u8, kind: u16) -> Lookup {

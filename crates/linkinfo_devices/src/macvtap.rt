@@ -3,6 +3,7 @@
 ghost use Rattle.linkinfo_devices.specs.Macvtap.{
   mac_vtap_attribute,
   mac_vtap_holds_list,
+  mac_vtap_is,
   mac_vtap_keep,
   mac_vtap_keeps,
   mac_vtap_owes,
@@ -18,7 +19,6 @@ ghost use Rattle.linkinfo_devices.specs.Nested.{
   list_means,
   list_needs_memory,
   nested_other,
-  nested_quarter,
 };
 ghost use Rattle.linkinfo_devices.specs.declared.macvtap.InfoMacVtap as macvtap;
 ghost use Rattle.linkinfo_table.specs.FamilyRows.{
@@ -30,13 +30,6 @@ ghost use Rattle.linkinfo_table.specs.FamilyRows.{
   table_row,
 };
 ghost use Rattle.linkinfo_table.specs.ErrorMemory.{rows_certain};
-ghost use Rattle.linkinfo_table.specs.FlatLaws.{
-  flat_alike_is,
-  flat_no_memory,
-  flat_read_well,
-  flat_well_attribute,
-  flat_well_reads,
-};
 ghost use Rattle.linkinfo_table.specs.Rows.{
   WellFormed,
   alike_in,
@@ -246,34 +239,12 @@ impl LinkFamily for InfoMacVtap {
 
     ghost looked_up = { λ c a. mac_vtap_says c a };
 
-    ghost alike_is = { λ c a b x y.
-        flat_alike_is family.MacVtap (λ d. macvtap.Other d) mac_vtap_attribute (mac_vtap_rows c)
-        (mac_vtap_owes c) mac_vtap_keep.other a b x y };
-
-    ghost headers_quarter = { λ c a.
-        nested_quarter family.MacVtap (λ d. macvtap.Other d) mac_vtap_attribute (mac_vtap_rows c)
-        (mac_vtap_owes c) mac_vtap_keep.other a };
-
-    ghost no_memory = { λ c a.
-        flat_no_memory family.MacVtap (λ d. macvtap.Other d) mac_vtap_attribute (mac_vtap_rows c)
-        (mac_vtap_owes c) mac_vtap_keep.other a };
+    ghost lawful = { mac_vtap_is };
 
     ghost error_certain = { λ c a e.
         rows_certain family.MacVtap (λ d. macvtap.Other d) (mac_vtap_rows c) a e
         (nested_other family.MacVtap (λ d. macvtap.Other d) mac_vtap_attribute
         (λ xs. macvtap.MacAddrData xs) mac_vtap_plain_rows c (masked a.kind)) };
-
-    ghost read_well = { λ c a x.
-        flat_read_well family.MacVtap (λ d. macvtap.Other d) mac_vtap_attribute (mac_vtap_rows c)
-        (mac_vtap_owes c) mac_vtap_keep.other a x };
-
-    ghost well_reads = { λ c x.
-        flat_well_reads family.MacVtap (λ d. macvtap.Other d) mac_vtap_attribute (mac_vtap_rows c)
-        (mac_vtap_owes c) mac_vtap_keep.other mac_vtap_attribute (λ _. refl) x };
-
-    ghost well_attribute = { λ c x.
-        flat_well_attribute family.MacVtap (λ d. macvtap.Other d) mac_vtap_attribute
-        (mac_vtap_rows c) (mac_vtap_owes c) mac_vtap_keep.other mac_vtap_attribute (λ _. refl) x };
 
     #[inline(always)]
     fn shape(lists: u8, kind: u16) -> Lookup {

@@ -46,6 +46,9 @@ use Rattle.linkinfo_table.specs.FamilyRows.{
 use Rattle.linkinfo_table.specs.FamilyRowLaws.{row_if_owes, table_flat, table_lookup, table_owes}
 use Rattle.linkinfo_table.specs.ByRows.{members_by_rows, rows_are_family}
 use Rattle.linkinfo_table.specs.ErrorMemory.{rows_certain, unnested_other}
+use Rattle.linkinfo_table.specs.ErrorNames.{EachNames, names_first, names_list}
+use Rattle.linkinfo_table.specs.Lists.{first_meaning, values}
+use Rattle.nla_frame.specs.NlaItems.{nla_items}
 use Rattle.linkinfo_table.specs.FlatLaws.{none_inside}
 use Rattle.linkinfo_table.specs.LookupLaws.{flat_unnested, rows_say}
 use Rattle.linkinfo_table.specs.Lookups.{HoldsNone, LookupSays}
@@ -185,3 +188,19 @@ module _ {P F : Type 0} (peer : Ghosts P) (is : IsPeer peer) (value : P → F)
     laws = λ f.
         rows_are_family f other attribute (λ n. rows n) owes keeps_other (λ _. 0) none_inside;
   }
+
+-- each error of such a family has its name, in lists and in first attributes
+module _ {F : Type 0} {other : DefaultNla → F} {attribute : F → Attribute} {rows : ℕ → FamilyRow F}
+    (family : IsUnnestedFamily other attribute rows) (f : Family) where
+  abbrev means : Attribute → Result F DecodeError
+  means a = meaning_in f other (λ n. row_of (rows n)) a
+
+  pub list_named : (s : List ℕ) → EachNames f (values means (nla_items s))
+  list_named s =
+      names_list f other attribute (λ _ n. lookup_of (rows n)) (λ _ a. means a)
+      (λ _ a. family.says f a) (tt {0}) s
+
+  pub first_named : (s : List ℕ) → EachNames f (first_meaning means (nla_items s))
+  first_named s =
+      names_first f other attribute (λ _ n. lookup_of (rows n)) (λ _ a. means a)
+      (λ _ a. family.says f a) (tt {0}) s

@@ -13,7 +13,6 @@ ghost use Rattle.linkinfo_peers.specs.Netkit.{
 };
 ghost use Rattle.linkinfo_peers.specs.declared.netkit.InfoNetkitOf.TheVariants as netkit;
 ghost use Rattle.linkinfo_table.specs.FamilyRows.{lookup_of, row_of};
-ghost use Rattle.linkinfo_table.specs.FlatLaws.{none_inside};
 ghost use Rattle.linkinfo_table.specs.FamilyMeaning.{alike_by, meaning_by, memory_by};
 ghost use Rattle.linkinfo_table.specs.Rows.{WellFormed, meaning_in, memory_in};
 ghost use Rattle.nla_frame.specs.declared.error.Family.TheVariants as family;
@@ -233,33 +232,13 @@ impl<P: LinkPeer> LinkFamily for InfoNetkitOf<P> {
         (netkit_lawful P.LinkPeer.own
         (is_peer P.alike_is P.meaning_well P.well_means P.well_bytes)).says _ a };
 
-    ghost alike_is = { λ _ a b x y.
-        ((netkit_lawful P.LinkPeer.own
-        (is_peer P.alike_is P.meaning_well P.well_means P.well_bytes)).laws _).alike_is a b x y };
-
-    ghost headers_quarter = { λ _ a. none_inside a };
-
-    ghost no_memory = { λ _ a.
-        ((netkit_lawful P.LinkPeer.own
-        (is_peer P.alike_is P.meaning_well P.well_means P.well_bytes)).laws _).no_memory a };
+    ghost lawful = { λ _.
+        (netkit_lawful P.LinkPeer.own
+        (is_peer P.alike_is P.meaning_well P.well_means P.well_bytes)).laws _ };
 
     ghost error_certain = { λ _ a e.
         (netkit_lawful P.LinkPeer.own
         (is_peer P.alike_is P.meaning_well P.well_means P.well_bytes)).certain _ a e };
-
-    ghost read_well = { λ _ a x.
-        ((netkit_lawful P.LinkPeer.own
-        (is_peer P.alike_is P.meaning_well P.well_means P.well_bytes)).laws _).read_well a x };
-
-    ghost well_reads = { λ _ x.
-        ((netkit_lawful P.LinkPeer.own
-        (is_peer P.alike_is P.meaning_well P.well_means P.well_bytes)).laws _).well_reads x };
-
-    ghost well_attribute = { λ _ x.
-        let lawful =
-        netkit_lawful P.LinkPeer.own
-        (is_peer P.alike_is P.meaning_well P.well_means P.well_bytes) in
-        (lawful.laws family.Netkit).well_attribute x };
 
     #[inline(always)]
     fn shape(ctx: (), kind: u16) -> Lookup {

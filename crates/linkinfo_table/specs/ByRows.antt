@@ -33,19 +33,36 @@ module _ {X : Type 0} (f : Family) (other : DefaultNla → X) (attribute : X →
     well = WellFormed other attribute (λ n. row_of (rows n));
   }
 
+  -- what is written may be another function with the same attributes
+  pub written_are_family : (emitted : X → Attribute) → ((x : X) → emitted x ≡ attribute x) →
+      ((n : ℕ) → RowOwes attribute n (row_of (rows n))) →
+      ((d : DefaultNla) → attribute (other d) ≡ record { kind = d.kind; value = d.value }) →
+      (headers : Attribute → ℕ) → ((a : Attribute) → 4 * headers a ≤ length a.value) →
+      IsFamily (record {
+        family = f;
+        meaning = means;
+        headers = headers;
+        alike = alike_in (λ n. row_of (rows n));
+        needs_memory = memory_in (λ n. row_of (rows n));
+        attribute = emitted;
+        well = WellFormed other attribute (λ n. row_of (rows n));
+      })
+  written_are_family emitted written owes keeps headers quarter = record {
+    alike_is = flat_alike_is f other attribute rows owes keeps;
+    quarter = quarter;
+    no_memory = flat_no_memory f other attribute rows owes keeps;
+    read_well = flat_read_well f other attribute rows owes keeps;
+    well_reads = flat_well_reads f other attribute rows owes keeps emitted written;
+    well_attribute = flat_well_attribute f other attribute rows owes keeps emitted written;
+  }
+
   module _ (owes : (n : ℕ) → RowOwes attribute n (row_of (rows n))) where
     pub rows_are_family :
         ((d : DefaultNla) → attribute (other d) ≡ record { kind = d.kind; value = d.value }) →
         (headers : Attribute → ℕ) → ((a : Attribute) → 4 * headers a ≤ length a.value) →
         IsFamily (members_by_rows headers)
-    rows_are_family keeps headers quarter = record {
-      alike_is = flat_alike_is f other attribute rows owes keeps;
-      quarter = quarter;
-      no_memory = flat_no_memory f other attribute rows owes keeps;
-      read_well = flat_read_well f other attribute rows owes keeps;
-      well_reads = flat_well_reads f other attribute rows owes keeps attribute (λ _. refl);
-      well_attribute = flat_well_attribute f other attribute rows owes keeps attribute (λ _. refl);
-    }
+    rows_are_family keeps headers quarter =
+        written_are_family attribute (λ _. refl) owes keeps headers quarter
 
     module _ (unnested : (n : ℕ) → IsUnnested (rows n)) where
       pub rows_name : (s : List ℕ) → EachNames f (values means (nla_items s))

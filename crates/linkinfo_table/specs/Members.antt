@@ -29,7 +29,6 @@ use Rattle.nla_frame.proofs.ByteLists.{IsBytes-canonical_string}
 use Rattle.nla_frame.proofs.Emitting.{one_fits}
 use Rattle.nla_frame.proofs.Framing.{split_is, splits_attributes}
 use Rattle.nla_frame.proofs.Stepping.{nla_items_split, nla_items_nil, seen_room, by_nla_items}
-use Rattle.linkinfo_table.specs.declared.family.LinkFamily.{Ghosts}
 use Rattle.linkinfo_table.specs.Codecs.{Codec, IsCodec}
 use Rattle.linkinfo_table.specs.Lists.{first_meaning, first_headers, first_alike, first_memory}
 use Rattle.linkinfo_table.specs.ListLaws.{header_is_no_memory, first_read_well, first_well_reads}
@@ -60,19 +59,6 @@ pub record IsFamily {X : Type 0} (f : Members X) : Type 0 where
   pub read_well : (a : Attribute) (x : X) → IsAttribute a → f.meaning a ≡ Ok x → f.well x
   pub well_reads : (x : X) → f.well x → Fits (f.attribute x) → f.meaning (f.attribute x) ≡ Ok x
   pub well_attribute : (x : X) → f.well x → Fits (f.attribute x) → IsAttribute (f.attribute x)
-
--- what `LinkFamily` defines under one context
-abbrev pub members_of : {X Context : Type 0} → Ghosts X Context → (X → Attribute) → Context →
-    Members X
-members_of own attribute c = record {
-  family = own.FAMILY;
-  meaning = own.meaning c;
-  headers = own.headers c;
-  alike = own.alike c;
-  needs_memory = own.needs_memory c;
-  attribute = attribute;
-  well = own.well c;
-}
 
 -- ---- a payload that is a list of attributes of the family
 

@@ -44,6 +44,7 @@ ghost use Rattle.nla_frame.specs.declared.error.DecodeError.{DecodeError};
 ghost use Rattle.nla_frame.specs.declared.error.Family.{Family};
 ghost use Rattle.linkinfo_table.specs.Lists.{Appends, push_memory};
 ghost use Rattle.linkinfo_table.specs.Lookups.{HoldsNone, LookupSays};
+ghost use Rattle.linkinfo_table.specs.Members.{IsFamily};
 ghost use Rattle.linkinfo_table.specs.declared.lookup.Lookup.{Lookup};
 
 use crate::lookup::Lookup;
@@ -185,23 +186,16 @@ pub trait LinkFamily: Nla + Sized + Drop {
         LookupSays FAMILY keeping Self.attribute meaning a (lookup c (masked a.kind))
         (meaning c a) };
 
-    ghost alike_is: { (c : Self.Context) (a b : Attribute) (x y : Self) → IsAttribute a →
-        IsAttribute b → meaning c a ≡ Ok x → meaning c b ≡ Ok y → (alike c a b ≡ true) ↔ (x ≡ y) };
-
-    ghost headers_quarter: { (c : Self.Context) (a : Attribute) →
-        4 * headers c a ≤ length a.value };
-
-    ghost no_memory: { (c : Self.Context) (a : Attribute) → meaning c a ≢ Err memory_error };
+    ghost lawful: { (c : Self.Context) → IsFamily (record {
+      family = FAMILY;
+      meaning = meaning c;
+      headers = headers c;
+      alike = alike c;
+      needs_memory = needs_memory c;
+      attribute = Self.attribute;
+      well = well c;
+    }) };
 
     ghost error_certain: { (c : Self.Context) (a : Attribute) (e : DecodeError) →
         HoldsNone (lookup c (masked a.kind)) → meaning c a ≡ Err e → needs_memory c a ≡ false };
-
-    ghost read_well: { (c : Self.Context) (a : Attribute) (x : Self) → IsAttribute a →
-        meaning c a ≡ Ok x → well c x };
-
-    ghost well_reads: { (c : Self.Context) (x : Self) → well c x → Fits (Self.attribute x) →
-        meaning c (Self.attribute x) ≡ Ok x };
-
-    ghost well_attribute: { (c : Self.Context) (x : Self) → well c x → Fits (Self.attribute x) →
-        IsAttribute (Self.attribute x) };
 }

@@ -7,14 +7,8 @@ ghost use Rattle.linkinfo_table.specs.FamilyRows.{lookup_of, row_of};
 ghost use Rattle.linkinfo_table.specs.ErrorMemory.{rows_certain, unnested_other};
 ghost use Rattle.linkinfo_table.specs.LookupLaws.{flat_unnested, rows_say};
 ghost use Rattle.linkinfo_table.specs.Rows.{WellFormed};
-ghost use Rattle.linkinfo_table.specs.FlatLaws.{
-  flat_alike_is,
-  none_inside,
-  flat_no_memory,
-  flat_read_well,
-  flat_well_reads,
-  flat_well_attribute,
-};
+ghost use Rattle.linkinfo_table.specs.ByRows.{written_are_family};
+ghost use Rattle.linkinfo_table.specs.FlatLaws.{none_inside};
 
 use crate::canonical::{row_canonical_len, row_write_canonical};
 use crate::family::LinkFamily;
@@ -53,32 +47,14 @@ impl<F: FlatFamily> LinkFamily for F {
         (flat_unnested (F.rows c (masked a.kind)) (F.flat c (masked a.kind)))
         (F.owes c (masked a.kind)) };
 
-    ghost alike_is = { λ c a b x y.
-        flat_alike_is F.RowFamily.FAMILY F.other F.canonical (F.rows c) (F.owes c) F.keeps_other a b
-        x y };
-
-    ghost headers_quarter = { λ _ a. none_inside a };
-
-    ghost no_memory = { λ c a.
-        flat_no_memory F.RowFamily.FAMILY F.other F.canonical (F.rows c) (F.owes c) F.keeps_other
-        a };
+    ghost lawful = { λ c.
+        written_are_family F.RowFamily.FAMILY F.other F.canonical (F.rows c) F.attribute F.written
+        (F.owes c) F.keeps_other (λ _. 0) none_inside };
 
     ghost error_certain = { λ c a e.
         rows_certain F.RowFamily.FAMILY F.other (F.rows c) a e
         (unnested_other (F.rows c (masked a.kind))
         (flat_unnested (F.rows c (masked a.kind)) (F.flat c (masked a.kind)))) };
-
-    ghost read_well = { λ c a x.
-        flat_read_well F.RowFamily.FAMILY F.other F.canonical (F.rows c) (F.owes c) F.keeps_other a
-        x };
-
-    ghost well_reads = { λ c x.
-        flat_well_reads F.RowFamily.FAMILY F.other F.canonical (F.rows c) (F.owes c) F.keeps_other
-        F.attribute F.written x };
-
-    ghost well_attribute = { λ c x.
-        flat_well_attribute F.RowFamily.FAMILY F.other F.canonical (F.rows c) (F.owes c)
-        F.keeps_other F.attribute F.written x };
 
     fn shape(ctx: <F as RowFamily>::Context, kind: u16) -> Lookup {
         <F as RowFamily>::shape(ctx, kind)

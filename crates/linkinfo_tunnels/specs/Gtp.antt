@@ -1,5 +1,5 @@
 -- The rows of GTP tunnels.
-use Rattle.std.specs.Prelude.{ℕ, List, [], ◌∷◌, refl}
+use Rattle.std.specs.Prelude.{List, [], ◌∷◌, refl}
 use Rattle.std.proofs.Common.{ap}
 use Rattle.nla_frame.specs.Attribute.{Attribute}
 use Rattle.nla_frame.specs.Kept.{attribute_of}

@@ -1,5 +1,5 @@
 -- The rows of VTI tunnels.
-use Rattle.std.specs.Prelude.{ℕ, List, [], ◌∷◌, refl}
+use Rattle.std.specs.Prelude.{List, [], ◌∷◌, refl}
 use Rattle.nla_frame.specs.Attribute.{Attribute}
 use Rattle.nla_frame.specs.Kept.{attribute_of}
 use Rattle.linkinfo_table.specs.FamilyRows.{

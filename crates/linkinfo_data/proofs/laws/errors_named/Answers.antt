@@ -1,17 +1,16 @@
-use Rattle.std.specs.Prelude.{◌≡◌, [], Some, refl}
+use Rattle.std.specs.Prelude.{◌≡◌, Some}
 use Rattle.nla_frame.specs.declared.error.Family.TheVariants as family
 use Rattle.nla_frame.specs.declared.error.Family.{Family}
-use Rattle.linkinfo_peers.specs.Netkit.{netkit_attribute, netkit_keeps, netkit_plain}
-use Rattle.linkinfo_peers.specs.Veth.{veth_attribute}
-use Rattle.linkinfo_peers.specs.Vxcan.{vxcan_attribute}
-use Rattle.linkinfo_peers.specs.declared.netkit.InfoNetkitOf.TheVariants as netkit
-use Rattle.linkinfo_peers.specs.declared.veth.InfoVethOf.TheVariants as veth
-use Rattle.linkinfo_peers.specs.declared.vxcan.InfoVxcanOf.TheVariants as vxcan
+use Rattle.linkinfo_table.specs.PeerLaws.{IsPeer}
+use Rattle.linkinfo_peers.specs.Netkit.{netkit_lawful}
+use Rattle.linkinfo_peers.specs.PeerRows.{first_named, is_peer, list_named}
+use Rattle.linkinfo_peers.specs.Veth.{veth_lawful}
+use Rattle.linkinfo_peers.specs.Vxcan.{vxcan_lawful}
 use Rattle.linkinfo_data.proofs.Lawful.{amt_names, bare_udp_names, batadv_names, geneve_names}
 use Rattle.linkinfo_data.proofs.Lawful.{gre6_names, gre_names, gtp_names, ip_tunnel_names}
 use Rattle.linkinfo_data.proofs.Lawful.{ip_vlan_names, ipoib_names, mac_sec_names}
 use Rattle.linkinfo_data.proofs.Lawful.{mac_vlan_names, mac_vtap_names, opaque_names}
-use Rattle.linkinfo_data.proofs.Lawful.{peer_names, peer_names_first, rm_net_names, vrf_names}
+use Rattle.linkinfo_data.proofs.Lawful.{rm_net_names, vrf_names}
 use Rattle.linkinfo_data.proofs.Lawful.{vti_names, vxlan_names, wwan_names, xfrm_names}
 use Rattle.linkinfo_data.proofs.laws.errors_named.Goals as goal
 use Rattle.linkinfo_data.specs.Data.{data_of}
@@ -46,6 +45,8 @@ pub returns : goal.returns
 returns g c =
     let peer = g.P.LinkPeer in
     let laws = g.met.P.LinkPeer in
+    let is : IsPeer peer =
+    is_peer laws.alike_is laws.meaning_well laws.well_means laws.well_bytes in
     let families = families_of g.row.P peer in
     let means : DataFamily → Payload (InfoDataOf g.row.P.Denot) = data_of families in
     let lower_ones : (f : LowerFamily) →
@@ -112,18 +113,11 @@ returns g c =
           (λ xs. info.BatAdv xs) batadv_names
       | peered.Wwan ↦ list_errors_name family.Wwan plain.wwan (λ xs. info.Wwan xs) wwan_names
       | peered.Veth ↦ first_errors_name family.Veth families.veth (λ x. info.Veth x)
-          (peer_names_first g.row.P peer laws.alike_is laws.meaning_well laws.well_means
-          laws.well_bytes family.Veth (λ z. veth.Peer z) (λ d. veth.Other d)
-          (veth_attribute peer.canonical) [] tt (λ _. refl) (λ _. refl))
+          (first_named (veth_lawful peer is) family.Veth)
       | peered.Vxcan ↦ first_errors_name family.Vxcan families.vxcan (λ x. info.Vxcan x)
-          (peer_names_first g.row.P peer laws.alike_is laws.meaning_well laws.well_means
-          laws.well_bytes family.Vxcan (λ z. vxcan.Peer z) (λ d. vxcan.Other d)
-          (vxcan_attribute peer.canonical) [] tt (λ _. refl) (λ _. refl))
+          (first_named (vxcan_lawful peer is) family.Vxcan)
       | peered.Netkit ↦ list_errors_name family.Netkit families.netkit (λ xs. info.Netkit xs)
-          (peer_names g.row.P peer laws.alike_is laws.meaning_well laws.well_means
-          laws.well_bytes family.Netkit (λ z. netkit.Peer z) (λ d. netkit.Other d)
-          (netkit_attribute peer.canonical) netkit_plain (netkit_keeps peer.canonical) (λ _. refl)
-          (λ _. refl))
+          (list_named (netkit_lawful peer is) family.Netkit)
     ] in
     let ports : (f : PortFamily) (name : Family) → port_data_name f ≡ Some name →
     ErrorsName name (port_data_of f) = elim [

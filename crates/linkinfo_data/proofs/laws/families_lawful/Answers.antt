@@ -1,14 +1,15 @@
-use Rattle.std.specs.Prelude.{[], refl}
+use Rattle.std.specs.Prelude.{refl}
 use Rattle.nla_frame.specs.declared.error.Family.TheVariants as family
-use Rattle.linkinfo_peers.specs.Netkit.{netkit_attribute, netkit_keeps, netkit_plain}
-use Rattle.linkinfo_peers.specs.Veth.{veth_attribute}
-use Rattle.linkinfo_peers.specs.Vxcan.{vxcan_attribute}
-use Rattle.linkinfo_peers.specs.declared.netkit.InfoNetkitOf.TheVariants as netkit
-use Rattle.linkinfo_peers.specs.declared.veth.InfoVethOf.TheVariants as veth
-use Rattle.linkinfo_peers.specs.declared.vxcan.InfoVxcanOf.TheVariants as vxcan
+use Rattle.linkinfo_devices.specs.Macvlan.{mac_vlan_is}
+use Rattle.linkinfo_devices.specs.Macvtap.{mac_vtap_is}
+use Rattle.linkinfo_table.specs.PeerLaws.{IsPeer}
+use Rattle.linkinfo_peers.specs.Netkit.{netkit_lawful}
+use Rattle.linkinfo_peers.specs.PeerRows.{is_peer}
+use Rattle.linkinfo_peers.specs.Veth.{veth_lawful}
+use Rattle.linkinfo_peers.specs.Vxcan.{vxcan_lawful}
 use Rattle.linkinfo_data.proofs.Lawful.{amt_is, bare_udp_is, batadv_is, geneve_is, gre6_is, gre_is}
 use Rattle.linkinfo_data.proofs.Lawful.{gtp_is, ip_tunnel_is, ip_vlan_is, ipoib_is}
-use Rattle.linkinfo_data.proofs.Lawful.{mac_sec_is, mac_vlan_is, mac_vtap_is, opaque_is, peer_is}
+use Rattle.linkinfo_data.proofs.Lawful.{mac_sec_is, opaque_is}
 use Rattle.linkinfo_data.proofs.Lawful.{rm_net_is, vrf_is, vti_is, vxlan_is}
 use Rattle.linkinfo_data.proofs.Lawful.{wwan_is, xfrm_is}
 use Rattle.linkinfo_data.proofs.laws.families_lawful.Goals as goal
@@ -41,6 +42,8 @@ unfolding data_payload port_data_payload
 returns g c =
     let peer = g.P.LinkPeer in
     let laws = g.met.P.LinkPeer in
+    let is : IsPeer peer =
+    is_peer laws.alike_is laws.meaning_well laws.well_means laws.well_bytes in
     let families = families_of g.row.P peer in
     let lower_ones : (f : LowerFamily) →
     IsLawful (lower_data_of {P = g.row.P.Denot} f) (data_payload families) = elim [
@@ -122,20 +125,13 @@ returns g c =
       | peered.Wwan ↦ as_list_is_lawful plain.wwan wwan_is (λ xs. info.Wwan xs)
           (data_payload families) (λ _. refl) (λ x y e. cc)
       | peered.Veth ↦ as_first_is_lawful families.veth
-          (peer_is g.row.P peer laws.alike_is laws.meaning_well laws.well_means laws.well_bytes
-          family.Veth (λ z. veth.Peer z) (λ d. veth.Other d) (veth_attribute peer.canonical)
-          [] tt (λ _. refl) (λ _. refl))
+          ((veth_lawful peer is).laws family.Veth)
           (λ x. info.Veth x) (data_payload families) (λ _. refl) (λ x y e. cc)
       | peered.Vxcan ↦ as_first_is_lawful families.vxcan
-          (peer_is g.row.P peer laws.alike_is laws.meaning_well laws.well_means laws.well_bytes
-          family.Vxcan (λ z. vxcan.Peer z) (λ d. vxcan.Other d) (vxcan_attribute peer.canonical)
-          [] tt (λ _. refl) (λ _. refl))
+          ((vxcan_lawful peer is).laws family.Vxcan)
           (λ x. info.Vxcan x) (data_payload families) (λ _. refl) (λ x y e. cc)
       | peered.Netkit ↦ as_list_is_lawful families.netkit
-          (peer_is g.row.P peer laws.alike_is laws.meaning_well laws.well_means laws.well_bytes
-          family.Netkit (λ z. netkit.Peer z) (λ d. netkit.Other d)
-          (netkit_attribute peer.canonical) netkit_plain (netkit_keeps peer.canonical) (λ _. refl)
-          (λ _. refl))
+          ((netkit_lawful peer is).laws family.Netkit)
           (λ xs. info.Netkit xs) (data_payload families) (λ _. refl) (λ x y e. cc)
     ] in
     let ports : (f : PortFamily) → IsLawful (port_data_of f) port_data_payload = elim [

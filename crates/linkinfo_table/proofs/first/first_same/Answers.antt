@@ -43,7 +43,7 @@ returns-clause-equal g c =
     let m = g.F.LinkFamily.meaning c.args.ctx in
     rw (p.nla_items_are, q.nla_items_are)
     (meanings_same (m a) (m b) (g.F.LinkFamily.alike c.args.ctx a b) c.same_value.result
-    (λ x y. g.met.F.LinkFamily.alike_is c.args.ctx a b x y p.attribute q.attribute)
+    (λ x y. (g.met.F.LinkFamily.lawful c.args.ctx).alike_is a b x y p.attribute q.attribute)
     (rw p.nla_items_are at c.requires.first) (rw q.nla_items_are at c.requires.second)
     c.same_value.ensures.same)
 
