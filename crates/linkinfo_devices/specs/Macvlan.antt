@@ -171,7 +171,8 @@ pub mac_vlan_is : (c : ℕ) →
     IsFamily (members_by_rows family.MacVlan (λ d. macvlan.Other d) mac_vlan_attribute
     (λ n. mac_vlan_rows c n) (headers_inside (λ n. row_of (mac_vlan_rows c n))))
 mac_vlan_is c =
-    rows_are_family family.MacVlan (λ d. macvlan.Other d) mac_vlan_attribute (λ n. mac_vlan_rows c n)
+    rows_are_family family.MacVlan (λ d. macvlan.Other d) mac_vlan_attribute
+    (λ n. mac_vlan_rows c n)
     (mac_vlan_owes c) mac_vlan_keep.other (headers_inside (λ n. row_of (mac_vlan_rows c n)))
     (λ a. nested_quarter family.MacVlan (λ d. macvlan.Other d) mac_vlan_attribute
     (λ n. mac_vlan_rows c n) (mac_vlan_owes c) mac_vlan_keep.other a)

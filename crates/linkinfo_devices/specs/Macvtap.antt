@@ -171,7 +171,8 @@ pub mac_vtap_is : (c : ℕ) →
     IsFamily (members_by_rows family.MacVtap (λ d. macvtap.Other d) mac_vtap_attribute
     (λ n. mac_vtap_rows c n) (headers_inside (λ n. row_of (mac_vtap_rows c n))))
 mac_vtap_is c =
-    rows_are_family family.MacVtap (λ d. macvtap.Other d) mac_vtap_attribute (λ n. mac_vtap_rows c n)
+    rows_are_family family.MacVtap (λ d. macvtap.Other d) mac_vtap_attribute
+    (λ n. mac_vtap_rows c n)
     (mac_vtap_owes c) mac_vtap_keep.other (headers_inside (λ n. row_of (mac_vtap_rows c n)))
     (λ a. nested_quarter family.MacVtap (λ d. macvtap.Other d) mac_vtap_attribute
     (λ n. mac_vtap_rows c n) (mac_vtap_owes c) mac_vtap_keep.other a)

@@ -48,6 +48,7 @@ pub fn named()
 /// Each family reads a type without flag bits by its row of the table of all families
 /// (`linkinfo_shapes::table_shape`), and keeps a type without a row. A list of `macvlan` or
 /// `macvtap` attributes that is nested in 128 others is rejected.
+#[tactic(auto, using(linkinfo_table::specs::FamilyRowLaws::table_lookup, crate::specs::Ipvlan::ip_vlan_lookup, crate::specs::Macvlan::mac_vlan_lookup, crate::specs::Macvtap::mac_vtap_lookup))]
 pub fn tabled()
     ensures ip_vlan { (n : ℕ) →
         ⟦<InfoIpVlan as LinkFamily>⟧.lookup tt n ≡ lookup_in (shape_of family.IpVlan n) }

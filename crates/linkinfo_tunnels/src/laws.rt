@@ -44,6 +44,7 @@ pub fn named()
 /// Each family reads a type without flag bits by its row of the table of all families
 /// (`linkinfo_shapes::table_shape`), and keeps a type without a row. Type 8 of `InfoIpTunnel`
 /// depends on the kind.
+#[tactic(auto, using(linkinfo_table::specs::FamilyRowLaws::table_lookup, crate::specs::IpTunnel::ip_tunnel_lookup))]
 pub fn tabled()
     ensures amt { (n : ℕ) →
         ⟦<InfoAmt as LinkFamily>⟧.lookup tt n ≡ lookup_in (shape_of family.Amt n) }
