@@ -450,7 +450,8 @@ struct linkinfo_canon_result {
  * that is needed.
  *
  * Return: the status, and the length of the encoding.
- * Time: linear; two passes.
+ * Time: linear; one pass validates and measures, one writes. In the first, a
+ * list inside an attribute of data is visited twice.
  * Threads: MT-Safe.
  */
 LINKINFO_NODISCARD struct linkinfo_canon_result

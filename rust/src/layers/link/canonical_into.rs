@@ -71,7 +71,8 @@ fn write_rest<P: LinkPeer>(walk: &mut LinkInfoWalk<'_>, buffer: &mut [u8]) {
 }
 
 /// The length, in bytes, of the canonical encoding of the list that `bytes` encodes, or why there
-/// is none. Each header is examined once.
+/// is none. Each header of the list, and of data, is examined once; those in lists inside the
+/// attributes of data twice.
 pub(crate) fn canonical_len_of<P: LinkPeer>(bytes: &[u8]) -> Result<usize, CanonError> {
     match rest_measure::<P>(&mut LinkInfoWalk::new(bytes))? {
         Some(len) => Ok(len),
