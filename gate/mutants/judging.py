@@ -15,7 +15,8 @@ from .steps import answers_path
 PROMISED = re.compile(r"returns(-|$)|loop-([\w-]+-)?(init|preserved|smaller)(-|$)")
 # Errors of a proof file that names a step or a field which the edit took away, or of what rests on
 # such an error. They say nothing of the contract.
-LOST = re.compile(r"has no field|is not in scope|has no `|cannot be named from here")
+LOST = re.compile(r"has no field|is not in scope(?! here, so what is shown)|has no `"
+                  r"|cannot be named from here")
 AFTER_LOST = re.compile(r"was not admitted|was not checked")
 # The goal of a stub (`rooms`), which no function has.
 UNASKED = "unasked"
@@ -25,7 +26,8 @@ NOT_PROVED = re.compile(r"^logic=not-proved|^only=\d+ proved=", re.M)
 SEARCHED = re.compile(r"; `search` did not prove ((?:`[\w+-]+`(?:, )?)+)")
 NOTE = re.compile(r"note: src/\S+: it is not proved that ")
 NOTE_OF_GOAL = re.compile(r"note: src/\S+: it is not proved that .*? \(`([\w+-]+)`\)")
-IMPL_LAW = re.compile(r"impl \S+: not proved; antt refuses `([\w-]+)` in `[\w.]+\.TheImpl\.Laws`")
+IMPL_LAWS = re.compile(
+    r"impl \S+: not proved; antt refuses ((?:`[\w-]+`(?:, )?)+) in `[\w.]+\.TheImpl\.Laws`")
 
 
 def is_promised(function, goal):
@@ -98,11 +100,12 @@ class Report:
     def law_rejected(self, path, line):
         """The error that says that a law of the impl, in its own file, has no proof, or nothing."""
         *inside, name = path.split("::")[1:]
-        law = IMPL_LAW.match(line)
-        if not law or f".{name}.TheImpl." not in line:
+        laws = IMPL_LAWS.match(line)
+        if not laws or f".{name}.TheImpl." not in line:
             return ""
         file = re.escape("/".join(inside) or "lib")
-        mine = re.compile(rf"src/{file}\.rt:\S+ error: `{re.escape(law[1])}`: ")
+        refused = "|".join(re.findall(r"[\w-]+", laws[1]))
+        mine = re.compile(rf"src/{file}\.rt:\S+ error: `(?:{refused})`: ")
         told = [" ".join([it, *self.after(at)]) for at, it in enumerate(self.lines)
                 if mine.match(it)]
         lost = [it for it in told if LOST.search(it) or AFTER_LOST.search(it)]

@@ -117,6 +117,13 @@ class Judging(unittest.TestCase):
         other = edit("linkinfo_table::peer::OtherExactEq", is_outside=True)
         self.assertEqual(told.rejects(other), "")
 
+    def test_impl_of_which_two_laws_have_no_proof(self):
+        told = report("impl_refused_by_two_laws")
+        family = edit("linkinfo_peers::netkit::InfoNetkitOfLinkFamily", is_outside=True)
+        self.assertIn("error: `lawful-value`", told.rejects(family))
+        other = edit("linkinfo_peers::netkit::InfoNetkitOfNla", is_outside=True)
+        self.assertEqual(told.rejects(other), "")
+
     def test_line_of_another_function(self):
         told = report("refused_by_search")
         self.assertEqual(told.rejects(edit("nla_frame::bytes::Bytes::is_empty")), "")
