@@ -2,7 +2,7 @@
 
 ghost use Rattle.std.specs.Prelude.{◌≡◌};
 
-use crate::word::word_error;
+use crate::by_values::{number_of_value, value_of_number, value_of_word, write_word};
 use nla_frame::{DecodeError, ExactEq, Family};
 use std::fmt;
 use std::str::FromStr;
@@ -19,17 +19,22 @@ pub enum AmtMode {
     Other(u32),
 }
 
+macro_rules! modes {
+    ($body:ident $given:tt) => {
+        $body! { AmtMode $given;
+            (Gateway, 0, "gateway"),
+            (Relay, 1, "relay"),
+        }
+    };
+}
+
 impl From<u32> for AmtMode {
     ghost use Rattle.linkinfo_numbers.specs.Amt.{amt_mode};
 
     ghost from_gives = { λ number mode. mode ≡ amt_mode number };
 
     fn from(number: u32) -> AmtMode {
-        match number {
-            0 => AmtMode::Gateway,
-            1 => AmtMode::Relay,
-            _ => AmtMode::Other(number),
-        }
+        modes!(value_of_number number)
     }
 }
 
@@ -39,11 +44,7 @@ impl From<AmtMode> for u32 {
     ghost from_gives = { λ mode number. number ≡ amt_mode_number mode };
 
     fn from(mode: AmtMode) -> u32 {
-        match mode {
-            AmtMode::Gateway => 0,
-            AmtMode::Relay => 1,
-            AmtMode::Other(number) => number,
-        }
+        modes!(number_of_value mode)
     }
 }
 
@@ -54,11 +55,7 @@ impl fmt::Display for AmtMode {
     ghost output = { λ mode. Some (amt_mode_text mode) };
 
     fn fmt<W: fmt::Write>(&self, f: &mut fmt::Formatter<W>) -> fmt::Result {
-        match self {
-            AmtMode::Gateway => f.write_str("gateway"),
-            AmtMode::Relay => f.write_str("relay"),
-            AmtMode::Other(number) => fmt::Display::fmt(number, f),
-        }
+        modes!(write_word(self, f))
     }
 }
 
@@ -71,11 +68,7 @@ impl FromStr for AmtMode {
     ghost from_str_gives = { λ word result. result ≡ amt_mode_of_word word };
 
     fn from_str(word: &str) -> Result<AmtMode, DecodeError> {
-        match word {
-            "gateway" => Ok(AmtMode::Gateway),
-            "relay" => Ok(AmtMode::Relay),
-            _ => Err(word_error(Family::Amt)),
-        }
+        modes!(value_of_word(word, Family::Amt))
     }
 }
 

@@ -2,7 +2,7 @@
 
 ghost use Rattle.std.specs.Prelude.{◌≡◌};
 
-use crate::word::word_error;
+use crate::by_values::{number_of_value, value_of_number, value_of_word, write_word};
 use nla_frame::{DecodeError, ExactEq, Family};
 use std::fmt;
 use std::str::FromStr;
@@ -21,18 +21,23 @@ pub enum GeneveDf {
     Other(u8),
 }
 
+macro_rules! df_values {
+    ($body:ident $given:tt) => {
+        $body! { GeneveDf $given;
+            (Unset, 0, "unset"),
+            (Set, 1, "set"),
+            (Inherit, 2, "inherit"),
+        }
+    };
+}
+
 impl From<u8> for GeneveDf {
     ghost use Rattle.linkinfo_numbers.specs.Geneve.{geneve_df};
 
     ghost from_gives = { λ number df. df ≡ geneve_df number };
 
     fn from(number: u8) -> GeneveDf {
-        match number {
-            0 => GeneveDf::Unset,
-            1 => GeneveDf::Set,
-            2 => GeneveDf::Inherit,
-            _ => GeneveDf::Other(number),
-        }
+        df_values!(value_of_number number)
     }
 }
 
@@ -42,12 +47,7 @@ impl From<GeneveDf> for u8 {
     ghost from_gives = { λ df number. number ≡ geneve_df_number df };
 
     fn from(df: GeneveDf) -> u8 {
-        match df {
-            GeneveDf::Unset => 0,
-            GeneveDf::Set => 1,
-            GeneveDf::Inherit => 2,
-            GeneveDf::Other(number) => number,
-        }
+        df_values!(number_of_value df)
     }
 }
 
@@ -58,12 +58,7 @@ impl fmt::Display for GeneveDf {
     ghost output = { λ df. Some (geneve_df_text df) };
 
     fn fmt<W: fmt::Write>(&self, f: &mut fmt::Formatter<W>) -> fmt::Result {
-        match self {
-            GeneveDf::Unset => f.write_str("unset"),
-            GeneveDf::Set => f.write_str("set"),
-            GeneveDf::Inherit => f.write_str("inherit"),
-            GeneveDf::Other(number) => fmt::Display::fmt(number, f),
-        }
+        df_values!(write_word(self, f))
     }
 }
 
@@ -76,12 +71,7 @@ impl FromStr for GeneveDf {
     ghost from_str_gives = { λ word result. result ≡ geneve_df_of_word word };
 
     fn from_str(word: &str) -> Result<GeneveDf, DecodeError> {
-        match word {
-            "unset" => Ok(GeneveDf::Unset),
-            "set" => Ok(GeneveDf::Set),
-            "inherit" => Ok(GeneveDf::Inherit),
-            _ => Err(word_error(Family::Geneve)),
-        }
+        df_values!(value_of_word(word, Family::Geneve))
     }
 }
 

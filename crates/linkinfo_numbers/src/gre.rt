@@ -2,6 +2,7 @@
 
 ghost use Rattle.std.specs.Prelude.{◌≡◌};
 
+use crate::by_values::{number_of_value, value_of_number, write_word};
 use crate::flags::KeepsEveryBit;
 use bitflags::{Flag, Flags};
 use nla_frame::ExactEq;
@@ -21,18 +22,23 @@ pub enum GreEncapType {
     Other(u16),
 }
 
+macro_rules! encap_types {
+    ($body:ident $given:tt) => {
+        $body! { GreEncapType $given;
+            (None, 0, "none"),
+            (Fou, 1, "fou"),
+            (Gue, 2, "gue"),
+        }
+    };
+}
+
 impl From<u16> for GreEncapType {
     ghost use Rattle.linkinfo_numbers.specs.Gre.{gre_encap_type};
 
     ghost from_gives = { λ number encapsulation. encapsulation ≡ gre_encap_type number };
 
     fn from(number: u16) -> GreEncapType {
-        match number {
-            0 => GreEncapType::None,
-            1 => GreEncapType::Fou,
-            2 => GreEncapType::Gue,
-            _ => GreEncapType::Other(number),
-        }
+        encap_types!(value_of_number number)
     }
 }
 
@@ -42,12 +48,8 @@ impl From<&GreEncapType> for u16 {
     ghost from_gives = { λ encapsulation number. number ≡ gre_encap_type_number encapsulation.now };
 
     fn from(encapsulation: &GreEncapType) -> u16 {
-        match encapsulation {
-            GreEncapType::None => 0,
-            GreEncapType::Fou => 1,
-            GreEncapType::Gue => 2,
-            GreEncapType::Other(number) => *number,
-        }
+        let encapsulation = *encapsulation;
+        encap_types!(number_of_value encapsulation)
     }
 }
 
@@ -58,12 +60,7 @@ impl fmt::Display for GreEncapType {
     ghost output = { λ encapsulation. Some (gre_encap_type_text encapsulation) };
 
     fn fmt<W: fmt::Write>(&self, f: &mut fmt::Formatter<W>) -> fmt::Result {
-        match self {
-            GreEncapType::None => f.write_str("none"),
-            GreEncapType::Fou => f.write_str("fou"),
-            GreEncapType::Gue => f.write_str("gue"),
-            GreEncapType::Other(number) => write!(f, "other({number})"),
-        }
+        encap_types!(write_word(self, f, "other({})"))
     }
 }
 
@@ -95,17 +92,22 @@ pub enum ErSpanDir {
     Other(u8),
 }
 
+macro_rules! directions {
+    ($body:ident $given:tt) => {
+        $body! { ErSpanDir $given;
+            (Ingress, 0, "ingress"),
+            (Egress, 1, "egress"),
+        }
+    };
+}
+
 impl From<u8> for ErSpanDir {
     ghost use Rattle.linkinfo_numbers.specs.Gre.{er_span_dir};
 
     ghost from_gives = { λ number direction. direction ≡ er_span_dir number };
 
     fn from(number: u8) -> ErSpanDir {
-        match number {
-            0 => ErSpanDir::Ingress,
-            1 => ErSpanDir::Egress,
-            _ => ErSpanDir::Other(number),
-        }
+        directions!(value_of_number number)
     }
 }
 
@@ -115,11 +117,8 @@ impl From<&ErSpanDir> for u8 {
     ghost from_gives = { λ direction number. number ≡ er_span_dir_number direction.now };
 
     fn from(direction: &ErSpanDir) -> u8 {
-        match direction {
-            ErSpanDir::Ingress => 0,
-            ErSpanDir::Egress => 1,
-            ErSpanDir::Other(number) => *number,
-        }
+        let direction = *direction;
+        directions!(number_of_value direction)
     }
 }
 
@@ -130,11 +129,7 @@ impl fmt::Display for ErSpanDir {
     ghost output = { λ direction. Some (er_span_dir_text direction) };
 
     fn fmt<W: fmt::Write>(&self, f: &mut fmt::Formatter<W>) -> fmt::Result {
-        match self {
-            ErSpanDir::Ingress => f.write_str("ingress"),
-            ErSpanDir::Egress => f.write_str("egress"),
-            ErSpanDir::Other(number) => write!(f, "other({number})"),
-        }
+        directions!(write_word(self, f, "other({})"))
     }
 }
 

@@ -2,6 +2,7 @@
 
 ghost use Rattle.std.specs.Prelude.{◌≡◌};
 
+use crate::by_values::{number_of_value, value_of_number, write_word};
 use nla_frame::ExactEq;
 use std::fmt;
 
@@ -17,17 +18,22 @@ pub enum GtpRole {
     Other(u32),
 }
 
+macro_rules! roles {
+    ($body:ident $given:tt) => {
+        $body! { GtpRole $given;
+            (Ggsn, 0, "ggsn"),
+            (Sgsn, 1, "sgsn"),
+        }
+    };
+}
+
 impl From<u32> for GtpRole {
     ghost use Rattle.linkinfo_numbers.specs.Gtp.{gtp_role};
 
     ghost from_gives = { λ number role. role ≡ gtp_role number };
 
     fn from(number: u32) -> GtpRole {
-        match number {
-            0 => GtpRole::Ggsn,
-            1 => GtpRole::Sgsn,
-            _ => GtpRole::Other(number),
-        }
+        roles!(value_of_number number)
     }
 }
 
@@ -37,11 +43,7 @@ impl From<GtpRole> for u32 {
     ghost from_gives = { λ role number. number ≡ gtp_role_number role };
 
     fn from(role: GtpRole) -> u32 {
-        match role {
-            GtpRole::Ggsn => 0,
-            GtpRole::Sgsn => 1,
-            GtpRole::Other(number) => number,
-        }
+        roles!(number_of_value role)
     }
 }
 
@@ -52,11 +54,7 @@ impl fmt::Display for GtpRole {
     ghost output = { λ role. Some (gtp_role_text role) };
 
     fn fmt<W: fmt::Write>(&self, f: &mut fmt::Formatter<W>) -> fmt::Result {
-        match self {
-            GtpRole::Ggsn => f.write_str("ggsn"),
-            GtpRole::Sgsn => f.write_str("sgsn"),
-            GtpRole::Other(number) => write!(f, "unknown({number})"),
-        }
+        roles!(write_word(self, f, "unknown({})"))
     }
 }
 

@@ -2,6 +2,7 @@
 
 ghost use Rattle.std.specs.Prelude.{◌≡◌};
 
+use crate::by_values::{number_of_value, value_of_number};
 use nla_frame::ExactEq;
 
 /// The protocol number of an IP packet, one byte (include/uapi/linux/in.h).
@@ -17,18 +18,23 @@ pub enum IpProtocol {
     Other(u8),
 }
 
+macro_rules! protocols {
+    ($body:ident $given:tt) => {
+        $body! { IpProtocol $given;
+            (Ipip, 4),
+            (Ipv6, 41),
+            (Mpls, 137),
+        }
+    };
+}
+
 impl From<u8> for IpProtocol {
     ghost use Rattle.linkinfo_numbers.specs.Ip.{ip_protocol};
 
     ghost from_gives = { λ number protocol. protocol ≡ ip_protocol number };
 
     fn from(number: u8) -> IpProtocol {
-        match number {
-            4 => IpProtocol::Ipip,
-            41 => IpProtocol::Ipv6,
-            137 => IpProtocol::Mpls,
-            _ => IpProtocol::Other(number),
-        }
+        protocols!(value_of_number number)
     }
 }
 
@@ -38,12 +44,7 @@ impl From<IpProtocol> for u8 {
     ghost from_gives = { λ protocol number. number ≡ ip_protocol_number protocol };
 
     fn from(protocol: IpProtocol) -> u8 {
-        match protocol {
-            IpProtocol::Ipip => 4,
-            IpProtocol::Ipv6 => 41,
-            IpProtocol::Mpls => 137,
-            IpProtocol::Other(number) => number,
-        }
+        protocols!(number_of_value protocol)
     }
 }
 

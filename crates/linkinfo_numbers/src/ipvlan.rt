@@ -2,8 +2,8 @@
 
 ghost use Rattle.std.specs.Prelude.{◌≡◌};
 
+use crate::by_values::{number_of_value, value_of_number, value_of_word, write_word};
 use crate::flags::KeepsEveryBit;
-use crate::word::word_error;
 use bitflags::{Flag, Flags};
 use nla_frame::{DecodeError, ExactEq, Family};
 use std::fmt;
@@ -23,18 +23,23 @@ pub enum IpVlanMode {
     Other(u16),
 }
 
+macro_rules! modes {
+    ($body:ident $given:tt) => {
+        $body! { IpVlanMode $given;
+            (L2, 0, "l2"),
+            (L3, 1, "l3"),
+            (L3S, 2, "l3s"),
+        }
+    };
+}
+
 impl From<u16> for IpVlanMode {
     ghost use Rattle.linkinfo_numbers.specs.Ipvlan.{ip_vlan_mode};
 
     ghost from_gives = { λ number mode. mode ≡ ip_vlan_mode number };
 
     fn from(number: u16) -> IpVlanMode {
-        match number {
-            0 => IpVlanMode::L2,
-            1 => IpVlanMode::L3,
-            2 => IpVlanMode::L3S,
-            _ => IpVlanMode::Other(number),
-        }
+        modes!(value_of_number number)
     }
 }
 
@@ -44,12 +49,7 @@ impl From<IpVlanMode> for u16 {
     ghost from_gives = { λ mode number. number ≡ ip_vlan_mode_number mode };
 
     fn from(mode: IpVlanMode) -> u16 {
-        match mode {
-            IpVlanMode::L2 => 0,
-            IpVlanMode::L3 => 1,
-            IpVlanMode::L3S => 2,
-            IpVlanMode::Other(number) => number,
-        }
+        modes!(number_of_value mode)
     }
 }
 
@@ -60,12 +60,7 @@ impl fmt::Display for IpVlanMode {
     ghost output = { λ mode. Some (ip_vlan_mode_text mode) };
 
     fn fmt<W: fmt::Write>(&self, f: &mut fmt::Formatter<W>) -> fmt::Result {
-        match self {
-            IpVlanMode::L2 => f.write_str("l2"),
-            IpVlanMode::L3 => f.write_str("l3"),
-            IpVlanMode::L3S => f.write_str("l3s"),
-            IpVlanMode::Other(number) => fmt::Display::fmt(number, f),
-        }
+        modes!(write_word(self, f))
     }
 }
 
@@ -78,12 +73,7 @@ impl FromStr for IpVlanMode {
     ghost from_str_gives = { λ word result. result ≡ ip_vlan_mode_of_word word };
 
     fn from_str(word: &str) -> Result<IpVlanMode, DecodeError> {
-        match word {
-            "l2" => Ok(IpVlanMode::L2),
-            "l3" => Ok(IpVlanMode::L3),
-            "l3s" => Ok(IpVlanMode::L3S),
-            _ => Err(word_error(Family::IpVlan)),
-        }
+        modes!(value_of_word(word, Family::IpVlan))
     }
 }
 

@@ -2,6 +2,7 @@
 #![tactic(auto)]
 
 mod amt;
+mod by_values;
 mod ethernet;
 mod flags;
 mod geneve;

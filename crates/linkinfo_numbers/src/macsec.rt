@@ -2,6 +2,7 @@
 
 ghost use Rattle.std.specs.Prelude.{◌≡◌};
 
+use crate::by_values::{number_of_value, value_of_number};
 use nla_frame::ExactEq;
 
 /// The cipher suite of a MACsec interface: `IFLA_MACSEC_CIPHER_SUITE`, a little-endian 64-bit
@@ -22,15 +23,17 @@ pub enum MacSecCipherId {
     Other(u64),
 }
 
-const DEFAULT_GCM_AES_128: u64 = 0x0080_0200_0100_0001;
-
-const GCM_AES_128: u64 = 0x0080_C200_0100_0001;
-
-const GCM_AES_256: u64 = 0x0080_C200_0100_0002;
-
-const GCM_AES_XPN_128: u64 = 0x0080_C200_0100_0003;
-
-const GCM_AES_XPN_256: u64 = 0x0080_C200_0100_0004;
+macro_rules! ciphers {
+    ($body:ident $given:tt) => {
+        $body! { MacSecCipherId $given;
+            (DefaultGcmAes128, 0x0080_0200_0100_0001),
+            (GcmAes128, 0x0080_C200_0100_0001),
+            (GcmAes256, 0x0080_C200_0100_0002),
+            (GcmAesXpn128, 0x0080_C200_0100_0003),
+            (GcmAesXpn256, 0x0080_C200_0100_0004),
+        }
+    };
+}
 
 impl From<u64> for MacSecCipherId {
     ghost use Rattle.linkinfo_numbers.specs.Macsec.{mac_sec_cipher_id};
@@ -38,14 +41,7 @@ impl From<u64> for MacSecCipherId {
     ghost from_gives = { λ number cipher. cipher ≡ mac_sec_cipher_id number };
 
     fn from(number: u64) -> MacSecCipherId {
-        match number {
-            DEFAULT_GCM_AES_128 => MacSecCipherId::DefaultGcmAes128,
-            GCM_AES_128 => MacSecCipherId::GcmAes128,
-            GCM_AES_256 => MacSecCipherId::GcmAes256,
-            GCM_AES_XPN_128 => MacSecCipherId::GcmAesXpn128,
-            GCM_AES_XPN_256 => MacSecCipherId::GcmAesXpn256,
-            _ => MacSecCipherId::Other(number),
-        }
+        ciphers!(value_of_number number)
     }
 }
 
@@ -55,14 +51,7 @@ impl From<MacSecCipherId> for u64 {
     ghost from_gives = { λ cipher number. number ≡ mac_sec_cipher_id_number cipher };
 
     fn from(cipher: MacSecCipherId) -> u64 {
-        match cipher {
-            MacSecCipherId::DefaultGcmAes128 => DEFAULT_GCM_AES_128,
-            MacSecCipherId::GcmAes128 => GCM_AES_128,
-            MacSecCipherId::GcmAes256 => GCM_AES_256,
-            MacSecCipherId::GcmAesXpn128 => GCM_AES_XPN_128,
-            MacSecCipherId::GcmAesXpn256 => GCM_AES_XPN_256,
-            MacSecCipherId::Other(number) => number,
-        }
+        ciphers!(number_of_value cipher)
     }
 }
 
@@ -86,18 +75,23 @@ pub enum MacSecValidate {
     Other(u8),
 }
 
+macro_rules! validations {
+    ($body:ident $given:tt) => {
+        $body! { MacSecValidate $given;
+            (Disabled, 0),
+            (Check, 1),
+            (Strict, 2),
+        }
+    };
+}
+
 impl From<u8> for MacSecValidate {
     ghost use Rattle.linkinfo_numbers.specs.Macsec.{mac_sec_validate};
 
     ghost from_gives = { λ number validation. validation ≡ mac_sec_validate number };
 
     fn from(number: u8) -> MacSecValidate {
-        match number {
-            0 => MacSecValidate::Disabled,
-            1 => MacSecValidate::Check,
-            2 => MacSecValidate::Strict,
-            _ => MacSecValidate::Other(number),
-        }
+        validations!(value_of_number number)
     }
 }
 
@@ -107,12 +101,7 @@ impl From<MacSecValidate> for u8 {
     ghost from_gives = { λ validation number. number ≡ mac_sec_validate_number validation };
 
     fn from(validation: MacSecValidate) -> u8 {
-        match validation {
-            MacSecValidate::Disabled => 0,
-            MacSecValidate::Check => 1,
-            MacSecValidate::Strict => 2,
-            MacSecValidate::Other(number) => number,
-        }
+        validations!(number_of_value validation)
     }
 }
 
@@ -136,18 +125,23 @@ pub enum MacSecOffload {
     Other(u8),
 }
 
+macro_rules! offloads {
+    ($body:ident $given:tt) => {
+        $body! { MacSecOffload $given;
+            (Off, 0),
+            (Phy, 1),
+            (Mac, 2),
+        }
+    };
+}
+
 impl From<u8> for MacSecOffload {
     ghost use Rattle.linkinfo_numbers.specs.Macsec.{mac_sec_offload};
 
     ghost from_gives = { λ number offload. offload ≡ mac_sec_offload number };
 
     fn from(number: u8) -> MacSecOffload {
-        match number {
-            0 => MacSecOffload::Off,
-            1 => MacSecOffload::Phy,
-            2 => MacSecOffload::Mac,
-            _ => MacSecOffload::Other(number),
-        }
+        offloads!(value_of_number number)
     }
 }
 
@@ -157,12 +151,7 @@ impl From<MacSecOffload> for u8 {
     ghost from_gives = { λ offload number. number ≡ mac_sec_offload_number offload };
 
     fn from(offload: MacSecOffload) -> u8 {
-        match offload {
-            MacSecOffload::Off => 0,
-            MacSecOffload::Phy => 1,
-            MacSecOffload::Mac => 2,
-            MacSecOffload::Other(number) => number,
-        }
+        offloads!(number_of_value offload)
     }
 }
 

@@ -2,8 +2,8 @@
 
 ghost use Rattle.std.specs.Prelude.{◌≡◌};
 
+use crate::by_values::{number_of_value, value_of_number, value_of_word, write_word};
 use crate::flags::KeepsEveryBit;
-use crate::word::word_error;
 use bitflags::{Flag, Flags};
 use nla_frame::{DecodeError, ExactEq, Family};
 use std::fmt;
@@ -28,20 +28,25 @@ pub enum MacVlanMode {
     Other(u32),
 }
 
+macro_rules! modes {
+    ($body:ident $given:tt) => {
+        $body! { MacVlanMode $given;
+            (Private, 1, "private"),
+            (Vepa, 2, "vepa"),
+            (Bridge, 4, "bridge"),
+            (Passthrough, 8, "passthru"),
+            (Source, 16, "source"),
+        }
+    };
+}
+
 impl From<u32> for MacVlanMode {
     ghost use Rattle.linkinfo_numbers.specs.Macvlan.{mac_vlan_mode};
 
     ghost from_gives = { λ number mode. mode ≡ mac_vlan_mode number };
 
     fn from(number: u32) -> MacVlanMode {
-        match number {
-            1 => MacVlanMode::Private,
-            2 => MacVlanMode::Vepa,
-            4 => MacVlanMode::Bridge,
-            8 => MacVlanMode::Passthrough,
-            16 => MacVlanMode::Source,
-            _ => MacVlanMode::Other(number),
-        }
+        modes!(value_of_number number)
     }
 }
 
@@ -51,14 +56,7 @@ impl From<MacVlanMode> for u32 {
     ghost from_gives = { λ mode number. number ≡ mac_vlan_mode_number mode };
 
     fn from(mode: MacVlanMode) -> u32 {
-        match mode {
-            MacVlanMode::Private => 1,
-            MacVlanMode::Vepa => 2,
-            MacVlanMode::Bridge => 4,
-            MacVlanMode::Passthrough => 8,
-            MacVlanMode::Source => 16,
-            MacVlanMode::Other(number) => number,
-        }
+        modes!(number_of_value mode)
     }
 }
 
@@ -69,14 +67,7 @@ impl fmt::Display for MacVlanMode {
     ghost output = { λ mode. Some (mac_vlan_mode_text mode) };
 
     fn fmt<W: fmt::Write>(&self, f: &mut fmt::Formatter<W>) -> fmt::Result {
-        match self {
-            MacVlanMode::Private => f.write_str("private"),
-            MacVlanMode::Vepa => f.write_str("vepa"),
-            MacVlanMode::Bridge => f.write_str("bridge"),
-            MacVlanMode::Passthrough => f.write_str("passthru"),
-            MacVlanMode::Source => f.write_str("source"),
-            MacVlanMode::Other(number) => fmt::Display::fmt(number, f),
-        }
+        modes!(write_word(self, f))
     }
 }
 
@@ -89,14 +80,7 @@ impl FromStr for MacVlanMode {
     ghost from_str_gives = { λ word result. result ≡ mac_vlan_mode_of_word word };
 
     fn from_str(word: &str) -> Result<MacVlanMode, DecodeError> {
-        match word {
-            "private" => Ok(MacVlanMode::Private),
-            "vepa" => Ok(MacVlanMode::Vepa),
-            "bridge" => Ok(MacVlanMode::Bridge),
-            "passthru" => Ok(MacVlanMode::Passthrough),
-            "source" => Ok(MacVlanMode::Source),
-            _ => Err(word_error(Family::MacVlan)),
-        }
+        modes!(value_of_word(word, Family::MacVlan))
     }
 }
 
@@ -122,19 +106,24 @@ pub enum MacVlanMacAddressMode {
     Other(u32),
 }
 
+macro_rules! address_modes {
+    ($body:ident $given:tt) => {
+        $body! { MacVlanMacAddressMode $given;
+            (Add, 0),
+            (Del, 1),
+            (Flush, 2),
+            (Set, 3),
+        }
+    };
+}
+
 impl From<u32> for MacVlanMacAddressMode {
     ghost use Rattle.linkinfo_numbers.specs.Macvlan.{mac_vlan_mac_address_mode};
 
     ghost from_gives = { λ number mode. mode ≡ mac_vlan_mac_address_mode number };
 
     fn from(number: u32) -> MacVlanMacAddressMode {
-        match number {
-            0 => MacVlanMacAddressMode::Add,
-            1 => MacVlanMacAddressMode::Del,
-            2 => MacVlanMacAddressMode::Flush,
-            3 => MacVlanMacAddressMode::Set,
-            _ => MacVlanMacAddressMode::Other(number),
-        }
+        address_modes!(value_of_number number)
     }
 }
 
@@ -144,13 +133,7 @@ impl From<MacVlanMacAddressMode> for u32 {
     ghost from_gives = { λ mode number. number ≡ mac_vlan_mac_address_mode_number mode };
 
     fn from(mode: MacVlanMacAddressMode) -> u32 {
-        match mode {
-            MacVlanMacAddressMode::Add => 0,
-            MacVlanMacAddressMode::Del => 1,
-            MacVlanMacAddressMode::Flush => 2,
-            MacVlanMacAddressMode::Set => 3,
-            MacVlanMacAddressMode::Other(number) => number,
-        }
+        address_modes!(number_of_value mode)
     }
 }
 

@@ -2,6 +2,7 @@
 
 ghost use Rattle.std.specs.Prelude.{◌≡◌};
 
+use crate::by_values::{number_of_value, value_of_number, value_of_word, write_word};
 use crate::word::word_error;
 use nla_frame::{DecodeError, ExactEq, Family};
 use std::fmt;
@@ -19,17 +20,22 @@ pub enum NetkitMode {
     Other(u32),
 }
 
+macro_rules! modes {
+    ($body:ident $given:tt) => {
+        $body! { NetkitMode $given;
+            (L2, 0, "l2"),
+            (L3, 1, "l3"),
+        }
+    };
+}
+
 impl From<u32> for NetkitMode {
     ghost use Rattle.linkinfo_numbers.specs.Netkit.{netkit_mode};
 
     ghost from_gives = { λ number mode. mode ≡ netkit_mode number };
 
     fn from(number: u32) -> NetkitMode {
-        match number {
-            0 => NetkitMode::L2,
-            1 => NetkitMode::L3,
-            _ => NetkitMode::Other(number),
-        }
+        modes!(value_of_number number)
     }
 }
 
@@ -39,11 +45,7 @@ impl From<NetkitMode> for u32 {
     ghost from_gives = { λ mode number. number ≡ netkit_mode_number mode };
 
     fn from(mode: NetkitMode) -> u32 {
-        match mode {
-            NetkitMode::L2 => 0,
-            NetkitMode::L3 => 1,
-            NetkitMode::Other(number) => number,
-        }
+        modes!(number_of_value mode)
     }
 }
 
@@ -54,11 +56,7 @@ impl fmt::Display for NetkitMode {
     ghost output = { λ mode. Some (netkit_mode_text mode) };
 
     fn fmt<W: fmt::Write>(&self, f: &mut fmt::Formatter<W>) -> fmt::Result {
-        match self {
-            NetkitMode::L2 => f.write_str("l2"),
-            NetkitMode::L3 => f.write_str("l3"),
-            NetkitMode::Other(number) => fmt::Display::fmt(number, f),
-        }
+        modes!(write_word(self, f))
     }
 }
 
@@ -71,11 +69,7 @@ impl FromStr for NetkitMode {
     ghost from_str_gives = { λ word result. result ≡ netkit_mode_of_word word };
 
     fn from_str(word: &str) -> Result<NetkitMode, DecodeError> {
-        match word {
-            "l2" => Ok(NetkitMode::L2),
-            "l3" => Ok(NetkitMode::L3),
-            _ => Err(word_error(Family::Netkit)),
-        }
+        modes!(value_of_word(word, Family::Netkit))
     }
 }
 
@@ -104,18 +98,23 @@ impl NetkitPolicy {
     pub const Forward: NetkitPolicy = NetkitPolicy::Pass;
 }
 
+macro_rules! policies {
+    ($body:ident $given:tt) => {
+        $body! { NetkitPolicy $given;
+            (Pass, 0, "forward"),
+            (Drop, 2, "blackhole"),
+            (Redirect, 7, "redirect"),
+        }
+    };
+}
+
 impl From<u32> for NetkitPolicy {
     ghost use Rattle.linkinfo_numbers.specs.Netkit.{netkit_policy};
 
     ghost from_gives = { λ number policy. policy ≡ netkit_policy number };
 
     fn from(number: u32) -> NetkitPolicy {
-        match number {
-            0 => NetkitPolicy::Pass,
-            2 => NetkitPolicy::Drop,
-            7 => NetkitPolicy::Redirect,
-            _ => NetkitPolicy::Other(number),
-        }
+        policies!(value_of_number number)
     }
 }
 
@@ -125,12 +124,7 @@ impl From<NetkitPolicy> for u32 {
     ghost from_gives = { λ policy number. number ≡ netkit_policy_number policy };
 
     fn from(policy: NetkitPolicy) -> u32 {
-        match policy {
-            NetkitPolicy::Pass => 0,
-            NetkitPolicy::Drop => 2,
-            NetkitPolicy::Redirect => 7,
-            NetkitPolicy::Other(number) => number,
-        }
+        policies!(number_of_value policy)
     }
 }
 
@@ -141,12 +135,7 @@ impl fmt::Display for NetkitPolicy {
     ghost output = { λ policy. Some (netkit_policy_text policy) };
 
     fn fmt<W: fmt::Write>(&self, f: &mut fmt::Formatter<W>) -> fmt::Result {
-        match self {
-            NetkitPolicy::Pass => f.write_str("forward"),
-            NetkitPolicy::Drop => f.write_str("blackhole"),
-            NetkitPolicy::Redirect => f.write_str("redirect"),
-            NetkitPolicy::Other(number) => fmt::Display::fmt(number, f),
-        }
+        policies!(write_word(self, f))
     }
 }
 
@@ -159,12 +148,7 @@ impl FromStr for NetkitPolicy {
     ghost from_str_gives = { λ word result. result ≡ netkit_policy_of_word word };
 
     fn from_str(word: &str) -> Result<NetkitPolicy, DecodeError> {
-        match word {
-            "forward" => Ok(NetkitPolicy::Pass),
-            "blackhole" => Ok(NetkitPolicy::Drop),
-            "redirect" => Ok(NetkitPolicy::Redirect),
-            _ => Err(word_error(Family::Netkit)),
-        }
+        policies!(value_of_word(word, Family::Netkit))
     }
 }
 

@@ -2,6 +2,7 @@
 
 ghost use Rattle.std.specs.Prelude.{◌≡◌};
 
+use crate::by_values::{number_of_value, value_of_number, write_word};
 use crate::flags::KeepsEveryBit;
 use bitflags::{Flag, Flags};
 use nla_frame::ExactEq;
@@ -23,19 +24,24 @@ pub enum TunnelEncapType {
     Other(u16),
 }
 
+macro_rules! encap_types {
+    ($body:ident $given:tt) => {
+        $body! { TunnelEncapType $given;
+            (None, 0, "none"),
+            (Fou, 1, "fou"),
+            (Gue, 2, "gue"),
+            (Mpls, 3, "mpls"),
+        }
+    };
+}
+
 impl From<u16> for TunnelEncapType {
     ghost use Rattle.linkinfo_numbers.specs.Tunnel.{tunnel_encap_type};
 
     ghost from_gives = { λ number encapsulation. encapsulation ≡ tunnel_encap_type number };
 
     fn from(number: u16) -> TunnelEncapType {
-        match number {
-            0 => TunnelEncapType::None,
-            1 => TunnelEncapType::Fou,
-            2 => TunnelEncapType::Gue,
-            3 => TunnelEncapType::Mpls,
-            _ => TunnelEncapType::Other(number),
-        }
+        encap_types!(value_of_number number)
     }
 }
 
@@ -45,13 +51,7 @@ impl From<TunnelEncapType> for u16 {
     ghost from_gives = { λ encapsulation number. number ≡ tunnel_encap_type_number encapsulation };
 
     fn from(encapsulation: TunnelEncapType) -> u16 {
-        match encapsulation {
-            TunnelEncapType::None => 0,
-            TunnelEncapType::Fou => 1,
-            TunnelEncapType::Gue => 2,
-            TunnelEncapType::Mpls => 3,
-            TunnelEncapType::Other(number) => number,
-        }
+        encap_types!(number_of_value encapsulation)
     }
 }
 
@@ -62,13 +62,7 @@ impl fmt::Display for TunnelEncapType {
     ghost output = { λ encapsulation. Some (tunnel_encap_type_text encapsulation) };
 
     fn fmt<W: fmt::Write>(&self, f: &mut fmt::Formatter<W>) -> fmt::Result {
-        match self {
-            TunnelEncapType::None => f.write_str("none"),
-            TunnelEncapType::Fou => f.write_str("fou"),
-            TunnelEncapType::Gue => f.write_str("gue"),
-            TunnelEncapType::Mpls => f.write_str("mpls"),
-            TunnelEncapType::Other(number) => fmt::Display::fmt(number, f),
-        }
+        encap_types!(write_word(self, f))
     }
 }
 

@@ -2,6 +2,7 @@
 
 ghost use Rattle.std.specs.Prelude.{◌≡◌};
 
+use crate::by_values::{number_of_value, value_of_number, write_word};
 use nla_frame::ExactEq;
 use std::fmt;
 
@@ -19,18 +20,23 @@ pub enum VxlanDf {
     Other(u8),
 }
 
+macro_rules! df_values {
+    ($body:ident $given:tt) => {
+        $body! { VxlanDf $given;
+            (Unset, 0, "unset"),
+            (Set, 1, "set"),
+            (Inherit, 2, "inherit"),
+        }
+    };
+}
+
 impl From<u8> for VxlanDf {
     ghost use Rattle.linkinfo_numbers.specs.Vxlan.{vxlan_df};
 
     ghost from_gives = { λ number df. df ≡ vxlan_df number };
 
     fn from(number: u8) -> VxlanDf {
-        match number {
-            0 => VxlanDf::Unset,
-            1 => VxlanDf::Set,
-            2 => VxlanDf::Inherit,
-            _ => VxlanDf::Other(number),
-        }
+        df_values!(value_of_number number)
     }
 }
 
@@ -40,12 +46,7 @@ impl From<VxlanDf> for u8 {
     ghost from_gives = { λ df number. number ≡ vxlan_df_number df };
 
     fn from(df: VxlanDf) -> u8 {
-        match df {
-            VxlanDf::Unset => 0,
-            VxlanDf::Set => 1,
-            VxlanDf::Inherit => 2,
-            VxlanDf::Other(number) => number,
-        }
+        df_values!(number_of_value df)
     }
 }
 
@@ -56,12 +57,7 @@ impl fmt::Display for VxlanDf {
     ghost output = { λ df. Some (vxlan_df_text df) };
 
     fn fmt<W: fmt::Write>(&self, f: &mut fmt::Formatter<W>) -> fmt::Result {
-        match self {
-            VxlanDf::Unset => f.write_str("unset"),
-            VxlanDf::Set => f.write_str("set"),
-            VxlanDf::Inherit => f.write_str("inherit"),
-            VxlanDf::Other(number) => fmt::Display::fmt(number, f),
-        }
+        df_values!(write_word(self, f))
     }
 }
 

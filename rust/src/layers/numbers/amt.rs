@@ -1,7 +1,9 @@
 //! AMT tunnels.
 
 use crate::layers::nla_frame::{DecodeError, ExactEq, Family};
-use crate::layers::numbers::word::word_error;
+use crate::layers::numbers::by_values::{
+    number_of_value, value_of_number, value_of_word, write_word,
+};
 use core::fmt;
 use core::str::FromStr;
 
@@ -17,33 +19,30 @@ pub enum AmtMode {
     Other(u32),
 }
 
+macro_rules! modes {
+    ($body:ident $given:tt) => {
+        $body! { AmtMode $given;
+            (Gateway, 0, "gateway"),
+            (Relay, 1, "relay"),
+        }
+    };
+}
+
 impl From<u32> for AmtMode {
     fn from(number: u32) -> AmtMode {
-        match number {
-            0 => AmtMode::Gateway,
-            1 => AmtMode::Relay,
-            _ => AmtMode::Other(number),
-        }
+        modes!(value_of_number number)
     }
 }
 
 impl From<AmtMode> for u32 {
     fn from(mode: AmtMode) -> u32 {
-        match mode {
-            AmtMode::Gateway => 0,
-            AmtMode::Relay => 1,
-            AmtMode::Other(number) => number,
-        }
+        modes!(number_of_value mode)
     }
 }
 
 impl fmt::Display for AmtMode {
     fn fmt(&self, f: &mut fmt::Formatter<'_>) -> fmt::Result {
-        match self {
-            AmtMode::Gateway => f.write_str("gateway"),
-            AmtMode::Relay => f.write_str("relay"),
-            AmtMode::Other(number) => fmt::Display::fmt(number, f),
-        }
+        modes!(write_word(self, f))
     }
 }
 
@@ -52,11 +51,7 @@ impl FromStr for AmtMode {
     type Err = DecodeError;
 
     fn from_str(word: &str) -> Result<AmtMode, DecodeError> {
-        match word {
-            "gateway" => Ok(AmtMode::Gateway),
-            "relay" => Ok(AmtMode::Relay),
-            _ => Err(word_error(Family::Amt)),
-        }
+        modes!(value_of_word(word, Family::Amt))
     }
 }
 

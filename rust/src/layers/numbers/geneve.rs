@@ -1,7 +1,9 @@
 //! Geneve tunnels.
 
 use crate::layers::nla_frame::{DecodeError, ExactEq, Family};
-use crate::layers::numbers::word::word_error;
+use crate::layers::numbers::by_values::{
+    number_of_value, value_of_number, value_of_word, write_word,
+};
 use core::fmt;
 use core::str::FromStr;
 
@@ -19,36 +21,31 @@ pub enum GeneveDf {
     Other(u8),
 }
 
+macro_rules! df_values {
+    ($body:ident $given:tt) => {
+        $body! { GeneveDf $given;
+            (Unset, 0, "unset"),
+            (Set, 1, "set"),
+            (Inherit, 2, "inherit"),
+        }
+    };
+}
+
 impl From<u8> for GeneveDf {
     fn from(number: u8) -> GeneveDf {
-        match number {
-            0 => GeneveDf::Unset,
-            1 => GeneveDf::Set,
-            2 => GeneveDf::Inherit,
-            _ => GeneveDf::Other(number),
-        }
+        df_values!(value_of_number number)
     }
 }
 
 impl From<GeneveDf> for u8 {
     fn from(df: GeneveDf) -> u8 {
-        match df {
-            GeneveDf::Unset => 0,
-            GeneveDf::Set => 1,
-            GeneveDf::Inherit => 2,
-            GeneveDf::Other(number) => number,
-        }
+        df_values!(number_of_value df)
     }
 }
 
 impl fmt::Display for GeneveDf {
     fn fmt(&self, f: &mut fmt::Formatter<'_>) -> fmt::Result {
-        match self {
-            GeneveDf::Unset => f.write_str("unset"),
-            GeneveDf::Set => f.write_str("set"),
-            GeneveDf::Inherit => f.write_str("inherit"),
-            GeneveDf::Other(number) => fmt::Display::fmt(number, f),
-        }
+        df_values!(write_word(self, f))
     }
 }
 
@@ -57,12 +54,7 @@ impl FromStr for GeneveDf {
     type Err = DecodeError;
 
     fn from_str(word: &str) -> Result<GeneveDf, DecodeError> {
-        match word {
-            "unset" => Ok(GeneveDf::Unset),
-            "set" => Ok(GeneveDf::Set),
-            "inherit" => Ok(GeneveDf::Inherit),
-            _ => Err(word_error(Family::Geneve)),
-        }
+        df_values!(value_of_word(word, Family::Geneve))
     }
 }
 

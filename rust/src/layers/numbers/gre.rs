@@ -1,6 +1,7 @@
 //! GRE tunnels.
 
 use crate::layers::nla_frame::ExactEq;
+use crate::layers::numbers::by_values::{number_of_value, value_of_number, write_word};
 use crate::layers::numbers::flags::KeepsEveryBit;
 use bitflags::{Flag, Flags};
 use core::fmt;
@@ -19,36 +20,32 @@ pub enum GreEncapType {
     Other(u16),
 }
 
+macro_rules! encap_types {
+    ($body:ident $given:tt) => {
+        $body! { GreEncapType $given;
+            (None, 0, "none"),
+            (Fou, 1, "fou"),
+            (Gue, 2, "gue"),
+        }
+    };
+}
+
 impl From<u16> for GreEncapType {
     fn from(number: u16) -> GreEncapType {
-        match number {
-            0 => GreEncapType::None,
-            1 => GreEncapType::Fou,
-            2 => GreEncapType::Gue,
-            _ => GreEncapType::Other(number),
-        }
+        encap_types!(value_of_number number)
     }
 }
 
 impl From<&GreEncapType> for u16 {
     fn from(encapsulation: &GreEncapType) -> u16 {
-        match encapsulation {
-            GreEncapType::None => 0,
-            GreEncapType::Fou => 1,
-            GreEncapType::Gue => 2,
-            GreEncapType::Other(number) => *number,
-        }
+        let encapsulation = *encapsulation;
+        encap_types!(number_of_value encapsulation)
     }
 }
 
 impl fmt::Display for GreEncapType {
     fn fmt(&self, f: &mut fmt::Formatter<'_>) -> fmt::Result {
-        match self {
-            GreEncapType::None => f.write_str("none"),
-            GreEncapType::Fou => f.write_str("fou"),
-            GreEncapType::Gue => f.write_str("gue"),
-            GreEncapType::Other(number) => write!(f, "other({number})"),
-        }
+        encap_types!(write_word(self, f, "other({})"))
     }
 }
 
@@ -72,33 +69,31 @@ pub enum ErSpanDir {
     Other(u8),
 }
 
+macro_rules! directions {
+    ($body:ident $given:tt) => {
+        $body! { ErSpanDir $given;
+            (Ingress, 0, "ingress"),
+            (Egress, 1, "egress"),
+        }
+    };
+}
+
 impl From<u8> for ErSpanDir {
     fn from(number: u8) -> ErSpanDir {
-        match number {
-            0 => ErSpanDir::Ingress,
-            1 => ErSpanDir::Egress,
-            _ => ErSpanDir::Other(number),
-        }
+        directions!(value_of_number number)
     }
 }
 
 impl From<&ErSpanDir> for u8 {
     fn from(direction: &ErSpanDir) -> u8 {
-        match direction {
-            ErSpanDir::Ingress => 0,
-            ErSpanDir::Egress => 1,
-            ErSpanDir::Other(number) => *number,
-        }
+        let direction = *direction;
+        directions!(number_of_value direction)
     }
 }
 
 impl fmt::Display for ErSpanDir {
     fn fmt(&self, f: &mut fmt::Formatter<'_>) -> fmt::Result {
-        match self {
-            ErSpanDir::Ingress => f.write_str("ingress"),
-            ErSpanDir::Egress => f.write_str("egress"),
-            ErSpanDir::Other(number) => write!(f, "other({number})"),
-        }
+        directions!(write_word(self, f, "other({})"))
     }
 }
 

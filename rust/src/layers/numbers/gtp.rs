@@ -1,6 +1,7 @@
 //! GTP tunnels.
 
 use crate::layers::nla_frame::ExactEq;
+use crate::layers::numbers::by_values::{number_of_value, value_of_number, write_word};
 use core::fmt;
 
 /// The role of a GTP device: `IFLA_GTP_ROLE`, a little-endian 32-bit number
@@ -15,33 +16,30 @@ pub enum GtpRole {
     Other(u32),
 }
 
+macro_rules! roles {
+    ($body:ident $given:tt) => {
+        $body! { GtpRole $given;
+            (Ggsn, 0, "ggsn"),
+            (Sgsn, 1, "sgsn"),
+        }
+    };
+}
+
 impl From<u32> for GtpRole {
     fn from(number: u32) -> GtpRole {
-        match number {
-            0 => GtpRole::Ggsn,
-            1 => GtpRole::Sgsn,
-            _ => GtpRole::Other(number),
-        }
+        roles!(value_of_number number)
     }
 }
 
 impl From<GtpRole> for u32 {
     fn from(role: GtpRole) -> u32 {
-        match role {
-            GtpRole::Ggsn => 0,
-            GtpRole::Sgsn => 1,
-            GtpRole::Other(number) => number,
-        }
+        roles!(number_of_value role)
     }
 }
 
 impl fmt::Display for GtpRole {
     fn fmt(&self, f: &mut fmt::Formatter<'_>) -> fmt::Result {
-        match self {
-            GtpRole::Ggsn => f.write_str("ggsn"),
-            GtpRole::Sgsn => f.write_str("sgsn"),
-            GtpRole::Other(number) => write!(f, "unknown({number})"),
-        }
+        roles!(write_word(self, f, "unknown({})"))
     }
 }
 

@@ -1,6 +1,7 @@
 //! Protocols carried in IP packets.
 
 use crate::layers::nla_frame::ExactEq;
+use crate::layers::numbers::by_values::{number_of_value, value_of_number};
 
 /// The protocol number of an IP packet, one byte (include/uapi/linux/in.h).
 #[derive(Clone, Copy, Debug, PartialEq, Eq)]
@@ -15,25 +16,25 @@ pub enum IpProtocol {
     Other(u8),
 }
 
+macro_rules! protocols {
+    ($body:ident $given:tt) => {
+        $body! { IpProtocol $given;
+            (Ipip, 4),
+            (Ipv6, 41),
+            (Mpls, 137),
+        }
+    };
+}
+
 impl From<u8> for IpProtocol {
     fn from(number: u8) -> IpProtocol {
-        match number {
-            4 => IpProtocol::Ipip,
-            41 => IpProtocol::Ipv6,
-            137 => IpProtocol::Mpls,
-            _ => IpProtocol::Other(number),
-        }
+        protocols!(value_of_number number)
     }
 }
 
 impl From<IpProtocol> for u8 {
     fn from(protocol: IpProtocol) -> u8 {
-        match protocol {
-            IpProtocol::Ipip => 4,
-            IpProtocol::Ipv6 => 41,
-            IpProtocol::Mpls => 137,
-            IpProtocol::Other(number) => number,
-        }
+        protocols!(number_of_value protocol)
     }
 }
 

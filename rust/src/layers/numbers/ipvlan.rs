@@ -1,8 +1,10 @@
 //! IPVLAN and IPVTAP links.
 
 use crate::layers::nla_frame::{DecodeError, ExactEq, Family};
+use crate::layers::numbers::by_values::{
+    number_of_value, value_of_number, value_of_word, write_word,
+};
 use crate::layers::numbers::flags::KeepsEveryBit;
-use crate::layers::numbers::word::word_error;
 use bitflags::{Flag, Flags};
 use core::fmt;
 use core::str::FromStr;
@@ -21,36 +23,31 @@ pub enum IpVlanMode {
     Other(u16),
 }
 
+macro_rules! modes {
+    ($body:ident $given:tt) => {
+        $body! { IpVlanMode $given;
+            (L2, 0, "l2"),
+            (L3, 1, "l3"),
+            (L3S, 2, "l3s"),
+        }
+    };
+}
+
 impl From<u16> for IpVlanMode {
     fn from(number: u16) -> IpVlanMode {
-        match number {
-            0 => IpVlanMode::L2,
-            1 => IpVlanMode::L3,
-            2 => IpVlanMode::L3S,
-            _ => IpVlanMode::Other(number),
-        }
+        modes!(value_of_number number)
     }
 }
 
 impl From<IpVlanMode> for u16 {
     fn from(mode: IpVlanMode) -> u16 {
-        match mode {
-            IpVlanMode::L2 => 0,
-            IpVlanMode::L3 => 1,
-            IpVlanMode::L3S => 2,
-            IpVlanMode::Other(number) => number,
-        }
+        modes!(number_of_value mode)
     }
 }
 
 impl fmt::Display for IpVlanMode {
     fn fmt(&self, f: &mut fmt::Formatter<'_>) -> fmt::Result {
-        match self {
-            IpVlanMode::L2 => f.write_str("l2"),
-            IpVlanMode::L3 => f.write_str("l3"),
-            IpVlanMode::L3S => f.write_str("l3s"),
-            IpVlanMode::Other(number) => fmt::Display::fmt(number, f),
-        }
+        modes!(write_word(self, f))
     }
 }
 
@@ -59,12 +56,7 @@ impl FromStr for IpVlanMode {
     type Err = DecodeError;
 
     fn from_str(word: &str) -> Result<IpVlanMode, DecodeError> {
-        match word {
-            "l2" => Ok(IpVlanMode::L2),
-            "l3" => Ok(IpVlanMode::L3),
-            "l3s" => Ok(IpVlanMode::L3S),
-            _ => Err(word_error(Family::IpVlan)),
-        }
+        modes!(value_of_word(word, Family::IpVlan))
     }
 }
 

@@ -1,8 +1,10 @@
 //! MACVLAN and MACVTAP links.
 
 use crate::layers::nla_frame::{DecodeError, ExactEq, Family};
+use crate::layers::numbers::by_values::{
+    number_of_value, value_of_number, value_of_word, write_word,
+};
 use crate::layers::numbers::flags::KeepsEveryBit;
-use crate::layers::numbers::word::word_error;
 use bitflags::{Flag, Flags};
 use core::fmt;
 use core::str::FromStr;
@@ -26,42 +28,33 @@ pub enum MacVlanMode {
     Other(u32),
 }
 
+macro_rules! modes {
+    ($body:ident $given:tt) => {
+        $body! { MacVlanMode $given;
+            (Private, 1, "private"),
+            (Vepa, 2, "vepa"),
+            (Bridge, 4, "bridge"),
+            (Passthrough, 8, "passthru"),
+            (Source, 16, "source"),
+        }
+    };
+}
+
 impl From<u32> for MacVlanMode {
     fn from(number: u32) -> MacVlanMode {
-        match number {
-            1 => MacVlanMode::Private,
-            2 => MacVlanMode::Vepa,
-            4 => MacVlanMode::Bridge,
-            8 => MacVlanMode::Passthrough,
-            16 => MacVlanMode::Source,
-            _ => MacVlanMode::Other(number),
-        }
+        modes!(value_of_number number)
     }
 }
 
 impl From<MacVlanMode> for u32 {
     fn from(mode: MacVlanMode) -> u32 {
-        match mode {
-            MacVlanMode::Private => 1,
-            MacVlanMode::Vepa => 2,
-            MacVlanMode::Bridge => 4,
-            MacVlanMode::Passthrough => 8,
-            MacVlanMode::Source => 16,
-            MacVlanMode::Other(number) => number,
-        }
+        modes!(number_of_value mode)
     }
 }
 
 impl fmt::Display for MacVlanMode {
     fn fmt(&self, f: &mut fmt::Formatter<'_>) -> fmt::Result {
-        match self {
-            MacVlanMode::Private => f.write_str("private"),
-            MacVlanMode::Vepa => f.write_str("vepa"),
-            MacVlanMode::Bridge => f.write_str("bridge"),
-            MacVlanMode::Passthrough => f.write_str("passthru"),
-            MacVlanMode::Source => f.write_str("source"),
-            MacVlanMode::Other(number) => fmt::Display::fmt(number, f),
-        }
+        modes!(write_word(self, f))
     }
 }
 
@@ -70,14 +63,7 @@ impl FromStr for MacVlanMode {
     type Err = DecodeError;
 
     fn from_str(word: &str) -> Result<MacVlanMode, DecodeError> {
-        match word {
-            "private" => Ok(MacVlanMode::Private),
-            "vepa" => Ok(MacVlanMode::Vepa),
-            "bridge" => Ok(MacVlanMode::Bridge),
-            "passthru" => Ok(MacVlanMode::Passthrough),
-            "source" => Ok(MacVlanMode::Source),
-            _ => Err(word_error(Family::MacVlan)),
-        }
+        modes!(value_of_word(word, Family::MacVlan))
     }
 }
 
@@ -99,27 +85,26 @@ pub enum MacVlanMacAddressMode {
     Other(u32),
 }
 
+macro_rules! address_modes {
+    ($body:ident $given:tt) => {
+        $body! { MacVlanMacAddressMode $given;
+            (Add, 0),
+            (Del, 1),
+            (Flush, 2),
+            (Set, 3),
+        }
+    };
+}
+
 impl From<u32> for MacVlanMacAddressMode {
     fn from(number: u32) -> MacVlanMacAddressMode {
-        match number {
-            0 => MacVlanMacAddressMode::Add,
-            1 => MacVlanMacAddressMode::Del,
-            2 => MacVlanMacAddressMode::Flush,
-            3 => MacVlanMacAddressMode::Set,
-            _ => MacVlanMacAddressMode::Other(number),
-        }
+        address_modes!(value_of_number number)
     }
 }
 
 impl From<MacVlanMacAddressMode> for u32 {
     fn from(mode: MacVlanMacAddressMode) -> u32 {
-        match mode {
-            MacVlanMacAddressMode::Add => 0,
-            MacVlanMacAddressMode::Del => 1,
-            MacVlanMacAddressMode::Flush => 2,
-            MacVlanMacAddressMode::Set => 3,
-            MacVlanMacAddressMode::Other(number) => number,
-        }
+        address_modes!(number_of_value mode)
     }
 }
 

@@ -1,6 +1,7 @@
 //! The numbers, flag sets and names in the contents of `IFLA_LINKINFO`.
 
 mod amt;
+mod by_values;
 mod ethernet;
 mod flags;
 mod geneve;

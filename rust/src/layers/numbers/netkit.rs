@@ -1,6 +1,9 @@
 //! netkit links.
 
 use crate::layers::nla_frame::{DecodeError, ExactEq, Family};
+use crate::layers::numbers::by_values::{
+    number_of_value, value_of_number, value_of_word, write_word,
+};
 use crate::layers::numbers::word::word_error;
 use core::fmt;
 use core::str::FromStr;
@@ -17,33 +20,30 @@ pub enum NetkitMode {
     Other(u32),
 }
 
+macro_rules! modes {
+    ($body:ident $given:tt) => {
+        $body! { NetkitMode $given;
+            (L2, 0, "l2"),
+            (L3, 1, "l3"),
+        }
+    };
+}
+
 impl From<u32> for NetkitMode {
     fn from(number: u32) -> NetkitMode {
-        match number {
-            0 => NetkitMode::L2,
-            1 => NetkitMode::L3,
-            _ => NetkitMode::Other(number),
-        }
+        modes!(value_of_number number)
     }
 }
 
 impl From<NetkitMode> for u32 {
     fn from(mode: NetkitMode) -> u32 {
-        match mode {
-            NetkitMode::L2 => 0,
-            NetkitMode::L3 => 1,
-            NetkitMode::Other(number) => number,
-        }
+        modes!(number_of_value mode)
     }
 }
 
 impl fmt::Display for NetkitMode {
     fn fmt(&self, f: &mut fmt::Formatter<'_>) -> fmt::Result {
-        match self {
-            NetkitMode::L2 => f.write_str("l2"),
-            NetkitMode::L3 => f.write_str("l3"),
-            NetkitMode::Other(number) => fmt::Display::fmt(number, f),
-        }
+        modes!(write_word(self, f))
     }
 }
 
@@ -52,11 +52,7 @@ impl FromStr for NetkitMode {
     type Err = DecodeError;
 
     fn from_str(word: &str) -> Result<NetkitMode, DecodeError> {
-        match word {
-            "l2" => Ok(NetkitMode::L2),
-            "l3" => Ok(NetkitMode::L3),
-            _ => Err(word_error(Family::Netkit)),
-        }
+        modes!(value_of_word(word, Family::Netkit))
     }
 }
 
@@ -81,36 +77,31 @@ impl NetkitPolicy {
     pub const Forward: NetkitPolicy = NetkitPolicy::Pass;
 }
 
+macro_rules! policies {
+    ($body:ident $given:tt) => {
+        $body! { NetkitPolicy $given;
+            (Pass, 0, "forward"),
+            (Drop, 2, "blackhole"),
+            (Redirect, 7, "redirect"),
+        }
+    };
+}
+
 impl From<u32> for NetkitPolicy {
     fn from(number: u32) -> NetkitPolicy {
-        match number {
-            0 => NetkitPolicy::Pass,
-            2 => NetkitPolicy::Drop,
-            7 => NetkitPolicy::Redirect,
-            _ => NetkitPolicy::Other(number),
-        }
+        policies!(value_of_number number)
     }
 }
 
 impl From<NetkitPolicy> for u32 {
     fn from(policy: NetkitPolicy) -> u32 {
-        match policy {
-            NetkitPolicy::Pass => 0,
-            NetkitPolicy::Drop => 2,
-            NetkitPolicy::Redirect => 7,
-            NetkitPolicy::Other(number) => number,
-        }
+        policies!(number_of_value policy)
     }
 }
 
 impl fmt::Display for NetkitPolicy {
     fn fmt(&self, f: &mut fmt::Formatter<'_>) -> fmt::Result {
-        match self {
-            NetkitPolicy::Pass => f.write_str("forward"),
-            NetkitPolicy::Drop => f.write_str("blackhole"),
-            NetkitPolicy::Redirect => f.write_str("redirect"),
-            NetkitPolicy::Other(number) => fmt::Display::fmt(number, f),
-        }
+        policies!(write_word(self, f))
     }
 }
 
@@ -119,12 +110,7 @@ impl FromStr for NetkitPolicy {
     type Err = DecodeError;
 
     fn from_str(word: &str) -> Result<NetkitPolicy, DecodeError> {
-        match word {
-            "forward" => Ok(NetkitPolicy::Pass),
-            "blackhole" => Ok(NetkitPolicy::Drop),
-            "redirect" => Ok(NetkitPolicy::Redirect),
-            _ => Err(word_error(Family::Netkit)),
-        }
+        policies!(value_of_word(word, Family::Netkit))
     }
 }
 

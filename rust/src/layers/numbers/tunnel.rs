@@ -1,6 +1,7 @@
 //! IP tunnels.
 
 use crate::layers::nla_frame::ExactEq;
+use crate::layers::numbers::by_values::{number_of_value, value_of_number, write_word};
 use crate::layers::numbers::flags::KeepsEveryBit;
 use bitflags::{Flag, Flags};
 use core::fmt;
@@ -21,39 +22,32 @@ pub enum TunnelEncapType {
     Other(u16),
 }
 
+macro_rules! encap_types {
+    ($body:ident $given:tt) => {
+        $body! { TunnelEncapType $given;
+            (None, 0, "none"),
+            (Fou, 1, "fou"),
+            (Gue, 2, "gue"),
+            (Mpls, 3, "mpls"),
+        }
+    };
+}
+
 impl From<u16> for TunnelEncapType {
     fn from(number: u16) -> TunnelEncapType {
-        match number {
-            0 => TunnelEncapType::None,
-            1 => TunnelEncapType::Fou,
-            2 => TunnelEncapType::Gue,
-            3 => TunnelEncapType::Mpls,
-            _ => TunnelEncapType::Other(number),
-        }
+        encap_types!(value_of_number number)
     }
 }
 
 impl From<TunnelEncapType> for u16 {
     fn from(encapsulation: TunnelEncapType) -> u16 {
-        match encapsulation {
-            TunnelEncapType::None => 0,
-            TunnelEncapType::Fou => 1,
-            TunnelEncapType::Gue => 2,
-            TunnelEncapType::Mpls => 3,
-            TunnelEncapType::Other(number) => number,
-        }
+        encap_types!(number_of_value encapsulation)
     }
 }
 
 impl fmt::Display for TunnelEncapType {
     fn fmt(&self, f: &mut fmt::Formatter<'_>) -> fmt::Result {
-        match self {
-            TunnelEncapType::None => f.write_str("none"),
-            TunnelEncapType::Fou => f.write_str("fou"),
-            TunnelEncapType::Gue => f.write_str("gue"),
-            TunnelEncapType::Mpls => f.write_str("mpls"),
-            TunnelEncapType::Other(number) => fmt::Display::fmt(number, f),
-        }
+        encap_types!(write_word(self, f))
     }
 }
 

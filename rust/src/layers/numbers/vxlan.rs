@@ -1,6 +1,7 @@
 //! VXLAN tunnels.
 
 use crate::layers::nla_frame::ExactEq;
+use crate::layers::numbers::by_values::{number_of_value, value_of_number, write_word};
 use core::fmt;
 
 /// How a VXLAN tunnel sets the don't-fragment (DF) bit of the outer header: `IFLA_VXLAN_DF`, one
@@ -17,36 +18,31 @@ pub enum VxlanDf {
     Other(u8),
 }
 
+macro_rules! df_values {
+    ($body:ident $given:tt) => {
+        $body! { VxlanDf $given;
+            (Unset, 0, "unset"),
+            (Set, 1, "set"),
+            (Inherit, 2, "inherit"),
+        }
+    };
+}
+
 impl From<u8> for VxlanDf {
     fn from(number: u8) -> VxlanDf {
-        match number {
-            0 => VxlanDf::Unset,
-            1 => VxlanDf::Set,
-            2 => VxlanDf::Inherit,
-            _ => VxlanDf::Other(number),
-        }
+        df_values!(value_of_number number)
     }
 }
 
 impl From<VxlanDf> for u8 {
     fn from(df: VxlanDf) -> u8 {
-        match df {
-            VxlanDf::Unset => 0,
-            VxlanDf::Set => 1,
-            VxlanDf::Inherit => 2,
-            VxlanDf::Other(number) => number,
-        }
+        df_values!(number_of_value df)
     }
 }
 
 impl fmt::Display for VxlanDf {
     fn fmt(&self, f: &mut fmt::Formatter<'_>) -> fmt::Result {
-        match self {
-            VxlanDf::Unset => f.write_str("unset"),
-            VxlanDf::Set => f.write_str("set"),
-            VxlanDf::Inherit => f.write_str("inherit"),
-            VxlanDf::Other(number) => fmt::Display::fmt(number, f),
-        }
+        df_values!(write_word(self, f))
     }
 }
 
