@@ -21,11 +21,11 @@ use Rattle.std.specs.Prelude.{
   None,
   unwrap_or,
 }
-use Rattle.std.specs.Prelude.{is_none, ◌↔◌, Bool, Result, Ok, Err, refl}
+use Rattle.std.specs.Prelude.{is_none, ◌↔◌, Bool, Result, Ok, refl}
 use Rattle.std.specs.List.{list_all, list_any, slice_index}
 use Rattle.std.specs.Str.{bytes_eq, is_utf8}
 use Rattle.std.specs.Int.{Width, byte_len, from_le_bytes}
-use Rattle.std.proofs.Common.{arith, inl, inr, sym, ap, subst, suc, ◌≤◌, ◌∙◌, lit<}
+use Rattle.std.proofs.Common.{arith, inl, inr, sym, ap, suc, ◌≤◌, ◌∙◌, lit<}
 use Rattle.std.proofs.lemmas.Bool.Decides.{Decides-eqb}
 use Rattle.std.proofs.lemmas.Slice.Eq.{bytes_eq-Decides}
 use Rattle.nla_frame.specs.Attribute.{Attribute, IsBytes}
@@ -43,14 +43,14 @@ use Rattle.linkinfo_numbers.specs.Table.{
   apart_by,
   key-value_of,
   value_of-key,
-  value_of_is_proper,
   part_of_first,
 }
-use Rattle.linkinfo_numbers.specs.Name.{
-  name_of,
-  name_attribute,
-  name_of-name_attribute,
-  name_of_is_utf8,
+use Rattle.linkinfo_numbers.specs.Name.{name_of, name_attribute}
+use Rattle.linkinfo_numbers.specs.NameMeaning.{
+  is_name_that,
+  meaning_of_name,
+  name_meaning_is_proper,
+  name_reads_back,
 }
 use Rattle.linkinfo_numbers.specs.NameNumber.{
   TellsBytes,
@@ -434,58 +434,25 @@ tag_of_name-other_length name h =
     known_lengths h
 
 -- what an attribute means as a kind: the kind of its name, or the error
-abbrev pub kind_meaning_of_name : Result (List ℕ) DecodeError → Result InfoKind DecodeError
-kind_meaning_of_name (Ok name) = Ok (kind_of_name name)
-kind_meaning_of_name (Err error) = Err error
-
 abbrev pub kind_meaning : Attribute → Result InfoKind DecodeError
-kind_meaning a = kind_meaning_of_name (name_of 1 a)
+kind_meaning a = meaning_of_name kind_of_name (name_of 1 a)
 
 -- memory is needed for an unknown name
-abbrev pub kind_needs_memory_for_name : Result (List ℕ) DecodeError → Bool
-kind_needs_memory_for_name (Ok name) = is_none (kind_of_tag (tag_of_name name))
-kind_needs_memory_for_name (Err error) = false
-
 abbrev pub kind_needs_memory : Attribute → Bool
-kind_needs_memory a = kind_needs_memory_for_name (name_of 1 a)
+kind_needs_memory a = is_name_that (λ name. is_none (kind_of_tag (tag_of_name name))) (name_of 1 a)
 
 -- the attribute of a kind
 abbrev pub kind_attribute : InfoKind → Attribute
 kind_attribute k = name_attribute 1 (text_of_kind k)
 
--- the attribute of a kind means the kind of its text
-pub kind_meaning-kind_attribute : (k : InfoKind) → is_utf8 (text_of_kind k) ≡ true →
-    kind_meaning (kind_attribute k) ≡ Ok (kind_of_name (text_of_kind k))
-kind_meaning-kind_attribute k utf8 =
-    ap kind_meaning_of_name (name_of-name_attribute 1 (text_of_kind k) (lit< tt) utf8)
-
 -- the attribute of a kind reads back as it if and only if it is not `Other` of a known name
 pub kind_attribute_reads_back : (k : InfoKind) → is_utf8 (text_of_kind k) ≡ true →
     (kind_meaning (kind_attribute k) ≡ Ok k) ↔ IsProper kind_table k
-kind_attribute_reads_back k utf8 =
-    let read = kind_meaning-kind_attribute k utf8 in (
-      λ p. let same : kind_of_name (text_of_kind k) ≡ k = cc in
-          (kind_of_name-text_of_kind k).0 same,
-      λ proper. read ∙ ap (λ x. Ok x) ((kind_of_name-text_of_kind k).1 proper),
-    )
-
--- the kind of a name is not `Other` of a known name
-pub kind_of_name_is_proper : (name : List ℕ) → IsProper kind_table (kind_of_name name)
 unfolding kind_of_name
-kind_of_name_is_proper name = value_of_is_proper kind_table_holds name
-
-read_from_name : (name : Result (List ℕ) DecodeError) →
-    ((got : List ℕ) → name ≡ Ok got → is_utf8 got ≡ true) → (k : InfoKind) →
-    kind_meaning_of_name name ≡ Ok k → IsProper kind_table k × (is_utf8 (text_of_kind k) ≡ true)
-read_from_name (Ok name) utf8 k e =
-    let same : kind_of_name name ≡ k = cc in
-    let P : InfoKind → Type 0 = λ x. IsProper kind_table x in
-    let text : name ≡ text_of_kind k =
-    sym (text_of_kind-kind_of_name name) ∙ ap text_of_kind same in
-    (subst P same (kind_of_name_is_proper name), ap is_utf8 (sym text) ∙ utf8 name refl)
-read_from_name (Err error) utf8 k e = cc
+kind_attribute_reads_back k utf8 = name_reads_back kind_table_holds 1 (lit< tt) k utf8
 
 -- a kind read from an attribute is not `Other` of a known name, and its text is UTF-8
 pub kind_meaning_is_proper : (a : Attribute) (k : InfoKind) → kind_meaning a ≡ Ok k →
     IsProper kind_table k × (is_utf8 (text_of_kind k) ≡ true)
-kind_meaning_is_proper a k e = read_from_name (name_of 1 a) (name_of_is_utf8 1 a) k e
+unfolding kind_of_name
+kind_meaning_is_proper a k e = name_meaning_is_proper kind_table_holds 1 a k e

@@ -11,6 +11,7 @@ pub mod Kind
 pub mod Macsec
 pub mod Macvlan
 pub mod Name
+pub mod NameMeaning
 pub mod NameNumber
 pub mod Tags
 pub mod Netkit

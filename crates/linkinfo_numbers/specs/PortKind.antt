@@ -4,7 +4,6 @@ use Rattle.std.specs.Prelude.{
   ◌≢◌,
   ℕ,
   true,
-  false,
   List,
   [],
   ◌∷◌,
@@ -13,14 +12,10 @@ use Rattle.std.specs.Prelude.{
   Some,
   None,
   unwrap_or,
-  is_none,
-  ◌↔◌,
-  Bool,
-  Result,
 }
-use Rattle.std.specs.Prelude.{Ok, Err, refl}
-use Rattle.std.specs.Str.{bytes_eq, is_utf8}
-use Rattle.std.proofs.Common.{inl, inr, sym, ap, subst, ◌∙◌, lit<}
+use Rattle.std.specs.Prelude.{is_none, ◌↔◌, Bool, Result, Ok, refl}
+use Rattle.std.specs.Str.{is_utf8}
+use Rattle.std.proofs.Common.{inl, inr, sym, ap, ◌∙◌, lit<}
 use Rattle.std.proofs.lemmas.Slice.Eq.{bytes_eq-Decides}
 use Rattle.nla_frame.specs.Attribute.{Attribute}
 use Rattle.nla_frame.specs.declared.error.DecodeError.{DecodeError}
@@ -37,13 +32,12 @@ use Rattle.linkinfo_numbers.specs.Table.{
   apart_by,
   key-value_of,
   value_of-key,
-  value_of_is_proper,
 }
-use Rattle.linkinfo_numbers.specs.Table.{part_of_first-missed}
 use Rattle.linkinfo_numbers.specs.Kind.{
   known_kinds,
-  kind_of_name-tagged,
-  kind_of_tag,
+  kind_of_name,
+  tag_of_kind,
+  tag_of_kind-kind_of_name,
   tag_of_name,
   text_of_kind,
   text_of_kind-kind_of_name,
@@ -52,11 +46,12 @@ use Rattle.linkinfo_numbers.specs.declared.tags.KindTag.{KindTag}
 use Rattle.linkinfo_numbers.specs.declared.tags.KindTag.TheVariants as link
 use Rattle.linkinfo_numbers.specs.declared.kind.InfoKind.{InfoKind}
 use Rattle.linkinfo_numbers.specs.declared.kind.InfoKind.TheVariants as link_kind
-use Rattle.linkinfo_numbers.specs.Name.{
-  name_of,
-  name_attribute,
-  name_of-name_attribute,
-  name_of_is_utf8,
+use Rattle.linkinfo_numbers.specs.Name.{name_of, name_attribute}
+use Rattle.linkinfo_numbers.specs.NameMeaning.{
+  is_name_that,
+  meaning_of_name,
+  name_meaning_is_proper,
+  name_reads_back,
 }
 use Rattle.linkinfo_numbers.specs.Tags.{
   Tags,
@@ -184,128 +179,74 @@ port_kind_of_name-untagged name e =
     ∙ ap (λ o. unwrap_or o (kind.Other name)) e
 
 -- what an attribute means as a port kind: the kind of its name, or the error
-abbrev pub port_kind_meaning_of_name : Result (List ℕ) DecodeError → Result InfoPortKind DecodeError
-port_kind_meaning_of_name (Ok name) = Ok (port_kind_of_name name)
-port_kind_meaning_of_name (Err error) = Err error
-
 abbrev pub port_kind_meaning : Attribute → Result InfoPortKind DecodeError
-port_kind_meaning a = port_kind_meaning_of_name (name_of 4 a)
+port_kind_meaning a = meaning_of_name port_kind_of_name (name_of 4 a)
 
 -- memory is needed for an unknown name
-abbrev pub port_kind_needs_memory_for_name : Result (List ℕ) DecodeError → Bool
-port_kind_needs_memory_for_name (Ok name) = is_none (port_kind_of_tag (port_tag_of_name name))
-port_kind_needs_memory_for_name (Err error) = false
-
 abbrev pub port_kind_needs_memory : Attribute → Bool
-port_kind_needs_memory a = port_kind_needs_memory_for_name (name_of 4 a)
+port_kind_needs_memory a =
+    is_name_that (λ name. is_none (port_kind_of_tag (port_tag_of_name name))) (name_of 4 a)
 
 -- the attribute of a port kind
 abbrev pub port_kind_attribute : InfoPortKind → Attribute
 port_kind_attribute k = name_attribute 4 (text_of_port_kind k)
 
--- the attribute of a kind means the kind of its text
-pub port_kind_meaning-port_kind_attribute : (k : InfoPortKind) →
-    is_utf8 (text_of_port_kind k) ≡ true →
-    port_kind_meaning (port_kind_attribute k) ≡ Ok (port_kind_of_name (text_of_port_kind k))
-port_kind_meaning-port_kind_attribute k utf8 =
-    ap port_kind_meaning_of_name (name_of-name_attribute 4 (text_of_port_kind k) (lit< tt) utf8)
-
 -- the attribute of a kind reads back as it if and only if it is not `Other` of a known name
 pub port_kind_attribute_reads_back : (k : InfoPortKind) → is_utf8 (text_of_port_kind k) ≡ true →
     (port_kind_meaning (port_kind_attribute k) ≡ Ok k) ↔ IsProper port_kind_table k
-port_kind_attribute_reads_back k utf8 =
-    let read = port_kind_meaning-port_kind_attribute k utf8 in (
-      λ p. let same : port_kind_of_name (text_of_port_kind k) ≡ k = cc in
-          (port_kind_of_name-text_of_port_kind k).0 same,
-      λ proper. read ∙ ap (λ x. Ok x) ((port_kind_of_name-text_of_port_kind k).1 proper),
-    )
-
--- the kind of a name is not `Other` of a known name
-pub port_kind_of_name_is_proper : (name : List ℕ) →
-    IsProper port_kind_table (port_kind_of_name name)
 unfolding port_kind_of_name
-port_kind_of_name_is_proper name = value_of_is_proper port_kind_table_holds name
-
-read_from_name : (name : Result (List ℕ) DecodeError) →
-    ((got : List ℕ) → name ≡ Ok got → is_utf8 got ≡ true) → (k : InfoPortKind) →
-    port_kind_meaning_of_name name ≡ Ok k →
-    IsProper port_kind_table k × (is_utf8 (text_of_port_kind k) ≡ true)
-read_from_name (Ok name) utf8 k e =
-    let same : port_kind_of_name name ≡ k = cc in
-    let P : InfoPortKind → Type 0 = λ x. IsProper port_kind_table x in
-    let text : name ≡ text_of_port_kind k =
-    sym (text_of_port_kind-port_kind_of_name name) ∙ ap text_of_port_kind same in
-    (subst P same (port_kind_of_name_is_proper name), ap is_utf8 (sym text) ∙ utf8 name refl)
-read_from_name (Err error) utf8 k e = cc
+port_kind_attribute_reads_back k utf8 = name_reads_back port_kind_table_holds 4 (lit< tt) k utf8
 
 -- a kind read from an attribute is not `Other` of a known name, and its text is UTF-8
 pub port_kind_meaning_is_proper : (a : Attribute) (k : InfoPortKind) → port_kind_meaning a ≡ Ok k →
     IsProper port_kind_table k × (is_utf8 (text_of_port_kind k) ≡ true)
-port_kind_meaning_is_proper a k e = read_from_name (name_of 4 a) (name_of_is_utf8 4 a) k e
+unfolding port_kind_of_name
+port_kind_meaning_is_proper a k e = name_meaning_is_proper port_kind_table_holds 4 a k e
 
 -- ---- the names of port kinds are names of link kinds
 
--- a name with the tag of a known link kind is the text of that kind
-pub name_of_tagged : (name : List ℕ) (k : InfoKind) → kind_of_tag (tag_of_name name) ≡ Some k →
-    name ≡ text_of_kind k
-name_of_tagged name k e =
-    sym (text_of_kind-kind_of_name name) ∙ ap text_of_kind (kind_of_name-tagged name k e)
+-- the port tag of a name that has this tag as a link kind
+abbrev pub port_tag_of_tag : KindTag → PortTag
+port_tag_of_tag link.Bond = tag.Bond
+port_tag_of_tag link.Bridge = tag.Bridge
+port_tag_of_tag link.Vrf = tag.Vrf
+port_tag_of_tag link.Team = tag.Team
+port_tag_of_tag _ = tag.Other
+
+other_where_untagged : (k : InfoPortKind) → tag_of_name (text_of_port_kind k) ≡ link.Other →
+    tag.Other ≡ tag_of_port_kind k
+unfolding tag_of_name known_kinds
+other_where_untagged = elim [ kind.Other name ↦ λ e. refl | _ ↦ λ e. cc ]
+
+other_port_tag : (name : List ℕ) → tag_of_name name ≡ link.Other → tag.Other ≡ port_tag_of_name name
+other_port_tag name e =
+    other_where_untagged (port_kind_of_name name)
+    (ap tag_of_name (text_of_port_kind-port_kind_of_name name) ∙ e)
+    ∙ tag_of_port_kind-port_kind_of_name name
+
+port_tag_of_kind : (k : InfoKind) → tag_of_name (text_of_kind k) ≡ tag_of_kind k →
+    port_tag_of_tag (tag_of_kind k) ≡ port_tag_of_name (text_of_kind k)
+unfolding known_port_kinds port_tag_of_name
+port_tag_of_kind = elim [ link_kind.Other name ↦ other_port_tag name | _ ↦ λ e. refl ]
 
 -- the port tag of a name follows from its tag as a link kind
-pub port_tag-bond : (name : List ℕ) → tag_of_name name ≡ link.Bond →
-    tag.Bond ≡ port_tag_of_name name
-unfolding known_port_kinds port_tag_of_name
-port_tag-bond name e = rw (name_of_tagged name link_kind.Bond (ap kind_of_tag e)) refl
+pub port_tag_of_name-tag : (name : List ℕ) (t : KindTag) → t ≡ tag_of_name name →
+    port_tag_of_tag t ≡ port_tag_of_name name
+port_tag_of_name-tag name t is =
+    let text : text_of_kind (kind_of_name name) ≡ name = text_of_kind-kind_of_name name in
+    let has : tag_of_kind (kind_of_name name) ≡ tag_of_name name = tag_of_kind-kind_of_name name in
+    ap port_tag_of_tag (is ∙ sym has)
+    ∙ (port_tag_of_kind (kind_of_name name) (ap tag_of_name text ∙ sym has)
+    ∙ ap port_tag_of_name text)
 
-pub port_tag-bridge : (name : List ℕ) → tag_of_name name ≡ link.Bridge →
-    tag.Bridge ≡ port_tag_of_name name
-unfolding known_port_kinds port_tag_of_name
-port_tag-bridge name e = rw (name_of_tagged name link_kind.Bridge (ap kind_of_tag e)) refl
-
-pub port_tag-vrf : (name : List ℕ) → tag_of_name name ≡ link.Vrf → tag.Vrf ≡ port_tag_of_name name
-unfolding known_port_kinds port_tag_of_name
-port_tag-vrf name e = rw (name_of_tagged name link_kind.Vrf (ap kind_of_tag e)) refl
-
-pub port_tag-team : (name : List ℕ) → tag_of_name name ≡ link.Team →
-    tag.Team ≡ port_tag_of_name name
-unfolding known_port_kinds port_tag_of_name
-port_tag-team name e = rw (name_of_tagged name link_kind.Team (ap kind_of_tag e)) refl
-
-not_text : (k : InfoPortKind) (name : List ℕ) (t : KindTag) →
-    tag_of_name (text_of_port_kind k) ≡ t → tag_of_name name ≢ t →
-    ¬ (bytes_eq (text_of_port_kind k) name ≡ true)
-not_text k name t is other found =
-    other (ap tag_of_name (sym ((bytes_eq-Decides (text_of_port_kind k) name).0 found)) ∙ is)
-
-tag_of_bond : tag_of_name (codes "bond") ≡ link.Bond
-unfolding tag_of_name known_kinds
-tag_of_bond = refl
-
-tag_of_bridge : tag_of_name (codes "bridge") ≡ link.Bridge
-unfolding tag_of_name known_kinds
-tag_of_bridge = refl
-
-tag_of_vrf : tag_of_name (codes "vrf") ≡ link.Vrf
-unfolding tag_of_name known_kinds
-tag_of_vrf = refl
-
-tag_of_team : tag_of_name (codes "team") ≡ link.Team
-unfolding tag_of_name known_kinds
-tag_of_team = refl
-
-pub port_tag-other : (name : List ℕ) → tag_of_name name ≢ link.Bond →
-    tag_of_name name ≢ link.Bridge → tag_of_name name ≢ link.Vrf →
-    tag_of_name name ≢ link.Team → tag.Other ≡ port_tag_of_name name
-unfolding known_port_kinds port_tag_of_name
-port_tag-other name bond bridge vrf team =
-    sym (part_of_first-missed (λ k. bytes_eq (text_of_port_kind k) name) tag_of_port_kind tag.Other
-    known_port_kinds (
-      not_text kind.Bond name link.Bond tag_of_bond bond,
-      (
-        not_text kind.Bridge name link.Bridge tag_of_bridge bridge,
-        (
-          not_text kind.Vrf name link.Vrf tag_of_vrf vrf,
-          (not_text kind.Team name link.Team tag_of_team team, tt),
-        ),
-      ),
-    ))
+-- the tag of no port kind
+pub port_tag_of_other_tag : (t : KindTag) → t ≢ link.Bond → t ≢ link.Bridge → t ≢ link.Vrf →
+    t ≢ link.Team →
+    tag.Other ≡ port_tag_of_tag t
+port_tag_of_other_tag = elim [
+  | link.Bond ↦ λ bond bridge vrf team. absurd (bond refl)
+  | link.Bridge ↦ λ bond bridge vrf team. absurd (bridge refl)
+  | link.Vrf ↦ λ bond bridge vrf team. absurd (vrf refl)
+  | link.Team ↦ λ bond bridge vrf team. absurd (team refl)
+  | _ ↦ λ bond bridge vrf team. refl
+]

@@ -118,7 +118,7 @@ pub enum InfoKind {
 /// The known kinds: the variant of kind and tag, and the name.
 macro_rules! kinds {
     ($body:ident $given:tt) => {
-        $body! { $given;
+        $body! { InfoKind KindTag $given;
             (Dummy, "dummy"),
             (Ifb, "ifb"),
             (Bridge, "bridge"),
@@ -171,33 +171,37 @@ macro_rules! kinds {
 
 /// Maps a kind to its tag: `kinds!(tag_by_kinds kind)`.
 macro_rules! tag_by_kinds {
-    ($kind:tt; $(($variant:ident, $name:literal)),* $(,)?) => {
+    ($kinds:ident $tags:ident $kind:tt; $(($variant:ident, $name:literal),)*) => {
         match $kind {
-            $(InfoKind::$variant => KindTag::$variant,)*
-            InfoKind::Other(_) => KindTag::Other,
+            $($kinds::$variant => $tags::$variant,)*
+            $kinds::Other(_) => $tags::Other,
         }
     };
 }
 
 /// Maps a kind to its name.
 macro_rules! name_by_kinds {
-    ($kind:tt; $(($variant:ident, $name:literal)),* $(,)?) => {
+    ($kinds:ident $tags:ident $kind:tt; $(($variant:ident, $name:literal),)*) => {
         match $kind {
-            $(InfoKind::$variant => $name,)*
-            InfoKind::Other(text) => text.as_str(),
+            $($kinds::$variant => $name,)*
+            $kinds::Other(text) => text.as_str(),
         }
     };
 }
 
 /// Maps a tag to its kind.
 macro_rules! kind_by_kinds {
-    ($tag:tt; $(($variant:ident, $name:literal)),* $(,)?) => {
+    ($kinds:ident $tags:ident $tag:tt; $(($variant:ident, $name:literal),)*) => {
         match $tag {
-            $(KindTag::$variant => Some(InfoKind::$variant),)*
-            KindTag::Other => None,
+            $($tags::$variant => Some($kinds::$variant),)*
+            $tags::Other => None,
         }
     };
 }
+
+pub(crate) use kind_by_kinds;
+pub(crate) use name_by_kinds;
+pub(crate) use tag_by_kinds;
 
 impl InfoKind {
     /// Makes the kind of this name, `Other` if the name is unknown. A known name needs no memory.

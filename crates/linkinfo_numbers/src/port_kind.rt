@@ -9,6 +9,7 @@ ghost use Rattle.linkinfo_numbers.specs.PortKind.{
 };
 ghost use Rattle.linkinfo_numbers.specs.PortKind.{text_of_port_kind};
 
+use crate::kind::{kind_by_kinds, name_by_kinds, tag_by_kinds};
 use crate::name::{emit_name, name_fit_len, name_of};
 use crate::tags::{PortTag, port_tag_of_name};
 use crate::types::IFLA_INFO_SLAVE_KIND;
@@ -32,6 +33,18 @@ pub enum InfoPortKind {
     Other(Text),
 }
 
+/// The known port kinds: the variant of port kind and tag, and the name.
+macro_rules! port_kinds {
+    ($body:ident $given:tt) => {
+        $body! { InfoPortKind PortTag $given;
+            (Bond, "bond"),
+            (Bridge, "bridge"),
+            (Vrf, "vrf"),
+            (Team, "team"),
+        }
+    };
+}
+
 impl InfoPortKind {
     /// Makes the port kind of this name, `Other` if the name is unknown. A known name needs no
     /// memory.
@@ -51,39 +64,21 @@ impl InfoPortKind {
     pub fn tag(&self) -> PortTag
         ensures { result ≡ tag_of_port_kind self.now }
     {
-        match self {
-            InfoPortKind::Bond => PortTag::Bond,
-            InfoPortKind::Bridge => PortTag::Bridge,
-            InfoPortKind::Vrf => PortTag::Vrf,
-            InfoPortKind::Team => PortTag::Team,
-            InfoPortKind::Other(_) => PortTag::Other,
-        }
+        port_kinds!(tag_by_kinds self)
     }
 
     /// The name of the port kind.
     pub fn name(&self) -> &str
         ensures { result.now ≡ text_of_port_kind self.now }
     {
-        match self {
-            InfoPortKind::Bond => "bond",
-            InfoPortKind::Bridge => "bridge",
-            InfoPortKind::Vrf => "vrf",
-            InfoPortKind::Team => "team",
-            InfoPortKind::Other(text) => text.as_str(),
-        }
+        port_kinds!(name_by_kinds self)
     }
 
     /// The port kind of this tag, or `None` for `Other`, whose name the tag does not tell.
     pub fn from_tag(tag: PortTag) -> Option<InfoPortKind>
         ensures { result ≡ port_kind_of_tag tag }
     {
-        match tag {
-            PortTag::Bond => Some(InfoPortKind::Bond),
-            PortTag::Bridge => Some(InfoPortKind::Bridge),
-            PortTag::Vrf => Some(InfoPortKind::Vrf),
-            PortTag::Team => Some(InfoPortKind::Team),
-            PortTag::Other => None,
-        }
+        port_kinds!(kind_by_kinds tag)
     }
 }
 
