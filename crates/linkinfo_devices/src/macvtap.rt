@@ -24,7 +24,6 @@ ghost use Rattle.linkinfo_devices.specs.declared.macvtap.InfoMacVtap as macvtap;
 ghost use Rattle.linkinfo_table.specs.FamilyRows.{
   Stores,
   SuitsDecoded,
-  decoded_needs_memory,
   lookup_of,
   row_of,
   table_row,
@@ -39,7 +38,7 @@ ghost use Rattle.linkinfo_table.specs.Rows.{
 };
 ghost use Rattle.nla_frame.specs.Attribute.{masked};
 ghost use Rattle.nla_frame.specs.declared.error.Family.TheVariants as family;
-ghost use Rattle.std.specs.Prelude.{◌≡◌, true, IsOk, OnErr, OnOk, refl};
+ghost use Rattle.std.specs.Prelude.{◌≡◌, true, IsOk, OnErr, OnOk};
 
 use crate::mac_rows::mac_rows;
 use crate::nested_calls::{nested_check, nested_parse, nested_push, nested_read, nested_same};

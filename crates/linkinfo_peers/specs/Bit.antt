@@ -25,7 +25,7 @@ use Rattle.linkinfo_shapes.specs.ShapeLaws.{accepted, means_alike, means-canon, 
 use Rattle.linkinfo_shapes.specs.declared.datum.Datum.{Datum}
 use Rattle.linkinfo_shapes.specs.Data.{IsDatumOr, ReadsAs, unwrap, value_of}
 use Rattle.linkinfo_shapes.specs.DataLaws.{read_means, read_suits}
-use Rattle.linkinfo_table.specs.Peers.{payload_for}
+use Rattle.linkinfo_table.specs.Peers.{IsPeer, payload_for}
 use Rattle.linkinfo_peers.specs.declared.bit.BitPeer.{BitPeer}
 use Rattle.std.proofs.Common.{sym, ap, ◌∙◌}
 
@@ -68,7 +68,7 @@ bit_accepted p some = go (means Truth p) refl some
     go (Ok b) e h = accepted Truth p b e
     go (Err c) e h = absurd cc
 
-pub bit_alike_is : (p q : List ℕ) (x y : BitPeer) → IsBytes p → IsBytes q → bit_meaning p ≡ Some x →
+bit_alike_is : (p q : List ℕ) (x y : BitPeer) → IsBytes p → IsBytes q → bit_meaning p ≡ Some x →
     bit_meaning q ≡ Some y → (bit_alike p q ≡ true) ↔ (x ≡ y)
 bit_alike_is p q x y i j e g =
     let law =
@@ -76,11 +76,13 @@ bit_alike_is p q x y i j e g =
     (read_bit (means Truth q) y g) in
     (λ t. ap bit (law.0 t), λ same. law.1 (ap (λ (z : BitPeer). z.0) same))
 
-pub bit_well_means : (x : BitPeer) → bit_meaning (bit_payload x) ≡ Some x
-bit_well_means x = ap bit_of (means-canon Truth x.0 tt)
-
-pub bit_well_bytes : (x : BitPeer) → IsBytes (bit_payload x)
-bit_well_bytes x = IsBytes-canon Truth x.0 tt
+pub bit_is_peer : IsPeer bit_meaning bit_alike bit_payload (λ _. Unit {0})
+bit_is_peer = record {
+  alike_is = bit_alike_is;
+  meaning_well = λ _ _ _ _. tt;
+  well_means = λ x _. ap bit_of (means-canon Truth x.0 tt);
+  well_bytes = λ x _. IsBytes-canon Truth x.0 tt;
+}
 
 -- a bit is written as the canonical payload of the shape Truth
 pub bit_written : (p : List ℕ) → payload_for bit_payload (bit_meaning p) ≡ canonical Truth p

@@ -21,8 +21,9 @@ use Rattle.linkinfo_numbers.specs.Netkit.{
 use Rattle.linkinfo_numbers.specs.declared.netkit.NetkitScrub.{NetkitScrub}
 use Rattle.linkinfo_table.specs.FamilyRows.{FamilyRow, PlainRow, row, typed, EachKeeps}
 use Rattle.linkinfo_table.specs.Labels.{each_keeps}
-use Rattle.linkinfo_peers.specs.PeerRows.{IsUnnestedFamily, peer_lawful, peer_rows}
-use Rattle.linkinfo_table.specs.PeerLaws.{IsPeer}
+use Rattle.linkinfo_peers.specs.PeerRows.{peer_lawful, peer_rows}
+use Rattle.linkinfo_table.specs.Peers.{IsPeer}
+use Rattle.linkinfo_table.specs.UnnestedFamily.{IsUnnestedFamily}
 use Rattle.linkinfo_table.specs.declared.peer.LinkPeer.{Ghosts}
 use Rattle.linkinfo_peers.specs.declared.netkit.InfoNetkitOf.{InfoNetkitOf}
 use Rattle.linkinfo_peers.specs.declared.netkit.InfoNetkitOf.TheVariants.{
@@ -98,9 +99,10 @@ abbrev pub netkit_rows : {P : Type 0} → (List ℕ → Option P) → (List ℕ 
 netkit_rows meaning alike payload well n =
     peer_rows meaning alike payload well (λ peer. Peer peer) netkit_plain n
 
-pub netkit_lawful : {P : Type 0} (peer : Ghosts P) → IsPeer peer →
+pub netkit_lawful : {P : Type 0} (peer : Ghosts P) →
+    IsPeer peer.meaning peer.alike peer.canonical peer.well →
     IsUnnestedFamily (λ d. Other d) (netkit_attribute peer.canonical)
     (λ n. netkit_rows peer.meaning peer.alike peer.canonical peer.well n)
-netkit_lawful peer is =
-    peer_lawful peer is (λ x. Peer x) (λ d. Other d) (netkit_attribute peer.canonical) netkit_plain
+netkit_lawful peer lawful =
+    peer_lawful peer lawful (λ x. Peer x) (λ d. Other d) (netkit_attribute peer.canonical) netkit_plain
     (netkit_keeps peer.canonical) (λ _. refl) (λ _. refl)

@@ -3,7 +3,6 @@
 use Rattle.std.specs.Prelude.{
   ◌≡◌,
   ◌≢◌,
-  ◌↔◌,
   ℕ,
   ◌==◌,
   Bool,
@@ -20,14 +19,14 @@ use Rattle.std.specs.Prelude.{
 }
 use Rattle.std.proofs.Common.{sym, ap, subst, cond, lit<, ◌∙◌}
 use Rattle.std.proofs.lemmas.Bool.{ne_eqb}
-use Rattle.nla_frame.specs.Attribute.{Attribute, IsBytes, masked}
+use Rattle.nla_frame.specs.Attribute.{Attribute, masked}
 use Rattle.nla_frame.specs.declared.default_nla.DefaultNla.{DefaultNla}
 use Rattle.nla_frame.specs.declared.error.Family.{Family}
 use Rattle.nla_frame.specs.declared.error.DecodeError.{DecodeError}
 use Rattle.nla_frame.specs.declared.error.Cause.TheVariants as cause
 use Rattle.linkinfo_shapes.specs.Table.{found}
 use Rattle.linkinfo_shapes.specs.declared.shape.Shape.TheVariants as shape
-use Rattle.linkinfo_table.specs.Rows.{labelled, meaning_in, memory_in}
+use Rattle.linkinfo_table.specs.Rows.{labelled}
 use Rattle.linkinfo_table.specs.FamilyRows.{
   FamilyRow,
   Custom,
@@ -44,19 +43,11 @@ use Rattle.linkinfo_table.specs.FamilyRows.{
   EachKeeps,
 }
 use Rattle.linkinfo_table.specs.FamilyRowLaws.{row_if_owes, table_flat, table_lookup, table_owes}
-use Rattle.linkinfo_table.specs.ByRows.{members_by_rows, rows_are_family}
-use Rattle.linkinfo_table.specs.ErrorMemory.{rows_certain, unnested_other}
-use Rattle.linkinfo_table.specs.ErrorNames.{EachNames, names_first, names_list}
-use Rattle.linkinfo_table.specs.Lists.{first_meaning, values}
-use Rattle.nla_frame.specs.NlaItems.{nla_items}
-use Rattle.linkinfo_table.specs.FlatLaws.{none_inside}
-use Rattle.linkinfo_table.specs.LookupLaws.{flat_unnested, rows_say}
-use Rattle.linkinfo_table.specs.Lookups.{HoldsNone, LookupSays}
-use Rattle.linkinfo_table.specs.Members.{IsFamily}
-use Rattle.linkinfo_table.specs.PeerLaws.{IsPeer}
+use Rattle.linkinfo_table.specs.LookupLaws.{flat_unnested}
+use Rattle.linkinfo_table.specs.UnnestedFamily.{IsUnnestedFamily, unnested_lawful}
 use Rattle.linkinfo_table.specs.declared.peer.LinkPeer.{Ghosts}
 use Rattle.linkinfo_table.specs.Codecs.{Own, PayloadError}
-use Rattle.linkinfo_table.specs.Peers.{peer_codec, peer_is_codec, peer_or_error}
+use Rattle.linkinfo_table.specs.Peers.{IsPeer, peer_codec, peer_is_codec, peer_or_error}
 
 -- what an attribute means as a peer: the value of its peer, or the cause Peer
 abbrev pub peer_meaning : {P F : Type 0} → Family → (P → F) → (List ℕ → Option P) → Attribute →
@@ -109,98 +100,39 @@ module _ {P F : Type 0} (meaning : List ℕ → Option P) (alike : List ℕ → 
         go false = flat_unnested (table_row plain n) (table_flat attribute plain keeps n)
 
     -- what each row owes, from the laws of the peer and the canonical attribute of a peer's value
-    pub peer_owes :
-        ((p q : List ℕ) (x y : P) → IsBytes p → IsBytes q → meaning p ≡ Some x →
-        meaning q ≡ Some y → (alike p q ≡ true) ↔ (x ≡ y)) →
-        ((p : List ℕ) (x : P) → IsBytes p → meaning p ≡ Some x → well x) →
-        ((x : P) → well x → meaning (payload x) ≡ Some x) →
-        ((x : P) → well x → IsBytes (payload x)) →
+    pub peer_owes : IsPeer meaning alike payload well →
         ((x : P) → attribute (value x) ≡ record { kind = 1; value = payload x }) →
         (n : ℕ) → RowOwes attribute n (row_of (peer_rows plain n))
-    peer_owes alike_is meaning_well well_means well_bytes shown n =
+    peer_owes lawful shown n =
         row_if_owes attribute 1 n peer_row (table_row plain n)
         (record {
           low = lit< tt;
-          codec =
-              peer_is_codec meaning alike payload well alike_is meaning_well well_means well_bytes;
+          codec = peer_is_codec meaning alike payload well lawful;
           keeps = shown;
           same = λ x y h g e.
               let payloads : payload x ≡ payload y =
               ap (λ (a : Attribute). a.value) (sym (shown x) ∙ ap attribute e ∙ shown y) in
-              some_same x y (sym (well_means x h) ∙ ap meaning payloads ∙ well_means y g);
+              some_same x y
+              (sym (lawful.well_means x h) ∙ ap meaning payloads ∙ lawful.well_means y g);
         })
         (table_owes attribute plain keeps n)
 
 -- ---- such a family is lawful
 
--- what `LinkFamily` requires of a family without attributes inside others, whatever its name
-pub record IsUnnestedFamily {F : Type 0} (other : DefaultNla → F) (attribute : F → Attribute)
-    (rows : ℕ → FamilyRow F) : Type 0 where
-  pub says : (f : Family) (a : Attribute) →
-      LookupSays f other attribute
-      (λ (_ : Unit {0}) (b : Attribute). meaning_in f other (λ n. row_of (rows n)) b) a
-      (lookup_of (rows (masked a.kind))) (meaning_in f other (λ n. row_of (rows n)) a)
-  pub certain : (f : Family) (a : Attribute) (e : DecodeError) →
-      HoldsNone (lookup_of (rows (masked a.kind))) →
-      meaning_in f other (λ n. row_of (rows n)) a ≡ Err e →
-      memory_in (λ n. row_of (rows n)) a ≡ false
-  pub laws : (f : Family) → IsFamily (members_by_rows f other attribute rows (λ _. 0))
-
-pub is_peer : {P : Type 0} {peer : Ghosts P} →
-    ((p q : List ℕ) (x y : P) → IsBytes p → IsBytes q → peer.meaning p ≡ Some x →
-    peer.meaning q ≡ Some y → (peer.alike p q ≡ true) ↔ (x ≡ y)) →
-    ((p : List ℕ) (x : P) → IsBytes p → peer.meaning p ≡ Some x → peer.well x) →
-    ((x : P) → peer.well x → peer.meaning (peer.canonical x) ≡ Some x) →
-    ((x : P) → peer.well x → IsBytes (peer.canonical x)) → IsPeer peer
-is_peer alike_is meaning_well well_means well_bytes = record {
-  alike_is = alike_is;
-  meaning_well = meaning_well;
-  well_means = well_means;
-  well_bytes = well_bytes;
-}
-
-module _ {P F : Type 0} (peer : Ghosts P) (is : IsPeer peer) (value : P → F)
+module _ {P F : Type 0} (peer : Ghosts P)
+    (lawful : IsPeer peer.meaning peer.alike peer.canonical peer.well) (value : P → F)
     (other : DefaultNla → F) (attribute : F → Attribute) (plain : List (PlainRow F))
     (keeps : EachKeeps attribute plain)
     (shown : (x : P) → attribute (value x) ≡ record { kind = 1; value = peer.canonical x })
     (keeps_other : (d : DefaultNla) →
     attribute (other d) ≡ record { kind = d.kind; value = d.value }) where
-  abbrev rows : ℕ → FamilyRow F
-  rows n = peer_rows peer.meaning peer.alike peer.canonical peer.well value plain n
-
-  owes : (n : ℕ) → RowOwes attribute n (row_of (rows n))
-  owes n = peer_owes peer.meaning peer.alike peer.canonical peer.well value attribute plain keeps
-      is.alike_is is.meaning_well is.well_means is.well_bytes shown n
-
-  unnested : (n : ℕ) → IsUnnested (rows n)
-  unnested n =
-      peer_unnested peer.meaning peer.alike peer.canonical peer.well value attribute plain keeps n
-
-  pub peer_lawful : IsUnnestedFamily other attribute (λ n. rows n)
-  peer_lawful = record {
-    says = λ f a.
-        rows_say f other attribute attribute (λ _. refl)
-        (λ (_ : Unit {0}) (b : Attribute). meaning_in f other (λ n. row_of (rows n)) b)
-        (λ n. rows n) a (unnested (masked a.kind)) (owes (masked a.kind));
-    certain = λ f a e.
-        rows_certain f other (λ n. rows n) a e
-        (unnested_other (rows (masked a.kind)) (unnested (masked a.kind)));
-    laws = λ f.
-        rows_are_family f other attribute (λ n. rows n) owes keeps_other (λ _. 0) none_inside;
-  }
-
--- each error of such a family has its name, in lists and in first attributes
-module _ {F : Type 0} {other : DefaultNla → F} {attribute : F → Attribute} {rows : ℕ → FamilyRow F}
-    (family : IsUnnestedFamily other attribute rows) (f : Family) where
-  abbrev means : Attribute → Result F DecodeError
-  means a = meaning_in f other (λ n. row_of (rows n)) a
-
-  pub list_named : (s : List ℕ) → EachNames f (values means (nla_items s))
-  list_named s =
-      names_list f other attribute (λ _ n. lookup_of (rows n)) (λ _ a. means a)
-      (λ _ a. family.says f a) (tt {0}) s
-
-  pub first_named : (s : List ℕ) → EachNames f (first_meaning means (nla_items s))
-  first_named s =
-      names_first f other attribute (λ _ n. lookup_of (rows n)) (λ _ a. means a)
-      (λ _ a. family.says f a) (tt {0}) s
+  pub peer_lawful : IsUnnestedFamily other attribute
+      (λ n. peer_rows peer.meaning peer.alike peer.canonical peer.well value plain n)
+  peer_lawful =
+      unnested_lawful other attribute attribute (λ _. refl)
+      (λ n. peer_rows peer.meaning peer.alike peer.canonical peer.well value plain n)
+      (λ n. peer_unnested peer.meaning peer.alike peer.canonical peer.well value attribute plain
+      keeps n)
+      (λ n. peer_owes peer.meaning peer.alike peer.canonical peer.well value attribute plain keeps
+      lawful shown n)
+      keeps_other

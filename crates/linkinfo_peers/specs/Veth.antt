@@ -4,8 +4,9 @@ use Rattle.std.specs.Prelude.{ℕ, Bool, true, false, List, [], Option, refl}
 use Rattle.nla_frame.specs.Attribute.{Attribute}
 use Rattle.nla_frame.specs.Kept.{attribute_of}
 use Rattle.linkinfo_table.specs.FamilyRows.{FamilyRow}
-use Rattle.linkinfo_peers.specs.PeerRows.{IsUnnestedFamily, peer_lawful, peer_rows}
-use Rattle.linkinfo_table.specs.PeerLaws.{IsPeer}
+use Rattle.linkinfo_peers.specs.PeerRows.{peer_lawful, peer_rows}
+use Rattle.linkinfo_table.specs.Peers.{IsPeer}
+use Rattle.linkinfo_table.specs.UnnestedFamily.{IsUnnestedFamily}
 use Rattle.linkinfo_table.specs.declared.peer.LinkPeer.{Ghosts}
 use Rattle.linkinfo_peers.specs.declared.veth.InfoVethOf.{InfoVethOf}
 use Rattle.linkinfo_peers.specs.declared.veth.InfoVethOf.TheVariants.{Peer, Other}
@@ -25,9 +26,10 @@ abbrev pub veth_rows : {P : Type 0} → (List ℕ → Option P) → (List ℕ �
 veth_rows meaning alike payload well n =
     peer_rows meaning alike payload well (λ peer. Peer peer) [] n
 
-pub veth_lawful : {P : Type 0} (peer : Ghosts P) → IsPeer peer →
+pub veth_lawful : {P : Type 0} (peer : Ghosts P) →
+    IsPeer peer.meaning peer.alike peer.canonical peer.well →
     IsUnnestedFamily (λ d. Other d) (veth_attribute peer.canonical)
     (λ n. veth_rows peer.meaning peer.alike peer.canonical peer.well n)
-veth_lawful peer is =
-    peer_lawful peer is (λ x. Peer x) (λ d. Other d) (veth_attribute peer.canonical) []
+veth_lawful peer lawful =
+    peer_lawful peer lawful (λ x. Peer x) (λ d. Other d) (veth_attribute peer.canonical) []
     tt (λ _. refl) (λ _. refl)

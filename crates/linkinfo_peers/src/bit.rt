@@ -5,11 +5,9 @@ ghost use Rattle.linkinfo_table.specs.Peers.{PeerGives};
 ghost use Rattle.linkinfo_table.specs.declared.peer.PeerFault.TheVariants as error;
 ghost use Rattle.linkinfo_peers.specs.Bit.{
   bit_alike,
-  bit_alike_is,
+  bit_is_peer,
   bit_meaning,
   bit_payload,
-  bit_well_bytes,
-  bit_well_means,
 };
 
 use linkinfo_shapes::{
@@ -36,13 +34,7 @@ impl LinkPeer for BitPeer {
 
     ghost well = { λ _. Unit {0} };
 
-    ghost alike_is = { bit_alike_is };
-
-    ghost meaning_well = { λ _ _ _ _. tt };
-
-    ghost well_means = { λ x _. bit_well_means x };
-
-    ghost well_bytes = { λ x _. bit_well_bytes x };
+    ghost lawful = { bit_is_peer };
 
     #[tactic(auto, using(linkinfo_shapes::specs::DataLaws::read_fails))]
     fn read(_alloc: Global, payload: &[u8]) -> Result<BitPeer, PeerFault>

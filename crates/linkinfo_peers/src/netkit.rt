@@ -1,6 +1,6 @@
 //! Netkit links, which come in pairs: `IFLA_NETKIT_*` (include/uapi/linux/if_link.h).
 
-ghost use Rattle.linkinfo_peers.specs.PeerRows.{flat_elsewhere, is_peer, peer_owes};
+ghost use Rattle.linkinfo_peers.specs.PeerRows.{flat_elsewhere, peer_owes};
 ghost use Rattle.linkinfo_peers.specs.Netkit.{
   is_by_default,
   netkit_attribute,
@@ -95,8 +95,8 @@ impl<P: LinkPeer> RowFamily for InfoNetkitOf<P> {
 
     ghost owes = { λ _ n.
         peer_owes P.meaning P.alike P.canonical P.well (λ peer. netkit.Peer peer)
-        (netkit_attribute P.canonical) netkit_plain (netkit_keeps P.canonical) P.alike_is
-        P.meaning_well P.well_means P.well_bytes (λ _. refl) n };
+        (netkit_attribute P.canonical) netkit_plain (netkit_keeps P.canonical) P.lawful
+        (λ _. refl) n };
 
     ghost keeps_other = { λ _. refl };
 
@@ -229,16 +229,13 @@ impl<P: LinkPeer> LinkFamily for InfoNetkitOf<P> {
     ghost keeps = { λ _. refl };
 
     ghost looked_up = { λ _ a.
-        (netkit_lawful P.LinkPeer.own
-        (is_peer P.alike_is P.meaning_well P.well_means P.well_bytes)).says _ a };
+        (netkit_lawful P.LinkPeer.own P.lawful).says _ _ a };
 
     ghost lawful = { λ _.
-        (netkit_lawful P.LinkPeer.own
-        (is_peer P.alike_is P.meaning_well P.well_means P.well_bytes)).laws _ };
+        (netkit_lawful P.LinkPeer.own P.lawful).laws _ };
 
     ghost error_certain = { λ _ a e.
-        (netkit_lawful P.LinkPeer.own
-        (is_peer P.alike_is P.meaning_well P.well_means P.well_bytes)).certain _ a e };
+        (netkit_lawful P.LinkPeer.own P.lawful).certain _ a e };
 
     #[inline(always)]
     fn shape(ctx: (), kind: u16) -> Lookup {

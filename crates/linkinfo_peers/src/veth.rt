@@ -1,6 +1,6 @@
 //! Veth links, which come in pairs: `VETH_INFO_*` (include/uapi/linux/veth.h).
 
-ghost use Rattle.linkinfo_peers.specs.PeerRows.{flat_elsewhere, is_peer, peer_owes};
+ghost use Rattle.linkinfo_peers.specs.PeerRows.{flat_elsewhere, peer_owes};
 ghost use Rattle.linkinfo_peers.specs.Veth.{
   veth_attribute,
   veth_is_custom,
@@ -57,8 +57,7 @@ impl<P: LinkPeer> RowFamily for InfoVethOf<P> {
 
     ghost owes = { λ _ n.
         peer_owes P.meaning P.alike P.canonical P.well (λ peer. veth.Peer peer)
-        (veth_attribute P.canonical) [] tt P.alike_is P.meaning_well P.well_means P.well_bytes
-        (λ _. refl) n };
+        (veth_attribute P.canonical) [] tt P.lawful (λ _. refl) n };
 
     ghost keeps_other = { λ _. refl };
 
@@ -182,16 +181,13 @@ impl<P: LinkPeer> LinkFamily for InfoVethOf<P> {
     ghost keeps = { λ _. refl };
 
     ghost looked_up = { λ _ a.
-        (veth_lawful P.LinkPeer.own
-        (is_peer P.alike_is P.meaning_well P.well_means P.well_bytes)).says _ a };
+        (veth_lawful P.LinkPeer.own P.lawful).says _ _ a };
 
     ghost lawful = { λ _.
-        (veth_lawful P.LinkPeer.own
-        (is_peer P.alike_is P.meaning_well P.well_means P.well_bytes)).laws _ };
+        (veth_lawful P.LinkPeer.own P.lawful).laws _ };
 
     ghost error_certain = { λ _ a e.
-        (veth_lawful P.LinkPeer.own
-        (is_peer P.alike_is P.meaning_well P.well_means P.well_bytes)).certain _ a e };
+        (veth_lawful P.LinkPeer.own P.lawful).certain _ a e };
 
     #[inline(always)]
     fn shape(ctx: (), kind: u16) -> Lookup {

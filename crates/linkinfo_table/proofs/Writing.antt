@@ -59,14 +59,6 @@ use Rattle.linkinfo_table.proofs.RowAnswers.{flat_at, meaning_at}
 shape_same : (s t : Shape) → lookup.Is s ≡ lookup.Is t → s ≡ t
 shape_same s t e = cc
 
--- two functions that give equal canonical attributes for every value give equal ones for the
--- decoded value
-pub same_attribute : {X E : Type 0} (attribute canonical : X → Attribute) →
-    ((x : X) → attribute x ≡ canonical x) → (r : Result X E) →
-    attribute_for attribute r ≡ attribute_for canonical r
-same_attribute attribute canonical h (Ok x) = h x
-same_attribute attribute canonical h (Err e) = refl
-
 -- the payload of a shape as a codec
 pub canonical_own : (s : Shape) (p : List ℕ) → bytes_for (canon s) (own (means s p)) ≡ canonical s p
 unfolding canonical

@@ -9,11 +9,11 @@ use Rattle.nla_frame.specs.declared.error.Family.{Family}
 use Rattle.linkinfo_table.specs.FamilyRows.{EachKeeps, FamilyRow, IsUnnested, PlainRow, RowOwes}
 use Rattle.linkinfo_table.specs.FamilyRows.{lookup_of, row_of, table_row}
 use Rattle.linkinfo_table.specs.FamilyRowLaws.{table_flat, table_owes}
-use Rattle.linkinfo_table.specs.ErrorNames.{EachNames, names_first, names_list}
+use Rattle.linkinfo_table.specs.ErrorNames.{EachNames, names_list}
 use Rattle.linkinfo_table.specs.FlatLaws.{flat_alike_is, flat_no_memory, flat_read_well}
 use Rattle.linkinfo_table.specs.FlatLaws.{flat_well_attribute, flat_well_reads, none_inside}
 use Rattle.linkinfo_table.specs.LookupLaws.{flat_unnested, rows_say}
-use Rattle.linkinfo_table.specs.Lists.{first_meaning, values}
+use Rattle.linkinfo_table.specs.Lists.{values}
 use Rattle.linkinfo_table.specs.Members.{IsFamily, Members}
 use Rattle.linkinfo_table.specs.Rows.{WellFormed, alike_in, meaning_in, memory_in}
 
@@ -22,31 +22,26 @@ module _ {X : Type 0} (f : Family) (other : DefaultNla → X) (attribute : X →
   abbrev means : Attribute → Result X DecodeError
   means a = meaning_in f other (λ n. row_of (rows n)) a
 
-  abbrev pub members_by_rows : (Attribute → ℕ) → Members X
-  members_by_rows headers = record {
+  -- what is written may be another function with the same attributes
+  abbrev pub members_written_by_rows : (X → Attribute) → (Attribute → ℕ) → Members X
+  members_written_by_rows emitted headers = record {
     family = f;
     meaning = means;
     headers = headers;
     alike = alike_in (λ n. row_of (rows n));
     needs_memory = memory_in (λ n. row_of (rows n));
-    attribute = attribute;
+    attribute = emitted;
     well = WellFormed other attribute (λ n. row_of (rows n));
   }
 
-  -- what is written may be another function with the same attributes
+  abbrev pub members_by_rows : (Attribute → ℕ) → Members X
+  members_by_rows headers = members_written_by_rows attribute headers
+
   pub written_are_family : (emitted : X → Attribute) → ((x : X) → emitted x ≡ attribute x) →
       ((n : ℕ) → RowOwes attribute n (row_of (rows n))) →
       ((d : DefaultNla) → attribute (other d) ≡ record { kind = d.kind; value = d.value }) →
       (headers : Attribute → ℕ) → ((a : Attribute) → 4 * headers a ≤ length a.value) →
-      IsFamily (record {
-        family = f;
-        meaning = means;
-        headers = headers;
-        alike = alike_in (λ n. row_of (rows n));
-        needs_memory = memory_in (λ n. row_of (rows n));
-        attribute = emitted;
-        well = WellFormed other attribute (λ n. row_of (rows n));
-      })
+      IsFamily (members_written_by_rows emitted headers)
   written_are_family emitted written owes keeps headers quarter = record {
     alike_is = flat_alike_is f other attribute rows owes keeps;
     quarter = quarter;
@@ -68,12 +63,6 @@ module _ {X : Type 0} (f : Family) (other : DefaultNla → X) (attribute : X →
       pub rows_name : (s : List ℕ) → EachNames f (values means (nla_items s))
       rows_name s =
           names_list f other attribute (λ _ n. lookup_of (rows n)) (λ _ a. means a)
-          (λ _ a. rows_say f other attribute attribute (λ _. refl) (λ _ b. means b) rows a
-          (unnested (masked a.kind)) (owes (masked a.kind))) (tt {0}) s
-
-      pub rows_name_first : (s : List ℕ) → EachNames f (first_meaning means (nla_items s))
-      rows_name_first s =
-          names_first f other attribute (λ _ n. lookup_of (rows n)) (λ _ a. means a)
           (λ _ a. rows_say f other attribute attribute (λ _. refl) (λ _ b. means b) rows a
           (unnested (masked a.kind)) (owes (masked a.kind))) (tt {0}) s
 

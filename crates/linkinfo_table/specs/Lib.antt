@@ -18,10 +18,10 @@ pub mod LookupLaws
 pub mod Lookups
 pub mod Members
 pub mod Opaque
-pub mod PeerLaws
 pub mod Peers
 pub mod ReadingLaws
 pub mod Readings
 pub mod RowLaws
 pub mod Rows
 pub mod SelfList
+pub mod UnnestedFamily

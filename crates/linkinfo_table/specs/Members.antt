@@ -50,6 +50,20 @@ pub record Members (X : Type 0) : Type 1 where
   pub attribute : X → Attribute
   pub well : X → Type 0
 
+-- under one context, from what the family defines under each
+abbrev pub members_at : {C X : Type 0} → Family → (C → Attribute → Result X DecodeError) →
+    (C → Attribute → ℕ) → (C → Attribute → Attribute → Bool) → (C → Attribute → Bool) →
+    (X → Attribute) → (C → X → Type 0) → C → Members X
+members_at family meaning headers alike needs_memory attribute well c = record {
+  family = family;
+  meaning = meaning c;
+  headers = headers c;
+  alike = alike c;
+  needs_memory = needs_memory c;
+  attribute = attribute;
+  well = well c;
+}
+
 -- the laws of `LinkFamily`
 pub record IsFamily {X : Type 0} (f : Members X) : Type 0 where
   pub alike_is : (a b : Attribute) (x y : X) → IsAttribute a → IsAttribute b → f.meaning a ≡ Ok x →

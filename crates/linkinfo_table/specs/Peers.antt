@@ -1,5 +1,5 @@
--- A payload that is a peer of a user-supplied type: the results of its calls, the codec, and that
--- it is lawful if the peer is.
+-- A payload that is a peer of a user-supplied type: the results of its calls, its laws, the codec,
+-- and that it is lawful if the peer is.
 use Rattle.std.specs.Prelude.{
   ◌≡◌,
   ◌≢◌,
@@ -36,6 +36,15 @@ abbrev pub payload_for : {P : Type 0} → (P → List ℕ) → Option P → List
 payload_for canonical (Some peer) = canonical peer
 payload_for canonical None = []
 
+-- the laws of `LinkPeer`
+pub record IsPeer {P : Type 0} (meaning : List ℕ → Option P) (alike : List ℕ → List ℕ → Bool)
+    (canonical : P → List ℕ) (well : P → Type 0) : Type 0 where
+  pub alike_is : (p q : List ℕ) (x y : P) → IsBytes p → IsBytes q → meaning p ≡ Some x →
+      meaning q ≡ Some y → (alike p q ≡ true) ↔ (x ≡ y)
+  pub meaning_well : (p : List ℕ) (x : P) → IsBytes p → meaning p ≡ Some x → well x
+  pub well_means : (x : P) → well x → meaning (canonical x) ≡ Some x
+  pub well_bytes : (x : P) → well x → IsBytes (canonical x)
+
 -- a payload without a meaning has the cause Peer
 abbrev pub peer_or_error : {P : Type 0} → Option P → Result P PayloadError
 peer_or_error (Some peer) = Ok peer
@@ -65,21 +74,16 @@ not_inside : {P : Type 0} (o : Option P) → peer_or_error o ≢ Err (Inside mem
 not_inside (Some y) h = absurd cc
 not_inside None h = absurd cc
 
-module _ {P : Type 0} (meaning : List ℕ → Option P) (alike : List ℕ → List ℕ → Bool)
-    (payload : P → List ℕ) (well : P → Type 0)
-    (alike_is : (p q : List ℕ) (x y : P) → IsBytes p → IsBytes q → meaning p ≡ Some x →
-    meaning q ≡ Some y → (alike p q ≡ true) ↔ (x ≡ y))
-    (meaning_well : (p : List ℕ) (x : P) → IsBytes p → meaning p ≡ Some x → well x)
-    (well_means : (x : P) → well x → meaning (payload x) ≡ Some x)
-    (well_bytes : (x : P) → well x → IsBytes (payload x)) where
-  pub peer_is_codec : IsCodec (peer_codec meaning alike payload well)
-  peer_is_codec = record {
-    holds = λ p x bytes e. meaning_well p x bytes (is_some (meaning p) x e);
-    again = λ x w fits. ap peer_or_error (well_means x w);
-    bytes = λ x w fits. well_bytes x w;
-    alike_is = λ p q x y bp bq e g.
-        alike_is p q x y bp bq (is_some (meaning p) x e) (is_some (meaning q) y g);
-    quarter = λ p. omega arith;
-    no_own_memory = λ p. not_memory (meaning p);
-    no_inner_memory = λ p. not_inside (meaning p);
-  }
+pub peer_is_codec : {P : Type 0} (meaning : List ℕ → Option P) (alike : List ℕ → List ℕ → Bool)
+    (payload : P → List ℕ) (well : P → Type 0) → IsPeer meaning alike payload well →
+    IsCodec (peer_codec meaning alike payload well)
+peer_is_codec meaning alike payload well lawful = record {
+  holds = λ p x bytes e. lawful.meaning_well p x bytes (is_some (meaning p) x e);
+  again = λ x w fits. ap peer_or_error (lawful.well_means x w);
+  bytes = λ x w fits. lawful.well_bytes x w;
+  alike_is = λ p q x y bp bq e g.
+      lawful.alike_is p q x y bp bq (is_some (meaning p) x e) (is_some (meaning q) y g);
+  quarter = λ p. omega arith;
+  no_own_memory = λ p. not_memory (meaning p);
+  no_inner_memory = λ p. not_inside (meaning p);
+}

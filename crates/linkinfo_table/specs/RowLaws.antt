@@ -49,9 +49,6 @@ good x = Ok x
 good_same : {A : Type 0} (x y : A) → good x ≡ good y → x ≡ y
 good_same x y e = cc
 
-masked_low : (n : ℕ) → n < 16384 → masked n ≡ n
-masked_low n h = omega (arith, h)
-
 masked_masked : (n : ℕ) → masked (masked n) ≡ masked n
 masked_masked n = omega arith
 

@@ -3,8 +3,6 @@
 
 ghost use Rattle.std.specs.Prelude.{
   ◌≡◌,
-  ◌≢◌,
-  ◌↔◌,
   ℕ,
   ◌+◌,
   ◌*◌,
@@ -14,12 +12,10 @@ ghost use Rattle.std.specs.Prelude.{
   ◌^◌,
   ◌++◌,
   Bool,
-  true,
   false,
   Err,
   Ok,
   IsOk,
-  IsTrue,
   OnErr,
   Result,
   SomeIff,
@@ -31,20 +27,18 @@ ghost use Rattle.nla_frame.specs.Answers.{CertainUnless, Gives, OnAnswer, verdic
 ghost use Rattle.nla_frame.specs.Attribute.{
   Attribute,
   Fits,
-  IsAttribute,
   buffer_len_of,
   canonical_string,
   masked,
 };
 ghost use Rattle.nla_frame.specs.Canonical.{attribute_for};
-ghost use Rattle.nla_frame.specs.Error.{memory_error};
 ghost use Rattle.nla_frame.specs.Kept.{attribute_of};
 ghost use Rattle.nla_frame.specs.declared.default_nla.DefaultNla.{DefaultNla};
 ghost use Rattle.nla_frame.specs.declared.error.DecodeError.{DecodeError};
 ghost use Rattle.nla_frame.specs.declared.error.Family.{Family};
 ghost use Rattle.linkinfo_table.specs.Lists.{Appends, push_memory};
 ghost use Rattle.linkinfo_table.specs.Lookups.{HoldsNone, LookupSays};
-ghost use Rattle.linkinfo_table.specs.Members.{IsFamily};
+ghost use Rattle.linkinfo_table.specs.Members.{IsFamily, members_at};
 ghost use Rattle.linkinfo_table.specs.declared.lookup.Lookup.{Lookup};
 
 use crate::lookup::Lookup;
@@ -186,15 +180,8 @@ pub trait LinkFamily: Nla + Sized + Drop {
         LookupSays FAMILY keeping Self.attribute meaning a (lookup c (masked a.kind))
         (meaning c a) };
 
-    ghost lawful: { (c : Self.Context) → IsFamily (record {
-      family = FAMILY;
-      meaning = meaning c;
-      headers = headers c;
-      alike = alike c;
-      needs_memory = needs_memory c;
-      attribute = Self.attribute;
-      well = well c;
-    }) };
+    ghost lawful: { (c : Self.Context) →
+        IsFamily (members_at FAMILY meaning headers alike needs_memory Self.attribute well c) };
 
     ghost error_certain: { (c : Self.Context) (a : Attribute) (e : DecodeError) →
         HoldsNone (lookup c (masked a.kind)) → meaning c a ≡ Err e → needs_memory c a ≡ false };

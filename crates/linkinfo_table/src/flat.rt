@@ -1,14 +1,10 @@
 //! A family in which each row has a shape of the table is a `LinkFamily`.
 
 ghost use Rattle.std.proofs.Common.{◌∙◌};
-ghost use Rattle.nla_frame.specs.Attribute.{masked};
 ghost use Rattle.linkinfo_table.specs.FamilyMeaning.{alike_by, meaning_by, memory_by};
 ghost use Rattle.linkinfo_table.specs.FamilyRows.{lookup_of, row_of};
-ghost use Rattle.linkinfo_table.specs.ErrorMemory.{rows_certain, unnested_other};
-ghost use Rattle.linkinfo_table.specs.LookupLaws.{flat_unnested, rows_say};
 ghost use Rattle.linkinfo_table.specs.Rows.{WellFormed};
-ghost use Rattle.linkinfo_table.specs.ByRows.{written_are_family};
-ghost use Rattle.linkinfo_table.specs.FlatLaws.{none_inside};
+ghost use Rattle.linkinfo_table.specs.UnnestedFamily.{flat_lawful};
 
 use crate::canonical::{row_canonical_len, row_write_canonical};
 use crate::family::LinkFamily;
@@ -42,19 +38,16 @@ impl<F: FlatFamily> LinkFamily for F {
     ghost keeps = { λ nla. F.written (F.other nla) ∙ F.keeps_other nla };
 
     ghost looked_up = { λ c a.
-        rows_say F.RowFamily.FAMILY F.other F.canonical F.attribute F.written
-        (meaning_by F.RowFamily.own) (F.rows c) a
-        (flat_unnested (F.rows c (masked a.kind)) (F.flat c (masked a.kind)))
-        (F.owes c (masked a.kind)) };
+        (flat_lawful F.other F.canonical F.attribute F.written (F.rows c) (F.flat c) (F.owes c)
+        F.keeps_other).says F.RowFamily.FAMILY (meaning_by F.RowFamily.own) a };
 
     ghost lawful = { λ c.
-        written_are_family F.RowFamily.FAMILY F.other F.canonical (F.rows c) F.attribute F.written
-        (F.owes c) F.keeps_other (λ _. 0) none_inside };
+        (flat_lawful F.other F.canonical F.attribute F.written (F.rows c) (F.flat c) (F.owes c)
+        F.keeps_other).laws F.RowFamily.FAMILY };
 
-    ghost error_certain = { λ c a e.
-        rows_certain F.RowFamily.FAMILY F.other (F.rows c) a e
-        (unnested_other (F.rows c (masked a.kind))
-        (flat_unnested (F.rows c (masked a.kind)) (F.flat c (masked a.kind)))) };
+    ghost error_certain = { λ c.
+        (flat_lawful F.other F.canonical F.attribute F.written (F.rows c) (F.flat c) (F.owes c)
+        F.keeps_other).certain F.RowFamily.FAMILY };
 
     fn shape(ctx: <F as RowFamily>::Context, kind: u16) -> Lookup {
         <F as RowFamily>::shape(ctx, kind)

@@ -1,6 +1,6 @@
 //! Families as seen by the payloads that contain their attributes.
 
-ghost use Rattle.linkinfo_table.specs.Members.{Members};
+ghost use Rattle.linkinfo_table.specs.Members.{Members, members_at};
 
 use crate::family::LinkFamily;
 
@@ -12,13 +12,5 @@ pub trait ListedFamily: LinkFamily {
 }
 
 impl<F: LinkFamily> ListedFamily for F {
-    ghost members = { λ c. record {
-      family = F.LinkFamily.FAMILY;
-      meaning = F.meaning c;
-      headers = F.headers c;
-      alike = F.alike c;
-      needs_memory = F.needs_memory c;
-      attribute = F.attribute;
-      well = F.well c;
-    } };
+    ghost members = { members_at F.LinkFamily.FAMILY F.meaning F.headers F.alike F.needs_memory F.attribute F.well };
 }

@@ -18,7 +18,7 @@ ghost use Rattle.std.specs.Prelude.{
   length,
 };
 ghost use Rattle.nla_frame.specs.Attribute.{IsBytes};
-ghost use Rattle.linkinfo_table.specs.Peers.{PeerGives, payload_for};
+ghost use Rattle.linkinfo_table.specs.Peers.{IsPeer, PeerGives, payload_for};
 
 use nla_frame::{Bytes, ExactEq, fitting, write_bytes};
 use std::alloc::Global;
@@ -103,25 +103,13 @@ pub trait LinkPeer: Sized + Eq + ExactEq + Drop {
             ≡ payload_for canonical (meaning payload.now)
             ++ drop (length (payload_for canonical (meaning payload.now))) buffer.old };
 
-    ghost alike_is: { (p q : List ℕ) (x y : Self) → IsBytes p → IsBytes q → meaning p ≡ Some x →
-        meaning q ≡ Some y → (alike p q ≡ true) ↔ (x ≡ y) };
-
-    ghost meaning_well: { (p : List ℕ) (x : Self) → IsBytes p → meaning p ≡ Some x → well x };
-
-    ghost well_means: { (x : Self) → well x → meaning (canonical x) ≡ Some x };
-
-    ghost well_bytes: { (x : Self) → well x → IsBytes (canonical x) };
+    ghost lawful: { IsPeer meaning alike canonical well };
 }
 
 /// Any payload is a peer: its bytes. Every peer is well formed, and the cause `Peer` does not
 /// occur.
 impl LinkPeer for Bytes {
-    ghost use Rattle.linkinfo_table.specs.BytesPeer.{
-      bytes_alike_is,
-      bytes_meaning_well,
-      bytes_well_means,
-      bytes_well_bytes,
-    };
+    ghost use Rattle.linkinfo_table.specs.BytesPeer.{bytes_is_peer};
     ghost use Rattle.std.specs.Str.{bytes_eq};
 
     ghost meaning = { λ p. Some p };
@@ -132,13 +120,7 @@ impl LinkPeer for Bytes {
 
     ghost well = { IsBytes };
 
-    ghost alike_is = { bytes_alike_is };
-
-    ghost meaning_well = { bytes_meaning_well };
-
-    ghost well_means = { bytes_well_means };
-
-    ghost well_bytes = { bytes_well_bytes };
+    ghost lawful = { bytes_is_peer };
 
     fn read(alloc: Global, payload: &[u8]) -> Result<Bytes, PeerFault> {
         match Bytes::copy_of(alloc, payload) {
