@@ -1,7 +1,7 @@
 -- Which attributes of device links are well formed, by the variant of each: the conditions on a
 -- number, an address or an opaque attribute.
-use Rattle.std.specs.Prelude.{◌≡◌, ◌↔◌, ℕ, suc, ◌-◌, ◌<◌, ◌≤◌, ◌^◌, Bool, true, false, refl}
-use Rattle.std.proofs.Common.{sym, ap, subst, ◌∙◌}
+use Rattle.std.specs.Prelude.{◌↔◌, ℕ, ◌-◌, ◌<◌, ◌≤◌, ◌^◌, Bool, true, false, refl}
+use Rattle.std.proofs.Common.{subst}
 use Rattle.nla_frame.specs.declared.error.Family.TheVariants as family
 use Rattle.linkinfo_numbers.specs.Table.{IsNumber, number_label}
 use Rattle.linkinfo_numbers.specs.Ipoib.{ipoib_mode_table, ipoib_mode_table_holds}
@@ -12,9 +12,8 @@ use Rattle.linkinfo_numbers.specs.Macsec.{mac_sec_validate_table, mac_sec_valida
 use Rattle.linkinfo_table.specs.Conditions.{IsUnknown, are_typed, unknown_label}
 use Rattle.linkinfo_table.specs.FamilyRows.{row_of, table_row}
 use Rattle.linkinfo_table.specs.Rows.{WellFormed}
-use Rattle.linkinfo_devices.specs.MacConditions.{IsView, MacView, deepest, mac_conditions}
-use Rattle.linkinfo_devices.specs.MacConditions.{mac_depth_stated, mac_stated, of_view, view_depth}
-use Rattle.linkinfo_devices.specs.MacConditions as view
+use Rattle.linkinfo_devices.specs.MacConditions.{mac_conditions, mac_depth_stated, mac_stated}
+use Rattle.linkinfo_devices.specs.MacConditions.{mac_values, view_depth}
 use Rattle.linkinfo_devices.specs.Ipoib.{ipoib_attribute, ipoib_rows}
 use Rattle.linkinfo_devices.specs.declared.ipoib.InfoIpoib.{InfoIpoib}
 use Rattle.linkinfo_devices.specs.declared.ipoib.InfoIpoib.TheVariants as ipoib
@@ -33,30 +32,16 @@ use Rattle.linkinfo_devices.specs.declared.vrf.InfoVrf.TheVariants as vrf
 use Rattle.linkinfo_devices.specs.Xfrm.{xfrm_attribute, xfrm_rows}
 use Rattle.linkinfo_devices.specs.declared.xfrm.InfoXfrm.{InfoXfrm}
 use Rattle.linkinfo_devices.specs.declared.xfrm.InfoXfrm.TheVariants as xfrm
-use Rattle.linkinfo_devices.specs.Macvlan.{mac_vlan_attribute, mac_vlan_keep, mac_vlan_labels}
-use Rattle.linkinfo_devices.specs.Macvlan.{mac_vlan_rows}
+use Rattle.linkinfo_devices.specs.Macvlan.{mac_vlan_attribute, mac_vlan_fold, mac_vlan_folded}
+use Rattle.linkinfo_devices.specs.Macvlan.{mac_vlan_is_view, mac_vlan_keep, mac_vlan_labels}
+use Rattle.linkinfo_devices.specs.Macvlan.{mac_vlan_rows, mac_vlan_view}
 use Rattle.linkinfo_devices.specs.declared.macvlan.InfoMacVlan.{InfoMacVlan}
 use Rattle.linkinfo_devices.specs.declared.macvlan.InfoMacVlan as macvlan
-use Rattle.linkinfo_devices.specs.declared.macvlan.InfoMacVlan.TheOpen as layer_of_mac_vlan
-use Rattle.linkinfo_devices.specs.declared.macvlan.InfoMacVlan.TheVariants as mac_vlan
-use Rattle.linkinfo_devices.specs.declared.macvlan.InfoMacVlan.TheFolds.{fold-InfoMacVlan}
-use Rattle.linkinfo_devices.specs.declared.macvlan.InfoMacVlan.TheFolds.{fold-roll-InfoMacVlan}
-use Rattle.linkinfo_devices.specs.declared.macvlan.InfoMacVlan.TheViews.{out-InfoMacVlan}
-use Rattle.linkinfo_devices.specs.declared.macvlan.InfoMacVlan.TheViews.{out-roll-InfoMacVlan}
-use Rattle.linkinfo_devices.specs.declared.macvlan.InfoMacVlan.TheViews.{roll-InfoMacVlan}
-use Rattle.linkinfo_devices.specs.declared.macvlan.InfoMacVlan.TheViews.{roll-out-InfoMacVlan}
-use Rattle.linkinfo_devices.specs.Macvtap.{mac_vtap_attribute, mac_vtap_keep, mac_vtap_labels}
-use Rattle.linkinfo_devices.specs.Macvtap.{mac_vtap_rows}
+use Rattle.linkinfo_devices.specs.Macvtap.{mac_vtap_attribute, mac_vtap_fold, mac_vtap_folded}
+use Rattle.linkinfo_devices.specs.Macvtap.{mac_vtap_is_view, mac_vtap_keep, mac_vtap_labels}
+use Rattle.linkinfo_devices.specs.Macvtap.{mac_vtap_rows, mac_vtap_view}
 use Rattle.linkinfo_devices.specs.declared.macvtap.InfoMacVtap.{InfoMacVtap}
 use Rattle.linkinfo_devices.specs.declared.macvtap.InfoMacVtap as macvtap
-use Rattle.linkinfo_devices.specs.declared.macvtap.InfoMacVtap.TheOpen as layer_of_mac_vtap
-use Rattle.linkinfo_devices.specs.declared.macvtap.InfoMacVtap.TheVariants as mac_vtap
-use Rattle.linkinfo_devices.specs.declared.macvtap.InfoMacVtap.TheFolds.{fold-InfoMacVtap}
-use Rattle.linkinfo_devices.specs.declared.macvtap.InfoMacVtap.TheFolds.{fold-roll-InfoMacVtap}
-use Rattle.linkinfo_devices.specs.declared.macvtap.InfoMacVtap.TheViews.{out-InfoMacVtap}
-use Rattle.linkinfo_devices.specs.declared.macvtap.InfoMacVtap.TheViews.{out-roll-InfoMacVtap}
-use Rattle.linkinfo_devices.specs.declared.macvtap.InfoMacVtap.TheViews.{roll-InfoMacVtap}
-use Rattle.linkinfo_devices.specs.declared.macvtap.InfoMacVtap.TheViews.{roll-out-InfoMacVtap}
 
 -- ---- `ipvlan` and `ipvtap` links
 
@@ -215,58 +200,6 @@ xfrm_stated = elim [
 
 -- ---- `macvlan` links
 
-abbrev pub mac_vlan_variant : layer_of_mac_vlan.InfoMacVlan-F InfoMacVlan → MacView InfoMacVlan
-mac_vlan_variant (layer_of_mac_vlan.Mode m) = view.Mode m
-mac_vlan_variant (layer_of_mac_vlan.Flags flags) = view.Flags flags
-mac_vlan_variant (layer_of_mac_vlan.MacAddrMode m) = view.MacAddrMode m
-mac_vlan_variant (layer_of_mac_vlan.MacAddr a) = view.MacAddr a
-mac_vlan_variant (layer_of_mac_vlan.MacAddrData xs) = view.MacAddrData xs
-mac_vlan_variant (layer_of_mac_vlan.MacAddrCount n) = view.MacAddrCount n
-mac_vlan_variant (layer_of_mac_vlan.BcQueueLen n) = view.BcQueueLen n
-mac_vlan_variant (layer_of_mac_vlan.BcQueueLenUsed n) = view.BcQueueLenUsed n
-mac_vlan_variant (layer_of_mac_vlan.BcCutoff z) = view.BcCutoff z
-mac_vlan_variant (layer_of_mac_vlan.Other d) = view.Other d
-
-abbrev pub mac_vlan_view : InfoMacVlan → MacView InfoMacVlan
-mac_vlan_view x = mac_vlan_variant (out-InfoMacVlan x)
-
-mac_vlan_made : (y : layer_of_mac_vlan.InfoMacVlan-F InfoMacVlan) →
-    of_view mac_vlan_labels (mac_vlan_variant y) ≡ roll-InfoMacVlan y
-mac_vlan_made (layer_of_mac_vlan.Mode m) = sym (mac_vlan.rolls-Mode m)
-mac_vlan_made (layer_of_mac_vlan.Flags flags) = sym (mac_vlan.rolls-Flags flags)
-mac_vlan_made (layer_of_mac_vlan.MacAddrMode m) = sym (mac_vlan.rolls-MacAddrMode m)
-mac_vlan_made (layer_of_mac_vlan.MacAddr a) = sym (mac_vlan.rolls-MacAddr a)
-mac_vlan_made (layer_of_mac_vlan.MacAddrData xs) = sym (mac_vlan.rolls-MacAddrData xs)
-mac_vlan_made (layer_of_mac_vlan.MacAddrCount n) = sym (mac_vlan.rolls-MacAddrCount n)
-mac_vlan_made (layer_of_mac_vlan.BcQueueLen n) = sym (mac_vlan.rolls-BcQueueLen n)
-mac_vlan_made (layer_of_mac_vlan.BcQueueLenUsed n) = sym (mac_vlan.rolls-BcQueueLenUsed n)
-mac_vlan_made (layer_of_mac_vlan.BcCutoff z) = sym (mac_vlan.rolls-BcCutoff z)
-mac_vlan_made (layer_of_mac_vlan.Other d) = sym (mac_vlan.rolls-Other d)
-
-mac_vlan_unrolled : (y : layer_of_mac_vlan.InfoMacVlan-F InfoMacVlan) (x : InfoMacVlan) →
-    roll-InfoMacVlan y ≡ x → mac_vlan_view x ≡ mac_vlan_variant y
-mac_vlan_unrolled y x e = ap
-    (λ (z : layer_of_mac_vlan.InfoMacVlan-F InfoMacVlan). mac_vlan_variant z)
-    (ap (λ (z : InfoMacVlan). out-InfoMacVlan z) (sym e) ∙ out-roll-InfoMacVlan y)
-
-mac_vlan_viewed : (v : MacView InfoMacVlan) → mac_vlan_view (of_view mac_vlan_labels v) ≡ v
-mac_vlan_viewed (view.Mode m) = mac_vlan_unrolled _ _ (mac_vlan.rolls-Mode m)
-mac_vlan_viewed (view.Flags flags) = mac_vlan_unrolled _ _ (mac_vlan.rolls-Flags flags)
-mac_vlan_viewed (view.MacAddrMode m) = mac_vlan_unrolled _ _ (mac_vlan.rolls-MacAddrMode m)
-mac_vlan_viewed (view.MacAddr a) = mac_vlan_unrolled _ _ (mac_vlan.rolls-MacAddr a)
-mac_vlan_viewed (view.MacAddrData xs) = mac_vlan_unrolled _ _ (mac_vlan.rolls-MacAddrData xs)
-mac_vlan_viewed (view.MacAddrCount n) = mac_vlan_unrolled _ _ (mac_vlan.rolls-MacAddrCount n)
-mac_vlan_viewed (view.BcQueueLen n) = mac_vlan_unrolled _ _ (mac_vlan.rolls-BcQueueLen n)
-mac_vlan_viewed (view.BcQueueLenUsed n) = mac_vlan_unrolled _ _ (mac_vlan.rolls-BcQueueLenUsed n)
-mac_vlan_viewed (view.BcCutoff z) = mac_vlan_unrolled _ _ (mac_vlan.rolls-BcCutoff z)
-mac_vlan_viewed (view.Other d) = mac_vlan_unrolled _ _ (mac_vlan.rolls-Other d)
-
-mac_vlan_is_view : IsView mac_vlan_labels mac_vlan_view
-mac_vlan_is_view = record {
-  made = λ x. mac_vlan_made (out-InfoMacVlan x) ∙ roll-out-InfoMacVlan x;
-  viewed = mac_vlan_viewed;
-}
-
 -- the conditions on an attribute inside this many lists, at most 128
 abbrev pub mac_vlan_conditions : ℕ → InfoMacVlan → Type 0
 mac_vlan_conditions around x = mac_conditions mac_vlan_labels mac_vlan_view (128 - around) x
@@ -278,105 +211,20 @@ mac_vlan_stated around x =
     mac_stated family.MacVlan mac_vlan_attribute mac_vlan_labels mac_vlan_keep mac_vlan_view
     mac_vlan_is_view (128 - around) x
 
--- the number of levels of nested lists in a value, from the innermost outwards
-abbrev pub mac_vlan_depth_layer : layer_of_mac_vlan.InfoMacVlan-F ℕ → ℕ
-mac_vlan_depth_layer (layer_of_mac_vlan.MacAddrData depths) = suc (deepest depths)
-mac_vlan_depth_layer _ = 0
-
+-- the number of levels of nested lists in a value
 abbrev pub mac_vlan_depth : InfoMacVlan → ℕ
-mac_vlan_depth x = fold-InfoMacVlan ℕ mac_vlan_depth_layer x
+mac_vlan_depth x = mac_vlan_fold view_depth x
 
-mac_vlan_rolled_depth : (y : layer_of_mac_vlan.InfoMacVlan-F InfoMacVlan) →
-    mac_vlan_depth (roll-InfoMacVlan y) ≡ view_depth mac_vlan_depth (mac_vlan_variant y)
-mac_vlan_rolled_depth (layer_of_mac_vlan.Mode m) = fold-roll-InfoMacVlan ℕ mac_vlan_depth_layer _
-mac_vlan_rolled_depth (layer_of_mac_vlan.Flags flags) =
-    fold-roll-InfoMacVlan ℕ mac_vlan_depth_layer _
-mac_vlan_rolled_depth (layer_of_mac_vlan.MacAddrMode m) =
-    fold-roll-InfoMacVlan ℕ mac_vlan_depth_layer _
-mac_vlan_rolled_depth (layer_of_mac_vlan.MacAddr a) = fold-roll-InfoMacVlan ℕ mac_vlan_depth_layer _
-mac_vlan_rolled_depth (layer_of_mac_vlan.MacAddrData xs) =
-    fold-roll-InfoMacVlan ℕ mac_vlan_depth_layer _
-mac_vlan_rolled_depth (layer_of_mac_vlan.MacAddrCount n) =
-    fold-roll-InfoMacVlan ℕ mac_vlan_depth_layer _
-mac_vlan_rolled_depth (layer_of_mac_vlan.BcQueueLen n) =
-    fold-roll-InfoMacVlan ℕ mac_vlan_depth_layer _
-mac_vlan_rolled_depth (layer_of_mac_vlan.BcQueueLenUsed n) =
-    fold-roll-InfoMacVlan ℕ mac_vlan_depth_layer _
-mac_vlan_rolled_depth (layer_of_mac_vlan.BcCutoff z) =
-    fold-roll-InfoMacVlan ℕ mac_vlan_depth_layer _
-mac_vlan_rolled_depth (layer_of_mac_vlan.Other d) = fold-roll-InfoMacVlan ℕ mac_vlan_depth_layer _
-
-mac_vlan_depth_is : (x : InfoMacVlan) →
-    mac_vlan_depth x ≡ view_depth mac_vlan_depth (mac_vlan_view x)
-mac_vlan_depth_is x = ap (λ (z : InfoMacVlan). mac_vlan_depth z) (sym (roll-out-InfoMacVlan x))
-    ∙ mac_vlan_rolled_depth (out-InfoMacVlan x)
-
--- the conditions on a value itself and on those in its lists, at any depth
 abbrev pub mac_vlan_values : InfoMacVlan → Type 0
-mac_vlan_values x = (n : ℕ) × mac_conditions mac_vlan_labels mac_vlan_view n x
+mac_vlan_values x = mac_values mac_vlan_labels mac_vlan_view x
 
 pub mac_vlan_depth_stated : (around : ℕ) (x : InfoMacVlan) → mac_vlan_conditions around x ↔
     (mac_vlan_values x × (mac_vlan_depth x ≤ 128 - around))
-mac_vlan_depth_stated around x = let is =
-    mac_depth_stated mac_vlan_labels mac_vlan_view mac_vlan_depth mac_vlan_depth_is
-    (128 - around) x in (
-      λ h. let deep = is.0 h in ((deep.0, deep.1), deep.2),
-      λ h. is.1 (h.0.0, h.0.1, h.1),
-    )
+mac_vlan_depth_stated around x =
+    mac_depth_stated mac_vlan_labels mac_vlan_view mac_vlan_depth (mac_vlan_folded view_depth)
+    (128 - around) x
 
 -- ---- `macvtap` links
-
-abbrev pub mac_vtap_variant : layer_of_mac_vtap.InfoMacVtap-F InfoMacVtap → MacView InfoMacVtap
-mac_vtap_variant (layer_of_mac_vtap.Mode m) = view.Mode m
-mac_vtap_variant (layer_of_mac_vtap.Flags flags) = view.Flags flags
-mac_vtap_variant (layer_of_mac_vtap.MacAddrMode m) = view.MacAddrMode m
-mac_vtap_variant (layer_of_mac_vtap.MacAddr a) = view.MacAddr a
-mac_vtap_variant (layer_of_mac_vtap.MacAddrData xs) = view.MacAddrData xs
-mac_vtap_variant (layer_of_mac_vtap.MacAddrCount n) = view.MacAddrCount n
-mac_vtap_variant (layer_of_mac_vtap.BcQueueLen n) = view.BcQueueLen n
-mac_vtap_variant (layer_of_mac_vtap.BcQueueLenUsed n) = view.BcQueueLenUsed n
-mac_vtap_variant (layer_of_mac_vtap.BcCutoff z) = view.BcCutoff z
-mac_vtap_variant (layer_of_mac_vtap.Other d) = view.Other d
-
-abbrev pub mac_vtap_view : InfoMacVtap → MacView InfoMacVtap
-mac_vtap_view x = mac_vtap_variant (out-InfoMacVtap x)
-
-mac_vtap_made : (y : layer_of_mac_vtap.InfoMacVtap-F InfoMacVtap) →
-    of_view mac_vtap_labels (mac_vtap_variant y) ≡ roll-InfoMacVtap y
-mac_vtap_made (layer_of_mac_vtap.Mode m) = sym (mac_vtap.rolls-Mode m)
-mac_vtap_made (layer_of_mac_vtap.Flags flags) = sym (mac_vtap.rolls-Flags flags)
-mac_vtap_made (layer_of_mac_vtap.MacAddrMode m) = sym (mac_vtap.rolls-MacAddrMode m)
-mac_vtap_made (layer_of_mac_vtap.MacAddr a) = sym (mac_vtap.rolls-MacAddr a)
-mac_vtap_made (layer_of_mac_vtap.MacAddrData xs) = sym (mac_vtap.rolls-MacAddrData xs)
-mac_vtap_made (layer_of_mac_vtap.MacAddrCount n) = sym (mac_vtap.rolls-MacAddrCount n)
-mac_vtap_made (layer_of_mac_vtap.BcQueueLen n) = sym (mac_vtap.rolls-BcQueueLen n)
-mac_vtap_made (layer_of_mac_vtap.BcQueueLenUsed n) = sym (mac_vtap.rolls-BcQueueLenUsed n)
-mac_vtap_made (layer_of_mac_vtap.BcCutoff z) = sym (mac_vtap.rolls-BcCutoff z)
-mac_vtap_made (layer_of_mac_vtap.Other d) = sym (mac_vtap.rolls-Other d)
-
-mac_vtap_unrolled : (y : layer_of_mac_vtap.InfoMacVtap-F InfoMacVtap) (x : InfoMacVtap) →
-    roll-InfoMacVtap y ≡ x → mac_vtap_view x ≡ mac_vtap_variant y
-mac_vtap_unrolled y x e = ap
-    (λ (z : layer_of_mac_vtap.InfoMacVtap-F InfoMacVtap). mac_vtap_variant z)
-    (ap (λ (z : InfoMacVtap). out-InfoMacVtap z) (sym e) ∙ out-roll-InfoMacVtap y)
-
-mac_vtap_viewed : (v : MacView InfoMacVtap) → mac_vtap_view (of_view mac_vtap_labels v) ≡ v
-mac_vtap_viewed (view.Mode m) = mac_vtap_unrolled _ _ (mac_vtap.rolls-Mode m)
-mac_vtap_viewed (view.Flags flags) = mac_vtap_unrolled _ _ (mac_vtap.rolls-Flags flags)
-mac_vtap_viewed (view.MacAddrMode m) = mac_vtap_unrolled _ _ (mac_vtap.rolls-MacAddrMode m)
-mac_vtap_viewed (view.MacAddr a) = mac_vtap_unrolled _ _ (mac_vtap.rolls-MacAddr a)
-mac_vtap_viewed (view.MacAddrData xs) = mac_vtap_unrolled _ _ (mac_vtap.rolls-MacAddrData xs)
-mac_vtap_viewed (view.MacAddrCount n) = mac_vtap_unrolled _ _ (mac_vtap.rolls-MacAddrCount n)
-mac_vtap_viewed (view.BcQueueLen n) = mac_vtap_unrolled _ _ (mac_vtap.rolls-BcQueueLen n)
-mac_vtap_viewed (view.BcQueueLenUsed n) = mac_vtap_unrolled _ _ (mac_vtap.rolls-BcQueueLenUsed n)
-mac_vtap_viewed (view.BcCutoff z) = mac_vtap_unrolled _ _ (mac_vtap.rolls-BcCutoff z)
-mac_vtap_viewed (view.Other d) = mac_vtap_unrolled _ _ (mac_vtap.rolls-Other d)
-
-mac_vtap_is_view : IsView mac_vtap_labels mac_vtap_view
-mac_vtap_is_view = record {
-  made = λ x. mac_vtap_made (out-InfoMacVtap x) ∙ roll-out-InfoMacVtap x;
-  viewed = mac_vtap_viewed;
-}
 
 -- the conditions on an attribute inside this many lists, at most 128
 abbrev pub mac_vtap_conditions : ℕ → InfoMacVtap → Type 0
@@ -389,48 +237,15 @@ mac_vtap_stated around x =
     mac_stated family.MacVtap mac_vtap_attribute mac_vtap_labels mac_vtap_keep mac_vtap_view
     mac_vtap_is_view (128 - around) x
 
--- the number of levels of nested lists in a value, from the innermost outwards
-abbrev pub mac_vtap_depth_layer : layer_of_mac_vtap.InfoMacVtap-F ℕ → ℕ
-mac_vtap_depth_layer (layer_of_mac_vtap.MacAddrData depths) = suc (deepest depths)
-mac_vtap_depth_layer _ = 0
-
+-- the number of levels of nested lists in a value
 abbrev pub mac_vtap_depth : InfoMacVtap → ℕ
-mac_vtap_depth x = fold-InfoMacVtap ℕ mac_vtap_depth_layer x
+mac_vtap_depth x = mac_vtap_fold view_depth x
 
-mac_vtap_rolled_depth : (y : layer_of_mac_vtap.InfoMacVtap-F InfoMacVtap) →
-    mac_vtap_depth (roll-InfoMacVtap y) ≡ view_depth mac_vtap_depth (mac_vtap_variant y)
-mac_vtap_rolled_depth (layer_of_mac_vtap.Mode m) = fold-roll-InfoMacVtap ℕ mac_vtap_depth_layer _
-mac_vtap_rolled_depth (layer_of_mac_vtap.Flags flags) =
-    fold-roll-InfoMacVtap ℕ mac_vtap_depth_layer _
-mac_vtap_rolled_depth (layer_of_mac_vtap.MacAddrMode m) =
-    fold-roll-InfoMacVtap ℕ mac_vtap_depth_layer _
-mac_vtap_rolled_depth (layer_of_mac_vtap.MacAddr a) = fold-roll-InfoMacVtap ℕ mac_vtap_depth_layer _
-mac_vtap_rolled_depth (layer_of_mac_vtap.MacAddrData xs) =
-    fold-roll-InfoMacVtap ℕ mac_vtap_depth_layer _
-mac_vtap_rolled_depth (layer_of_mac_vtap.MacAddrCount n) =
-    fold-roll-InfoMacVtap ℕ mac_vtap_depth_layer _
-mac_vtap_rolled_depth (layer_of_mac_vtap.BcQueueLen n) =
-    fold-roll-InfoMacVtap ℕ mac_vtap_depth_layer _
-mac_vtap_rolled_depth (layer_of_mac_vtap.BcQueueLenUsed n) =
-    fold-roll-InfoMacVtap ℕ mac_vtap_depth_layer _
-mac_vtap_rolled_depth (layer_of_mac_vtap.BcCutoff z) =
-    fold-roll-InfoMacVtap ℕ mac_vtap_depth_layer _
-mac_vtap_rolled_depth (layer_of_mac_vtap.Other d) = fold-roll-InfoMacVtap ℕ mac_vtap_depth_layer _
-
-mac_vtap_depth_is : (x : InfoMacVtap) →
-    mac_vtap_depth x ≡ view_depth mac_vtap_depth (mac_vtap_view x)
-mac_vtap_depth_is x = ap (λ (z : InfoMacVtap). mac_vtap_depth z) (sym (roll-out-InfoMacVtap x))
-    ∙ mac_vtap_rolled_depth (out-InfoMacVtap x)
-
--- the conditions on a value itself and on those in its lists, at any depth
 abbrev pub mac_vtap_values : InfoMacVtap → Type 0
-mac_vtap_values x = (n : ℕ) × mac_conditions mac_vtap_labels mac_vtap_view n x
+mac_vtap_values x = mac_values mac_vtap_labels mac_vtap_view x
 
 pub mac_vtap_depth_stated : (around : ℕ) (x : InfoMacVtap) → mac_vtap_conditions around x ↔
     (mac_vtap_values x × (mac_vtap_depth x ≤ 128 - around))
-mac_vtap_depth_stated around x = let is =
-    mac_depth_stated mac_vtap_labels mac_vtap_view mac_vtap_depth mac_vtap_depth_is
-    (128 - around) x in (
-      λ h. let deep = is.0 h in ((deep.0, deep.1), deep.2),
-      λ h. is.1 (h.0.0, h.0.1, h.1),
-    )
+mac_vtap_depth_stated around x =
+    mac_depth_stated mac_vtap_labels mac_vtap_view mac_vtap_depth (mac_vtap_folded view_depth)
+    (128 - around) x

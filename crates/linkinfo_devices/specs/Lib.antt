@@ -3,6 +3,7 @@ pub mod Ipoib
 pub mod Ipvlan
 pub mod MacConditions
 pub mod MacRows
+pub mod MacView
 pub mod Macsec
 pub mod Macvlan
 pub mod MacvlanEqual

@@ -1,6 +1,6 @@
 -- Which attributes of `macvlan` and `macvtap` links are well formed, by the variant of each, with
 -- lists of any depth.
-use Rattle.std.specs.Prelude.{◌≡◌, ◌≢◌, ◌↔◌, ℕ, zero, suc, ◌<◌, ◌≤◌, ◌==◌, ◌^◌, ℤ, FitsSigned, Bool}
+use Rattle.std.specs.Prelude.{◌≡◌, ◌≢◌, ◌↔◌, ℕ, zero, suc, ◌<◌, ◌≤◌, ◌==◌, ◌^◌, FitsSigned, Bool}
 use Rattle.std.specs.Prelude.{true, false, List, [], ◌∷◌, length, map, max, refl}
 use Rattle.std.specs.Int.{w32}
 use Rattle.std.specs.List.{AllByRecursion}
@@ -14,46 +14,31 @@ use Rattle.linkinfo_numbers.specs.Macvlan.{mac_vlan_flags, mac_vlan_mode, mac_vl
 use Rattle.linkinfo_numbers.specs.Macvlan.{mac_vlan_mode_table_holds, mac_vlan_mac_address_mode}
 use Rattle.linkinfo_numbers.specs.Macvlan.{mac_vlan_mac_address_mode_table}
 use Rattle.linkinfo_numbers.specs.Macvlan.{mac_vlan_mac_address_mode_table_holds}
-use Rattle.linkinfo_numbers.specs.declared.macvlan.MacVlanFlags.{MacVlanFlags}
-use Rattle.linkinfo_numbers.specs.declared.macvlan.MacVlanMacAddressMode.{MacVlanMacAddressMode}
-use Rattle.linkinfo_numbers.specs.declared.macvlan.MacVlanMode.{MacVlanMode}
 use Rattle.linkinfo_table.specs.Conditions.{AreTyped, IsUnknown, IsUnknownBeside, each_stated}
 use Rattle.linkinfo_table.specs.Conditions.{plain_label, unknown_beside, unknown_label}
 use Rattle.linkinfo_table.specs.FamilyRows.{FamilyRow, row_if, row_of, table_row}
 use Rattle.linkinfo_table.specs.Levels.{level_rows}
 use Rattle.linkinfo_table.specs.Lists.{AllWell}
 use Rattle.linkinfo_table.specs.Rows.{WellAt, WellFormed}
-use Rattle.linkinfo_devices.specs.MacRows.{MacLabels, MacLabelsKeep, mac_plain_rows}
-
--- a value of either family, by its variant
-pub data MacView (X : Type 0) : Type 0 where
-  Mode : MacVlanMode → MacView X
-  Flags : MacVlanFlags → MacView X
-  MacAddrMode : MacVlanMacAddressMode → MacView X
-  MacAddr : List ℕ → MacView X
-  MacAddrData : List X → MacView X
-  MacAddrCount : ℕ → MacView X
-  BcQueueLen : ℕ → MacView X
-  BcQueueLenUsed : ℕ → MacView X
-  BcCutoff : ℤ → MacView X
-  Other : DefaultNla → MacView X
-
-abbrev pub of_view : {X : Type 0} → MacLabels X → MacView X → X
-of_view l (Mode mode) = l.mode mode
-of_view l (Flags flags) = l.flags flags
-of_view l (MacAddrMode mode) = l.mac_addr_mode mode
-of_view l (MacAddr address) = l.mac_addr address
-of_view l (MacAddrData xs) = l.mac_addr_data xs
-of_view l (MacAddrCount n) = l.mac_addr_count n
-of_view l (BcQueueLen n) = l.bc_queue_len n
-of_view l (BcQueueLenUsed n) = l.bc_queue_len_used n
-of_view l (BcCutoff z) = l.bc_cutoff z
-of_view l (Other d) = l.other d
-
--- each value has one variant
-pub record IsView {X : Type 0} (l : MacLabels X) (view : X → MacView X) : Type 0 where
-  pub made : (x : X) → of_view l (view x) ≡ x
-  pub viewed : (v : MacView X) → view (of_view l v) ≡ v
+use Rattle.linkinfo_devices.specs.MacRows.{mac_plain_rows}
+use Rattle.linkinfo_devices.specs.MacView.{
+  BcCutoff,
+  BcQueueLen,
+  BcQueueLenUsed,
+  Flags,
+  IsView,
+  MacAddr,
+  MacAddrCount,
+  MacAddrData,
+  MacAddrMode,
+  MacLabels,
+  MacLabelsKeep,
+  MacView,
+  Mode,
+  Other,
+  map_view,
+  of_view,
+}
 
 -- the condition on a value, given the condition on a list in it
 abbrev pub view_conditions : {X : Type 0} → MacLabels X → (List X → Type 0) → MacView X → Type 0
@@ -75,15 +60,19 @@ mac_conditions l view zero x = view_conditions l (λ _. ⊥) (view x)
 mac_conditions l view (suc levels) x =
     view_conditions l (λ xs. AllByRecursion (mac_conditions l view levels) xs) (view x)
 
+-- the conditions on a value itself and on those in its lists, at any depth
+abbrev pub mac_values : {X : Type 0} → MacLabels X → (X → MacView X) → X → Type 0
+mac_values l view x = (n : ℕ) × mac_conditions l view n x
+
 -- the number of levels of nested lists: none in a value without a list, and in a list one more than
 -- in the deepest of its values
 abbrev pub deepest : List ℕ → ℕ
 deepest [] = 0
 deepest (n ∷ ns) = max n (deepest ns)
 
-abbrev pub view_depth : {X : Type 0} → (X → ℕ) → MacView X → ℕ
-view_depth depth (MacAddrData xs) = suc (deepest (map depth xs))
-view_depth depth _ = 0
+abbrev pub view_depth : MacView ℕ → ℕ
+view_depth (MacAddrData depths) = suc (deepest depths)
+view_depth _ = 0
 
 abbrev view_is_other : {X : Type 0} → MacView X → Bool
 view_is_other (Other d) = true
@@ -160,7 +149,8 @@ module _ {X : Type 0} (f : Family) (attribute : X → Attribute) (l : MacLabels 
   elsewhere : (d : DefaultNla) → WellAt (λ z. l.other z)
       (row_of (table_row (mac_plain_rows l) (masked d.kind))) (l.other d) ↔
       IsUnknown (mac_plain_rows l) d
-  elsewhere d = unknown_label (λ z. l.other z) attribute (mac_plain_rows l) is_other keep.other
+  elsewhere d = unknown_label (λ z. l.other z) attribute (mac_plain_rows l) is_other
+      (λ z. keep.shown (Other z))
       (λ z. ap view_is_other (is.viewed (Other z))) all_typed d
 
   unknown : (levels : ℕ) (d : DefaultNla) →
@@ -183,32 +173,32 @@ module _ {X : Type 0} (f : Family) (attribute : X → Attribute) (l : MacLabels 
     from v c = subst (view_conditions l inside) (is.viewed v) c
 
     of_variant : (v : MacView X) → WellIn levels (of_view l v) ↔ C (of_view l v)
-    of_variant (Mode m) = plainly levels _ _ _ (keep.mode m) refl
+    of_variant (Mode m) = plainly levels _ _ _ (keep.shown (Mode m)) refl
         (number_label mac_vlan_mode_table_holds (2 ^ 32) (λ y. l.mode y) C (λ y. to (Mode y))
         (λ y. from (Mode y)) m)
-    of_variant (Flags flags) = plainly levels _ _ _ (keep.flags flags) refl
+    of_variant (Flags flags) = plainly levels _ _ _ (keep.shown (Flags flags)) refl
         (plain_label (λ n. n < 2 ^ 16) (λ n. l.flags (mac_vlan_flags n)) C
         (λ n. to (Flags (mac_vlan_flags n))) (λ n. from (Flags (mac_vlan_flags n))) flags.0)
-    of_variant (MacAddrMode m) = plainly levels _ _ _ (keep.mac_addr_mode m) refl
+    of_variant (MacAddrMode m) = plainly levels _ _ _ (keep.shown (MacAddrMode m)) refl
         (number_label mac_vlan_mac_address_mode_table_holds (2 ^ 32) (λ y. l.mac_addr_mode y) C
         (λ y. to (MacAddrMode y)) (λ y. from (MacAddrMode y)) m)
-    of_variant (MacAddr a) = plainly levels _ _ _ (keep.mac_addr a) refl
+    of_variant (MacAddr a) = plainly levels _ _ _ (keep.shown (MacAddr a)) refl
         (plain_label (λ b. (length b ≡ 6) × IsBytes b) (λ b. l.mac_addr b) C (λ b. to (MacAddr b))
         (λ b. from (MacAddr b)) a)
-    of_variant (MacAddrData xs) = shown levels _ _ _ (keep.mac_addr_data xs) (lists xs)
-    of_variant (MacAddrCount n) = plainly levels _ _ _ (keep.mac_addr_count n) refl
+    of_variant (MacAddrData xs) = shown levels _ _ _ (keep.shown (MacAddrData xs)) (lists xs)
+    of_variant (MacAddrCount n) = plainly levels _ _ _ (keep.shown (MacAddrCount n)) refl
         (plain_label (λ m. m < 2 ^ 32) (λ m. l.mac_addr_count m) C (λ m. to (MacAddrCount m))
         (λ m. from (MacAddrCount m)) n)
-    of_variant (BcQueueLen n) = plainly levels _ _ _ (keep.bc_queue_len n) refl
+    of_variant (BcQueueLen n) = plainly levels _ _ _ (keep.shown (BcQueueLen n)) refl
         (plain_label (λ m. m < 2 ^ 32) (λ m. l.bc_queue_len m) C (λ m. to (BcQueueLen m))
         (λ m. from (BcQueueLen m)) n)
-    of_variant (BcQueueLenUsed n) = plainly levels _ _ _ (keep.bc_queue_len_used n) refl
+    of_variant (BcQueueLenUsed n) = plainly levels _ _ _ (keep.shown (BcQueueLenUsed n)) refl
         (plain_label (λ m. m < 2 ^ 32) (λ m. l.bc_queue_len_used m) C (λ m. to (BcQueueLenUsed m))
         (λ m. from (BcQueueLenUsed m)) n)
-    of_variant (BcCutoff z) = plainly levels _ _ _ (keep.bc_cutoff z) refl
+    of_variant (BcCutoff z) = plainly levels _ _ _ (keep.shown (BcCutoff z)) refl
         (plain_label (λ y. FitsSigned w32 y) (λ y. l.bc_cutoff y) C (λ y. to (BcCutoff y))
         (λ y. from (BcCutoff y)) z)
-    of_variant (Other d) = shown levels _ _ _ (keep.other d) (
+    of_variant (Other d) = shown levels _ _ _ (keep.shown (Other d)) (
       λ w. to (Other d) ((unknown levels d).0 w),
       λ c. (unknown levels d).1 (from (Other d) c),
     )
@@ -249,7 +239,7 @@ module _ {X : Type 0} (f : Family) (attribute : X → Attribute) (l : MacLabels 
 -- ---- how deep lists are
 
 module _ {X : Type 0} (l : MacLabels X) (view : X → MacView X) (depth : X → ℕ)
-    (depth_is : (x : X) → depth x ≡ view_depth depth (view x)) where
+    (depth_is : (x : X) → depth x ≡ view_depth (map_view depth (view x))) where
   abbrev HoldsAt : ℕ → X → Type 0
   HoldsAt levels x = mac_conditions l view levels x
 
@@ -260,13 +250,13 @@ module _ {X : Type 0} (l : MacLabels X) (view : X → MacView X) (depth : X → 
   deepest_within levels each [] h = omega arith
   deepest_within levels each (x ∷ xs) h = max-le (each x h.0) (deepest_within levels each xs h.1)
 
-  view_within : (v : MacView X) → view_conditions l (λ _. ⊥) v → view_depth depth v ≤ 0
+  view_within : (v : MacView X) → view_conditions l (λ _. ⊥) v → view_depth (map_view depth v) ≤ 0
   view_within (MacAddrData xs) h = absurd h
   view_within _ h = omega arith
 
   view_within_more : (levels : ℕ) (inside : List X → Type 0) →
       ((xs : List X) → inside xs → deepest (map depth xs) ≤ levels) → (v : MacView X) →
-      view_conditions l inside v → view_depth depth v ≤ suc levels
+      view_conditions l inside v → view_depth (map_view depth v) ≤ suc levels
   view_within_more levels inside each (MacAddrData xs) h = omega (arith, each xs h)
   view_within_more levels inside each _ h = omega arith
 
@@ -292,7 +282,7 @@ module _ {X : Type 0} (l : MacLabels X) (view : X → MacView X) (depth : X → 
 
   view_under : (inside other : List X → Type 0) (levels : ℕ) →
       ((xs : List X) → inside xs → suc (deepest (map depth xs)) ≤ levels → other xs) →
-      (v : MacView X) → view_conditions l inside v → view_depth depth v ≤ levels →
+      (v : MacView X) → view_conditions l inside v → view_depth (map_view depth v) ≤ levels →
       view_conditions l other v
   view_under inside other levels each (MacAddrData xs) h small = each xs h small
   view_under inside other levels each _ h small = h
@@ -317,5 +307,8 @@ module _ {X : Type 0} (l : MacLabels X) (view : X → MacView X) (depth : X → 
   -- The conditions hold at a number of levels if and only if they hold at some number, and the
   -- value has at most that many levels of nested lists.
   pub mac_depth_stated : (levels : ℕ) (x : X) → HoldsAt levels x ↔
-      ((n : ℕ) × HoldsAt n x × (depth x ≤ levels))
-  mac_depth_stated levels x = (λ h. (levels, h, within levels x h), λ h. under h.0 levels x h.1 h.2)
+      (mac_values l view x × (depth x ≤ levels))
+  mac_depth_stated levels x = (
+    λ h. ((levels, h), within levels x h),
+    λ h. under h.0.0 levels x h.0.1 h.1,
+  )

@@ -4,7 +4,6 @@ use Rattle.std.specs.Prelude.{
   ◌≡◌,
   ◌==◌,
   ℕ,
-  ℤ,
   false,
   if◌then◌else◌,
   Some,
@@ -12,27 +11,20 @@ use Rattle.std.specs.Prelude.{
   [],
   ◌∷◌,
   ◌++◌,
-  map,
   refl,
 }
 use Rattle.std.proofs.Common.{sym, ap, ◌∙◌}
 use Rattle.std.proofs.lemmas.Bool.{cond-false, ne_eqb}
-use Rattle.nla_frame.specs.Attribute.{Attribute, list_string, masked}
+use Rattle.nla_frame.specs.Attribute.{Attribute, masked}
 use Rattle.nla_frame.specs.declared.error.Family.{Family}
-use Rattle.nla_frame.specs.declared.default_nla.DefaultNla.{DefaultNla}
 use Rattle.linkinfo_numbers.specs.Table.{key-value_of}
 use Rattle.linkinfo_numbers.specs.Macvlan.{
   mac_vlan_mode,
-  mac_vlan_mode_number,
   mac_vlan_mode_table_holds,
   mac_vlan_mac_address_mode,
-  mac_vlan_mac_address_mode_number,
   mac_vlan_mac_address_mode_table_holds,
   mac_vlan_flags,
 }
-use Rattle.linkinfo_numbers.specs.declared.macvlan.MacVlanMode.{MacVlanMode}
-use Rattle.linkinfo_numbers.specs.declared.macvlan.MacVlanFlags.{MacVlanFlags}
-use Rattle.linkinfo_numbers.specs.declared.macvlan.MacVlanMacAddressMode.{MacVlanMacAddressMode}
 use Rattle.linkinfo_shapes.specs.Table.{found, mac_vlan_rows}
 use Rattle.linkinfo_shapes.specs.declared.shape.Shape.{Shape}
 use Rattle.linkinfo_shapes.specs.declared.shape.Shape.TheVariants.{Le32, Le16, Mac, I32, SelfList}
@@ -52,31 +44,35 @@ use Rattle.linkinfo_table.specs.FamilyRows.{
 }
 use Rattle.linkinfo_table.specs.FamilyRowLaws.{table_lookup}
 use Rattle.linkinfo_table.specs.Lookups.{LookupSays}
-use Rattle.linkinfo_table.specs.Rows.{meaning_in}
+use Rattle.linkinfo_table.specs.ByRows.{members_by_rows, rows_are_family}
+use Rattle.linkinfo_table.specs.Members.{IsFamily}
+use Rattle.linkinfo_table.specs.Rows.{headers_inside, meaning_in}
 use Rattle.linkinfo_table.specs.Labels.{each_keeps}
+use Rattle.linkinfo_devices.specs.MacView.{
+  MacLabels,
+  MacLabelsKeep,
+  Mode,
+  Flags,
+  MacAddrMode,
+  MacAddr,
+  MacAddrData,
+  MacAddrCount,
+  BcQueueLen,
+  BcQueueLenUsed,
+  BcCutoff,
+  Other,
+}
 use Rattle.linkinfo_devices.specs.Nested.{
   nested_rows,
   nested_owes,
   nested_says,
   nested_lookup,
   nested_lookup_is,
+  nested_quarter,
   suits_plain,
   stores_plain,
 }
 use Rattle.linkinfo_table.specs.declared.decoded.Decoded.{Decoded}
-
--- the value that a family makes of the data of each row, and of a list
-pub record MacLabels (X : Type 0) : Type 0 where
-  pub mode : MacVlanMode → X
-  pub flags : MacVlanFlags → X
-  pub mac_addr_mode : MacVlanMacAddressMode → X
-  pub mac_addr : List ℕ → X
-  pub mac_addr_data : List X → X
-  pub mac_addr_count : ℕ → X
-  pub bc_queue_len : ℕ → X
-  pub bc_queue_len_used : ℕ → X
-  pub bc_cutoff : ℤ → X
-  pub other : DefaultNla → X
 
 -- all rows except that of lists
 abbrev pub mac_plain_rows : {X : Type 0} → MacLabels X → List (PlainRow X)
@@ -96,37 +92,24 @@ abbrev pub mac_rows : {X : Type 0} → Family → (X → Attribute) → MacLabel
 mac_rows f attribute l around n =
     nested_rows f (λ d. l.other d) attribute (λ xs. l.mac_addr_data xs) (mac_plain_rows l) around n
 
--- the canonical attribute of the value of each label
-pub record MacLabelsKeep {X : Type 0} (attribute : X → Attribute) (l : MacLabels X) : Type 0 where
-  pub mode : (mode : MacVlanMode) →
-      attribute (l.mode mode) ≡ typed 1 Le32 (mac_vlan_mode_number mode)
-  pub flags : (flags : MacVlanFlags) → attribute (l.flags flags) ≡ typed 2 Le16 flags.0
-  pub mac_addr_mode : (mode : MacVlanMacAddressMode) →
-      attribute (l.mac_addr_mode mode) ≡ typed 3 Le32 (mac_vlan_mac_address_mode_number mode)
-  pub mac_addr : (address : List ℕ) → attribute (l.mac_addr address) ≡ typed 4 Mac address
-  pub mac_addr_data : (xs : List X) →
-      attribute (l.mac_addr_data xs) ≡ record { kind = 5; value = list_string (map attribute xs) }
-  pub mac_addr_count : (n : ℕ) → attribute (l.mac_addr_count n) ≡ typed 6 Le32 n
-  pub bc_queue_len : (n : ℕ) → attribute (l.bc_queue_len n) ≡ typed 7 Le32 n
-  pub bc_queue_len_used : (n : ℕ) → attribute (l.bc_queue_len_used n) ≡ typed 8 Le32 n
-  pub bc_cutoff : (n : ℤ) → attribute (l.bc_cutoff n) ≡ typed 9 I32 n
-  pub other : (d : DefaultNla) → attribute (l.other d) ≡ record { kind = d.kind; value = d.value }
-  pub same_data : (xs ys : List X) → l.mac_addr_data xs ≡ l.mac_addr_data ys → xs ≡ ys
-
 pub mac_keeps : {X : Type 0} (attribute : X → Attribute) (l : MacLabels X) →
     MacLabelsKeep attribute l → EachKeeps attribute (mac_plain_rows l)
 mac_keeps attribute l k = each_keeps attribute (mac_plain_rows l) refl (
-  λ n. k.mode (mac_vlan_mode n) ∙ ap (typed 1 Le32) (key-value_of mac_vlan_mode_table_holds n),
+  λ n. k.shown (Mode (mac_vlan_mode n))
+      ∙ ap (typed 1 Le32) (key-value_of mac_vlan_mode_table_holds n),
   (
-    λ n. k.flags (mac_vlan_flags n),
+    λ n. k.shown (Flags (mac_vlan_flags n)),
     (
-      λ n. k.mac_addr_mode (mac_vlan_mac_address_mode n)
+      λ n. k.shown (MacAddrMode (mac_vlan_mac_address_mode n))
           ∙ ap (typed 3 Le32) (key-value_of mac_vlan_mac_address_mode_table_holds n),
       (
-        λ a. k.mac_addr a,
+        λ a. k.shown (MacAddr a),
         (
-          λ n. k.mac_addr_count n,
-          (λ n. k.bc_queue_len n, (λ n. k.bc_queue_len_used n, (λ n. k.bc_cutoff n, tt))),
+          λ n. k.shown (MacAddrCount n),
+          (
+            λ n. k.shown (BcQueueLen n),
+            (λ n. k.shown (BcQueueLenUsed n), (λ n. k.shown (BcCutoff n), tt)),
+          ),
         ),
       ),
     ),
@@ -138,7 +121,8 @@ pub mac_owes : {X : Type 0} (f : Family) (attribute : X → Attribute) (l : MacL
     RowOwes attribute n (row_of (mac_rows f attribute l c n))
 mac_owes f attribute l k c n =
     nested_owes f (λ d. l.other d) attribute (λ xs. l.mac_addr_data xs) (mac_plain_rows l)
-    (mac_keeps attribute l k) k.mac_addr_data k.same_data k.other c n
+    (mac_keeps attribute l k) (λ xs. k.shown (MacAddrData xs)) k.same_data
+    (λ d. k.shown (Other d)) c n
 
 -- these rows agree with what the attributes of each type mean
 pub mac_says : {X : Type 0} (f : Family) (attribute : X → Attribute) (l : MacLabels X) →
@@ -149,7 +133,20 @@ pub mac_says : {X : Type 0} (f : Family) (attribute : X → Attribute) (l : MacL
     (meaning_in f (λ d. l.other d) (λ n. row_of (mac_rows f attribute l c n)) a)
 mac_says f attribute l k c a =
     nested_says f (λ d. l.other d) attribute (λ xs. l.mac_addr_data xs) (mac_plain_rows l)
-    (mac_keeps attribute l k) k.mac_addr_data (λ d n. mac_owes f attribute l k d n) c a
+    (mac_keeps attribute l k) (λ xs. k.shown (MacAddrData xs))
+    (λ d n. mac_owes f attribute l k d n) c a
+
+-- what `LinkFamily` requires of such a family
+pub mac_is : {X : Type 0} (f : Family) (attribute : X → Attribute) (l : MacLabels X) →
+    MacLabelsKeep attribute l → (c : ℕ) →
+    IsFamily (members_by_rows f (λ d. l.other d) attribute (λ n. mac_rows f attribute l c n)
+    (headers_inside (λ n. row_of (mac_rows f attribute l c n))))
+mac_is f attribute l k c =
+    rows_are_family f (λ d. l.other d) attribute (λ n. mac_rows f attribute l c n)
+    (mac_owes f attribute l k c) (λ d. k.shown (Other d))
+    (headers_inside (λ n. row_of (mac_rows f attribute l c n)))
+    (λ a. nested_quarter f (λ d. l.other d) attribute (λ n. mac_rows f attribute l c n)
+    (mac_owes f attribute l k c) (λ d. k.shown (Other d)) a)
 
 -- a row of another type makes no difference
 found_after : (front : List (ℕ × Shape)) (r : ℕ × Shape) (rest : List (ℕ × Shape)) (n : ℕ) →

@@ -1,11 +1,7 @@
 -- The rows of `macvlan` links, and their canonical attributes, with lists of any depth.
-use Rattle.std.specs.Prelude.{◌≡◌, Bool, true, false, ℕ, List}
-use Rattle.std.proofs.Common.{sym, ap, ◌∙◌, inl, inr}
-use denote.Enum.Declared.{Choice}
-use Rattle.nla_frame.specs.Attribute.{Attribute, list_string, masked}
-use Rattle.nla_frame.specs.Kept.{attribute_of}
-use Rattle.linkinfo_numbers.specs.Macvlan.{mac_vlan_mode_number, mac_vlan_mac_address_mode_number}
-use Rattle.linkinfo_shapes.specs.declared.shape.Shape.TheVariants.{Le32, Le16, Mac, I32}
+use Rattle.std.specs.Prelude.{◌≡◌, Bool, ℕ, List, refl}
+use Rattle.std.proofs.Common.{sym, ap, ◌∙◌}
+use Rattle.nla_frame.specs.Attribute.{Attribute, masked}
 use Rattle.nla_frame.specs.declared.error.Family.TheVariants as family
 use Rattle.linkinfo_table.specs.FamilyRows.{
   EachKeeps,
@@ -18,16 +14,14 @@ use Rattle.linkinfo_table.specs.FamilyRows.{
   lookup_of,
   row_of,
   table_row,
-  typed,
 }
 use Rattle.linkinfo_table.specs.Lookups.{LookupSays}
-use Rattle.linkinfo_table.specs.ByRows.{members_by_rows, rows_are_family}
+use Rattle.linkinfo_table.specs.ByRows.{members_by_rows}
 use Rattle.linkinfo_table.specs.Members.{IsFamily}
 use Rattle.linkinfo_table.specs.Rows.{headers_inside, meaning_in}
 use Rattle.linkinfo_table.specs.declared.decoded.Decoded.{Decoded}
 use Rattle.linkinfo_devices.specs.MacRows.{
-  MacLabels,
-  MacLabelsKeep,
+  mac_is,
   mac_keeps,
   mac_lookup,
   mac_stores,
@@ -37,7 +31,19 @@ use Rattle.linkinfo_devices.specs.MacRows.{
   mac_says,
   mac_suits,
 }
-use Rattle.linkinfo_devices.specs.Nested.{nested_lookup, nested_quarter}
+use Rattle.linkinfo_devices.specs.MacView as view
+use Rattle.linkinfo_devices.specs.MacView.{
+  IsView,
+  MacLabels,
+  MacLabelsKeep,
+  MacView,
+  labels_keep,
+  mac_attribute,
+  map_view,
+  of_view,
+  view_holds_list,
+}
+use Rattle.linkinfo_devices.specs.Nested.{nested_lookup}
 use Rattle.linkinfo_shapes.specs.Table.{shape_of}
 use Rattle.linkinfo_devices.specs.declared.macvlan.InfoMacVlan.{InfoMacVlan}
 use Rattle.linkinfo_devices.specs.declared.macvlan.InfoMacVlan as macvlan
@@ -56,38 +62,42 @@ use Rattle.linkinfo_devices.specs.declared.macvlan.InfoMacVlan.TheVariants.{
 }
 use Rattle.linkinfo_devices.specs.declared.macvlan.InfoMacVlan.TheViews.{
   out-InfoMacVlan,
+  out-roll-InfoMacVlan,
   roll-InfoMacVlan,
+  roll-out-InfoMacVlan,
 }
 use Rattle.linkinfo_devices.specs.declared.macvlan.InfoMacVlan.TheFolds.{
   fold-InfoMacVlan,
   fold-roll-InfoMacVlan,
+  map-InfoMacVlan,
 }
-use Rattle.linkinfo_devices.specs.contracts.macvlan.InfoMacVlan.{enum}
 
--- the canonical attribute of a value, given those of the items of its list
-abbrev pub mac_vlan_layer : layer.InfoMacVlan-F Attribute → Attribute
-mac_vlan_layer (layer.Mode mode) = typed 1 Le32 (mac_vlan_mode_number mode)
-mac_vlan_layer (layer.Flags flags) = typed 2 Le16 flags.0
-mac_vlan_layer (layer.MacAddrMode mode) = typed 3 Le32 (mac_vlan_mac_address_mode_number mode)
-mac_vlan_layer (layer.MacAddr address) = typed 4 Mac address
-mac_vlan_layer (layer.MacAddrData attributes) = record { kind = 5; value = list_string attributes }
-mac_vlan_layer (layer.MacAddrCount n) = typed 6 Le32 n
-mac_vlan_layer (layer.BcQueueLen n) = typed 7 Le32 n
-mac_vlan_layer (layer.BcQueueLenUsed n) = typed 8 Le32 n
-mac_vlan_layer (layer.BcCutoff n) = typed 9 I32 n
-mac_vlan_layer (layer.Other nla) = attribute_of nla
+abbrev pub mac_vlan_variant : {X : Type 0} → layer.InfoMacVlan-F X → MacView X
+mac_vlan_variant (layer.Mode m) = view.Mode m
+mac_vlan_variant (layer.Flags flags) = view.Flags flags
+mac_vlan_variant (layer.MacAddrMode m) = view.MacAddrMode m
+mac_vlan_variant (layer.MacAddr a) = view.MacAddr a
+mac_vlan_variant (layer.MacAddrData xs) = view.MacAddrData xs
+mac_vlan_variant (layer.MacAddrCount n) = view.MacAddrCount n
+mac_vlan_variant (layer.BcQueueLen n) = view.BcQueueLen n
+mac_vlan_variant (layer.BcQueueLenUsed n) = view.BcQueueLenUsed n
+mac_vlan_variant (layer.BcCutoff z) = view.BcCutoff z
+mac_vlan_variant (layer.Other d) = view.Other d
 
--- the canonical attribute of a value, from the innermost lists outwards
+abbrev pub mac_vlan_view : InfoMacVlan → MacView InfoMacVlan
+mac_vlan_view x = mac_vlan_variant (out-InfoMacVlan x)
+
+-- what `f` gives for a value, from the innermost lists outwards
+abbrev pub mac_vlan_fold : {A : Type 0} → (MacView A → A) → InfoMacVlan → A
+mac_vlan_fold {A = A} f x = fold-InfoMacVlan A (λ y. f (mac_vlan_variant y)) x
+
+-- the canonical attribute of a value
 abbrev pub mac_vlan_attribute : InfoMacVlan → Attribute
-mac_vlan_attribute x = fold-InfoMacVlan Attribute mac_vlan_layer x
+mac_vlan_attribute x = mac_vlan_fold mac_attribute x
 
 -- the family itself writes a value that contains a list
-abbrev pub is_list_layer : layer.InfoMacVlan-F InfoMacVlan → Bool
-is_list_layer (layer.MacAddrData xs) = true
-is_list_layer _ = false
-
 abbrev pub mac_vlan_holds_list : InfoMacVlan → Bool
-mac_vlan_holds_list x = is_list_layer (out-InfoMacVlan x)
+mac_vlan_holds_list x = view_holds_list (mac_vlan_view x)
 
 abbrev pub mac_vlan_labels : MacLabels InfoMacVlan
 mac_vlan_labels = record {
@@ -103,46 +113,57 @@ mac_vlan_labels = record {
   other = λ nla. macvlan.Other nla;
 }
 
-layered : (y : layer.InfoMacVlan-F InfoMacVlan) (x : InfoMacVlan) → roll-InfoMacVlan y ≡ x →
-    mac_vlan_attribute x ≡ mac_vlan_attribute (roll-InfoMacVlan y)
-layered y x e = ap (λ (z : InfoMacVlan). mac_vlan_attribute z) (sym e)
+made : (y : layer.InfoMacVlan-F InfoMacVlan) →
+    of_view mac_vlan_labels (mac_vlan_variant y) ≡ roll-InfoMacVlan y
+made (layer.Mode m) = sym (rolls-Mode m)
+made (layer.Flags flags) = sym (rolls-Flags flags)
+made (layer.MacAddrMode m) = sym (rolls-MacAddrMode m)
+made (layer.MacAddr a) = sym (rolls-MacAddr a)
+made (layer.MacAddrData xs) = sym (rolls-MacAddrData xs)
+made (layer.MacAddrCount n) = sym (rolls-MacAddrCount n)
+made (layer.BcQueueLen n) = sym (rolls-BcQueueLen n)
+made (layer.BcQueueLenUsed n) = sym (rolls-BcQueueLenUsed n)
+made (layer.BcCutoff z) = sym (rolls-BcCutoff z)
+made (layer.Other d) = sym (rolls-Other d)
 
-abbrev held : List InfoMacVlan → List InfoMacVlan × Unit {0}
-held xs = (xs, tt)
+unrolled : (y : layer.InfoMacVlan-F InfoMacVlan) (x : InfoMacVlan) → roll-InfoMacVlan y ≡ x →
+    mac_vlan_view x ≡ mac_vlan_variant y
+unrolled y x e = ap (λ (z : layer.InfoMacVlan-F InfoMacVlan). mac_vlan_variant z)
+    (ap (λ (z : InfoMacVlan). out-InfoMacVlan z) (sym e) ∙ out-roll-InfoMacVlan y)
 
-abbrev as_choice : List InfoMacVlan → Choice enum.parts
-as_choice xs = inr (inr (inr (inr (inl (xs, tt)))))
+viewed : (v : MacView InfoMacVlan) → mac_vlan_view (of_view mac_vlan_labels v) ≡ v
+viewed (view.Mode m) = unrolled _ _ (rolls-Mode m)
+viewed (view.Flags flags) = unrolled _ _ (rolls-Flags flags)
+viewed (view.MacAddrMode m) = unrolled _ _ (rolls-MacAddrMode m)
+viewed (view.MacAddr a) = unrolled _ _ (rolls-MacAddr a)
+viewed (view.MacAddrData xs) = unrolled _ _ (rolls-MacAddrData xs)
+viewed (view.MacAddrCount n) = unrolled _ _ (rolls-MacAddrCount n)
+viewed (view.BcQueueLen n) = unrolled _ _ (rolls-BcQueueLen n)
+viewed (view.BcQueueLenUsed n) = unrolled _ _ (rolls-BcQueueLenUsed n)
+viewed (view.BcCutoff z) = unrolled _ _ (rolls-BcCutoff z)
+viewed (view.Other d) = unrolled _ _ (rolls-Other d)
 
-same_lists : (xs ys : List InfoMacVlan) →
-    mac_vlan_labels.mac_addr_data xs ≡ mac_vlan_labels.mac_addr_data ys → xs ≡ ys
-same_lists xs ys e =
-    let choices : as_choice xs ≡ as_choice ys =
-    sym (enum.beta (as_choice xs)) ∙ ap enum.as_values e ∙ enum.beta (as_choice ys) in
-    let fields : held xs ≡ held ys = cc in
-    ap (λ z. z.0) fields
+pub mac_vlan_is_view : IsView mac_vlan_labels mac_vlan_view
+mac_vlan_is_view = record {
+  made = λ x. made (out-InfoMacVlan x) ∙ roll-out-InfoMacVlan x;
+  viewed = viewed;
+}
+
+mapped : {A : Type 0} (g : InfoMacVlan → A) (y : layer.InfoMacVlan-F InfoMacVlan) →
+    mac_vlan_variant (map-InfoMacVlan InfoMacVlan A g y) ≡ map_view g (mac_vlan_variant y)
+mapped g (layer.Mode m) = refl
+mapped g _ = refl
+
+pub mac_vlan_folded : {A : Type 0} (f : MacView A → A) (x : InfoMacVlan) →
+    mac_vlan_fold f x ≡ f (map_view (mac_vlan_fold f) (mac_vlan_view x))
+mac_vlan_folded {A = A} f x = ap (λ (z : InfoMacVlan). mac_vlan_fold f z) (sym (roll-out-InfoMacVlan x))
+    ∙ fold-roll-InfoMacVlan A (λ y. f (mac_vlan_variant y)) (out-InfoMacVlan x)
+    ∙ ap f (mapped (mac_vlan_fold f) (out-InfoMacVlan x))
 
 pub mac_vlan_keep : MacLabelsKeep mac_vlan_attribute mac_vlan_labels
-mac_vlan_keep = record {
-  mode = λ mode. layered _ _ (rolls-Mode mode) ∙ fold-roll-InfoMacVlan Attribute mac_vlan_layer _;
-  flags = λ flags.
-      layered _ _ (rolls-Flags flags) ∙ fold-roll-InfoMacVlan Attribute mac_vlan_layer _;
-  mac_addr_mode = λ mode.
-      layered _ _ (rolls-MacAddrMode mode) ∙ fold-roll-InfoMacVlan Attribute mac_vlan_layer _;
-  mac_addr = λ address.
-      layered _ _ (rolls-MacAddr address) ∙ fold-roll-InfoMacVlan Attribute mac_vlan_layer _;
-  mac_addr_data = λ xs.
-      layered _ _ (rolls-MacAddrData xs) ∙ fold-roll-InfoMacVlan Attribute mac_vlan_layer _;
-  mac_addr_count = λ n.
-      layered _ _ (rolls-MacAddrCount n) ∙ fold-roll-InfoMacVlan Attribute mac_vlan_layer _;
-  bc_queue_len = λ n.
-      layered _ _ (rolls-BcQueueLen n) ∙ fold-roll-InfoMacVlan Attribute mac_vlan_layer _;
-  bc_queue_len_used = λ n.
-      layered _ _ (rolls-BcQueueLenUsed n) ∙ fold-roll-InfoMacVlan Attribute mac_vlan_layer _;
-  bc_cutoff = λ n.
-      layered _ _ (rolls-BcCutoff n) ∙ fold-roll-InfoMacVlan Attribute mac_vlan_layer _;
-  other = λ nla. layered _ _ (rolls-Other nla) ∙ fold-roll-InfoMacVlan Attribute mac_vlan_layer _;
-  same_data = λ xs ys e. same_lists xs ys e;
-}
+mac_vlan_keep =
+    labels_keep mac_vlan_attribute mac_vlan_labels mac_vlan_view mac_vlan_is_view
+    (mac_vlan_folded mac_attribute)
 
 -- the rows with a shape of the table
 abbrev pub mac_vlan_plain_rows : List (PlainRow InfoMacVlan)
@@ -170,12 +191,7 @@ mac_vlan_says c a = mac_says family.MacVlan mac_vlan_attribute mac_vlan_labels m
 pub mac_vlan_is : (c : ℕ) →
     IsFamily (members_by_rows family.MacVlan (λ d. macvlan.Other d) mac_vlan_attribute
     (λ n. mac_vlan_rows c n) (headers_inside (λ n. row_of (mac_vlan_rows c n))))
-mac_vlan_is c =
-    rows_are_family family.MacVlan (λ d. macvlan.Other d) mac_vlan_attribute
-    (λ n. mac_vlan_rows c n)
-    (mac_vlan_owes c) mac_vlan_keep.other (headers_inside (λ n. row_of (mac_vlan_rows c n)))
-    (λ a. nested_quarter family.MacVlan (λ d. macvlan.Other d) mac_vlan_attribute
-    (λ n. mac_vlan_rows c n) (mac_vlan_owes c) mac_vlan_keep.other a)
+mac_vlan_is c = mac_is family.MacVlan mac_vlan_attribute mac_vlan_labels mac_vlan_keep c
 
 -- these are the rows of the table of all families, except that a list nested in 128 others is
 -- rejected

@@ -1,11 +1,7 @@
 -- The rows of `macvtap` links, and their canonical attributes, with lists of any depth.
-use Rattle.std.specs.Prelude.{◌≡◌, Bool, true, false, ℕ, List}
-use Rattle.std.proofs.Common.{sym, ap, ◌∙◌, inl, inr}
-use denote.Enum.Declared.{Choice}
-use Rattle.nla_frame.specs.Attribute.{Attribute, list_string, masked}
-use Rattle.nla_frame.specs.Kept.{attribute_of}
-use Rattle.linkinfo_numbers.specs.Macvlan.{mac_vlan_mode_number, mac_vlan_mac_address_mode_number}
-use Rattle.linkinfo_shapes.specs.declared.shape.Shape.TheVariants.{Le32, Le16, Mac, I32}
+use Rattle.std.specs.Prelude.{◌≡◌, Bool, ℕ, List, refl}
+use Rattle.std.proofs.Common.{sym, ap, ◌∙◌}
+use Rattle.nla_frame.specs.Attribute.{Attribute, masked}
 use Rattle.nla_frame.specs.declared.error.Family.TheVariants as family
 use Rattle.linkinfo_table.specs.FamilyRows.{
   EachKeeps,
@@ -18,16 +14,14 @@ use Rattle.linkinfo_table.specs.FamilyRows.{
   lookup_of,
   row_of,
   table_row,
-  typed,
 }
 use Rattle.linkinfo_table.specs.Lookups.{LookupSays}
-use Rattle.linkinfo_table.specs.ByRows.{members_by_rows, rows_are_family}
+use Rattle.linkinfo_table.specs.ByRows.{members_by_rows}
 use Rattle.linkinfo_table.specs.Members.{IsFamily}
 use Rattle.linkinfo_table.specs.Rows.{headers_inside, meaning_in}
 use Rattle.linkinfo_table.specs.declared.decoded.Decoded.{Decoded}
 use Rattle.linkinfo_devices.specs.MacRows.{
-  MacLabels,
-  MacLabelsKeep,
+  mac_is,
   mac_keeps,
   mac_lookup,
   mac_stores,
@@ -37,7 +31,19 @@ use Rattle.linkinfo_devices.specs.MacRows.{
   mac_says,
   mac_suits,
 }
-use Rattle.linkinfo_devices.specs.Nested.{nested_lookup, nested_quarter}
+use Rattle.linkinfo_devices.specs.MacView as view
+use Rattle.linkinfo_devices.specs.MacView.{
+  IsView,
+  MacLabels,
+  MacLabelsKeep,
+  MacView,
+  labels_keep,
+  mac_attribute,
+  map_view,
+  of_view,
+  view_holds_list,
+}
+use Rattle.linkinfo_devices.specs.Nested.{nested_lookup}
 use Rattle.linkinfo_shapes.specs.Table.{shape_of}
 use Rattle.linkinfo_devices.specs.declared.macvtap.InfoMacVtap.{InfoMacVtap}
 use Rattle.linkinfo_devices.specs.declared.macvtap.InfoMacVtap as macvtap
@@ -56,38 +62,42 @@ use Rattle.linkinfo_devices.specs.declared.macvtap.InfoMacVtap.TheVariants.{
 }
 use Rattle.linkinfo_devices.specs.declared.macvtap.InfoMacVtap.TheViews.{
   out-InfoMacVtap,
+  out-roll-InfoMacVtap,
   roll-InfoMacVtap,
+  roll-out-InfoMacVtap,
 }
 use Rattle.linkinfo_devices.specs.declared.macvtap.InfoMacVtap.TheFolds.{
   fold-InfoMacVtap,
   fold-roll-InfoMacVtap,
+  map-InfoMacVtap,
 }
-use Rattle.linkinfo_devices.specs.contracts.macvtap.InfoMacVtap.{enum}
 
--- the canonical attribute of a value, given those of the items of its list
-abbrev pub mac_vtap_layer : layer.InfoMacVtap-F Attribute → Attribute
-mac_vtap_layer (layer.Mode mode) = typed 1 Le32 (mac_vlan_mode_number mode)
-mac_vtap_layer (layer.Flags flags) = typed 2 Le16 flags.0
-mac_vtap_layer (layer.MacAddrMode mode) = typed 3 Le32 (mac_vlan_mac_address_mode_number mode)
-mac_vtap_layer (layer.MacAddr address) = typed 4 Mac address
-mac_vtap_layer (layer.MacAddrData attributes) = record { kind = 5; value = list_string attributes }
-mac_vtap_layer (layer.MacAddrCount n) = typed 6 Le32 n
-mac_vtap_layer (layer.BcQueueLen n) = typed 7 Le32 n
-mac_vtap_layer (layer.BcQueueLenUsed n) = typed 8 Le32 n
-mac_vtap_layer (layer.BcCutoff n) = typed 9 I32 n
-mac_vtap_layer (layer.Other nla) = attribute_of nla
+abbrev pub mac_vtap_variant : {X : Type 0} → layer.InfoMacVtap-F X → MacView X
+mac_vtap_variant (layer.Mode m) = view.Mode m
+mac_vtap_variant (layer.Flags flags) = view.Flags flags
+mac_vtap_variant (layer.MacAddrMode m) = view.MacAddrMode m
+mac_vtap_variant (layer.MacAddr a) = view.MacAddr a
+mac_vtap_variant (layer.MacAddrData xs) = view.MacAddrData xs
+mac_vtap_variant (layer.MacAddrCount n) = view.MacAddrCount n
+mac_vtap_variant (layer.BcQueueLen n) = view.BcQueueLen n
+mac_vtap_variant (layer.BcQueueLenUsed n) = view.BcQueueLenUsed n
+mac_vtap_variant (layer.BcCutoff z) = view.BcCutoff z
+mac_vtap_variant (layer.Other d) = view.Other d
 
--- the canonical attribute of a value, from the innermost lists outwards
+abbrev pub mac_vtap_view : InfoMacVtap → MacView InfoMacVtap
+mac_vtap_view x = mac_vtap_variant (out-InfoMacVtap x)
+
+-- what `f` gives for a value, from the innermost lists outwards
+abbrev pub mac_vtap_fold : {A : Type 0} → (MacView A → A) → InfoMacVtap → A
+mac_vtap_fold {A = A} f x = fold-InfoMacVtap A (λ y. f (mac_vtap_variant y)) x
+
+-- the canonical attribute of a value
 abbrev pub mac_vtap_attribute : InfoMacVtap → Attribute
-mac_vtap_attribute x = fold-InfoMacVtap Attribute mac_vtap_layer x
+mac_vtap_attribute x = mac_vtap_fold mac_attribute x
 
 -- the family itself writes a value that contains a list
-abbrev pub is_list_layer : layer.InfoMacVtap-F InfoMacVtap → Bool
-is_list_layer (layer.MacAddrData xs) = true
-is_list_layer _ = false
-
 abbrev pub mac_vtap_holds_list : InfoMacVtap → Bool
-mac_vtap_holds_list x = is_list_layer (out-InfoMacVtap x)
+mac_vtap_holds_list x = view_holds_list (mac_vtap_view x)
 
 abbrev pub mac_vtap_labels : MacLabels InfoMacVtap
 mac_vtap_labels = record {
@@ -103,46 +113,57 @@ mac_vtap_labels = record {
   other = λ nla. macvtap.Other nla;
 }
 
-layered : (y : layer.InfoMacVtap-F InfoMacVtap) (x : InfoMacVtap) → roll-InfoMacVtap y ≡ x →
-    mac_vtap_attribute x ≡ mac_vtap_attribute (roll-InfoMacVtap y)
-layered y x e = ap (λ (z : InfoMacVtap). mac_vtap_attribute z) (sym e)
+made : (y : layer.InfoMacVtap-F InfoMacVtap) →
+    of_view mac_vtap_labels (mac_vtap_variant y) ≡ roll-InfoMacVtap y
+made (layer.Mode m) = sym (rolls-Mode m)
+made (layer.Flags flags) = sym (rolls-Flags flags)
+made (layer.MacAddrMode m) = sym (rolls-MacAddrMode m)
+made (layer.MacAddr a) = sym (rolls-MacAddr a)
+made (layer.MacAddrData xs) = sym (rolls-MacAddrData xs)
+made (layer.MacAddrCount n) = sym (rolls-MacAddrCount n)
+made (layer.BcQueueLen n) = sym (rolls-BcQueueLen n)
+made (layer.BcQueueLenUsed n) = sym (rolls-BcQueueLenUsed n)
+made (layer.BcCutoff z) = sym (rolls-BcCutoff z)
+made (layer.Other d) = sym (rolls-Other d)
 
-abbrev held : List InfoMacVtap → List InfoMacVtap × Unit {0}
-held xs = (xs, tt)
+unrolled : (y : layer.InfoMacVtap-F InfoMacVtap) (x : InfoMacVtap) → roll-InfoMacVtap y ≡ x →
+    mac_vtap_view x ≡ mac_vtap_variant y
+unrolled y x e = ap (λ (z : layer.InfoMacVtap-F InfoMacVtap). mac_vtap_variant z)
+    (ap (λ (z : InfoMacVtap). out-InfoMacVtap z) (sym e) ∙ out-roll-InfoMacVtap y)
 
-abbrev as_choice : List InfoMacVtap → Choice enum.parts
-as_choice xs = inr (inr (inr (inr (inl (xs, tt)))))
+viewed : (v : MacView InfoMacVtap) → mac_vtap_view (of_view mac_vtap_labels v) ≡ v
+viewed (view.Mode m) = unrolled _ _ (rolls-Mode m)
+viewed (view.Flags flags) = unrolled _ _ (rolls-Flags flags)
+viewed (view.MacAddrMode m) = unrolled _ _ (rolls-MacAddrMode m)
+viewed (view.MacAddr a) = unrolled _ _ (rolls-MacAddr a)
+viewed (view.MacAddrData xs) = unrolled _ _ (rolls-MacAddrData xs)
+viewed (view.MacAddrCount n) = unrolled _ _ (rolls-MacAddrCount n)
+viewed (view.BcQueueLen n) = unrolled _ _ (rolls-BcQueueLen n)
+viewed (view.BcQueueLenUsed n) = unrolled _ _ (rolls-BcQueueLenUsed n)
+viewed (view.BcCutoff z) = unrolled _ _ (rolls-BcCutoff z)
+viewed (view.Other d) = unrolled _ _ (rolls-Other d)
 
-same_lists : (xs ys : List InfoMacVtap) →
-    mac_vtap_labels.mac_addr_data xs ≡ mac_vtap_labels.mac_addr_data ys → xs ≡ ys
-same_lists xs ys e =
-    let choices : as_choice xs ≡ as_choice ys =
-    sym (enum.beta (as_choice xs)) ∙ ap enum.as_values e ∙ enum.beta (as_choice ys) in
-    let fields : held xs ≡ held ys = cc in
-    ap (λ z. z.0) fields
+pub mac_vtap_is_view : IsView mac_vtap_labels mac_vtap_view
+mac_vtap_is_view = record {
+  made = λ x. made (out-InfoMacVtap x) ∙ roll-out-InfoMacVtap x;
+  viewed = viewed;
+}
+
+mapped : {A : Type 0} (g : InfoMacVtap → A) (y : layer.InfoMacVtap-F InfoMacVtap) →
+    mac_vtap_variant (map-InfoMacVtap InfoMacVtap A g y) ≡ map_view g (mac_vtap_variant y)
+mapped g (layer.Mode m) = refl
+mapped g _ = refl
+
+pub mac_vtap_folded : {A : Type 0} (f : MacView A → A) (x : InfoMacVtap) →
+    mac_vtap_fold f x ≡ f (map_view (mac_vtap_fold f) (mac_vtap_view x))
+mac_vtap_folded {A = A} f x = ap (λ (z : InfoMacVtap). mac_vtap_fold f z) (sym (roll-out-InfoMacVtap x))
+    ∙ fold-roll-InfoMacVtap A (λ y. f (mac_vtap_variant y)) (out-InfoMacVtap x)
+    ∙ ap f (mapped (mac_vtap_fold f) (out-InfoMacVtap x))
 
 pub mac_vtap_keep : MacLabelsKeep mac_vtap_attribute mac_vtap_labels
-mac_vtap_keep = record {
-  mode = λ mode. layered _ _ (rolls-Mode mode) ∙ fold-roll-InfoMacVtap Attribute mac_vtap_layer _;
-  flags = λ flags.
-      layered _ _ (rolls-Flags flags) ∙ fold-roll-InfoMacVtap Attribute mac_vtap_layer _;
-  mac_addr_mode = λ mode.
-      layered _ _ (rolls-MacAddrMode mode) ∙ fold-roll-InfoMacVtap Attribute mac_vtap_layer _;
-  mac_addr = λ address.
-      layered _ _ (rolls-MacAddr address) ∙ fold-roll-InfoMacVtap Attribute mac_vtap_layer _;
-  mac_addr_data = λ xs.
-      layered _ _ (rolls-MacAddrData xs) ∙ fold-roll-InfoMacVtap Attribute mac_vtap_layer _;
-  mac_addr_count = λ n.
-      layered _ _ (rolls-MacAddrCount n) ∙ fold-roll-InfoMacVtap Attribute mac_vtap_layer _;
-  bc_queue_len = λ n.
-      layered _ _ (rolls-BcQueueLen n) ∙ fold-roll-InfoMacVtap Attribute mac_vtap_layer _;
-  bc_queue_len_used = λ n.
-      layered _ _ (rolls-BcQueueLenUsed n) ∙ fold-roll-InfoMacVtap Attribute mac_vtap_layer _;
-  bc_cutoff = λ n.
-      layered _ _ (rolls-BcCutoff n) ∙ fold-roll-InfoMacVtap Attribute mac_vtap_layer _;
-  other = λ nla. layered _ _ (rolls-Other nla) ∙ fold-roll-InfoMacVtap Attribute mac_vtap_layer _;
-  same_data = λ xs ys e. same_lists xs ys e;
-}
+mac_vtap_keep =
+    labels_keep mac_vtap_attribute mac_vtap_labels mac_vtap_view mac_vtap_is_view
+    (mac_vtap_folded mac_attribute)
 
 -- the rows with a shape of the table
 abbrev pub mac_vtap_plain_rows : List (PlainRow InfoMacVtap)
@@ -170,12 +191,7 @@ mac_vtap_says c a = mac_says family.MacVtap mac_vtap_attribute mac_vtap_labels m
 pub mac_vtap_is : (c : ℕ) →
     IsFamily (members_by_rows family.MacVtap (λ d. macvtap.Other d) mac_vtap_attribute
     (λ n. mac_vtap_rows c n) (headers_inside (λ n. row_of (mac_vtap_rows c n))))
-mac_vtap_is c =
-    rows_are_family family.MacVtap (λ d. macvtap.Other d) mac_vtap_attribute
-    (λ n. mac_vtap_rows c n)
-    (mac_vtap_owes c) mac_vtap_keep.other (headers_inside (λ n. row_of (mac_vtap_rows c n)))
-    (λ a. nested_quarter family.MacVtap (λ d. macvtap.Other d) mac_vtap_attribute
-    (λ n. mac_vtap_rows c n) (mac_vtap_owes c) mac_vtap_keep.other a)
+mac_vtap_is c = mac_is family.MacVtap mac_vtap_attribute mac_vtap_labels mac_vtap_keep c
 
 -- these are the rows of the table of all families, except that a list nested in 128 others is
 -- rejected

@@ -11,6 +11,7 @@ ghost use Rattle.linkinfo_devices.specs.Macvlan.{
   mac_vlan_rows,
   mac_vlan_says,
 };
+ghost use Rattle.linkinfo_devices.specs.MacView as view;
 ghost use Rattle.linkinfo_devices.specs.Nested.{
   LendsList,
   flat_elsewhere,
@@ -120,7 +121,7 @@ impl RowFamily for InfoMacVlan {
 
     ghost owes = { λ c n. mac_vlan_owes c n };
 
-    ghost keeps_other = { λ d. mac_vlan_keep.other d };
+    ghost keeps_other = { λ d. mac_vlan_keep.shown (view.Other d) };
 
     #[tactic(auto, using(crate::specs::Macvlan::mac_vlan_lookup))]
     #[inline(always)]
@@ -163,7 +164,7 @@ impl NestedFamily for InfoMacVlan {
         }
     }
 
-    ghost list_written = { λ xs. mac_vlan_keep.mac_addr_data xs };
+    ghost list_written = { λ xs. mac_vlan_keep.shown (view.MacAddrData xs) };
 
     ghost list_means = { λ c a.
         list_means family.MacVlan (λ d. macvlan.Other d) mac_vlan_attribute
@@ -234,7 +235,7 @@ impl LinkFamily for InfoMacVlan {
     ghost well = { λ c x.
         WellFormed (λ d. macvlan.Other d) mac_vlan_attribute (λ n. row_of (mac_vlan_rows c n)) x };
 
-    ghost keeps = { λ d. mac_vlan_keep.other d };
+    ghost keeps = { λ d. mac_vlan_keep.shown (view.Other d) };
 
     ghost looked_up = { λ c a. mac_vlan_says c a };
 

@@ -11,6 +11,7 @@ ghost use Rattle.linkinfo_devices.specs.Macvtap.{
   mac_vtap_rows,
   mac_vtap_says,
 };
+ghost use Rattle.linkinfo_devices.specs.MacView as view;
 ghost use Rattle.linkinfo_devices.specs.Nested.{
   LendsList,
   flat_elsewhere,
@@ -120,7 +121,7 @@ impl RowFamily for InfoMacVtap {
 
     ghost owes = { λ c n. mac_vtap_owes c n };
 
-    ghost keeps_other = { λ d. mac_vtap_keep.other d };
+    ghost keeps_other = { λ d. mac_vtap_keep.shown (view.Other d) };
 
     #[tactic(auto, using(crate::specs::Macvtap::mac_vtap_lookup))]
     #[inline(always)]
@@ -163,7 +164,7 @@ impl NestedFamily for InfoMacVtap {
         }
     }
 
-    ghost list_written = { λ xs. mac_vtap_keep.mac_addr_data xs };
+    ghost list_written = { λ xs. mac_vtap_keep.shown (view.MacAddrData xs) };
 
     ghost list_means = { λ c a.
         list_means family.MacVtap (λ d. macvtap.Other d) mac_vtap_attribute
@@ -234,7 +235,7 @@ impl LinkFamily for InfoMacVtap {
     ghost well = { λ c x.
         WellFormed (λ d. macvtap.Other d) mac_vtap_attribute (λ n. row_of (mac_vtap_rows c n)) x };
 
-    ghost keeps = { λ d. mac_vtap_keep.other d };
+    ghost keeps = { λ d. mac_vtap_keep.shown (view.Other d) };
 
     ghost looked_up = { λ c a. mac_vtap_says c a };
 
