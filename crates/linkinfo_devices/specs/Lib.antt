@@ -2,6 +2,7 @@ pub mod Conditions
 pub mod Ipoib
 pub mod Ipvlan
 pub mod MacConditions
+pub mod MacEqual
 pub mod MacRows
 pub mod MacView
 pub mod Macsec

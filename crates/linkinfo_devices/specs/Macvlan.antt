@@ -4,11 +4,9 @@ use Rattle.std.proofs.Common.{sym, ap, ◌∙◌}
 use Rattle.nla_frame.specs.Attribute.{Attribute, masked}
 use Rattle.nla_frame.specs.declared.error.Family.TheVariants as family
 use Rattle.linkinfo_table.specs.FamilyRows.{
-  EachKeeps,
   FamilyRow,
   Stores,
   PlainRow,
-  RowOwes,
   SuitsDecoded,
   lookup_in,
   lookup_of,
@@ -22,10 +20,8 @@ use Rattle.linkinfo_table.specs.Rows.{headers_inside, meaning_in}
 use Rattle.linkinfo_table.specs.declared.decoded.Decoded.{Decoded}
 use Rattle.linkinfo_devices.specs.MacRows.{
   mac_is,
-  mac_keeps,
   mac_lookup,
   mac_stores,
-  mac_owes,
   mac_plain_rows,
   mac_rows,
   mac_says,
@@ -113,18 +109,18 @@ mac_vlan_labels = record {
   other = λ nla. macvlan.Other nla;
 }
 
-made : (y : layer.InfoMacVlan-F InfoMacVlan) →
+pub mac_vlan_made : (y : layer.InfoMacVlan-F InfoMacVlan) →
     of_view mac_vlan_labels (mac_vlan_variant y) ≡ roll-InfoMacVlan y
-made (layer.Mode m) = sym (rolls-Mode m)
-made (layer.Flags flags) = sym (rolls-Flags flags)
-made (layer.MacAddrMode m) = sym (rolls-MacAddrMode m)
-made (layer.MacAddr a) = sym (rolls-MacAddr a)
-made (layer.MacAddrData xs) = sym (rolls-MacAddrData xs)
-made (layer.MacAddrCount n) = sym (rolls-MacAddrCount n)
-made (layer.BcQueueLen n) = sym (rolls-BcQueueLen n)
-made (layer.BcQueueLenUsed n) = sym (rolls-BcQueueLenUsed n)
-made (layer.BcCutoff z) = sym (rolls-BcCutoff z)
-made (layer.Other d) = sym (rolls-Other d)
+mac_vlan_made (layer.Mode m) = sym (rolls-Mode m)
+mac_vlan_made (layer.Flags flags) = sym (rolls-Flags flags)
+mac_vlan_made (layer.MacAddrMode m) = sym (rolls-MacAddrMode m)
+mac_vlan_made (layer.MacAddr a) = sym (rolls-MacAddr a)
+mac_vlan_made (layer.MacAddrData xs) = sym (rolls-MacAddrData xs)
+mac_vlan_made (layer.MacAddrCount n) = sym (rolls-MacAddrCount n)
+mac_vlan_made (layer.BcQueueLen n) = sym (rolls-BcQueueLen n)
+mac_vlan_made (layer.BcQueueLenUsed n) = sym (rolls-BcQueueLenUsed n)
+mac_vlan_made (layer.BcCutoff z) = sym (rolls-BcCutoff z)
+mac_vlan_made (layer.Other d) = sym (rolls-Other d)
 
 unrolled : (y : layer.InfoMacVlan-F InfoMacVlan) (x : InfoMacVlan) → roll-InfoMacVlan y ≡ x →
     mac_vlan_view x ≡ mac_vlan_variant y
@@ -145,20 +141,21 @@ viewed (view.Other d) = unrolled _ _ (rolls-Other d)
 
 pub mac_vlan_is_view : IsView mac_vlan_labels mac_vlan_view
 mac_vlan_is_view = record {
-  made = λ x. made (out-InfoMacVlan x) ∙ roll-out-InfoMacVlan x;
+  made = λ x. mac_vlan_made (out-InfoMacVlan x) ∙ roll-out-InfoMacVlan x;
   viewed = viewed;
 }
 
-mapped : {A : Type 0} (g : InfoMacVlan → A) (y : layer.InfoMacVlan-F InfoMacVlan) →
-    mac_vlan_variant (map-InfoMacVlan InfoMacVlan A g y) ≡ map_view g (mac_vlan_variant y)
-mapped g (layer.Mode m) = refl
-mapped g _ = refl
+pub mac_vlan_mapped : {A B : Type 0} (g : A → B) (y : layer.InfoMacVlan-F A) →
+    mac_vlan_variant (map-InfoMacVlan A B g y) ≡ map_view g (mac_vlan_variant y)
+mac_vlan_mapped g (layer.Mode m) = refl
+mac_vlan_mapped g _ = refl
 
 pub mac_vlan_folded : {A : Type 0} (f : MacView A → A) (x : InfoMacVlan) →
     mac_vlan_fold f x ≡ f (map_view (mac_vlan_fold f) (mac_vlan_view x))
-mac_vlan_folded {A = A} f x = ap (λ (z : InfoMacVlan). mac_vlan_fold f z) (sym (roll-out-InfoMacVlan x))
+mac_vlan_folded {A = A} f x =
+    ap (λ (z : InfoMacVlan). mac_vlan_fold f z) (sym (roll-out-InfoMacVlan x))
     ∙ fold-roll-InfoMacVlan A (λ y. f (mac_vlan_variant y)) (out-InfoMacVlan x)
-    ∙ ap f (mapped (mac_vlan_fold f) (out-InfoMacVlan x))
+    ∙ ap f (mac_vlan_mapped (mac_vlan_fold f) (out-InfoMacVlan x))
 
 pub mac_vlan_keep : MacLabelsKeep mac_vlan_attribute mac_vlan_labels
 mac_vlan_keep =
@@ -171,12 +168,6 @@ mac_vlan_plain_rows = mac_plain_rows mac_vlan_labels
 
 abbrev pub mac_vlan_rows : ℕ → ℕ → FamilyRow InfoMacVlan
 mac_vlan_rows c n = mac_rows family.MacVlan mac_vlan_attribute mac_vlan_labels c n
-
-pub mac_vlan_keeps : EachKeeps mac_vlan_attribute mac_vlan_plain_rows
-mac_vlan_keeps = mac_keeps mac_vlan_attribute mac_vlan_labels mac_vlan_keep
-
-pub mac_vlan_owes : (c n : ℕ) → RowOwes mac_vlan_attribute n (row_of (mac_vlan_rows c n))
-mac_vlan_owes c n = mac_owes family.MacVlan mac_vlan_attribute mac_vlan_labels mac_vlan_keep c n
 
 -- the rows agree with what the attributes of each type mean
 pub mac_vlan_says : (c : ℕ) (a : Attribute) →

@@ -1,11 +1,10 @@
 -- The derived `==` of attributes of `macvlan` links decides equality, with lists of any depth.
-use Rattle.std.specs.Prelude.{◌≡◌, List, map}
+use Rattle.std.specs.Prelude.{◌≡◌, Bool, List, map}
 use Rattle.std.specs.Bool.{Decides}
 use Rattle.std.specs.Cmp.Lexicographic.{bytes_decides}
 use Rattle.std.proofs.Common.{sym, subst, inl, inr}
-use Rattle.std.proofs.lemmas.Bool.Decides.{Decides-eqb, Decides-at}
+use Rattle.std.proofs.lemmas.Bool.Decides.{Decides-eqb}
 use Rattle.nla_frame.specs.Derived.{
-  derived_decides_at,
   one_field,
   one_field_at,
   pointwise_decides_at,
@@ -23,21 +22,13 @@ use Rattle.linkinfo_numbers.specs.contracts.macvlan.MacVlanFlagsExactEq.TheImpl.
 use Rattle.linkinfo_numbers.specs.contracts.macvlan.MacVlanMacAddressModeExactEq.TheImpl.Laws.{
   exact-law as address_mode_exact,
 }
+use Rattle.linkinfo_devices.specs.MacEqual.{Decided, Known, decided_at}
+use Rattle.linkinfo_devices.specs.MacView as view
+use Rattle.linkinfo_devices.specs.MacView.{MacView, map_view, of_view}
+use Rattle.linkinfo_devices.specs.Macvlan.{mac_vlan_labels, mac_vlan_made, mac_vlan_mapped}
+use Rattle.linkinfo_devices.specs.Macvlan.{mac_vlan_variant}
 use Rattle.linkinfo_devices.specs.declared.macvlan.InfoMacVlan.{InfoMacVlan}
-use Rattle.linkinfo_devices.specs.declared.macvlan.InfoMacVlan as macvlan
 use Rattle.linkinfo_devices.specs.declared.macvlan.InfoMacVlan.TheOpen as layer
-use Rattle.linkinfo_devices.specs.declared.macvlan.InfoMacVlan.TheVariants.{
-  rolls-Mode,
-  rolls-Flags,
-  rolls-MacAddrMode,
-  rolls-MacAddr,
-  rolls-MacAddrData,
-  rolls-MacAddrCount,
-  rolls-BcQueueLen,
-  rolls-BcQueueLenUsed,
-  rolls-BcCutoff,
-  rolls-Other,
-}
 use Rattle.linkinfo_devices.specs.declared.macvlan.InfoMacVlan.TheViews.{roll-InfoMacVlan}
 use Rattle.linkinfo_devices.specs.declared.macvlan.InfoMacVlan.TheFolds.{
   ind-InfoMacVlan,
@@ -47,57 +38,44 @@ use Rattle.linkinfo_devices.specs.contracts.macvlan.InfoMacVlan.{enum}
 use Rattle.linkinfo_devices.specs.contracts.macvlan.InfoMacVlanPartialEq.TheImpl.{eq-value}
 use Rattle.linkinfo_devices.specs.contracts.macvlan.InfoMacVlanPartialEq.TheImpl.Laws.{is}
 
-abbrev Decided : InfoMacVlan → Type 0
-Decided x = (y : InfoMacVlan) → Decides (eq-value.it x y) (x ≡ y)
-
-abbrev Known : Type 0
-Known = (x : InfoMacVlan) × Decided x
-
-rolled : (x y : InfoMacVlan) → x ≡ y → Decided y → Decided x
-rolled x y p h = subst Decided (sym p) h
+abbrev eq : InfoMacVlan → InfoMacVlan → Bool
+eq x y = eq-value.it x y
 
 -- a value for whose list items equality is decided
-decided_layer : (l : layer.InfoMacVlan-F Known) →
-    Decided (roll-InfoMacVlan (map-InfoMacVlan Known InfoMacVlan (λ e. e.0) l))
-decided_layer (layer.Mode m) =
-    rolled _ _ (rolls-Mode m) (λ y. Decides-at _ _ (is (macvlan.Mode m) y)
-    (derived_decides_at enum _ (inl (m, tt)) (one_field mode_exact (m, tt)) y))
-decided_layer (layer.Flags f) =
-    rolled _ _ (rolls-Flags f) (λ y. Decides-at _ _ (is (macvlan.Flags f) y)
-    (derived_decides_at enum _ (inr (inl (f, tt))) (one_field flags_exact (f, tt)) y))
-decided_layer (layer.MacAddrMode m) =
-    rolled _ _ (rolls-MacAddrMode m) (λ y. Decides-at _ _ (is (macvlan.MacAddrMode m) y)
-    (derived_decides_at enum _ (inr (inr (inl (m, tt)))) (one_field address_mode_exact (m, tt)) y))
-decided_layer (layer.MacAddr a) =
-    rolled _ _ (rolls-MacAddr a) (λ y. Decides-at _ _ (is (macvlan.MacAddr a) y)
-    (derived_decides_at enum _ (inr (inr (inr (inl (a, tt))))) (one_field bytes_decides (a, tt)) y))
-decided_layer (layer.MacAddrData ks) =
+decided : (v : MacView (Known eq)) → Decided eq (of_view mac_vlan_labels (map_view (λ e. e.0) v))
+decided (view.Mode m) = decided_at enum _ is (inl (m, tt)) (one_field mode_exact (m, tt))
+decided (view.Flags f) = decided_at enum _ is (inr (inl (f, tt))) (one_field flags_exact (f, tt))
+decided (view.MacAddrMode m) =
+    decided_at enum _ is (inr (inr (inl (m, tt)))) (one_field address_mode_exact (m, tt))
+decided (view.MacAddr a) =
+    decided_at enum _ is (inr (inr (inr (inl (a, tt))))) (one_field bytes_decides (a, tt))
+decided (view.MacAddrData ks) =
     let xs : List InfoMacVlan = map (λ e. e.0) ks in
-    rolled _ _ (rolls-MacAddrData xs) (λ y. Decides-at _ _ (is (macvlan.MacAddrData xs) y)
-    (derived_decides_at enum _ (inr (inr (inr (inr (inl (xs, tt))))))
-    (λ v. one_field_at xs v (pointwise_decides_at eq-value.it ks v.0)) y))
-decided_layer (layer.MacAddrCount n) =
-    rolled _ _ (rolls-MacAddrCount n) (λ y. Decides-at _ _ (is (macvlan.MacAddrCount n) y)
-    (derived_decides_at enum _ (inr (inr (inr (inr (inr (inl (n, tt)))))))
-    (one_field Decides-eqb (n, tt)) y))
-decided_layer (layer.BcQueueLen n) =
-    rolled _ _ (rolls-BcQueueLen n) (λ y. Decides-at _ _ (is (macvlan.BcQueueLen n) y)
-    (derived_decides_at enum _ (inr (inr (inr (inr (inr (inr (inl (n, tt))))))))
-    (one_field Decides-eqb (n, tt)) y))
-decided_layer (layer.BcQueueLenUsed n) =
-    rolled _ _ (rolls-BcQueueLenUsed n) (λ y. Decides-at _ _ (is (macvlan.BcQueueLenUsed n) y)
-    (derived_decides_at enum _ (inr (inr (inr (inr (inr (inr (inr (inl (n, tt)))))))))
-    (one_field Decides-eqb (n, tt)) y))
-decided_layer (layer.BcCutoff n) =
-    rolled _ _ (rolls-BcCutoff n) (λ y. Decides-at _ _ (is (macvlan.BcCutoff n) y)
-    (derived_decides_at enum _ (inr (inr (inr (inr (inr (inr (inr (inr (inl (n, tt))))))))))
-    (one_field i32_exact (n, tt)) y))
-decided_layer (layer.Other d) =
-    rolled _ _ (rolls-Other d) (λ y. Decides-at _ _ (is (macvlan.Other d) y)
-    (derived_decides_at enum _ (inr (inr (inr (inr (inr (inr (inr (inr (inr (inl (d, tt)))))))))))
-    (one_field kept_exact (d, tt)) y))
+    decided_at enum _ is (inr (inr (inr (inr (inl (xs, tt))))))
+    (λ v. one_field_at xs v (pointwise_decides_at eq-value.it ks v.0))
+decided (view.MacAddrCount n) =
+    decided_at enum _ is (inr (inr (inr (inr (inr (inl (n, tt))))))) (one_field Decides-eqb (n, tt))
+decided (view.BcQueueLen n) =
+    decided_at enum _ is (inr (inr (inr (inr (inr (inr (inl (n, tt))))))))
+    (one_field Decides-eqb (n, tt))
+decided (view.BcQueueLenUsed n) =
+    decided_at enum _ is (inr (inr (inr (inr (inr (inr (inr (inl (n, tt)))))))))
+    (one_field Decides-eqb (n, tt))
+decided (view.BcCutoff n) =
+    decided_at enum _ is (inr (inr (inr (inr (inr (inr (inr (inr (inl (n, tt))))))))))
+    (one_field i32_exact (n, tt))
+decided (view.Other d) =
+    decided_at enum _ is (inr (inr (inr (inr (inr (inr (inr (inr (inr (inl (d, tt)))))))))))
+    (one_field kept_exact (d, tt))
+
+decided_layer : (l : layer.InfoMacVlan-F (Known eq)) →
+    Decided eq (roll-InfoMacVlan (map-InfoMacVlan (Known eq) InfoMacVlan (λ e. e.0) l))
+decided_layer l =
+    subst (Decided eq) (mac_vlan_made (map-InfoMacVlan (Known eq) InfoMacVlan (λ e. e.0) l))
+    (subst (λ (v : MacView InfoMacVlan). Decided eq (of_view mac_vlan_labels v))
+    (sym (mac_vlan_mapped (λ e. e.0) l)) (decided (mac_vlan_variant l)))
 
 pub mac_vlan_decides : (x y : InfoMacVlan) → Decides (eq-value.it x y) (x ≡ y)
 mac_vlan_decides =
-    ind-InfoMacVlan Decided
-    (λ x l is. subst (λ z. Decided (roll-InfoMacVlan z)) is (decided_layer l))
+    ind-InfoMacVlan (Decided eq)
+    (λ x l e. subst (λ z. Decided eq (roll-InfoMacVlan z)) e (decided_layer l))

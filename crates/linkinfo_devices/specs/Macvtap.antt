@@ -4,11 +4,9 @@ use Rattle.std.proofs.Common.{sym, ap, ◌∙◌}
 use Rattle.nla_frame.specs.Attribute.{Attribute, masked}
 use Rattle.nla_frame.specs.declared.error.Family.TheVariants as family
 use Rattle.linkinfo_table.specs.FamilyRows.{
-  EachKeeps,
   FamilyRow,
   Stores,
   PlainRow,
-  RowOwes,
   SuitsDecoded,
   lookup_in,
   lookup_of,
@@ -22,10 +20,8 @@ use Rattle.linkinfo_table.specs.Rows.{headers_inside, meaning_in}
 use Rattle.linkinfo_table.specs.declared.decoded.Decoded.{Decoded}
 use Rattle.linkinfo_devices.specs.MacRows.{
   mac_is,
-  mac_keeps,
   mac_lookup,
   mac_stores,
-  mac_owes,
   mac_plain_rows,
   mac_rows,
   mac_says,
@@ -113,18 +109,18 @@ mac_vtap_labels = record {
   other = λ nla. macvtap.Other nla;
 }
 
-made : (y : layer.InfoMacVtap-F InfoMacVtap) →
+pub mac_vtap_made : (y : layer.InfoMacVtap-F InfoMacVtap) →
     of_view mac_vtap_labels (mac_vtap_variant y) ≡ roll-InfoMacVtap y
-made (layer.Mode m) = sym (rolls-Mode m)
-made (layer.Flags flags) = sym (rolls-Flags flags)
-made (layer.MacAddrMode m) = sym (rolls-MacAddrMode m)
-made (layer.MacAddr a) = sym (rolls-MacAddr a)
-made (layer.MacAddrData xs) = sym (rolls-MacAddrData xs)
-made (layer.MacAddrCount n) = sym (rolls-MacAddrCount n)
-made (layer.BcQueueLen n) = sym (rolls-BcQueueLen n)
-made (layer.BcQueueLenUsed n) = sym (rolls-BcQueueLenUsed n)
-made (layer.BcCutoff z) = sym (rolls-BcCutoff z)
-made (layer.Other d) = sym (rolls-Other d)
+mac_vtap_made (layer.Mode m) = sym (rolls-Mode m)
+mac_vtap_made (layer.Flags flags) = sym (rolls-Flags flags)
+mac_vtap_made (layer.MacAddrMode m) = sym (rolls-MacAddrMode m)
+mac_vtap_made (layer.MacAddr a) = sym (rolls-MacAddr a)
+mac_vtap_made (layer.MacAddrData xs) = sym (rolls-MacAddrData xs)
+mac_vtap_made (layer.MacAddrCount n) = sym (rolls-MacAddrCount n)
+mac_vtap_made (layer.BcQueueLen n) = sym (rolls-BcQueueLen n)
+mac_vtap_made (layer.BcQueueLenUsed n) = sym (rolls-BcQueueLenUsed n)
+mac_vtap_made (layer.BcCutoff z) = sym (rolls-BcCutoff z)
+mac_vtap_made (layer.Other d) = sym (rolls-Other d)
 
 unrolled : (y : layer.InfoMacVtap-F InfoMacVtap) (x : InfoMacVtap) → roll-InfoMacVtap y ≡ x →
     mac_vtap_view x ≡ mac_vtap_variant y
@@ -145,20 +141,21 @@ viewed (view.Other d) = unrolled _ _ (rolls-Other d)
 
 pub mac_vtap_is_view : IsView mac_vtap_labels mac_vtap_view
 mac_vtap_is_view = record {
-  made = λ x. made (out-InfoMacVtap x) ∙ roll-out-InfoMacVtap x;
+  made = λ x. mac_vtap_made (out-InfoMacVtap x) ∙ roll-out-InfoMacVtap x;
   viewed = viewed;
 }
 
-mapped : {A : Type 0} (g : InfoMacVtap → A) (y : layer.InfoMacVtap-F InfoMacVtap) →
-    mac_vtap_variant (map-InfoMacVtap InfoMacVtap A g y) ≡ map_view g (mac_vtap_variant y)
-mapped g (layer.Mode m) = refl
-mapped g _ = refl
+pub mac_vtap_mapped : {A B : Type 0} (g : A → B) (y : layer.InfoMacVtap-F A) →
+    mac_vtap_variant (map-InfoMacVtap A B g y) ≡ map_view g (mac_vtap_variant y)
+mac_vtap_mapped g (layer.Mode m) = refl
+mac_vtap_mapped g _ = refl
 
 pub mac_vtap_folded : {A : Type 0} (f : MacView A → A) (x : InfoMacVtap) →
     mac_vtap_fold f x ≡ f (map_view (mac_vtap_fold f) (mac_vtap_view x))
-mac_vtap_folded {A = A} f x = ap (λ (z : InfoMacVtap). mac_vtap_fold f z) (sym (roll-out-InfoMacVtap x))
+mac_vtap_folded {A = A} f x =
+    ap (λ (z : InfoMacVtap). mac_vtap_fold f z) (sym (roll-out-InfoMacVtap x))
     ∙ fold-roll-InfoMacVtap A (λ y. f (mac_vtap_variant y)) (out-InfoMacVtap x)
-    ∙ ap f (mapped (mac_vtap_fold f) (out-InfoMacVtap x))
+    ∙ ap f (mac_vtap_mapped (mac_vtap_fold f) (out-InfoMacVtap x))
 
 pub mac_vtap_keep : MacLabelsKeep mac_vtap_attribute mac_vtap_labels
 mac_vtap_keep =
@@ -171,12 +168,6 @@ mac_vtap_plain_rows = mac_plain_rows mac_vtap_labels
 
 abbrev pub mac_vtap_rows : ℕ → ℕ → FamilyRow InfoMacVtap
 mac_vtap_rows c n = mac_rows family.MacVtap mac_vtap_attribute mac_vtap_labels c n
-
-pub mac_vtap_keeps : EachKeeps mac_vtap_attribute mac_vtap_plain_rows
-mac_vtap_keeps = mac_keeps mac_vtap_attribute mac_vtap_labels mac_vtap_keep
-
-pub mac_vtap_owes : (c n : ℕ) → RowOwes mac_vtap_attribute n (row_of (mac_vtap_rows c n))
-mac_vtap_owes c n = mac_owes family.MacVtap mac_vtap_attribute mac_vtap_labels mac_vtap_keep c n
 
 -- the rows agree with what the attributes of each type mean
 pub mac_vtap_says : (c : ℕ) (a : Attribute) →

@@ -5,12 +5,12 @@ ghost use Rattle.linkinfo_devices.specs.Macvlan.{
   mac_vlan_holds_list,
   mac_vlan_is,
   mac_vlan_keep,
-  mac_vlan_keeps,
-  mac_vlan_owes,
+  mac_vlan_labels,
   mac_vlan_plain_rows,
   mac_vlan_rows,
   mac_vlan_says,
 };
+ghost use Rattle.linkinfo_devices.specs.MacRows.{mac_keeps, mac_owes};
 ghost use Rattle.linkinfo_devices.specs.MacView as view;
 ghost use Rattle.linkinfo_devices.specs.Nested.{
   LendsList,
@@ -119,7 +119,7 @@ impl RowFamily for InfoMacVlan {
 
     ghost is_custom = { mac_vlan_holds_list };
 
-    ghost owes = { λ c n. mac_vlan_owes c n };
+    ghost owes = { mac_owes family.MacVlan mac_vlan_attribute mac_vlan_labels mac_vlan_keep };
 
     ghost keeps_other = { λ d. mac_vlan_keep.shown (view.Other d) };
 
@@ -168,23 +168,24 @@ impl NestedFamily for InfoMacVlan {
 
     ghost list_means = { λ c a.
         list_means family.MacVlan (λ d. macvlan.Other d) mac_vlan_attribute
-        (λ xs. macvlan.MacAddrData xs) (mac_vlan_plain_rows) c a };
+        (λ xs. macvlan.MacAddrData xs) mac_vlan_plain_rows c a };
 
     ghost list_needs_memory = { λ c a.
         list_needs_memory family.MacVlan (λ d. macvlan.Other d) mac_vlan_attribute
-        (λ xs. macvlan.MacAddrData xs) (mac_vlan_plain_rows) c a };
+        (λ xs. macvlan.MacAddrData xs) mac_vlan_plain_rows c a };
 
     ghost list_headers = { λ c a.
         list_headers family.MacVlan (λ d. macvlan.Other d) mac_vlan_attribute
-        (λ xs. macvlan.MacAddrData xs) (mac_vlan_plain_rows) c a };
+        (λ xs. macvlan.MacAddrData xs) mac_vlan_plain_rows c a };
 
     ghost list_alike = { λ c a b.
         list_alike family.MacVlan (λ d. macvlan.Other d) mac_vlan_attribute
-        (λ xs. macvlan.MacAddrData xs) (mac_vlan_plain_rows) c a b };
+        (λ xs. macvlan.MacAddrData xs) mac_vlan_plain_rows c a b };
 
     ghost flat_elsewhere = { λ c n.
         flat_elsewhere family.MacVlan (λ d. macvlan.Other d) mac_vlan_attribute
-        (λ xs. macvlan.MacAddrData xs) (mac_vlan_plain_rows) mac_vlan_keeps c n };
+        (λ xs. macvlan.MacAddrData xs) mac_vlan_plain_rows
+        (mac_keeps mac_vlan_attribute mac_vlan_labels mac_vlan_keep) c n };
 }
 
 impl Nla for InfoMacVlan {

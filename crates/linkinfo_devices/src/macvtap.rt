@@ -5,12 +5,12 @@ ghost use Rattle.linkinfo_devices.specs.Macvtap.{
   mac_vtap_holds_list,
   mac_vtap_is,
   mac_vtap_keep,
-  mac_vtap_keeps,
-  mac_vtap_owes,
+  mac_vtap_labels,
   mac_vtap_plain_rows,
   mac_vtap_rows,
   mac_vtap_says,
 };
+ghost use Rattle.linkinfo_devices.specs.MacRows.{mac_keeps, mac_owes};
 ghost use Rattle.linkinfo_devices.specs.MacView as view;
 ghost use Rattle.linkinfo_devices.specs.Nested.{
   LendsList,
@@ -119,7 +119,7 @@ impl RowFamily for InfoMacVtap {
 
     ghost is_custom = { mac_vtap_holds_list };
 
-    ghost owes = { λ c n. mac_vtap_owes c n };
+    ghost owes = { mac_owes family.MacVtap mac_vtap_attribute mac_vtap_labels mac_vtap_keep };
 
     ghost keeps_other = { λ d. mac_vtap_keep.shown (view.Other d) };
 
@@ -168,23 +168,24 @@ impl NestedFamily for InfoMacVtap {
 
     ghost list_means = { λ c a.
         list_means family.MacVtap (λ d. macvtap.Other d) mac_vtap_attribute
-        (λ xs. macvtap.MacAddrData xs) (mac_vtap_plain_rows) c a };
+        (λ xs. macvtap.MacAddrData xs) mac_vtap_plain_rows c a };
 
     ghost list_needs_memory = { λ c a.
         list_needs_memory family.MacVtap (λ d. macvtap.Other d) mac_vtap_attribute
-        (λ xs. macvtap.MacAddrData xs) (mac_vtap_plain_rows) c a };
+        (λ xs. macvtap.MacAddrData xs) mac_vtap_plain_rows c a };
 
     ghost list_headers = { λ c a.
         list_headers family.MacVtap (λ d. macvtap.Other d) mac_vtap_attribute
-        (λ xs. macvtap.MacAddrData xs) (mac_vtap_plain_rows) c a };
+        (λ xs. macvtap.MacAddrData xs) mac_vtap_plain_rows c a };
 
     ghost list_alike = { λ c a b.
         list_alike family.MacVtap (λ d. macvtap.Other d) mac_vtap_attribute
-        (λ xs. macvtap.MacAddrData xs) (mac_vtap_plain_rows) c a b };
+        (λ xs. macvtap.MacAddrData xs) mac_vtap_plain_rows c a b };
 
     ghost flat_elsewhere = { λ c n.
         flat_elsewhere family.MacVtap (λ d. macvtap.Other d) mac_vtap_attribute
-        (λ xs. macvtap.MacAddrData xs) (mac_vtap_plain_rows) mac_vtap_keeps c n };
+        (λ xs. macvtap.MacAddrData xs) mac_vtap_plain_rows
+        (mac_keeps mac_vtap_attribute mac_vtap_labels mac_vtap_keep) c n };
 }
 
 impl Nla for InfoMacVtap {
