@@ -104,5 +104,5 @@ pub netkit_lawful : {P : Type 0} (peer : Ghosts P) →
     IsUnnestedFamily (λ d. Other d) (netkit_attribute peer.canonical)
     (λ n. netkit_rows peer.meaning peer.alike peer.canonical peer.well n)
 netkit_lawful peer lawful =
-    peer_lawful peer lawful (λ x. Peer x) (λ d. Other d) (netkit_attribute peer.canonical) netkit_plain
-    (netkit_keeps peer.canonical) (λ _. refl) (λ _. refl)
+    peer_lawful peer lawful (λ x. Peer x) (λ d. Other d) (netkit_attribute peer.canonical)
+    netkit_plain (netkit_keeps peer.canonical) (λ _. refl) (λ _. refl)

@@ -19,8 +19,8 @@ use Rattle.linkinfo_table.specs.Members.{IsFamily}
 use Rattle.linkinfo_table.specs.Rows.{meaning_in, memory_in}
 
 -- what is written may be another function with the same attributes
-pub record IsUnnestedWritten {F : Type 0} (other : DefaultNla → F) (attribute emitted : F → Attribute)
-    (rows : ℕ → FamilyRow F) : Type 1 where
+pub record IsUnnestedWritten {F : Type 0} (other : DefaultNla → F)
+    (attribute emitted : F → Attribute) (rows : ℕ → FamilyRow F) : Type 1 where
   pub says : {C : Type 0} (f : Family) (under : C → Attribute → Result F DecodeError)
       (a : Attribute) →
       LookupSays f other emitted under a (lookup_of (rows (masked a.kind)))

@@ -12,5 +12,7 @@ pub trait ListedFamily: LinkFamily {
 }
 
 impl<F: LinkFamily> ListedFamily for F {
-    ghost members = { members_at F.LinkFamily.FAMILY F.meaning F.headers F.alike F.needs_memory F.attribute F.well };
+    ghost members = { λ c.
+        members_at F.LinkFamily.FAMILY F.meaning F.headers F.alike F.needs_memory F.attribute F.well
+        c };
 }

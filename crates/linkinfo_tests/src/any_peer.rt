@@ -21,13 +21,12 @@ impl LinkPeer for AnyPeer {
 
     ghost well = { λ _. Unit {0} };
 
-    ghost alike_is = { λ _ _ _ _ _ _ _ _. (λ _. refl, λ _. refl) };
-
-    ghost meaning_well = { λ _ _ _ _. tt };
-
-    ghost well_means = { λ _ _. refl };
-
-    ghost well_bytes = { λ _ _ _. lit< tt };
+    ghost lawful = { record {
+      alike_is = λ _ _ _ _ _ _ _ _. (λ _. refl, λ _. refl);
+      meaning_well = λ _ _ _ _. tt;
+      well_means = λ _ _. refl;
+      well_bytes = λ _ _ _. lit< tt;
+    } };
 
     fn read(_alloc: Global, _payload: &[u8]) -> Result<AnyPeer, PeerFault> {
         Ok(AnyPeer)
