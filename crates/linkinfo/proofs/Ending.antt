@@ -5,13 +5,13 @@ use Rattle.std.specs.Prelude.{IsOk}
 use Rattle.nla_frame.specs.Answers.{verdict}
 use Rattle.nla_frame.specs.Attribute.{Attribute}
 use Rattle.nla_frame.specs.declared.error.DecodeError.{DecodeError}
-use Rattle.linkinfo_data.specs.Families.{Families}
+use Rattle.linkinfo_table.specs.declared.peer.LinkPeer.{Ghosts}
 use Rattle.linkinfo_table.specs.Lists.{append_to as front}
 use Rattle.linkinfo.specs.declared.link_info.LinkInfoOf.{LinkInfoOf}
 use Rattle.linkinfo.specs.declared.role.CurrentKinds.{CurrentKinds}
 use Rattle.linkinfo.specs.Strings.{headers_from, values_from}
 
-module _ {P : Type 0} (peer : Families P) (t : CurrentKinds) (ps : List (Result Attribute ℕ))
+module _ {P : Type 0} (peer : Ghosts P) (t : CurrentKinds) (ps : List (Result Attribute ℕ))
     (end : ps ≡ []) where
   abbrev read : List (LinkInfoOf P) → Result (List (LinkInfoOf P)) DecodeError
   read xs = Ok xs

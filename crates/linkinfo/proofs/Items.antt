@@ -59,7 +59,7 @@ use Rattle.linkinfo_numbers.specs.Name.{name_attribute}
 use Rattle.nla_frame.specs.Payload.{stripped}
 use Rattle.linkinfo_shapes.specs.Shapes.{canon, canonical, means, text_of}
 use Rattle.linkinfo_shapes.specs.declared.shape.Shape.TheVariants.{Name, Raw}
-use Rattle.linkinfo_data.specs.Families.{Families}
+use Rattle.linkinfo_table.specs.declared.peer.LinkPeer.{Ghosts}
 use Rattle.linkinfo_data.specs.Lawful.{AreLawful}
 use Rattle.linkinfo_table.specs.FamilyRows.{own, RowOwes}
 use Rattle.linkinfo_table.specs.FlatLaws.{rows_no_memory}
@@ -128,7 +128,7 @@ unknown_from_six t n =
       ne_eqb k 5 (λ h. omega (arith, h)),
     ) refl
 
-module _ {P : Type 0} (peer : Families P) where
+module _ {P : Type 0} (peer : Ghosts P) where
   abbrev attribute : LinkInfoOf P → Attribute
   attribute = link_attribute peer
 

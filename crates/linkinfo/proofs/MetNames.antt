@@ -13,7 +13,7 @@ use Rattle.linkinfo_numbers.specs.PortKind.{port_tag_of_name}
 use Rattle.linkinfo_table.specs.Last.{attributes_of}
 use Rattle.linkinfo_table.specs.declared.last.PlacedNla.{PlacedNla}
 use Rattle.linkinfo_data.specs.Equal.{option_decides}
-use Rattle.linkinfo_data.specs.Families.{Families}
+use Rattle.linkinfo_table.specs.declared.peer.LinkPeer.{Ghosts}
 use Rattle.linkinfo.specs.Met.{Item, items_of, role_of_item}
 use Rattle.linkinfo.specs.Roles.{role_of, role_under}
 use Rattle.linkinfo.specs.Strings.{reading}
@@ -104,29 +104,29 @@ agree_at now m n (suc (suc (suc (suc (suc (suc k)))))) kind port =
 
 -- ---- the attributes of an accepted list are placed
 
-module _ {P : Type 0} (families : Families P) where
-  not_misplaced : (r : Role) (a : Attribute) → IsOk (meant families r a) → r ≢ role.Misplaced
-  not_misplaced r a ok e = none (subst (λ (q : Role). IsOk (meant families q a)) e ok)
+module _ {P : Type 0} (peer : Ghosts P) where
+  not_misplaced : (r : Role) (a : Attribute) → IsOk (meant peer r a) → r ≢ role.Misplaced
+  not_misplaced r a ok e = none (subst (λ (q : Role). IsOk (meant peer q a)) e ok)
     where
-      none : IsOk (meant families role.Misplaced a) → ⊥
+      none : IsOk (meant peer role.Misplaced a) → ⊥
       none h = absurd cc
 
   placed_mapped : (s : List ℕ) (list : List PlacedNla) →
-      AllByRecursion (λ p. IsAcceptedLink families (link_at s p)) list →
+      AllByRecursion (λ p. IsAcceptedLink peer (link_at s p)) list →
       AllByRecursion (λ item. role_of_item item ≢ role.Misplaced) (map (item_at s) list)
   placed_mapped s [] all = tt
   placed_mapped s (p ∷ more) all =
       let item = item_at s p in (
         not_misplaced (role_of_item item) item.nla
             (subst (λ (m : Result (LinkInfoOf P) DecodeError). IsOk m)
-            (meaning_is families (kinds_named item.named) item.nla (role_of_item item) refl)
+            (meaning_is peer (kinds_named item.named) item.nla (role_of_item item) refl)
             all.0.means),
         placed_mapped s more all.1,
       )
 
-  pub none_misplaced : (s : List ℕ) → length s < 2 ^ 64 → IsOk (reading families s) →
+  pub none_misplaced : (s : List ℕ) → length s < 2 ^ 64 → IsOk (reading peer s) →
       AllByRecursion (λ item. role_of_item item ≢ role.Misplaced) (items_of s)
   none_misplaced s small ok =
       subst
       (λ (items : List Item). AllByRecursion (λ item. role_of_item item ≢ role.Misplaced) items)
-      (items_placed s) (placed_mapped s (attributes_of s) (links_accepted families s small ok))
+      (items_placed s) (placed_mapped s (attributes_of s) (links_accepted peer s small ok))

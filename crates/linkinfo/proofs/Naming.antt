@@ -204,18 +204,6 @@ module _ {K X : Type 0} (f : List ℕ → K) (label : K → X) where
           named_ok (λ n. label (f n)) a name (label k) h (ap label same)
       go (Err d) h is = absurd cc
 
-  pub made_err : (a : Attribute) (d : DecodeError) → with_name (name_meaning a) f ≡ Err d →
-      named (λ name. label (f name)) a ≡ Err d
-  made_err a d e = go (name_meaning a) refl e
-    where
-      go : (r : Result (List ℕ) DecodeError) → name_meaning a ≡ r → with_name r f ≡ Err d →
-          named (λ name. label (f name)) a ≡ Err d
-      go (Ok name) h is = absurd cc
-      go (Err x) h is =
-          let same : x ≡ d = cc in
-          named_err (λ n. label (f n)) a d
-          (h ∙ ap (λ (z : DecodeError). let r : Result (List ℕ) DecodeError = Err z in r) same)
-
 pub not_both : (b : Bool) → b ≡ true → b ≡ false → ⊥
 not_both true h k = absurd cc
 not_both false h k = absurd cc

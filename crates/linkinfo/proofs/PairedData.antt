@@ -9,9 +9,10 @@ use Rattle.linkinfo_table.specs.Last.{attributes_of, placed_from}
 use Rattle.linkinfo_table.specs.Lists.{alike_pairs}
 use Rattle.linkinfo_table.specs.Members.{Members}
 use Rattle.linkinfo_table.specs.Rows.{Is, Refused, Row, Unknown, alike_in, row_alike}
+use Rattle.linkinfo_data.specs.PeerFamilies.{netkit_members}
 use Rattle.linkinfo_data.specs.Data.{data_of}
 use Rattle.linkinfo_data.specs.DeviceData.{devices_data_of}
-use Rattle.linkinfo_data.specs.Families.{Families}
+use Rattle.linkinfo_table.specs.declared.peer.LinkPeer.{Ghosts}
 use Rattle.linkinfo_data.specs.LowerData.{lower_data_of}
 use Rattle.linkinfo_data.specs.Payloads.{Payload}
 use Rattle.linkinfo_data.specs.PeerData.{peers_data_of}
@@ -111,16 +112,16 @@ tunnels_paired P tunnel.BareUdp = as_paired plain.bare_udp (rows_type _)
 tunnels_paired P tunnel.ErSpan = as_paired plain.gre (rows_type _)
 tunnels_paired P tunnel.Ip6ErSpan = as_paired plain.gre6 (rows_type _)
 
-pub peers_paired : {P : Type 0} (families : Families P) → HaveOneType families.netkit.alike →
-    (f : PeeredFamily) → IsPaired (peers_data_of families f)
-peers_paired families netkit peered.Tun = as_paired plain.tun (rows_type _)
-peers_paired families netkit peered.Veth = tt {0}
-peers_paired families netkit peered.Wireguard = as_paired plain.wireguard (rows_type _)
-peers_paired families netkit peered.Netkit = as_paired families.netkit netkit
-peers_paired families netkit peered.Vxcan = tt {0}
-peers_paired families netkit peered.BatAdv = as_paired plain.bat_adv (rows_type _)
-peers_paired families netkit peered.Wwan = as_paired plain.wwan (rows_type _)
-peers_paired families netkit peered.Pfcp = as_paired plain.pfcp (rows_type _)
+pub peers_paired : {P : Type 0} (peer : Ghosts P) → HaveOneType (netkit_members peer).alike →
+    (f : PeeredFamily) → IsPaired (peers_data_of peer f)
+peers_paired peer netkit peered.Tun = as_paired plain.tun (rows_type _)
+peers_paired peer netkit peered.Veth = tt {0}
+peers_paired peer netkit peered.Wireguard = as_paired plain.wireguard (rows_type _)
+peers_paired peer netkit peered.Netkit = as_paired (netkit_members peer) netkit
+peers_paired peer netkit peered.Vxcan = tt {0}
+peers_paired peer netkit peered.BatAdv = as_paired plain.bat_adv (rows_type _)
+peers_paired peer netkit peered.Wwan = as_paired plain.wwan (rows_type _)
+peers_paired peer netkit peered.Pfcp = as_paired plain.pfcp (rows_type _)
 
 pub port_paired : (f : PortFamily) → IsPaired (port_data_of f)
 port_paired port_of.Bond = as_paired plain.bond_port (rows_type _)
@@ -129,10 +130,10 @@ port_paired port_of.Vrf = as_paired plain.vrf_port (rows_type _)
 port_paired port_of.Team = as_paired plain.team_port (rows_type _)
 port_paired port_of.Raw = tt {0}
 
-pub data_paired : {P : Type 0} (families : Families P) → HaveOneType families.netkit.alike →
-    (f : DataFamily) → IsPaired (data_of families f)
-data_paired families netkit (of.Lower f) = lower_paired _ f
-data_paired families netkit (of.Device f) = devices_paired _ f
-data_paired families netkit (of.Tunnel f) = tunnels_paired _ f
-data_paired families netkit (of.Peered f) = peers_paired families netkit f
-data_paired families netkit of.Raw = tt {0}
+pub data_paired : {P : Type 0} (peer : Ghosts P) → HaveOneType (netkit_members peer).alike →
+    (f : DataFamily) → IsPaired (data_of peer f)
+data_paired peer netkit (of.Lower f) = lower_paired _ f
+data_paired peer netkit (of.Device f) = devices_paired _ f
+data_paired peer netkit (of.Tunnel f) = tunnels_paired _ f
+data_paired peer netkit (of.Peered f) = peers_paired peer netkit f
+data_paired peer netkit of.Raw = tt {0}

@@ -27,7 +27,7 @@ use Rattle.linkinfo_numbers.specs.declared.tags.KindTag.TheVariants as tag
 use Rattle.linkinfo_data.specs.declared.info_data.InfoDataOf.TheVariants as held
 use Rattle.linkinfo.specs.declared.link_info.LinkInfoOf.TheVariants as info
 use Rattle.linkinfo_data.specs.Data.{family_of}
-use Rattle.linkinfo_data.specs.Families.{Families}
+use Rattle.linkinfo_table.specs.declared.peer.LinkPeer.{Ghosts}
 use Rattle.linkinfo_data.specs.declared.data.DataFamily.{DataFamily}
 use Rattle.linkinfo_data.specs.declared.data.DataFamily.TheVariants as of
 use Rattle.linkinfo_table.specs.Lists.{◌>>=◌, values_under, alike_under}
@@ -58,7 +58,7 @@ pub pfcp_role : (r : Role) → is_pfcp_data r ≡ true → r ≡ role.Data tag.P
 pfcp_role (role.Data t) e = ap (λ (s : KindTag). let r : Role = role.Data s in r) (tag_is t e)
 pfcp_role _ e = absurd cc
 
-module _ {P : Type 0} (peer : Families P) where
+module _ {P : Type 0} (peer : Ghosts P) where
   pub bytes_before : (t : CurrentKinds) (a : Attribute) → role_at t a ≡ role.Data tag.Pfcp →
       meaning_before peer t a ≡ Ok (info.Data (held.Other a.value))
   bytes_before t a e =

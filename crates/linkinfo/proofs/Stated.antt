@@ -14,7 +14,7 @@ use Rattle.linkinfo_table.specs.Lists.{well_under}
 use Rattle.linkinfo_table.specs.Rows.{WellAt, WellFormed}
 use Rattle.linkinfo_data.specs.Conditions.{AreStated, data_conditions, port_data_conditions}
 use Rattle.linkinfo_data.specs.Data.{family_of}
-use Rattle.linkinfo_data.specs.Families.{Families}
+use Rattle.linkinfo_table.specs.declared.peer.LinkPeer.{Ghosts}
 use Rattle.linkinfo_data.specs.PortData.{port_family_of}
 use Rattle.linkinfo_data.specs.declared.info_data.InfoDataOf.{InfoDataOf}
 use Rattle.linkinfo_data.specs.declared.port_data.InfoPortData.{InfoPortData}
@@ -33,7 +33,7 @@ use Rattle.linkinfo.specs.Conditions.{Conditions, IsDataUnder, IsPortDataUnder, 
 use Rattle.linkinfo.specs.Conditions.{item_conditions}
 use Rattle.linkinfo.proofs.Items.{unknown_from_six}
 
-module _ {P : Type 0} (peer : Families P) (well : P → Type 0) (stated : AreStated peer well) where
+module _ {P : Type 0} (peer : Ghosts P) (well : P → Type 0) (stated : AreStated peer well) where
   abbrev IsWell : Role → LinkInfoOf P → Type 0
   IsWell r x = WellAt link_other (link_row peer r) x
 

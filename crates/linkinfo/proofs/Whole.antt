@@ -44,7 +44,7 @@ use Rattle.linkinfo_numbers.specs.declared.tags.KindTag.{KindTag}
 use Rattle.linkinfo_numbers.specs.declared.tags.PortTag.{PortTag}
 use Rattle.linkinfo_numbers.specs.Kind.{tag_of_name}
 use Rattle.linkinfo_numbers.specs.PortKind.{port_tag_of_name}
-use Rattle.linkinfo_data.specs.Families.{Families}
+use Rattle.linkinfo_table.specs.declared.peer.LinkPeer.{Ghosts}
 use Rattle.linkinfo_data.specs.Lawful.{AreLawful}
 use Rattle.linkinfo_table.specs.ListLaws.{
   no_memory,
@@ -108,7 +108,7 @@ IsBytes-right : (x y : List ℕ) → IsBytes (x ++ y) → IsBytes y
 IsBytes-right [] y h = h
 IsBytes-right (b ∷ x) y h = IsBytes-right x y (λ i. h (suc i))
 
-module _ {P : Type 0} (peer : Families P) (law : AreLawful peer) where
+module _ {P : Type 0} (peer : Ghosts P) (law : AreLawful peer) where
   abbrev attribute : LinkInfoOf P → Attribute
   attribute = link_attribute peer
 

@@ -42,7 +42,7 @@ use Rattle.nla_frame.specs.Canonical.{attribute_for, attributes_for}
 use Rattle.nla_frame.specs.declared.error.DecodeError.{DecodeError}
 use Rattle.nla_frame.specs.NlaItems.{nla_items}
 use Rattle.nla_frame.proofs.Emitting.{length-list_string-cons, whole, Written}
-use Rattle.linkinfo_data.specs.Families.{Families}
+use Rattle.linkinfo_table.specs.declared.peer.LinkPeer.{Ghosts}
 use Rattle.linkinfo_data.specs.Lawful.{AreLawful}
 use Rattle.linkinfo_table.specs.Lists.{IsTotalWith}
 use Rattle.linkinfo_table.proofs.Measuring.{Remains, measured_after, remains_none}
@@ -52,6 +52,7 @@ use Rattle.linkinfo.specs.declared.role.Role.{Role}
 use Rattle.linkinfo.specs.Items.{link_attribute, written_attribute}
 use Rattle.linkinfo.specs.Strings.{values_from}
 use Rattle.linkinfo.specs.Walks.{LinkWalk, Advances, left}
+use Rattle.linkinfo.proofs.Ending.{verdict_ok}
 use Rattle.linkinfo.proofs.Items.{role_written}
 use Rattle.linkinfo.proofs.Steps.{Entered, entered, meant, stopped}
 use Rattle.linkinfo.specs.Canon.{IsCanonical, IsCanonicalLength, IsUnfit}
@@ -132,10 +133,6 @@ not_ok : {A : Type 0} (m : Result A DecodeError) (e : DecodeError) → m ≡ Err
 not_ok (Ok x) e h ok = absurd cc
 not_ok (Err d) e h ok = absurd cc
 
-accepted_by : {A : Type 0} (m : Result A DecodeError) → Ok tt ≡ verdict m → IsOk m
-accepted_by (Ok x) h = refl
-accepted_by (Err e) h = absurd cc
-
 pub measured_more : (total : ℕ) (all now rest : List Attribute) (a : Attribute) →
     total + length (list_string now) ≡ length (list_string all) → now ≡ a ∷ rest →
     (total + buffer_len_of a) + length (list_string rest) ≡ length (list_string all)
@@ -147,7 +144,7 @@ measured_more total all now rest a so_far e =
       length-list_string-cons a rest,
     )
 
-module _ {P : Type 0} (peer : Families P) where
+module _ {P : Type 0} (peer : Ghosts P) where
   -- the canonical attributes of those that a walk has not visited
   abbrev pub left_of : LinkWalk → List Attribute
   left_of w = attributes_for (link_attribute peer) (values_from peer w.kinds (nla_items (left w)))
@@ -199,7 +196,7 @@ module _ {P : Type 0} (peer : Families P) where
       IsTotalWith total len next →
       IsOk (values_from peer t.kinds (nla_items (left t))) → Remains next (left_of t) whole
   measured_step law s t a r total len next whole step before accepted size sum ok =
-      let is = role_written peer law r a (accepted_by (meant peer r a) accepted) in
+      let is = role_written peer law r a (verdict_ok (meant peer r a) accepted) in
       measured_after (link_attribute peer) (values_from peer s.kinds (nla_items (left s)))
       (values_from peer t.kinds (nla_items (left t))) (meant peer r a) total len next whole before
       step.values accepted

@@ -20,7 +20,7 @@ use Rattle.nla_frame.specs.declared.error.Family.TheVariants as family
 use Rattle.linkinfo_numbers.specs.declared.tags.KindTag.{KindTag}
 use Rattle.linkinfo_numbers.specs.declared.tags.KindTag.TheVariants as tag
 use Rattle.linkinfo_data.specs.Data.{family_of}
-use Rattle.linkinfo_data.specs.Families.{Families}
+use Rattle.linkinfo_table.specs.declared.peer.LinkPeer.{Ghosts}
 use Rattle.linkinfo_data.specs.declared.data.DataFamily.{DataFamily}
 use Rattle.linkinfo_data.specs.declared.data.DataFamily.TheVariants as of
 use Rattle.linkinfo_table.specs.Lists.{values_under, alike_under}
@@ -42,27 +42,27 @@ abbrev pub family_before : KindTag → DataFamily
 family_before t = if is_pfcp t then of.Raw else family_of t
 
 -- the rows of the list, of which those of data alone differ
-abbrev pub row_before : {P : Type 0} → Families P → Role → Row (LinkInfoOf P)
-row_before families (role.Data t) = data_row families (family_before t)
-row_before families r = link_row families r
+abbrev pub row_before : {P : Type 0} → Ghosts P → Role → Row (LinkInfoOf P)
+row_before peer (role.Data t) = data_row peer (family_before t)
+row_before peer r = link_row peer r
 
-abbrev pub meaning_before : {P : Type 0} → Families P → CurrentKinds → Attribute →
+abbrev pub meaning_before : {P : Type 0} → Ghosts P → CurrentKinds → Attribute →
     Result (LinkInfoOf P) DecodeError
-meaning_before families t a =
-    row_meaning family.LinkInfo link_other (row_before families (role_at t a)) a
+meaning_before peer t a =
+    row_meaning family.LinkInfo link_other (row_before peer (role_at t a)) a
 
-abbrev pub alike_before : {P : Type 0} → Families P → CurrentKinds → Attribute → Attribute → Bool
-alike_before families t a b = row_alike (row_before families (role_at t a)) a b
+abbrev pub alike_before : {P : Type 0} → Ghosts P → CurrentKinds → Attribute → Attribute → Bool
+alike_before peer t a b = row_alike (row_before peer (role_at t a)) a b
 
 -- what a whole byte string meant, and whether two were equivalent
-unfoldable pub reading_before : {P : Type 0} → Families P → List ℕ →
+unfoldable pub reading_before : {P : Type 0} → Ghosts P → List ℕ →
     Result (List (LinkInfoOf P)) DecodeError
-reading_before families s =
-    values_under (meaning_before families) next_kinds no_kinds (nla_items s)
+reading_before peer s =
+    values_under (meaning_before peer) next_kinds no_kinds (nla_items s)
 
-unfoldable pub alike_strings_before : {P : Type 0} → Families P → List ℕ → List ℕ → Bool
-alike_strings_before families a b =
-    alike_under (alike_before families) next_kinds no_kinds (nla_items a) (nla_items b)
+unfoldable pub alike_strings_before : {P : Type 0} → Ghosts P → List ℕ → List ℕ → Bool
+alike_strings_before peer a b =
+    alike_under (alike_before peer) next_kinds no_kinds (nla_items a) (nla_items b)
 
 -- data under `pfcp`
 abbrev pub is_pfcp_data : Role → Bool

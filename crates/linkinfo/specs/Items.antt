@@ -10,7 +10,7 @@ use Rattle.nla_frame.specs.declared.error.DecodeError.{DecodeError}
 use Rattle.linkinfo_numbers.specs.Kind.{kind_attribute, kind_of_name}
 use Rattle.linkinfo_numbers.specs.PortKind.{port_kind_attribute, port_kind_of_name}
 use Rattle.linkinfo_shapes.specs.declared.shape.Shape.TheVariants.{Name, Raw}
-use Rattle.linkinfo_data.specs.Families.{Families}
+use Rattle.linkinfo_table.specs.declared.peer.LinkPeer.{Ghosts}
 use Rattle.linkinfo_shapes.specs.Shapes.{canonical}
 use Rattle.linkinfo_table.specs.FamilyRows.{shape_codec}
 use Rattle.linkinfo_table.specs.Rows.{
@@ -48,7 +48,7 @@ use Rattle.linkinfo.specs.Roles.{role_of}
 use Rattle.linkinfo.specs.Xstats.{xstats_bytes}
 
 -- the canonical attribute of a value
-abbrev pub link_attribute : {P : Type 0} → Families P → LinkInfoOf P → Attribute
+abbrev pub link_attribute : {P : Type 0} → Ghosts P → LinkInfoOf P → Attribute
 link_attribute peer (info.Xstats x) = record { kind = 3; value = xstats_bytes x }
 link_attribute peer (info.Kind k) = kind_attribute k
 link_attribute peer (info.Data d) = data_attribute peer d
@@ -61,7 +61,7 @@ abbrev pub link_other : {P : Type 0} → DefaultNla → LinkInfoOf P
 link_other nla = info.Other nla
 
 -- data as the row of its family
-abbrev pub data_row : {P : Type 0} → Families P → DataFamily → Row (LinkInfoOf P)
+abbrev pub data_row : {P : Type 0} → Ghosts P → DataFamily → Row (LinkInfoOf P)
 data_row peer f =
     Is (record {
       codec = payload_codec (data_of peer f) (data_payload peer);
@@ -70,7 +70,7 @@ data_row peer f =
 
 -- Names are those of kinds, statistics are bytes, and data is that of the current kind. A misplaced
 -- attribute is rejected, and one of an unknown type is kept.
-abbrev pub link_row : {P : Type 0} → Families P → Role → Row (LinkInfoOf P)
+abbrev pub link_row : {P : Type 0} → Ghosts P → Role → Row (LinkInfoOf P)
 link_row peer role.Kind =
     Is (record { codec = shape_codec Name; label = λ name. info.Kind (kind_of_name name) })
 link_row peer (role.Data tag) = data_row peer (family_of tag)
@@ -86,34 +86,34 @@ link_row peer (role.PortData tag) =
 link_row peer role.Misplaced = Refused cause.Order
 link_row peer role.Unknown = Unknown
 
-abbrev pub link_rows : {P : Type 0} → Families P → CurrentKinds → ℕ → Row (LinkInfoOf P)
+abbrev pub link_rows : {P : Type 0} → Ghosts P → CurrentKinds → ℕ → Row (LinkInfoOf P)
 link_rows peer t n = link_row peer (role_of t n)
 
 -- what an attribute means by its role, or its error
-abbrev pub item_meaning : {P : Type 0} → Families P → Role → Attribute →
+abbrev pub item_meaning : {P : Type 0} → Ghosts P → Role → Attribute →
     Result (LinkInfoOf P) DecodeError
 item_meaning peer role a = row_meaning family.LinkInfo link_other (link_row peer role) a
 
 -- whether parsing an attribute may allocate, by its role
-abbrev pub item_memory : {P : Type 0} → Families P → Role → Attribute → Bool
+abbrev pub item_memory : {P : Type 0} → Ghosts P → Role → Attribute → Bool
 item_memory peer role a = row_needs_memory (link_row peer role) a
 
 -- the headers inside an attribute, by its role
-abbrev pub item_headers : {P : Type 0} → Families P → Role → Attribute → ℕ
+abbrev pub item_headers : {P : Type 0} → Ghosts P → Role → Attribute → ℕ
 item_headers peer role a = row_headers (link_row peer role) a
 
 -- whether two accepted attributes are equivalent, by the role of the first
-abbrev pub item_alike : {P : Type 0} → Families P → Role → Attribute → Attribute → Bool
+abbrev pub item_alike : {P : Type 0} → Ghosts P → Role → Attribute → Attribute → Bool
 item_alike peer role a b = row_alike (link_row peer role) a b
 
 -- what an attribute of the list means under the current kinds, or its error
-abbrev pub link_meaning : {P : Type 0} → Families P → CurrentKinds → Attribute →
+abbrev pub link_meaning : {P : Type 0} → Ghosts P → CurrentKinds → Attribute →
     Result (LinkInfoOf P) DecodeError
 link_meaning peer t a = meaning_in family.LinkInfo link_other (link_rows peer t) a
 
 -- what is written for an accepted attribute, by its role: names and data in their canonical
 -- payloads, with their types; statistics and attributes of an unknown type verbatim
-abbrev pub written_attribute : {P : Type 0} → Families P → Role → Attribute → Attribute
+abbrev pub written_attribute : {P : Type 0} → Ghosts P → Role → Attribute → Attribute
 written_attribute peer role.Kind a = record { kind = 1; value = canonical Name a.value }
 written_attribute peer (role.Data tag) a = record {
   kind = 2;
@@ -129,19 +129,19 @@ written_attribute peer role.Misplaced a = record { kind = 0; value = [] }
 written_attribute peer role.Unknown a = record { kind = a.kind; value = a.value }
 
 -- the headers inside an attribute
-abbrev pub link_headers : {P : Type 0} → Families P → CurrentKinds → Attribute → ℕ
+abbrev pub link_headers : {P : Type 0} → Ghosts P → CurrentKinds → Attribute → ℕ
 link_headers peer t a = headers_inside (link_rows peer t) a
 
 -- whether two accepted attributes are equivalent
-abbrev pub link_alike : {P : Type 0} → Families P → CurrentKinds → Attribute → Attribute → Bool
+abbrev pub link_alike : {P : Type 0} → Ghosts P → CurrentKinds → Attribute → Attribute → Bool
 link_alike peer t a b = alike_in (link_rows peer t) a b
 
 -- whether parsing an attribute may allocate
-abbrev pub link_needs_memory : {P : Type 0} → Families P → CurrentKinds → Attribute → Bool
+abbrev pub link_needs_memory : {P : Type 0} → Ghosts P → CurrentKinds → Attribute → Bool
 link_needs_memory peer t a = memory_in (link_rows peer t) a
 
 -- Whether an attribute can mean a value under the current kinds. No kind is `Other` of a known
 -- name, data belongs to the current kind, no attribute is `Other` of a known type, and each number,
 -- text and list is one that its type can hold.
-abbrev pub link_well : {P : Type 0} → Families P → CurrentKinds → LinkInfoOf P → Type 0
+abbrev pub link_well : {P : Type 0} → Ghosts P → CurrentKinds → LinkInfoOf P → Type 0
 link_well peer t x = WellFormed link_other (link_attribute peer) (link_rows peer t) x

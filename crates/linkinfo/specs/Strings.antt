@@ -26,7 +26,7 @@ use Rattle.linkinfo_numbers.specs.Kind.{tag_of_kind, tag_of_name}
 use Rattle.linkinfo_numbers.specs.PortKind.{port_tag_of_name, tag_of_port_kind}
 use Rattle.nla_frame.specs.Payload.{stripped}
 use Rattle.linkinfo_data.specs.Difference.{first_or}
-use Rattle.linkinfo_data.specs.Families.{Families}
+use Rattle.linkinfo_table.specs.declared.peer.LinkPeer.{Ghosts}
 use Rattle.linkinfo_table.specs.Readings.{HasError, MeanEach, MeansList, state_after}
 use Rattle.linkinfo_table.specs.Lists.{
   values_under,
@@ -64,59 +64,59 @@ kinds_after_value t _ = t
 
 -- ---- over the attributes of a byte string, under the current kinds before them
 
-abbrev pub values_from : {P : Type 0} → Families P → CurrentKinds → List (Result Attribute ℕ) →
+abbrev pub values_from : {P : Type 0} → Ghosts P → CurrentKinds → List (Result Attribute ℕ) →
     Result (List (LinkInfoOf P)) DecodeError
 values_from peer t ps = values_under (link_meaning peer) next_kinds t ps
 
-abbrev pub headers_from : {P : Type 0} → Families P → CurrentKinds → List (Result Attribute ℕ) → ℕ
+abbrev pub headers_from : {P : Type 0} → Ghosts P → CurrentKinds → List (Result Attribute ℕ) → ℕ
 headers_from peer t ps = headers_under (link_meaning peer) (link_headers peer) next_kinds t ps
 
-abbrev pub alike_from : {P : Type 0} → Families P → CurrentKinds → List (Result Attribute ℕ) →
+abbrev pub alike_from : {P : Type 0} → Ghosts P → CurrentKinds → List (Result Attribute ℕ) →
     List (Result Attribute ℕ) → Bool
 alike_from peer t ps qs = alike_under (link_alike peer) next_kinds t ps qs
 
-abbrev pub memory_from : {P : Type 0} → Families P → CurrentKinds → List (Result Attribute ℕ) → Bool
+abbrev pub memory_from : {P : Type 0} → Ghosts P → CurrentKinds → List (Result Attribute ℕ) → Bool
 memory_from peer t ps = memory_under (link_meaning peer) (link_needs_memory peer) t ps
 
 -- ---- of a whole byte string, before which there is no current kind
 
 -- what a byte string means: the values of its attributes, or the first error in byte order
-unfoldable pub reading : {P : Type 0} → Families P → List ℕ →
+unfoldable pub reading : {P : Type 0} → Ghosts P → List ℕ →
     Result (List (LinkInfoOf P)) DecodeError
 reading peer s = values_from peer no_kinds (nla_items s)
 
 -- the headers examined, at all levels, up to the error
-unfoldable pub headers_of_string : {P : Type 0} → Families P → List ℕ → ℕ
+unfoldable pub headers_of_string : {P : Type 0} → Ghosts P → List ℕ → ℕ
 headers_of_string peer s = headers_from peer no_kinds (nla_items s)
 
 -- whether two accepted byte strings are equivalent, attribute by attribute, without building values
-unfoldable pub alike_strings : {P : Type 0} → Families P → List ℕ → List ℕ → Bool
+unfoldable pub alike_strings : {P : Type 0} → Ghosts P → List ℕ → List ℕ → Bool
 alike_strings peer a b = alike_from peer no_kinds (nla_items a) (nla_items b)
 
 -- whether parsing may allocate: not for the empty string, and not if the first attribute has an
 -- error of its own
-unfoldable pub reading_needs_memory : {P : Type 0} → Families P → List ℕ → Bool
+unfoldable pub reading_needs_memory : {P : Type 0} → Ghosts P → List ℕ → Bool
 reading_needs_memory peer s = memory_from peer no_kinds (nla_items s)
 
 -- a list is well formed: each value is, under the current kinds that those before it leave
-abbrev pub WellFormed : {P : Type 0} → Families P → List (LinkInfoOf P) → Type 0
+abbrev pub WellFormed : {P : Type 0} → Ghosts P → List (LinkInfoOf P) → Type 0
 WellFormed peer xs = well_under (link_well peer) kinds_after_value no_kinds xs
 
 -- ---- the meaning of a byte string as relations
 
 -- each attribute means its value, under the current kinds that those before it leave
-abbrev pub MeansEach : {P : Type 0} → Families P → CurrentKinds → List Attribute →
+abbrev pub MeansEach : {P : Type 0} → Ghosts P → CurrentKinds → List Attribute →
     List (LinkInfoOf P) →
     Type 0
 MeansEach peer t attributes xs = MeanEach (link_meaning peer) next_kinds t attributes xs
 
 -- the byte string is a list of attributes that mean these values
-abbrev pub Means : {P : Type 0} → Families P → List ℕ → List (LinkInfoOf P) → Type 0
+abbrev pub Means : {P : Type 0} → Ghosts P → List ℕ → List (LinkInfoOf P) → Type 0
 Means peer s xs = MeansList (link_meaning peer) next_kinds no_kinds s xs
 
 -- the byte string has the error of an attribute without a meaning, after attributes that have one,
 -- or the error of a rest without a header
-abbrev pub IsRejected : {P : Type 0} → Families P → List ℕ → DecodeError → Type 0
+abbrev pub IsRejected : {P : Type 0} → Ghosts P → List ℕ → DecodeError → Type 0
 IsRejected peer s e = HasError (link_meaning peer) next_kinds no_kinds s e
 
 -- the current kinds after attributes

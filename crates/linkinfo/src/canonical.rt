@@ -9,7 +9,6 @@ ghost use Rattle.linkinfo.specs.Strings.{reading};
 ghost use Rattle.linkinfo.specs.declared.canonical.CanonError.TheVariants as refused;
 
 use crate::canonical_into::{canonical_len_of, write_canonical_of};
-use linkinfo_data::DataFamilies;
 use linkinfo_table::LinkPeer;
 use nla_frame::{Bytes, DecodeError, ExactEq};
 use std::alloc::{AllocError, Global};
@@ -78,15 +77,12 @@ impl ExactEq for CanonError {
 /// need no memory.
 #[tactic(auto, using(crate::proofs::Writing::length_accepted, crate::proofs::Writing::length_fits, crate::proofs::Writing::length_same, crate::proofs::Writing::written_whole))]
 pub fn canon_of<P: LinkPeer>(alloc: Global, bytes: &[u8]) -> Result<Vec<u8>, CanonError>
-    ensures string { IfOk result
-        (λ canonical.
-        IsCanonical (link_attribute ⟦<P as DataFamilies>⟧.families)
-        (reading ⟦<P as DataFamilies>⟧.families bytes.now) canonical.items) }
-    ensures refused { IfErr result
-        (CanonRefuses (link_attribute ⟦<P as DataFamilies>⟧.families)
-        (reading ⟦<P as DataFamilies>⟧.families bytes.now)) }
-    ensures certain { CanonIsCertain (link_attribute ⟦<P as DataFamilies>⟧.families)
-        (reading ⟦<P as DataFamilies>⟧.families bytes.now) result }
+    ensures string { IfOk result (λ canonical. IsCanonical (link_attribute P.LinkPeer.own)
+        (reading P.LinkPeer.own bytes.now) canonical.items) }
+    ensures refused { IfErr result (CanonRefuses (link_attribute P.LinkPeer.own)
+        (reading P.LinkPeer.own bytes.now)) }
+    ensures certain { CanonIsCertain (link_attribute P.LinkPeer.own)
+        (reading P.LinkPeer.own bytes.now) result }
 {
     let len = canonical_len_of::<P>(bytes)?;
     let mut string = Vec::new(alloc);

@@ -34,7 +34,6 @@ ghost use Rattle.linkinfo.specs.Walks.{values_left};
 use crate::canonical::CanonError;
 use crate::item::{measure_item, write_item};
 use crate::walk::LinkInfoWalk;
-use linkinfo_data::DataFamilies;
 use linkinfo_data::laws::families_lawful;
 use linkinfo_table::{LinkPeer, total_with};
 use nla_frame::{Bytes, DecodeError, ExactEq};
@@ -101,8 +100,8 @@ impl ExactEq for CanonIntoError {
 /// length, in bytes, of their canonical encoding, or `None` if they do not fit. An attribute that
 /// does not fit does not end the pass, since a later one may be rejected.
 fn rest_measure<P: LinkPeer>(walk: &mut LinkInfoWalk<'_>) -> Result<Option<usize>, DecodeError>
-    ensures { let values = values_left ⟦<P as DataFamilies>⟧.families walk.old in
-        let attributes = attributes_for (link_attribute ⟦<P as DataFamilies>⟧.families) values in
+    ensures { let values = values_left P.LinkPeer.own walk.old in
+        let attributes = attributes_for (link_attribute P.LinkPeer.own) values in
         Measures (verdict values) (ListFits attributes) (length (list_string attributes)) result }
 {
     families_lawful::<P>();
@@ -118,15 +117,13 @@ fn rest_measure<P: LinkPeer>(walk: &mut LinkInfoWalk<'_>) -> Result<Option<usize
 /// Writes the canonical encoding of the attributes that a walk has not visited to the front of the
 /// buffer. The rest of the buffer is unchanged.
 fn write_rest<P: LinkPeer>(walk: &mut LinkInfoWalk<'_>, buffer: &mut [u8])
-    requires accepted { IsOk (values_left ⟦<P as DataFamilies>⟧.families walk.old) }
-    requires fits { ListFits (attributes_for (link_attribute ⟦<P as DataFamilies>⟧.families)
-        (values_left ⟦<P as DataFamilies>⟧.families walk.old)) }
-    requires room { length (list_string (attributes_for
-        (link_attribute ⟦<P as DataFamilies>⟧.families)
-        (values_left ⟦<P as DataFamilies>⟧.families walk.old))) ≤ length buffer.old }
-    ensures { let string = list_string (attributes_for
-        (link_attribute ⟦<P as DataFamilies>⟧.families)
-        (values_left ⟦<P as DataFamilies>⟧.families walk.old)) in
+    requires accepted { IsOk (values_left P.LinkPeer.own walk.old) }
+    requires fits { ListFits (attributes_for (link_attribute P.LinkPeer.own)
+        (values_left P.LinkPeer.own walk.old)) }
+    requires room { length (list_string (attributes_for (link_attribute P.LinkPeer.own)
+        (values_left P.LinkPeer.own walk.old))) ≤ length buffer.old }
+    ensures { let string = list_string (attributes_for (link_attribute P.LinkPeer.own)
+        (values_left P.LinkPeer.own walk.old)) in
         buffer.new ≡ string ++ drop (length string) buffer.old }
 {
     families_lawful::<P>();
@@ -142,12 +139,10 @@ fn write_rest<P: LinkPeer>(walk: &mut LinkInfoWalk<'_>, buffer: &mut [u8])
 /// attributes of data twice.
 #[tactic(auto, unfolding(crate::specs::Strings::reading), using(crate::proofs::Writing::length_is, crate::proofs::Writing::unfit_is))]
 pub(crate) fn canonical_len_of<P: LinkPeer>(bytes: &[u8]) -> Result<usize, CanonError>
-    ensures length { IfOk result
-        (IsCanonicalLength (link_attribute ⟦<P as DataFamilies>⟧.families)
-        (reading ⟦<P as DataFamilies>⟧.families bytes.now)) }
-    ensures refused { IfErr result
-        (LengthRefuses (link_attribute ⟦<P as DataFamilies>⟧.families)
-        (reading ⟦<P as DataFamilies>⟧.families bytes.now)) }
+    ensures length { IfOk result (IsCanonicalLength (link_attribute P.LinkPeer.own)
+        (reading P.LinkPeer.own bytes.now)) }
+    ensures refused { IfErr result (LengthRefuses (link_attribute P.LinkPeer.own)
+        (reading P.LinkPeer.own bytes.now)) }
 {
     match rest_measure::<P>(&mut LinkInfoWalk::new(bytes))? {
         Some(len) => Ok(len),
@@ -160,15 +155,13 @@ pub(crate) fn canonical_len_of<P: LinkPeer>(bytes: &[u8]) -> Result<usize, Canon
 /// that the buffer has room for the encoding.
 #[tactic(auto, unfolding(crate::specs::Strings::reading))]
 pub(crate) fn write_canonical_of<P: LinkPeer>(bytes: &[u8], buffer: &mut [u8])
-    requires accepted { IsOk (reading ⟦<P as DataFamilies>⟧.families bytes.now) }
-    requires fits { ListFits (attributes_for (link_attribute ⟦<P as DataFamilies>⟧.families)
-        (reading ⟦<P as DataFamilies>⟧.families bytes.now)) }
-    requires room { length (list_string
-        (attributes_for (link_attribute ⟦<P as DataFamilies>⟧.families)
-        (reading ⟦<P as DataFamilies>⟧.families bytes.now))) ≤ length buffer.old }
-    ensures { let string =
-        list_string (attributes_for (link_attribute ⟦<P as DataFamilies>⟧.families)
-        (reading ⟦<P as DataFamilies>⟧.families bytes.now)) in
+    requires accepted { IsOk (reading P.LinkPeer.own bytes.now) }
+    requires fits { ListFits (attributes_for (link_attribute P.LinkPeer.own)
+        (reading P.LinkPeer.own bytes.now)) }
+    requires room { length (list_string (attributes_for (link_attribute P.LinkPeer.own)
+        (reading P.LinkPeer.own bytes.now))) ≤ length buffer.old }
+    ensures { let string = list_string (attributes_for (link_attribute P.LinkPeer.own)
+        (reading P.LinkPeer.own bytes.now)) in
         buffer.new ≡ string ++ drop (length string) buffer.old }
 {
     write_rest::<P>(&mut LinkInfoWalk::new(bytes), buffer);
@@ -183,15 +176,12 @@ pub(crate) fn write_canonical_of<P: LinkPeer>(bytes: &[u8], buffer: &mut [u8])
 /// the encoding.
 #[tactic(auto, using(crate::proofs::Writing::length_accepted, crate::proofs::Writing::length_fits, crate::proofs::Writing::length_same, crate::proofs::Writing::written_front, crate::proofs::Writing::written_after))]
 pub fn canon_into_of<P: LinkPeer>(bytes: &[u8], buffer: &mut [u8]) -> Result<usize, CanonIntoError>
-    ensures string { IfOk result
-        (λ n.
-        IsCanonical (link_attribute ⟦<P as DataFamilies>⟧.families)
-        (reading ⟦<P as DataFamilies>⟧.families bytes.now) (take n buffer.new)) }
+    ensures string { IfOk result (λ n. IsCanonical (link_attribute P.LinkPeer.own)
+        (reading P.LinkPeer.own bytes.now) (take n buffer.new)) }
     ensures within { IfOk result (λ n. n ≤ length buffer.old) }
     ensures after { IfOk result (λ n. drop n buffer.new ≡ drop n buffer.old) }
-    ensures refused { IfErr result
-        (IntoRefuses (link_attribute ⟦<P as DataFamilies>⟧.families)
-        (reading ⟦<P as DataFamilies>⟧.families bytes.now) (length buffer.old)) }
+    ensures refused { IfErr result (IntoRefuses (link_attribute P.LinkPeer.own)
+        (reading P.LinkPeer.own bytes.now) (length buffer.old)) }
     ensures unchanged { OnErr result (buffer.new ≡ buffer.old) }
 {
     let needed = canonical_len_of::<P>(bytes)?;

@@ -13,8 +13,8 @@ use crate::list::check_of;
 use crate::placed::ErrorIn;
 use crate::role::{CurrentKinds, Role, kinds_after, role_of};
 use linkinfo_data::{
-    DataFamilies, DataFamily, Difference, InfoDataOf, InfoPortData, PayloadFamily, PortFamily,
-    family_of, list_difference, port_family_of, same_payloads,
+    DataFamily, Difference, InfoDataOf, InfoPortData, PayloadFamily, PortFamily, family_of,
+    list_difference, port_family_of, same_payloads,
 };
 use linkinfo_table::{LinkPeer, PlacedNla};
 use nla_frame::{Bytes, Family, HeaderCount, next_attribute};
@@ -49,11 +49,11 @@ fn role_difference<P: LinkPeer>(
     p: &PlacedNla<'_>,
     q: &PlacedNla<'_>,
 ) -> Option<Difference>
-    requires first { IsOk (item_meaning ⟦<P as DataFamilies>⟧.families role p.now.nla) }
-    requires second { IsOk (item_meaning ⟦<P as DataFamilies>⟧.families role q.now.nla) }
+    requires first { IsOk (item_meaning P.LinkPeer.own role p.now.nla) }
+    requires second { IsOk (item_meaning P.LinkPeer.own role q.now.nla) }
     requires first_room { p.now.offset + (4 + length p.now.nla.value) < 2 ^ 64 }
     requires second_room { q.now.offset + (4 + length q.now.nla.value) < 2 ^ 64 }
-    ensures { result ≡ role_difference ⟦<P as DataFamilies>⟧.families role p.now q.now }
+    ensures { result ≡ role_difference P.LinkPeer.own role p.now q.now }
 {
     match role {
         Role::Data(tag) => data_difference::<InfoDataOf<P>, DataFamily>(family_of(tag), p, q),
@@ -67,9 +67,9 @@ fn role_difference<P: LinkPeer>(
 
 /// The first difference of two accepted lists.
 fn first_difference_in<P: LinkPeer>(a: &[u8], b: &[u8]) -> Option<Difference>
-    requires first { IsOk (reading ⟦<P as DataFamilies>⟧.families a.now) }
-    requires second { IsOk (reading ⟦<P as DataFamilies>⟧.families b.now) }
-    ensures { result ≡ strings_difference ⟦<P as DataFamilies>⟧.families a.now b.now }
+    requires first { IsOk (reading P.LinkPeer.own a.now) }
+    requires second { IsOk (reading P.LinkPeer.own b.now) }
+    ensures { result ≡ strings_difference P.LinkPeer.own a.now b.now }
 {
     let mut count = HeaderCount::new();
     let mut kinds = CurrentKinds::none();
@@ -122,10 +122,8 @@ fn first_difference_in<P: LinkPeer>(a: &[u8], b: &[u8]) -> Option<Difference>
 /// The error is that of `a`, otherwise that of `b`. Each header is examined at most four times.
 /// Does not allocate.
 pub fn first_difference_of<P: LinkPeer>(a: &[u8], b: &[u8]) -> Result<Option<Difference>, ErrorIn>
-    ensures answer { result
-        ≡ placed_answer (reading ⟦<P as DataFamilies>⟧.families a.now)
-        (reading ⟦<P as DataFamilies>⟧.families b.now)
-        (strings_difference ⟦<P as DataFamilies>⟧.families a.now b.now) }
+    ensures answer { result ≡ placed_answer (reading P.LinkPeer.own a.now)
+        (reading P.LinkPeer.own b.now) (strings_difference P.LinkPeer.own a.now b.now) }
     ensures no_memory { IfErr result (λ at. either_error at ≢ memory_error) }
 {
     match check_of::<P>(a) {

@@ -2,9 +2,8 @@
 //! set: the traits to implement, the calls that follow from a table, and the writers of numbers and
 //! attributes.
 
-// Every type of peer has `DataFamilies` and every family `ListedFamily`: they are for contracts
-// alone, as `PlainFamilies` and `Plain` are.
-pub use linkinfo_data::{DataFamilies, Plain, PlainFamilies};
+// Every family has `ListedFamily`: it is for contracts alone, as `PlainFamilies` and `Plain` are.
+pub use linkinfo_data::{Plain, PlainFamilies};
 pub use linkinfo_numbers::{KeepsEveryBit, bits_again};
 pub use linkinfo_peers::BitPeer;
 pub use linkinfo_table::{

@@ -17,9 +17,9 @@ ghost use Rattle.std.specs.Prelude.{
   drop,
   length,
 };
-ghost use Rattle.std.specs.Bool.{OnTrue};
 ghost use Rattle.std.specs.Str.{bytes_eq};
-ghost use Rattle.nla_frame.specs.Answers.{CertainUnless, Gives, OnAnswer, verdict};
+ghost use Rattle.nla_frame.specs.Answers.{CertainUnless, Gives, verdict};
+ghost use Rattle.linkinfo_table.specs.Calls.{Checks, Compares, Reads};
 ghost use Rattle.linkinfo_table.specs.Lists.{Measures};
 ghost use Rattle.linkinfo.specs.Items.{
   item_alike,
@@ -33,13 +33,14 @@ ghost use Rattle.linkinfo_numbers.specs.PortKind.{port_kind_of_name, port_tag_of
 ghost use Rattle.linkinfo_shapes.specs.Shapes.{needs_memory};
 ghost use Rattle.linkinfo.specs.Roles.{kinds_after_role, name_meaning, no_kinds, with_name};
 ghost use Rattle.nla_frame.specs.Attribute.{Fits, buffer_len_of, canonical_string, masked};
+ghost use Rattle.nla_frame.specs.Writing.{WritesAttribute};
 
 use crate::link_info::LinkInfoOf;
 use crate::role::{CurrentKinds, Role, error, name_in};
 use crate::xstats::LinkXstats;
 use linkinfo_data::{
-    DataFamilies, DataFamily, InfoDataOf, InfoPortData, PayloadFamily, PortFamily, check_payload,
-    family_of, measure_payload, port_family_of, same_payloads, write_canonical_payload,
+    DataFamily, InfoDataOf, InfoPortData, PayloadFamily, PortFamily, check_payload, family_of,
+    measure_payload, port_family_of, same_payloads, write_canonical_payload,
 };
 use linkinfo_numbers::{
     IFLA_INFO_DATA, IFLA_INFO_KIND, IFLA_INFO_SLAVE_DATA, IFLA_INFO_SLAVE_KIND, IFLA_INFO_XSTATS,
@@ -64,14 +65,9 @@ pub(crate) fn read_item<P: LinkPeer>(
     requires entered { (before : CurrentKinds)
         × (kinds_after_role role before nla.now ≡ Ok kinds_after) }
     requires room { count.old + length nla.now.value / 4 < 2 ^ 64 }
-    ensures answer { Gives (λ value. value) result
-        (item_meaning ⟦<P as DataFamilies>⟧.families role nla.now) }
-    ensures certain { CertainUnless (item_memory ⟦<P as DataFamilies>⟧.families role nla.now)
-        (λ value. value) result (item_meaning ⟦<P as DataFamilies>⟧.families role nla.now) }
-    ensures counted { OnAnswer result (count.new ≡ count.old
-        + item_headers ⟦<P as DataFamilies>⟧.families role nla.now) }
-    ensures rises { count.old ≤ count.new }
-    ensures quarter { 4 * count.new ≤ 4 * count.old + length nla.now.value }
+    ensures { Reads (λ value. value) result (item_meaning P.LinkPeer.own role nla.now)
+        (item_memory P.LinkPeer.own role nla.now) (item_headers P.LinkPeer.own role nla.now)
+        (length nla.now.value) count.old count.new }
 {
     match role {
         Role::Kind => Ok(LinkInfoOf::Kind(read_kind(alloc, nla, kinds_after.kind)?)),
@@ -142,10 +138,8 @@ pub(crate) fn check_item<P: LinkPeer>(
 ) -> Result<(), DecodeError>
     requires entered { IsOk (kinds_after_role role no_kinds nla.now) }
     requires room { count.old + length nla.now.value / 4 < 2 ^ 64 }
-    ensures answer { result ≡ verdict (item_meaning ⟦<P as DataFamilies>⟧.families role nla.now) }
-    ensures counted { count.new ≡ count.old
-        + item_headers ⟦<P as DataFamilies>⟧.families role nla.now }
-    ensures quarter { 4 * count.new ≤ 4 * count.old + length nla.now.value }
+    ensures { Checks result (verdict (item_meaning P.LinkPeer.own role nla.now))
+        (item_headers P.LinkPeer.own role nla.now) (length nla.now.value) count.old count.new }
 {
     match role {
         Role::Kind => Ok(()),
@@ -174,16 +168,13 @@ pub(crate) fn same_item<P: LinkPeer>(
     role: Role,
     count: &mut HeaderCount,
 ) -> bool
-    requires first { IsOk (item_meaning ⟦<P as DataFamilies>⟧.families role a.now) }
+    requires first { IsOk (item_meaning P.LinkPeer.own role a.now) }
     requires second { masked b.now.kind ≡ masked a.now.kind →
-        IsOk (item_meaning ⟦<P as DataFamilies>⟧.families role b.now) }
+        IsOk (item_meaning P.LinkPeer.own role b.now) }
     requires room { count.old + (length a.now.value + length b.now.value) / 4 < 2 ^ 64 }
-    ensures same { result ≡ item_alike ⟦<P as DataFamilies>⟧.families role a.now b.now }
-    ensures counted { OnTrue result (count.new ≡ count.old
-        + (item_headers ⟦<P as DataFamilies>⟧.families role a.now
-        + item_headers ⟦<P as DataFamilies>⟧.families role b.now)) }
-    ensures rises { count.old ≤ count.new }
-    ensures quarter { 4 * count.new ≤ 4 * count.old + (length a.now.value + length b.now.value) }
+    ensures { Compares result (item_alike P.LinkPeer.own role a.now b.now)
+        (item_headers P.LinkPeer.own role a.now + item_headers P.LinkPeer.own role b.now)
+        (length a.now.value + length b.now.value) count.old count.new }
 {
     let same_kind = b.kind() == a.kind();
     match role {
@@ -222,8 +213,8 @@ pub(crate) fn measure_item<P: LinkPeer>(
     role: Role,
 ) -> Result<Option<usize>, DecodeError>
     requires { IsOk (kinds_after_role role no_kinds nla.now) }
-    ensures { let canonical = written_attribute ⟦<P as DataFamilies>⟧.families role nla.now in
-        Measures (verdict (item_meaning ⟦<P as DataFamilies>⟧.families role nla.now))
+    ensures { let canonical = written_attribute P.LinkPeer.own role nla.now in
+        Measures (verdict (item_meaning P.LinkPeer.own role nla.now))
         (Fits canonical) (length canonical.value) result }
 {
     let value = nla.value();
@@ -245,16 +236,12 @@ pub(crate) fn measure_item<P: LinkPeer>(
 /// accepted, that its canonical payload has at most 65531 bytes, and that the buffer has room. Does
 /// not allocate.
 pub(crate) fn write_item<P: LinkPeer>(nla: &NlaBuffer<'_>, role: Role, buffer: &mut [u8]) -> usize
-    requires accepted { IsOk (item_meaning ⟦<P as DataFamilies>⟧.families role nla.now) }
-    requires fits { Fits (written_attribute ⟦<P as DataFamilies>⟧.families role nla.now) }
-    requires room { buffer_len_of (written_attribute ⟦<P as DataFamilies>⟧.families role nla.now)
+    requires accepted { IsOk (item_meaning P.LinkPeer.own role nla.now) }
+    requires fits { Fits (written_attribute P.LinkPeer.own role nla.now) }
+    requires room { buffer_len_of (written_attribute P.LinkPeer.own role nla.now)
         ≤ length buffer.old }
-    ensures taken { result
-        ≡ buffer_len_of (written_attribute ⟦<P as DataFamilies>⟧.families role nla.now) }
-    ensures written { buffer.new
-        ≡ canonical_string (written_attribute ⟦<P as DataFamilies>⟧.families role nla.now)
-        ++ drop (buffer_len_of (written_attribute ⟦<P as DataFamilies>⟧.families role nla.now))
-        buffer.old }
+    ensures { WritesAttribute (written_attribute P.LinkPeer.own role nla.now)
+        buffer.old buffer.new result }
 {
     let value = nla.value();
     match role {
@@ -296,13 +283,9 @@ fn write_payload<D: Drop, F: PayloadFamily<D>>(
     requires room { buffer_len_of
         (record { kind = kind; value = (F.data_of family).canonical payload.now })
         ≤ length buffer.old }
-    ensures taken { result
-        ≡ buffer_len_of (record { kind = kind; value = (F.data_of family).canonical payload.now }) }
-    ensures written { buffer.new
-        ≡ canonical_string
+    ensures { WritesAttribute
         (record { kind = kind; value = (F.data_of family).canonical payload.now })
-        ++ drop (buffer_len_of
-        (record { kind = kind; value = (F.data_of family).canonical payload.now })) buffer.old }
+        buffer.old buffer.new result }
 {
     let len = write_canonical_payload::<D, F>(family, payload, &mut buffer[4..]);
     write_frame(buffer, kind, len);

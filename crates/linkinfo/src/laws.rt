@@ -78,7 +78,6 @@ ghost use Rattle.linkinfo.specs.declared.role.Role.TheVariants as role;
 use crate::link_info::LinkInfoOf;
 use crate::list::VecLinkInfoOf;
 use crate::walk::{LinkInfoItem, LinkInfoWalk};
-use linkinfo_data::DataFamilies;
 use linkinfo_data::laws::{families_lawful, well_formed as data_well_formed};
 use linkinfo_table::LinkPeer;
 
@@ -88,14 +87,12 @@ use linkinfo_table::LinkPeer;
 /// attribute's; or all attributes mean values, and the rest has no header: `(Frame, 0, Header)`.
 /// Each string means one list or has one error, never both.
 pub fn framed<P: LinkPeer>(bytes: &[u8])
-    ensures means { (xs : List (LinkInfoOf P)) →
-        (reading ⟦<P as DataFamilies>⟧.families bytes.now ≡ Ok xs)
-        ↔ Means ⟦<P as DataFamilies>⟧.families bytes.now xs }
-    ensures rejected { (e : DecodeError) →
-        (reading ⟦<P as DataFamilies>⟧.families bytes.now ≡ Err e)
-        ↔ IsRejected ⟦<P as DataFamilies>⟧.families bytes.now e }
-    ensures decided { IsDecided (Means ⟦<P as DataFamilies>⟧.families bytes.now)
-        (IsRejected ⟦<P as DataFamilies>⟧.families bytes.now) }
+    ensures means { (xs : List (LinkInfoOf P)) → (reading P.LinkPeer.own bytes.now ≡ Ok xs)
+        ↔ Means P.LinkPeer.own bytes.now xs }
+    ensures rejected { (e : DecodeError) → (reading P.LinkPeer.own bytes.now ≡ Err e)
+        ↔ IsRejected P.LinkPeer.own bytes.now e }
+    ensures decided { IsDecided (Means P.LinkPeer.own bytes.now)
+        (IsRejected P.LinkPeer.own bytes.now) }
 {}
 
 /// After attributes that each have a meaning, whatever follows them, the current kind is that of
@@ -103,8 +100,7 @@ pub fn framed<P: LinkPeer>(bytes: &[u8])
 /// that name.
 pub fn current_kinds<P: LinkPeer>()
     ensures { (front : List Attribute) (xs : List (LinkInfoOf P)) →
-        MeansEach ⟦<P as DataFamilies>⟧.families no_kinds front xs →
-        kinds_after_all no_kinds front
+        MeansEach P.LinkPeer.own no_kinds front xs → kinds_after_all no_kinds front
         ≡ record { kind = last_kind front; port = last_port front } }
 {}
 
@@ -120,13 +116,13 @@ pub fn tags_by_place(bytes: &[u8])
 /// An attribute of an unknown type is kept verbatim, with its 16-bit type and its payload.
 pub fn unknown_kept<P: LinkPeer>()
     ensures { (t : CurrentKinds) (a : Attribute) → role_at t a ≡ role.Unknown →
-        link_meaning ⟦<P as DataFamilies>⟧.families t a ≡ Ok (link_other (kept a)) }
+        link_meaning P.LinkPeer.own t a ≡ Ok (link_other (kept a)) }
 {}
 
 /// No byte string has the error `(Frame, 0, Memory)`: `VecLinkInfoOf::parse` returns it only if an
 /// allocation failed.
 pub fn no_memory<P: LinkPeer>()
-    ensures { (s : List ℕ) → reading ⟦<P as DataFamilies>⟧.families s ≢ Err memory_error }
+    ensures { (s : List ℕ) → reading P.LinkPeer.own s ≢ Err memory_error }
 {
     families_lawful::<P>();
 }
@@ -148,18 +144,17 @@ pub fn equal_items()
 pub fn pfcp<P: LinkPeer>(bytes: &[u8])
     ensures kind { (r : Role) → (is_pfcp_data r ≡ true) ↔ (r ≡ role.Data tag.Pfcp) }
     ensures bytes { (t : CurrentKinds) (a : Attribute) → role_at t a ≡ role.Data tag.Pfcp →
-        meaning_before ⟦<P as DataFamilies>⟧.families t a ≡ Ok (info.Data (data_of.Other a.value)) }
-    ensures accepted { IsOk (reading ⟦<P as DataFamilies>⟧.families bytes.now) →
-        IsOk (reading_before ⟦<P as DataFamilies>⟧.families bytes.now) }
-    ensures elsewhere { HasNoPfcpData bytes.now →
-        reading ⟦<P as DataFamilies>⟧.families bytes.now
-        ≡ reading_before ⟦<P as DataFamilies>⟧.families bytes.now }
+        meaning_before P.LinkPeer.own t a ≡ Ok (info.Data (data_of.Other a.value)) }
+    ensures accepted { IsOk (reading P.LinkPeer.own bytes.now) →
+        IsOk (reading_before P.LinkPeer.own bytes.now) }
+    ensures elsewhere { HasNoPfcpData bytes.now → reading P.LinkPeer.own bytes.now
+        ≡ reading_before P.LinkPeer.own bytes.now }
     ensures alike { HasNoPfcpData bytes.now → (other : List ℕ) →
-        alike_strings ⟦<P as DataFamilies>⟧.families bytes.now other
-        ≡ alike_strings_before ⟦<P as DataFamilies>⟧.families bytes.now other }
+        alike_strings P.LinkPeer.own bytes.now other
+        ≡ alike_strings_before P.LinkPeer.own bytes.now other }
     ensures alike_to { HasNoPfcpData bytes.now → (other : List ℕ) →
-        alike_strings ⟦<P as DataFamilies>⟧.families other bytes.now
-        ≡ alike_strings_before ⟦<P as DataFamilies>⟧.families other bytes.now }
+        alike_strings P.LinkPeer.own other bytes.now
+        ≡ alike_strings_before P.LinkPeer.own other bytes.now }
 {}
 
 /// `==` of two lists returns true if and only if both hold equal values in the same order.
@@ -177,10 +172,8 @@ pub fn equal_walks()
 
 /// Two accepted lists have no difference (`first_difference`) if and only if they are equivalent.
 pub fn differences<P: LinkPeer>()
-    ensures { (a b : List ℕ) → IsOk (reading ⟦<P as DataFamilies>⟧.families a) →
-        IsOk (reading ⟦<P as DataFamilies>⟧.families b) →
-        (strings_difference ⟦<P as DataFamilies>⟧.families a b ≡ None)
-        ↔ (alike_strings ⟦<P as DataFamilies>⟧.families a b ≡ true) }
+    ensures { (a b : List ℕ) → IsOk (reading P.LinkPeer.own a) → IsOk (reading P.LinkPeer.own b) →
+        (strings_difference P.LinkPeer.own a b ≡ None) ↔ (alike_strings P.LinkPeer.own a b ≡ true) }
 {}
 
 /// Each attribute of a list inside an attribute that fits has at most 65531 bytes of payload, and
@@ -201,21 +194,19 @@ pub fn fits_inside()
 /// a kind (`statistics`). An attribute kept verbatim has none of the types 1 to 5 (`unknown`).
 pub fn well_formed<P: LinkPeer>()
     ensures list { (xs : List (LinkInfoOf P)) →
-        WellFormed ⟦<P as DataFamilies>⟧.families xs ↔ Conditions P.well xs }
+        WellFormed P.LinkPeer.own xs ↔ Conditions P.well xs }
     ensures kind { (t : CurrentKinds) (k : InfoKind) →
-        link_well ⟦<P as DataFamilies>⟧.families t (info.Kind k) ↔ IsRead kind_table IsText k }
+        link_well P.LinkPeer.own t (info.Kind k) ↔ IsRead kind_table IsText k }
     ensures data { (t : CurrentKinds) (d : InfoDataOf P) →
-        link_well ⟦<P as DataFamilies>⟧.families t (info.Data d) ↔ IsDataUnder P.well t.kind d }
+        link_well P.LinkPeer.own t (info.Data d) ↔ IsDataUnder P.well t.kind d }
     ensures statistics { (t : CurrentKinds) (x : LinkXstats) →
-        link_well ⟦<P as DataFamilies>⟧.families t (info.Xstats x)
-        ↔ ((t.kind ≢ None) × IsBytes (xstats_bytes x)) }
+        link_well P.LinkPeer.own t (info.Xstats x) ↔ ((t.kind ≢ None) × IsBytes (xstats_bytes x)) }
     ensures port_kind { (t : CurrentKinds) (k : InfoPortKind) →
-        link_well ⟦<P as DataFamilies>⟧.families t (info.PortKind k)
-        ↔ IsRead port_kind_table IsText k }
+        link_well P.LinkPeer.own t (info.PortKind k) ↔ IsRead port_kind_table IsText k }
     ensures port_data { (t : CurrentKinds) (d : InfoPortData) →
-        link_well ⟦<P as DataFamilies>⟧.families t (info.PortData d) ↔ IsPortDataUnder t.port d }
+        link_well P.LinkPeer.own t (info.PortData d) ↔ IsPortDataUnder t.port d }
     ensures unknown { (t : CurrentKinds) (d : DefaultNla) →
-        link_well ⟦<P as DataFamilies>⟧.families t (info.Other d)
+        link_well P.LinkPeer.own t (info.Other d)
         ↔ ((d.kind < 65536) × IsBytes d.value × IsUnnamed (masked d.kind)) }
 {
     data_well_formed::<P>();

@@ -1,7 +1,7 @@
 //! Attributes of the list inside `IFLA_LINKINFO`, include/uapi/linux/if_link.h.
 
 use crate::xstats::LinkXstats;
-use linkinfo_data::{DataFamilies, InfoDataOf, InfoPortData};
+use linkinfo_data::{InfoDataOf, InfoPortData};
 use linkinfo_numbers::{IFLA_INFO_XSTATS, InfoKind, InfoPortKind};
 use linkinfo_table::LinkPeer;
 use nla_frame::{Bytes, DefaultNla, Emitable, ExactEq, Nla, fitting};
@@ -30,7 +30,7 @@ pub type LinkInfo = LinkInfoOf<Bytes>;
 impl<P: LinkPeer> Nla for LinkInfoOf<P> {
     ghost use Rattle.linkinfo.specs.Items.{link_attribute};
 
-    ghost attribute = { link_attribute ⟦<P as DataFamilies>⟧.families };
+    ghost attribute = { link_attribute P.LinkPeer.own };
 
     fn value_len(&self) -> usize {
         match self {

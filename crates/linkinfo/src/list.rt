@@ -14,7 +14,6 @@ ghost use Rattle.std.specs.Prelude.{
   IsTrue,
   length,
 };
-ghost use Rattle.std.specs.Bool.{OnTrue};
 ghost use Rattle.nla_frame.specs.Answers.{CertainUnless, Gives, OnAnswer, verdict};
 ghost use Rattle.nla_frame.specs.Error.{memory_error};
 ghost use Rattle.nla_frame.specs.NlaItems.{nla_items};
@@ -24,6 +23,7 @@ ghost use Rattle.std.specs.Iterator.Adapters.{IterYieldsInOrder, IterYieldsInRev
 ghost use Rattle.std.specs.Slice.Iter.{iter_rest};
 ghost use Rattle.std.specs.Prelude.{ℕ, List, [], ◌++◌, ◌%◌, map, Err, IfErr, IfOk, Ok, OnOk, true};
 ghost use Rattle.std.specs.List.{AllByRecursion};
+ghost use Rattle.linkinfo_table.specs.Calls.{Checks, Compares, Reads};
 ghost use Rattle.linkinfo_data.specs.BytesPeer.{bytes_peer};
 ghost use Rattle.linkinfo.specs.Comparing.{either_error, same_answer, same_at_answer, same_counts};
 ghost use Rattle.linkinfo.specs.Items.{link_attribute};
@@ -45,7 +45,6 @@ use crate::link_info::LinkInfoOf;
 use crate::placed::ErrorIn;
 use crate::role::{CurrentKinds, kinds_after, role_of};
 use crate::walk::LinkInfoWalk;
-use linkinfo_data::DataFamilies;
 use linkinfo_data::laws::families_lawful;
 use linkinfo_table::LinkPeer;
 use nla_frame::{
@@ -63,17 +62,10 @@ fn read_rest<P: LinkPeer>(
 ) -> Result<Vec<LinkInfoOf<P>>, DecodeError>
     requires { 4 * (count.old + walk.old.attributes.examined) + length (left walk.old)
         < 4 * 2 ^ 64 }
-    ensures answer { Gives (λ v. v.items) result
-        (values_left ⟦<P as DataFamilies>⟧.families walk.old) }
-    ensures certain { CertainUnless (memory_left ⟦<P as DataFamilies>⟧.families walk.old)
-        (λ v. v.items) result (values_left ⟦<P as DataFamilies>⟧.families walk.old) }
-    ensures counted { OnAnswer result (count.new + walk.new.attributes.examined
-        ≡ (count.old + walk.old.attributes.examined)
-        + headers_left ⟦<P as DataFamilies>⟧.families walk.old) }
-    ensures rises { count.old + walk.old.attributes.examined
-        ≤ count.new + walk.new.attributes.examined }
-    ensures quarter { 4 * (count.new + walk.new.attributes.examined)
-        ≤ 4 * (count.old + walk.old.attributes.examined) + length (left walk.old) }
+    ensures { Reads (λ v. v.items) result (values_left P.LinkPeer.own walk.old)
+        (memory_left P.LinkPeer.own walk.old) (headers_left P.LinkPeer.own walk.old)
+        (length (left walk.old)) (count.old + walk.old.attributes.examined)
+        (count.new + walk.new.attributes.examined) }
 {
     let mut items = Vec::new(alloc);
     while let Some(next) = walk.advance() {
@@ -95,12 +87,9 @@ fn check_rest<P: LinkPeer>(
 ) -> Result<(), DecodeError>
     requires { 4 * (count.old + walk.old.attributes.examined) + length (left walk.old)
         < 4 * 2 ^ 64 }
-    ensures answer { result ≡ verdict (values_left ⟦<P as DataFamilies>⟧.families walk.old) }
-    ensures counted { count.new + walk.new.attributes.examined
-        ≡ (count.old + walk.old.attributes.examined)
-        + headers_left ⟦<P as DataFamilies>⟧.families walk.old }
-    ensures quarter { 4 * (count.new + walk.new.attributes.examined)
-        ≤ 4 * (count.old + walk.old.attributes.examined) + length (left walk.old) }
+    ensures { Checks result (verdict (values_left P.LinkPeer.own walk.old))
+        (headers_left P.LinkPeer.own walk.old) (length (left walk.old))
+        (count.old + walk.old.attributes.examined) (count.new + walk.new.attributes.examined) }
 {
     while let Some(next) = walk.advance() {
         let (nla, role) = next?;
@@ -112,19 +101,14 @@ fn check_rest<P: LinkPeer>(
 /// Returns whether two accepted byte strings are equivalent, attribute by attribute, each pair
 /// under the current kinds in the first. Does not allocate.
 fn same_strings<P: LinkPeer>(a: &[u8], b: &[u8], count: &mut HeaderCount) -> bool
-    requires first { IsOk
-        (values_from ⟦<P as DataFamilies>⟧.families no_kinds (nla_items a.now)) }
-    requires second { IsOk
-        (values_from ⟦<P as DataFamilies>⟧.families no_kinds (nla_items b.now)) }
+    requires first { IsOk (values_from P.LinkPeer.own no_kinds (nla_items a.now)) }
+    requires second { IsOk (values_from P.LinkPeer.own no_kinds (nla_items b.now)) }
     requires room { count.old + (length a.now + length b.now) / 4 < 2 ^ 64 }
-    ensures same { result
-        ≡ alike_from ⟦<P as DataFamilies>⟧.families no_kinds (nla_items a.now) (nla_items b.now) }
-    ensures counted { OnTrue result
-        (count.new ≡ count.old + (headers_from ⟦<P as DataFamilies>⟧.families no_kinds
-        (nla_items a.now)
-        + headers_from ⟦<P as DataFamilies>⟧.families no_kinds (nla_items b.now))) }
-    ensures rises { count.old ≤ count.new }
-    ensures quarter { 4 * count.new ≤ 4 * count.old + (length a.now + length b.now) }
+    ensures { Compares result
+        (alike_from P.LinkPeer.own no_kinds (nla_items a.now) (nla_items b.now))
+        (headers_from P.LinkPeer.own no_kinds (nla_items a.now)
+        + headers_from P.LinkPeer.own no_kinds (nla_items b.now))
+        (length a.now + length b.now) count.old count.new }
 {
     let mut x = a;
     let mut y = b;
@@ -151,10 +135,9 @@ fn same_strings<P: LinkPeer>(a: &[u8], b: &[u8], count: &mut HeaderCount) -> boo
 #[tactic(auto, unfolding(crate::specs::Strings::reading, crate::specs::Strings::headers_of_string))]
 fn check_string<P: LinkPeer>(bytes: &[u8], count: &mut HeaderCount) -> Result<(), DecodeError>
     requires { count.old + length bytes.now / 4 < 2 ^ 64 }
-    ensures answer { result ≡ verdict (reading ⟦<P as DataFamilies>⟧.families bytes.now) }
+    ensures answer { result ≡ verdict (reading P.LinkPeer.own bytes.now) }
     ensures no_memory { result ≢ Err memory_error }
-    ensures counted { count.new
-        ≡ count.old + headers_of_string ⟦<P as DataFamilies>⟧.families bytes.now }
+    ensures counted { count.new ≡ count.old + headers_of_string P.LinkPeer.own bytes.now }
     ensures quarter { 4 * count.new ≤ 4 * count.old + length bytes.now }
 {
     families_lawful::<P>();
@@ -236,13 +219,11 @@ impl<P: LinkPeer> VecLinkInfoOf<P> {
         count: &mut HeaderCount,
     ) -> Result<VecLinkInfoOf<P>, DecodeError>
         requires { count.old ≡ 0 }
-        ensures answer { Gives (λ list. list.0) result
-            (reading ⟦<P as DataFamilies>⟧.families bytes.now) }
+        ensures answer { Gives (λ list. list.0) result (reading P.LinkPeer.own bytes.now) }
         ensures certain { CertainUnless
-            (reading_needs_memory ⟦<P as DataFamilies>⟧.families bytes.now) (λ list. list.0) result
-            (reading ⟦<P as DataFamilies>⟧.families bytes.now) }
-        ensures counted { OnAnswer result
-            (count.new ≡ headers_of_string ⟦<P as DataFamilies>⟧.families bytes.now) }
+            (reading_needs_memory P.LinkPeer.own bytes.now) (λ list. list.0) result
+            (reading P.LinkPeer.own bytes.now) }
+        ensures counted { OnAnswer result (count.new ≡ headers_of_string P.LinkPeer.own bytes.now) }
         ensures quarter { count.new ≤ length bytes.now / 4 }
     {
         let mut walk = LinkInfoWalk::new(bytes);
@@ -262,30 +243,26 @@ impl<P: LinkPeer> VecLinkInfoOf<P> {
     /// allocating. If the first attribute is rejected by its own header, name or order, that error
     /// is returned even if memory is short.
     pub fn parse(alloc: Global, bytes: &[u8]) -> Result<VecLinkInfoOf<P>, DecodeError>
-        ensures answer { Gives (λ list. list.0) result
-            (reading ⟦<P as DataFamilies>⟧.families bytes.now) }
+        ensures answer { Gives (λ list. list.0) result (reading P.LinkPeer.own bytes.now) }
         ensures certain { CertainUnless
-            (reading_needs_memory ⟦<P as DataFamilies>⟧.families bytes.now) (λ list. list.0) result
-            (reading ⟦<P as DataFamilies>⟧.families bytes.now) }
+            (reading_needs_memory P.LinkPeer.own bytes.now) (λ list. list.0) result
+            (reading P.LinkPeer.own bytes.now) }
 
         // A parsed list is well formed.
         ensures well_formed { (xs : List (LinkInfoOf P)) →
-            reading ⟦<P as DataFamilies>⟧.families bytes.now ≡ Ok xs →
-            WellFormed ⟦<P as DataFamilies>⟧.families xs }
+            reading P.LinkPeer.own bytes.now ≡ Ok xs → WellFormed P.LinkPeer.own xs }
 
         // The canonical encoding of a list that fits parses back as that list exactly when the list
         // is well formed.
         ensures canonical { (xs : List (LinkInfoOf P)) →
-            AllByRecursion Fits (map (link_attribute ⟦<P as DataFamilies>⟧.families) xs) →
-            bytes.now ≡ list_string (map (link_attribute ⟦<P as DataFamilies>⟧.families) xs) →
-            (reading ⟦<P as DataFamilies>⟧.families bytes.now ≡ Ok xs)
-            ↔ WellFormed ⟦<P as DataFamilies>⟧.families xs }
+            AllByRecursion Fits (map (link_attribute P.LinkPeer.own) xs) →
+            bytes.now ≡ list_string (map (link_attribute P.LinkPeer.own) xs) →
+            (reading P.LinkPeer.own bytes.now ≡ Ok xs) ↔ WellFormed P.LinkPeer.own xs }
 
         // Accepted byte strings, one after the other, parse as their lists, one after the other.
         ensures appended { (a b : List ℕ) (xs ys : List (LinkInfoOf P)) → length a % 4 ≡ 0 →
-            bytes.now ≡ a ++ b → reading ⟦<P as DataFamilies>⟧.families a ≡ Ok xs →
-            reading ⟦<P as DataFamilies>⟧.families b ≡ Ok ys →
-            reading ⟦<P as DataFamilies>⟧.families bytes.now ≡ Ok (xs ++ ys) }
+            bytes.now ≡ a ++ b → reading P.LinkPeer.own a ≡ Ok xs →
+            reading P.LinkPeer.own b ≡ Ok ys → reading P.LinkPeer.own bytes.now ≡ Ok (xs ++ ys) }
     {
         families_lawful::<P>();
         let mut count = HeaderCount::new();
@@ -302,13 +279,11 @@ impl<P: LinkPeer> VecLinkInfoOf<P> {
     /// let bytes = list.to_vec(alloc)?;
     /// ```
     pub fn to_vec(&self, alloc: Global) -> Result<Vec<u8>, ToVecError>
-        ensures string { IfOk result
-            (λ bytes. bytes.items
-            ≡ list_string (map (link_attribute ⟦<P as DataFamilies>⟧.families) self.now.0)) }
-        ensures fits { OnOk result
-            (ListFits (map (link_attribute ⟦<P as DataFamilies>⟧.families) self.now.0)) }
+        ensures string { IfOk result (λ bytes. bytes.items
+            ≡ list_string (map (link_attribute P.LinkPeer.own) self.now.0)) }
+        ensures fits { OnOk result (ListFits (map (link_attribute P.LinkPeer.own) self.now.0)) }
         ensures unfit { (result ≡ Err refused.Unfit)
-            ↔ ¬ ListFits (map (link_attribute ⟦<P as DataFamilies>⟧.families) self.now.0) }
+            ↔ ¬ ListFits (map (link_attribute P.LinkPeer.own) self.now.0) }
         ensures certain { self.now.0 ≡ [] → IsOk result }
     {
         nlas_to_vec(alloc, self.as_slice())
@@ -319,7 +294,7 @@ impl<P: LinkPeer> VecLinkInfoOf<P> {
 /// `VecLinkInfoOf::parse` accepts them, otherwise the error of the bytes. Each header is examined
 /// once. Does not allocate.
 pub fn check_of<P: LinkPeer>(bytes: &[u8]) -> Result<(), DecodeError>
-    ensures answer { result ≡ verdict (reading ⟦<P as DataFamilies>⟧.families bytes.now) }
+    ensures answer { result ≡ verdict (reading P.LinkPeer.own bytes.now) }
     ensures no_memory { result ≢ Err memory_error }
 {
     let mut count = HeaderCount::new();
@@ -333,9 +308,9 @@ pub fn check_counted_of<P: LinkPeer>(
     count: &mut HeaderCount,
 ) -> Result<(), DecodeError>
     requires { count.old ≡ 0 }
-    ensures answer { result ≡ verdict (reading ⟦<P as DataFamilies>⟧.families bytes.now) }
+    ensures answer { result ≡ verdict (reading P.LinkPeer.own bytes.now) }
     ensures no_memory { result ≢ Err memory_error }
-    ensures counted { count.new ≡ headers_of_string ⟦<P as DataFamilies>⟧.families bytes.now }
+    ensures counted { count.new ≡ headers_of_string P.LinkPeer.own bytes.now }
     ensures quarter { count.new ≤ length bytes.now / 4 }
 {
     check_string::<P>(bytes, count)
@@ -351,14 +326,12 @@ pub fn same_counted_of<P: LinkPeer>(
     count: &mut HeaderCount,
 ) -> Result<bool, DecodeError>
     requires { count.old ≡ 0 }
-    ensures answer { result
-        ≡ same_answer (reading ⟦<P as DataFamilies>⟧.families a.now)
-        (reading ⟦<P as DataFamilies>⟧.families b.now)
-        (alike_strings ⟦<P as DataFamilies>⟧.families a.now b.now) }
+    ensures answer { result ≡ same_answer (reading P.LinkPeer.own a.now)
+        (reading P.LinkPeer.own b.now) (alike_strings P.LinkPeer.own a.now b.now) }
     ensures no_memory { result ≢ Err memory_error }
-    ensures counted { same_counts result (reading ⟦<P as DataFamilies>⟧.families a.now)
-        (headers_of_string ⟦<P as DataFamilies>⟧.families a.now)
-        (headers_of_string ⟦<P as DataFamilies>⟧.families b.now) count.new }
+    ensures counted { same_counts result (reading P.LinkPeer.own a.now)
+        (headers_of_string P.LinkPeer.own a.now)
+        (headers_of_string P.LinkPeer.own b.now) count.new }
     ensures half { count.new ≤ (length a.now + length b.now) / 2 }
 {
     check_string::<P>(a, count)?;
@@ -368,10 +341,9 @@ pub fn same_counted_of<P: LinkPeer>(
 
 /// A law, without code: an accepted byte string is equivalent to one of equal bytes.
 fn equal_bytes_are_same<P: LinkPeer>(a: &[u8], b: &[u8])
-    ensures { a.now ≡ b.now → Ok tt ≡ verdict (reading ⟦<P as DataFamilies>⟧.families a.now) →
-        Ok true ≡ same_at_answer (reading ⟦<P as DataFamilies>⟧.families a.now)
-        (reading ⟦<P as DataFamilies>⟧.families b.now)
-        (alike_strings ⟦<P as DataFamilies>⟧.families a.now b.now) }
+    ensures { a.now ≡ b.now → Ok tt ≡ verdict (reading P.LinkPeer.own a.now) →
+        Ok true ≡ same_at_answer (reading P.LinkPeer.own a.now) (reading P.LinkPeer.own b.now)
+        (alike_strings P.LinkPeer.own a.now b.now) }
 {
     families_lawful::<P>();
 }
@@ -380,10 +352,8 @@ fn equal_bytes_are_same<P: LinkPeer>(a: &[u8], b: &[u8])
 /// list, otherwise that of the second, and says which of the two has it. Does not allocate.
 #[tactic(auto, unfolding(crate::specs::Strings::reading, crate::specs::Strings::alike_strings))]
 pub fn same_at_of<P: LinkPeer>(a: &[u8], b: &[u8]) -> Result<bool, ErrorIn>
-    ensures answer { result
-        ≡ same_at_answer (reading ⟦<P as DataFamilies>⟧.families a.now)
-        (reading ⟦<P as DataFamilies>⟧.families b.now)
-        (alike_strings ⟦<P as DataFamilies>⟧.families a.now b.now) }
+    ensures answer { result ≡ same_at_answer (reading P.LinkPeer.own a.now)
+        (reading P.LinkPeer.own b.now) (alike_strings P.LinkPeer.own a.now b.now) }
     ensures no_memory { IfErr result (λ at. either_error at ≢ memory_error) }
 {
     equal_bytes_are_same::<P>(a, b);
@@ -404,10 +374,8 @@ pub fn same_at_of<P: LinkPeer>(a: &[u8], b: &[u8]) -> Result<bool, ErrorIn>
 
 /// The result of `same_counted_of`, without counting.
 fn same_uncounted<P: LinkPeer>(a: &[u8], b: &[u8]) -> Result<bool, DecodeError>
-    ensures answer { result
-        ≡ same_answer (reading ⟦<P as DataFamilies>⟧.families a.now)
-        (reading ⟦<P as DataFamilies>⟧.families b.now)
-        (alike_strings ⟦<P as DataFamilies>⟧.families a.now b.now) }
+    ensures answer { result ≡ same_answer (reading P.LinkPeer.own a.now)
+        (reading P.LinkPeer.own b.now) (alike_strings P.LinkPeer.own a.now b.now) }
     ensures no_memory { result ≢ Err memory_error }
 {
     match same_at_of::<P>(a, b) {
@@ -426,32 +394,26 @@ fn same_uncounted<P: LinkPeer>(a: &[u8], b: &[u8]) -> Result<bool, DecodeError>
 /// made for it are rarely equivalent, since the kernel adds attributes: compare these by
 /// `first_unmet_of`.
 pub fn same_of<P: LinkPeer>(a: &[u8], b: &[u8]) -> Result<bool, DecodeError>
-    ensures answer { result
-        ≡ same_answer (reading ⟦<P as DataFamilies>⟧.families a.now)
-        (reading ⟦<P as DataFamilies>⟧.families b.now)
-        (alike_strings ⟦<P as DataFamilies>⟧.families a.now b.now) }
+    ensures answer { result ≡ same_answer (reading P.LinkPeer.own a.now)
+        (reading P.LinkPeer.own b.now) (alike_strings P.LinkPeer.own a.now b.now) }
     ensures no_memory { result ≢ Err memory_error }
 
     // Equivalent byte strings are those that mean equal lists.
-    ensures equal { IfOk result (λ same. IsTrue same
-        ↔ (reading ⟦<P as DataFamilies>⟧.families a.now
-        ≡ reading ⟦<P as DataFamilies>⟧.families b.now)) }
+    ensures equal { IfOk result (λ same. IsTrue same ↔ (reading P.LinkPeer.own a.now
+        ≡ reading P.LinkPeer.own b.now)) }
 
     // The result is that of `==` on the two lists that are parsed.
-    ensures values { (x y : VecLinkInfoOf P) →
-        reading ⟦<P as DataFamilies>⟧.families a.now ≡ Ok x.0 →
-        reading ⟦<P as DataFamilies>⟧.families b.now ≡ Ok y.0 →
+    ensures values { (x y : VecLinkInfoOf P) → reading P.LinkPeer.own a.now ≡ Ok x.0 →
+        reading P.LinkPeer.own b.now ≡ Ok y.0 →
         result ≡ Ok (⟦<VecLinkInfoOf<P> as PartialEq>⟧.eq x y) }
 
     // If both lists fit, equivalent byte strings are those with one canonical encoding.
-    ensures canonical { (xs ys : List (LinkInfoOf P)) →
-        reading ⟦<P as DataFamilies>⟧.families a.now ≡ Ok xs →
-        reading ⟦<P as DataFamilies>⟧.families b.now ≡ Ok ys →
-        AllByRecursion Fits (map (link_attribute ⟦<P as DataFamilies>⟧.families) xs) →
-        AllByRecursion Fits (map (link_attribute ⟦<P as DataFamilies>⟧.families) ys) →
-        IfOk result (λ same. IsTrue same
-        ↔ (list_string (map (link_attribute ⟦<P as DataFamilies>⟧.families) xs)
-        ≡ list_string (map (link_attribute ⟦<P as DataFamilies>⟧.families) ys))) }
+    ensures canonical { (xs ys : List (LinkInfoOf P)) → reading P.LinkPeer.own a.now ≡ Ok xs →
+        reading P.LinkPeer.own b.now ≡ Ok ys →
+        AllByRecursion Fits (map (link_attribute P.LinkPeer.own) xs) →
+        AllByRecursion Fits (map (link_attribute P.LinkPeer.own) ys) →
+        IfOk result (λ same. IsTrue same ↔ (list_string (map (link_attribute P.LinkPeer.own) xs)
+        ≡ list_string (map (link_attribute P.LinkPeer.own) ys))) }
 {
     families_lawful::<P>();
     same_uncounted::<P>(a, b)

@@ -10,8 +10,8 @@ use crate::item::check_item;
 use crate::role::Role;
 use crate::walk::LinkInfoWalk;
 use linkinfo_data::{
-    DataFamilies, DataFamily, InfoDataOf, InfoPortData, PayloadFamily, PortFamily, family_of,
-    list_error, port_family_of,
+    DataFamily, InfoDataOf, InfoPortData, PayloadFamily, PortFamily, family_of, list_error,
+    port_family_of,
 };
 use linkinfo_names::Explanation;
 use linkinfo_table::LinkPeer;
@@ -114,7 +114,7 @@ fn error_in_payload<D: Drop, F: PayloadFamily<D>>(family: F, payload: &[u8]) -> 
 
 /// The offset of the error of a rejected attribute of the list, in bytes from its header.
 fn error_in<P: LinkPeer>(nla: &NlaBuffer<'_>, role: Role) -> usize
-    ensures offset { result ≡ error_in ⟦<P as DataFamilies>⟧.families role nla.now }
+    ensures offset { result ≡ error_in P.LinkPeer.own role nla.now }
     ensures within { result ≤ 4 + length nla.now.value }
 {
     match role {
@@ -135,13 +135,11 @@ fn error_in<P: LinkPeer>(nla: &NlaBuffer<'_>, role: Role) -> usize
 /// list in them, it is that of the data's own header. Each header is examined once, those of
 /// rejected data up to three times. Does not allocate.
 pub fn check_at_of<P: LinkPeer>(bytes: &[u8]) -> Result<(), ErrorAt>
-    ensures answer { MatchResult result
-        (λ _. IsOk (reading ⟦<P as DataFamilies>⟧.families bytes.now))
-        (λ at. reading ⟦<P as DataFamilies>⟧.families bytes.now ≡ Err at.error) }
-    ensures place { IfErr result
-        (λ at. IsRejectedAt ⟦<P as DataFamilies>⟧.families bytes.now at.error at.place) }
+    ensures answer { MatchResult result (λ _. IsOk (reading P.LinkPeer.own bytes.now))
+        (λ at. reading P.LinkPeer.own bytes.now ≡ Err at.error) }
+    ensures place { IfErr result (λ at. IsRejectedAt P.LinkPeer.own bytes.now at.error at.place) }
     ensures inner { IfErr result
-        (λ at. IsErrorAt ⟦<P as DataFamilies>⟧.families bytes.now at.error at.place at.inner) }
+        (λ at. IsErrorAt P.LinkPeer.own bytes.now at.error at.place at.inner) }
 {
     let mut walk = LinkInfoWalk::new(bytes);
     let mut count = HeaderCount::new();

@@ -39,8 +39,8 @@ use crate::list::check_of;
 use crate::placed::ErrorIn;
 use crate::role::{CurrentKinds, Role, role_of};
 use linkinfo_data::{
-    DataFamilies, DataFamily, InfoDataOf, InfoPortData, PayloadFamily, PortFamily, Unmet, UnmetAt,
-    earlier, family_of, list_unmet, port_family_of, same_payloads,
+    DataFamily, InfoDataOf, InfoPortData, PayloadFamily, PortFamily, Unmet, UnmetAt, earlier,
+    family_of, list_unmet, port_family_of, same_payloads,
 };
 use linkinfo_numbers::{
     IFLA_INFO_DATA, IFLA_INFO_KIND, IFLA_INFO_SLAVE_DATA, IFLA_INFO_SLAVE_KIND, IFLA_INFO_XSTATS,
@@ -213,12 +213,10 @@ fn placed_unmet<P: LinkPeer>(
     want: &[u8],
     placed: &PlacedNla<'_>,
 ) -> Option<Unmet>
-    requires have { IfSome found.now
-        (λ p. IsAcceptedLink ⟦<P as DataFamilies>⟧.families (link_at have.now p)) }
-    requires want { IsAcceptedLink ⟦<P as DataFamilies>⟧.families (link_at want.now placed.now) }
+    requires have { IfSome found.now (λ p. IsAcceptedLink P.LinkPeer.own (link_at have.now p)) }
+    requires want { IsAcceptedLink P.LinkPeer.own (link_at want.now placed.now) }
     requires same_type { IfSome found.now (λ p. masked p.nla.kind ≡ masked placed.now.nla.kind) }
-    ensures { result
-        ≡ link_unmet ⟦<P as DataFamilies>⟧.families (option_map (link_at have.now) found.now)
+    ensures { result ≡ link_unmet P.LinkPeer.own (option_map (link_at have.now) found.now)
         (link_at want.now placed.now) }
 {
     let Some(found) = found else {
@@ -246,10 +244,9 @@ fn placed_unmet<P: LinkPeer>(
 /// What of an attribute that is no data another one of its type and role does not meet: nothing, or
 /// the whole.
 fn item_unmet<P: LinkPeer>(role: Role, have: &PlacedNla<'_>, want: &PlacedNla<'_>) -> Option<Unmet>
-    requires have { IsOk (item_meaning ⟦<P as DataFamilies>⟧.families role have.now.nla) }
-    requires want { IsOk (item_meaning ⟦<P as DataFamilies>⟧.families role want.now.nla) }
-    ensures { result ≡ item_unmet (item_alike ⟦<P as DataFamilies>⟧.families role) have.now
-        want.now }
+    requires have { IsOk (item_meaning P.LinkPeer.own role have.now.nla) }
+    requires want { IsOk (item_meaning P.LinkPeer.own role want.now.nla) }
+    ensures { result ≡ item_unmet (item_alike P.LinkPeer.own role) have.now want.now }
 {
     if have.nla.value() == want.nla.value()
         || same_item::<P>(&have.nla, &want.nla, role, &mut HeaderCount::new())
@@ -262,9 +259,9 @@ fn item_unmet<P: LinkPeer>(role: Role, have: &PlacedNla<'_>, want: &PlacedNla<'_
 
 /// The first attribute of an accepted list that another one does not meet.
 fn first_unmet_in<P: LinkPeer>(have: &[u8], want: &[u8]) -> Option<Unmet>
-    requires have { IsOk (reading ⟦<P as DataFamilies>⟧.families have.now) }
-    requires want { IsOk (reading ⟦<P as DataFamilies>⟧.families want.now) }
-    ensures { result ≡ strings_unmet ⟦<P as DataFamilies>⟧.families have.now want.now }
+    requires have { IsOk (reading P.LinkPeer.own have.now) }
+    requires want { IsOk (reading P.LinkPeer.own want.now) }
+    ensures { result ≡ strings_unmet P.LinkPeer.own have.now want.now }
 {
     let end = types_end(want);
     let mut first = None;
@@ -279,11 +276,9 @@ fn first_unmet_in<P: LinkPeer>(have: &[u8], want: &[u8]) -> Option<Unmet>
 /// The first attribute of an accepted list that another one does not meet, among those of `INDEXED`
 /// types from `start` on.
 fn unmet_from<P: LinkPeer>(have: &[u8], want: &[u8], start: u16) -> Option<UnmetAt>
-    requires have { IsOk (reading ⟦<P as DataFamilies>⟧.families have.now) }
-    requires want { IsOk (reading ⟦<P as DataFamilies>⟧.families want.now) }
-    ensures { result
-        ≡ first_told (covers start)
-        (counted_unmet ⟦<P as DataFamilies>⟧.families have.now want.now)
+    requires have { IsOk (reading P.LinkPeer.own have.now) }
+    requires want { IsOk (reading P.LinkPeer.own want.now) }
+    ensures { result ≡ first_told (covers start) (counted_unmet P.LinkPeer.own have.now want.now)
         (attributes_of want.now) }
 {
     let found = LastOfType::new(have, start);
@@ -320,10 +315,8 @@ fn unmet_from<P: LinkPeer>(have: &[u8], want: &[u8], start: u16) -> Option<Unmet
 /// that of `want`. Does not allocate. Equal lists are validated once. Otherwise the passes over the
 /// lists are as many as in `list_unmet`, and one more over both for data, statistics and port data.
 pub fn first_unmet_of<P: LinkPeer>(have: &[u8], want: &[u8]) -> Result<Option<Unmet>, ErrorIn>
-    ensures answer { result
-        ≡ unmet_answer (reading ⟦<P as DataFamilies>⟧.families have.now)
-        (reading ⟦<P as DataFamilies>⟧.families want.now)
-        (strings_unmet ⟦<P as DataFamilies>⟧.families have.now want.now) }
+    ensures answer { result ≡ unmet_answer (reading P.LinkPeer.own have.now)
+        (reading P.LinkPeer.own want.now) (strings_unmet P.LinkPeer.own have.now want.now) }
     ensures no_memory { IfErr result (λ at. either_error at ≢ memory_error) }
 {
     match check_of::<P>(have) {

@@ -12,7 +12,6 @@ ghost use Rattle.linkinfo.specs.Met.{nlas_of};
 ghost use Rattle.linkinfo.specs.Strings.{alike_strings, reading};
 ghost use Rattle.linkinfo.specs.Unmet.{strings_unmet};
 
-use linkinfo_data::DataFamilies;
 use linkinfo_data::laws::families_lawful;
 use linkinfo_table::LinkPeer;
 
@@ -26,16 +25,15 @@ pub fn met_by_last<P: LinkPeer>()
     ensures data { (name : Family) (alike : Attribute → Attribute → Bool) (have want : List ℕ) →
         (list_unmet name alike (attributes_of have) (attributes_of want) ≡ None)
         ↔ ListMeets alike have want }
-    ensures list { (have want : List ℕ) →
-        (strings_unmet ⟦<P as DataFamilies>⟧.families have want ≡ None)
-        ↔ StringMeets ⟦<P as DataFamilies>⟧.families have want }
+    ensures list { (have want : List ℕ) → (strings_unmet P.LinkPeer.own have want ≡ None)
+        ↔ StringMeets P.LinkPeer.own have want }
 {}
 
 /// Every list is met by itself (`list`), and so is data (`data`).
 pub fn met_by_itself<P: LinkPeer>()
     ensures data { (name : Family) (alike : Attribute → Attribute → Bool) (s : List ℕ) →
         list_unmet name alike (attributes_of s) (attributes_of s) ≡ None }
-    ensures list { (s : List ℕ) → strings_unmet ⟦<P as DataFamilies>⟧.families s s ≡ None }
+    ensures list { (s : List ℕ) → strings_unmet P.LinkPeer.own s s ≡ None }
 {}
 
 /// What is met stays met where other attributes are added or removed. Of data it is enough that the
@@ -48,21 +46,19 @@ pub fn stays_met<P: LinkPeer>()
         list_unmet name alike (attributes_of have) (attributes_of want) ≡ None →
         list_unmet name alike (attributes_of more) (attributes_of want) ≡ None }
     ensures list { (have more want : List ℕ) → DifferElsewhere want have more →
-        strings_unmet ⟦<P as DataFamilies>⟧.families have want ≡ None →
-        strings_unmet ⟦<P as DataFamilies>⟧.families more want ≡ None }
-    ensures inside { (have more want : List ℕ) →
-        DifferInside ⟦<P as DataFamilies>⟧.families want have more →
-        strings_unmet ⟦<P as DataFamilies>⟧.families have want ≡ None →
-        strings_unmet ⟦<P as DataFamilies>⟧.families more want ≡ None }
+        strings_unmet P.LinkPeer.own have want ≡ None →
+        strings_unmet P.LinkPeer.own more want ≡ None }
+    ensures inside { (have more want : List ℕ) → DifferInside P.LinkPeer.own want have more →
+        strings_unmet P.LinkPeer.own have want ≡ None →
+        strings_unmet P.LinkPeer.own more want ≡ None }
 {}
 
 /// Two lists for which `same` is true meet one another, even where a type is twice.
 pub fn same_is_met<P: LinkPeer>(bytes: &[u8], other: &[u8])
-    ensures { IsOk (reading ⟦<P as DataFamilies>⟧.families bytes.now) →
-        IsOk (reading ⟦<P as DataFamilies>⟧.families other.now) →
-        alike_strings ⟦<P as DataFamilies>⟧.families bytes.now other.now ≡ true →
-        (strings_unmet ⟦<P as DataFamilies>⟧.families bytes.now other.now ≡ None)
-        × (strings_unmet ⟦<P as DataFamilies>⟧.families other.now bytes.now ≡ None) }
+    ensures { IsOk (reading P.LinkPeer.own bytes.now) → IsOk (reading P.LinkPeer.own other.now) →
+        alike_strings P.LinkPeer.own bytes.now other.now ≡ true →
+        (strings_unmet P.LinkPeer.own bytes.now other.now ≡ None)
+        × (strings_unmet P.LinkPeer.own other.now bytes.now ≡ None) }
 {
     families_lawful::<P>();
 }
@@ -74,14 +70,14 @@ pub fn same_is_met<P: LinkPeer>(bytes: &[u8], other: &[u8])
 pub fn reordering_is_met<P: LinkPeer>(bytes: &[u8], other: &[u8])
     ensures permuted { HasNoTypeTwice (nlas_of bytes.now) →
         IsPermutation (nlas_of bytes.now) (nlas_of other.now) →
-        IsReorderedList ⟦<P as DataFamilies>⟧.families bytes.now other.now }
+        IsReorderedList P.LinkPeer.own bytes.now other.now }
     ensures data { (name : Family) (alike : Attribute → Attribute → Bool) (p q : List ℕ) →
         IsReorderedData p q →
         (list_unmet name alike (attributes_of p) (attributes_of q) ≡ None)
         × (list_unmet name alike (attributes_of q) (attributes_of p) ≡ None) }
-    ensures list { IsOk (reading ⟦<P as DataFamilies>⟧.families bytes.now) →
-        IsOk (reading ⟦<P as DataFamilies>⟧.families other.now) →
-        IsReorderedList ⟦<P as DataFamilies>⟧.families bytes.now other.now →
-        (strings_unmet ⟦<P as DataFamilies>⟧.families bytes.now other.now ≡ None)
-        × (strings_unmet ⟦<P as DataFamilies>⟧.families other.now bytes.now ≡ None) }
+    ensures list { IsOk (reading P.LinkPeer.own bytes.now) →
+        IsOk (reading P.LinkPeer.own other.now) →
+        IsReorderedList P.LinkPeer.own bytes.now other.now →
+        (strings_unmet P.LinkPeer.own bytes.now other.now ≡ None)
+        × (strings_unmet P.LinkPeer.own other.now bytes.now ≡ None) }
 {}

@@ -63,6 +63,7 @@ use Rattle.linkinfo_peers.specs.Wwan.{wwan_rows}
 use Rattle.linkinfo_peers.specs.declared.veth.InfoVethOf.{InfoVethOf}
 use Rattle.linkinfo_peers.specs.declared.vxcan.InfoVxcanOf.{InfoVxcanOf}
 use Rattle.linkinfo_data.specs.BytesPeer.{bytes_peer}
+use Rattle.linkinfo_data.specs.PeerFamilies.{netkit_members, veth_members, vxcan_members}
 use Rattle.linkinfo_data.specs.Data.{data_of, family_of}
 use Rattle.linkinfo_data.specs.DeviceData.{devices_data_of}
 use Rattle.linkinfo_data.specs.LowerData.{lower_data_of}
@@ -287,8 +288,9 @@ peers_errors peered.Tun p =
     variant_errors (λ xs. info.Tun xs) (values plain.tun.meaning (nla_items p))
     (table_errors _ _ [] p)
 peers_errors peered.Veth p =
-    variant_errors (λ x. info.Veth x) (first_meaning bytes_peer.veth.meaning (nla_items p))
-    (first_errors bytes_peer.veth.meaning
+    variant_errors (λ x. info.Veth x)
+    (first_meaning (veth_members bytes_peer).meaning (nla_items p))
+    (first_errors (veth_members bytes_peer).meaning
     (λ a.
     rows_errors family.Veth _ _
     (λ n.
@@ -298,16 +300,17 @@ peers_errors peered.Wireguard p =
     variant_errors (λ xs. info.Wireguard xs) (values plain.wireguard.meaning (nla_items p))
     (table_errors _ _ [] p)
 peers_errors peered.Netkit p =
-    variant_errors (λ xs. info.Netkit xs) (values bytes_peer.netkit.meaning (nla_items p))
-    (list_errors bytes_peer.netkit.meaning
+    variant_errors (λ xs. info.Netkit xs) (values (netkit_members bytes_peer).meaning (nla_items p))
+    (list_errors (netkit_members bytes_peer).meaning
     (λ a.
     rows_errors family.Netkit _ _
     (λ n.
     row_if_each (n == 1) _ (table_row (netkit_plain {P = Bytes}) n) (λ q. sure _)
     (table_rows (netkit_plain {P = Bytes}) n)) a) (nla_items p))
 peers_errors peered.Vxcan p =
-    variant_errors (λ x. info.Vxcan x) (first_meaning bytes_peer.vxcan.meaning (nla_items p))
-    (first_errors bytes_peer.vxcan.meaning
+    variant_errors (λ x. info.Vxcan x)
+    (first_meaning (vxcan_members bytes_peer).meaning (nla_items p))
+    (first_errors (vxcan_members bytes_peer).meaning
     (λ a.
     rows_errors family.Vxcan _ _
     (λ n.

@@ -71,8 +71,8 @@ family_code family.Wireguard = 35
 family_code family.Wwan = 36
 family_code family.Xfrm = 37
 
-abbrev pub families : List Family
-families =
+abbrev pub peer : List Family
+peer =
     family.Frame ∷
     family.LinkInfo ∷
     family.Amt ∷
@@ -113,7 +113,7 @@ families =
     []
 
 abbrev pub family_of_code : ℕ → Option Family
-family_of_code code = of_code family_code families code
+family_of_code code = of_code family_code peer code
 
 -- causes, which have the numbers of `Cause::number`; 0 is none
 abbrev pub causes : List Cause

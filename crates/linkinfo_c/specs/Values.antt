@@ -1,7 +1,6 @@
 -- What payloads in data mean, as C has it.
 use Rattle.std.specs.Prelude.{
   ℕ,
-  ℤ,
   pos,
   Bool,
   true,
@@ -18,19 +17,7 @@ use Rattle.std.specs.Net.Addr.{octets_of}
 use Rattle.nla_frame.specs.Attribute.{Attribute}
 use Rattle.nla_frame.specs.declared.error.Family.{Family}
 use Rattle.linkinfo_numbers.specs.declared.tags.KindTag.{KindTag}
-use Rattle.linkinfo_shapes.specs.Data.{
-  Value,
-  number,
-  signed,
-  truth,
-  empty,
-  text,
-  v4,
-  v6,
-  mac,
-  pair,
-  bytes,
-}
+use Rattle.linkinfo_shapes.specs.Data.{Value, truth, empty, text, v4, v6, mac, bytes}
 use Rattle.linkinfo_shapes.specs.Data.{number_in, pair_in, signed_in}
 use Rattle.linkinfo_shapes.specs.declared.shape.Shape.{Shape}
 use Rattle.linkinfo_shapes.specs.declared.shape.Shape.TheVariants.{SelfList, Peer}

@@ -1,4 +1,5 @@
--- The families of data, by their rows: each is lawful, and its errors name it.
+-- The families of data that rows define: each is lawful, and its errors name it. The laws of
+-- macvlan, macvtap and the families with a peer are in their crates.
 use Rattle.std.specs.Prelude.{ℕ, List, [], refl}
 use Rattle.nla_frame.specs.NlaItems.{nla_items}
 use Rattle.nla_frame.specs.declared.error.Family.TheVariants as family

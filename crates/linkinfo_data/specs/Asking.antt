@@ -1,10 +1,8 @@
 -- What calls on payloads that return no parsed value require, and what they return. The result does
 -- not depend on the variant that holds the value.
 use Rattle.std.specs.Prelude.{
-  ◌≡◌,
   ℕ,
   ◌+◌,
-  ◌*◌,
   ◌/◌,
   ◌<◌,
   ◌≤◌,
@@ -17,7 +15,6 @@ use Rattle.std.specs.Prelude.{
   Result,
   length,
 }
-use Rattle.std.specs.Bool.{OnTrue}
 use Rattle.std.specs.Str.{bytes_eq}
 use Rattle.nla_frame.specs.Answers.{verdict}
 use Rattle.nla_frame.specs.Attribute.{Attribute}
@@ -34,7 +31,7 @@ use Rattle.linkinfo_table.specs.Lists.{
   headers_of,
   values,
 }
-use Rattle.linkinfo_data.specs.Encoding.{HasRoom, IsWritten}
+use Rattle.linkinfo_data.specs.Encoding.{HasRoom}
 use Rattle.linkinfo_data.specs.Payloads.{Payload}
 
 -- of payloads, what does not depend on the variant: as in `Payload`
@@ -85,25 +82,12 @@ bytes_facts = record {
 abbrev pub CheckReady : Facts → List ℕ → ℕ → Type 0
 CheckReady facts p old = old + length p / 4 < 2 ^ 64
 
-abbrev pub Checked : Facts → List ℕ → ℕ → ℕ → Result (Unit {0}) DecodeError → Type 0
-Checked facts p old new result =
-    (result ≡ facts.verdicts p)
-    × (new ≡ old + facts.headers p)
-    × (4 * new ≤ 4 * old + length p)
-
 -- whether two payloads are equivalent: both are accepted, and a `usize` can count their headers
 abbrev pub SameReady : Facts → List ℕ → List ℕ → ℕ → Type 0
 SameReady facts p q old =
     IsOk (facts.verdicts p)
     × IsOk (facts.verdicts q)
     × (old + (length p + length q) / 4 < 2 ^ 64)
-
-abbrev pub Compared : Facts → List ℕ → List ℕ → ℕ → ℕ → Bool → Type 0
-Compared facts p q old new result =
-    (result ≡ facts.alike p q)
-    × OnTrue result (new ≡ old + (facts.headers p + facts.headers q))
-    × (old ≤ new)
-    × (4 * new ≤ 4 * old + (length p + length q))
 
 -- whether a payload is accepted, and the length of the canonical payload, if it is one
 abbrev pub Measured : Facts → List ℕ → Result (Option ℕ) DecodeError → Type 0
@@ -115,6 +99,3 @@ Measured facts p result =
 -- payload, and the buffer has room for it
 abbrev pub WriteReady : Facts → List ℕ → List ℕ → Type 0
 WriteReady facts p buffer = IsOk (facts.verdicts p) × HasRoom (facts.canonical p) buffer
-
-abbrev pub Written : Facts → List ℕ → List ℕ → List ℕ → ℕ → Type 0
-Written facts p buffer after result = IsWritten (facts.canonical p) buffer after result

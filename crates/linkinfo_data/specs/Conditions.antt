@@ -16,7 +16,7 @@ use Rattle.linkinfo_tunnels.specs.Conditions.{geneve_conditions, gre6_conditions
 use Rattle.linkinfo_tunnels.specs.Conditions.{gtp_conditions, ip_tunnel_conditions, vti_conditions}
 use Rattle.linkinfo_tunnels.specs.Conditions.{vxlan_conditions}
 use Rattle.linkinfo_data.specs.Data.{data_of}
-use Rattle.linkinfo_data.specs.Families.{Families}
+use Rattle.linkinfo_table.specs.declared.peer.LinkPeer.{Ghosts}
 use Rattle.linkinfo_data.specs.Payloads.{Labelled, Payload, as_first, as_list}
 use Rattle.linkinfo_data.specs.PortData.{port_data_of}
 use Rattle.linkinfo_data.specs.declared.data.DataFamily.{DataFamily}
@@ -127,6 +127,6 @@ pub one_stated : {A X : Type 0} (m : Members A) (variant : A → X) (conditions 
 one_stated m variant conditions same d =
     (λ w. (w.0, (same w.0).0 w.1, w.2), λ h. (h.0, (same h.0).1 h.1, h.2))
 
-pub record AreStated {P : Type 0} (families : Families P) (well : P → Type 0) : Type 0 where
-  pub link : (f : DataFamily) → IsStated (data_of families f) (λ d. data_conditions well f d)
+pub record AreStated {P : Type 0} (peer : Ghosts P) (well : P → Type 0) : Type 0 where
+  pub link : (f : DataFamily) → IsStated (data_of peer f) (λ d. data_conditions well f d)
   pub port : (f : PortFamily) → IsStated (port_data_of f) (λ d. port_data_conditions f d)

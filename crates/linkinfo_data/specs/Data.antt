@@ -18,7 +18,7 @@ use Rattle.linkinfo_data.specs.DeviceData.{
   devices_nest,
   devices_nested_in,
 }
-use Rattle.linkinfo_data.specs.Families.{Families}
+use Rattle.linkinfo_table.specs.declared.peer.LinkPeer.{Ghosts}
 use Rattle.linkinfo_data.specs.Listed.{IsKnown, IsNested, bytes_are_known}
 use Rattle.linkinfo_data.specs.LowerData.{lower_data_of, lower_known, lower_nest}
 use Rattle.linkinfo_data.specs.Payloads.{Payload, as_bytes}
@@ -69,20 +69,20 @@ family_of tag.RmNet = of.Device device.RmNet
 family_of _ = of.Raw
 
 -- what payloads mean as data of a family, and the variant that holds it
-abbrev pub data_of : {P : Type 0} → Families P → DataFamily → Payload (InfoDataOf P)
-data_of families (of.Lower f) = lower_data_of f
-data_of families (of.Device f) = devices_data_of f
-data_of families (of.Tunnel f) = tunnels_data_of f
-data_of families (of.Peered f) = peers_data_of families f
-data_of families of.Raw = as_bytes (λ bytes. info.Other bytes)
+abbrev pub data_of : {P : Type 0} → Ghosts P → DataFamily → Payload (InfoDataOf P)
+data_of peer (of.Lower f) = lower_data_of f
+data_of peer (of.Device f) = devices_data_of f
+data_of peer (of.Tunnel f) = tunnels_data_of f
+data_of peer (of.Peered f) = peers_data_of peer f
+data_of peer of.Raw = as_bytes (λ bytes. info.Other bytes)
 
-pub data_known : {P : Type 0} (families : Families P) (f : DataFamily) →
-    IsKnown (data_of families f)
-data_known families (of.Lower f) = lower_known _ f
-data_known families (of.Device f) = devices_known _ f
-data_known families (of.Tunnel f) = tunnels_known _ f
-data_known families (of.Peered f) = peers_known families f
-data_known families of.Raw = bytes_are_known (λ bytes. info.Other bytes)
+pub data_known : {P : Type 0} (peer : Ghosts P) (f : DataFamily) →
+    IsKnown (data_of peer f)
+data_known peer (of.Lower f) = lower_known _ f
+data_known peer (of.Device f) = devices_known _ f
+data_known peer (of.Tunnel f) = tunnels_known _ f
+data_known peer (of.Peered f) = peers_known peer f
+data_known peer of.Raw = bytes_are_known (λ bytes. info.Other bytes)
 
 -- the attributes that hold lists, and the family of these lists
 abbrev pub as_device : ℕ × DeviceFamily → ℕ × DataFamily
@@ -92,17 +92,17 @@ abbrev pub data_nested_in : DataFamily → Option (ℕ × DataFamily)
 data_nested_in (of.Device f) = option_map as_device (devices_nested_in f)
 data_nested_in _ = None
 
-device_nests : {P : Type 0} (families : Families P) (f : DeviceFamily)
+device_nests : {P : Type 0} (peer : Ghosts P) (f : DeviceFamily)
     (nest : Option (ℕ × DeviceFamily)) →
     IsNested (devices_data_of {P = P}) f nest →
-    IsNested (data_of families) (of.Device f) (option_map as_device nest)
-device_nests families f None law = law
-device_nests families f (Some nest) law = law
+    IsNested (data_of peer) (of.Device f) (option_map as_device nest)
+device_nests peer f None law = law
+device_nests peer f (Some nest) law = law
 
-pub data_nest : {P : Type 0} (families : Families P) (f : DataFamily) →
-    IsNested (data_of families) f (data_nested_in f)
-data_nest families (of.Lower f) = lower_nest _ f
-data_nest families (of.Device f) = device_nests families f (devices_nested_in f) (devices_nest _ f)
-data_nest families (of.Tunnel f) = tunnels_nest _ f
-data_nest families (of.Peered f) = peers_nest families f
-data_nest families of.Raw = tt {0}
+pub data_nest : {P : Type 0} (peer : Ghosts P) (f : DataFamily) →
+    IsNested (data_of peer) f (data_nested_in f)
+data_nest peer (of.Lower f) = lower_nest _ f
+data_nest peer (of.Device f) = device_nests peer f (devices_nested_in f) (devices_nest _ f)
+data_nest peer (of.Tunnel f) = tunnels_nest _ f
+data_nest peer (of.Peered f) = peers_nest peer f
+data_nest peer of.Raw = tt {0}

@@ -8,7 +8,6 @@ pub mod DeviceData
 pub mod Difference
 pub mod Encoding
 pub mod Equal
-pub mod Families
 pub mod InfoData
 pub mod Lawful
 pub mod Listed
@@ -22,5 +21,4 @@ pub mod PeerFamilies
 pub mod Plain
 pub mod PortData
 pub mod TunnelData
-pub mod Reading
 pub mod Unmet

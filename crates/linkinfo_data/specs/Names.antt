@@ -9,7 +9,7 @@ use Rattle.linkinfo_table.specs.ErrorNames.{EachNames}
 use Rattle.linkinfo_table.specs.Lists.{◌>>=◌, first_meaning, values}
 use Rattle.linkinfo_table.specs.Members.{Members}
 use Rattle.linkinfo_data.specs.Data.{data_of}
-use Rattle.linkinfo_data.specs.Families.{Families}
+use Rattle.linkinfo_table.specs.declared.peer.LinkPeer.{Ghosts}
 use Rattle.linkinfo_data.specs.Payloads.{Payload, as_first, as_list}
 use Rattle.linkinfo_data.specs.PortData.{port_data_of}
 use Rattle.linkinfo_data.specs.declared.data.DataFamily.{DataFamily}
@@ -89,9 +89,9 @@ abbrev pub ErrorsName : {X : Type 0} → Family → Payload X → Type 0
 ErrorsName name payload = (p : List ℕ) → EachNames name (payload.means p)
 
 -- errors in data and port data of each family name it, by the tables above
-pub record AreNamed {P : Type 0} (families : Families P) : Type 0 where
+pub record AreNamed {P : Type 0} (peer : Ghosts P) : Type 0 where
   pub link : (f : DataFamily) (name : Family) → data_name f ≡ Some name →
-      ErrorsName name (data_of families f)
+      ErrorsName name (data_of peer f)
   pub port : (f : PortFamily) (name : Family) → port_data_name f ≡ Some name →
       ErrorsName name (port_data_of f)
 

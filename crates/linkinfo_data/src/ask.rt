@@ -1,16 +1,15 @@
 //! Calls on payloads that return no parsed value: whether a payload is accepted, whether two are
 //! equivalent, how long the canonical payload is, and the canonical payload itself.
 
-ghost use Rattle.std.specs.Prelude.{ℕ, List};
+ghost use Rattle.std.specs.Prelude.{◌+◌, ℕ, List, length};
+ghost use Rattle.nla_frame.specs.Writing.{Writes};
+ghost use Rattle.linkinfo_table.specs.Calls.{Checks, Compares};
 ghost use Rattle.linkinfo_data.specs.Asking.{
   CheckReady,
-  Checked,
-  Compared,
   Facts,
   Measured,
   SameReady,
   WriteReady,
-  Written,
   bytes_facts,
   first_facts,
   list_facts,
@@ -80,7 +79,8 @@ impl<'a> Ask for Check<'a> {
     ghost ready = { λ facts question count _. CheckReady facts question.payload.now count };
 
     ghost answered = { λ facts question count counted _ _ answer.
-        Checked facts question.payload.now count counted answer };
+        Checks answer (facts.verdicts question.payload.now) (facts.headers question.payload.now)
+        (length question.payload.now) count counted };
 
     #[inline(always)]
     fn of_list<F: LinkFamily>(
@@ -124,7 +124,9 @@ impl<'a> Ask for Same<'a> {
         SameReady facts question.a.now question.b.now count };
 
     ghost answered = { λ facts question count counted _ _ answer.
-        Compared facts question.a.now question.b.now count counted answer };
+        Compares answer (facts.alike question.a.now question.b.now)
+        (facts.headers question.a.now + facts.headers question.b.now)
+        (length question.a.now + length question.b.now) count counted };
 
     #[inline(always)]
     fn of_list<F: LinkFamily>(
@@ -212,7 +214,7 @@ impl<'a> Ask for WriteCanonical<'a> {
     ghost ready = { λ facts question _ buffer. WriteReady facts question.payload.now buffer };
 
     ghost answered = { λ facts question _ _ before after answer.
-        Written facts question.payload.now before after answer };
+        Writes (facts.canonical question.payload.now) before after answer };
 
     #[inline(always)]
     fn of_list<F: LinkFamily>(

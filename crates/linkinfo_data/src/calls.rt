@@ -10,7 +10,7 @@ macro_rules! read {
         $variant(crate::reading::read_nlas($alloc, $payload, $ctx, $count)?)
     };
     (first($variant:path, $nla:ty, $ctx:expr) ($alloc:ident, $payload:expr, $count:expr)) => {
-        $variant(crate::reading::read_first($alloc, $payload, $ctx, $count)?)
+        $variant(linkinfo_table::first_read($alloc, $payload, $ctx, $count)?)
     };
     (bytes($variant:path) ($alloc:ident, $payload:expr, $count:expr)) => {
         $variant(nla_frame::Bytes::copy_of($alloc, $payload)?)

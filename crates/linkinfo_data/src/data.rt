@@ -11,7 +11,6 @@ ghost use Rattle.linkinfo_data.specs.Data.{
 
 use crate::ask::Ask;
 use crate::devices::DeviceFamily;
-use crate::families::DataFamilies;
 use crate::info_data::InfoDataOf;
 use crate::lower::LowerFamily;
 use crate::payload_family::PayloadFamily;
@@ -111,13 +110,13 @@ pub fn family_of(tag: KindTag) -> DataFamily
 }
 
 impl<P: LinkPeer> PayloadFamily<InfoDataOf<P>> for DataFamily {
-    ghost data_of = { data_of ⟦<P as DataFamilies>⟧.families };
+    ghost data_of = { data_of P.LinkPeer.own };
 
-    ghost known = { data_known ⟦<P as DataFamilies>⟧.families };
+    ghost known = { data_known P.LinkPeer.own };
 
     ghost nested_in = { data_nested_in };
 
-    ghost nests = { data_nest ⟦<P as DataFamilies>⟧.families };
+    ghost nests = { data_nest P.LinkPeer.own };
 
     fn listing(self) -> Option<Family> {
         match self {

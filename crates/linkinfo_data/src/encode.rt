@@ -3,7 +3,8 @@
 
 ghost use Rattle.std.specs.Prelude.{ℕ, List, map};
 ghost use Rattle.nla_frame.specs.Attribute.{canonical_string, list_string};
-ghost use Rattle.linkinfo_data.specs.Encoding.{HasRoom, IsFitLen, IsWritten};
+ghost use Rattle.nla_frame.specs.Writing.{Writes};
+ghost use Rattle.linkinfo_data.specs.Encoding.{HasRoom, IsFitLen};
 
 use nla_frame::{Nla, Nlas, fitting, nlas_fit_len, write_attribute, write_attributes, write_bytes};
 
@@ -69,7 +70,7 @@ impl Encode for Write {
 
     ghost ready = { λ string buffer. HasRoom string buffer };
 
-    ghost answered = { λ string before after taken. IsWritten string before after taken };
+    ghost answered = { λ string before after taken. Writes string before after taken };
 
     fn list<T: Nla>(self, list: &Nlas<T>, buffer: &mut [u8]) -> usize {
         write_attributes(list.as_slice(), buffer)

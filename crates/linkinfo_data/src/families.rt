@@ -23,20 +23,16 @@ ghost use Rattle.linkinfo_peers.specs.declared.wwan.InfoWwan.{InfoWwan};
 ghost use Rattle.linkinfo_numbers.specs.declared.tags.KindTag.{KindTag};
 ghost use Rattle.linkinfo_table.specs.Members.{Members};
 ghost use Rattle.linkinfo_table.specs.declared.opaque.Opaque.{Opaque};
-ghost use Rattle.linkinfo_data.specs.Families.{Families};
 
 use linkinfo_devices::{
     InfoIpVlan, InfoIpVtap, InfoIpoib, InfoMacSec, InfoMacVlan, InfoMacVtap, InfoRmNet, InfoVrf,
     InfoVrfPort, InfoXfrm,
 };
-use linkinfo_peers::{
-    InfoBatAdv, InfoNetkitOf, InfoPfcp, InfoTeamPort, InfoTun, InfoVethOf, InfoVxcanOf,
-    InfoWireguard, InfoWwan,
-};
+use linkinfo_peers::{InfoBatAdv, InfoPfcp, InfoTeamPort, InfoTun, InfoWireguard, InfoWwan};
+use linkinfo_table::ListedFamily;
 use linkinfo_table::lower::{
     InfoBond, InfoBondPort, InfoBridge, InfoBridgePort, InfoCan, InfoDsa, InfoHsr, InfoVlan,
 };
-use linkinfo_table::{LinkPeer, ListedFamily};
 use linkinfo_tunnels::{
     InfoAmt, InfoBareUdp, InfoGeneve, InfoGre, InfoGre6, InfoGtp, InfoIpTunnel, InfoVti, InfoVxlan,
 };
@@ -181,18 +177,4 @@ impl PlainFamilies for Plain {
     ghost pfcp = { ⟦<InfoPfcp as ListedFamily>⟧.members tt };
 
     ghost team_port = { ⟦<InfoTeamPort as ListedFamily>⟧.members tt };
-}
-
-/// The specification of the attributes of each family with a peer, for one type of peer. Every type
-/// of peer implements it, and no other type does.
-pub trait DataFamilies: LinkPeer {
-    ghost families: { Families Self };
-}
-
-impl<P: LinkPeer> DataFamilies for P {
-    ghost families = { record {
-      veth = ⟦<InfoVethOf<P> as ListedFamily>⟧.members tt;
-      netkit = ⟦<InfoNetkitOf<P> as ListedFamily>⟧.members tt;
-      vxcan = ⟦<InfoVxcanOf<P> as ListedFamily>⟧.members tt;
-    } };
 }

@@ -7,7 +7,6 @@ ghost use Rattle.linkinfo_data.specs.InfoData.{data_payload};
 
 use crate::data::family_of;
 use crate::encode::{Encode, FitLen, Write};
-use crate::families::DataFamilies;
 use crate::payload_family::PayloadFamily;
 use linkinfo_devices::{
     InfoIpVlan, InfoIpVtap, InfoIpoib, InfoMacSec, InfoMacVlan, InfoMacVtap, InfoRmNet, InfoVrf,
@@ -124,13 +123,10 @@ impl<P: LinkPeer> InfoDataOf<P> {
         kind: &InfoKind,
     ) -> Result<InfoDataOf<P>, DecodeError>
         ensures answer { Gives (λ value. value) result
-            ((data_of ⟦<P as DataFamilies>⟧.families (family_of (tag_of_kind kind.now))).means
-            payload.now) }
-        ensures certain { CertainUnless
-            ((data_of ⟦<P as DataFamilies>⟧.families
+            ((data_of P.LinkPeer.own (family_of (tag_of_kind kind.now))).means payload.now) }
+        ensures certain { CertainUnless ((data_of P.LinkPeer.own
             (family_of (tag_of_kind kind.now))).needs_memory payload.now) (λ value. value) result
-            ((data_of ⟦<P as DataFamilies>⟧.families (family_of (tag_of_kind kind.now))).means
-            payload.now) }
+            ((data_of P.LinkPeer.own (family_of (tag_of_kind kind.now))).means payload.now) }
     {
         let mut count = HeaderCount::new();
         family_of(kind.tag()).read(alloc, payload, &mut count)
@@ -139,9 +135,8 @@ impl<P: LinkPeer> InfoDataOf<P> {
     /// Encodes the data: the encodings of the attributes, one after another, or the bytes.
     #[tactic(auto, unfolding(crate::specs::InfoData::data_payload))]
     fn encode<E: Encode>(&self, encode: E, buffer: &mut [u8]) -> E::Answer
-        requires { E.ready (data_payload ⟦<P as DataFamilies>⟧.families self.now) buffer.old }
-        ensures { E.answered (data_payload ⟦<P as DataFamilies>⟧.families self.now) buffer.old
-            buffer.new result }
+        requires { E.ready (data_payload P.LinkPeer.own self.now) buffer.old }
+        ensures { E.answered (data_payload P.LinkPeer.own self.now) buffer.old buffer.new result }
     {
         match self {
             InfoDataOf::Bridge(list) => encode.list(list, buffer),
@@ -189,7 +184,7 @@ impl<P: LinkPeer> InfoDataOf<P> {
 impl<P: LinkPeer> Nla for InfoDataOf<P> {
     ghost use Rattle.linkinfo_data.specs.InfoData.{data_attribute};
 
-    ghost attribute = { data_attribute ⟦<P as DataFamilies>⟧.families };
+    ghost attribute = { data_attribute P.LinkPeer.own };
 
     fn value_len(&self) -> usize {
         self.fit_len().unwrap_or(0)

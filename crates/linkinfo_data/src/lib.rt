@@ -23,7 +23,7 @@ pub use ask::{Ask, Check, Measure, Same, WriteCanonical};
 pub use data::{DataFamily, family_of};
 pub use devices::DeviceFamily;
 pub use difference::{Difference, list_difference, list_error};
-pub use families::{DataFamilies, Plain, PlainFamilies};
+pub use families::{Plain, PlainFamilies};
 pub use info_data::{InfoData, InfoDataOf};
 pub use lower::LowerFamily;
 pub use payload_family::{

@@ -15,14 +15,14 @@ ghost use Rattle.std.specs.Prelude.{
   drop,
   length,
 };
-ghost use Rattle.std.specs.Bool.{OnTrue};
 ghost use Rattle.nla_frame.specs.Answers.{verdict};
+ghost use Rattle.nla_frame.specs.Writing.{Writes};
+ghost use Rattle.linkinfo_table.specs.Calls.{Checks, Compares, Reads};
 ghost use Rattle.linkinfo_table.specs.Lists.{Measures};
 ghost use Rattle.linkinfo_data.specs.Asking.{facts_of};
 ghost use Rattle.linkinfo_data.specs.Listed.{IsKnown, IsNested};
 ghost use Rattle.linkinfo_data.specs.Listing.{family_in};
 ghost use Rattle.linkinfo_data.specs.Payloads.{Payload};
-ghost use Rattle.linkinfo_data.specs.Reading.{IsRead};
 
 use crate::ask::{Ask, Check, Measure, Same, WriteCanonical};
 use nla_frame::{DecodeError, Family, HeaderCount};
@@ -54,9 +54,9 @@ pub trait PayloadFamily<D: Drop>: Copy {
     /// at most a quarter of the payload's bytes. Requires that a `usize` can count them.
     fn read(self, alloc: Global, payload: &[u8], count: &mut HeaderCount) -> Result<D, DecodeError>
         requires { count.old + length payload.now / 4 < 2 ^ 64 }
-        ensures { IsRead ((data_of self).means payload.now)
+        ensures { Reads (λ value. value) result ((data_of self).means payload.now)
             ((data_of self).needs_memory payload.now) ((data_of self).headers payload.now)
-            (length payload.now) count.old count.new result };
+            (length payload.now) count.old count.new };
 
     /// Makes a call that returns no parsed value, for the family chosen. Does not allocate.
     fn ask<Q: Ask>(self, question: Q, count: &mut HeaderCount, buffer: &mut [u8]) -> Q::Answer
@@ -83,9 +83,8 @@ pub fn check_payload<D: Drop, F: PayloadFamily<D>>(
     count: &mut HeaderCount,
 ) -> Result<(), DecodeError>
     requires { count.old + length payload.now / 4 < 2 ^ 64 }
-    ensures answer { result ≡ verdict ((F.data_of family).means payload.now) }
-    ensures counted { count.new ≡ count.old + (F.data_of family).headers payload.now }
-    ensures quarter { 4 * count.new ≤ 4 * count.old + length payload.now }
+    ensures { Checks result (verdict ((F.data_of family).means payload.now))
+        ((F.data_of family).headers payload.now) (length payload.now) count.old count.new }
 {
     family.ask(Check { payload }, count, &mut [])
 }
@@ -104,12 +103,9 @@ pub fn same_payloads<D: Drop, F: PayloadFamily<D>>(
     requires first { IsOk ((F.data_of family).means a.now) }
     requires second { IsOk ((F.data_of family).means b.now) }
     requires room { count.old + (length a.now + length b.now) / 4 < 2 ^ 64 }
-    ensures same { result ≡ (F.data_of family).alike a.now b.now }
-    ensures counted { OnTrue result
-        (count.new
-        ≡ count.old + ((F.data_of family).headers a.now + (F.data_of family).headers b.now)) }
-    ensures rises { count.old ≤ count.new }
-    ensures quarter { 4 * count.new ≤ 4 * count.old + (length a.now + length b.now) }
+    ensures { Compares result ((F.data_of family).alike a.now b.now)
+        ((F.data_of family).headers a.now + (F.data_of family).headers b.now)
+        (length a.now + length b.now) count.old count.new }
 {
     family.ask(Same { a, b }, count, &mut [])
 }
@@ -140,10 +136,7 @@ pub fn write_canonical_payload<D: Drop, F: PayloadFamily<D>>(
     requires accepted { IsOk ((F.data_of family).means payload.now) }
     requires fits { length ((F.data_of family).canonical payload.now) ≤ 65531 }
     requires room { length ((F.data_of family).canonical payload.now) ≤ length buffer.old }
-    ensures taken { result ≡ length ((F.data_of family).canonical payload.now) }
-    ensures written { buffer.new
-        ≡ (F.data_of family).canonical payload.now
-        ++ drop (length ((F.data_of family).canonical payload.now)) buffer.old }
+    ensures { Writes ((F.data_of family).canonical payload.now) buffer.old buffer.new result }
 {
     family.ask(WriteCanonical { payload }, &mut HeaderCount::new(), buffer)
 }

@@ -5,7 +5,6 @@ ghost use Rattle.linkinfo_data.specs.PeerData.{peers_data_of, peers_known, peers
 
 use crate::ask::Ask;
 use crate::calls::{ask, read};
-use crate::families::DataFamilies;
 use crate::info_data::InfoDataOf;
 use crate::payload_family::PayloadFamily;
 use linkinfo_peers::{
@@ -62,13 +61,13 @@ macro_rules! of_peered {
 }
 
 impl<P: LinkPeer> PayloadFamily<InfoDataOf<P>> for PeeredFamily {
-    ghost data_of = { λ family. peers_data_of ⟦<P as DataFamilies>⟧.families family };
+    ghost data_of = { λ family. peers_data_of P.LinkPeer.own family };
 
-    ghost known = { λ family. peers_known ⟦<P as DataFamilies>⟧.families family };
+    ghost known = { λ family. peers_known P.LinkPeer.own family };
 
     ghost nested_in = { λ _. None };
 
-    ghost nests = { λ family. peers_nest ⟦<P as DataFamilies>⟧.families family };
+    ghost nests = { λ family. peers_nest P.LinkPeer.own family };
 
     fn listing(self) -> Option<Family> {
         match self {

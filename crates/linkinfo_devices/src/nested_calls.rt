@@ -1,19 +1,12 @@
 //! Reads, checks and compares attributes of a family with nested lists, and such lists, by mutually
 //! recursive calls.
 
-ghost use Rattle.std.specs.Prelude.{◌≡◌, ◌+◌, ◌*◌, ◌/◌, ◌<◌, ◌≤◌, ◌^◌, false, IsOk, OnErr, length};
-ghost use Rattle.std.specs.Bool.{OnTrue};
-ghost use Rattle.nla_frame.specs.Answers.{CertainUnless, Gives, OnAnswer, verdict};
+ghost use Rattle.std.specs.Prelude.{◌≡◌, ◌+◌, ◌/◌, ◌<◌, ◌≤◌, ◌^◌, IsOk, length};
+ghost use Rattle.nla_frame.specs.Answers.{CertainUnless, Gives, verdict};
 ghost use Rattle.nla_frame.specs.NlaItems.{nla_items};
+ghost use Rattle.linkinfo_table.specs.Calls.{Checks, Compares, Pushes, Reads};
 ghost use Rattle.linkinfo_table.specs.FamilyMeaning.{alike_by, headers_by, meaning_by, memory_by};
-ghost use Rattle.linkinfo_table.specs.Lists.{
-  Appends,
-  alike_pairs,
-  headers_of,
-  memory_of,
-  push_memory,
-  values,
-};
+ghost use Rattle.linkinfo_table.specs.Lists.{alike_pairs, headers_of, memory_of, values};
 ghost use Rattle.linkinfo_devices.specs.Nested.{in_list};
 
 use crate::nested_family::{LIST_TYPE, MOST_LISTS, NestedFamily};
@@ -30,13 +23,9 @@ pub fn nested_read<F: NestedFamily>(
     count: &mut HeaderCount,
 ) -> Result<F, DecodeError>
     requires { count.old + length nla.now.value / 4 < 2 ^ 64 }
-    ensures answer { Gives (λ value. value) result (meaning_by F.RowFamily.own lists nla.now) }
-    ensures certain { CertainUnless (memory_by F.RowFamily.own lists nla.now) (λ value. value)
-        result (meaning_by F.RowFamily.own lists nla.now) }
-    ensures counted { OnAnswer result (count.new ≡ count.old
-        + headers_by F.RowFamily.own lists nla.now) }
-    ensures rises { count.old ≤ count.new }
-    ensures quarter { 4 * count.new ≤ 4 * count.old + length nla.now.value }
+    ensures { Reads (λ value. value) result (meaning_by F.RowFamily.own lists nla.now)
+        (memory_by F.RowFamily.own lists nla.now) (headers_by F.RowFamily.own lists nla.now)
+        (length nla.now.value) count.old count.new }
 {
     if nla.kind() == LIST_TYPE && lists < MOST_LISTS {
         value_of_list(nested_list_read(alloc, nla.value(), lists + 1, count))
@@ -56,16 +45,9 @@ pub fn nested_push<F: NestedFamily>(
     count: &mut HeaderCount,
 ) -> Result<(), DecodeError>
     requires { count.old + length nla.now.value / 4 < 2 ^ 64 }
-    ensures answer { Appends items.old.items items.new.items result
-        (meaning_by F.RowFamily.own lists nla.now) }
-    ensures unchanged { OnErr result (items.new.items ≡ items.old.items) }
-    ensures certain { push_memory (memory_by F.RowFamily.own lists nla.now)
-        (meaning_by F.RowFamily.own lists nla.now) ≡ false →
-        result ≡ verdict (meaning_by F.RowFamily.own lists nla.now) }
-    ensures counted { OnAnswer result (count.new ≡ count.old
-        + headers_by F.RowFamily.own lists nla.now) }
-    ensures rises { count.old ≤ count.new }
-    ensures quarter { 4 * count.new ≤ 4 * count.old + length nla.now.value }
+    ensures { Pushes items.old.items items.new.items result
+        (meaning_by F.RowFamily.own lists nla.now) (memory_by F.RowFamily.own lists nla.now)
+        (headers_by F.RowFamily.own lists nla.now) (length nla.now.value) count.old count.new }
 {
     if nla.kind() == LIST_TYPE && lists < MOST_LISTS {
         items.push(nested_read(alloc, nla, lists, count)?)?;
@@ -85,16 +67,13 @@ fn nested_list_read<F: NestedFamily>(
 ) -> Result<Vec<F>, DecodeError>
     requires room { count.old + length bytes.now / 4 < 2 ^ 64 }
     requires within { lists ≤ 128 }
-    ensures answer { Gives (λ v. v.items) result
-        (values (meaning_by F.RowFamily.own lists) (nla_items bytes.now)) }
-    ensures certain { CertainUnless (memory_of (meaning_by F.RowFamily.own lists)
-        (memory_by F.RowFamily.own lists) (nla_items bytes.now)) (λ v. v.items) result
-        (values (meaning_by F.RowFamily.own lists) (nla_items bytes.now)) }
-    ensures counted { OnAnswer result (count.new ≡ count.old
-        + headers_of (meaning_by F.RowFamily.own lists) (headers_by F.RowFamily.own lists)
-        (nla_items bytes.now)) }
-    ensures rises { count.old ≤ count.new }
-    ensures quarter { 4 * count.new ≤ 4 * count.old + length bytes.now }
+    ensures { Reads (λ v. v.items) result
+        (values (meaning_by F.RowFamily.own lists) (nla_items bytes.now))
+        (memory_of (meaning_by F.RowFamily.own lists) (memory_by F.RowFamily.own lists)
+        (nla_items bytes.now))
+        (headers_of (meaning_by F.RowFamily.own lists) (headers_by F.RowFamily.own lists)
+        (nla_items bytes.now))
+        (length bytes.now) count.old count.new }
 {
     let mut items = Vec::new(alloc);
     let mut rest = bytes;
@@ -132,10 +111,8 @@ pub fn nested_check<F: NestedFamily>(
     count: &mut HeaderCount,
 ) -> Result<(), DecodeError>
     requires { count.old + length nla.now.value / 4 < 2 ^ 64 }
-    ensures answer { result ≡ verdict (meaning_by F.RowFamily.own lists nla.now) }
-    ensures counted { count.new ≡ count.old + headers_by F.RowFamily.own lists nla.now }
-    ensures rises { count.old ≤ count.new }
-    ensures quarter { 4 * count.new ≤ 4 * count.old + length nla.now.value }
+    ensures { Checks result (verdict (meaning_by F.RowFamily.own lists nla.now))
+        (headers_by F.RowFamily.own lists nla.now) (length nla.now.value) count.old count.new }
 {
     if nla.kind() == LIST_TYPE && lists < MOST_LISTS {
         nested_list_check::<F>(nla.value(), lists + 1, count)
@@ -153,13 +130,11 @@ fn nested_list_check<F: NestedFamily>(
 ) -> Result<(), DecodeError>
     requires room { count.old + length bytes.now / 4 < 2 ^ 64 }
     requires within { lists ≤ 128 }
-    ensures answer { result ≡ verdict (values (meaning_by F.RowFamily.own lists)
-        (nla_items bytes.now)) }
-    ensures counted { count.new ≡ count.old
-        + headers_of (meaning_by F.RowFamily.own lists) (headers_by F.RowFamily.own lists)
-        (nla_items bytes.now) }
-    ensures rises { count.old ≤ count.new }
-    ensures quarter { 4 * count.new ≤ 4 * count.old + length bytes.now }
+    ensures { Checks result
+        (verdict (values (meaning_by F.RowFamily.own lists) (nla_items bytes.now)))
+        (headers_of (meaning_by F.RowFamily.own lists) (headers_by F.RowFamily.own lists)
+        (nla_items bytes.now))
+        (length bytes.now) count.old count.new }
 {
     let mut rest = bytes;
     while let Some(next) = next_attribute(rest, count) {
@@ -183,11 +158,9 @@ pub fn nested_same<F: NestedFamily>(
     requires first { IsOk (meaning_by F.RowFamily.own lists a.now) }
     requires second { IsOk (meaning_by F.RowFamily.own lists b.now) }
     requires room { count.old + (length a.now.value + length b.now.value) / 4 < 2 ^ 64 }
-    ensures same { result ≡ alike_by F.RowFamily.own lists a.now b.now }
-    ensures counted { OnTrue result (count.new ≡ count.old
-        + (headers_by F.RowFamily.own lists a.now + headers_by F.RowFamily.own lists b.now)) }
-    ensures rises { count.old ≤ count.new }
-    ensures quarter { 4 * count.new ≤ 4 * count.old + (length a.now.value + length b.now.value) }
+    ensures { Compares result (alike_by F.RowFamily.own lists a.now b.now)
+        (headers_by F.RowFamily.own lists a.now + headers_by F.RowFamily.own lists b.now)
+        (length a.now.value + length b.now.value) count.old count.new }
 {
     if a.kind() == LIST_TYPE && lists < MOST_LISTS {
         b.kind() == LIST_TYPE && nested_list_same::<F>(a.value(), b.value(), lists + 1, count)
@@ -203,14 +176,12 @@ fn nested_list_same<F: NestedFamily>(a: &[u8], b: &[u8], lists: u8, count: &mut 
     requires second { IsOk (values (meaning_by F.RowFamily.own lists) (nla_items b.now)) }
     requires room { count.old + (length a.now + length b.now) / 4 < 2 ^ 64 }
     requires within { lists ≤ 128 }
-    ensures same { result ≡ alike_pairs (alike_by F.RowFamily.own lists) (nla_items a.now)
-        (nla_items b.now) }
-    ensures counted { OnTrue result (count.new ≡ count.old
-        + (headers_of (meaning_by F.RowFamily.own lists) (headers_by F.RowFamily.own lists)
+    ensures { Compares result
+        (alike_pairs (alike_by F.RowFamily.own lists) (nla_items a.now) (nla_items b.now))
+        (headers_of (meaning_by F.RowFamily.own lists) (headers_by F.RowFamily.own lists)
         (nla_items a.now) + headers_of (meaning_by F.RowFamily.own lists)
-        (headers_by F.RowFamily.own lists) (nla_items b.now))) }
-    ensures rises { count.old ≤ count.new }
-    ensures quarter { 4 * count.new ≤ 4 * count.old + (length a.now + length b.now) }
+        (headers_by F.RowFamily.own lists) (nla_items b.now))
+        (length a.now + length b.now) count.old count.new }
 {
     let mut x = a;
     let mut y = b;

@@ -5,6 +5,7 @@
 ghost use Rattle.std.specs.Prelude.{◌≡◌, ◌≤◌, ◌++◌, IsOk, SomeIff, drop, length};
 ghost use Rattle.nla_frame.specs.Attribute.{Fits, buffer_len_of, canonical_string};
 ghost use Rattle.nla_frame.specs.NlaItems.{nla_items};
+ghost use Rattle.nla_frame.specs.Writing.{Writes, WritesAttribute};
 ghost use Rattle.linkinfo_table.specs.FamilyMeaning.{canonical_by, meaning_by};
 ghost use Rattle.linkinfo_table.specs.Lists.{canonical_list, values};
 
@@ -62,9 +63,8 @@ pub fn nested_write_canonical<F: NestedFamily>(
     requires accepted { IsOk (meaning_by F.RowFamily.own lists nla.now) }
     requires fits { Fits (canonical_by F.RowFamily.own lists nla.now) }
     requires room { buffer_len_of (canonical_by F.RowFamily.own lists nla.now) ≤ length buffer.old }
-    ensures taken { result ≡ buffer_len_of (canonical_by F.RowFamily.own lists nla.now) }
-    ensures written { let canonical = canonical_by F.RowFamily.own lists nla.now in
-        buffer.new ≡ canonical_string canonical ++ drop (buffer_len_of canonical) buffer.old }
+    ensures { WritesAttribute (canonical_by F.RowFamily.own lists nla.now)
+        buffer.old buffer.new result }
 {
     if nla.kind() == LIST_TYPE && lists < MOST_LISTS {
         nested_write_list::<F>(nla.value(), lists + 1, buffer)
@@ -87,23 +87,13 @@ fn nested_write_list<F: NestedFamily>(bytes: &[u8], lists: u8, buffer: &mut [u8]
       value = canonical_list F.canonical
           (meaning_by F.RowFamily.own lists) (nla_items bytes.now);
     }) ≤ length buffer.old }
-    ensures taken { result ≡ buffer_len_of
+    ensures { WritesAttribute
         (record {
           kind = 5;
           value = canonical_list F.canonical (meaning_by F.RowFamily.own lists)
               (nla_items bytes.now);
-        }) }
-    ensures written { buffer.new ≡ canonical_string
-        (record {
-          kind = 5;
-          value = canonical_list F.canonical (meaning_by F.RowFamily.own lists)
-              (nla_items bytes.now);
-        }) ++ drop (buffer_len_of
-        (record {
-          kind = 5;
-          value = canonical_list F.canonical (meaning_by F.RowFamily.own lists)
-              (nla_items bytes.now);
-        })) buffer.old }
+        })
+        buffer.old buffer.new result }
 {
     let len = nested_list_write_canonical::<F>(bytes, lists, &mut buffer[4..]);
     write_frame(buffer, LIST_TYPE, len);
@@ -121,10 +111,9 @@ fn nested_list_write_canonical<F: NestedFamily>(bytes: &[u8], lists: u8, buffer:
         (nla_items bytes.now)) ≤ 65531 }
     requires room { length (canonical_list F.canonical (meaning_by F.RowFamily.own lists)
         (nla_items bytes.now)) ≤ length buffer.old }
-    ensures taken { result ≡ length (canonical_list F.canonical (meaning_by F.RowFamily.own lists)
-        (nla_items bytes.now)) }
-    ensures written { let string = canonical_list F.canonical (meaning_by F.RowFamily.own lists)
-        (nla_items bytes.now) in buffer.new ≡ string ++ drop (length string) buffer.old }
+    ensures { Writes
+        (canonical_list F.canonical (meaning_by F.RowFamily.own lists) (nla_items bytes.now))
+        buffer.old buffer.new result }
 {
     let mut count = HeaderCount::new();
     let mut rest = bytes;

@@ -3,6 +3,7 @@
 
 ghost use Rattle.std.specs.Prelude.{◌≡◌, ◌≤◌, ◌++◌, SomeIff, drop, length, map};
 ghost use Rattle.nla_frame.specs.Attribute.{Fits, buffer_len_of, canonical_string, list_string};
+ghost use Rattle.nla_frame.specs.Writing.{Writes, WritesAttribute};
 
 use crate::nested_family::{LIST_TYPE, NestedFamily};
 use linkinfo_table::{row_emit_payload, row_fit_len, row_kind};
@@ -70,9 +71,7 @@ pub fn nested_emit_value<F: NestedFamily>(value: &F, buffer: &mut [u8])
 pub fn nested_emit_payload<F: NestedFamily>(value: &F, buffer: &mut [u8]) -> usize
     requires fits { Fits (F.canonical value.now) }
     requires room { length (F.canonical value.now).value ≤ length buffer.old }
-    ensures taken { result ≡ length (F.canonical value.now).value }
-    ensures written { buffer.new
-        ≡ (F.canonical value.now).value ++ drop (length (F.canonical value.now).value) buffer.old }
+    ensures { Writes (F.canonical value.now).value buffer.old buffer.new result }
 {
     match value.list() {
         Some(list) => emit_list(list.as_slice(), buffer),
@@ -86,10 +85,7 @@ pub fn nested_emit_payload<F: NestedFamily>(value: &F, buffer: &mut [u8]) -> usi
 fn emit_list<F: NestedFamily>(items: &[F], buffer: &mut [u8]) -> usize
     requires fits { length (list_string (map F.canonical items.now)) ≤ 65531 }
     requires room { length (list_string (map F.canonical items.now)) ≤ length buffer.old }
-    ensures taken { result ≡ length (list_string (map F.canonical items.now)) }
-    ensures written { buffer.new
-        ≡ list_string (map F.canonical items.now)
-        ++ drop (length (list_string (map F.canonical items.now))) buffer.old }
+    ensures { Writes (list_string (map F.canonical items.now)) buffer.old buffer.new result }
 {
     let mut place: usize = 0;
     for item in items {
@@ -105,10 +101,7 @@ fn emit_list<F: NestedFamily>(items: &[F], buffer: &mut [u8]) -> usize
 fn emit_attribute<F: NestedFamily>(value: &F, buffer: &mut [u8]) -> usize
     requires fits { Fits (F.canonical value.now) }
     requires room { buffer_len_of (F.canonical value.now) ≤ length buffer.old }
-    ensures taken { result ≡ buffer_len_of (F.canonical value.now) }
-    ensures written { buffer.new
-        ≡ canonical_string (F.canonical value.now)
-        ++ drop (buffer_len_of (F.canonical value.now)) buffer.old }
+    ensures { WritesAttribute (F.canonical value.now) buffer.old buffer.new result }
 {
     let len = nested_emit_payload(value, &mut buffer[4..]);
     write_frame(buffer, nested_kind(value), len);

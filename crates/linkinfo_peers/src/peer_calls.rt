@@ -17,6 +17,7 @@ ghost use Rattle.nla_frame.specs.Answers.{CertainUnless, Gives, verdict};
 ghost use Rattle.nla_frame.specs.Attribute.{Fits, masked};
 ghost use Rattle.nla_frame.specs.Error.{memory_error};
 ghost use Rattle.nla_frame.specs.declared.error.Cause.TheVariants as cause;
+ghost use Rattle.nla_frame.specs.Writing.{Writes};
 ghost use Rattle.linkinfo_table.specs.FamilyMeaning.{alike_by, meaning_by, memory_by};
 ghost use Rattle.linkinfo_peers.specs.PeerRows.{peer_meaning};
 
@@ -176,9 +177,7 @@ pub fn peer_emit_value<F: PeerFamily>(value: &F, buffer: &mut [u8])
 pub fn peer_emit_payload<F: PeerFamily>(value: &F, buffer: &mut [u8]) -> usize
     requires fits { Fits (F.canonical value.now) }
     requires room { length (F.canonical value.now).value ≤ length buffer.old }
-    ensures taken { result ≡ length (F.canonical value.now).value }
-    ensures written { buffer.new
-        ≡ (F.canonical value.now).value ++ drop (length (F.canonical value.now).value) buffer.old }
+    ensures { Writes (F.canonical value.now).value buffer.old buffer.new result }
 {
     match value.peer() {
         Some(_) => {

@@ -2,6 +2,7 @@
 
 ghost use Rattle.std.specs.Prelude.{◌≡◌, ◌≤◌, ◌++◌, IsOk, IsSome, SomeIff, drop, length};
 ghost use Rattle.nla_frame.specs.Attribute.{Fits, buffer_len_of, canonical_string};
+ghost use Rattle.nla_frame.specs.Writing.{WritesAttribute};
 ghost use Rattle.linkinfo_table.specs.FamilyMeaning.{canonical_by, meaning_by};
 ghost use Rattle.linkinfo_table.specs.Peers.{payload_for};
 
@@ -28,19 +29,12 @@ fn write_as_peer<F: PeerFamily>(nla: &NlaBuffer<'_>, buffer: &mut [u8]) -> usize
           kind = 1;
           value = payload_for F.Peer.LinkPeer.canonical (F.Peer.LinkPeer.meaning nla.now.value);
         }) ≤ length buffer.old }
-    ensures taken { result
-        ≡ buffer_len_of (record {
+    ensures { WritesAttribute
+        (record {
           kind = 1;
           value = payload_for F.Peer.LinkPeer.canonical (F.Peer.LinkPeer.meaning nla.now.value);
-        }) }
-    ensures written { buffer.new
-        ≡ canonical_string (record {
-          kind = 1;
-          value = payload_for F.Peer.LinkPeer.canonical (F.Peer.LinkPeer.meaning nla.now.value);
-        }) ++ drop (buffer_len_of (record {
-          kind = 1;
-          value = payload_for F.Peer.LinkPeer.canonical (F.Peer.LinkPeer.meaning nla.now.value);
-        })) buffer.old }
+        })
+        buffer.old buffer.new result }
 {
     let len = F::Peer::write_canonical(nla.value(), &mut buffer[4..]);
     write_frame(buffer, PEER, len);
@@ -74,9 +68,8 @@ pub fn peer_write_canonical<F: PeerFamily>(
     requires accepted { IsOk (meaning_by F.RowFamily.own ctx nla.now) }
     requires fits { Fits (canonical_by F.RowFamily.own ctx nla.now) }
     requires room { buffer_len_of (canonical_by F.RowFamily.own ctx nla.now) ≤ length buffer.old }
-    ensures taken { result ≡ buffer_len_of (canonical_by F.RowFamily.own ctx nla.now) }
-    ensures written { let canonical = canonical_by F.RowFamily.own ctx nla.now in
-        buffer.new ≡ canonical_string canonical ++ drop (buffer_len_of canonical) buffer.old }
+    ensures { WritesAttribute (canonical_by F.RowFamily.own ctx nla.now)
+        buffer.old buffer.new result }
 {
     if nla.kind() == PEER {
         write_as_peer::<F>(nla, buffer)

@@ -15,6 +15,7 @@ ghost use Rattle.std.specs.Prelude.{
   ℕ,
 };
 ghost use Rattle.nla_frame.specs.Attribute.{IsBytes, buffer_len_of, canonical_string};
+ghost use Rattle.nla_frame.specs.Writing.{Writes, WritesAttribute};
 ghost use Rattle.linkinfo_shapes.specs.Data.{Suits, value_of, written};
 ghost use Rattle.linkinfo_shapes.specs.Shapes.{IsAccepted, IsPlain, canonical};
 
@@ -94,9 +95,7 @@ pub fn shape_write_canonical(shape: Shape, payload: &[u8], buffer: &mut [u8]) ->
     requires accepted { IsAccepted shape payload.now }
     requires fits { length (canonical shape payload.now) ≤ 65531 }
     requires room { length (canonical shape payload.now) ≤ length buffer.old }
-    ensures taken { result ≡ length (canonical shape payload.now) }
-    ensures written { buffer.new
-        ≡ canonical shape payload.now ++ drop (length (canonical shape payload.now)) buffer.old }
+    ensures { Writes (canonical shape payload.now) buffer.old buffer.new result }
 {
     if accepts_only_canonical(shape) {
         return write_bytes(payload, buffer);
@@ -128,12 +127,8 @@ pub fn shape_write_attribute(shape: Shape, kind: u16, payload: &[u8], buffer: &m
     requires fits { length (canonical shape payload.now) ≤ 65531 }
     requires room { buffer_len_of (record { kind = kind; value = canonical shape payload.now })
         ≤ length buffer.old }
-    ensures taken { result
-        ≡ buffer_len_of (record { kind = kind; value = canonical shape payload.now }) }
-    ensures written { buffer.new
-        ≡ canonical_string (record { kind = kind; value = canonical shape payload.now })
-        ++ drop (buffer_len_of (record { kind = kind; value = canonical shape payload.now }))
-        buffer.old }
+    ensures { WritesAttribute (record { kind = kind; value = canonical shape payload.now })
+        buffer.old buffer.new result }
 {
     let len = shape_write_canonical(shape, payload, &mut buffer[4..]);
     write_frame(buffer, kind, len);

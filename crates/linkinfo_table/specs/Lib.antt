@@ -1,5 +1,6 @@
 pub mod ByRows
 pub mod BytesPeer
+pub mod Calls
 pub mod Canonical
 pub mod Codecs
 pub mod Conditions

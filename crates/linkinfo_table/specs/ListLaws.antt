@@ -77,7 +77,7 @@ header_is_no_memory e =
 
 module _ {T X : Type 0} (m : T → Attribute → Result X DecodeError) (after : T → Attribute → T) where
   -- the value of an accepted list with an attribute before the rest
-  pub record Reads (t : T) (a : Attribute) (more : List (Result Attribute ℕ)) (zs : List X) : Type
+  pub record Begins (t : T) (a : Attribute) (more : List (Result Attribute ℕ)) (zs : List X) : Type
       0 where
     pub x : X
     pub xs : List X
@@ -86,7 +86,7 @@ module _ {T X : Type 0} (m : T → Attribute → Result X DecodeError) (after : 
     pub whole : zs ≡ x ∷ xs
 
   pub reads : (t : T) (a : Attribute) (more : List (Result Attribute ℕ)) (zs : List X) →
-      values_under m after t (Ok a ∷ more) ≡ Ok zs → Reads t a more zs
+      values_under m after t (Ok a ∷ more) ≡ Ok zs → Begins t a more zs
   reads t a more zs e = go (m t a) (values_under m after (after t a) more) refl refl e
     where
       same : (x : X) (xs : List X) → good (x ∷ xs) ≡ good zs → zs ≡ x ∷ xs
@@ -94,7 +94,7 @@ module _ {T X : Type 0} (m : T → Attribute → Result X DecodeError) (after : 
 
       go : (r : Result X DecodeError) (s : Result (List X) DecodeError) → m t a ≡ r →
           values_under m after (after t a) more ≡ s →
-          (r >>= λ x. s >>= λ xs. Ok (x ∷ xs)) ≡ Ok zs → Reads t a more zs
+          (r >>= λ x. s >>= λ xs. Ok (x ∷ xs)) ≡ Ok zs → Begins t a more zs
       go (Ok x) (Ok xs) f g h = record {
         x = x;
         xs = xs;

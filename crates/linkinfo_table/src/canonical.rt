@@ -2,6 +2,7 @@
 
 ghost use Rattle.std.specs.Prelude.{◌≡◌, ◌≤◌, ◌++◌, IsOk, SomeIff, drop, length};
 ghost use Rattle.nla_frame.specs.Attribute.{Fits, buffer_len_of, canonical_string, masked};
+ghost use Rattle.nla_frame.specs.Writing.{WritesAttribute};
 ghost use Rattle.linkinfo_table.specs.FamilyMeaning.{canonical_by, meaning_by};
 ghost use Rattle.linkinfo_table.specs.Canonical.{IsWrittenFrom};
 ghost use Rattle.linkinfo_table.specs.FamilyRows.{IsFlat};
@@ -68,9 +69,8 @@ pub fn row_write_canonical<F: RowFamily>(
     requires accepted { IsOk (meaning_by F.RowFamily.own ctx nla.now) }
     requires fits { Fits (canonical_by F.RowFamily.own ctx nla.now) }
     requires room { buffer_len_of (canonical_by F.RowFamily.own ctx nla.now) ≤ length buffer.old }
-    ensures taken { result ≡ buffer_len_of (canonical_by F.RowFamily.own ctx nla.now) }
-    ensures written { let canonical = canonical_by F.RowFamily.own ctx nla.now in
-        buffer.new ≡ canonical_string canonical ++ drop (buffer_len_of canonical) buffer.old }
+    ensures { WritesAttribute (canonical_by F.RowFamily.own ctx nla.now)
+        buffer.old buffer.new result }
 {
     match written_from::<F>(nla, ctx) {
         Written::Typed(kind, shape, payload) => shape_write_attribute(shape, kind, payload, buffer),

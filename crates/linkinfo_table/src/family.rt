@@ -22,8 +22,7 @@ ghost use Rattle.std.specs.Prelude.{
   drop,
   length,
 };
-ghost use Rattle.std.specs.Bool.{OnTrue};
-ghost use Rattle.nla_frame.specs.Answers.{CertainUnless, Gives, OnAnswer, verdict};
+ghost use Rattle.nla_frame.specs.Answers.{verdict};
 ghost use Rattle.nla_frame.specs.Attribute.{
   Attribute,
   Fits,
@@ -36,7 +35,8 @@ ghost use Rattle.nla_frame.specs.Kept.{attribute_of};
 ghost use Rattle.nla_frame.specs.declared.default_nla.DefaultNla.{DefaultNla};
 ghost use Rattle.nla_frame.specs.declared.error.DecodeError.{DecodeError};
 ghost use Rattle.nla_frame.specs.declared.error.Family.{Family};
-ghost use Rattle.linkinfo_table.specs.Lists.{Appends, push_memory};
+ghost use Rattle.nla_frame.specs.Writing.{WritesAttribute};
+ghost use Rattle.linkinfo_table.specs.Calls.{Checks, Compares, Pushes, Reads};
 ghost use Rattle.linkinfo_table.specs.Lookups.{HoldsNone, LookupSays};
 ghost use Rattle.linkinfo_table.specs.Members.{IsFamily, members_at};
 ghost use Rattle.linkinfo_table.specs.declared.lookup.Lookup.{Lookup};
@@ -94,12 +94,8 @@ pub trait LinkFamily: Nla + Sized + Drop {
         count: &mut HeaderCount,
     ) -> Result<Self, DecodeError>
         requires { count.old + length nla.now.value / 4 < 2 ^ 64 }
-        ensures answer { Gives (λ value. value) result (meaning ctx nla.now) }
-        ensures certain { CertainUnless (needs_memory ctx nla.now) (λ value. value) result
-            (meaning ctx nla.now) }
-        ensures counted { OnAnswer result (count.new ≡ count.old + headers ctx nla.now) }
-        ensures rises { count.old ≤ count.new }
-        ensures quarter { 4 * count.new ≤ 4 * count.old + length nla.now.value };
+        ensures { Reads (λ value. value) result (meaning ctx nla.now) (needs_memory ctx nla.now)
+            (headers ctx nla.now) (length nla.now.value) count.old count.new };
 
     /// Reads an attribute, and pushes its value to the end of a list.
     fn push(
@@ -110,13 +106,9 @@ pub trait LinkFamily: Nla + Sized + Drop {
         count: &mut HeaderCount,
     ) -> Result<(), DecodeError>
         requires { count.old + length nla.now.value / 4 < 2 ^ 64 }
-        ensures answer { Appends items.old.items items.new.items result (meaning ctx nla.now) }
-        ensures unchanged { OnErr result (items.new.items ≡ items.old.items) }
-        ensures certain { push_memory (needs_memory ctx nla.now) (meaning ctx nla.now) ≡ false →
-            result ≡ verdict (meaning ctx nla.now) }
-        ensures counted { OnAnswer result (count.new ≡ count.old + headers ctx nla.now) }
-        ensures rises { count.old ≤ count.new }
-        ensures quarter { 4 * count.new ≤ 4 * count.old + length nla.now.value }
+        ensures { Pushes items.old.items items.new.items result (meaning ctx nla.now)
+            (needs_memory ctx nla.now) (headers ctx nla.now) (length nla.now.value)
+            count.old count.new }
     {
         items.push(Self::read(alloc, nla, ctx, count)?)?;
         Ok(())
@@ -129,10 +121,8 @@ pub trait LinkFamily: Nla + Sized + Drop {
         count: &mut HeaderCount,
     ) -> Result<(), DecodeError>
         requires { count.old + length nla.now.value / 4 < 2 ^ 64 }
-        ensures answer { result ≡ verdict (meaning ctx nla.now) }
-        ensures counted { count.new ≡ count.old + headers ctx nla.now }
-        ensures rises { count.old ≤ count.new }
-        ensures quarter { 4 * count.new ≤ 4 * count.old + length nla.now.value };
+        ensures { Checks result (verdict (meaning ctx nla.now)) (headers ctx nla.now)
+            (length nla.now.value) count.old count.new };
 
     /// Whether two attributes are equivalent: they mean equal values. Requires that each is
     /// accepted. Does not allocate.
@@ -145,12 +135,8 @@ pub trait LinkFamily: Nla + Sized + Drop {
         requires first { IsOk (meaning ctx a.now) }
         requires second { IsOk (meaning ctx b.now) }
         requires room { count.old + (length a.now.value + length b.now.value) / 4 < 2 ^ 64 }
-        ensures same { result ≡ alike ctx a.now b.now }
-        ensures counted { OnTrue result
-            (count.new ≡ count.old + (headers ctx a.now + headers ctx b.now)) }
-        ensures rises { count.old ≤ count.new }
-        ensures quarter { 4 * count.new
-            ≤ 4 * count.old + (length a.now.value + length b.now.value) };
+        ensures { Compares result (alike ctx a.now b.now) (headers ctx a.now + headers ctx b.now)
+            (length a.now.value + length b.now.value) count.old count.new };
 
     /// Returns the length of the canonical payload of the value that an attribute means, or `None`
     /// if it does not fit. Requires that the attribute is accepted. Does not allocate.
@@ -169,10 +155,8 @@ pub trait LinkFamily: Nla + Sized + Drop {
         requires fits { Fits (attribute_for Self.attribute (meaning ctx nla.now)) }
         requires room { buffer_len_of (attribute_for Self.attribute (meaning ctx nla.now))
             ≤ length buffer.old }
-        ensures taken { result
-            ≡ buffer_len_of (attribute_for Self.attribute (meaning ctx nla.now)) }
-        ensures written { let canonical = attribute_for Self.attribute (meaning ctx nla.now) in
-            buffer.new ≡ canonical_string canonical ++ drop (buffer_len_of canonical) buffer.old };
+        ensures { WritesAttribute (attribute_for Self.attribute (meaning ctx nla.now))
+            buffer.old buffer.new result };
 
     ghost keeps: { (nla : DefaultNla) → Self.attribute (keeping nla) ≡ attribute_of nla };
 

@@ -15,10 +15,11 @@ ghost use Rattle.std.specs.Prelude.{
   drop,
   length,
 };
-ghost use Rattle.std.specs.Bool.{OnTrue};
-ghost use Rattle.nla_frame.specs.Answers.{CertainUnless, Gives, OnAnswer, verdict};
+ghost use Rattle.nla_frame.specs.Answers.{verdict};
 ghost use Rattle.nla_frame.specs.Error.{header_error};
 ghost use Rattle.nla_frame.specs.NlaItems.{nla_items};
+ghost use Rattle.nla_frame.specs.Writing.{Writes};
+ghost use Rattle.linkinfo_table.specs.Calls.{Checks, Compares, Reads};
 ghost use Rattle.linkinfo_table.specs.Lists.{
   Measures,
   canonical_first,
@@ -51,14 +52,11 @@ pub fn first_read<F: LinkFamily>(
     count: &mut HeaderCount,
 ) -> Result<F, DecodeError>
     requires { count.old + length bytes.now / 4 < 2 ^ 64 }
-    ensures answer { Gives (λ value. value) result
-        (first_meaning (F.meaning ctx) (nla_items bytes.now)) }
-    ensures certain { CertainUnless (first_memory (F.needs_memory ctx) (nla_items bytes.now))
-        (λ value. value) result (first_meaning (F.meaning ctx) (nla_items bytes.now)) }
-    ensures counted { OnAnswer result
-        (count.new ≡ count.old + first_headers (F.headers ctx) (nla_items bytes.now)) }
-    ensures rises { count.old ≤ count.new }
-    ensures quarter { 4 * count.new ≤ 4 * count.old + length bytes.now }
+    ensures { Reads (λ value. value) result
+        (first_meaning (F.meaning ctx) (nla_items bytes.now))
+        (first_memory (F.needs_memory ctx) (nla_items bytes.now))
+        (first_headers (F.headers ctx) (nla_items bytes.now))
+        (length bytes.now) count.old count.new }
 {
     match next_attribute(bytes, count) {
         Some(Ok((nla, _))) => F::read(alloc, &nla, ctx, count),
@@ -74,10 +72,9 @@ pub fn first_check<F: LinkFamily>(
     count: &mut HeaderCount,
 ) -> Result<(), DecodeError>
     requires { count.old + length bytes.now / 4 < 2 ^ 64 }
-    ensures answer { result ≡ verdict (first_meaning (F.meaning ctx) (nla_items bytes.now)) }
-    ensures counted { count.new ≡ count.old + first_headers (F.headers ctx) (nla_items bytes.now) }
-    ensures rises { count.old ≤ count.new }
-    ensures quarter { 4 * count.new ≤ 4 * count.old + length bytes.now }
+    ensures { Checks result (verdict (first_meaning (F.meaning ctx) (nla_items bytes.now)))
+        (first_headers (F.headers ctx) (nla_items bytes.now))
+        (length bytes.now) count.old count.new }
 {
     match next_attribute(bytes, count) {
         Some(Ok((nla, _))) => F::check_value(&nla, ctx, count),
@@ -97,15 +94,14 @@ pub fn first_same<F: LinkFamily>(
     requires first { IsOk (first_meaning (F.meaning ctx) (nla_items a.now)) }
     requires second { IsOk (first_meaning (F.meaning ctx) (nla_items b.now)) }
     requires room { count.old + (length a.now + length b.now) / 4 < 2 ^ 64 }
-    ensures same { result ≡ first_alike (F.alike ctx) (nla_items a.now) (nla_items b.now) }
+    ensures compared { Compares result
+        (first_alike (F.alike ctx) (nla_items a.now) (nla_items b.now))
+        (first_headers (F.headers ctx) (nla_items a.now)
+        + first_headers (F.headers ctx) (nla_items b.now))
+        (length a.now + length b.now) count.old count.new }
     ensures equal { IsTrue result
         ↔ (first_meaning (F.meaning ctx) (nla_items a.now)
         ≡ first_meaning (F.meaning ctx) (nla_items b.now)) }
-    ensures counted { OnTrue result
-        (count.new ≡ count.old + (first_headers (F.headers ctx) (nla_items a.now)
-        + first_headers (F.headers ctx) (nla_items b.now))) }
-    ensures rises { count.old ≤ count.new }
-    ensures quarter { 4 * count.new ≤ 4 * count.old + (length a.now + length b.now) }
 {
     let (p, _) = next_attribute(a, count).unwrap().unwrap();
     let (q, _) = next_attribute(b, count).unwrap().unwrap();
@@ -154,11 +150,8 @@ pub fn first_write_canonical<F: LinkFamily>(
         ≤ 65531 }
     requires room { length (canonical_first F.attribute (F.meaning ctx) (nla_items bytes.now))
         ≤ length buffer.old }
-    ensures taken { result
-        ≡ length (canonical_first F.attribute (F.meaning ctx) (nla_items bytes.now)) }
-    ensures written { let string =
-        canonical_first F.attribute (F.meaning ctx) (nla_items bytes.now) in
-        buffer.new ≡ string ++ drop (length string) buffer.old }
+    ensures { Writes (canonical_first F.attribute (F.meaning ctx) (nla_items bytes.now))
+        buffer.old buffer.new result }
 {
     let (nla, _) = next_attribute(bytes, &mut HeaderCount::new())
         .unwrap()

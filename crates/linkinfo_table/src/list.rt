@@ -16,9 +16,10 @@ ghost use Rattle.std.specs.Prelude.{
   drop,
   length,
 };
-ghost use Rattle.std.specs.Bool.{OnTrue};
-ghost use Rattle.nla_frame.specs.Answers.{CertainUnless, Gives, OnAnswer, verdict};
+ghost use Rattle.nla_frame.specs.Answers.{verdict};
 ghost use Rattle.nla_frame.specs.NlaItems.{nla_items};
+ghost use Rattle.nla_frame.specs.Writing.{Writes};
+ghost use Rattle.linkinfo_table.specs.Calls.{Checks, Compares, Reads};
 ghost use Rattle.linkinfo_table.specs.Lists.{
   IsTotalWith,
   Measures,
@@ -51,14 +52,10 @@ pub fn list_read<F: LinkFamily>(
     count: &mut HeaderCount,
 ) -> Result<Vec<F>, DecodeError>
     requires { count.old + length bytes.now / 4 < 2 ^ 64 }
-    ensures answer { Gives (λ v. v.items) result (values (F.meaning ctx) (nla_items bytes.now)) }
-    ensures certain { CertainUnless
-        (memory_of (F.meaning ctx) (F.needs_memory ctx) (nla_items bytes.now)) (λ v. v.items) result
-        (values (F.meaning ctx) (nla_items bytes.now)) }
-    ensures counted { OnAnswer result
-        (count.new ≡ count.old + headers_of (F.meaning ctx) (F.headers ctx) (nla_items bytes.now)) }
-    ensures rises { count.old ≤ count.new }
-    ensures quarter { 4 * count.new ≤ 4 * count.old + length bytes.now }
+    ensures { Reads (λ v. v.items) result (values (F.meaning ctx) (nla_items bytes.now))
+        (memory_of (F.meaning ctx) (F.needs_memory ctx) (nla_items bytes.now))
+        (headers_of (F.meaning ctx) (F.headers ctx) (nla_items bytes.now))
+        (length bytes.now) count.old count.new }
 {
     let Some(next) = next_attribute(bytes, count) else {
         return Ok(Vec::new(alloc));
@@ -84,11 +81,9 @@ pub fn list_check<F: LinkFamily>(
     count: &mut HeaderCount,
 ) -> Result<(), DecodeError>
     requires { count.old + length bytes.now / 4 < 2 ^ 64 }
-    ensures answer { result ≡ verdict (values (F.meaning ctx) (nla_items bytes.now)) }
-    ensures counted { count.new
-        ≡ count.old + headers_of (F.meaning ctx) (F.headers ctx) (nla_items bytes.now) }
-    ensures rises { count.old ≤ count.new }
-    ensures quarter { 4 * count.new ≤ 4 * count.old + length bytes.now }
+    ensures { Checks result (verdict (values (F.meaning ctx) (nla_items bytes.now)))
+        (headers_of (F.meaning ctx) (F.headers ctx) (nla_items bytes.now))
+        (length bytes.now) count.old count.new }
 {
     let mut rest = bytes;
     while let Some(next) = next_attribute(rest, count) {
@@ -110,14 +105,13 @@ pub fn list_same<F: LinkFamily>(
     requires first { IsOk (values (F.meaning ctx) (nla_items a.now)) }
     requires second { IsOk (values (F.meaning ctx) (nla_items b.now)) }
     requires room { count.old + (length a.now + length b.now) / 4 < 2 ^ 64 }
-    ensures same { result ≡ alike_pairs (F.alike ctx) (nla_items a.now) (nla_items b.now) }
+    ensures compared { Compares result
+        (alike_pairs (F.alike ctx) (nla_items a.now) (nla_items b.now))
+        (headers_of (F.meaning ctx) (F.headers ctx) (nla_items a.now)
+        + headers_of (F.meaning ctx) (F.headers ctx) (nla_items b.now))
+        (length a.now + length b.now) count.old count.new }
     ensures equal { IsTrue result
         ↔ (values (F.meaning ctx) (nla_items a.now) ≡ values (F.meaning ctx) (nla_items b.now)) }
-    ensures counted { OnTrue result
-        (count.new ≡ count.old + (headers_of (F.meaning ctx) (F.headers ctx) (nla_items a.now)
-        + headers_of (F.meaning ctx) (F.headers ctx) (nla_items b.now))) }
-    ensures rises { count.old ≤ count.new }
-    ensures quarter { 4 * count.new ≤ 4 * count.old + (length a.now + length b.now) }
 {
     pairs_same::<F>(a, b, ctx, count)
 }
@@ -127,12 +121,10 @@ fn pairs_same<F: LinkFamily>(a: &[u8], b: &[u8], ctx: F::Context, count: &mut He
     requires first { IsOk (values (F.meaning ctx) (nla_items a.now)) }
     requires second { IsOk (values (F.meaning ctx) (nla_items b.now)) }
     requires room { count.old + (length a.now + length b.now) / 4 < 2 ^ 64 }
-    ensures same { result ≡ alike_pairs (F.alike ctx) (nla_items a.now) (nla_items b.now) }
-    ensures counted { OnTrue result
-        (count.new ≡ count.old + (headers_of (F.meaning ctx) (F.headers ctx) (nla_items a.now)
-        + headers_of (F.meaning ctx) (F.headers ctx) (nla_items b.now))) }
-    ensures rises { count.old ≤ count.new }
-    ensures quarter { 4 * count.new ≤ 4 * count.old + (length a.now + length b.now) }
+    ensures { Compares result (alike_pairs (F.alike ctx) (nla_items a.now) (nla_items b.now))
+        (headers_of (F.meaning ctx) (F.headers ctx) (nla_items a.now)
+        + headers_of (F.meaning ctx) (F.headers ctx) (nla_items b.now))
+        (length a.now + length b.now) count.old count.new }
 {
     let mut x = a;
     let mut y = b;
@@ -206,11 +198,8 @@ pub fn list_write_canonical<F: LinkFamily>(
         ≤ 65531 }
     requires room { length (canonical_list F.attribute (F.meaning ctx) (nla_items bytes.now))
         ≤ length buffer.old }
-    ensures taken { result
-        ≡ length (canonical_list F.attribute (F.meaning ctx) (nla_items bytes.now)) }
-    ensures written { let string =
-        canonical_list F.attribute (F.meaning ctx) (nla_items bytes.now) in
-        buffer.new ≡ string ++ drop (length string) buffer.old }
+    ensures { Writes (canonical_list F.attribute (F.meaning ctx) (nla_items bytes.now))
+        buffer.old buffer.new result }
 {
     let mut count = HeaderCount::new();
     let mut rest = bytes;

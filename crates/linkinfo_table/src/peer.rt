@@ -18,6 +18,7 @@ ghost use Rattle.std.specs.Prelude.{
   length,
 };
 ghost use Rattle.nla_frame.specs.Attribute.{IsBytes};
+ghost use Rattle.nla_frame.specs.Writing.{Writes};
 ghost use Rattle.linkinfo_table.specs.Peers.{IsPeer, PeerGives, payload_for};
 
 use nla_frame::{Bytes, ExactEq, fitting, write_bytes};
@@ -98,10 +99,8 @@ pub trait LinkPeer: Sized + Eq + ExactEq + Drop {
         requires accepted { IsSome (meaning payload.now) }
         requires fits { length (payload_for canonical (meaning payload.now)) ≤ 65531 }
         requires room { length (payload_for canonical (meaning payload.now)) ≤ length buffer.old }
-        ensures taken { result ≡ length (payload_for canonical (meaning payload.now)) }
-        ensures written { buffer.new
-            ≡ payload_for canonical (meaning payload.now)
-            ++ drop (length (payload_for canonical (meaning payload.now))) buffer.old };
+        ensures { Writes (payload_for canonical (meaning payload.now))
+            buffer.old buffer.new result };
 
     ghost lawful: { IsPeer meaning alike canonical well };
 }

@@ -16,6 +16,7 @@ ghost use Rattle.std.specs.Prelude.{
 ghost use Rattle.std.specs.Str.{bytes_eq};
 ghost use Rattle.nla_frame.specs.Answers.{CertainUnless, Gives, verdict};
 ghost use Rattle.nla_frame.specs.Attribute.{Fits, masked};
+ghost use Rattle.nla_frame.specs.Writing.{Writes};
 ghost use Rattle.linkinfo_shapes.specs.Shapes.{IsAccepted, IsPlain, payload_alike};
 ghost use Rattle.linkinfo_shapes.specs.Table.{shape_of};
 ghost use Rattle.linkinfo_table.specs.FamilyMeaning.{alike_by, meaning_by, memory_by};
@@ -226,9 +227,7 @@ pub fn row_emit_payload<F: RowFamily>(value: &F, buffer: &mut [u8]) -> usize
     requires custom { F.is_custom value.now ≡ false }
     requires fits { Fits (F.canonical value.now) }
     requires room { length (F.canonical value.now).value ≤ length buffer.old }
-    ensures taken { result ≡ length (F.canonical value.now).value }
-    ensures written { buffer.new
-        ≡ (F.canonical value.now).value ++ drop (length (F.canonical value.now).value) buffer.old }
+    ensures { Writes (F.canonical value.now).value buffer.old buffer.new result }
 {
     match value.to_encodable() {
         Encodable::Typed(_, shape, datum) => match datum_len(shape, &datum) {

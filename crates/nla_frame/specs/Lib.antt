@@ -11,3 +11,4 @@ pub mod Pairs
 pub mod Payload
 pub mod Same
 pub mod Walk
+pub mod Writing

@@ -10,6 +10,7 @@ ghost use Rattle.nla_frame.specs.Attribute.{
   canonical_string,
   list_string,
 };
+ghost use Rattle.nla_frame.specs.Writing.{Writes, WritesAttribute};
 
 use crate::traits::Nla;
 
@@ -38,10 +39,7 @@ pub fn fitting(len: usize) -> Option<usize>
 pub fn write_attribute<T: Nla>(item: &T, buffer: &mut [u8]) -> usize
     requires fits { Fits (T.attribute item.now) }
     requires room { buffer_len_of (T.attribute item.now) ≤ length buffer.old }
-    ensures taken { result ≡ buffer_len_of (T.attribute item.now) }
-    ensures written { buffer.new
-        ≡ canonical_string (T.attribute item.now)
-        ++ drop (buffer_len_of (T.attribute item.now)) buffer.old }
+    ensures { WritesAttribute (T.attribute item.now) buffer.old buffer.new result }
 {
     let len = item.emit_payload(&mut buffer[4..]);
     write_frame(buffer, item.kind(), len);
@@ -71,8 +69,7 @@ pub fn write_frame(buffer: &mut [u8], kind: u16, len: usize)
 #[inline(always)]
 pub fn write_bytes(bytes: &[u8], buffer: &mut [u8]) -> usize
     requires { length bytes.now ≤ length buffer.old }
-    ensures taken { result ≡ length bytes.now }
-    ensures written { buffer.new ≡ bytes.now ++ drop (length bytes.now) buffer.old }
+    ensures { Writes bytes.now buffer.old buffer.new result }
 {
     let len = bytes.len();
     buffer[..len].copy_from_slice(bytes);
@@ -88,10 +85,8 @@ pub fn write_bytes(bytes: &[u8], buffer: &mut [u8]) -> usize
 pub fn write_bytes_attribute(kind: u16, value: &[u8], buffer: &mut [u8]) -> usize
     requires fits { length value.now ≤ 65531 }
     requires room { buffer_len_of (record { kind = kind; value = value.now }) ≤ length buffer.old }
-    ensures taken { result ≡ buffer_len_of (record { kind = kind; value = value.now }) }
-    ensures written { buffer.new
-        ≡ canonical_string (record { kind = kind; value = value.now })
-        ++ drop (buffer_len_of (record { kind = kind; value = value.now })) buffer.old }
+    ensures { WritesAttribute (record { kind = kind; value = value.now })
+        buffer.old buffer.new result }
 {
     let len = write_bytes(value, &mut buffer[4..]);
     write_frame(buffer, kind, len);
@@ -142,10 +137,7 @@ pub fn nlas_buffer_len<T: Nla>(items: &[T]) -> usize
 pub fn write_attributes<T: Nla>(items: &[T], buffer: &mut [u8]) -> usize
     requires fits { ListFits (map T.attribute items.now) }
     requires room { length (list_string (map T.attribute items.now)) ≤ length buffer.old }
-    ensures taken { result ≡ length (list_string (map T.attribute items.now)) }
-    ensures written { buffer.new
-        ≡ list_string (map T.attribute items.now)
-        ++ drop (length (list_string (map T.attribute items.now))) buffer.old }
+    ensures { Writes (list_string (map T.attribute items.now)) buffer.old buffer.new result }
 {
     let mut place: usize = 0;
     for item in items {

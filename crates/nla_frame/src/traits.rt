@@ -16,6 +16,7 @@ ghost use Rattle.std.specs.Prelude.{
 ghost use Rattle.nla_frame.specs.Answers.{CertainUnless, Gives};
 ghost use Rattle.nla_frame.specs.Attribute.{Attribute, Fits, buffer_len_of, canonical_string};
 ghost use Rattle.nla_frame.specs.declared.error.DecodeError.{DecodeError};
+ghost use Rattle.nla_frame.specs.Writing.{Writes};
 
 use crate::emission::write_frame;
 use crate::error::DecodeError;
@@ -59,9 +60,7 @@ pub trait Nla {
     fn emit_payload(&self, buffer: &mut [u8]) -> usize
         requires fits { Fits (attribute self.now) }
         requires room { length (attribute self.now).value ≤ length buffer.old }
-        ensures taken { result ≡ length (attribute self.now).value }
-        ensures written { buffer.new
-            ≡ (attribute self.now).value ++ drop (length (attribute self.now).value) buffer.old }
+        ensures { Writes (attribute self.now).value buffer.old buffer.new result }
     {
         let len = self.value_len();
         self.emit_value(&mut buffer[..len]);

@@ -12,9 +12,7 @@ macro_rules! read {
         )?)
     };
     (first($variant:path, $nla:ty, $ctx:expr) ($payload:expr, $count:expr)) => {
-        $variant(crate::layers::data::reading::read_first(
-            $payload, $ctx, $count,
-        )?)
+        $variant(crate::layers::table::first_read($payload, $ctx, $count)?)
     };
     (bytes($variant:path) ($payload:expr, $count:expr)) => {
         $variant(crate::layers::nla_frame::Bytes::copy_of($payload)?)

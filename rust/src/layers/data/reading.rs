@@ -1,7 +1,7 @@
-//! Payloads read as a list of attributes, or as their first attribute.
+//! Payloads read as a list of attributes.
 
 use crate::layers::nla_frame::{DecodeError, HeaderCount, Nlas};
-use crate::layers::table::{LinkFamily, first_read, list_read};
+use crate::layers::table::{LinkFamily, list_read};
 
 /// Parses a payload as a list of attributes of one family.
 pub(crate) fn read_nlas<F: LinkFamily>(
@@ -10,13 +10,4 @@ pub(crate) fn read_nlas<F: LinkFamily>(
     count: &mut HeaderCount,
 ) -> Result<Nlas<F>, DecodeError> {
     Ok(Nlas::new(list_read(payload, ctx, count)?))
-}
-
-/// Parses the first attribute of a payload, of one family, and ignores the rest.
-pub(crate) fn read_first<F: LinkFamily>(
-    payload: &[u8],
-    ctx: F::Context,
-    count: &mut HeaderCount,
-) -> Result<F, DecodeError> {
-    first_read(payload, ctx, count)
 }

@@ -2,9 +2,8 @@
 //! set: the traits to implement, the calls that follow from a table, and the writers of numbers and
 //! attributes.
 
-// Every type of peer has `DataFamilies` and every family `ListedFamily`: they are for contracts
-// alone, as `PlainFamilies` and `Plain` are.
-pub use crate::layers::data::{DataFamilies, Plain, PlainFamilies};
+// Every family has `ListedFamily`: it is for contracts alone, as `PlainFamilies` and `Plain` are.
+pub use crate::layers::data::{Plain, PlainFamilies};
 pub use crate::layers::nla_frame::{
     emit_i32, emit_u16, emit_u16_be, emit_u32, emit_u32_be, emit_u64, emit_u64_be, fitting,
     write_attribute, write_attributes, write_bytes, write_bytes_attribute, write_frame,

@@ -1,7 +1,6 @@
 -- The total of what the walk has visited, after each step and at its end.
 use Rattle.std.proofs.Common.{sym, ap, ◌∙◌, rules, arith}
 use Rattle.nla_frame.specs.Answers.{verdict}
-use Rattle.linkinfo_data.specs.PeerFamilies.{families_of}
 use Rattle.linkinfo.proofs.Steps.{checked_error, checked_value, entered, stopped}
 use Rattle.linkinfo.proofs.Writing.{measured_end, measured_step}
 use Rattle.linkinfo.proofs.canonical_into.rest_measure.Goals as goal
@@ -9,7 +8,7 @@ use Rattle.linkinfo.proofs.canonical_into.rest_measure.Goals as goal
 pub returns-in_err-nla : goal.returns-in_err-nla
 returns-in_err-nla g c =
     let stop =
-    stopped (families_of g.row.P g.P.LinkPeer) _ _ _
+    stopped g.P.LinkPeer _ _ _
     (rw c.in_err-nla.was at c.in-Some.ensures.step) in
     let same = sym c.loop-next.invariant.answer ∙ ap verdict stop.values in
     search rules
@@ -17,7 +16,7 @@ returns-in_err-nla g c =
 pub returns-in_err-len : goal.returns-in_err-len
 returns-in_err-len g c =
     let step =
-    entered (families_of g.row.P g.P.LinkPeer) _ _ _ _
+    entered g.P.LinkPeer _ _ _ _
     (rw c.in_ok-nla.was at c.in-Some.ensures.step) in
     let same =
     checked_error _ _ _ _ _ c.loop-next.invariant.answer step.values
@@ -26,7 +25,7 @@ returns-in_err-len g c =
 
 pub loop-next-preserved : goal.loop-next-preserved
 loop-next-preserved g c =
-    let peer = families_of g.row.P g.P.LinkPeer in
+    let peer = g.P.LinkPeer in
     let step = entered peer _ _ _ _ (rw c.in_ok-nla.was at c.in-Some.ensures.step) in
     let inv = c.loop-next.invariant in
     let measured = c.in_ok-len.ensures in
@@ -40,12 +39,12 @@ loop-next-preserved g c =
 pub loop-next-smaller : goal.loop-next-smaller
 loop-next-smaller g c =
     let step =
-    entered (families_of g.row.P g.P.LinkPeer) _ _ _ _
+    entered g.P.LinkPeer _ _ _ _
     (rw c.in_ok-nla.was at c.in-Some.ensures.step) in
     omega (arith, step.room)
 
 pub returns : goal.returns
 returns g c =
     let inv = c.loop-next.invariant in
-    measured_end (families_of g.row.P g.P.LinkPeer) c.loop-next.walk _ _
+    measured_end g.P.LinkPeer c.loop-next.walk _ _
     c.in_default.ensures.step.1 inv.answer inv.so_far

@@ -3,7 +3,6 @@ use Rattle.std.specs.Prelude.{IsOk}
 use Rattle.nla_frame.specs.Answers.{verdict}
 use Rattle.nla_frame.specs.Canonical.{attributes_for}
 use Rattle.nla_frame.specs.NlaItems.{nla_items}
-use Rattle.linkinfo_data.specs.PeerFamilies.{families_of}
 use Rattle.linkinfo_table.proofs.Measuring.{Remains}
 use Rattle.linkinfo.specs.Items.{link_attribute}
 use Rattle.linkinfo.specs.Strings.{values_from}
@@ -12,7 +11,7 @@ use Rattle.linkinfo.proofs.canonical_into.rest_measure.Given as goal
 
 abbrev pub invariant-loop-next : goal.invariant-loop-next
 invariant-loop-next g l =
-    let peer = families_of g.row.P g.P.LinkPeer in
+    let peer = g.P.LinkPeer in
     let first = l.initial.walk in
     let all = values_from peer first.kinds (nla_items (left first)) in
     let now = values_from peer l.walk.kinds (nla_items (left l.walk)) in

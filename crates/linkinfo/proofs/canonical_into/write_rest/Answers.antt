@@ -2,7 +2,6 @@ use Rattle.std.proofs.Common.{◌-◌, List, length, refl, subst, ap, arith, rul
 use Rattle.std.specs.List.{AllByRecursion}
 use Rattle.nla_frame.specs.Attribute.{Attribute, Fits, list_string}
 use Rattle.nla_frame.proofs.Emitting.{all_written}
-use Rattle.linkinfo_data.specs.PeerFamilies.{families_of}
 use Rattle.linkinfo.specs.Items.{written_attribute}
 use Rattle.linkinfo.proofs.Writing.{
   left_of,
@@ -16,26 +15,26 @@ use Rattle.linkinfo.proofs.canonical_into.write_rest.Goals as goal
 
 pub unwrap-nla-requires : goal.unwrap-nla-requires
 unwrap-nla-requires g c =
-    walk_goes_on (families_of g.row.P g.P.LinkPeer) _ _ c.in-Some.next c.in-Some.ensures.step
+    walk_goes_on g.P.LinkPeer _ _ c.in-Some.next c.in-Some.ensures.step
     c.loop-next.invariant.accepted
 
 pub write_item-place-requires-clause-accepted : goal.write_item-place-requires-clause-accepted
 write_item-place-requires-clause-accepted g c =
-    (walk_writes (families_of g.row.P g.P.LinkPeer) c.families_lawful.ensures _ _ c.in-Some.next
+    (walk_writes g.P.LinkPeer c.families_lawful.ensures _ _ c.in-Some.next
     c.unwrap-nla.result (search rules) c.in-Some.ensures.step
     c.loop-next.invariant.accepted).accepted
 
 pub write_item-place-requires-clause-fits : goal.write_item-place-requires-clause-fits
 write_item-place-requires-clause-fits g c =
     let step =
-    walk_writes (families_of g.row.P g.P.LinkPeer) c.families_lawful.ensures _ _ c.in-Some.next
+    walk_writes g.P.LinkPeer c.families_lawful.ensures _ _ c.in-Some.next
     c.unwrap-nla.result (search rules) c.in-Some.ensures.step c.loop-next.invariant.accepted in
     (subst (λ (attributes : List Attribute). AllByRecursion Fits attributes) step.whole
     c.loop-next.invariant.each).0
 
 pub write_item-place-requires-clause-room : goal.write_item-place-requires-clause-room
 write_item-place-requires-clause-room g c =
-    let peer = families_of g.row.P g.P.LinkPeer in
+    let peer = g.P.LinkPeer in
     let step =
     walk_writes peer c.families_lawful.ensures _ _ c.in-Some.next c.unwrap-nla.result (search rules)
     c.in-Some.ensures.step c.loop-next.invariant.accepted in
@@ -47,7 +46,7 @@ write_item-place-requires-clause-room g c =
 
 pub loop-next-preserved : goal.loop-next-preserved
 loop-next-preserved g c =
-    let peer = families_of g.row.P g.P.LinkPeer in
+    let peer = g.P.LinkPeer in
     let buffer = c.loop-next.buffer in
     let at = c.loop-next.place in
     let step =
@@ -71,7 +70,7 @@ loop-next-preserved g c =
 
 pub returns : goal.returns
 returns g c =
-    let peer = families_of g.row.P g.P.LinkPeer in
+    let peer = g.P.LinkPeer in
     let end =
     walk_ends peer c.loop-next.walk c.advance.new.self c.advance.result c.advance.ensures.step
     c.in_default.is in

@@ -5,7 +5,6 @@ use Rattle.nla_frame.specs.Attribute.{Fits, list_string}
 use Rattle.nla_frame.specs.Canonical.{attributes_for}
 use Rattle.nla_frame.specs.NlaItems.{nla_items}
 use Rattle.nla_frame.proofs.Emitting.{Written}
-use Rattle.linkinfo_data.specs.PeerFamilies.{families_of}
 use Rattle.linkinfo.specs.Items.{link_attribute}
 use Rattle.linkinfo.specs.Strings.{values_from}
 use Rattle.linkinfo.specs.Walks.{left}
@@ -13,7 +12,7 @@ use Rattle.linkinfo.proofs.canonical_into.write_rest.Given as goal
 
 abbrev pub invariant-loop-next : goal.invariant-loop-next
 invariant-loop-next g l =
-    let peer = families_of g.row.P g.P.LinkPeer in
+    let peer = g.P.LinkPeer in
     let first = l.initial.walk in
     let all =
     attributes_for (link_attribute peer) (values_from peer first.kinds (nla_items (left first))) in

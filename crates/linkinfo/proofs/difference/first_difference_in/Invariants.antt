@@ -4,21 +4,20 @@ use Rattle.nla_frame.specs.NlaItems.{nla_items}
 use Rattle.nla_frame.specs.declared.error.Family.TheVariants as family
 use Rattle.linkinfo_table.proofs.Lasts.{left_of}
 use Rattle.linkinfo_data.specs.Difference.{pairs_difference}
-use Rattle.linkinfo_data.specs.PeerFamilies.{families_of}
 use Rattle.linkinfo.specs.Difference.{link_difference, strings_difference}
 use Rattle.linkinfo.specs.Strings.{next_kinds, values_from}
 use Rattle.linkinfo.proofs.difference.first_difference_in.Given as goal
 
 abbrev pub invariant-loop-nla : goal.invariant-loop-nla
 invariant-loop-nla g l =
-    let families = families_of g.row.P g.P.LinkPeer in
+    let peer = g.P.LinkPeer in
     record {
-      first : IsOk (values_from families l.kinds (nla_items l.x));
-      second : IsOk (values_from families l.kinds (nla_items l.y));
+      first : IsOk (values_from peer l.kinds (nla_items l.x));
+      second : IsOk (values_from peer l.kinds (nla_items l.y));
       left :
-          pairs_difference family.LinkInfo (link_difference families) next_kinds l.kinds
+          pairs_difference family.LinkInfo (link_difference peer) next_kinds l.kinds
           (left_of l.a l.x) (left_of l.b l.y)
-          ≡ strings_difference families l.a l.b;
+          ≡ strings_difference peer l.a l.b;
       room : 4 * l.count + (length l.x + length l.y) ≤ length l.a + length l.b;
       left_a : length l.x ≤ length l.a;
       left_b : length l.y ≤ length l.b;

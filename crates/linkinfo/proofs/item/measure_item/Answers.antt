@@ -11,7 +11,6 @@ use Rattle.linkinfo.specs.Items.{link_other, link_row}
 use Rattle.linkinfo.specs.Roles.{kinds_after_role, no_kinds}
 use Rattle.linkinfo.proofs.Naming.{entered_name, name_checked, with_name_ok}
 use Rattle.linkinfo.proofs.item.measure_item.Goals as goal
-use Rattle.linkinfo_data.specs.PeerFamilies.{families_of}
 
 pub shape_canonical_len-requires-clause-accepted : goal.shape_canonical_len-requires-clause-accepted
 shape_canonical_len-requires-clause-accepted g c =
@@ -30,7 +29,7 @@ shape_canonical_len-requires-in-PortKind-clause-accepted g c =
 
 pub returns-in-Kind : goal.returns-in-Kind
 returns-in-Kind g c =
-    let peer = families_of g.row.P g.P.LinkPeer in
+    let peer = g.P.LinkPeer in
     let checked =
     name_checked (λ name. info.Kind (kind_of_name name)) _
     (with_name_ok _ _ (subst (λ (r : Role). IsOk (kinds_after_role r no_kinds c.args.nla.now))
@@ -41,7 +40,7 @@ returns-in-Kind g c =
 
 pub returns-in-PortKind : goal.returns-in-PortKind
 returns-in-PortKind g c =
-    let peer = families_of g.row.P g.P.LinkPeer in
+    let peer = g.P.LinkPeer in
     let checked =
     name_checked (λ name. info.PortKind (port_kind_of_name name)) _
     (with_name_ok _ _ (subst (λ (r : Role). IsOk (kinds_after_role r no_kinds c.args.nla.now))

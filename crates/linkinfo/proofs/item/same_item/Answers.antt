@@ -1,5 +1,5 @@
 -- Two attributes are equivalent by their role if their payloads are.
-use Rattle.std.proofs.Common.{◌≡◌, ◌∙◌, ℕ, ◌+◌, Bool, List, sym, subst, arith}
+use Rattle.std.proofs.Common.{◌≡◌, ◌∙◌, ℕ, ◌+◌, Bool, List, ap, length, sym, subst, arith}
 use Rattle.std.specs.Prelude.{◌==◌, ◌&&◌, IsOk}
 use Rattle.std.specs.Bool.{OnTrue}
 use Rattle.nla_frame.specs.Attribute.{Attribute, masked}
@@ -9,9 +9,8 @@ use Rattle.linkinfo_numbers.specs.Kind.{kind_of_name}
 use Rattle.linkinfo_numbers.specs.PortKind.{port_kind_of_name}
 use Rattle.linkinfo_table.specs.Rows.{row_alike, row_headers, row_meaning}
 use Rattle.linkinfo_data.specs.Data.{data_of}
-use Rattle.linkinfo_data.specs.Families.{Families}
+use Rattle.linkinfo_table.specs.declared.peer.LinkPeer.{Ghosts}
 use Rattle.linkinfo_data.specs.Payloads.{Payload}
-use Rattle.linkinfo_data.specs.PeerFamilies.{families_of}
 use Rattle.linkinfo.specs.declared.link_info.LinkInfoOf.TheVariants as info
 use Rattle.linkinfo.specs.declared.role.Role.{Role}
 use Rattle.linkinfo.specs.Items.{link_other, link_row}
@@ -19,7 +18,7 @@ use Rattle.linkinfo.proofs.Naming.{accepted_name}
 use Rattle.linkinfo.proofs.item.same_item.Goals as goal
 
 -- what holds by the role that was found holds by the role that was given
-module _ {P : Type 0} (peer : Families P) (r s : Role) (is : r ≡ s) (a b : Attribute) (x : Bool)
+module _ {P : Type 0} (peer : Ghosts P) (r s : Role) (is : r ≡ s) (a b : Attribute) (x : Bool)
   where
     alike_by_role : x ≡ row_alike (link_row peer s) a b → x ≡ row_alike (link_row peer r) a b
     alike_by_role = subst (λ (t : Role). x ≡ row_alike (link_row peer t) a b) (sym is)
@@ -52,7 +51,7 @@ pub shape_same-requires-clause-first : goal.shape_same-requires-clause-first
 shape_same-requires-clause-first g c =
     accepted_name (λ name. info.Kind (kind_of_name name)) c.args.a.now _ c.value.ensures.value
     (subst (λ (r : Role).
-    IsOk (row_meaning family.LinkInfo link_other (link_row (families_of g.row.P g.P.LinkPeer) r)
+    IsOk (row_meaning family.LinkInfo link_other (link_row g.P.LinkPeer r)
     c.args.a.now)) c.in-Kind.is c.requires.first)
 
 pub shape_same-requires-clause-second : goal.shape_same-requires-clause-second
@@ -60,7 +59,7 @@ shape_same-requires-clause-second g c =
     accepted_name (λ name. info.Kind (kind_of_name name)) c.args.b.now _
     c.value-then-same_kind.ensures.value
     (subst (λ (r : Role).
-    IsOk (row_meaning family.LinkInfo link_other (link_row (families_of g.row.P g.P.LinkPeer) r)
+    IsOk (row_meaning family.LinkInfo link_other (link_row g.P.LinkPeer r)
     c.args.b.now)) c.in-Kind.is
     (c.requires.second (sym c.kind.ensures ∙ c.if-same_kind.true ∙ c.kind-2.ensures)))
 
@@ -70,7 +69,7 @@ shape_same-requires-then-same_kind-4-clause-first g c =
     accepted_name (λ name. info.PortKind (port_kind_of_name name)) c.args.a.now _
     c.value-then-same_kind-4.ensures.value
     (subst (λ (r : Role).
-    IsOk (row_meaning family.LinkInfo link_other (link_row (families_of g.row.P g.P.LinkPeer) r)
+    IsOk (row_meaning family.LinkInfo link_other (link_row g.P.LinkPeer r)
     c.args.a.now)) c.in-PortKind.is c.requires.first)
 
 pub shape_same-requires-then-same_kind-4-clause-second :
@@ -79,23 +78,26 @@ shape_same-requires-then-same_kind-4-clause-second g c =
     accepted_name (λ name. info.PortKind (port_kind_of_name name)) c.args.b.now _
     c.value-then-same_kind-4-2.ensures.value
     (subst (λ (r : Role).
-    IsOk (row_meaning family.LinkInfo link_other (link_row (families_of g.row.P g.P.LinkPeer) r)
+    IsOk (row_meaning family.LinkInfo link_other (link_row g.P.LinkPeer r)
     c.args.b.now)) c.in-PortKind.is
     (c.requires.second (sym c.kind.ensures ∙ c.if-same_kind-4.true ∙ c.kind-2.ensures)))
 
-pub returns-then-same_kind-2-clause-same : goal.returns-then-same_kind-2-clause-same
-returns-then-same_kind-2-clause-same g c =
-    alike_by_role (families_of g.row.P g.P.LinkPeer) _ _ c.in-Data.is c.args.a.now c.args.b.now _
-    (alike_of c.args.a.now c.args.b.now _ _ _ _ c.kind.ensures c.kind-2.ensures
-    c.if-same_kind-2.true
-    (payloads_alike (data_of (families_of g.row.P g.P.LinkPeer)) _ _ c.family_of.ensures _ _ _ _
-    c.value-then-same_kind-2.ensures.value c.value-then-same_kind-2-2.ensures.value _
-    c.same_payloads.ensures.same))
-
-pub returns-then-same_kind-2-clause-counted : goal.returns-then-same_kind-2-clause-counted
-returns-then-same_kind-2-clause-counted g c =
-    counted_by_role (families_of g.row.P g.P.LinkPeer) _ _ c.in-Data.is c.args.a.now c.args.b.now
-    _ _ _
-    (payloads_counted (data_of (families_of g.row.P g.P.LinkPeer)) _ _ c.family_of.ensures _ _ _ _
-    c.value-then-same_kind-2.ensures.value c.value-then-same_kind-2-2.ensures.value _ _ _
-    c.same_payloads.ensures.counted)
+pub returns-then-same_kind-2 : goal.returns-then-same_kind-2
+returns-then-same_kind-2 g c =
+    let one = c.value-then-same_kind-2.ensures.value in
+    let other = c.value-then-same_kind-2-2.ensures.value in
+    let compared = c.same_payloads.ensures in
+    record {
+      same =
+          alike_by_role g.P.LinkPeer _ _ c.in-Data.is c.args.a.now c.args.b.now _
+          (alike_of c.args.a.now c.args.b.now _ _ _ _ c.kind.ensures c.kind-2.ensures
+          c.if-same_kind-2.true
+          (payloads_alike (data_of g.P.LinkPeer) _ _ c.family_of.ensures _ _ _ _ one other _
+          compared.same));
+      counted =
+          counted_by_role g.P.LinkPeer _ _ c.in-Data.is c.args.a.now c.args.b.now _ _ _
+          (payloads_counted (data_of g.P.LinkPeer) _ _ c.family_of.ensures _ _ _ _ one other _ _ _
+          compared.counted);
+      rises = compared.rises;
+      quarter = omega (arith, compared.quarter, ap length one, ap length other);
+    }

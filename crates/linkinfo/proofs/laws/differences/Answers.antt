@@ -1,8 +1,7 @@
-use Rattle.linkinfo_data.specs.PeerFamilies.{families_of}
 use Rattle.linkinfo_data.proofs.Differences.{none_where}
 use Rattle.linkinfo.proofs.Differences.{strings_none}
 use Rattle.linkinfo.proofs.laws.differences.Goals as goal
 
 pub returns : goal.returns
 returns g c a b first second =
-    none_where _ _ (strings_none (families_of g.row.P g.P.LinkPeer) a b first second)
+    none_where _ _ (strings_none g.P.LinkPeer a b first second)

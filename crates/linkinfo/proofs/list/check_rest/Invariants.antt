@@ -4,11 +4,10 @@ use Rattle.nla_frame.specs.NlaItems.{nla_items}
 use Rattle.linkinfo.specs.Strings.{headers_from, values_from}
 use Rattle.linkinfo.specs.Walks.{left}
 use Rattle.linkinfo.proofs.list.check_rest.Given as goal
-use Rattle.linkinfo_data.specs.PeerFamilies.{families_of}
 
 abbrev pub invariant-loop-next : goal.invariant-loop-next
 invariant-loop-next g l =
-    let peer = families_of g.row.P g.P.LinkPeer in
+    let peer = g.P.LinkPeer in
     let first = l.initial.walk in
     record {
       answer : verdict (values_from peer l.walk.kinds (nla_items (left l.walk)))

@@ -1,11 +1,10 @@
 use Rattle.linkinfo.proofs.Whole.{checked_no_memory}
 use Rattle.linkinfo.proofs.list.check_string.Goals as goal
-use Rattle.linkinfo_data.specs.PeerFamilies.{families_of}
 use Rattle.linkinfo.specs.Strings.{reading}
 
 pub returns-clause-no_memory : goal.returns-clause-no_memory
 unfolding reading
 returns-clause-no_memory g c =
     let answer = rw c.new-walk.ensures at c.check_rest-answer.ensures.answer in
-    checked_no_memory (families_of g.row.P g.P.LinkPeer) c.families_lawful.ensures c.args.bytes.now
+    checked_no_memory g.P.LinkPeer c.families_lawful.ensures c.args.bytes.now
     _ answer

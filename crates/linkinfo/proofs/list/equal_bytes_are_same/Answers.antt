@@ -1,10 +1,9 @@
 use Rattle.std.proofs.Common.{arith}
 use Rattle.linkinfo.proofs.Whole.{same_of_equal}
 use Rattle.linkinfo.proofs.list.equal_bytes_are_same.Goals as goal
-use Rattle.linkinfo_data.specs.PeerFamilies.{families_of}
 
 pub returns : goal.returns
 returns g c = λ equal accepted.
-    same_of_equal (families_of g.row.P g.P.LinkPeer) c.families_lawful.ensures c.args.a.now
+    same_of_equal g.P.LinkPeer c.families_lawful.ensures c.args.a.now
     c.args.b.now (λ i. omega (arith, c.type_inv.a i)) (λ i. omega (arith, c.type_inv.b i)) equal
     accepted

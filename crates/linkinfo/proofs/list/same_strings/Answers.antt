@@ -7,14 +7,13 @@ use Rattle.linkinfo.specs.declared.role.CurrentKinds.{CurrentKinds}
 use Rattle.linkinfo.specs.Strings.{values_from, headers_from, alike_from}
 use Rattle.linkinfo.proofs.Pairs.{paired, entered_is, apart, along, on_true}
 use Rattle.linkinfo.proofs.list.same_strings.Goals as goal
-use Rattle.linkinfo_data.specs.PeerFamilies.{families_of}
 
 pub same_item-requires-clause-first : goal.same_item-requires-clause-first
 same_item-requires-clause-first g c =
     let on_x = rw c.unwrap-p.ensures at c.in-Some.ensures in
     let on_y = rw c.unwrap-q.ensures at c.in-Some-next_attribute.ensures in
     let inv = c.loop-next.invariant in
-    (paired (families_of g.row.P g.P.LinkPeer) _ _ _ _ _ _ _ _ _ c.role_of-role.ensures
+    (paired g.P.LinkPeer _ _ _ _ _ _ _ _ _ c.role_of-role.ensures
     c.kind.ensures on_x.nla_items_are on_y.nla_items_are inv.first inv.second).first
 
 pub same_item-requires-clause-second : goal.same_item-requires-clause-second
@@ -22,7 +21,7 @@ same_item-requires-clause-second g c =
     let on_x = rw c.unwrap-p.ensures at c.in-Some.ensures in
     let on_y = rw c.unwrap-q.ensures at c.in-Some-next_attribute.ensures in
     let inv = c.loop-next.invariant in
-    (paired (families_of g.row.P g.P.LinkPeer) _ _ _ _ _ _ _ _ _ c.role_of-role.ensures
+    (paired g.P.LinkPeer _ _ _ _ _ _ _ _ _ c.role_of-role.ensures
     c.kind.ensures on_x.nla_items_are on_y.nla_items_are inv.first inv.second).second
 
 pub unwrap-kinds-requires : goal.unwrap-kinds-requires
@@ -31,21 +30,36 @@ unwrap-kinds-requires g c =
     let on_y = rw c.unwrap-q.ensures at c.in-Some-next_attribute.ensures in
     let inv = c.loop-next.invariant in
     let pair =
-    paired (families_of g.row.P g.P.LinkPeer) _ _ _ _ _ _ _ _ _ c.role_of-role.ensures
+    paired g.P.LinkPeer _ _ _ _ _ _ _ _ _ c.role_of-role.ensures
     c.kind.ensures on_x.nla_items_are on_y.nla_items_are inv.first inv.second in
     subst (λ (r : Result CurrentKinds DecodeError). IsOk r) (sym c.kinds_after.ensures) pair.clean
 
-pub returns-then-not-same_item-clause-same : goal.returns-then-not-same_item-clause-same
-returns-then-not-same_item-clause-same g c =
+pub returns-then-not-same_item : goal.returns-then-not-same_item
+returns-then-not-same_item g c =
     let on_x = rw c.unwrap-p.ensures at c.in-Some.ensures in
     let on_y = rw c.unwrap-q.ensures at c.in-Some-next_attribute.ensures in
     let inv = c.loop-next.invariant in
     let pair =
-    paired (families_of g.row.P g.P.LinkPeer) _ _ _ _ _ _ _ _ _ c.role_of-role.ensures
+    paired g.P.LinkPeer _ _ _ _ _ _ _ _ _ c.role_of-role.ensures
     c.kind.ensures on_x.nla_items_are on_y.nla_items_are inv.first inv.second in
-    sym (sym inv.same
-    ∙ pair.same
-    ∙ apart _ _ (sym c.same_item.ensures.same ∙ c.if-not-same_item.true))
+    let compared = c.same_item.ensures in
+    record {
+      same =
+          sym (sym inv.same
+          ∙ pair.same
+          ∙ apart _ _ (sym compared.same ∙ c.if-not-same_item.true));
+      counted = tt;
+      rises = omega (arith, inv.rises, on_x.counted, on_y.counted, compared.rises);
+      quarter = omega (
+        arith,
+        inv.room,
+        on_x.counted,
+        on_y.counted,
+        on_x.room,
+        on_y.room,
+        compared.quarter,
+      );
+    }
 
 pub loop-next-preserved : goal.loop-next-preserved
 loop-next-preserved g c =
@@ -53,9 +67,9 @@ loop-next-preserved g c =
     let on_y = rw c.unwrap-q.ensures at c.in-Some-next_attribute.ensures in
     let inv = c.loop-next.invariant in
     let pair =
-    paired (families_of g.row.P g.P.LinkPeer) _ _ _ _ _ _ _ _ _ c.role_of-role.ensures
+    paired g.P.LinkPeer _ _ _ _ _ _ _ _ _ c.role_of-role.ensures
     c.kind.ensures on_x.nla_items_are on_y.nla_items_are inv.first inv.second in
-    let peer = families_of g.row.P g.P.LinkPeer in
+    let peer = g.P.LinkPeer in
     let alike = sym c.same_item.ensures.same ∙ c.if-not-same_item.false in
     let kinds =
     entered_is peer _ _ _ _ _ c.role_of-role.ensures c.kind.ensures
@@ -117,29 +131,3 @@ pub loop-next-smaller : goal.loop-next-smaller
 loop-next-smaller g c =
     let on_x = rw c.unwrap-p.ensures at c.in-Some.ensures in
     omega (arith, on_x.room)
-
-pub returns-then-not-same_item-clause-counted : goal.returns-then-not-same_item-clause-counted
-returns-then-not-same_item-clause-counted g c =
-    tt
-
-pub returns-then-not-same_item-clause-rises : goal.returns-then-not-same_item-clause-rises
-returns-then-not-same_item-clause-rises g c =
-    let on_x = rw c.unwrap-p.ensures at c.in-Some.ensures in
-    let on_y = rw c.unwrap-q.ensures at c.in-Some-next_attribute.ensures in
-    let inv = c.loop-next.invariant in
-    omega (arith, inv.rises, on_x.counted, on_y.counted, c.same_item.ensures.rises)
-
-pub returns-then-not-same_item-clause-quarter : goal.returns-then-not-same_item-clause-quarter
-returns-then-not-same_item-clause-quarter g c =
-    let on_x = rw c.unwrap-p.ensures at c.in-Some.ensures in
-    let on_y = rw c.unwrap-q.ensures at c.in-Some-next_attribute.ensures in
-    let inv = c.loop-next.invariant in
-    omega (
-      arith,
-      inv.room,
-      on_x.counted,
-      on_y.counted,
-      on_x.room,
-      on_y.room,
-      c.same_item.ensures.quarter,
-    )

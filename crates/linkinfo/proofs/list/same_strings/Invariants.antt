@@ -4,11 +4,10 @@ use Rattle.nla_frame.specs.NlaItems.{nla_items}
 use Rattle.linkinfo.specs.Roles.{no_kinds}
 use Rattle.linkinfo.specs.Strings.{alike_from, headers_from, values_from}
 use Rattle.linkinfo.proofs.list.same_strings.Given as goal
-use Rattle.linkinfo_data.specs.PeerFamilies.{families_of}
 
 abbrev pub invariant-loop-next : goal.invariant-loop-next
 invariant-loop-next g l =
-    let peer = families_of g.row.P g.P.LinkPeer in
+    let peer = g.P.LinkPeer in
     record {
       first : IsOk (values_from peer l.kinds (nla_items l.x));
       second : IsOk (values_from peer l.kinds (nla_items l.y));

@@ -11,7 +11,6 @@ use Rattle.linkinfo.proofs.Placing.{
   stops_at,
 }
 use Rattle.linkinfo.proofs.placed.check_at_of.Goals as goal
-use Rattle.linkinfo_data.specs.PeerFamilies.{families_of}
 
 pub loop-next-init : goal.loop-next-init
 loop-next-init g c =
@@ -19,8 +18,8 @@ loop-next-init g c =
     let s = c.args.bytes.now in
     record {
       went =
-          subst (λ (w : LinkWalk). Went (families_of g.row.P g.P.LinkPeer) s w) (sym start)
-          (begins (families_of g.row.P g.P.LinkPeer) s);
+          subst (λ (w : LinkWalk). Went g.P.LinkPeer s w) (sym start)
+          (begins g.P.LinkPeer s);
       place = ap place_of (sym start);
       room =
           subst (λ (w : LinkWalk). 4 * (c.new-count.result + w.attributes.examined)
@@ -33,7 +32,7 @@ loop-next-preserved g c =
     let inv = c.loop-next.invariant in
     record {
       went =
-          goes_on (families_of g.row.P g.P.LinkPeer) _ _ _ _ _ inv.went enters
+          goes_on g.P.LinkPeer _ _ _ _ _ inv.went enters
           c.in-Some.ensures.source c.in-Ok-check_item.ensures.answer;
       place = c.place-place.ensures;
       room = omega (
@@ -47,22 +46,22 @@ loop-next-preserved g c =
 
 pub returns-in-Err-check_item-clause-inner : goal.returns-in-Err-check_item-clause-inner
 returns-in-Err-check_item-clause-inner g c =
-    let families = families_of g.row.P g.P.LinkPeer in
+    let peer = g.P.LinkPeer in
     let enters = rw c.in-Ok.is at c.in-Some.ensures.step in
     let inv = c.loop-next.invariant in
     let at =
-    inside_at families _ _ _ _ _ _ (λ i. omega (arith, c.type_inv.bytes i)) inv.went enters
+    inside_at peer _ _ _ _ _ _ (λ i. omega (arith, c.type_inv.bytes i)) inv.went enters
     c.in-Err-check_item.ensures.answer in
     rw (inv.place, c.error_in.ensures.offset, enters.role) at
 
 pub returns-in-Err-check_item-clause-place : goal.returns-in-Err-check_item-clause-place
 returns-in-Err-check_item-clause-place g c =
-    rejected_at (families_of g.row.P g.P.LinkPeer) c.args.bytes.now c.in-Err-check_item.error _ _
+    rejected_at g.P.LinkPeer c.args.bytes.now c.in-Err-check_item.error _ _
     (returns-in-Err-check_item-clause-inner g c)
 
 pub returns-in-Err-check_item-clause-answer : goal.returns-in-Err-check_item-clause-answer
 returns-in-Err-check_item-clause-answer g c =
-    reads_error (families_of g.row.P g.P.LinkPeer) c.args.bytes.now _
+    reads_error g.P.LinkPeer c.args.bytes.now _
     (λ i. omega (arith, c.type_inv.bytes i)) (returns-in-Err-check_item-clause-place g c).0
 
 pub returns-in-Err-clause-inner : goal.returns-in-Err-clause-inner
@@ -70,21 +69,21 @@ returns-in-Err-clause-inner g c =
     let stops = rw c.in-Err.is at c.in-Some.ensures.step in
     let inv = c.loop-next.invariant in
     let at =
-    stops_at (families_of g.row.P g.P.LinkPeer) _ _ _ _ (λ i. omega (arith, c.type_inv.bytes i))
+    stops_at g.P.LinkPeer _ _ _ _ (λ i. omega (arith, c.type_inv.bytes i))
     inv.went stops in
     rw inv.place at
 
 pub returns-in-Err-clause-place : goal.returns-in-Err-clause-place
 returns-in-Err-clause-place g c =
-    rejected_at (families_of g.row.P g.P.LinkPeer) c.args.bytes.now c.in-Err.error _ _
+    rejected_at g.P.LinkPeer c.args.bytes.now c.in-Err.error _ _
     (returns-in-Err-clause-inner g c)
 
 pub returns-in-Err-clause-answer : goal.returns-in-Err-clause-answer
 returns-in-Err-clause-answer g c =
-    reads_error (families_of g.row.P g.P.LinkPeer) c.args.bytes.now _
+    reads_error g.P.LinkPeer c.args.bytes.now _
     (λ i. omega (arith, c.type_inv.bytes i)) (returns-in-Err-clause-place g c).0
 
 pub returns-clause-answer : goal.returns-clause-answer
 returns-clause-answer g c =
-    ends (families_of g.row.P g.P.LinkPeer) c.args.bytes.now c.loop-next.walk
+    ends g.P.LinkPeer c.args.bytes.now c.loop-next.walk
     c.loop-next.invariant.went c.in_default.ensures.step.1

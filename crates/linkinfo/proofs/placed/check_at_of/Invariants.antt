@@ -2,11 +2,10 @@ use Rattle.std.proofs.Common.{◌≡◌, ◌+◌, ◌*◌, ◌≤◌, length}
 use Rattle.linkinfo.specs.Walks.{left, place_of}
 use Rattle.linkinfo.proofs.Placing.{Went}
 use Rattle.linkinfo.proofs.placed.check_at_of.Given as goal
-use Rattle.linkinfo_data.specs.PeerFamilies.{families_of}
 
 abbrev pub invariant-loop-next : goal.invariant-loop-next
 invariant-loop-next g l = record {
-  went : Went (families_of g.row.P g.P.LinkPeer) l.bytes l.walk;
+  went : Went g.P.LinkPeer l.bytes l.walk;
   place : l.place ≡ place_of l.walk;
   room : 4 * (l.count + l.walk.attributes.examined) + length (left l.walk) ≤ length l.bytes;
 }

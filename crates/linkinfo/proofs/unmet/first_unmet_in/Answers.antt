@@ -1,6 +1,5 @@
 use Rattle.std.proofs.Common.{arith, ap, nat_lt, sym, ◌∙◌, Option}
 use Rattle.linkinfo_table.specs.Last.{attributes_of}
-use Rattle.linkinfo_data.specs.PeerFamilies.{families_of}
 use Rattle.linkinfo_data.specs.Unmet.{earlier, first_told}
 use Rattle.linkinfo_data.specs.declared.unmet.UnmetAt.{UnmetAt}
 use Rattle.linkinfo_data.proofs.Blocks.{next_block, none_below, unmet_in}
@@ -10,14 +9,14 @@ use Rattle.linkinfo.proofs.unmet.first_unmet_in.Goals as goal
 
 pub loop-block-init : goal.loop-block-init
 loop-block-init g c =
-    let families = families_of g.row.P g.P.LinkPeer in
-    let unmet = counted_unmet families c.args.have.now c.args.want.now in
+    let peer = g.P.LinkPeer in
+    let unmet = counted_unmet peer c.args.have.now c.args.want.now in
     record { first = sym (none_below unmet (attributes_of c.args.want.now)) }
 
 pub loop-block-preserved : goal.loop-block-preserved
 loop-block-preserved g c =
-    let families = families_of g.row.P g.P.LinkPeer in
-    let unmet = counted_unmet families c.args.have.now c.args.want.now in
+    let peer = g.P.LinkPeer in
+    let unmet = counted_unmet peer c.args.have.now c.args.want.now in
     let want = attributes_of c.args.want.now in
     record {
       first =
@@ -34,17 +33,17 @@ overflow_add-block g c = omega (arith, c.loop-block-test.true, c.types_end-end.e
 
 pub returns-in_err-first : goal.returns-in_err-first
 returns-in_err-first g c =
-    let families = families_of g.row.P g.P.LinkPeer in
+    let peer = g.P.LinkPeer in
     c.from_residual.ensures
     ∙ (ap unmet_in (sym c.in_err-first.was)
-    ∙ whole_list families c.args.have.now c.args.want.now c.loop-block.block c.loop-block.first
+    ∙ whole_list peer c.args.have.now c.args.want.now c.loop-block.block c.loop-block.first
     c.loop-block.invariant.first
     (omega (arith, c.loop-block-test.false, c.types_end-end.ensures.end)))
 
 pub returns : goal.returns
 returns g c =
-    let families = families_of g.row.P g.P.LinkPeer in
+    let peer = g.P.LinkPeer in
     ap unmet_in (sym c.in_ok-first.was)
-    ∙ whole_list families c.args.have.now c.args.want.now c.loop-block.block c.loop-block.first
+    ∙ whole_list peer c.args.have.now c.args.want.now c.loop-block.block c.loop-block.first
     c.loop-block.invariant.first
     (omega (arith, c.loop-block-test.false, c.types_end-end.ensures.end))

@@ -1,14 +1,13 @@
 use Rattle.std.proofs.Common.{◌≡◌, ◌-◌, nat_lt}
 use Rattle.linkinfo_table.specs.Last.{attributes_of}
-use Rattle.linkinfo_data.specs.PeerFamilies.{families_of}
 use Rattle.linkinfo_data.specs.Unmet.{first_told}
 use Rattle.linkinfo.specs.Unmet.{counted_unmet}
 use Rattle.linkinfo.proofs.unmet.first_unmet_in.Given as goal
 
 abbrev pub invariant-loop-block : goal.invariant-loop-block
 invariant-loop-block g l =
-    let families = families_of g.row.P g.P.LinkPeer in
-    let unmet = counted_unmet families l.have l.want in
+    let peer = g.P.LinkPeer in
+    let unmet = counted_unmet peer l.have l.want in
     record { first : l.first ≡ first_told (λ k. nat_lt k l.block) unmet (attributes_of l.want) }
 
 abbrev pub decreases-loop-block : goal.decreases-loop-block

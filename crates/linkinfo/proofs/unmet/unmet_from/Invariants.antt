@@ -2,7 +2,6 @@ use Rattle.std.specs.List.{AllByRecursion}
 use Rattle.std.proofs.Common.{◌≡◌, ◌*◌, ◌+◌, ◌≤◌, length}
 use Rattle.linkinfo_table.specs.Last.{attributes_of, covers}
 use Rattle.linkinfo_table.proofs.Lasts.{left_of}
-use Rattle.linkinfo_data.specs.PeerFamilies.{families_of}
 use Rattle.linkinfo_data.specs.Unmet.{first_told}
 use Rattle.linkinfo.specs.Unmet.{counted_unmet, link_at}
 use Rattle.linkinfo.specs.UnmetSteps.{IsAcceptedLink}
@@ -10,10 +9,10 @@ use Rattle.linkinfo.proofs.unmet.unmet_from.Given as goal
 
 abbrev pub invariant-loop-nla : goal.invariant-loop-nla
 invariant-loop-nla g l =
-    let families = families_of g.row.P g.P.LinkPeer in
-    let unmet = counted_unmet families l.have l.want in
+    let peer = g.P.LinkPeer in
+    let unmet = counted_unmet peer l.have l.want in
     record {
-      accepted : AllByRecursion (λ p. IsAcceptedLink families (link_at l.want p))
+      accepted : AllByRecursion (λ p. IsAcceptedLink peer (link_at l.want p))
           (left_of l.want l.rest);
       left :
           first_told (covers l.start) unmet (left_of l.want l.rest)

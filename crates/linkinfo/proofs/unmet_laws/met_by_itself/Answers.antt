@@ -1,4 +1,3 @@
-use Rattle.linkinfo_data.specs.PeerFamilies.{families_of}
 use Rattle.linkinfo.proofs.Meeting.{data_itself, string_itself}
 use Rattle.linkinfo.proofs.unmet_laws.met_by_itself.Goals as goal
 
@@ -6,4 +5,4 @@ pub returns-clause-data : goal.returns-clause-data
 returns-clause-data g c = λ name alike s. data_itself name alike s
 
 pub returns-clause-list : goal.returns-clause-list
-returns-clause-list g c = λ s. string_itself (families_of g.row.P g.P.LinkPeer) s
+returns-clause-list g c = λ s. string_itself g.P.LinkPeer s

@@ -1,4 +1,3 @@
-use Rattle.linkinfo_data.specs.PeerFamilies.{families_of}
 use Rattle.linkinfo.proofs.Meeting.{list_met, string_met}
 use Rattle.linkinfo.proofs.unmet_laws.met_by_last.Goals as goal
 
@@ -6,4 +5,4 @@ pub returns-clause-data : goal.returns-clause-data
 returns-clause-data g c = λ name alike have want. list_met name alike have want
 
 pub returns-clause-list : goal.returns-clause-list
-returns-clause-list g c = λ have want. string_met (families_of g.row.P g.P.LinkPeer) have want
+returns-clause-list g c = λ have want. string_met g.P.LinkPeer have want

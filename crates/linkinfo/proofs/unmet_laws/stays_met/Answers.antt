@@ -1,4 +1,3 @@
-use Rattle.linkinfo_data.specs.PeerFamilies.{families_of}
 use Rattle.linkinfo.proofs.MetInside.{inside_stays}
 use Rattle.linkinfo.proofs.MetStays.{data_stays, string_stays}
 use Rattle.linkinfo.proofs.unmet_laws.stays_met.Goals as goal
@@ -9,8 +8,8 @@ returns-clause-data g c = λ name alike have more want same e.
 
 pub returns-clause-list : goal.returns-clause-list
 returns-clause-list g c = λ have more want same e.
-    string_stays (families_of g.row.P g.P.LinkPeer) have more want same e
+    string_stays g.P.LinkPeer have more want same e
 
 pub returns-clause-inside : goal.returns-clause-inside
 returns-clause-inside g c = λ have more want gained e.
-    inside_stays (families_of g.row.P g.P.LinkPeer) have more want gained e
+    inside_stays g.P.LinkPeer have more want gained e

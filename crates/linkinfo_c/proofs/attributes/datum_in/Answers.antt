@@ -14,13 +14,12 @@ use Rattle.std.proofs.Common.{
   Option,
   Result,
   None,
-  Some,
 }
 use Rattle.std.specs.Option.{option_map}
 use Rattle.std.specs.Result.{result_ok}
 use Rattle.std.specs.Prelude.{IsTrue, ◌↔◌}
 use Rattle.nla_frame.specs.declared.error.Cause.{Cause}
-use Rattle.linkinfo_shapes.specs.Data.{ReadsAs, Value, reads, value_of}
+use Rattle.linkinfo_shapes.specs.Data.{ReadsAs, reads, value_of}
 use Rattle.linkinfo_shapes.specs.Shapes.{IsPlain}
 use Rattle.linkinfo_shapes.specs.declared.datum.Datum.{Datum}
 use Rattle.linkinfo_shapes.specs.declared.shape.Shape.{Shape}

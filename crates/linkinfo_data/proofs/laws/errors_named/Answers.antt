@@ -1,11 +1,11 @@
 use Rattle.std.specs.Prelude.{◌≡◌, Some}
 use Rattle.nla_frame.specs.declared.error.Family.TheVariants as family
 use Rattle.nla_frame.specs.declared.error.Family.{Family}
-use Rattle.linkinfo_table.specs.PeerLaws.{IsPeer}
 use Rattle.linkinfo_peers.specs.Netkit.{netkit_lawful}
-use Rattle.linkinfo_peers.specs.PeerRows.{first_named, is_peer, list_named}
+use Rattle.linkinfo_table.specs.UnnestedFamily.{first_named, list_named}
 use Rattle.linkinfo_peers.specs.Veth.{veth_lawful}
 use Rattle.linkinfo_peers.specs.Vxcan.{vxcan_lawful}
+use Rattle.linkinfo_data.specs.PeerFamilies.{netkit_members, veth_members, vxcan_members}
 use Rattle.linkinfo_data.proofs.Lawful.{amt_names, bare_udp_names, batadv_names, geneve_names}
 use Rattle.linkinfo_data.proofs.Lawful.{gre6_names, gre_names, gtp_names, ip_tunnel_names}
 use Rattle.linkinfo_data.proofs.Lawful.{ip_vlan_names, ipoib_names, mac_sec_names}
@@ -21,7 +21,6 @@ use Rattle.linkinfo_data.specs.Names.{lower_name, no_name, peered_name, port_dat
 use Rattle.linkinfo_data.specs.Names.{under_name}
 use Rattle.linkinfo_data.specs.Payloads.{Payload}
 use Rattle.linkinfo_data.specs.PeerData.{peers_data_of}
-use Rattle.linkinfo_data.specs.PeerFamilies.{families_of}
 use Rattle.linkinfo_data.specs.Plain.{plain}
 use Rattle.linkinfo_data.specs.PortData.{port_data_of}
 use Rattle.linkinfo_data.specs.TunnelData.{tunnels_data_of}
@@ -44,11 +43,8 @@ use Rattle.linkinfo_data.specs.declared.tunnels.TunnelFamily.{TunnelFamily}
 pub returns : goal.returns
 returns g c =
     let peer = g.P.LinkPeer in
-    let laws = g.met.P.LinkPeer in
-    let is : IsPeer peer =
-    is_peer laws.alike_is laws.meaning_well laws.well_means laws.well_bytes in
-    let families = families_of g.row.P peer in
-    let means : DataFamily → Payload (InfoDataOf g.row.P.Denot) = data_of families in
+    let is = g.met.P.LinkPeer.lawful in
+    let means : DataFamily → Payload (InfoDataOf g.row.P.Denot) = data_of peer in
     let lower_ones : (f : LowerFamily) →
     ErrorsName (lower_name f) (lower_data_of {P = g.row.P.Denot} f) = elim [
       | lower.Bridge ↦ list_errors_name family.Bridge plain.bridge (λ xs. info.Bridge xs)
@@ -101,7 +97,7 @@ returns g c =
       | tunnel.Ip6ErSpan ↦ list_errors_name family.Gre6 plain.gre6
           (λ xs. info.Ip6ErSpan xs) gre6_names
     ] in
-    let peered_ones : (f : PeeredFamily) → ErrorsName (peered_name f) (peers_data_of families f) =
+    let peered_ones : (f : PeeredFamily) → ErrorsName (peered_name f) (peers_data_of peer f) =
     elim [
       | peered.Tun ↦ list_errors_name family.Tun plain.tun (λ xs. info.Tun xs)
           (opaque_names family.Tun)
@@ -112,11 +108,11 @@ returns g c =
       | peered.BatAdv ↦ list_errors_name family.BatAdv plain.bat_adv
           (λ xs. info.BatAdv xs) batadv_names
       | peered.Wwan ↦ list_errors_name family.Wwan plain.wwan (λ xs. info.Wwan xs) wwan_names
-      | peered.Veth ↦ first_errors_name family.Veth families.veth (λ x. info.Veth x)
+      | peered.Veth ↦ first_errors_name family.Veth (veth_members peer) (λ x. info.Veth x)
           (first_named (veth_lawful peer is) family.Veth)
-      | peered.Vxcan ↦ first_errors_name family.Vxcan families.vxcan (λ x. info.Vxcan x)
+      | peered.Vxcan ↦ first_errors_name family.Vxcan (vxcan_members peer) (λ x. info.Vxcan x)
           (first_named (vxcan_lawful peer is) family.Vxcan)
-      | peered.Netkit ↦ list_errors_name family.Netkit families.netkit (λ xs. info.Netkit xs)
+      | peered.Netkit ↦ list_errors_name family.Netkit (netkit_members peer) (λ xs. info.Netkit xs)
           (list_named (netkit_lawful peer is) family.Netkit)
     ] in
     let ports : (f : PortFamily) (name : Family) → port_data_name f ≡ Some name →

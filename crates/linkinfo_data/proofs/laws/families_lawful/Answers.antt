@@ -2,11 +2,10 @@ use Rattle.std.specs.Prelude.{refl}
 use Rattle.nla_frame.specs.declared.error.Family.TheVariants as family
 use Rattle.linkinfo_devices.specs.Macvlan.{mac_vlan_is}
 use Rattle.linkinfo_devices.specs.Macvtap.{mac_vtap_is}
-use Rattle.linkinfo_table.specs.PeerLaws.{IsPeer}
 use Rattle.linkinfo_peers.specs.Netkit.{netkit_lawful}
-use Rattle.linkinfo_peers.specs.PeerRows.{is_peer}
 use Rattle.linkinfo_peers.specs.Veth.{veth_lawful}
 use Rattle.linkinfo_peers.specs.Vxcan.{vxcan_lawful}
+use Rattle.linkinfo_data.specs.PeerFamilies.{netkit_members, veth_members, vxcan_members}
 use Rattle.linkinfo_data.proofs.Lawful.{amt_is, bare_udp_is, batadv_is, geneve_is, gre6_is, gre_is}
 use Rattle.linkinfo_data.proofs.Lawful.{gtp_is, ip_tunnel_is, ip_vlan_is, ipoib_is}
 use Rattle.linkinfo_data.proofs.Lawful.{mac_sec_is, opaque_is}
@@ -19,7 +18,6 @@ use Rattle.linkinfo_data.specs.LowerData.{lower_data_of}
 use Rattle.linkinfo_data.specs.Payloads.{IsLawful, as_bytes_is_lawful, as_first_is_lawful}
 use Rattle.linkinfo_data.specs.Payloads.{as_list_is_lawful, as_lists_is_lawful}
 use Rattle.linkinfo_data.specs.PeerData.{peers_data_of}
-use Rattle.linkinfo_data.specs.PeerFamilies.{families_of}
 use Rattle.linkinfo_data.specs.Plain.{plain}
 use Rattle.linkinfo_data.specs.PortData.{port_data_of, port_data_payload}
 use Rattle.linkinfo_data.specs.TunnelData.{tunnels_data_of}
@@ -41,98 +39,95 @@ pub returns : goal.returns
 unfolding data_payload port_data_payload
 returns g c =
     let peer = g.P.LinkPeer in
-    let laws = g.met.P.LinkPeer in
-    let is : IsPeer peer =
-    is_peer laws.alike_is laws.meaning_well laws.well_means laws.well_bytes in
-    let families = families_of g.row.P peer in
+    let is = g.met.P.LinkPeer.lawful in
     let lower_ones : (f : LowerFamily) →
-    IsLawful (lower_data_of {P = g.row.P.Denot} f) (data_payload families) = elim [
+    IsLawful (lower_data_of {P = g.row.P.Denot} f) (data_payload peer) = elim [
       | lower.Bridge ↦ as_list_is_lawful plain.bridge (opaque_is family.Bridge)
-          (λ xs. info.Bridge xs) (data_payload families) (λ _. refl) (λ x y e. cc)
+          (λ xs. info.Bridge xs) (data_payload peer) (λ _. refl) (λ x y e. cc)
       | lower.Vlan ↦ as_list_is_lawful plain.vlan (opaque_is family.Vlan) (λ xs. info.Vlan xs)
-          (data_payload families) (λ _. refl) (λ x y e. cc)
+          (data_payload peer) (λ _. refl) (λ x y e. cc)
       | lower.Bond ↦ as_list_is_lawful plain.bond (opaque_is family.Bond) (λ xs. info.Bond xs)
-          (data_payload families) (λ _. refl) (λ x y e. cc)
+          (data_payload peer) (λ _. refl) (λ x y e. cc)
       | lower.Hsr ↦ as_list_is_lawful plain.hsr (opaque_is family.Hsr) (λ xs. info.Hsr xs)
-          (data_payload families) (λ _. refl) (λ x y e. cc)
+          (data_payload peer) (λ _. refl) (λ x y e. cc)
       | lower.Can ↦ as_list_is_lawful plain.can (opaque_is family.Can) (λ xs. info.Can xs)
-          (data_payload families) (λ _. refl) (λ x y e. cc)
+          (data_payload peer) (λ _. refl) (λ x y e. cc)
       | lower.Dsa ↦ as_list_is_lawful plain.dsa (opaque_is family.Dsa) (λ xs. info.Dsa xs)
-          (data_payload families) (λ _. refl) (λ x y e. cc)
+          (data_payload peer) (λ _. refl) (λ x y e. cc)
     ] in
     let device_ones : (f : DeviceFamily) →
-    IsLawful (devices_data_of {P = g.row.P.Denot} f) (data_payload families) = elim [
+    IsLawful (devices_data_of {P = g.row.P.Denot} f) (data_payload peer) = elim [
       | device.IpVlan ↦ as_list_is_lawful plain.ip_vlan (ip_vlan_is family.IpVlan)
-          (λ xs. info.IpVlan xs) (data_payload families) (λ _. refl) (λ x y e. cc)
+          (λ xs. info.IpVlan xs) (data_payload peer) (λ _. refl) (λ x y e. cc)
       | device.IpVtap ↦ as_list_is_lawful plain.ip_vtap (ip_vlan_is family.IpVtap)
-          (λ xs. info.IpVtap xs) (data_payload families) (λ _. refl) (λ x y e. cc)
+          (λ xs. info.IpVtap xs) (data_payload peer) (λ _. refl) (λ x y e. cc)
       | device.MacVlan lists ↦ as_lists_is_lawful (plain.mac_vlan lists) (mac_vlan_is lists)
           (mac_vlan_lists lists) (λ xs. info.MacVlan xs)
-          (data_payload families) (λ _. refl) (λ x y e. cc)
+          (data_payload peer) (λ _. refl) (λ x y e. cc)
       | device.MacVtap lists ↦ as_lists_is_lawful (plain.mac_vtap lists) (mac_vtap_is lists)
           (mac_vtap_lists lists) (λ xs. info.MacVtap xs)
-          (data_payload families) (λ _. refl) (λ x y e. cc)
-      | device.Vrf ↦ as_list_is_lawful plain.vrf vrf_is (λ xs. info.Vrf xs) (data_payload families)
+          (data_payload peer) (λ _. refl) (λ x y e. cc)
+      | device.Vrf ↦ as_list_is_lawful plain.vrf vrf_is (λ xs. info.Vrf xs) (data_payload peer)
           (λ _. refl) (λ x y e. cc)
       | device.Ipoib ↦ as_list_is_lawful plain.ipoib ipoib_is (λ xs. info.Ipoib xs)
-          (data_payload families) (λ _. refl) (λ x y e. cc)
+          (data_payload peer) (λ _. refl) (λ x y e. cc)
       | device.Xfrm ↦ as_list_is_lawful plain.xfrm xfrm_is (λ xs. info.Xfrm xs)
-          (data_payload families) (λ _. refl) (λ x y e. cc)
+          (data_payload peer) (λ _. refl) (λ x y e. cc)
       | device.MacSec ↦ as_list_is_lawful plain.mac_sec mac_sec_is (λ xs. info.MacSec xs)
-          (data_payload families) (λ _. refl) (λ x y e. cc)
+          (data_payload peer) (λ _. refl) (λ x y e. cc)
       | device.RmNet ↦ as_list_is_lawful plain.rm_net rm_net_is (λ xs. info.RmNet xs)
-          (data_payload families) (λ _. refl) (λ x y e. cc)
+          (data_payload peer) (λ _. refl) (λ x y e. cc)
     ] in
     let tunnel_ones : (f : TunnelFamily) →
-    IsLawful (tunnels_data_of {P = g.row.P.Denot} f) (data_payload families) = elim [
+    IsLawful (tunnels_data_of {P = g.row.P.Denot} f) (data_payload peer) = elim [
       | tunnel.Vxlan ↦ as_list_is_lawful plain.vxlan vxlan_is (λ xs. info.Vxlan xs)
-          (data_payload families) (λ _. refl) (λ x y e. cc)
+          (data_payload peer) (λ _. refl) (λ x y e. cc)
       | tunnel.GreTap ↦ as_list_is_lawful plain.gre gre_is (λ xs. info.GreTap xs)
-          (data_payload families) (λ _. refl) (λ x y e. cc)
+          (data_payload peer) (λ _. refl) (λ x y e. cc)
       | tunnel.GreTap6 ↦ as_list_is_lawful plain.gre6 gre6_is (λ xs. info.GreTap6 xs)
-          (data_payload families) (λ _. refl) (λ x y e. cc)
+          (data_payload peer) (λ _. refl) (λ x y e. cc)
       | tunnel.IpTunnel tag ↦ as_list_is_lawful (plain.ip_tunnel tag) (ip_tunnel_is tag)
-          (λ xs. info.IpTunnel xs) (data_payload families) (λ _. refl) (λ x y e. cc)
+          (λ xs. info.IpTunnel xs) (data_payload peer) (λ _. refl) (λ x y e. cc)
       | tunnel.GreTun ↦ as_list_is_lawful plain.gre gre_is (λ xs. info.GreTun xs)
-          (data_payload families) (λ _. refl) (λ x y e. cc)
+          (data_payload peer) (λ _. refl) (λ x y e. cc)
       | tunnel.GreTun6 ↦ as_list_is_lawful plain.gre6 gre6_is (λ xs. info.GreTun6 xs)
-          (data_payload families) (λ _. refl) (λ x y e. cc)
-      | tunnel.Vti ↦ as_list_is_lawful plain.vti vti_is (λ xs. info.Vti xs) (data_payload families)
+          (data_payload peer) (λ _. refl) (λ x y e. cc)
+      | tunnel.Vti ↦ as_list_is_lawful plain.vti vti_is (λ xs. info.Vti xs) (data_payload peer)
           (λ _. refl) (λ x y e. cc)
-      | tunnel.Gtp ↦ as_list_is_lawful plain.gtp gtp_is (λ xs. info.Gtp xs) (data_payload families)
+      | tunnel.Gtp ↦ as_list_is_lawful plain.gtp gtp_is (λ xs. info.Gtp xs) (data_payload peer)
           (λ _. refl) (λ x y e. cc)
       | tunnel.Geneve ↦ as_list_is_lawful plain.geneve geneve_is (λ xs. info.Geneve xs)
-          (data_payload families) (λ _. refl) (λ x y e. cc)
-      | tunnel.Amt ↦ as_list_is_lawful plain.amt amt_is (λ xs. info.Amt xs) (data_payload families)
+          (data_payload peer) (λ _. refl) (λ x y e. cc)
+      | tunnel.Amt ↦ as_list_is_lawful plain.amt amt_is (λ xs. info.Amt xs) (data_payload peer)
           (λ _. refl) (λ x y e. cc)
       | tunnel.BareUdp ↦ as_list_is_lawful plain.bare_udp bare_udp_is (λ xs. info.BareUdp xs)
-          (data_payload families) (λ _. refl) (λ x y e. cc)
+          (data_payload peer) (λ _. refl) (λ x y e. cc)
       | tunnel.ErSpan ↦ as_list_is_lawful plain.gre gre_is (λ xs. info.ErSpan xs)
-          (data_payload families) (λ _. refl) (λ x y e. cc)
+          (data_payload peer) (λ _. refl) (λ x y e. cc)
       | tunnel.Ip6ErSpan ↦ as_list_is_lawful plain.gre6 gre6_is (λ xs. info.Ip6ErSpan xs)
-          (data_payload families) (λ _. refl) (λ x y e. cc)
+          (data_payload peer) (λ _. refl) (λ x y e. cc)
     ] in
     let peered_ones : (f : PeeredFamily) →
-    IsLawful (peers_data_of families f) (data_payload families) = elim [
+    IsLawful (peers_data_of peer f) (data_payload peer) = elim [
       | peered.Tun ↦ as_list_is_lawful plain.tun (opaque_is family.Tun) (λ xs. info.Tun xs)
-          (data_payload families) (λ _. refl) (λ x y e. cc)
+          (data_payload peer) (λ _. refl) (λ x y e. cc)
       | peered.Wireguard ↦ as_list_is_lawful plain.wireguard (opaque_is family.Wireguard)
-          (λ xs. info.Wireguard xs) (data_payload families) (λ _. refl) (λ x y e. cc)
+          (λ xs. info.Wireguard xs) (data_payload peer) (λ _. refl) (λ x y e. cc)
       | peered.Pfcp ↦ as_list_is_lawful plain.pfcp (opaque_is family.Pfcp) (λ xs. info.Pfcp xs)
-          (data_payload families) (λ _. refl) (λ x y e. cc)
+          (data_payload peer) (λ _. refl) (λ x y e. cc)
       | peered.BatAdv ↦ as_list_is_lawful plain.bat_adv batadv_is (λ xs. info.BatAdv xs)
-          (data_payload families) (λ _. refl) (λ x y e. cc)
+          (data_payload peer) (λ _. refl) (λ x y e. cc)
       | peered.Wwan ↦ as_list_is_lawful plain.wwan wwan_is (λ xs. info.Wwan xs)
-          (data_payload families) (λ _. refl) (λ x y e. cc)
-      | peered.Veth ↦ as_first_is_lawful families.veth
+          (data_payload peer) (λ _. refl) (λ x y e. cc)
+      | peered.Veth ↦ as_first_is_lawful (veth_members peer)
           ((veth_lawful peer is).laws family.Veth)
-          (λ x. info.Veth x) (data_payload families) (λ _. refl) (λ x y e. cc)
-      | peered.Vxcan ↦ as_first_is_lawful families.vxcan
+          (λ x. info.Veth x) (data_payload peer) (λ _. refl) (λ x y e. cc)
+      | peered.Vxcan ↦ as_first_is_lawful (vxcan_members peer)
           ((vxcan_lawful peer is).laws family.Vxcan)
-          (λ x. info.Vxcan x) (data_payload families) (λ _. refl) (λ x y e. cc)
-      | peered.Netkit ↦ as_list_is_lawful families.netkit
+          (λ x. info.Vxcan x) (data_payload peer) (λ _. refl) (λ x y e. cc)
+      | peered.Netkit ↦ as_list_is_lawful (netkit_members peer)
           ((netkit_lawful peer is).laws family.Netkit)
-          (λ xs. info.Netkit xs) (data_payload families) (λ _. refl) (λ x y e. cc)
+          (λ xs. info.Netkit xs) (data_payload peer) (λ _. refl) (λ x y e. cc)
     ] in
     let ports : (f : PortFamily) → IsLawful (port_data_of f) port_data_payload = elim [
       | port_of.Bond ↦ as_list_is_lawful plain.bond_port (opaque_is family.BondPort)
@@ -152,7 +147,7 @@ returns g c =
         | of.Device f ↦ device_ones f
         | of.Tunnel f ↦ tunnel_ones f
         | of.Peered f ↦ peered_ones f
-        | of.Raw ↦ as_bytes_is_lawful (λ bytes. info.Other bytes) (data_payload families)
+        | of.Raw ↦ as_bytes_is_lawful (λ bytes. info.Other bytes) (data_payload peer)
             (λ _. refl) (λ x y e. cc)
       ];
       port = ports;

@@ -17,6 +17,7 @@ use Rattle.linkinfo_tunnels.specs.Conditions.{gre_stated, gtp_conditions, gtp_st
 use Rattle.linkinfo_tunnels.specs.Conditions.{ip_tunnel_conditions, ip_tunnel_stated}
 use Rattle.linkinfo_tunnels.specs.Conditions.{vti_conditions, vti_stated, vxlan_conditions}
 use Rattle.linkinfo_tunnels.specs.Conditions.{vxlan_stated}
+use Rattle.linkinfo_data.specs.PeerFamilies.{netkit_members, veth_members, vxcan_members}
 use Rattle.linkinfo_data.proofs.laws.well_formed.Goals as goal
 use Rattle.linkinfo_data.specs.Conditions.{IsStated, device_conditions, list_stated}
 use Rattle.linkinfo_data.specs.Conditions.{lower_conditions, one_stated, peered_conditions}
@@ -24,7 +25,6 @@ use Rattle.linkinfo_data.specs.Conditions.{port_data_conditions, tunnel_conditio
 use Rattle.linkinfo_data.specs.DeviceData.{devices_data_of}
 use Rattle.linkinfo_data.specs.LowerData.{lower_data_of}
 use Rattle.linkinfo_data.specs.PeerData.{peers_data_of}
-use Rattle.linkinfo_data.specs.PeerFamilies.{families_of}
 use Rattle.linkinfo_data.specs.Plain.{plain}
 use Rattle.linkinfo_data.specs.PortData.{port_data_of}
 use Rattle.linkinfo_data.specs.TunnelData.{tunnels_data_of}
@@ -45,7 +45,6 @@ use Rattle.linkinfo_data.specs.declared.tunnels.TunnelFamily.{TunnelFamily}
 pub returns : goal.returns
 returns g c =
     let peer = g.P.LinkPeer in
-    let families = families_of g.row.P peer in
     let lower_ones : (f : LowerFamily) →
     IsStated (lower_data_of {P = g.row.P.Denot} f) (λ d. lower_conditions f d) = elim [
       | lower.Bridge ↦ list_stated plain.bridge
@@ -95,7 +94,7 @@ returns g c =
           (λ xs. info.Ip6ErSpan xs) gre6_conditions gre6_stated
     ] in
     let peered_ones : (f : PeeredFamily) →
-    IsStated (peers_data_of families f) (λ d. peered_conditions peer.well f d) = elim [
+    IsStated (peers_data_of peer f) (λ d. peered_conditions peer.well f d) = elim [
       | peered.Tun ↦ list_stated plain.tun (λ xs. info.Tun xs) opaque_conditions opaque_stated
       | peered.Wireguard ↦ list_stated plain.wireguard
           (λ xs. info.Wireguard xs) opaque_conditions opaque_stated
@@ -103,11 +102,12 @@ returns g c =
       | peered.BatAdv ↦ list_stated plain.bat_adv
           (λ xs. info.BatAdv xs) batadv_conditions batadv_stated
       | peered.Wwan ↦ list_stated plain.wwan (λ xs. info.Wwan xs) wwan_conditions wwan_stated
-      | peered.Veth ↦ one_stated families.veth (λ x. info.Veth x) (veth_conditions peer.well)
+      | peered.Veth ↦ one_stated (veth_members peer) (λ x. info.Veth x) (veth_conditions peer.well)
           (veth_stated peer.meaning peer.alike peer.canonical peer.well)
-      | peered.Vxcan ↦ one_stated families.vxcan (λ x. info.Vxcan x) (vxcan_conditions peer.well)
+      | peered.Vxcan ↦ one_stated (vxcan_members peer) (λ x. info.Vxcan x)
+          (vxcan_conditions peer.well)
           (vxcan_stated peer.meaning peer.alike peer.canonical peer.well)
-      | peered.Netkit ↦ list_stated families.netkit (λ xs. info.Netkit xs)
+      | peered.Netkit ↦ list_stated (netkit_members peer) (λ xs. info.Netkit xs)
           (netkit_conditions peer.well)
           (netkit_stated peer.meaning peer.alike peer.canonical peer.well)
     ] in

@@ -15,6 +15,7 @@ use Rattle.std.proofs.Common.{
 }
 use Rattle.nla_frame.specs.Attribute.{Attribute, Fits, buffer_len_of, canonical_string}
 use Rattle.nla_frame.specs.NlaItems.{nla_items}
+use Rattle.nla_frame.specs.Writing.{WritesAttribute}
 use Rattle.nla_frame.proofs.Emitting.{framed_after}
 use Rattle.linkinfo_table.specs.FamilyRows.{row_of}
 use Rattle.linkinfo_table.specs.Lists.{canonical_list, values}
@@ -57,38 +58,24 @@ nested_write_canonical-nested_write_list-requires g t c κs within =
       ),
     )
 
-pub nested_write_canonical-returns-then-lists-lt-MOST_LISTS-clause-taken :
-    goal.nested_write_canonical-returns-then-lists-lt-MOST_LISTS-clause-taken
-nested_write_canonical-returns-then-lists-lt-MOST_LISTS-clause-taken g t c =
+pub nested_write_canonical-returns-then-lists-lt-MOST_LISTS :
+    goal.nested_write_canonical-returns-then-lists-lt-MOST_LISTS
+nested_write_canonical-returns-then-lists-lt-MOST_LISTS g t c =
     let m =
     meaning_in g.F.RowFamily.FAMILY g.F.RowFamily.other
     (λ n. row_of (g.F.RowFamily.rows (c.args.lists + 1) n)) in
     let means =
     g.met.F.NestedFamily.list_means c.args.lists c.args.nla.now c.if-lists-lt-MOST_LISTS.true
     (sym c.kind.ensures ∙ c.if-kind-eq-LIST_TYPE.true) in
-    c.nested_write_list.ensures.taken
-    ∙ ap (λ (z : Attribute). buffer_len_of z)
+    subst (λ (z : Attribute).
+    WritesAttribute z c.args.buffer.now c.nested_write_list.new.buffer c.nested_write_list.result)
     (sym (list_attribute g.F.RowFamily.canonical
     g.F.NestedFamily.list_value g.met.F.NestedFamily.list_written (λ s. values m (nla_items s))
     c.value.result.now c.args.nla.now.value _ c.value.ensures.value means c.requires.accepted))
+    c.nested_write_list.ensures
 
-pub nested_write_canonical-returns-then-lists-lt-MOST_LISTS-clause-written :
-    goal.nested_write_canonical-returns-then-lists-lt-MOST_LISTS-clause-written
-nested_write_canonical-returns-then-lists-lt-MOST_LISTS-clause-written g t c =
-    let m =
-    meaning_in g.F.RowFamily.FAMILY g.F.RowFamily.other
-    (λ n. row_of (g.F.RowFamily.rows (c.args.lists + 1) n)) in
-    let means =
-    g.met.F.NestedFamily.list_means c.args.lists c.args.nla.now c.if-lists-lt-MOST_LISTS.true
-    (sym c.kind.ensures ∙ c.if-kind-eq-LIST_TYPE.true) in
-    c.nested_write_list.ensures.written
-    ∙ ap (λ (z : Attribute). canonical_string z ++ drop (buffer_len_of z) c.args.buffer.now)
-    (sym (list_attribute g.F.RowFamily.canonical g.F.NestedFamily.list_value
-    g.met.F.NestedFamily.list_written (λ s. values m (nla_items s))
-    c.value.result.now c.args.nla.now.value _ c.value.ensures.value means c.requires.accepted))
-
-pub nested_write_list-returns-clause-written : goal.nested_write_list-returns-clause-written
-nested_write_list-returns-clause-written g t c =
+pub nested_write_list-returns : goal.nested_write_list-returns
+nested_write_list-returns g t c =
     let m =
     meaning_in g.F.RowFamily.FAMILY g.F.RowFamily.other
     (λ n. row_of (g.F.RowFamily.rows c.args.lists n)) in
@@ -97,11 +84,15 @@ nested_write_list-returns-clause-written g t c =
       kind = 5;
       value = canonical_list g.F.RowFamily.canonical m (nla_items c.args.bytes.now);
     } in
-    c.write_frame.ensures
-    ∙ framed_after a buffer c.nested_list_write_canonical-len.new.buffer
-    c.nested_list_write_canonical-len.result (length buffer - 4) 5
-    c.nested_list_write_canonical-len.ensures.taken refl refl c.requires.room
-    c.nested_list_write_canonical-len.ensures.written
+    record {
+      taken = search (rules, arith);
+      written =
+          c.write_frame.ensures
+          ∙ framed_after a buffer c.nested_list_write_canonical-len.new.buffer
+          c.nested_list_write_canonical-len.result (length buffer - 4) 5
+          c.nested_list_write_canonical-len.ensures.taken refl refl c.requires.room
+          c.nested_list_write_canonical-len.ensures.written;
+    }
 
 pub nested_list_write_canonical-loop-next-preserved :
     goal.nested_list_write_canonical-loop-next-preserved

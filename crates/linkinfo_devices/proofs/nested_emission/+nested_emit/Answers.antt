@@ -1,17 +1,21 @@
-use Rattle.std.proofs.Common.{◌∙◌, ◌++◌, ◌-◌, ap, arith, drop, length, map, refl, sym, take}
+use Rattle.std.proofs.Common.{◌∙◌, ◌++◌, ◌-◌, ap, arith, drop, length, map, refl, sym, take, rules}
 use Rattle.nla_frame.proofs.Emitting.{fits_inside, framed_after, write_one}
 use Rattle.nla_frame.specs.Attribute.{canonical_string}
 use Rattle.linkinfo_devices.proofs.nested_emission.+nested_emit.Goals as goal
 
-pub emit_attribute-returns-clause-written : goal.emit_attribute-returns-clause-written
-emit_attribute-returns-clause-written g t c =
+pub emit_attribute-returns : goal.emit_attribute-returns
+emit_attribute-returns g t c =
     let buffer = c.args.buffer.now in
-    c.write_frame.ensures
-    ∙ framed_after (g.F.RowFamily.canonical c.args.value.now) buffer
-    c.nested_emit_payload-len.new.buffer c.nested_emit_payload-len.result (length buffer - 4)
-    c.nested_kind.result
-    c.nested_emit_payload-len.ensures.taken refl c.nested_kind.ensures c.requires.room
-    c.nested_emit_payload-len.ensures.written
+    record {
+      taken = search (rules, arith);
+      written =
+          c.write_frame.ensures
+          ∙ framed_after (g.F.RowFamily.canonical c.args.value.now) buffer
+          c.nested_emit_payload-len.new.buffer c.nested_emit_payload-len.result (length buffer - 4)
+          c.nested_kind.result
+          c.nested_emit_payload-len.ensures.taken refl c.nested_kind.ensures c.requires.room
+          c.nested_emit_payload-len.ensures.written;
+    }
 
 pub emit_list-loop-item-init : goal.emit_list-loop-item-init
 emit_list-loop-item-init g t c = record {

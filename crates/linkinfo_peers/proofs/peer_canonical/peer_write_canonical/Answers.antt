@@ -1,5 +1,6 @@
-use Rattle.std.proofs.Common.{◌≡◌, ◌∙◌, ◌≤◌, ◌++◌, drop, length, sym, ap, subst}
-use Rattle.nla_frame.specs.Attribute.{Attribute, Fits, buffer_len_of, canonical_string, masked}
+use Rattle.std.proofs.Common.{◌≡◌, ◌∙◌, ◌≤◌, length, sym, subst}
+use Rattle.nla_frame.specs.Attribute.{Attribute, Fits, buffer_len_of, masked}
+use Rattle.nla_frame.specs.Writing.{WritesAttribute}
 use Rattle.linkinfo_peers.proofs.PeerAnswers.{peer_accepted, peer_attribute}
 use Rattle.linkinfo_peers.proofs.peer_canonical.peer_write_canonical.Goals as goal
 
@@ -33,8 +34,8 @@ write_as_peer-requires-clause-room g c =
     at (g.met.F.PeerFamily.peer_means c.args.ctx a) c.requires.accepted in
     subst (λ (z : Attribute). buffer_len_of z ≤ length c.args.buffer.now) is c.requires.room
 
-pub returns-then-kind-eq-PEER-clause-taken : goal.returns-then-kind-eq-PEER-clause-taken
-returns-then-kind-eq-PEER-clause-taken g c =
+pub returns-then-kind-eq-PEER : goal.returns-then-kind-eq-PEER
+returns-then-kind-eq-PEER g c =
     let a = c.args.nla.now in
     let at : 1 ≡ masked a.kind = sym c.if-kind-eq-PEER.true ∙ c.kind.ensures in
     let is =
@@ -42,17 +43,6 @@ returns-then-kind-eq-PEER-clause-taken g c =
     g.F.Peer.LinkPeer.meaning g.F.RowFamily.canonical g.F.Peer.LinkPeer.canonical
     g.met.F.PeerFamily.peer_written (g.F.RowFamily.rows c.args.ctx) a 1
     at (g.met.F.PeerFamily.peer_means c.args.ctx a) c.requires.accepted in
-    c.write_as_peer.ensures.taken ∙ ap (λ (z : Attribute). buffer_len_of z) (sym is)
-
-pub returns-then-kind-eq-PEER-clause-written : goal.returns-then-kind-eq-PEER-clause-written
-returns-then-kind-eq-PEER-clause-written g c =
-    let a = c.args.nla.now in
-    let at : 1 ≡ masked a.kind = sym c.if-kind-eq-PEER.true ∙ c.kind.ensures in
-    let is =
-    peer_attribute g.F.RowFamily.FAMILY g.F.RowFamily.other g.F.PeerFamily.peer_value
-    g.F.Peer.LinkPeer.meaning g.F.RowFamily.canonical g.F.Peer.LinkPeer.canonical
-    g.met.F.PeerFamily.peer_written (g.F.RowFamily.rows c.args.ctx) a 1
-    at (g.met.F.PeerFamily.peer_means c.args.ctx a) c.requires.accepted in
-    c.write_as_peer.ensures.written
-    ∙ ap (λ (z : Attribute). canonical_string z ++ drop (buffer_len_of z) c.args.buffer.now)
-    (sym is)
+    subst (λ (z : Attribute).
+    WritesAttribute z c.args.buffer.now c.write_as_peer.new.buffer c.write_as_peer.result)
+    (sym is) c.write_as_peer.ensures

@@ -28,11 +28,29 @@ same_value-requires-clause-room g c =
     let q = rw (c.unwrap-2.ensures, c.unwrap-q.ensures) at c.next_attribute-2.ensures in
     omega (arith, c.requires.room, p.counted, p.room, q.counted, q.room)
 
-pub returns-clause-same : goal.returns-clause-same
-returns-clause-same g c =
+pub returns-clause-compared : goal.returns-clause-compared
+returns-clause-compared g c =
     let p = rw (c.unwrap.ensures, c.unwrap-p.ensures) at c.next_attribute.ensures in
     let q = rw (c.unwrap-2.ensures, c.unwrap-q.ensures) at c.next_attribute-2.ensures in
-    rw (p.nla_items_are, q.nla_items_are) c.same_value.ensures.same
+    let compared = c.same_value.ensures in
+    let h = g.F.LinkFamily.headers c.args.ctx in
+    record {
+      same = rw (p.nla_items_are, q.nla_items_are) compared.same;
+      counted =
+          on_true c.same_value.result
+          (λ e.
+          omega (
+            arith,
+            p.counted,
+            q.counted,
+            ap (first_headers h) p.nla_items_are,
+            ap (first_headers h) q.nla_items_are,
+            e,
+          ))
+          compared.counted;
+      rises = omega (arith, p.counted, q.counted, compared.rises);
+      quarter = omega (arith, p.counted, p.room, q.counted, q.room, compared.quarter);
+    }
 
 pub returns-clause-equal : goal.returns-clause-equal
 returns-clause-equal g c =
@@ -46,32 +64,3 @@ returns-clause-equal g c =
     (λ x y. (g.met.F.LinkFamily.lawful c.args.ctx).alike_is a b x y p.attribute q.attribute)
     (rw p.nla_items_are at c.requires.first) (rw q.nla_items_are at c.requires.second)
     c.same_value.ensures.same)
-
-pub returns-clause-counted : goal.returns-clause-counted
-returns-clause-counted g c =
-    let p = rw (c.unwrap.ensures, c.unwrap-p.ensures) at c.next_attribute.ensures in
-    let q = rw (c.unwrap-2.ensures, c.unwrap-q.ensures) at c.next_attribute-2.ensures in
-    let h = g.F.LinkFamily.headers c.args.ctx in
-    on_true c.same_value.result
-    (λ e.
-    omega (
-      arith,
-      p.counted,
-      q.counted,
-      ap (first_headers h) p.nla_items_are,
-      ap (first_headers h) q.nla_items_are,
-      e,
-    ))
-    c.same_value.ensures.counted
-
-pub returns-clause-rises : goal.returns-clause-rises
-returns-clause-rises g c =
-    let p = rw (c.unwrap.ensures, c.unwrap-p.ensures) at c.next_attribute.ensures in
-    let q = rw (c.unwrap-2.ensures, c.unwrap-q.ensures) at c.next_attribute-2.ensures in
-    omega (arith, p.counted, q.counted, c.same_value.ensures.rises)
-
-pub returns-clause-quarter : goal.returns-clause-quarter
-returns-clause-quarter g c =
-    let p = rw (c.unwrap.ensures, c.unwrap-p.ensures) at c.next_attribute.ensures in
-    let q = rw (c.unwrap-2.ensures, c.unwrap-q.ensures) at c.next_attribute-2.ensures in
-    omega (arith, p.counted, p.room, q.counted, q.room, c.same_value.ensures.quarter)

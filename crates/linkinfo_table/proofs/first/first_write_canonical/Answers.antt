@@ -30,21 +30,19 @@ write_canonical-requires-clause-room g c =
     attribute_for g.F.Nla.attribute (g.F.LinkFamily.meaning c.args.ctx c.unwrap-nla.result.0) in
     omega (arith, rw p.nla_items_are at c.requires.room, length-canonical_string a)
 
-pub returns-clause-taken : goal.returns-clause-taken
-returns-clause-taken g c =
-    let p = rw (c.unwrap.ensures, c.unwrap-nla.ensures) at c.next_attribute.ensures in
-    let a =
-    attribute_for g.F.Nla.attribute (g.F.LinkFamily.meaning c.args.ctx c.unwrap-nla.result.0) in
-    rw p.nla_items_are (omega (arith, c.write_canonical.ensures.taken, length-canonical_string a))
-
-pub returns-clause-written : goal.returns-clause-written
-returns-clause-written g c =
+pub returns : goal.returns
+returns g c =
     let p = rw (c.unwrap.ensures, c.unwrap-nla.ensures) at c.next_attribute.ensures in
     let a =
     attribute_for g.F.Nla.attribute (g.F.LinkFamily.meaning c.args.ctx c.unwrap-nla.result.0) in
     let m = g.F.LinkFamily.meaning c.args.ctx in
     let old = c.args.buffer.now in
-    c.write_canonical.ensures.written
-    ∙ (ap (λ n. canonical_string a ++ drop n old) (sym (length-canonical_string a))
-    ∙ ap (λ ps. canonical_first g.F.Nla.attribute m ps
-    ++ drop (length (canonical_first g.F.Nla.attribute m ps)) old) (sym p.nla_items_are))
+    let writes = c.write_canonical.ensures in
+    record {
+      taken = rw p.nla_items_are (omega (arith, writes.taken, length-canonical_string a));
+      written =
+          writes.written
+          ∙ (ap (λ n. canonical_string a ++ drop n old) (sym (length-canonical_string a))
+          ∙ ap (λ ps. canonical_first g.F.Nla.attribute m ps
+          ++ drop (length (canonical_first g.F.Nla.attribute m ps)) old) (sym p.nla_items_are));
+    }

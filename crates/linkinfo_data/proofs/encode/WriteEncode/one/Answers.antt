@@ -13,9 +13,12 @@ write_attribute-requires-clause-room g c = omega (
 
 pub returns : goal.returns
 returns g c =
-    let a = g.T.Nla.attribute c.args.nla.now in (
-      c.write_attribute.ensures.taken ∙ sym (length-canonical_string a),
-      c.write_attribute.ensures.written
+    let a = g.T.Nla.attribute c.args.nla.now in
+    let writes = c.write_attribute.ensures in
+    record {
+      taken = writes.taken ∙ sym (length-canonical_string a);
+      written =
+          writes.written
           ∙ ap (λ (n : ℕ). canonical_string a ++ drop n c.args.buffer.now)
-          (sym (length-canonical_string a)),
-    )
+          (sym (length-canonical_string a));
+    }
