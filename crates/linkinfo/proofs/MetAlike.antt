@@ -14,7 +14,7 @@ use Rattle.nla_frame.specs.declared.error.DecodeError.{DecodeError}
 use Rattle.linkinfo_table.specs.Last.{attributes_of, placed_from}
 use Rattle.linkinfo_table.specs.Lists.{◌>>=◌}
 use Rattle.linkinfo_table.specs.Rows.{alike_in, row_alike}
-use Rattle.linkinfo_data.specs.PeerFamilies.{netkit_members}
+use Rattle.linkinfo_peers.specs.PeerMembers.{netkit_members}
 use Rattle.linkinfo_data.specs.Data.{data_of, family_of}
 use Rattle.linkinfo_table.specs.declared.peer.LinkPeer.{Ghosts}
 use Rattle.linkinfo_data.specs.Lawful.{AreLawful}

@@ -9,7 +9,7 @@ use Rattle.linkinfo_table.specs.Last.{attributes_of, placed_from}
 use Rattle.linkinfo_table.specs.Lists.{alike_pairs}
 use Rattle.linkinfo_table.specs.Members.{Members}
 use Rattle.linkinfo_table.specs.Rows.{Is, Refused, Row, Unknown, alike_in, row_alike}
-use Rattle.linkinfo_data.specs.PeerFamilies.{netkit_members}
+use Rattle.linkinfo_peers.specs.PeerMembers.{netkit_members}
 use Rattle.linkinfo_data.specs.Data.{data_of}
 use Rattle.linkinfo_data.specs.DeviceData.{devices_data_of}
 use Rattle.linkinfo_table.specs.declared.peer.LinkPeer.{Ghosts}

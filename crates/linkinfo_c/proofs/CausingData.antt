@@ -63,7 +63,7 @@ use Rattle.linkinfo_peers.specs.Wwan.{wwan_rows}
 use Rattle.linkinfo_peers.specs.declared.veth.InfoVethOf.{InfoVethOf}
 use Rattle.linkinfo_peers.specs.declared.vxcan.InfoVxcanOf.{InfoVxcanOf}
 use Rattle.linkinfo_data.specs.BytesPeer.{bytes_peer}
-use Rattle.linkinfo_data.specs.PeerFamilies.{netkit_members, veth_members, vxcan_members}
+use Rattle.linkinfo_peers.specs.PeerMembers.{netkit_members, veth_members, vxcan_members}
 use Rattle.linkinfo_data.specs.Data.{data_of, family_of}
 use Rattle.linkinfo_data.specs.DeviceData.{devices_data_of}
 use Rattle.linkinfo_data.specs.LowerData.{lower_data_of}

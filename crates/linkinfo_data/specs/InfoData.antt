@@ -3,7 +3,7 @@
 use Rattle.std.specs.Prelude.{ℕ, List, map}
 use Rattle.nla_frame.specs.Attribute.{Attribute, canonical_string, list_string}
 use Rattle.linkinfo_numbers.specs.declared.tags.KindTag.TheVariants as tag
-use Rattle.linkinfo_data.specs.PeerFamilies.{netkit_members, veth_members, vxcan_members}
+use Rattle.linkinfo_peers.specs.PeerMembers.{netkit_members, veth_members, vxcan_members}
 use Rattle.linkinfo_data.specs.declared.info_data.InfoDataOf.{InfoDataOf}
 use Rattle.linkinfo_data.specs.declared.info_data.InfoDataOf.TheVariants as info
 use Rattle.linkinfo_table.specs.declared.peer.LinkPeer.{Ghosts}

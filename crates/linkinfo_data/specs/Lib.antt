@@ -17,7 +17,6 @@ pub mod LowerData
 pub mod Names
 pub mod Payloads
 pub mod PeerData
-pub mod PeerFamilies
 pub mod Plain
 pub mod PortData
 pub mod TunnelData

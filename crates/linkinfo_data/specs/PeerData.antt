@@ -1,7 +1,7 @@
 -- Data of veth, vxcan, netkit, tun, wireguard, batadv, wwan and pfcp links: what payloads mean
 -- under each family, and the variant that holds it.
 use Rattle.std.specs.Prelude.{None, refl}
-use Rattle.linkinfo_data.specs.PeerFamilies.{netkit_members, veth_members, vxcan_members}
+use Rattle.linkinfo_peers.specs.PeerMembers.{netkit_members, veth_members, vxcan_members}
 use Rattle.linkinfo_data.specs.declared.info_data.InfoDataOf.{InfoDataOf}
 use Rattle.linkinfo_data.specs.declared.info_data.InfoDataOf.TheVariants as info
 use Rattle.linkinfo_data.specs.declared.peers.PeeredFamily.{PeeredFamily}

@@ -1,4 +1,4 @@
-//! Specifications of the attributes of each family of data and of port data, a line a family.
+//! Specifications of the attributes of each family without a peer, a line a family.
 
 ghost use Rattle.std.specs.Prelude.{ℕ};
 ghost use Rattle.linkinfo_devices.specs.declared.ipvlan.InfoIpVlanOf.{InfoIpVlanOf};

@@ -12,7 +12,7 @@ use Rattle.linkinfo_numbers.specs.declared.macvlan.MacVlanMode.{MacVlanMode}
 use Rattle.linkinfo_shapes.specs.declared.shape.Shape.TheVariants.{Le32, Le16, Mac, I32}
 use Rattle.linkinfo_table.specs.FamilyRows.{typed}
 
--- a variant, given what the items of its list are
+-- a variant with its contents, where the items of a list are of type `X`
 pub data MacView (X : Type 0) : Type 0 where
   Mode : MacVlanMode → MacView X
   Flags : MacVlanFlags → MacView X
@@ -25,7 +25,7 @@ pub data MacView (X : Type 0) : Type 0 where
   BcCutoff : ℤ → MacView X
   Other : DefaultNla → MacView X
 
--- the canonical attribute, given those of the items
+-- the canonical attribute of a variant, where the items of a list are their canonical attributes
 abbrev pub mac_attribute : MacView Attribute → Attribute
 mac_attribute (Mode mode) = typed 1 Le32 (mac_vlan_mode_number mode)
 mac_attribute (Flags flags) = typed 2 Le16 flags.0

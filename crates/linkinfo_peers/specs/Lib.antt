@@ -2,6 +2,7 @@ pub mod Batadv
 pub mod Bit
 pub mod Conditions
 pub mod Netkit
+pub mod PeerMembers
 pub mod PeerRows
 pub mod Veth
 pub mod Vxcan

@@ -8,6 +8,12 @@ ghost use Rattle.linkinfo_peers.specs.Conditions.{
   vxcan_conditions,
   wwan_conditions,
 };
+ghost use Rattle.linkinfo_peers.specs.PeerMembers.{
+  AreSame,
+  netkit_members,
+  veth_members,
+  vxcan_members,
+};
 ghost use Rattle.linkinfo_shapes.specs.Table.{shape_of};
 ghost use Rattle.linkinfo_table.specs.FamilyRows.{lookup_in};
 ghost use Rattle.nla_frame.specs.declared.error.Family.TheVariants as family;
@@ -18,7 +24,7 @@ use crate::opaque::{InfoPfcp, InfoTeamPort, InfoTun, InfoWireguard};
 use crate::veth::InfoVethOf;
 use crate::vxcan::InfoVxcanOf;
 use crate::wwan::InfoWwan;
-use linkinfo_table::{LinkFamily, LinkPeer};
+use linkinfo_table::{LinkFamily, LinkPeer, ListedFamily};
 
 /// Each name is that of the family it is named after, and so is the family of its errors.
 pub fn named()
@@ -36,6 +42,17 @@ pub fn peers_named<P: LinkPeer>()
     ensures netkit { ⟦<InfoNetkitOf<P> as LinkFamily>⟧.FAMILY ≡ family.Netkit }
     ensures veth { ⟦<InfoVethOf<P> as LinkFamily>⟧.FAMILY ≡ family.Veth }
     ensures vxcan { ⟦<InfoVxcanOf<P> as LinkFamily>⟧.FAMILY ≡ family.Vxcan }
+{}
+
+/// What each family with a peer defines of its attributes is a function of what the type of the
+/// peer defines (`specs/PeerMembers.antt`).
+pub fn peers_listed<P: LinkPeer>()
+    ensures netkit { AreSame (⟦<InfoNetkitOf<P> as ListedFamily>⟧.members tt)
+        (netkit_members P.LinkPeer.own) }
+    ensures veth { AreSame (⟦<InfoVethOf<P> as ListedFamily>⟧.members tt)
+        (veth_members P.LinkPeer.own) }
+    ensures vxcan { AreSame (⟦<InfoVxcanOf<P> as ListedFamily>⟧.members tt)
+        (vxcan_members P.LinkPeer.own) }
 {}
 
 /// `batadv` and `wwan` read a type without flag bits by its row of the table of all families

@@ -1,13 +1,14 @@
--- What calls on bytes return, and by how much they raise the count of headers examined.
+-- What a call on bytes returns, and by how much it raises the count of headers examined: `old` is
+-- the count before the call and `new` the one after it, `len` the number of bytes, and `headers`
+-- the number of headers inside them.
 use Rattle.std.specs.Prelude.{◌≡◌, ℕ, ◌+◌, ◌*◌, ◌≤◌, Bool, false, List, OnErr, Result}
 use Rattle.std.specs.Bool.{OnTrue}
-use Rattle.nla_frame.specs.Answers.{CertainUnless, Gives, OnAnswer}
-use Rattle.nla_frame.specs.Answers.{verdict}
+use Rattle.nla_frame.specs.Answers.{CertainUnless, Gives, OnAnswer, verdict}
 use Rattle.nla_frame.specs.declared.error.DecodeError.{DecodeError}
 use Rattle.linkinfo_table.specs.Lists.{Appends, push_memory}
 
--- The result of parsing `len` bytes, its value seen by `view`, where the bytes have this meaning
--- and so many headers inside, and the count was `old` before and is `new` after.
+-- Parsing: `view` is what a contract sees of the value, `meaning` what the bytes mean, and
+-- `needs_memory` whether parsing them may allocate.
 pub record Reads {X Y : Type 0} (view : X → Y) (result : Result X DecodeError)
     (meaning : Result Y DecodeError) (needs_memory : Bool) (headers len old new : ℕ) : Type 0 where
   -- the meaning, or the memory error
@@ -20,8 +21,7 @@ pub record Reads {X Y : Type 0} (view : X → Y) (result : Result X DecodeError)
   -- at most a quarter of the bytes
   pub quarter : 4 * new ≤ 4 * old + len
 
--- The result of parsing an attribute of `len` bytes and pushing its value to a list, which was
--- `before` and is `after`.
+-- Parsing an attribute and pushing its value to a list, which is `before` and then `after`.
 pub record Pushes {X : Type 0} (before after : List X) (result : Result (Unit {0}) DecodeError)
     (meaning : Result X DecodeError) (needs_memory : Bool) (headers len old new : ℕ) : Type 0 where
   -- the list ends with the value that is meant, or the result is its error or the memory error
@@ -33,16 +33,16 @@ pub record Pushes {X : Type 0} (before after : List X) (result : Result (Unit {0
   pub rises : old ≤ new
   pub quarter : 4 * new ≤ 4 * old + len
 
--- The result of validating `len` bytes of this verdict and with so many headers inside.
-pub record Checks (result verdict : Result (Unit {0}) DecodeError) (headers len old new : ℕ) :
+-- Validating: `expected` is success, or the error of the bytes.
+pub record Checks (result expected : Result (Unit {0}) DecodeError) (headers len old new : ℕ) :
     Type 0 where
-  pub answer : result ≡ verdict
+  pub answer : result ≡ expected
   pub counted : new ≡ old + headers
   pub rises : old ≤ new
   pub quarter : 4 * new ≤ 4 * old + len
 
--- The result of comparing two accepted byte strings of `len` bytes and with so many headers in all,
--- which are equivalent or not.
+-- Comparing two accepted byte strings, which have `len` bytes and `headers` headers in all: `alike`
+-- is whether they are equivalent.
 pub record Compares (result alike : Bool) (headers len old new : ℕ) : Type 0 where
   pub same : result ≡ alike
   -- where they are equivalent, all headers have been examined

@@ -50,7 +50,7 @@ pub record Members (X : Type 0) : Type 1 where
   pub attribute : X → Attribute
   pub well : X → Type 0
 
--- under one context, from what the family defines under each
+-- the members under the context `c`
 abbrev pub members_at : {C X : Type 0} → Family → (C → Attribute → Result X DecodeError) →
     (C → Attribute → ℕ) → (C → Attribute → Attribute → Bool) → (C → Attribute → Bool) →
     (X → Attribute) → (C → X → Type 0) → C → Members X

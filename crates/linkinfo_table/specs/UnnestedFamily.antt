@@ -18,7 +18,8 @@ use Rattle.linkinfo_table.specs.Lookups.{HoldsNone, LookupSays}
 use Rattle.linkinfo_table.specs.Members.{IsFamily}
 use Rattle.linkinfo_table.specs.Rows.{meaning_in, memory_in}
 
--- what is written may be another function with the same attributes
+-- What `LinkFamily` requires of such a family, whatever its name: `attribute` is the canonical
+-- attribute by its rows, and `emitted` the one that its `Nla` writes.
 pub record IsUnnestedWritten {F : Type 0} (other : DefaultNla → F)
     (attribute emitted : F → Attribute) (rows : ℕ → FamilyRow F) : Type 1 where
   pub says : {C : Type 0} (f : Family) (under : C → Attribute → Result F DecodeError)

@@ -5,7 +5,7 @@ use Rattle.linkinfo_peers.specs.Netkit.{netkit_lawful}
 use Rattle.linkinfo_table.specs.UnnestedFamily.{first_named, list_named}
 use Rattle.linkinfo_peers.specs.Veth.{veth_lawful}
 use Rattle.linkinfo_peers.specs.Vxcan.{vxcan_lawful}
-use Rattle.linkinfo_data.specs.PeerFamilies.{netkit_members, veth_members, vxcan_members}
+use Rattle.linkinfo_peers.specs.PeerMembers.{netkit_members, veth_members, vxcan_members}
 use Rattle.linkinfo_data.proofs.Lawful.{amt_names, bare_udp_names, batadv_names, geneve_names}
 use Rattle.linkinfo_data.proofs.Lawful.{gre6_names, gre_names, gtp_names, ip_tunnel_names}
 use Rattle.linkinfo_data.proofs.Lawful.{ip_vlan_names, ipoib_names, mac_sec_names}

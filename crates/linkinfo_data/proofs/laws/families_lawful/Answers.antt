@@ -5,7 +5,7 @@ use Rattle.linkinfo_devices.specs.Macvtap.{mac_vtap_is}
 use Rattle.linkinfo_peers.specs.Netkit.{netkit_lawful}
 use Rattle.linkinfo_peers.specs.Veth.{veth_lawful}
 use Rattle.linkinfo_peers.specs.Vxcan.{vxcan_lawful}
-use Rattle.linkinfo_data.specs.PeerFamilies.{netkit_members, veth_members, vxcan_members}
+use Rattle.linkinfo_peers.specs.PeerMembers.{netkit_members, veth_members, vxcan_members}
 use Rattle.linkinfo_data.proofs.Lawful.{amt_is, bare_udp_is, batadv_is, geneve_is, gre6_is, gre_is}
 use Rattle.linkinfo_data.proofs.Lawful.{gtp_is, ip_tunnel_is, ip_vlan_is, ipoib_is}
 use Rattle.linkinfo_data.proofs.Lawful.{mac_sec_is, opaque_is}

@@ -17,7 +17,7 @@ use Rattle.linkinfo_tunnels.specs.Conditions.{gre_stated, gtp_conditions, gtp_st
 use Rattle.linkinfo_tunnels.specs.Conditions.{ip_tunnel_conditions, ip_tunnel_stated}
 use Rattle.linkinfo_tunnels.specs.Conditions.{vti_conditions, vti_stated, vxlan_conditions}
 use Rattle.linkinfo_tunnels.specs.Conditions.{vxlan_stated}
-use Rattle.linkinfo_data.specs.PeerFamilies.{netkit_members, veth_members, vxcan_members}
+use Rattle.linkinfo_peers.specs.PeerMembers.{netkit_members, veth_members, vxcan_members}
 use Rattle.linkinfo_data.proofs.laws.well_formed.Goals as goal
 use Rattle.linkinfo_data.specs.Conditions.{IsStated, device_conditions, list_stated}
 use Rattle.linkinfo_data.specs.Conditions.{lower_conditions, one_stated, peered_conditions}

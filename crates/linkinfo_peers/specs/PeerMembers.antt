@@ -1,5 +1,6 @@
--- The families with a peer: what contracts say of their attributes, given what they say of the
--- peer.
+-- What each family with a peer defines, as a function of what the type of the peer defines.
+use Rattle.std.specs.Prelude.{◌≡◌, ◌↔◌, refl}
+use Rattle.nla_frame.specs.Attribute.{Attribute}
 use Rattle.nla_frame.specs.declared.error.Family.TheVariants as family
 use Rattle.linkinfo_table.specs.ByRows.{members_by_rows}
 use Rattle.linkinfo_table.specs.Members.{Members}
@@ -28,3 +29,24 @@ abbrev pub netkit_members : {P : Type 0} → Ghosts P → Members (InfoNetkitOf 
 netkit_members peer =
     members_by_rows family.Netkit (λ d. netkit.Other d) (netkit_attribute peer.canonical)
     (λ n. netkit_rows peer.meaning peer.alike peer.canonical peer.well n) (λ _. 0)
+
+-- two families define the same
+pub record AreSame {X : Type 0} (f g : Members X) : Type 0 where
+  pub family : f.family ≡ g.family
+  pub meaning : (a : Attribute) → f.meaning a ≡ g.meaning a
+  pub headers : (a : Attribute) → f.headers a ≡ g.headers a
+  pub alike : (a b : Attribute) → f.alike a b ≡ g.alike a b
+  pub needs_memory : (a : Attribute) → f.needs_memory a ≡ g.needs_memory a
+  pub attribute : (x : X) → f.attribute x ≡ g.attribute x
+  pub well : (x : X) → f.well x ↔ g.well x
+
+pub same_as_itself : {X : Type 0} (f : Members X) → AreSame f f
+same_as_itself f = record {
+  family = refl;
+  meaning = λ _. refl;
+  headers = λ _. refl;
+  alike = λ _ _. refl;
+  needs_memory = λ _. refl;
+  attribute = λ _. refl;
+  well = λ _. (λ h. h, λ h. h);
+}
