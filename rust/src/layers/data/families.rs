@@ -1,4 +1,4 @@
-//! Specifications of the attributes of each family of data and of port data, a line a family.
+//! Specifications of the attributes of each family without a peer, a line a family.
 
 /// The specification of the attributes of each family without a peer. For `ipip`, `ip6tnl` and
 /// `sit` links it depends on the tag of the kind.
