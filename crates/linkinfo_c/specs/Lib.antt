@@ -1,3 +1,4 @@
+pub mod Arrays
 pub mod Attributes
 pub mod Buffers
 pub mod Canon

@@ -1,6 +1,6 @@
 //! The attributes in data, written into an array of the caller.
 
-ghost use Rattle.std.specs.Prelude.{◌≡◌, ℕ, ◌*◌, ◌≤◌, Option, Some, length};
+ghost use Rattle.std.specs.Prelude.{◌≡◌, ℕ, Option, Some};
 ghost use Rattle.std.specs.Option.{option_map};
 ghost use Rattle.nla_frame.specs.Attribute.{Attribute};
 ghost use Rattle.linkinfo_data.specs.Names.{
@@ -13,7 +13,7 @@ ghost use Rattle.linkinfo_data.specs.Names.{
 };
 ghost use Rattle.linkinfo_shapes.specs.Data.{value_of};
 ghost use Rattle.linkinfo_shapes.specs.declared.shape.Shape.{Shape};
-ghost use Rattle.linkinfo.specs.Placed.{place_after};
+ghost use Rattle.linkinfo_c.specs.Arrays.{WritesRecords};
 ghost use Rattle.linkinfo_c.specs.Attributes.{
   attribute_at,
   attributes_inside,
@@ -25,10 +25,7 @@ ghost use Rattle.linkinfo_c.specs.Attributes.{
   records_inside,
   shape_in,
 };
-ghost use Rattle.linkinfo_c.specs.Buffers.{with_front};
-ghost use Rattle.linkinfo_c.specs.Causes.{IsReturnedCode};
 ghost use Rattle.linkinfo_c.specs.Codes.{kind_of_code};
-ghost use Rattle.linkinfo_c.specs.Items.{attributes_in, error_after};
 
 use crate::codes::{kind_of_code, port_kind_of_code, shape_code};
 use crate::error::{NO_ERROR, error_record};
@@ -234,15 +231,8 @@ fn write_attributes<R: AttributeRecord>(
     kind: Option<KindTag>,
     records: &mut [R],
 ) -> LinkinfoListResult
-    ensures records { records.new
-        ≡ with_front (records_inside R.record_at (Some family) kind bytes.now) records.old }
-    ensures count { result.count
-        ≡ length (records_inside R.record_at (Some family) kind bytes.now) }
-    ensures quarter { 4 * result.count ≤ length bytes.now }
-    ensures error { result.error ≡ error_after (given_inside (Some family) bytes.now) }
-    ensures cause { IsReturnedCode result.error.cause }
-    ensures place { result.place
-        ≡ place_after bytes.now (attributes_in (given_inside (Some family) bytes.now)) }
+    ensures { WritesRecords (records_inside R.record_at (Some family) kind bytes.now)
+        (given_inside (Some family) bytes.now) bytes.now records.old records.new result }
 {
     let mut nlas = NlasIterator::new(bytes);
     let mut count = 0;
@@ -279,16 +269,9 @@ pub(crate) fn write_inside<R: AttributeRecord>(
     kind: u16,
     records: &mut [R],
 ) -> LinkinfoListResult
-    ensures records { records.new
-        ≡ with_front (records_inside R.record_at (family_inside kind) (kind_of_code kind) bytes.now)
-        records.old }
-    ensures count { result.count
-        ≡ length (records_inside R.record_at (family_inside kind) (kind_of_code kind) bytes.now) }
-    ensures quarter { 4 * result.count ≤ length bytes.now }
-    ensures error { result.error ≡ error_after (given_inside (family_inside kind) bytes.now) }
-    ensures cause { IsReturnedCode result.error.cause }
-    ensures place { result.place
-        ≡ place_after bytes.now (attributes_in (given_inside (family_inside kind) bytes.now)) }
+    ensures { WritesRecords
+        (records_inside R.record_at (family_inside kind) (kind_of_code kind) bytes.now)
+        (given_inside (family_inside kind) bytes.now) bytes.now records.old records.new result }
 {
     match family_inside(kind) {
         Some(family) => write_attributes(bytes, family, kind_of_code(kind), records),
@@ -309,16 +292,9 @@ pub extern "C" fn linkinfo_attributes(
     kind: u16,
     attributes: &mut [LinkinfoAttribute],
 ) -> LinkinfoListResult
-    ensures attributes { attributes.new
-        ≡ with_front (attributes_inside (family_inside kind) (kind_of_code kind) bytes.now)
-        attributes.old }
-    ensures count { result.count
-        ≡ length (attributes_inside (family_inside kind) (kind_of_code kind) bytes.now) }
-    ensures quarter { 4 * result.count ≤ length bytes.now }
-    ensures error { result.error ≡ error_after (given_inside (family_inside kind) bytes.now) }
-    ensures cause { IsReturnedCode result.error.cause }
-    ensures place { result.place
-        ≡ place_after bytes.now (attributes_in (given_inside (family_inside kind) bytes.now)) }
+    ensures { WritesRecords (attributes_inside (family_inside kind) (kind_of_code kind) bytes.now)
+        (given_inside (family_inside kind) bytes.now) bytes.now attributes.old attributes.new
+        result }
 {
     write_inside(bytes, kind, attributes)
 }

@@ -1,11 +1,9 @@
 //! The attributes of a list, written into an array of the caller.
 
-ghost use Rattle.std.specs.Prelude.{◌≡◌, ◌*◌, ◌≤◌, length, slice_set};
-ghost use Rattle.linkinfo.specs.Placed.{place_after};
-ghost use Rattle.linkinfo_c.specs.Buffers.{with_front};
-ghost use Rattle.linkinfo_c.specs.Causes.{IsReturnedCode};
+ghost use Rattle.std.specs.Prelude.{◌≡◌, length, slice_set};
+ghost use Rattle.linkinfo_c.specs.Arrays.{WritesRecords};
 ghost use Rattle.linkinfo_c.specs.Codes.{kind_code, port_kind_code};
-ghost use Rattle.linkinfo_c.specs.Items.{attributes_in, code_in, error_after, given_by, items_of};
+ghost use Rattle.linkinfo_c.specs.Items.{code_in, given_by, items_of};
 
 use crate::codes::{kind_code, port_kind_code};
 use crate::error::{LinkinfoError, NO_ERROR, error_record};
@@ -75,12 +73,8 @@ fn item_record(item: &LinkInfoItem<'_>) -> LinkinfoItem
 /// many attributes as bytes.
 #[unsafe(no_mangle)]
 pub extern "C" fn linkinfo_items(bytes: &[u8], items: &mut [LinkinfoItem]) -> LinkinfoListResult
-    ensures items { items.new ≡ with_front (items_of bytes.now) items.old }
-    ensures count { result.count ≡ length (items_of bytes.now) }
-    ensures quarter { 4 * result.count ≤ length bytes.now }
-    ensures error { result.error ≡ error_after (given_by bytes.now) }
-    ensures cause { IsReturnedCode result.error.cause }
-    ensures place { result.place ≡ place_after bytes.now (attributes_in (given_by bytes.now)) }
+    ensures { WritesRecords (items_of bytes.now) (given_by bytes.now) bytes.now items.old items.new
+        result }
 {
     let mut walk = LinkInfoWalk::new(bytes);
     let mut count = 0;

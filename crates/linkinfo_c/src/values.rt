@@ -1,13 +1,10 @@
 //! The attributes in data with their values, written into an array of the caller.
 
-ghost use Rattle.std.specs.Prelude.{◌≡◌, ◌*◌, ◌≤◌, length};
+ghost use Rattle.std.specs.Prelude.{◌≡◌, ◌≤◌, length};
 ghost use Rattle.linkinfo_shapes.specs.Data.{value_of};
-ghost use Rattle.linkinfo.specs.Placed.{place_after};
+ghost use Rattle.linkinfo_c.specs.Arrays.{WritesRecords};
 ghost use Rattle.linkinfo_c.specs.Attributes.{family_inside, given_inside};
-ghost use Rattle.linkinfo_c.specs.Buffers.{with_front};
-ghost use Rattle.linkinfo_c.specs.Causes.{IsReturnedCode};
 ghost use Rattle.linkinfo_c.specs.Codes.{kind_of_code};
-ghost use Rattle.linkinfo_c.specs.Items.{attributes_in, error_after};
 ghost use Rattle.linkinfo_c.specs.Values.{
   address_octets,
   address_record,
@@ -214,16 +211,9 @@ pub extern "C" fn linkinfo_values(
     kind: u16,
     attributes: &mut [LinkinfoValuedAttribute],
 ) -> LinkinfoListResult
-    ensures attributes { attributes.new
-        ≡ with_front (values_inside (family_inside kind) (kind_of_code kind) bytes.now)
-        attributes.old }
-    ensures count { result.count
-        ≡ length (values_inside (family_inside kind) (kind_of_code kind) bytes.now) }
-    ensures quarter { 4 * result.count ≤ length bytes.now }
-    ensures error { result.error ≡ error_after (given_inside (family_inside kind) bytes.now) }
-    ensures cause { IsReturnedCode result.error.cause }
-    ensures place { result.place
-        ≡ place_after bytes.now (attributes_in (given_inside (family_inside kind) bytes.now)) }
+    ensures { WritesRecords (values_inside (family_inside kind) (kind_of_code kind) bytes.now)
+        (given_inside (family_inside kind) bytes.now) bytes.now attributes.old attributes.new
+        result }
 {
     write_inside(bytes, kind, attributes)
 }
