@@ -271,6 +271,7 @@ impl LinkFamily for InfoMacVtap {
         nested_push(items, alloc, nla, lists, count)
     }
 
+    #[inline(always)]
     fn check_value(
         nla: &NlaBuffer<'_>,
         lists: u8,
