@@ -149,6 +149,7 @@ impl LinkFamily for InfoMacVlan {
         nested_push(items, nla, lists, count)
     }
 
+    #[inline(always)]
     fn check_value(
         nla: &NlaBuffer<'_>,
         lists: u8,
