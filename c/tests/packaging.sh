@@ -151,6 +151,31 @@ PC
     [ -z "$(find "$root" ! -type d)" ]
 }
 
+# A clone of what is here, in a folder that is there: the files that git tracks, or would.
+clone_here() {
+  (cd .. && git ls-files -coz --exclude-standard | xargs -0 cp --parents -t "$1") &&
+    git -C "$1" init -q && git -C "$1" add -A &&
+    git -C "$1" -c user.name=test -c user.email=test@localhost commit -qm all
+}
+
+# What README says of C, word for word, in a clone with the archive that is built. It prints what
+# the attribute is, and changes no file of the clone.
+readme() {
+  local clone=$folder/clone archive=crates/linkinfo_c/out/liblinkinfo_c.a
+  local cargo=${CARGO_HOME:-$HOME/.cargo} rustup=${RUSTUP_HOME:-$HOME/.rustup}
+  mkdir "$clone" && clone_here "$clone" || return 1
+  if [ -z "${RUST:-}" ]; then
+    mkdir -p "$clone/${archive%/*}" && cp "../$archive" "$clone/$archive" || return 1
+  fi
+  awk '/^From C/ { on = 1 } on && /^    / { print substr($0, 5); seen = 1; next } seen { exit }' \
+    ../README.md >"$folder/readme"
+  (cd "$clone" && HOME=$folder/home CARGO_HOME=$cargo RUSTUP_HOME=$rustup bash "$folder/readme") \
+    >"$folder/said" 2>&1
+  [ "$(tail -n 1 "$folder/said")" = '0: type 1, 4 bytes' ] &&
+    [ -z "$(git -C "$clone" status --porcelain)" ] ||
+    { tail -n 20 "$folder/said" >&2; git -C "$clone" status --porcelain >&2; return 1; }
+}
+
 # Outside the prefix the file for pkg-config has whole paths.
 installed_outside() {
   local pc=$folder/outside/else/linkinfo.pc

@@ -39,6 +39,13 @@ class Libraries(unittest.TestCase):
         self.assertEqual(libraries.longest(CRATES, ["top"], {}), libraries.OF_OTHERS)
         self.assertEqual(libraries.longest(CRATES, [], seconds), 0)
 
+    def test_told_first(self):
+        first = libraries.told_first
+        crates = {**CRATES, "linkinfo_c": ["top"]}
+        self.assertEqual(first(crates, "linkinfo_c", ["low", "left", "right"], 1.0),
+                         "4 crates are not proved here: proving them takes about 5 minutes; "
+                         "'make -C c RUST=1' needs no proof")
+
     def test_told(self):
         told = libraries.told
         self.assertEqual(told(CRATES, ["low"], ["left", "right", "top"], 1.0),
