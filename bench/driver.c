@@ -10,6 +10,7 @@
 // A list is a line: its name, how its data is framed (`-`: as bytes; `a`: as attributes; `n`: so
 // are those of type 5 inside), and its bytes as hex. One whose name begins with `err-` is
 // rejected, every other one accepted.
+#include <math.h>
 #include <stdbool.h>
 #include <stdint.h>
 #include <stdio.h>
@@ -226,7 +227,8 @@ static void table(int rounds) {
         for (int op = 0; op < OPERATIONS; op++) {
             if (op == EMIT && !l->accepted) { printf(" %8s", "-"); continue; }
             each[op] = least(l, op, rounds);
-            if (l->accepted) sum[op] += each[op];
+            /* (as it is printed) */
+            if (l->accepted) sum[op] += round(each[op] * 10) / 10;
             printf(" %8.1f", each[op]);
         }
         if (l->accepted) bytes += l->len;

@@ -281,8 +281,11 @@ struct linkinfo_inner_error {
   struct linkinfo_error error;
   size_t place; /* the offset that linkinfo_check_at returns */
   size_t inner; /* the offset in the list of the innermost attribute that has
-                   the error: in data, or in a nested list in data; place where
-                   the attribute of the list has it itself */
+                   the error: in data, or in a nested list in data; there, of an
+                   error of a header, the offset at which no header is accepted.
+                   In data of veth and vxcan that is no list, the offset of the
+                   data's payload. place where the attribute of the list has the
+                   error itself, and 0 without an error */
 };
 
 /*
@@ -358,8 +361,9 @@ struct linkinfo_difference {
  * @b_length: its length in bytes
  *
  * Attributes are compared in byte order, those of data and of nested lists one
- * by one. As linkinfo_same, it is for two requests, or for two canonical
- * encodings.
+ * by one. Data that is no list, as that of veth and vxcan with its peer, is
+ * compared as a whole: the pair is that of the data. As linkinfo_same, it is for
+ * two requests, or for two canonical encodings.
  *
  * Return: the first pair of attributes in which they differ, or the error of a
  * list.
@@ -382,13 +386,15 @@ struct linkinfo_unmet {
                                   attribute in data */
   uint16_t type;               /* without its two flag bits */
   size_t want;                 /* the offset of its header in the second list */
-  size_t have;                 /* where is_present, the offset of the header of
-                                  the last attribute of that type in the first
-                                  list; else 0 */
+  size_t have;                 /* where is_present, the offset in the first list
+                                  of the header of the last attribute of that
+                                  type; else 0 */
   bool met;                    /* whether each attribute is met; false with an
                                   error */
-  bool is_present;             /* whether the first list has an attribute of
-                                  that type */
+  bool is_present;             /* whether there is an attribute of that type: of
+                                  an attribute of the list, in the first list,
+                                  whatever its kind; of one in data, in the last
+                                  data of the first list */
 };
 
 /*
@@ -405,9 +411,11 @@ struct linkinfo_unmet {
  * Of several attributes of a type the last one counts, as in the kernel. An
  * attribute of the request is met where that of the link has an equal payload
  * or is equivalent. Data, port data and statistics also require that the kind
- * or the port kind has the same name. Data of a family is compared attribute by
- * attribute. Nested lists, and other data, are compared as a whole, with their
- * order and the flag bits inside. Empty data is met by data alone.
+ * or the port kind has the same name. Data that is a list is compared attribute
+ * by attribute, so empty data of such a kind is met by any data of that kind, and
+ * not without data. Other data, as that of veth and vxcan, and nested lists are
+ * compared as a whole, with their order; the flag bits of known types inside
+ * nested lists do not matter, those of unknown types do.
  *
  * Return: the first attribute of the request that is not met, or the error of a
  * list.
