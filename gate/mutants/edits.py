@@ -25,7 +25,7 @@ class Edit:
         self.by, self.pairs = form.words.get("by", "search"), form.pairs
         self.is_constant = self.is_outside = False
         self.moves_steps = self.has_loop = self.is_recursive = False
-        # The body, the constant or the text that it changes, as it makes it, once `look` was called.
+        # Each body, constant or text that it changes, as it makes it, once `look` was called.
         self.made = []
 
     def where(self):

@@ -219,7 +219,7 @@ def conclude(tallies, unproved, run):
         if lost:
             print(f"wrong: FAILED: wrong.seen keeps its lines of {', '.join(lost)}, since what was "
                   "tried is not the present commit")
-    print(f"wrong: {run.tried} mutants tried, {len(run.drawn)} of them drawn; {run.left} not tried, "
-          "since nothing that their verdict rests on has changed")
+    print(f"wrong: {run.tried} mutants tried, {len(run.drawn)} of them drawn; {run.left} not "
+          "tried, since nothing that their verdict rests on has changed")
     print("\n".join([*run.waits, f"{passed} passed, {failed} failed"]))
     return 1 if failed else 0
