@@ -41,17 +41,19 @@ class Plan:
 
     def lines(self, seconds):
         """What a landing would try with a budget of so many CPU seconds, in lines: each group with
-        an estimate of the seconds that are used after it."""
-        used, lines = 0, []
+        an estimate of the seconds that are used after it, and the sums."""
+        used, lines, counts = 0, [], {True: 0, False: 0}
         drawn = {it.label for it in self.drawn}
         for group in self.groups:
             is_tried = used < seconds
             used += FIRST_CHECK + A_MUTANT * len(group)
+            counts[is_tried] += len(group)
             own = sum(it.label in self.changed for it in group)
             lots = sum(it.label in drawn for it in group)
             lines.append(f"wrong: {'tries' if is_tried else 'waits'}: {group[0].crate} "
                          f"{len(group)} ({own} changed, {lots} drawn), {used} s")
-        return lines
+        return [*lines, f"wrong: estimate: {counts[True]} are tried, {counts[False]} wait, where a "
+                        f"group takes {FIRST_CHECK} s and a mutant {A_MUTANT}"]
 
 
 def in_groups(edits, lots):

@@ -71,7 +71,8 @@ class Errors(unittest.TestCase):
         self.assertRegex(said[0], rf"^wrong/count\.edits:{line}: {re.escape(why)}")
 
     def test_lines_that_no_mutant_has(self):
-        for line in ("more", "# more", "folder: src", "fn:one::f", "Old: n", " new: n", "goal: x\r"):
+        for line in ("more", "# more", "folder: src", "fn:one::f", "Old: n", " new: n",
+                     "goal: x\r"):
             self.is_wrong("by: grind", line, 4, f"a mutant has no such line: {line.strip()}")
 
     def test_lines_that_are_there_twice(self):

@@ -79,7 +79,9 @@ class Order(Repository):
         plan = self.planned(void, {it.label for it in void if it.label != "a 7"})
         self.assertEqual(plan.lines(100), ["wrong: tries: a 1 (1 changed, 0 drawn), 31 s",
                                            "wrong: tries: a 24 (0 changed, 0 drawn), 200 s",
-                                           "wrong: waits: a 5 (0 changed, 0 drawn), 255 s"])
+                                           "wrong: waits: a 5 (0 changed, 0 drawn), 255 s",
+                                           "wrong: estimate: 25 are tried, 5 wait, where a group "
+                                           "takes 25 s and a mutant 6"])
 
     def test_what_waits(self):
         void, same = mutants({"a": 3, "b": 2}), mutants({"c": 1})
