@@ -11,6 +11,7 @@ from unittest import mock
 from mutants import batches, budget, rooms
 from mutants.budget import Bounded, Budget, parts_of, try_groups
 from mutants.crates import write
+from mutants.full import Full
 from mutants.tally import Tally
 
 
@@ -87,11 +88,16 @@ class Bounds(unittest.TestCase):
         self.assertEqual(asked, [])
 
     def test_a_sample_of_those_that_were_tried_where_none_was_drawn(self):
+        def quick(lane, edits):
+            lane.check({}, edits, Full(False))
+
         law, = mutants(["m::TypeTrait"])
         law.is_outside = True
-        results, asked = self.tried([law, *mutants("abc")], 5, ("TypeTrait",))
-        self.assertEqual(results.decided, {"a_crate/m::TypeTrait"})
-        self.assertEqual(len(asked), 2)
+        with mock.patch.object(batches, "Quick", quick):
+            for proves, failures in ((True, 0), (False, 1)):
+                results, asked = self.tried([law, *mutants("abc")], 5, ("TypeTrait",), proves)
+                self.assertIn("a_crate/m::TypeTrait", results.decided)
+                self.assertEqual((len(asked), results.failures), (2, failures))
 
 
 class Groups(unittest.TestCase):
