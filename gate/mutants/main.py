@@ -110,14 +110,16 @@ def run_landing(crates, edits, tallies, stamps, minutes, unproved):
     on with those that wait."""
     known = known_of(edits)
     plan = Plan(edits, {it.label for it in known})
-    print(f"wrong: {plan.said}", flush=True)
+    print("\n".join([*lines_of(tallies), f"wrong: {plan.said}"]), flush=True)
     decided = try_groups(crates, plan.groups, tallies, stamps, Budget(60 * minutes))
     rejected = [it for tally in tallies.values() for it in tally.seen]
     keep({*tallies}.difference(unproved),
          [*rejected, *(it for it in known if it.label not in decided)])
     tried = sum(not it.is_control and it.label in decided for it in edits)
     drawn = [it for it in plan.drawn if it.label in decided]
-    return Run(tried, drawn, plan.left, waiting_lines(plan, decided))
+    # (a drawn one that there was no time for is one more that nothing has changed for)
+    left = plan.left + len(plan.drawn) - len(drawn)
+    return Run(tried, drawn, left, waiting_lines(plan, decided))
 
 
 def run_whole(crates, edits, tallies, stamps, noting):
@@ -127,12 +129,16 @@ def run_whole(crates, edits, tallies, stamps, noting):
     return Run(sum(not it.is_control for it in edits))
 
 
-def show_plan(edits, minutes):
-    """Prints what a landing would try, and tries nothing."""
+def lines_of(tallies):
+    return [line for it in tallies.values() for line in it.lines]
+
+
+def show_plan(edits, tallies, minutes):
+    """Prints what a landing would try, and tries nothing. The status is 1 where a mutant cannot be
+    applied."""
     plan = Plan(edits, {it.label for it in known_of(edits)})
-    print(f"wrong: {plan.said}")
-    print("\n".join(plan.lines(60 * minutes)))
-    return 0
+    print("\n".join([*lines_of(tallies), f"wrong: {plan.said}", *plan.lines(60 * minutes)]))
+    return 1 if any(it.failures for it in tallies.values()) else 0
 
 
 def proved(crates, named, flags):
@@ -177,7 +183,7 @@ def main(words):
     folders = ["wrong"] + ["must-fail"] * (bool(named) and minutes is None)
     edits = [edit for it, tally in tallies.items() for edit in edits_of(it, tally, folders)]
     if "--plan" in flags:
-        return show_plan(edits, minutes)
+        return show_plan(edits, tallies, minutes)
     stamps, unproved = proved(crates, named, flags)
     if unproved is None:
         print("0 passed, 1 failed")

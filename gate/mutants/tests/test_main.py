@@ -2,6 +2,7 @@
 import contextlib
 import io
 import unittest
+from types import SimpleNamespace
 from unittest import mock
 
 from mutants import main, seen
@@ -37,6 +38,55 @@ class Words(unittest.TestCase):
                 main.asked(words.split(), CRATES)
         with self.assertRaisesRegex(ValueError, "crates.txt names no crate three"):
             main.asked(["one", "three"], CRATES)
+
+
+class Landing(unittest.TestCase):
+    """A landing in which the budget is used up after the first of three mutants."""
+
+    def run_of(self, decided, plan):
+        tallies, kept = {"a_crate": Tally("a_crate")}, []
+        tallies["a_crate"].say("a_crate/wrong/m/bad", "a line is wrong", False)
+
+        def try_groups(crates, groups, tallies, stamps, budget):
+            self.assertEqual((groups, budget.seconds), (plan.groups, 180))
+            for it in plan.void:
+                if it.label in decided:
+                    tallies["a_crate"].rejected(it, "returns")
+            return decided
+
+        with mock.patch.multiple(main, try_groups=try_groups, known_of=lambda edits: [],
+                                 Plan=lambda edits, known: plan,
+                                 keep=lambda crates, rejected: kept.append((crates, rejected))):
+            with contextlib.redirect_stdout(io.StringIO()) as said:
+                run = main.run_landing({}, plan.void, tallies, None, 3, self.unproved)
+        return run, kept, said.getvalue()
+
+    unproved = ()
+
+    def test_what_is_told_and_kept(self):
+        void = edits(3)
+        for it in void:
+            it.crate = "a_crate"
+        plan = SimpleNamespace(void=void, drawn=[], left=7, groups=[void], said="said",
+                               changed={"f2"})
+        run, kept, said = self.run_of({"f0"}, plan)
+        self.assertEqual((run.tried, run.drawn, run.left), (1, [], 7))
+        self.assertEqual(run.waits, [
+            "wrong: waits: f2: its own text or function has changed",
+            "wrong: waits: 2 void mutants, neither passed nor failed: a_crate 2"])
+        self.assertEqual(kept, [({"a_crate"}, void[:1])])
+        self.assertEqual(said, "wrong: a_crate/wrong/m/bad: FAILED: a line is wrong\n"
+                               "wrong: said\n")
+
+    def test_nothing_is_kept_of_a_crate_that_is_not_proved(self):
+        self.unproved = ["a_crate"]
+        plan = SimpleNamespace(void=edits(1), drawn=[], left=0, groups=[], said="", changed=set())
+        self.assertEqual(self.run_of({"f0"}, plan)[1][0][0], set())
+
+    def test_drawn_mutants_that_there_is_no_time_for(self):
+        plan = SimpleNamespace(void=[], drawn=edits(2), left=5, groups=[], said="", changed=set())
+        run = self.run_of({"f1"}, plan)[0]
+        self.assertEqual(([it.label for it in run.drawn], run.left, run.waits), (["f1"], 6, []))
 
 
 class Conclusion(unittest.TestCase):
