@@ -97,4 +97,5 @@ def waiting_lines(plan, decided):
              if it.label in plan.changed]
     crates = {it.crate: sum(other.crate == it.crate for other in waits) for it in waits}
     told = ", ".join(f"{it} {number}" for it, number in crates.items())
-    return [*lines, f"wrong: waits: {len(waits)} void mutants, neither passed nor failed: {told}"]
+    return [*lines, f"wrong: waits: {len(waits)} mutants out of date, neither passed nor failed: "
+                    f"{told}"]

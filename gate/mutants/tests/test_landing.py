@@ -89,7 +89,7 @@ class Order(Repository):
         self.assertEqual(landing.waiting_lines(plan, {it.label for it in void}), [])
         self.assertEqual(landing.waiting_lines(plan, {"a 0", "b 1"}), [
             "wrong: waits: a 2: its own text or function has changed",
-            "wrong: waits: 3 void mutants, neither passed nor failed: a 2, b 1"])
+            "wrong: waits: 3 mutants out of date, neither passed nor failed: a 2, b 1"])
 
 
 class Changed(Repository):

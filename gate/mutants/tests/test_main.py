@@ -73,7 +73,7 @@ class Landing(unittest.TestCase):
         self.assertEqual((run.tried, run.drawn, run.left), (1, [], 7))
         self.assertEqual(run.waits, [
             "wrong: waits: f2: its own text or function has changed",
-            "wrong: waits: 2 void mutants, neither passed nor failed: a_crate 2"])
+            "wrong: waits: 2 mutants out of date, neither passed nor failed: a_crate 2"])
         self.assertEqual(kept, [({"a_crate"}, void[:1])])
         self.assertEqual(said, "wrong: a_crate/wrong/m/bad: FAILED: a line is wrong\n"
                                "wrong: said\n")
