@@ -100,12 +100,15 @@ class Compared:
         # The labels of those for which nothing that the verdict depends on has changed since the
         # commit of their crate, and of others whose own text and function have not.
         self.same, self.same_text = set(), set()
-        current = {*self.commits.values()}
+        current, based = {*self.commits.values()}, set()
         for commit in [*sorted(current), *sorted(set().union(*self.earlier.values()) - current)]:
             with tempfile.TemporaryDirectory(prefix="wrong-seen-") as folder:
                 before = marks_at(commit, folder)
                 for it in edits if before else ():
                     self.compare(it, commit, before)
+                    based |= {it.crate} if commit in self.earlier[it.crate] else set()
+        # (of a crate without such a commit here nothing says that a text has changed)
+        self.same_text |= {it.label for it in edits if it.crate not in based}
         others = f"; the history here has no commit {', '.join(sorted(lost))}" if lost else ""
         self.said = (f"wrong.seen has a commit of {len(self.commits)} of {len(crates)} crates for "
                      f"this toolchain, at which each of their mutants was rejected{others}")

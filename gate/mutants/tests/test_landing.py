@@ -6,6 +6,7 @@ from types import SimpleNamespace
 from unittest import mock
 
 from mutants import kept, landing, seen
+from mutants.crates import Folder
 
 from .repository import Repository
 
@@ -117,7 +118,9 @@ class Changed(Repository):
 
     def test_code_that_judges_and_the_toolchain(self):
         self.change("gate/mutants/quick.py", "judges", "judges otherwise")
+        self.change("crates/low/src/lib.rt", "/// Twice.", "/// Two times.\n#[inline(always)]")
         self.assertEqual((len(self.tried()), self.changed()), (3, set()))
+        self.git("checkout", "-q", "crates")
         self.git("checkout", "-q", "gate")
         with mock.patch.object(seen, "toolchain", lambda: "another"):
             self.assertEqual((len(self.tried()), self.changed()), (3, set()))
@@ -131,6 +134,14 @@ class Changed(Repository):
         self.assertEqual((len(self.tried()), self.changed()), (3, {"once"}))
         self.commit_of_nothing()
         self.assertEqual((len(self.tried()), self.changed()), (3, set()))
+
+    def test_without_history(self):
+        os.remove(f"{self.root}/wrong.seen")
+        self.git("checkout", "-q", "--orphan", "other")
+        self.commit()
+        self.assertEqual((len(self.tried()), self.changed()), (3, set()))
+        with mock.patch.object(seen, "git", lambda *words: None):
+            self.assertEqual((len(self.tried()), self.changed()), (3, set()))
 
     def commit_of_nothing(self):
         self.git("commit", "-q", "--allow-empty", "-m", "Nothing")
@@ -174,14 +185,7 @@ class Kept(Repository):
         os.remove(f"{self.root}/wrong.seen")
         self.patch(kept, "ROOT", self.root)
         self.patch(kept, "toolchain", lambda: "the toolchain")
-        self.patch(kept, "folder_of",
-                   lambda it: SimpleNamespace(read=self.read(it), has=self.has(it)))
-
-    def read(self, crate):
-        return lambda path: open(f"{self.root}/crates/{crate}/{path}", encoding="utf-8").read()
-
-    def has(self, crate):
-        return lambda path: os.path.exists(f"{self.root}/crates/{crate}/{path}")
+        self.patch(kept, "folder_of", lambda it: Folder(f"{self.root}/crates/{it}"))
 
     def known(self):
         return {it.label for it in kept.known_of(self.edits())}
