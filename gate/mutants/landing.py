@@ -28,7 +28,8 @@ class Plan:
         same, mutants = compared.same.union(known), [it for it in edits if not it.is_control]
         self.void = [it for it in edits if it.label not in same]
         self.changed = {it.label for it in self.void} - compared.same_text
-        self.drawn = drawn_among([it for it in mutants if it.label in same], lots)
+        # (of what wrong.seen claims: what this checkout has seen itself is no claim)
+        self.drawn = drawn_among([it for it in mutants if it.label in compared.same], lots)
         void = [it for it in mutants if it.label not in same]
         self.left = len(mutants) - len(void) - len(self.drawn)
         own, others = [[it for it in void if (it.label in self.changed) == is_own]
