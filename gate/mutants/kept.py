@@ -24,8 +24,7 @@ def known_of(edits):
     for crate in {it.crate for it in edits}:
         folder = folder_of(crate)
         kept[crate] = {*folder.read("out/wrong").split("\n")} if folder.has("out/wrong") else set()
-    return [it for it in edits if not it.is_control and kept[it.crate]
-            and kept_line(it, marks) in kept[it.crate]]
+    return [it for it in edits if kept[it.crate] and kept_line(it, marks) in kept[it.crate]]
 
 
 def keep(crates, rejected):

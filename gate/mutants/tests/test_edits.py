@@ -132,6 +132,10 @@ class Edits(unittest.TestCase):
         self.is_bad(f"fn: {FROM}\nold: n\nnew: m\n", "4 times in the body")
         self.is_bad(f"fn: {NEXT}\nold: no such text\nnew: n\n", "not once in the file")
 
+    def test_text_that_cannot_be_read(self):
+        self.is_bad(f"fn: {NEXT}\nold: n + 1\nnew: n\nmore\n", "no such line: more")
+        self.is_bad("old: n + 1\nnew: n\n", "no line 'fn:'")
+
     def test_file_of_another_module(self):
         text = "fn: {}\nfile: src/count.rt\nold: n + 1\nnew: n\n"
         self.is_bad(text.format("one::next"), "it belongs in wrong/lib.edits")

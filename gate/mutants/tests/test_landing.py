@@ -210,6 +210,9 @@ class Kept(Repository):
 
     def test_crates_of_which_nothing_is_rejected_any_more(self):
         kept.keep(["low", "high"], self.edits())
+        text = Folder(f"{self.root}/crates/low").read("out/wrong")
+        self.assertEqual([it.split()[0] for it in text.split("\n")],
+                         ["low/wrong/lib/once", "low/wrong/lib/twice"])
         kept.keep(["low"], [])
         self.assertEqual(self.known(), {"high/wrong/lib/four"})
 
