@@ -121,11 +121,12 @@ class Command(unittest.TestCase):
 
     def test_another_commit_in_a_fresh_checkout_tries_others(self):
         firsts = set()
-        for _ in range(12):
-            shutil.rmtree(f"{self.root}/crates/one/out", ignore_errors=True)
-            shutil.rmtree(f"{self.root}/crates/two/out", ignore_errors=True)
+        # (each commit's name decides between two crates, so that 40 of them do not all agree)
+        for _ in range(40):
             lines = self.run_with("--plan", "--minutes=0.0001", "one", "two")[1]
             firsts.add(re.match(r"wrong: tries: (\w+) 6 ", lines[1])[1])
+            if len(firsts) == 2:
+                break
             self.commit()
         self.assertEqual(firsts, {"one", "two"})
 
