@@ -4,19 +4,23 @@ import re
 import sys
 import tempfile
 from concurrent.futures import ThreadPoolExecutor
+from dataclasses import dataclass, field
 
 from . import seen
 from .batches import Lane
-from .crates import (
-    PARTS, ROOT, BadEdit, below, crates_of, folder_of, jobs, toolchain, write
-)
-from .edits import Edit
-from .marks import Marks
+from .budget import Budget, try_groups
+from .crates import PARTS, BadEdit, below, crates_of, folder_of, jobs
+from .edits import edits_in
+from .kept import keep, known_of, new_of
+from .landing import MINUTES, Plan, waiting_lines
 from .proving import prove
 from .rooms import leave_stamps, stamps_of
 from .tally import Tally
 
-USAGE = """./wrong: tries the mutants whose verdict can have changed, and a draw of the others.
+USAGE = f"""./wrong: tries mutants whose verdict can have changed, and a draw of the others, for
+    {MINUTES} minutes of CPU; with --minutes=N for N minutes.
+./wrong --minutes=N CRATE..: the same of the named crates.
+./wrong --plan [--minutes=N] [CRATE..]: prints in which order that would try them; tries nothing.
 ./wrong --all: tries every mutant, and writes wrong.seen, a line as each crate is done.
 ./wrong --all CRATE..: tries every mutant of the named crates, and writes their lines.
 ./wrong CRATE..: tries those of the named crates that were not seen rejected unchanged.
@@ -27,19 +31,32 @@ CONTROLS = {"still proved", "names lost", "steps moved", "recursion", "loop", "c
 FOLDERS = {*PARTS, "wrong", "must-fail", "out", "data"}
 
 
+@dataclass
+class Run:
+    """What a run tried: the number of mutants, those that were drawn, how many were left out since
+    nothing changed, lines about what waits, and whether it was of all crates and all mutants."""
+
+    tried: int
+    drawn: list = field(default_factory=list)
+    left: int = 0
+    waits: list = field(default_factory=list)
+    is_of_all_crates: bool = True
+    is_all: bool = False
+
+
 def edits_of(crate, tally, folders=("wrong",)):
     """The edits of a crate that can be applied. Anything else in their folders counts as failed. Of
     must-fail/, which the toolchain's gate tries, those are read that name a function."""
-    edits, folder = [], folder_of(crate)
+    folder = folder_of(crate)
     for name in folder.names("."):
         if name not in FOLDERS and os.path.isdir(f"{folder.top}/{name}"):
             tally.say(f"{crate}/{name}", "no folder of that name is read", False)
-    for path in [path for it in folders for path in folder.files(it)]:
-        if not path.endswith(".edit"):
-            tally.say(f"{crate}/{path}", "it is no file NAME.edit", False)
-            continue
-        edit = Edit(crate, path)
-        if path.startswith("must-fail/") and not edit.function:
+    found, others = edits_in(crate, folder, folders)
+    for path in others:
+        tally.say(f"{crate}/{path}", "it is no file of mutants", False)
+    edits = []
+    for edit in found:
+        if edit.form.place == "must-fail" and not edit.function:
             continue
         try:
             edit.look(folder)
@@ -87,93 +104,120 @@ def try_crates(crates, edits, tallies, stamps, noting=()):
                                                lanes, it in noting), names))
 
 
-def kept_path(crate):
-    return f"{ROOT}/crates/{crate}/out/wrong"
+def run_landing(crates, edits, tallies, stamps, minutes, unproved):
+    """Tries what is to be tried at a landing, for so many minutes of CPU, and keeps in this
+    checkout which mutants of crates that are proved were rejected, so that the next run here goes
+    on with those that wait."""
+    known = known_of(edits)
+    plan = Plan(edits, {it.label for it in known})
+    print("\n".join([*lines_of(tallies), f"wrong: {plan.said}"]), flush=True)
+    decided = try_groups(crates, plan.groups, tallies, stamps, Budget(60 * minutes))
+    rejected = [it for tally in tallies.values() for it in tally.seen]
+    keep({*tallies}.difference(unproved),
+         [*rejected, *(it for it in known if it.label not in decided)])
+    tried = sum(not it.is_control and it.label in decided for it in edits)
+    drawn = [it for it in plan.drawn if it.label in decided]
+    # (a drawn one that there was no time for is one more that nothing has changed for)
+    left = plan.left + len(plan.drawn) - len(drawn)
+    return Run(tried, drawn, left, waiting_lines(plan, decided))
 
 
-def new_of(edits, tallies):
-    """The edits that earlier runs over named crates have not seen rejected unchanged, and the
-    number of the others. Correct bodies are tried together with mutants alone."""
-    marks, new, left_out = Marks(ROOT), [], 0
-    for crate, tally in tallies.items():
-        folder = folder_of(crate)
-        kept = {*folder.read("out/wrong").split("\n")} if folder.has("out/wrong") else set()
-        own = [it for it in edits if it.crate == crate]
-        known = [it for it in own if not it.is_control and kept_line(it, marks) in kept]
-        tally.seen += known
-        left = [it for it in own if it not in known]
-        new += left if any(not it.is_control for it in left) else []
-        left_out += len(known)
-    return new, left_out
+def run_whole(crates, edits, tallies, stamps, noting):
+    """Tries all of these edits. For the crates in `noting`, wrong.seen names the present commit
+    once each of their edits has passed."""
+    try_crates(crates, edits, tallies, stamps, noting)
+    return Run(sum(not it.is_control for it in edits))
 
 
-def kept_line(edit, marks):
-    """The line that is kept of an edit that was seen rejected."""
-    return f"{edit.label} {marks.mark(edit)} {toolchain()}"
+def lines_of(tallies):
+    return [line for it in tallies.values() for line in it.lines]
 
 
-def keep(tallies):
-    """Keeps which edits were seen rejected."""
-    marks = Marks(ROOT)
-    for crate, tally in tallies.items():
-        write(kept_path(crate), "\n".join(kept_line(it, marks) for it in tally.seen))
+def show_plan(edits, tallies, minutes):
+    """Prints what a landing would try, and tries nothing. The status is 1 where a mutant cannot be
+    applied."""
+    plan = Plan(edits, {it.label for it in known_of(edits)})
+    print("\n".join([*lines_of(tallies), f"wrong: {plan.said}", *plan.lines(60 * minutes)]))
+    return 1 if any(it.failures for it in tallies.values()) else 0
+
+
+def proved(crates, named, flags):
+    """The stamps of the libraries, right after `rt ci`, and the crates that are not proved, or None
+    where no edit can be tried."""
+    if named:
+        return None, prove(named)
+    stamps = stamps_of(crates) if "--after-gate" in flags else None
+    if "--after-gate" in flags and not stamps:
+        print("wrong: the libraries are not all of one run of `rt ci`, so the crates are proved "
+              "first", flush=True)
+    return stamps, [] if stamps else prove([])
+
+
+def asked(words, crates):
+    """The named crates, the flags, and the minutes or None, or an error."""
+    named = [it for it in words if not it.startswith("--")]
+    minutes = [it[len("--minutes=") :] for it in words if it.startswith("--minutes=")]
+    flags = {it for it in words if it.startswith("--") and not it.startswith("--minutes=")}
+    unknown = [it for it in named if it not in crates]
+    if unknown:
+        raise ValueError(f"wrong: crates.txt names no crate {unknown[0]}")
+    is_number = len(minutes) < 2 and all(re.fullmatch(r"\d+(\.\d+)?", it) for it in minutes)
+    known = {"--all", "--plan"} if named else {"--all", "--plan", "--after-gate", "--stamps"}
+    if flags - known or not is_number or "--all" in flags and (minutes or "--plan" in flags):
+        raise ValueError(USAGE)
+    is_landing = minutes or "--plan" in flags or not named and "--all" not in flags
+    return named, flags, float((minutes or [MINUTES])[0]) if is_landing else None
 
 
 def main(words):
-    crates, named = crates_of(), [it for it in words if not it.startswith("--")]
-    flags = {*words} - {*named}
-    unknown = [it for it in named if it not in crates]
-    if unknown or flags - {"--all", "--after-gate", "--stamps"} or named and flags - {"--all"}:
-        why = f"wrong: crates.txt names no crate {unknown[0]}" if unknown else USAGE
+    crates = crates_of()
+    try:
+        named, flags, minutes = asked(words, crates)
+    except ValueError as why:
         print(why, file=sys.stderr)
         return 2
     if "--stamps" in flags:
         return leave_stamps(crates)
     tallies = {it: Tally(it) for it in crates if not named or it in named}
-    folders = ["wrong"] + ["must-fail"] * bool(named)
+    # (in a landing, `rt ci` has tried those of must-fail/)
+    folders = ["wrong"] + ["must-fail"] * (bool(named) and minutes is None)
     edits = [edit for it, tally in tallies.items() for edit in edits_of(it, tally, folders)]
-    drawn, left = [], 0
-    if named:
-        stamps, unproved = None, prove(named)
-    else:
-        stamps = stamps_of(crates) if "--after-gate" in flags else None
-        if "--after-gate" in flags and not stamps:
-            print("wrong: the libraries are not all of one run of `rt ci`, so the "
-                  "crates are proved first", flush=True)
-        unproved = [] if stamps else prove([])
+    if "--plan" in flags:
+        return show_plan(edits, tallies, minutes)
+    stamps, unproved = proved(crates, named, flags)
     if unproved is None:
         print("0 passed, 1 failed")
         return 1
-    is_all = "--all" in flags
-    if named and not is_all:
-        edits, left = new_of(edits, tallies)
-    elif not is_all:
-        edits, drawn, left, said = seen.chosen(edits)
-        print(f"wrong: {said}", flush=True)
-    try_crates(crates, edits, tallies, stamps, {*tallies}.difference(unproved) if is_all else ())
-    if named:
-        keep(tallies)
-    tried = sum(not it.is_control for it in edits)
-    return conclude(tallies, unproved, named, (tried, drawn, left), is_all)
+    if minutes is not None:
+        run = run_landing(crates, edits, tallies, stamps, minutes, unproved)
+    else:
+        is_all, known = "--all" in flags, [] if "--all" in flags else known_of(edits)
+        run = run_whole(crates, edits if is_all else new_of(edits, known), tallies, stamps,
+                        {*tallies}.difference(unproved) if is_all else ())
+        run.is_all, run.left = is_all, len(known)
+        if named:
+            keep({*tallies}.difference(unproved),
+                 [*known, *(it for tally in tallies.values() for it in tally.seen)])
+    run.is_of_all_crates = not named
+    return conclude(tallies, unproved, run)
 
 
-def conclude(tallies, unproved, named, numbers, is_all):
-    """Prints the counts, of mutants tried, drawn and left, and returns the status."""
-    tried, drawn, left = numbers
+def conclude(tallies, unproved, run):
+    """Prints the counts, and what waits, and returns the status."""
     passed = sum(it.passes for it in tallies.values())
     failed = sum(it.failures for it in tallies.values()) + len(unproved)
     for name in unproved:
         print(f"wrong: {name}: the unchanged crate is not proved")
     missing = CONTROLS.difference(*[it.controls for it in tallies.values()])
     # (a run that leaves mutants out tries the correct bodies of some crates alone)
-    if missing and not named and not left:
+    if missing and run.is_of_all_crates and not run.left and not run.waits:
         print(f"wrong: no correct body of these kinds was tried: {', '.join(sorted(missing))}")
         failed += 1
     rejected = {edit.label for it in tallies.values() for edit in it.seen}
-    void = [it.label for it in drawn if it.label not in rejected]
+    void = [it.label for it in run.drawn if it.label not in rejected]
     if void:
         print(f"wrong: FAILED: wrong.seen is void: drawn and not rejected: {', '.join(void)}")
-    if is_all:
+    if run.is_all:
         noted = [it.crate for it in tallies.values() if it.is_noted]
         lost = [it.crate for it in tallies.values() if it.is_noted is False]
         failed += len(lost)
@@ -181,7 +225,7 @@ def conclude(tallies, unproved, named, numbers, is_all):
         if lost:
             print(f"wrong: FAILED: wrong.seen keeps its lines of {', '.join(lost)}, since what was "
                   "tried is not the present commit")
-    print(f"wrong: {tried} mutants tried, {len(drawn)} of them drawn; {left} not tried, since "
-          "nothing that their verdict rests on has changed")
-    print(f"{passed} passed, {failed} failed")
+    print(f"wrong: {run.tried} mutants tried, {len(run.drawn)} of them drawn; {run.left} not "
+          "tried, since nothing that their verdict rests on has changed")
+    print("\n".join([*run.waits, f"{passed} passed, {failed} failed"]))
     return 1 if failed else 0

@@ -1,10 +1,15 @@
 """A checksum of all that the verdict on a mutant depends on.
 
-That is: the edit, the body that it changes, the contracts of the functions that this text names,
-and all else in `src/` of the crate but bodies of functions and comments; `specs/`, the lemmas of
-`proofs/` and the proofs beside the function's own; of each library below what a crate above sees
-of it: the same of `src/`, `specs/` and lemmas; and the code that judges. The toolchain is compared
-too (`seen`). Where an edit has equal sums in two states of the repository, it has equal verdicts.
+That is: the edit as it is read, and what it makes of the body that it changes; that body, the
+contracts of the functions that this text names, and all else in `src/` of the crate but bodies of
+functions and comments; `specs/`, the lemmas of `proofs/` and the proofs beside the function's own;
+of each library below what a crate above sees of it: the same of `src/`, `specs/` and lemmas; and
+the code that judges. The toolchain is compared too (`seen`). Where an edit has equal sums in two
+states of the repository, it has equal verdicts.
+
+The code that judges is the module `batches` and those that it imports. The others read mutants,
+choose which are tried, and count. What they give to a check is in the sum, and not their text: so
+the form of the files of mutants may change, and no verdict with it.
 
 A free function, or a method of no trait, is reached by its name alone. So the contract of one that
 neither the edit, the body, the rest of `src/` outside of functions, nor an import of `specs/` or
@@ -16,11 +21,14 @@ import hashlib
 import re
 
 from .crates import BadEdit, Folder, below, crates_of, folder_of
-from .edits import Edit
-from .sources import bodies_of, heads_of, may_be, names_in, visible
+from .edits import edits_in
+from .sources import UNSEEN, bodies_of, heads_of, may_be, names_in, place_of, visible
 
 # A line of specs/ or proofs/ that is a comment.
 COMMENT = re.compile(r"^\s*--( .*)?\n", re.M)
+# The module of the code that judges by which all of it is found, and its imports.
+JUDGES = "batches"
+IMPORT = re.compile(r"^from \.(\w*) import ([\w, ]*)", re.M)
 
 
 class Marks:
@@ -28,24 +36,41 @@ class Marks:
 
     def __init__(self, root):
         self.root, self.crates = root, crates_of(root)
-        for it in ("library", "judge", "read", "files", "uncommented", "base", "heads"):
+        for it in ("library", "judge", "read", "files", "uncommented", "base", "heads", "edits"):
             setattr(self, it, functools.cache(getattr(self, it)))
 
     def mark(self, edit):
-        """The sum of an edit in this state."""
+        """The sum of an edit in this state. BadEdit where it cannot be applied here."""
+        self.look(edit)
         beside = self.files(edit.crate, "/".join(["proofs", *edit.function.split("::")[1:-1]]))
         shown = {edit.function, edit.mutated}
         libraries = below(self.crates, edit.crate)
         own = [(it, text) for it, text in self.parts_of(edit.crate, shown, beside)
                if (it, text) not in self.base(edit.crate)[0]]
-        words = re.findall(r"\w+", " ".join([edit.text, *self.bodies(edit.crate, shown)]))
+        texts = [*edit.own_text(), *self.bodies(edit.crate, shown)]
+        words = re.findall(r"\w+", " ".join(texts))
         named = {*words}.union(*(names_in(*it) for it in own),
                                *(self.base(it)[1] for it in [edit.crate, *libraries]))
-        parts = [self.judge(), edit.label, edit.text, self.library(edit.crate)]
+        parts = [self.judge(), *edit.own_text(), self.library(edit.crate)]
         parts += [text for it in own for text in it] + [self.library(it) for it in libraries]
         parts += [text for it in [edit.crate, *libraries] for name, path, head in self.heads(it)
                   if name in named and path not in shown for text in (path, head)]
         return total(parts)
+
+    def own(self, edit):
+        """The sum of an edit's own text and of the function that it changes, with its contract."""
+        self.look(edit)
+        shown, functions = {edit.function, edit.mutated}, []
+        for path in self.files(edit.crate, "src"):
+            text = self.read(edit.crate, path)
+            functions += [text[place_of(path, text, name)[0] : end]
+                          for name, _, end, _, _ in bodies_of(edit.crate, path, text)
+                          if any(may_be(name, function) for function in shown)]
+        return total([*edit.own_text(), *(UNSEEN.sub("", it) for it in functions)])
+
+    def look(self, edit):
+        if not edit.made:
+            edit.look(folder_of(edit.crate, self.root))
 
     def library(self, name):
         """The sum of the text of a crate that every verdict over it depends on."""
@@ -90,19 +115,29 @@ class Marks:
         return COMMENT.sub("", self.read(crate, path))
 
     def judge(self):
-        """The sum of the code that judges, without its tests."""
-        top = Folder(self.root)
-        names = [it for it in top.names("gate/mutants") if it.endswith(".py")]
-        paths = ["wrong", *(f"gate/mutants/{it}" for it in names)]
-        return total([text for it in paths for text in (it, top.read(it))])
+        """The sum of the code that judges."""
+        top, left, texts = Folder(self.root), [JUDGES], {}
+        while left:
+            name = left.pop()
+            path = f"gate/mutants/{name}.py"
+            if path not in texts and top.has(path):
+                texts[path] = top.read(path)
+                for module, names in IMPORT.findall(texts[path]):
+                    left += [module] if module else re.findall(r"\w+", names)
+        return total([text for it in sorted(texts.items()) for text in it])
 
-    def of_label(self, crate, path):
-        """The sum of the edit of that name in this state, or nothing where there is none."""
+    def edits(self, crate):
+        """The edits of a crate in this state, by their names."""
+        found = edits_in(crate, folder_of(crate, self.root))[0] if crate in self.crates else []
+        return {it.label: it for it in found}
+
+    def of(self, label, crate, sum_of):
+        """What `sum_of`, which is `mark` or `own`, gives for the edit of that name in this state,
+        or nothing where none of that name can be applied."""
         try:
-            is_there = crate in self.crates and folder_of(crate, self.root).has(path)
-            return self.mark(Edit(crate, path, self.root)) if is_there else ""
+            edit = self.edits(crate).get(label)
+            return sum_of(edit) if edit else ""
         except (BadEdit, OSError):
-            # (a state from before this code)
             return ""
 
 

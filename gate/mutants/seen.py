@@ -3,7 +3,7 @@
 It has a line for each crate and each toolchain: `CRATE COMMIT TOOLCHAIN`. `./wrong --all` alone
 writes it, a line as soon as each mutant of the crate is rejected, so that a run that is stopped
 keeps what it has seen. At a landing, a mutant is not tried again where nothing that its verdict
-depends on has changed since that commit, but for a draw.
+depends on has changed since that commit, but for a draw (`landing`).
 """
 import io
 import random
@@ -17,10 +17,6 @@ from .crates import ROOT, toolchain, write
 from .marks import Marks
 
 SEEN = f"{ROOT}/wrong.seen"
-# How many mutants are drawn among those that need not be tried, and how many of one crate before
-# another crate is drawn.
-DRAWN = 48
-OF_A_CRATE = 24
 LINE = re.compile(r"(\w+) ([0-9a-f]{40}) (.+)")
 WRITING = threading.Lock()
 
@@ -58,14 +54,29 @@ def seen_lines():
     return commits if len(commits) == len(lines) else {}
 
 
+def is_before(commit):
+    """Whether a commit is before the present one in the history here."""
+    return git("merge-base", "--is-ancestor", commit, "HEAD") is not None
+
+
 def seen_commits(crates):
     """The commits of these crates in wrong.seen for this toolchain that can be used, and those that
     are not before the present commit in the history here."""
     lines = seen_lines()
     commits = {it: lines[it, toolchain()] for it in crates if (it, toolchain()) in lines}
-    lost = {it for it in {*commits.values()}
-            if git("merge-base", "--is-ancestor", it, "HEAD") is None}
+    lost = {it for it in {*commits.values()} if not is_before(it)}
     return {crate: it for crate, it in commits.items() if it not in lost}, lost
+
+
+def earlier_commits(crates):
+    """For each of these crates the commits by which it is decided whether a mutant's own text has
+    changed: those of all its lines in wrong.seen, for any toolchain, or else the commit before the
+    present one."""
+    lines, parent = seen_lines(), (git("rev-parse", "HEAD^1") or b"").decode().split()
+    usable = {it for it in {*lines.values()} if is_before(it)}
+    named = {it: {lines[at] for at in lines if at[0] == it and lines[at] in usable}
+             for it in crates}
+    return {it: named[it] or {*parent} for it in crates}
 
 
 def marks_at(commit, folder):
@@ -79,48 +90,38 @@ def marks_at(commit, folder):
     return Marks(folder)
 
 
-def unchanged(edits):
-    """The edits for which nothing that the verdict depends on has changed since the commit of their
-    crate in wrong.seen, and a line about it."""
-    crates = {it.crate for it in edits}
-    commits, lost = seen_commits(crates)
-    now, same = Marks(ROOT), []
-    for commit in sorted({*commits.values()}):
-        with tempfile.TemporaryDirectory(prefix="wrong-seen-") as old:
-            before = marks_at(commit, old)
-            same += [it for it in edits if before and commits.get(it.crate) == commit
-                     and before.of_label(it.crate, it.path) == now.mark(it)]
-    others = f"; the history here has no commit {', '.join(sorted(lost))}" if lost else ""
-    return same, (f"wrong.seen has a commit of {len(commits)} of {len(crates)} crates for this "
-                  f"toolchain, at which each of their mutants was rejected{others}")
+class Compared:
+    """Edits, beside what they were at the commits that wrong.seen names."""
 
+    def __init__(self, edits):
+        crates = {it.crate for it in edits}
+        self.commits, lost = seen_commits(crates)
+        self.earlier, self.now = earlier_commits(crates), Marks(ROOT)
+        # The labels of those for which nothing that the verdict depends on has changed since the
+        # commit of their crate, and of others whose own text and function have not.
+        self.same, self.same_text = set(), set()
+        current, based = {*self.commits.values()}, set()
+        for commit in [*sorted(current), *sorted(set().union(*self.earlier.values()) - current)]:
+            with tempfile.TemporaryDirectory(prefix="wrong-seen-") as folder:
+                before = marks_at(commit, folder)
+                for it in edits if before else ():
+                    self.compare(it, commit, before)
+                    based |= {it.crate} if commit in self.earlier[it.crate] else set()
+        # (of a crate without such a commit here nothing says that a text has changed)
+        self.same_text |= {it.label for it in edits if it.crate not in based}
+        others = f"; the history here has no commit {', '.join(sorted(lost))}" if lost else ""
+        self.said = (f"wrong.seen has a commit of {len(self.commits)} of {len(crates)} crates for "
+                     f"this toolchain, at which each of their mutants was rejected{others}")
 
-def drawn_among(same, lots):
-    """The mutants that are drawn: of one crate after the other, each drawn with a probability
-    proportional to the number of its mutants that are left, `OF_A_CRATE` of each. Each crate
-    that has a mutant to try costs a first check, so the draw is of few crates."""
-    left, drawn = list(same), []
-    while left and len(drawn) < DRAWN:
-        crate = lots.choice(left).crate
-        own = [it for it in left if it.crate == crate]
-        drawn += lots.sample(own, min(OF_A_CRATE, DRAWN - len(drawn), len(own)))
-        left = [it for it in left if it not in drawn]
-    return drawn
-
-
-def chosen(edits):
-    """The edits to try at a landing, those of them that were drawn, the number of mutants not to be
-    tried, and a line about it. A correct body is tried where it changed, and where mutants of its
-    crate are tried."""
-    same, said = unchanged(edits)
-    drawn = drawn_among([it for it in same if not it.is_control], draw())
-    left = {it.label for it in same} - {it.label for it in drawn}
-    crates = {it.crate for it in edits if not it.is_control and it.label not in left}
-    left -= {it.label for it in same if it.is_control and it.crate in crates}
-    if left and not is_committed():
-        said += " (some changes are not committed; the draw is by the last commit)"
-    mutants = sum(not it.is_control for it in same) - len(drawn)
-    return [it for it in edits if it.label not in left], drawn, mutants, said
+    def compare(self, edit, commit, before):
+        """Compares an edit with what it was at a commit."""
+        now, label = self.now, edit.label
+        if self.commits.get(edit.crate) == commit:
+            if before.of(label, edit.crate, before.mark) == now.mark(edit):
+                self.same.add(label)
+        if commit in self.earlier[edit.crate] and label not in self.same | self.same_text:
+            if before.of(label, edit.crate, before.own) == now.own(edit):
+                self.same_text.add(label)
 
 
 def is_committed():

@@ -7,6 +7,7 @@ from mutants.batches import Lane
 from mutants.copies import Copy, copied, copy_of
 from mutants.crates import Folder, write
 from mutants.edits import Edit
+from mutants.forms import forms_of
 from mutants.full import Full
 from mutants.judging import Report
 from mutants.quick import Quick
@@ -77,9 +78,8 @@ class Copies(unittest.TestCase):
 
     def edit(self, function, old, new, name="it", further=""):
         """A mutant in which the function has the new text for the old one."""
-        path = f"wrong/m/{name}.edit"
-        self.put(path, f"fn: {function}\n{further}file: src/m.rt\nold: {old}\nnew: {new}\n")
-        made = Edit("one", path, self.root)
+        text = f"mutant: {name}\nfn: {function}\n{further}old: {old}\nnew: {new}\n"
+        made = Edit("one", forms_of("wrong/m.edits", text)[0])
         made.look(self.folder)
         return made
 

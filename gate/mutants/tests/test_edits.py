@@ -1,10 +1,9 @@
-"""Reading edits, and what they change."""
-import os
-import tempfile
+"""What mutants change."""
 import unittest
 
 from mutants.crates import BadEdit
 from mutants.edits import Edit
+from mutants.forms import forms_of
 from mutants.sources import block_name, bodies_of, body_of, heads_of, is_in_cycle, visible
 from mutants.steps import are_moved
 
@@ -47,22 +46,14 @@ FROM = "one::count::CountFromU8::from"
 class Edits(unittest.TestCase):
     """Edits of a crate `one` with one file."""
 
-    def setUp(self):
-        self.top = tempfile.TemporaryDirectory()
-        self.addCleanup(self.top.cleanup)
-        for name in ("control", "count"):
-            os.makedirs(f"{self.top.name}/crates/one/wrong/{name}")
-
-    def applied(self, text, name="wrong/count/it.edit"):
-        """The file as the edit makes it, and the edit."""
-        with open(f"{self.top.name}/crates/one/{name}", "w", encoding="utf-8") as it:
-            it.write(text)
-        edit = Edit("one", name, self.top.name)
+    def applied(self, text, path="wrong/count.edits"):
+        """The file as the edit of this text makes it, and the edit."""
+        edit = Edit("one", forms_of(path, f"mutant: it\n{text}")[0])
         return edit.applied(lambda path: SOURCE)["src/count.rt"], edit
 
-    def is_bad(self, text, name="wrong/count/it.edit"):
-        with self.assertRaises(BadEdit):
-            self.applied(text, name)
+    def is_bad(self, text, why, path="wrong/count.edits"):
+        with self.assertRaisesRegex(BadEdit, f"^crates/one/{path}:\\d: .*{why}"):
+            self.applied(text, path)
 
     def test_a_goal_and_the_tactic_that_proves_it(self):
         text = (f"fn: {NEXT}\ngoal: returns\nby: grind\nfile: src/count.rt\n"
@@ -134,26 +125,31 @@ class Edits(unittest.TestCase):
         self.assertTrue(edit.is_outside)
 
     def test_text_of_another_body(self):
-        self.is_bad(f"fn: {NEXT}\nfile: src/count.rt\nold: n.min(MOST)\nnew: n\n")
+        self.is_bad(f"fn: {NEXT}\nold: n.min(MOST)\nnew: n\n", "0 times in the body")
 
     def test_text_that_is_there_twice_or_never(self):
-        self.is_bad(f"fn: {NEXT}\nfile: src/count.rt\nold: fn\nnew: n\n")
-        self.is_bad(f"fn: {NEXT}\nfile: src/count.rt\nold: no such text\nnew: n\n")
+        self.is_bad(f"fn: {NEXT}\nold: fn\nnew: n\n", "0 times in the body")
+        self.is_bad(f"fn: {FROM}\nold: n\nnew: m\n", "4 times in the body")
+        self.is_bad(f"fn: {NEXT}\nold: no such text\nnew: n\n", "not once in the file")
 
-    def test_lines_that_no_edit_has(self):
-        self.is_bad(f"file: src/count.rt\nold: n + 1\nnew: n\n")
-        self.is_bad(f"fn: {NEXT}\nfile: src/count.rt\nold: n + 1\n")
-        self.is_bad(f"fn: {NEXT}\nfile: specs/X.antt\nold: n + 1\nnew: n\n")
-        self.is_bad(f"fn: {NEXT}\nfile: src/count.rt\nold: n + 1\nnew: n\nmore\n")
+    def test_text_that_cannot_be_read(self):
+        self.is_bad(f"fn: {NEXT}\nold: n + 1\nnew: n\nmore\n", "no such line: more")
+        self.is_bad("old: n + 1\nnew: n\n", "no line 'fn:'")
 
-    def test_folder_of_another_module(self):
+    def test_file_of_another_module(self):
         text = "fn: {}\nfile: src/count.rt\nold: n + 1\nnew: n\n"
-        self.is_bad(text.format("one::next"))
-        self.is_bad(text.format(NEXT), "wrong/it.edit")
+        self.is_bad(text.format("one::next"), "it belongs in wrong/lib.edits")
+        self.is_bad(text.format(NEXT), "it belongs in wrong/count.edits", "wrong/it.edits")
+
+    def test_file_that_is_that_of_the_module(self):
+        for line in ("", "file: src/count.rt\n"):
+            text, edit = self.applied(f"fn: {NEXT}\n{line}old: n + 1\nnew: n\n")
+            self.assertEqual(edit.pairs, [("src/count.rt", "n + 1", "n")])
+            self.assertEqual(edit.label, "one/wrong/count/it")
 
     def test_control(self):
         text = f"fn: {FROM}\nin: {NEXT}\nfile: src/count.rt\nold: n + 1\nnew: n + 1 + 0\n"
-        _, edit = self.applied(text, "wrong/control/it.edit")
+        _, edit = self.applied(text, "wrong/control.edits")
         self.assertTrue(edit.is_control)
         self.assertEqual((edit.function, edit.mutated), (FROM, NEXT))
 

@@ -1,7 +1,5 @@
-"""Tests of lanes: what is decided of a mutant alone, what is proved unchanged after the mutants,
-and what is concluded of all lanes."""
-import contextlib
-import io
+"""Tests of lanes: what is decided of a mutant alone, and what is proved unchanged after the
+mutants."""
 import os
 import random
 import tempfile
@@ -9,7 +7,7 @@ import types
 import unittest
 from unittest import mock
 
-from mutants import main, rooms, seen
+from mutants import rooms
 from mutants.batches import SAMPLE, Lane, takes_stub
 from mutants.crates import Folder, write
 from mutants.judging import Report
@@ -217,55 +215,6 @@ class Together(unittest.TestCase):
                                 for it in ("a_crate::f", "a_crate::g", "a_crate::f")]
         batch, _, left = batch_of([first, second, third], types.SimpleNamespace(read=None))
         self.assertEqual((batch, left), ([first, second], [third]))
-
-
-class Conclusion(unittest.TestCase):
-    def concluded(self, tally, drawn, is_all=False, left=1):
-        with contextlib.redirect_stdout(io.StringIO()) as said:
-            status = main.conclude({"a_crate": tally}, [], [], (1, drawn, left), is_all)
-        return status, said.getvalue()
-
-    def test_a_drawn_mutant_that_is_not_rejected(self):
-        tally, drawn = Tally("a_crate"), edits(1)
-        tally.failed(drawn[0], "NOT REJECTED by its function")
-        status, said = self.concluded(tally, drawn)
-        self.assertEqual(status, 1)
-        self.assertIn("wrong.seen is void: drawn and not rejected: f0", said)
-        self.assertTrue(said.endswith("0 passed, 1 failed\n"))
-
-    def test_a_drawn_mutant_that_is_rejected(self):
-        tally, drawn = Tally("a_crate"), edits(1)
-        tally.rejected(drawn[0], "returns")
-        status, said = self.concluded(tally, drawn)
-        self.assertEqual(status, 0)
-        self.assertNotIn("void", said)
-
-    def tried(self, edit, passes, notes=True):
-        """The tally of a crate with one edit, which passes or fails."""
-        made, tally = Tally("a_crate"), Tally("a_crate")
-        made.say(edit.label, "rejected", passes)
-        with mock.patch.object(main, "Lane", return_value=mock.Mock(try_all=lambda *_: made)):
-            with mock.patch.object(main.seen, "draw"), contextlib.redirect_stdout(io.StringIO()):
-                return main.try_crate({}, [edit], tally, "", None, 1, notes)
-
-    def test_only_a_crate_without_failures_is_noted(self):
-        edit = edits(1)[0]
-        for could in (True, False):
-            with mock.patch.object(seen, "write_seen", return_value=could) as written:
-                bad = self.tried(edit, False)
-                written.assert_not_called()
-                self.assertIsNone(self.tried(edit, True, False).is_noted)
-                written.assert_not_called()
-                good = self.tried(edit, True)
-                written.assert_called_once_with("a_crate")
-            self.assertEqual((bad.is_noted, good.is_noted), (None, could))
-            good.controls = set(main.CONTROLS)
-            status, said = self.concluded(good, [], True, 0)
-            self.assertEqual(status, 0 if could else 1)
-            self.assertIn("names the present commit for a_crate" if could else
-                          "FAILED: wrong.seen keeps its lines of a_crate", said)
-            self.assertIn("for no crate", self.concluded(bad, [], True, 0)[1])
-
 
 if __name__ == "__main__":
     unittest.main()
