@@ -222,7 +222,8 @@ fn push_listed(flags: Flags, place: u32, number: u64, text: &mut String) -> Resu
     match flag_at(flags, place) {
         Some(flag) if is_set(&flag, number) => {
             push_comma(text)?;
-            text.push_str(flag.name)
+            text.push_str(flag.name)?;
+            Ok(())
         }
         _ => Ok(()),
     }
