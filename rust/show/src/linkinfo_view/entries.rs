@@ -81,7 +81,7 @@ pub(crate) const GRE: &[Entry] = rows! {
     (21, "erspan_index", Le32, Plain),
     (22, "erspan_ver", U8, Plain),
     (23, "erspan_dir", U8, Word(Words::ErspanDirection)),
-    (24, "erspan_hwid", Le16, Hex),
+    (24, "erspan_hwid", Le16, HexOrZero),
 };
 
 /// `IFLA_GRE_*` (include/uapi/linux/if_tunnel.h), over IPv6.
@@ -108,7 +108,7 @@ pub(crate) const GRE6: &[Entry] = rows! {
     (21, "erspan_index", Le32, Plain),
     (22, "erspan_ver", U8, Plain),
     (23, "erspan_dir", U8, Word(Words::ErspanDirection)),
-    (24, "erspan_hwid", Le16, Hex),
+    (24, "erspan_hwid", Le16, HexOrZero),
 };
 
 /// `IFLA_GTP_*`.
@@ -244,7 +244,7 @@ pub(crate) const WWAN: &[Entry] = rows! {
 /// `IFLA_XFRM_*`.
 pub(crate) const XFRM: &[Entry] = rows! {
     (1, "link", Le32, Plain),
-    (2, "if_id", Le32, Hex),
+    (2, "if_id", Le32, HexOrZero),
     (3, "external", Mark, Present),
 };
 
@@ -292,7 +292,7 @@ pub(crate) const VXLAN: &[Entry] = rows! {
     (30, "vnifilter", Truth, Plain),
     (31, "localbypass", Truth, Plain),
     (32, "label_policy", Le32, Word(Words::LabelPolicy)),
-    (33, "reserved_bits", Be64, Hex),
+    (33, "reserved_bits", Be64, HexOrZero),
     (34, "mcroute", Truth, Plain),
 };
 
