@@ -86,6 +86,7 @@ use Rattle.linkinfo_view.specs.Text.{
   hex_or_zero,
   octets_text,
   thousandths_text,
+  with_comma,
 }
 use Rattle.linkinfo_view.specs.Values.{
   Named,
@@ -112,7 +113,6 @@ use Rattle.linkinfo_view.specs.Values.{
   second_of,
   switch_data,
   with_bit,
-  with_comma,
   with_name,
   with_option,
   without,

@@ -88,3 +88,8 @@ thousandths_text n = decimal (n / 1000) ++ codes "." ++ decimal (n / 100 % 10)
 -- bytes in hex, as a JSON string
 abbrev pub hex_data : List ℕ → Data
 hex_data bytes = string (encode_lower bytes)
+
+-- a comma after a text that is not empty
+abbrev pub with_comma : List ℕ → List ℕ
+with_comma [] = []
+with_comma (c ∷ s) = (c ∷ s) ++ codes ","

@@ -64,6 +64,7 @@ use Rattle.linkinfo_view.specs.Text.{
   hex_or_zero,
   octets_text,
   thousandths_text,
+  with_comma,
 }
 use Rattle.linkinfo_view.specs.Words.{FlagRow, flag_at, word}
 use Rattle.linkinfo_view.specs.declared.format.Format.{Format}
@@ -249,10 +250,6 @@ names_data flags n =
     (items_of (names_from 16 0 flags n ++ unnamed_data (over_flags without 16 0 flags n n)))
 
 -- the names of the flags that are set as one text, with commas between them; `0x0` if none is
-abbrev pub with_comma : List ℕ → List ℕ
-with_comma [] = []
-with_comma (c ∷ s) = (c ∷ s) ++ codes ","
-
 abbrev pub listed : Option FlagRow → ℕ → List ℕ → List ℕ
 listed None n s = s
 listed (Some flag) n s = if is_set flag n then with_comma s ++ flag.name else s

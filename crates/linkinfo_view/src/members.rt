@@ -32,7 +32,6 @@ ghost use Rattle.linkinfo_view.specs.Values.{
   or_zero,
   unnamed_data,
   with_bit,
-  with_comma,
   with_name,
   with_option,
   without as without_flag,
@@ -58,7 +57,7 @@ ghost use Rattle.linkinfo_view.specs.Words.{flag_at as flag_of_place, flag_seen}
 
 use crate::attributes::first_attribute;
 use crate::format::{Elements, Flags, Format, Row, Table};
-use crate::text::{class_json, hex_json, hex_or_zero_json, label_json, number_json, push_ascii};
+use crate::text::{class_json, hex_json, hex_or_zero_json, label_json, number_json, push_comma};
 use crate::value::{
     datum_of, first_of, flags_json, format_json, is_multicast, json_as, pair_json, plain_json,
     second_of,
@@ -201,16 +200,6 @@ fn names_json(alloc: Global, flags: Flags, number: u64) -> Result<Value, AllocEr
     }
     push_unnamed(alloc, left, &mut names)?;
     Ok(Value::Array(names))
-}
-
-/// Adds a comma to a text that is not empty.
-fn push_comma(text: &mut String) -> Result<(), AllocError>
-    ensures { OnOk result (string_bytes text.new ≡ with_comma (string_bytes text.old)) }
-{
-    if text.is_empty() {
-        return Ok(());
-    }
-    push_ascii(text, b',')
 }
 
 /// Adds the name of the flag at a place to a text, after a comma unless it is the first one, if

@@ -21,6 +21,7 @@ ghost use Rattle.linkinfo_view.specs.Text.{
   octet_digits,
   octets_text,
   thousandths_text,
+  with_comma,
 };
 
 use serde_json::Value;
@@ -74,12 +75,22 @@ fn push_octet(text: &mut String, digits: OctetDigits, octet: u8) -> Result<(), A
 }
 
 /// Adds a byte that is ASCII.
-pub fn push_ascii(text: &mut String, byte: u8) -> Result<(), AllocError>
+fn push_ascii(text: &mut String, byte: u8) -> Result<(), AllocError>
     requires { byte < 128 }
     ensures { OnOk result (string_bytes text.new ≡ string_bytes text.old ++ byte ∷ []) }
 {
     text.push(char::from(byte))?;
     Ok(())
+}
+
+/// Adds a comma to a text that is not empty.
+pub fn push_comma(text: &mut String) -> Result<(), AllocError>
+    ensures { OnOk result (string_bytes text.new ≡ with_comma (string_bytes text.old)) }
+{
+    if text.is_empty() {
+        return Ok(());
+    }
+    push_ascii(text, b',')
 }
 
 /// Adds a byte as `escaped` writes it.

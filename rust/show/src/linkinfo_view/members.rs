@@ -6,7 +6,7 @@ use crate::compat::serde_json::{Map, Value, push, put};
 use crate::linkinfo_view::attributes::first_attribute;
 use crate::linkinfo_view::format::{Elements, Flags, Format, Row, Table};
 use crate::linkinfo_view::text::{
-    class_json, hex_json, hex_or_zero_json, label_json, number_json, push_ascii,
+    class_json, hex_json, hex_or_zero_json, label_json, number_json, push_comma,
 };
 use crate::linkinfo_view::value::{
     datum_of, first_of, flags_json, format_json, is_multicast, json_as, pair_json, plain_json,
@@ -114,14 +114,6 @@ fn names_json(flags: Flags, number: u64) -> Result<Value, AllocError> {
     }
     push_unnamed(left, &mut names)?;
     Ok(Value::Array(names))
-}
-
-/// Adds a comma to a text that is not empty.
-fn push_comma(text: &mut String) -> Result<(), AllocError> {
-    if text.is_empty() {
-        return Ok(());
-    }
-    push_ascii(text, b',')
 }
 
 /// Adds the name of the flag at a place to a text, after a comma unless it is the first one, if

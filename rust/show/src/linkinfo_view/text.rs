@@ -40,14 +40,17 @@ fn push_octet(text: &mut String, digits: OctetDigits, octet: u8) -> Result<(), A
 }
 
 /// Adds a byte that is ASCII.
-///
-/// # Panics
-///
-/// May panic where a condition of the caller that is named here does not hold. Where it does
-/// not panic then, the result has no meaning.
-pub fn push_ascii(text: &mut String, byte: u8) -> Result<(), AllocError> {
+fn push_ascii(text: &mut String, byte: u8) -> Result<(), AllocError> {
     text.try_push(char::from(byte))?;
     Ok(())
+}
+
+/// Adds a comma to a text that is not empty.
+pub fn push_comma(text: &mut String) -> Result<(), AllocError> {
+    if text.is_empty() {
+        return Ok(());
+    }
+    push_ascii(text, b',')
 }
 
 /// Adds a byte as `escaped` writes it.
