@@ -255,9 +255,11 @@ format_flat : (f : Format) (v : value.Value) (payload : List ℕ) →
 format_flat format.Present v payload = truth_flat 1 _
 format_flat format.Switch v payload = switch_flat (first_of v)
 format_flat format.Hex v payload = text_flat 1 _
+format_flat format.HexOrZero v payload = text_flat 1 _
 format_flat format.KeyHex v payload = text_flat 1 _
 format_flat format.FourDigits v payload = text_flat 1 _
 format_flat format.Octets v payload = text_flat 1 _
+format_flat format.HardwareAddress v payload = text_flat 1 _
 format_flat format.Quad v payload = plain_or_hex_flat payload (meant shape.V4 payload)
 format_flat (format.Word words) v payload = named_flat _ _
 format_flat format.Address v payload = either_flat 1 _ _ _ (text_flat 1 _) (plain_flat v)
@@ -384,7 +386,8 @@ first_named name v more = (name, flags_data v) ∷ more
 members_flat : (nested : Table → List ℕ → Data) (n : ℕ) → 2 ≤ n →
     ((t : Table) (s : List ℕ) → IsFlat n (nested t s)) → (name : List ℕ) (f : Format)
     (v : value.Value) (payload : List ℕ) → NamedFlat n (format_members nested name f v payload)
-members_flat nested n le all name format.Mask v payload = (text_flat n _, (text_flat n _, tt))
+members_flat nested n le all name (format.Mask flags) v payload =
+    (text_flat n _, (text_flat n _, tt))
 members_flat nested n le all name format.FlowInfo v payload =
     (text_flat n _, (text_flat n _, (text_flat n _, tt)))
 members_flat nested n le all name format.Group v payload =

@@ -293,7 +293,7 @@ group_thins false name other d = inl (one_taken other d [])
 
 format_thins : (nested : Table → List ℕ → Data) (name : Text) (f : Format) (v : value.Value)
     (payload : List ℕ) → Thins (format_members nested name f v payload) (names_of name f)
-format_thins nested name format.Mask v payload = two_taken _ _ _ _
+format_thins nested name (format.Mask flags) v payload = two_taken _ _ _ _
 format_thins nested name format.FlowInfo v payload = three_taken _ _ _ _ _ _
 format_thins nested name format.Group v payload = group_thins _ name (codes "remote") _
 format_thins nested name format.Group6 v payload = group_thins _ name (codes "remote6") _
@@ -306,7 +306,7 @@ format_thins nested name (format.SecondNames flags) v payload = two_taken _ _ _ 
 format_thins nested name f v payload = one_taken _ _ []
 
 rejected : (f : Format) (name : Text) (d : Data) → Thins ((name, d) ∷ []) (names_of name f)
-rejected format.Mask name d = one_taken name d (codes "group_fwd_mask_str" ∷ [])
+rejected (format.Mask flags) name d = one_taken name d (codes "group_fwd_mask_str" ∷ [])
 rejected format.FlowInfo name d = one_taken name d (codes "tclass" ∷ codes "flowlabel" ∷ [])
 rejected format.Group name d = one_taken name d (codes "remote" ∷ [])
 rejected format.Group6 name d = one_taken name d (codes "remote6" ∷ [])

@@ -29,11 +29,10 @@ use Rattle.linkinfo_view.specs.Values.{
   bits_from,
   names_from,
   options_from,
-  unnamed_from,
+  over_flags,
   with_bit,
   with_name,
   with_option,
-  without,
 }
 use Rattle.linkinfo_view.specs.View.{put_all}
 use Rattle.linkinfo_view.specs.Words.{FlagRow, flag_at}
@@ -104,14 +103,15 @@ names_step place flags n h =
     ∙ ap (λ (p : ℕ). with_name (flag_at flags place) n []
     ++ names_from (16 - (place + 1)) p flags n) (next_place place)
 
-pub unnamed_step : (place : ℕ) (flags : Flags) (n left : ℕ) → place < 16 →
-    unnamed_from (16 - place) place flags n left
-    ≡ unnamed_from (16 - (place + 1)) (place + 1) flags n (without (flag_at flags place) n left)
-unfolding unnamed_from
-unnamed_step place flags n left h =
-    ap (λ (k : ℕ). unnamed_from k place flags n left) (left_at place h)
-    ∙ ap (λ (p : ℕ). unnamed_from (16 - (place + 1)) p flags n
-    (without (flag_at flags place) n left)) (next_place place)
+pub flags_step : {A : Type 0} (step : Option FlagRow → ℕ → A → A) (place : ℕ) (flags : Flags)
+    (n : ℕ) (x : A) → place < 16 →
+    over_flags step (16 - place) place flags n x
+    ≡ over_flags step (16 - (place + 1)) (place + 1) flags n (step (flag_at flags place) n x)
+unfolding over_flags
+flags_step step place flags n x h =
+    ap (λ (k : ℕ). over_flags step k place flags n x) (left_at place h)
+    ∙ ap (λ (p : ℕ). over_flags step (16 - (place + 1)) p flags n
+    (step (flag_at flags place) n x)) (next_place place)
 
 none_left : (place : ℕ) → 16 ≤ place → 16 - place ≡ 0
 none_left place h = omega arith
@@ -132,8 +132,8 @@ pub names_end : (place : ℕ) (flags : Flags) (n : ℕ) → 16 ≤ place →
 unfolding names_from
 names_end place flags n h = ap (λ (k : ℕ). names_from k place flags n) (none_left place h)
 
-pub unnamed_end : (place : ℕ) (flags : Flags) (n left : ℕ) → 16 ≤ place →
-    unnamed_from (16 - place) place flags n left ≡ left
-unfolding unnamed_from
-unnamed_end place flags n left h =
-    ap (λ (k : ℕ). unnamed_from k place flags n left) (none_left place h)
+pub flags_end : {A : Type 0} (step : Option FlagRow → ℕ → A → A) (place : ℕ) (flags : Flags)
+    (n : ℕ) (x : A) → 16 ≤ place → over_flags step (16 - place) place flags n x ≡ x
+unfolding over_flags
+flags_end step place flags n x h =
+    ap (λ (k : ℕ). over_flags step k place flags n x) (none_left place h)

@@ -67,10 +67,13 @@ use Rattle.linkinfo_view.specs.Text.{
   is_plain,
   is_printable,
   label_text,
-  mask_text,
+  hex_or_zero,
+  octet_digits,
   octets_text,
   thousandths_text,
 }
+use Rattle.linkinfo_view.specs.declared.text.OctetDigits.{OctetDigits}
+use Rattle.linkinfo_view.specs.declared.text.OctetDigits.TheVariants as octet
 
 abbrev pub Printable : List ℕ → Type 0
 Printable s = AllByRecursion (λ (c : ℕ). is_printable c ≡ true) s
@@ -146,8 +149,8 @@ hex_printable n =
     both_printable (codes "0x") _ (known (codes "0x") refl)
     (number_printable 16 n (lit≤ tt) (lit≤ tt))
 
-pub mask_printable : (n : ℕ) → Printable (mask_text n)
-mask_printable n =
+pub hex_or_zero_printable : (n : ℕ) → Printable (hex_or_zero n)
+hex_or_zero_printable n =
     either_printable (n == 0) (codes "0") (hex_text n) (known (codes "0") refl) (hex_printable n)
 
 pub four_printable : (n : ℕ) → Printable (four_digits n)
@@ -220,16 +223,25 @@ encoded_printable (b ∷ s) h =
 pub encode_printable : (s : List ℕ) → IsBytes s → Printable (encode_lower s)
 encode_printable s h = encoded_printable s h
 
-colons_printable : (s : List ℕ) → Printable (flat_map after_colon s)
-colons_printable [] = tt
-colons_printable (b ∷ s) =
-    both_printable (after_colon b) _ (refl, byte_printable b) (colons_printable s)
+fewest_printable : (b : ℕ) (t : Bool) → ltb b 16 ≡ t →
+    Printable (cond t (digit b ∷ []) (byte_digits b))
+fewest_printable b true e = (digit_printable b (ltb-true b 16 e), tt)
+fewest_printable b false e = byte_printable b
 
-pub octets_printable : (s : List ℕ) → Printable (octets_text s)
+octet_printable : (d : OctetDigits) (b : ℕ) → Printable (octet_digits d b)
+octet_printable octet.Two b = byte_printable b
+octet_printable octet.Fewest b = fewest_printable b (ltb b 16) refl
+
+colons_printable : (d : OctetDigits) (s : List ℕ) → Printable (flat_map (after_colon d) s)
+colons_printable d [] = tt
+colons_printable d (b ∷ s) =
+    both_printable (after_colon d b) _ (refl, octet_printable d b) (colons_printable d s)
+
+pub octets_printable : (d : OctetDigits) (s : List ℕ) → Printable (octets_text d s)
 unfolding octets_text
-octets_printable [] = tt
-octets_printable (b ∷ s) =
-    both_printable (byte_digits b) _ (byte_printable b) (colons_printable s)
+octets_printable d [] = tt
+octets_printable d (b ∷ s) =
+    both_printable (octet_digits d b) _ (octet_printable d b) (colons_printable d s)
 
 bytes_printable : (s : List ℕ) → Printable (flat_map byte_digits s)
 bytes_printable [] = tt
@@ -237,10 +249,10 @@ bytes_printable (b ∷ s) =
     both_printable (byte_digits b) _ (byte_printable b) (bytes_printable s)
 
 pub bridge_printable : (s : List ℕ) →
-    Printable (flat_map byte_digits (take 2 s) ++ 46 ∷ octets_text (drop 2 s))
+    Printable (flat_map byte_digits (take 2 s) ++ 46 ∷ octets_text octet.Fewest (drop 2 s))
 bridge_printable s =
     both_printable (flat_map byte_digits (take 2 s)) _ (bytes_printable (take 2 s))
-    (refl, octets_printable (drop 2 s))
+    (refl, octets_printable octet.Fewest (drop 2 s))
 
 -- ---- addresses
 

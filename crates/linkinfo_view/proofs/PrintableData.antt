@@ -83,9 +83,10 @@ use Rattle.linkinfo_view.specs.Text.{
   hex_text,
   is_printable,
   label_text,
-  mask_text,
+  hex_or_zero,
   octets_text,
   thousandths_text,
+  with_comma,
 }
 use Rattle.linkinfo_view.specs.Values.{
   Named,
@@ -95,6 +96,9 @@ use Rattle.linkinfo_view.specs.Values.{
   flags_data,
   format_data,
   is_multicast,
+  is_set,
+  listed,
+  listed_text,
   meant,
   named,
   names_data,
@@ -102,14 +106,16 @@ use Rattle.linkinfo_view.specs.Values.{
   number_at,
   number_data,
   options_from,
+  or_zero,
+  over_flags,
   plain_data,
   plain_or_hex,
   second_of,
   switch_data,
-  unnamed_from,
   with_bit,
   with_name,
   with_option,
+  without,
 }
 use Rattle.linkinfo_view.specs.View.{
   attributes_data,
@@ -155,12 +161,15 @@ use Rattle.linkinfo_view.specs.declared.format.Table.{Table}
 use Rattle.linkinfo_view.specs.declared.format.Table.TheVariants as table
 use Rattle.linkinfo_view.specs.declared.format.Words.{Words}
 use Rattle.linkinfo_view.specs.declared.format.Words.TheVariants as words
+use Rattle.linkinfo_view.specs.declared.text.OctetDigits.TheVariants as octet
 use Rattle.linkinfo_view.proofs.Printable.{
   AreSegments,
+  Printable,
   are_segments,
   bridge_printable,
   both_printable,
   class_printable,
+  either_printable,
   encode_printable,
   escaped_printable,
   four_printable,
@@ -169,7 +178,7 @@ use Rattle.linkinfo_view.proofs.Printable.{
   known,
   known_passes,
   label_printable,
-  mask_printable,
+  hex_or_zero_printable,
   octets_printable,
   passes,
   thousandths_printable,
@@ -342,7 +351,7 @@ plain_printable value.empty h = tt
 plain_printable (value.text s) h = escaped_printable s
 plain_printable (value.v4 a) h = passes _ (v4_printable a.octets)
 plain_printable (value.v6 a) h = passes _ (v6_printable a.segments h)
-plain_printable (value.mac s) h = passes _ (octets_printable s)
+plain_printable (value.mac s) h = passes _ (octets_printable octet.Two s)
 plain_printable (value.pair a b) h =
     (known_passes (codes "high") refl, tt, (known_passes (codes "low") refl, tt, tt))
 plain_printable (value.bytes s) h = hex_data_printable s h
@@ -408,11 +417,15 @@ format_printable : (f : Format) (v : value.Value) (payload : List ℕ) → IsByt
 format_printable format.Present v payload h g = tt
 format_printable format.Switch v payload h g = switch_printable (first_of v)
 format_printable format.Hex v payload h g = hex_passes (first_of v)
+format_printable format.HexOrZero v payload h g =
+    passes (hex_or_zero (first_of v)) (hex_or_zero_printable (first_of v))
 format_printable format.KeyHex v payload h g =
     passes (codes "0x" ++ four_digits (first_of v)) (key_printable (first_of v))
 format_printable format.FourDigits v payload h g =
     passes (four_digits (first_of v)) (four_printable (first_of v))
 format_printable format.Octets v payload h g = hex_data_printable payload h
+format_printable format.HardwareAddress v payload h g =
+    passes (octets_text octet.Two payload) (octets_printable octet.Two payload)
 format_printable format.Quad v payload h g = plain_as_printable shape.V4 payload h
 format_printable (format.Word w) v payload h g =
     named_printable (word w (first_of v)) (first_of v)
@@ -421,7 +434,8 @@ format_printable format.Address v payload h g =
     either_data _ (string (codes "any")) _ (known_passes (codes "any") refl) (plain_printable v g)
 format_printable format.BridgeId v payload h g =
     either_data (length payload == 8) (string _) _ (
-    passes (flat_map byte_digits (take 2 payload) ++ 46 ∷ octets_text (drop 2 payload))
+    passes
+    (flat_map byte_digits (take 2 payload) ++ 46 ∷ octets_text octet.Fewest (drop 2 payload))
     (bridge_printable payload)
     )
     (hex_data_printable payload h)
@@ -499,11 +513,37 @@ no_or_one false d h = (h, tt)
 
 names_data_printable : (f : Flags) (n : ℕ) → IsPrintable (names_data f n)
 names_data_printable f n =
-    let left = unnamed_from 16 0 f n n in
+    let left = over_flags without 16 0 f n n in
     items_printable _ (
     all_printable _ _ (names_printable 16 0 f n)
     (no_or_one (left == 0) (string (hex_text left)) (hex_passes left))
     )
+
+comma_printable : (s : List ℕ) → Printable s → Printable (with_comma s)
+comma_printable [] h = tt
+comma_printable (c ∷ s) h = both_printable (c ∷ s) (codes ",") h (known (codes ",") refl)
+
+listed_printable : (o : Option FlagRow) (n : ℕ) (s : List ℕ) →
+    IfSome o (λ flag. flag_passes flag ≡ true) → Printable s → Printable (listed o n s)
+listed_printable None n s h g = g
+listed_printable (Some flag) n s h g =
+    either_printable (is_set flag n) (with_comma s ++ flag.name) s
+    (both_printable (with_comma s) flag.name (comma_printable s g) (known flag.name h)) g
+
+all_listed : (k place : ℕ) (f : Flags) (n : ℕ) (s : List ℕ) → Printable s →
+    Printable (over_flags listed k place f n s)
+unfolding over_flags
+all_listed zero place f n s h = h
+all_listed (suc k) place f n s h =
+    all_listed k (suc place) f n (listed (flag_at f place) n s)
+    (listed_printable (flag_at f place) n s (flag_named f place) h)
+
+zero_printable : (s : List ℕ) → Printable s → Printable (or_zero s)
+zero_printable [] h = known (codes "0x0") refl
+zero_printable (c ∷ s) h = h
+
+listed_passes : (f : Flags) (n : ℕ) → Passes (listed_text f n)
+listed_passes f n = passes (listed_text f n) (zero_printable _ (all_listed 16 0 f n [] tt))
 
 -- ---- lists
 
@@ -605,9 +645,9 @@ NestedPrintable nested = (t : Table) (s : List ℕ) → IsBytes s → IsPrintabl
 members_printable : (nested : Table → List ℕ → Data) → NestedPrintable nested → (name : List ℕ)
     (f : Format) (v : value.Value) (payload : List ℕ) → Passes name → IsBytes payload → Held v →
     NamedPrintable (format_members nested name f v payload)
-members_printable nested all name format.Mask v payload p h g = (
-  (p, passes (mask_text (first_of v)) (mask_printable (first_of v))),
-  ((known_passes (codes "group_fwd_mask_str") refl, hex_passes (first_of v)), tt),
+members_printable nested all name (format.Mask flags) v payload p h g = (
+  (p, passes (hex_or_zero (first_of v)) (hex_or_zero_printable (first_of v))),
+  ((known_passes (codes "group_fwd_mask_str") refl, listed_passes flags (first_of v)), tt),
 )
 members_printable nested all name format.FlowInfo v payload p h g = (
   (p, hex_passes (first_of v)),

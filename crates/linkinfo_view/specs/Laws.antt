@@ -61,7 +61,7 @@ flag_names flags = map (λ (row : ℕ × FlagRow). (row.1).name) (flag_of flags)
 
 -- the names of the members that a row may have
 abbrev pub names_of : List ℕ → Format → List (List ℕ)
-names_of name format.Mask = name ∷ codes "group_fwd_mask_str" ∷ []
+names_of name (format.Mask flags) = name ∷ codes "group_fwd_mask_str" ∷ []
 names_of name format.FlowInfo = name ∷ codes "tclass" ∷ codes "flowlabel" ∷ []
 names_of name format.Group = name ∷ codes "remote" ∷ []
 names_of name format.Group6 = name ∷ codes "remote6" ∷ []

@@ -22,6 +22,8 @@ use Rattle.std.specs.Fmt.{decimal, digits}
 use Rattle.std.specs.List.{flat_map}
 use Rattle.hex.specs.Hex.{encode_lower}
 use Rattle.serde_json.specs.Data.{Data, string}
+use Rattle.linkinfo_view.specs.declared.text.OctetDigits.{OctetDigits}
+use Rattle.linkinfo_view.specs.declared.text.OctetDigits.TheVariants as octet
 
 -- one hex digit, and a byte as two
 abbrev pub digit : ℕ → ℕ
@@ -45,21 +47,27 @@ escaped_text bytes = flat_map escaped_byte bytes
 abbrev pub is_printable : ℕ → Bool
 is_printable c = nat_le 32 c && nat_le c 126
 
--- bytes as pairs of hex digits, with colons between them
-abbrev pub after_colon : ℕ → List ℕ
-after_colon b = 58 ∷ byte_digits b
+-- a byte as two hex digits, or without a leading zero
+abbrev pub octet_digits : OctetDigits → ℕ → List ℕ
+octet_digits octet.Two b = byte_digits b
+octet_digits octet.Fewest b = if nat_lt b 16 then digit b ∷ [] else byte_digits b
 
-unfoldable pub octets_text : List ℕ → List ℕ
-octets_text [] = []
-octets_text (b ∷ bytes) = byte_digits b ++ flat_map after_colon bytes
+-- bytes in hex, with colons between them
+abbrev pub after_colon : OctetDigits → ℕ → List ℕ
+after_colon digits_of b = 58 ∷ octet_digits digits_of b
+
+unfoldable pub octets_text : OctetDigits → List ℕ → List ℕ
+octets_text digits_of [] = []
+octets_text digits_of (b ∷ bytes) =
+    octet_digits digits_of b ++ flat_map (after_colon digits_of) bytes
 
 -- a number in hex, after `0x`
 abbrev pub hex_text : ℕ → List ℕ
 hex_text n = codes "0x" ++ digits 16 false n
 
 -- the same, but `0` for 0
-abbrev pub mask_text : ℕ → List ℕ
-mask_text n = if n == 0 then codes "0" else hex_text n
+abbrev pub hex_or_zero : ℕ → List ℕ
+hex_or_zero n = if n == 0 then codes "0" else hex_text n
 
 -- 16 bits as four hex digits
 abbrev pub four_digits : ℕ → List ℕ
@@ -80,3 +88,8 @@ thousandths_text n = decimal (n / 1000) ++ codes "." ++ decimal (n / 100 % 10)
 -- bytes in hex, as a JSON string
 abbrev pub hex_data : List ℕ → Data
 hex_data bytes = string (encode_lower bytes)
+
+-- a comma after a text that is not empty
+abbrev pub with_comma : List ℕ → List ℕ
+with_comma [] = []
+with_comma (c ∷ s) = (c ∷ s) ++ codes ","

@@ -61,13 +61,16 @@ use Rattle.linkinfo_view.specs.Text.{
   four_digits,
   hex_data,
   hex_text,
+  hex_or_zero,
   octets_text,
   thousandths_text,
+  with_comma,
 }
 use Rattle.linkinfo_view.specs.Words.{FlagRow, flag_at, word}
 use Rattle.linkinfo_view.specs.declared.format.Format.{Format}
 use Rattle.linkinfo_view.specs.declared.format.Format.TheVariants as format
 use Rattle.linkinfo_view.specs.declared.format.Flags.{Flags}
+use Rattle.linkinfo_view.specs.declared.text.OctetDigits.TheVariants as octet
 
 -- what a payload means under a shape; a payload that a family reads itself is its bytes
 abbrev pub meant : Shape → List ℕ → Result Value Cause
@@ -91,7 +94,7 @@ plain_data empty = json.null
 plain_data (text s) = json.string (escaped_text s)
 plain_data (v4 a) = json.string (ipv4_text a.octets)
 plain_data (v6 a) = json.string (ipv6_text a.segments)
-plain_data (mac s) = json.string (octets_text s)
+plain_data (mac s) = json.string (octets_text octet.Two s)
 plain_data (pair a b) = two (codes "low") (number_data a) (codes "high") (number_data b)
 plain_data (bytes s) = hex_data s
 
@@ -129,10 +132,11 @@ is_multicast payload = if length payload == 4
     then nat_le 224 (slice_index payload 0) && nat_le (slice_index payload 0) 239
     else slice_index payload 0 == 255
 
--- priority and hardware address
+-- priority and hardware address, of which no octet has a leading zero
 abbrev pub bridge_id_data : List ℕ → Data
 bridge_id_data payload = if length payload == 8
-    then json.string (flat_map byte_digits (take 2 payload) ++ 46 ∷ octets_text (drop 2 payload))
+    then json.string (flat_map byte_digits (take 2 payload)
+    ++ 46 ∷ octets_text octet.Fewest (drop 2 payload))
     else hex_data payload
 
 -- the little-endian number of 32 bits at an offset
@@ -166,10 +170,12 @@ abbrev pub format_data : Format → Value → List ℕ → Data
 format_data format.Present value payload = json.boolean true
 format_data format.Switch value payload = switch_data (first_of value)
 format_data format.Hex value payload = json.string (hex_text (first_of value))
+format_data format.HexOrZero value payload = json.string (hex_or_zero (first_of value))
 format_data format.KeyHex value payload =
     json.string (codes "0x" ++ four_digits (first_of value))
 format_data format.FourDigits value payload = json.string (four_digits (first_of value))
 format_data format.Octets value payload = hex_data payload
+format_data format.HardwareAddress value payload = json.string (octets_text octet.Two payload)
 format_data format.Quad value payload = plain_as shape.V4 payload
 format_data (format.Word words) value payload = named (word words (first_of value)) (first_of value)
 format_data format.Address value payload =
@@ -228,10 +234,11 @@ abbrev pub without : Option FlagRow → ℕ → ℕ → ℕ
 without None n left = left
 without (Some flag) n left = if is_set flag n then left - flag.value else left
 
-unfoldable pub unnamed_from : ℕ → ℕ → Flags → ℕ → ℕ → ℕ
-unnamed_from zero place flags n left = left
-unnamed_from (suc k) place flags n left =
-    unnamed_from k (suc place) flags n (without (flag_at flags place) n left)
+-- a step with each flag of so many places, in order
+unfoldable pub over_flags : {A : Type 0} → (Option FlagRow → ℕ → A → A) → ℕ → ℕ → Flags → ℕ → A → A
+over_flags step zero place flags n x = x
+over_flags step (suc k) place flags n x =
+    over_flags step k (suc place) flags n (step (flag_at flags place) n x)
 
 -- other flags in hex, if there are any
 abbrev pub unnamed_data : ℕ → List Data
@@ -239,7 +246,20 @@ unnamed_data left = if left == 0 then [] else json.string (hex_text left) ∷ []
 
 abbrev pub names_data : Flags → ℕ → Data
 names_data flags n =
-    json.array (items_of (names_from 16 0 flags n ++ unnamed_data (unnamed_from 16 0 flags n n)))
+    json.array
+    (items_of (names_from 16 0 flags n ++ unnamed_data (over_flags without 16 0 flags n n)))
+
+-- the names of the flags that are set as one text, with commas between them; `0x0` if none is
+abbrev pub listed : Option FlagRow → ℕ → List ℕ → List ℕ
+listed None n s = s
+listed (Some flag) n s = if is_set flag n then with_comma s ++ flag.name else s
+
+abbrev pub or_zero : List ℕ → List ℕ
+or_zero [] = codes "0x0"
+or_zero (c ∷ s) = c ∷ s
+
+abbrev pub listed_text : Flags → ℕ → List ℕ
+listed_text flags n = or_zero (over_flags listed 16 0 flags n [])
 
 -- the result is what the payload means, or why its shape rejects it
 abbrev pub IsMeant : Shape → List ℕ → Result Datum Cause → Type 0

@@ -29,7 +29,7 @@ use Rattle.serde_json.specs.View.{items_of}
 use Rattle.linkinfo_view.specs.Attributes.{attributes, has_type, rest_of}
 use Rattle.linkinfo_view.specs.Lines.{Line}
 use Rattle.linkinfo_view.specs.Table.{row_of}
-use Rattle.linkinfo_view.specs.Text.{class_text, hex_data, hex_text, label_text, mask_text}
+use Rattle.linkinfo_view.specs.Text.{class_text, hex_data, hex_text, label_text, hex_or_zero}
 use Rattle.linkinfo_view.specs.Values.{
   Named,
   bits_from,
@@ -37,6 +37,7 @@ use Rattle.linkinfo_view.specs.Values.{
   flags_data,
   format_data,
   is_multicast,
+  listed_text,
   meant,
   names_data,
   number_data,
@@ -105,10 +106,10 @@ abbrev pub elements_data : Elements → List ℕ → Data
 elements_data el payload =
     json.array (items_of (elements_from el 0 (attributes payload) ++ rest_data (rest_of payload)))
 
--- a mask in two forms
-abbrev pub mask_members : List ℕ → ℕ → List Named
-mask_members name n = (name, json.string (mask_text n))
-    ∷ (codes "group_fwd_mask_str", json.string (hex_text n))
+-- a mask in hex, and the names of its flags
+abbrev pub mask_members : Flags → List ℕ → ℕ → List Named
+mask_members flags name n = (name, json.string (hex_or_zero n))
+    ∷ (codes "group_fwd_mask_str", json.string (listed_text flags n))
     ∷ []
 
 -- a number, and the traffic class and the flow label in it
@@ -132,7 +133,8 @@ names_members flags name mask_name n mask = (name, names_data flags n)
 -- the members of a value by its format, where `nested` shows a nested list by a table
 abbrev pub format_members : (Table → List ℕ → Data) → List ℕ → Format → Value → List ℕ →
     List Named
-format_members nested name format.Mask value payload = mask_members name (first_of value)
+format_members nested name (format.Mask flags) value payload =
+    mask_members flags name (first_of value)
 format_members nested name format.FlowInfo value payload = flow_members name (first_of value)
 format_members nested name format.Group value payload =
     group_members name (codes "remote") value payload

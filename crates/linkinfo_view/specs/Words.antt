@@ -12,6 +12,7 @@ word_rows words.AdSelect =
     (0, codes "stable") ∷
     (1, codes "bandwidth") ∷
     (2, codes "count") ∷
+    (3, codes "actor_port_prio") ∷
     []
 word_rows words.AmtMode =
     (0, codes "gateway") ∷
@@ -57,6 +58,11 @@ word_rows words.CanState =
     (3, codes "BUS-OFF") ∷
     (4, codes "STOPPED") ∷
     (5, codes "SLEEPING") ∷
+    []
+word_rows words.ChurnState =
+    (0, codes "MONITOR") ∷
+    (1, codes "CHURN") ∷
+    (2, codes "NO_CHURN") ∷
     []
 word_rows words.CipherSuite =
     (0x80020001000001, codes "GCM-AES-128") ∷
@@ -162,10 +168,6 @@ word_rows words.PrimaryReselect =
     (1, codes "better") ∷
     (2, codes "failure") ∷
     []
-word_rows words.Protocol =
-    (0x8100, codes "802.1q") ∷
-    (0x88a8, codes "802.1ad") ∷
-    []
 word_rows words.TransmitHash =
     (0, codes "layer2") ∷
     (1, codes "layer3+4") ∷
@@ -231,14 +233,16 @@ flag_of flags.Can =
     (3, flag_row 0x8 0x8 (codes "ONE-SHOT")) ∷
     (4, flag_row 0x10 0x10 (codes "BERR-REPORTING")) ∷
     (5, flag_row 0x20 0x20 (codes "FD")) ∷
-    (6, flag_row 0x40 0x40 (codes "PRESUME-ACK")) ∷
-    (7, flag_row 0x80 0x80 (codes "FD-NON-ISO")) ∷
+    (6, flag_row 0x80 0x80 (codes "FD-NON-ISO")) ∷
+    (7, flag_row 0x40 0x40 (codes "PRESUME-ACK")) ∷
     (8, flag_row 0x100 0x100 (codes "CC-LEN8-DLC")) ∷
     (9, flag_row 0x200 0x200 (codes "TDC-AUTO")) ∷
     (10, flag_row 0x400 0x400 (codes "TDC-MANUAL")) ∷
     (11, flag_row 0x800 0x800 (codes "RESTRICTED")) ∷
     (12, flag_row 0x1000 0x1000 (codes "XL")) ∷
-    (13, flag_row 0x2000 0x2000 (codes "XL-TMS")) ∷
+    (13, flag_row 0x2000 0x2000 (codes "XL-TDC-AUTO")) ∷
+    (14, flag_row 0x4000 0x4000 (codes "XL-TDC-MANUAL")) ∷
+    (15, flag_row 0x8000 0x8000 (codes "TMS")) ∷
     []
 flag_of flags.Encap =
     (0, flag_row 0x1 0x1 (codes "encap_csum")) ∷
@@ -254,6 +258,24 @@ flag_of flags.GreOutput =
     (0, flag_row 0x1000 0x1000 (codes "oseq")) ∷
     (1, flag_row 0x2000 0x2000 (codes "has_okey")) ∷
     (2, flag_row 0x8000 0x8000 (codes "ocsum")) ∷
+    []
+flag_of flags.GroupForward =
+    (0, flag_row 0x1 0x1 (codes "stp")) ∷
+    (1, flag_row 0x2 0x2 (codes "0x2")) ∷
+    (2, flag_row 0x4 0x4 (codes "lacp")) ∷
+    (3, flag_row 0x8 0x8 (codes "0x8")) ∷
+    (4, flag_row 0x10 0x10 (codes "0x10")) ∷
+    (5, flag_row 0x20 0x20 (codes "0x20")) ∷
+    (6, flag_row 0x40 0x40 (codes "0x40")) ∷
+    (7, flag_row 0x80 0x80 (codes "0x80")) ∷
+    (8, flag_row 0x100 0x100 (codes "0x100")) ∷
+    (9, flag_row 0x200 0x200 (codes "0x200")) ∷
+    (10, flag_row 0x400 0x400 (codes "0x400")) ∷
+    (11, flag_row 0x800 0x800 (codes "0x800")) ∷
+    (12, flag_row 0x1000 0x1000 (codes "0x1000")) ∷
+    (13, flag_row 0x2000 0x2000 (codes "0x2000")) ∷
+    (14, flag_row 0x4000 0x4000 (codes "lldp")) ∷
+    (15, flag_row 0x8000 0x8000 (codes "0x8000")) ∷
     []
 flag_of flags.Ip6Tunnel =
     (0, flag_row 0x1 0x1 (codes "ip6_tnl_f_ign_encap_limit")) ∷
@@ -274,12 +296,12 @@ flag_of flags.MacVlan =
     (1, flag_row 0x2 0x2 (codes "nodst")) ∷
     []
 flag_of flags.RmNet =
-    (0, flag_row 0x1 0x1 (codes "ingress_deaggregation")) ∷
-    (1, flag_row 0x2 0x2 (codes "ingress_commands")) ∷
-    (2, flag_row 0x4 0x4 (codes "ingress_chksumv4")) ∷
-    (3, flag_row 0x8 0x8 (codes "egress_chksumv4")) ∷
-    (4, flag_row 0x10 0x10 (codes "ingress_chksumv5")) ∷
-    (5, flag_row 0x20 0x20 (codes "egress_chksumv5")) ∷
+    (0, flag_row 0x1 0x1 (codes "INGRESS_DEAGGREGATION")) ∷
+    (1, flag_row 0x2 0x2 (codes "INGRESS_MAP_COMMANDS")) ∷
+    (2, flag_row 0x4 0x4 (codes "INGRESS_MAP_CKSUMV4")) ∷
+    (3, flag_row 0x8 0x8 (codes "EGRESS_MAP_CKSUMV4")) ∷
+    (4, flag_row 0x10 0x10 (codes "INGRESS_MAP_CKSUMV5")) ∷
+    (5, flag_row 0x20 0x20 (codes "EGRESS_MAP_CKSUMV5")) ∷
     []
 flag_of flags.Sit =
     (0, flag_row 0x100 0x100 (codes "isatap")) ∷

@@ -81,15 +81,19 @@ pub enum Format {
     Switch,
     /// A number in hex, after `0x`.
     Hex,
-    /// A number in hex, after `0x`, but `0` for 0; and as the member `group_fwd_mask_str` after
-    /// `0x`, also for 0 (`IFLA_BR_GROUP_FWD_MASK`).
-    Mask,
+    /// A number in hex, after `0x`, but `0` for 0, as `%#x` of `printf` writes it.
+    HexOrZero,
+    /// The same; and as the member `group_fwd_mask_str` the names of the flags that are set, in one
+    /// text with commas between them, or `0x0` if none is (`IFLA_BRPORT_GROUP_FWD_MASK`).
+    Mask(Flags),
     /// A number of 16 bits as four hex digits, after `0x` (`IFLA_IPOIB_PKEY`).
     KeyHex,
     /// A number of 16 bits as four hex digits (`IFLA_IPOIB_UMCAST`).
     FourDigits,
     /// The bytes of the payload in hex, in their order (`IFLA_MACSEC_SCI`).
     Octets,
+    /// Bytes as a hardware address of any length (`IFLA_BOND_SLAVE_PERM_HWADDR`).
+    HardwareAddress,
     /// Four bytes as an IPv4 address, of a number that is no address (`IFLA_GRE_IKEY`).
     Quad,
     /// A number by its name, or as a number where it has none.
@@ -142,6 +146,8 @@ pub enum Words {
     BridgePortState,
     /// `IFLA_CAN_STATE`.
     CanState,
+    /// `IFLA_BOND_SLAVE_AD_CHURN_ACTOR_STATE`, `IFLA_BOND_SLAVE_AD_CHURN_PARTNER_STATE`.
+    ChurnState,
     /// `IFLA_MACSEC_CIPHER_SUITE`.
     CipherSuite,
     /// `IFLA_VXLAN_DF`.
@@ -184,8 +190,6 @@ pub enum Words {
     OffOn,
     /// `IFLA_BOND_PRIMARY_RESELECT`.
     PrimaryReselect,
-    /// `IFLA_VLAN_PROTOCOL`.
-    Protocol,
     /// `IFLA_BOND_XMIT_HASH_POLICY`.
     TransmitHash,
     /// `IFLA_TUN_TYPE`.
@@ -194,7 +198,7 @@ pub enum Words {
     Tunnel6Protocol,
     /// `IFLA_IPTUN_PROTO` of `ipip` and `sit` links.
     TunnelProtocol,
-    /// `IFLA_BR_VLAN_PROTOCOL`.
+    /// `IFLA_VLAN_PROTOCOL`, `IFLA_BR_VLAN_PROTOCOL`.
     VlanProtocol,
 }
 
@@ -211,6 +215,9 @@ pub enum Flags {
     GreInput,
     /// `IFLA_GRE_OFLAGS`.
     GreOutput,
+    /// `IFLA_BRPORT_GROUP_FWD_MASK`: a flag without a name of its own has its value in hex as its
+    /// name.
+    GroupForward,
     /// `IFLA_IPTUN_FLAGS` of `ip6tnl` links, `IFLA_GRE_FLAGS`.
     Ip6Tunnel,
     /// `IFLA_IPVLAN_FLAGS`.

@@ -11,11 +11,13 @@ ghost use Rattle.std.specs.Prelude.{
   IfOk,
   OnOk,
   length,
+  string_bytes,
   map as list_map,
   if◌then◌else◌,
 };
 ghost use Rattle.std.specs.Option.{option_copied};
 ghost use Rattle.linkinfo_shapes.specs.Data.{value_of};
+ghost use Rattle.serde_json.specs.Data.{string};
 ghost use Rattle.serde_json.specs.View.{members_view, view};
 ghost use Rattle.linkinfo_view.specs.Attributes.{rest_of};
 ghost use Rattle.linkinfo_view.specs.Lines.{line_of};
@@ -23,8 +25,11 @@ ghost use Rattle.linkinfo_view.specs.Values.{
   bits_from,
   is_multicast as has_multicast,
   is_set as has_flag,
+  listed,
+  listed_text,
   names_data,
   options_from,
+  or_zero,
   unnamed_data,
   with_bit,
   with_name,
@@ -52,7 +57,7 @@ ghost use Rattle.linkinfo_view.specs.Words.{flag_at as flag_of_place, flag_seen}
 
 use crate::attributes::first_attribute;
 use crate::format::{Elements, Flags, Format, Row, Table};
-use crate::text::{class_json, hex_json, label_json, mask_json, number_json};
+use crate::text::{class_json, hex_json, hex_or_zero_json, label_json, number_json, push_comma};
 use crate::value::{
     datum_of, first_of, flags_json, format_json, is_multicast, json_as, pair_json, plain_json,
     second_of,
@@ -197,6 +202,43 @@ fn names_json(alloc: Global, flags: Flags, number: u64) -> Result<Value, AllocEr
     Ok(Value::Array(names))
 }
 
+/// Adds the name of the flag at a place to a text, after a comma unless it is the first one, if
+/// there is one and it is set.
+fn push_listed(flags: Flags, place: u32, number: u64, text: &mut String) -> Result<(), AllocError>
+    ensures { OnOk result (string_bytes text.new
+        ≡ listed (flag_of_place flags place) number (string_bytes text.old)) }
+{
+    match flag_at(flags, place) {
+        Some(flag) if is_set(&flag, number) => {
+            push_comma(text)?;
+            text.push_str(flag.name)?;
+            Ok(())
+        }
+        _ => Ok(()),
+    }
+}
+
+/// A text as a JSON string; `0x0` for none.
+fn or_zero_json(alloc: Global, text: String) -> Result<Value, AllocError>
+    ensures { IfOk result (λ v. view v ≡ string (or_zero (string_bytes text))) }
+{
+    if text.is_empty() {
+        return Value::try_from_str(alloc, "0x0");
+    }
+    Ok(Value::String(text))
+}
+
+/// The names of the flags that are set as one text, with commas between them; `0x0` if none is.
+fn listed_json(alloc: Global, flags: Flags, number: u64) -> Result<Value, AllocError>
+    ensures { IfOk result (λ v. view v ≡ string (listed_text flags number)) }
+{
+    let mut text = String::new(alloc);
+    for place in 0..FLAGS {
+        push_listed(flags, place, number, &mut text)?;
+    }
+    or_zero_json(alloc, text)
+}
+
 /// Puts the name of an attribute, if it has one.
 fn put_label(
     alloc: Global,
@@ -338,22 +380,23 @@ pub trait Nesting {
         ensures { IfOk result (λ v. view v ≡ shown table payload.now) };
 }
 
-/// Puts a mask as two members.
+/// Puts a mask in hex, and the names of its flags.
 fn put_mask(
     alloc: Global,
+    flags: Flags,
     name: &str,
     number: u64,
     map: &mut Map<String, Value>,
 ) -> Result<(), AllocError>
     ensures { OnOk result (members_view map.new.entries
-        ≡ put_all (mask_members name.now number) (members_view map.old.entries)) }
+        ≡ put_all (mask_members flags name.now number) (members_view map.old.entries)) }
 {
-    put(map, alloc, name, mask_json(alloc, number)?)?;
+    put(map, alloc, name, hex_or_zero_json(alloc, number)?)?;
     put(
         map,
         alloc,
         "group_fwd_mask_str",
-        number_json(alloc, number)?,
+        listed_json(alloc, flags, number)?,
     )
 }
 
@@ -426,7 +469,7 @@ fn put_formatted<N: Nesting>(
 {
     let name = row.name;
     match row.format {
-        Format::Mask => put_mask(alloc, name, first_of(datum), map),
+        Format::Mask(flags) => put_mask(alloc, flags, name, first_of(datum), map),
         Format::FlowInfo => put_flow_info(alloc, name, first_of(datum), map),
         Format::Group => put_group(alloc, (name, "remote"), datum, payload, map),
         Format::Group6 => put_group(alloc, (name, "remote6"), datum, payload, map),

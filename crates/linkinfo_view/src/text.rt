@@ -5,6 +5,7 @@ ghost use Rattle.std.specs.List.{flat_map};
 ghost use Rattle.std.specs.Net.Text.{ipv4_text, ipv6_text};
 ghost use Rattle.serde_json.specs.Data.{string};
 ghost use Rattle.serde_json.specs.View.{view};
+ghost use Rattle.linkinfo_view.specs.declared.text.OctetDigits.TheVariants as octet;
 ghost use Rattle.linkinfo_view.specs.Text.{
   after_colon,
   byte_digits,
@@ -16,14 +17,25 @@ ghost use Rattle.linkinfo_view.specs.Text.{
   hex_data,
   hex_text,
   label_text,
-  mask_text,
+  hex_or_zero,
+  octet_digits,
   octets_text,
   thousandths_text,
+  with_comma,
 };
 
 use serde_json::Value;
 use std::alloc::{AllocError, Global};
 use std::net::{Ipv4Addr, Ipv6Addr};
+
+/// How many hex digits each octet of a hardware address has.
+#[derive(Clone, Copy)]
+enum OctetDigits {
+    /// Two.
+    Two,
+    /// One, if it is below 16; else two.
+    Fewest,
+}
 
 /// A hex digit.
 fn hex_digit(n: u8) -> u8
@@ -51,6 +63,17 @@ fn push_byte(text: &mut String, byte: u8) -> Result<(), AllocError>
     push_digit(text, byte % 16)
 }
 
+/// Adds an octet in hex.
+fn push_octet(text: &mut String, digits: OctetDigits, octet: u8) -> Result<(), AllocError>
+    ensures { OnOk result
+        (string_bytes text.new ≡ string_bytes text.old ++ octet_digits digits octet) }
+{
+    match digits {
+        OctetDigits::Fewest if octet < 16 => push_digit(text, octet),
+        _ => push_byte(text, octet),
+    }
+}
+
 /// Adds a byte that is ASCII.
 fn push_ascii(text: &mut String, byte: u8) -> Result<(), AllocError>
     requires { byte < 128 }
@@ -58,6 +81,16 @@ fn push_ascii(text: &mut String, byte: u8) -> Result<(), AllocError>
 {
     text.push(char::from(byte))?;
     Ok(())
+}
+
+/// Adds a comma to a text that is not empty.
+pub fn push_comma(text: &mut String) -> Result<(), AllocError>
+    ensures { OnOk result (string_bytes text.new ≡ with_comma (string_bytes text.old)) }
+{
+    if text.is_empty() {
+        return Ok(());
+    }
+    push_ascii(text, b',')
 }
 
 /// Adds a byte as `escaped` writes it.
@@ -98,51 +131,56 @@ pub fn escaped_json(alloc: Global, bytes: &[u8]) -> Result<Value, AllocError>
     Ok(Value::String(escaped(alloc, bytes)?))
 }
 
-/// Adds bytes as pairs of hex digits, with colons between them.
+/// Adds octets in hex, with colons between them.
 #[tactic(auto, unfolding(crate::specs::Text::octets_text))]
-fn push_octets(text: &mut String, octets: &[u8]) -> Result<(), AllocError>
+fn push_octets(text: &mut String, digits: OctetDigits, octets: &[u8]) -> Result<(), AllocError>
     ensures { OnOk result
-        (string_bytes text.new ≡ string_bytes text.old ++ octets_text octets.now) }
+        (string_bytes text.new ≡ string_bytes text.old ++ octets_text digits octets.now) }
 {
     let Some((first, rest)) = octets.split_first() else {
         return Ok(());
     };
-    push_byte(text, *first)?;
-    push_after_colons(text, rest)
+    push_octet(text, digits, *first)?;
+    push_after_colons(text, digits, rest)
 }
 
-/// Adds bytes as pairs of hex digits, with a colon before each.
-fn push_after_colons(text: &mut String, octets: &[u8]) -> Result<(), AllocError>
-    ensures { OnOk result
-        (string_bytes text.new ≡ string_bytes text.old ++ flat_map after_colon octets.now) }
+/// Adds octets in hex, with a colon before each.
+fn push_after_colons(
+    text: &mut String,
+    digits: OctetDigits,
+    octets: &[u8],
+) -> Result<(), AllocError>
+    ensures { OnOk result (string_bytes text.new
+        ≡ string_bytes text.old ++ flat_map (after_colon digits) octets.now) }
 {
     for octet in octets {
         push_ascii(text, b':')?;
-        push_byte(text, *octet)?;
+        push_octet(text, digits, *octet)?;
     }
     Ok(())
 }
 
-/// A hardware address as a JSON string.
+/// A hardware address of any length as a JSON string.
 pub fn octets_json(alloc: Global, octets: &[u8]) -> Result<Value, AllocError>
-    ensures { IfOk result (λ v. view v ≡ string (octets_text octets.now)) }
+    ensures { IfOk result (λ v. view v ≡ string (octets_text octet.Two octets.now)) }
 {
     let mut text = String::new(alloc);
-    push_octets(&mut text, octets)?;
+    push_octets(&mut text, OctetDigits::Two, octets)?;
     Ok(Value::String(text))
 }
 
-/// An identifier of a bridge as a JSON string: its priority in hex, and its hardware address.
+/// An identifier of a bridge as a JSON string: its priority in hex, and its hardware address, of
+/// which no octet has a leading zero.
 pub fn bridge_id_json(alloc: Global, priority: &[u8], octets: &[u8]) -> Result<Value, AllocError>
     ensures { IfOk result (λ v. view v
-        ≡ string (flat_map byte_digits priority.now ++ 46 ∷ octets_text octets.now)) }
+        ≡ string (flat_map byte_digits priority.now ++ 46 ∷ octets_text octet.Fewest octets.now)) }
 {
     let mut text = String::new(alloc);
     for byte in priority {
         push_byte(&mut text, *byte)?;
     }
     push_ascii(&mut text, b'.')?;
-    push_octets(&mut text, octets)?;
+    push_octets(&mut text, OctetDigits::Fewest, octets)?;
     Ok(Value::String(text))
 }
 
@@ -168,8 +206,8 @@ pub fn number_json(alloc: Global, number: u64) -> Result<Value, AllocError>
 }
 
 /// A number as a JSON string in hex, after `0x`, but `0` for 0.
-pub fn mask_json(alloc: Global, number: u64) -> Result<Value, AllocError>
-    ensures { IfOk result (λ v. view v ≡ string (mask_text number)) }
+pub fn hex_or_zero_json(alloc: Global, number: u64) -> Result<Value, AllocError>
+    ensures { IfOk result (λ v. view v ≡ string (hex_or_zero number)) }
 {
     match number {
         0 => Value::try_from_str(alloc, "0"),

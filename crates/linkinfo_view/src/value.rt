@@ -25,8 +25,8 @@ ghost use Rattle.linkinfo_view.specs.Words.{word};
 
 use crate::format::{Format, Words};
 use crate::text::{
-    bridge_id_json, escaped_json, four_digits_json, hex_json, ipv4_json, ipv6_json, key_json,
-    masked_json, number_json, octets_json, thousandths_json,
+    bridge_id_json, escaped_json, four_digits_json, hex_json, hex_or_zero_json, ipv4_json,
+    ipv6_json, key_json, masked_json, number_json, octets_json, thousandths_json,
 };
 use crate::words;
 use linkinfo_shapes::{Datum, Shape, read_datum};
@@ -251,9 +251,11 @@ pub fn format_json(
         Format::Present => Ok(Value::Bool(true)),
         Format::Switch => Ok(switch_json(first_of(datum))),
         Format::Hex => number_json(alloc, first_of(datum)),
+        Format::HexOrZero => hex_or_zero_json(alloc, first_of(datum)),
         Format::KeyHex => key_json(alloc, first_of(datum)),
         Format::FourDigits => four_digits_json(alloc, first_of(datum)),
         Format::Octets => hex_json(alloc, payload),
+        Format::HardwareAddress => octets_json(alloc, payload),
         Format::Quad => json_as(alloc, Shape::V4, payload),
         Format::Word(words) => word_json(alloc, words, first_of(datum)),
         Format::Address => address_json(alloc, datum, payload),

@@ -37,6 +37,7 @@ pub fn word(words: Words, number: u64) -> Option<&'static str>
         Words::BondPortState => bond_port_state(number),
         Words::BridgePortState => bridge_port_state(number),
         Words::CanState => can_state(number),
+        Words::ChurnState => churn_state(number),
         Words::CipherSuite => cipher_suite(number),
         Words::Df => df(number),
         Words::EncapType => encap_type(number),
@@ -58,7 +59,6 @@ pub fn word(words: Words, number: u64) -> Option<&'static str>
         Words::NetkitScrub => netkit_scrub(number),
         Words::OffOn => off_on(number),
         Words::PrimaryReselect => primary_reselect(number),
-        Words::Protocol => protocol(number),
         Words::TransmitHash => transmit_hash(number),
         Words::TunType => tun_type(number),
         Words::Tunnel6Protocol => tunnel6_protocol(number),
@@ -75,6 +75,7 @@ fn ad_select(number: u64) -> Option<&'static str>
         0 => Some("stable"),
         1 => Some("bandwidth"),
         2 => Some("count"),
+        3 => Some("actor_port_prio"),
         _ => None,
     }
 }
@@ -169,6 +170,18 @@ fn can_state(number: u64) -> Option<&'static str>
         3 => Some("BUS-OFF"),
         4 => Some("STOPPED"),
         5 => Some("SLEEPING"),
+        _ => None,
+    }
+}
+
+/// `IFLA_BOND_SLAVE_AD_CHURN_ACTOR_STATE`, `IFLA_BOND_SLAVE_AD_CHURN_PARTNER_STATE`.
+fn churn_state(number: u64) -> Option<&'static str>
+    ensures { option_copied result ≡ word_found (word_rows words.ChurnState) number }
+{
+    match number {
+        0 => Some("MONITOR"),
+        1 => Some("CHURN"),
+        2 => Some("NO_CHURN"),
         _ => None,
     }
 }
@@ -424,17 +437,6 @@ fn primary_reselect(number: u64) -> Option<&'static str>
     }
 }
 
-/// `IFLA_VLAN_PROTOCOL`.
-fn protocol(number: u64) -> Option<&'static str>
-    ensures { option_copied result ≡ word_found (word_rows words.Protocol) number }
-{
-    match number {
-        0x8100 => Some("802.1q"),
-        0x88a8 => Some("802.1ad"),
-        _ => None,
-    }
-}
-
 /// `IFLA_BOND_XMIT_HASH_POLICY`.
 fn transmit_hash(number: u64) -> Option<&'static str>
     ensures { option_copied result ≡ word_found (word_rows words.TransmitHash) number }
@@ -486,7 +488,7 @@ fn tunnel_protocol(number: u64) -> Option<&'static str>
     }
 }
 
-/// `IFLA_BR_VLAN_PROTOCOL`.
+/// `IFLA_VLAN_PROTOCOL`, `IFLA_BR_VLAN_PROTOCOL`.
 fn vlan_protocol(number: u64) -> Option<&'static str>
     ensures { option_copied result ≡ word_found (word_rows words.VlanProtocol) number }
 {
@@ -507,6 +509,7 @@ pub fn flag_at(flags: Flags, place: u32) -> Option<Flag>
         Flags::Encap => encap_flag(place),
         Flags::GreInput => gre_input_flag(place),
         Flags::GreOutput => gre_output_flag(place),
+        Flags::GroupForward => group_forward_flag(place),
         Flags::Ip6Tunnel => ip6_tunnel_flag(place),
         Flags::IpVlan => ip_vlan_flag(place),
         Flags::MacVlan => mac_vlan_flag(place),
@@ -550,14 +553,16 @@ fn can_flag(place: u32) -> Option<Flag>
         (3, 0x8, 0x8, "ONE-SHOT"),
         (4, 0x10, 0x10, "BERR-REPORTING"),
         (5, 0x20, 0x20, "FD"),
-        (6, 0x40, 0x40, "PRESUME-ACK"),
-        (7, 0x80, 0x80, "FD-NON-ISO"),
+        (6, 0x80, 0x80, "FD-NON-ISO"),
+        (7, 0x40, 0x40, "PRESUME-ACK"),
         (8, 0x100, 0x100, "CC-LEN8-DLC"),
         (9, 0x200, 0x200, "TDC-AUTO"),
         (10, 0x400, 0x400, "TDC-MANUAL"),
         (11, 0x800, 0x800, "RESTRICTED"),
         (12, 0x1000, 0x1000, "XL"),
-        (13, 0x2000, 0x2000, "XL-TMS"),
+        (13, 0x2000, 0x2000, "XL-TDC-AUTO"),
+        (14, 0x4000, 0x4000, "XL-TDC-MANUAL"),
+        (15, 0x8000, 0x8000, "TMS"),
     }
 }
 
@@ -591,6 +596,30 @@ fn gre_output_flag(place: u32) -> Option<Flag>
         (0, 0x1000, 0x1000, "oseq"),
         (1, 0x2000, 0x2000, "has_okey"),
         (2, 0x8000, 0x8000, "ocsum"),
+    }
+}
+
+/// `IFLA_BRPORT_GROUP_FWD_MASK`.
+fn group_forward_flag(place: u32) -> Option<Flag>
+    ensures { option_map flag_seen result ≡ flag_found (flag_of flags.GroupForward) place }
+{
+    flag! { place;
+        (0, 0x1, 0x1, "stp"),
+        (1, 0x2, 0x2, "0x2"),
+        (2, 0x4, 0x4, "lacp"),
+        (3, 0x8, 0x8, "0x8"),
+        (4, 0x10, 0x10, "0x10"),
+        (5, 0x20, 0x20, "0x20"),
+        (6, 0x40, 0x40, "0x40"),
+        (7, 0x80, 0x80, "0x80"),
+        (8, 0x100, 0x100, "0x100"),
+        (9, 0x200, 0x200, "0x200"),
+        (10, 0x400, 0x400, "0x400"),
+        (11, 0x800, 0x800, "0x800"),
+        (12, 0x1000, 0x1000, "0x1000"),
+        (13, 0x2000, 0x2000, "0x2000"),
+        (14, 0x4000, 0x4000, "lldp"),
+        (15, 0x8000, 0x8000, "0x8000"),
     }
 }
 
@@ -635,12 +664,12 @@ fn rm_net_flag(place: u32) -> Option<Flag>
     ensures { option_map flag_seen result ≡ flag_found (flag_of flags.RmNet) place }
 {
     flag! { place;
-        (0, 0x1, 0x1, "ingress_deaggregation"),
-        (1, 0x2, 0x2, "ingress_commands"),
-        (2, 0x4, 0x4, "ingress_chksumv4"),
-        (3, 0x8, 0x8, "egress_chksumv4"),
-        (4, 0x10, 0x10, "ingress_chksumv5"),
-        (5, 0x20, 0x20, "egress_chksumv5"),
+        (0, 0x1, 0x1, "INGRESS_DEAGGREGATION"),
+        (1, 0x2, 0x2, "INGRESS_MAP_COMMANDS"),
+        (2, 0x4, 0x4, "INGRESS_MAP_CKSUMV4"),
+        (3, 0x8, 0x8, "EGRESS_MAP_CKSUMV4"),
+        (4, 0x10, 0x10, "INGRESS_MAP_CKSUMV5"),
+        (5, 0x20, 0x20, "EGRESS_MAP_CKSUMV5"),
     }
 }
 

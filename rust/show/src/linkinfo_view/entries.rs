@@ -81,7 +81,7 @@ pub(crate) const GRE: &[Entry] = rows! {
     (21, "erspan_index", Le32, Plain),
     (22, "erspan_ver", U8, Plain),
     (23, "erspan_dir", U8, Word(Words::ErspanDirection)),
-    (24, "erspan_hwid", Le16, Hex),
+    (24, "erspan_hwid", Le16, HexOrZero),
 };
 
 /// `IFLA_GRE_*` (include/uapi/linux/if_tunnel.h), over IPv6.
@@ -108,7 +108,7 @@ pub(crate) const GRE6: &[Entry] = rows! {
     (21, "erspan_index", Le32, Plain),
     (22, "erspan_ver", U8, Plain),
     (23, "erspan_dir", U8, Word(Words::ErspanDirection)),
-    (24, "erspan_hwid", Le16, Hex),
+    (24, "erspan_hwid", Le16, HexOrZero),
 };
 
 /// `IFLA_GTP_*`.
@@ -223,7 +223,7 @@ pub(crate) const NETKIT: &[Entry] = rows! {
 /// `IFLA_RMNET_*`.
 pub(crate) const RM_NET: &[Entry] = rows! {
     (1, "mux_id", Le16, Plain),
-    (2, "flags", FlagPair, Bits(Flags::RmNet)),
+    (2, "flags", FlagPair, Names(Flags::RmNet)),
 };
 
 /// `VETH_INFO_PEER` and `VXCAN_INFO_PEER`.
@@ -244,7 +244,7 @@ pub(crate) const WWAN: &[Entry] = rows! {
 /// `IFLA_XFRM_*`.
 pub(crate) const XFRM: &[Entry] = rows! {
     (1, "link", Le32, Plain),
-    (2, "if_id", Le32, Hex),
+    (2, "if_id", Le32, HexOrZero),
     (3, "external", Mark, Present),
 };
 
@@ -292,7 +292,7 @@ pub(crate) const VXLAN: &[Entry] = rows! {
     (30, "vnifilter", Truth, Plain),
     (31, "localbypass", Truth, Plain),
     (32, "label_policy", Le32, Word(Words::LabelPolicy)),
-    (33, "reserved_bits", Be64, Hex),
+    (33, "reserved_bits", Be64, HexOrZero),
     (34, "mcroute", Truth, Plain),
 };
 
@@ -338,15 +338,15 @@ pub(crate) const BOND_PORT: &[Entry] = rows! {
     (1, "state", U8, Word(Words::BondPortState)),
     (2, "mii_status", U8, Word(Words::MiiStatus)),
     (3, "link_failure_count", Le32, Plain),
-    (4, "perm_hwaddr", Mac, Plain),
+    (4, "perm_hwaddr", Raw, HardwareAddress),
     (5, "queue_id", Le16, Plain),
     (6, "ad_aggregator_id", Le16, Plain),
     (7, "ad_actor_oper_port_state", U8, Plain),
     (8, "ad_partner_oper_port_state", Le16, Plain),
     (9, "prio", I32, Plain),
     (10, "actor_port_prio", Le16, Plain),
-    (11, "churn_actor_state", U8, Plain),
-    (12, "churn_partner_state", U8, Plain),
+    (11, "churn_actor_state", U8, Word(Words::ChurnState)),
+    (12, "churn_partner_state", U8, Word(Words::ChurnState)),
 };
 
 /// `IFLA_BR_*`.
@@ -359,7 +359,7 @@ pub(crate) const BRIDGE: &[Entry] = rows! {
     (6, "priority", Le16, Plain),
     (7, "vlan_filtering", U8, Plain),
     (8, "vlan_protocol", Be16, Word(Words::VlanProtocol)),
-    (9, "group_fwd_mask", Le16, Mask),
+    (9, "group_fwd_mask", Le16, HexOrZero),
     (10, "root_id", Raw, BridgeId),
     (11, "bridge_id", Raw, BridgeId),
     (12, "root_port", Le16, Plain),
@@ -419,8 +419,8 @@ pub(crate) const BRIDGE_PORT: &[Entry] = rows! {
     (14, "bridge_id", Raw, BridgeId),
     (15, "designated_port", Le16, Plain),
     (16, "designated_cost", Le16, Plain),
-    (17, "id", Le16, Hex),
-    (18, "no", Le16, Hex),
+    (17, "id", Le16, HexOrZero),
+    (18, "no", Le16, HexOrZero),
     (19, "topology_change_ack", U8, Plain),
     (20, "config_pending", U8, Plain),
     (21, "message_age_timer", Le64, Plain),
@@ -432,7 +432,7 @@ pub(crate) const BRIDGE_PORT: &[Entry] = rows! {
     (28, "mcast_to_unicast", U8, Switch),
     (29, "vlan_tunnel", U8, Switch),
     (30, "bcast_flood", U8, Switch),
-    (31, "group_fwd_mask", Le16, Mask),
+    (31, "group_fwd_mask", Le16, Mask(Flags::GroupForward)),
     (32, "neigh_suppress", U8, Switch),
     (33, "isolated", U8, Switch),
     (34, "backup_port", Le32, Plain),
@@ -454,7 +454,7 @@ pub(crate) const VLAN: &[Entry] = rows! {
     (2, "flags", FlagPair, Names(Flags::Vlan)),
     (3, "egress_qos", Raw, List(Elements::PriorityPairs)),
     (4, "ingress_qos", Raw, List(Elements::PriorityPairs)),
-    (5, "protocol", Be16, Word(Words::Protocol)),
+    (5, "protocol", Be16, Word(Words::VlanProtocol)),
 };
 
 /// `IFLA_CAN_*` (include/uapi/linux/can/netlink.h).

@@ -5,7 +5,9 @@ use crate::compat::calls::*;
 use crate::compat::serde_json::{Map, Value, push, put};
 use crate::linkinfo_view::attributes::first_attribute;
 use crate::linkinfo_view::format::{Elements, Flags, Format, Row, Table};
-use crate::linkinfo_view::text::{class_json, hex_json, label_json, mask_json, number_json};
+use crate::linkinfo_view::text::{
+    class_json, hex_json, hex_or_zero_json, label_json, number_json, push_comma,
+};
 use crate::linkinfo_view::value::{
     datum_of, first_of, flags_json, format_json, is_multicast, json_as, pair_json, plain_json,
     second_of,
@@ -114,6 +116,36 @@ fn names_json(flags: Flags, number: u64) -> Result<Value, AllocError> {
     Ok(Value::Array(names))
 }
 
+/// Adds the name of the flag at a place to a text, after a comma unless it is the first one, if
+/// there is one and it is set.
+fn push_listed(flags: Flags, place: u32, number: u64, text: &mut String) -> Result<(), AllocError> {
+    match flag_at(flags, place) {
+        Some(flag) if is_set(&flag, number) => {
+            push_comma(text)?;
+            text.try_push_str(flag.name)?;
+            Ok(())
+        }
+        _ => Ok(()),
+    }
+}
+
+/// A text as a JSON string; `0x0` for none.
+fn or_zero_json(text: String) -> Result<Value, AllocError> {
+    if text.is_empty() {
+        return Value::try_from_str("0x0");
+    }
+    Ok(Value::String(text))
+}
+
+/// The names of the flags that are set as one text, with commas between them; `0x0` if none is.
+fn listed_json(flags: Flags, number: u64) -> Result<Value, AllocError> {
+    let mut text = String::new();
+    for place in 0..FLAGS {
+        push_listed(flags, place, number, &mut text)?;
+    }
+    or_zero_json(text)
+}
+
 /// Puts the name of an attribute, if it has one.
 fn put_label(name: Option<&'static str>, map: &mut Map<String, Value>) -> Result<(), AllocError> {
     match name {
@@ -212,10 +244,15 @@ pub trait Nesting {
     fn nested_json(table: Table, payload: &[u8]) -> Result<Value, AllocError>;
 }
 
-/// Puts a mask as two members.
-fn put_mask(name: &str, number: u64, map: &mut Map<String, Value>) -> Result<(), AllocError> {
-    put(map, name, mask_json(number)?)?;
-    put(map, "group_fwd_mask_str", number_json(number)?)
+/// Puts a mask in hex, and the names of its flags.
+fn put_mask(
+    flags: Flags,
+    name: &str,
+    number: u64,
+    map: &mut Map<String, Value>,
+) -> Result<(), AllocError> {
+    put(map, name, hex_or_zero_json(number)?)?;
+    put(map, "group_fwd_mask_str", listed_json(flags, number)?)
 }
 
 /// Puts traffic class and flow label.
@@ -261,7 +298,7 @@ fn put_formatted<N: Nesting>(
 ) -> Result<(), AllocError> {
     let name = row.name;
     match row.format {
-        Format::Mask => put_mask(name, first_of(datum), map),
+        Format::Mask(flags) => put_mask(flags, name, first_of(datum), map),
         Format::FlowInfo => put_flow_info(name, first_of(datum), map),
         Format::Group => put_group((name, "remote"), datum, payload, map),
         Format::Group6 => put_group((name, "remote6"), datum, payload, map),

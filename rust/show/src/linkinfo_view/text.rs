@@ -5,6 +5,15 @@ use crate::compat::calls::*;
 use crate::compat::serde_json::Value;
 use std::net::{Ipv4Addr, Ipv6Addr};
 
+/// How many hex digits each octet of a hardware address has.
+#[derive(Clone, Copy)]
+enum OctetDigits {
+    /// Two.
+    Two,
+    /// One, if it is below 16; else two.
+    Fewest,
+}
+
 /// A hex digit.
 fn hex_digit(n: u8) -> u8 {
     if n < 10 { b'0' + n } else { b'a' + (n - 10) }
@@ -22,10 +31,26 @@ fn push_byte(text: &mut String, byte: u8) -> Result<(), AllocError> {
     push_digit(text, byte % 16)
 }
 
+/// Adds an octet in hex.
+fn push_octet(text: &mut String, digits: OctetDigits, octet: u8) -> Result<(), AllocError> {
+    match digits {
+        OctetDigits::Fewest if octet < 16 => push_digit(text, octet),
+        _ => push_byte(text, octet),
+    }
+}
+
 /// Adds a byte that is ASCII.
 fn push_ascii(text: &mut String, byte: u8) -> Result<(), AllocError> {
     text.try_push(char::from(byte))?;
     Ok(())
+}
+
+/// Adds a comma to a text that is not empty.
+pub fn push_comma(text: &mut String) -> Result<(), AllocError> {
+    if text.is_empty() {
+        return Ok(());
+    }
+    push_ascii(text, b',')
 }
 
 /// Adds a byte as `escaped` writes it.
@@ -57,39 +82,44 @@ pub fn escaped_json(bytes: &[u8]) -> Result<Value, AllocError> {
     Ok(Value::String(escaped(bytes)?))
 }
 
-/// Adds bytes as pairs of hex digits, with colons between them.
-fn push_octets(text: &mut String, octets: &[u8]) -> Result<(), AllocError> {
+/// Adds octets in hex, with colons between them.
+fn push_octets(text: &mut String, digits: OctetDigits, octets: &[u8]) -> Result<(), AllocError> {
     let Some((first, rest)) = octets.split_first() else {
         return Ok(());
     };
-    push_byte(text, *first)?;
-    push_after_colons(text, rest)
+    push_octet(text, digits, *first)?;
+    push_after_colons(text, digits, rest)
 }
 
-/// Adds bytes as pairs of hex digits, with a colon before each.
-fn push_after_colons(text: &mut String, octets: &[u8]) -> Result<(), AllocError> {
+/// Adds octets in hex, with a colon before each.
+fn push_after_colons(
+    text: &mut String,
+    digits: OctetDigits,
+    octets: &[u8],
+) -> Result<(), AllocError> {
     for octet in octets {
         push_ascii(text, b':')?;
-        push_byte(text, *octet)?;
+        push_octet(text, digits, *octet)?;
     }
     Ok(())
 }
 
-/// A hardware address as a JSON string.
+/// A hardware address of any length as a JSON string.
 pub fn octets_json(octets: &[u8]) -> Result<Value, AllocError> {
     let mut text = String::new();
-    push_octets(&mut text, octets)?;
+    push_octets(&mut text, OctetDigits::Two, octets)?;
     Ok(Value::String(text))
 }
 
-/// An identifier of a bridge as a JSON string: its priority in hex, and its hardware address.
+/// An identifier of a bridge as a JSON string: its priority in hex, and its hardware address, of
+/// which no octet has a leading zero.
 pub fn bridge_id_json(priority: &[u8], octets: &[u8]) -> Result<Value, AllocError> {
     let mut text = String::new();
     for byte in priority {
         push_byte(&mut text, *byte)?;
     }
     push_ascii(&mut text, b'.')?;
-    push_octets(&mut text, octets)?;
+    push_octets(&mut text, OctetDigits::Fewest, octets)?;
     Ok(Value::String(text))
 }
 
@@ -109,7 +139,7 @@ pub fn number_json(number: u64) -> Result<Value, AllocError> {
 }
 
 /// A number as a JSON string in hex, after `0x`, but `0` for 0.
-pub fn mask_json(number: u64) -> Result<Value, AllocError> {
+pub fn hex_or_zero_json(number: u64) -> Result<Value, AllocError> {
     match number {
         0 => Value::try_from_str("0"),
         _ => number_json(number),

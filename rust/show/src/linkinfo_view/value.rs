@@ -5,8 +5,8 @@ use crate::compat::calls::*;
 use crate::compat::serde_json::{Map, Value, put};
 use crate::linkinfo_view::format::{Format, Words};
 use crate::linkinfo_view::text::{
-    bridge_id_json, escaped_json, four_digits_json, hex_json, ipv4_json, ipv6_json, key_json,
-    masked_json, number_json, octets_json, thousandths_json,
+    bridge_id_json, escaped_json, four_digits_json, hex_json, hex_or_zero_json, ipv4_json,
+    ipv6_json, key_json, masked_json, number_json, octets_json, thousandths_json,
 };
 use crate::linkinfo_view::words;
 use linkinfo::layers::nla_frame::Cause;
@@ -162,9 +162,11 @@ pub fn format_json(format: Format, datum: &Datum<'_>, payload: &[u8]) -> Result<
         Format::Present => Ok(Value::Bool(true)),
         Format::Switch => Ok(switch_json(first_of(datum))),
         Format::Hex => number_json(first_of(datum)),
+        Format::HexOrZero => hex_or_zero_json(first_of(datum)),
         Format::KeyHex => key_json(first_of(datum)),
         Format::FourDigits => four_digits_json(first_of(datum)),
         Format::Octets => hex_json(payload),
+        Format::HardwareAddress => octets_json(payload),
         Format::Quad => json_as(Shape::V4, payload),
         Format::Word(words) => word_json(words, first_of(datum)),
         Format::Address => address_json(datum, payload),

@@ -15,8 +15,8 @@ use Rattle.std.proofs.Common.{
 use Rattle.serde_json.specs.Data.{Data, array}
 use Rattle.serde_json.specs.View.{items_of, view}
 use Rattle.serde_json.proofs.Views.{view-Array}
-use Rattle.linkinfo_view.proofs.Places.{names_end, names_step, unnamed_end, unnamed_step}
-use Rattle.linkinfo_view.specs.Values.{names_from, unnamed_data, unnamed_from}
+use Rattle.linkinfo_view.proofs.Places.{flags_end, flags_step, names_end, names_step}
+use Rattle.linkinfo_view.specs.Values.{names_from, over_flags, unnamed_data, without}
 use Rattle.linkinfo_view.proofs.members.names_json.Goals as goal
 
 pub loop-place-preserved : goal.loop-place-preserved
@@ -29,9 +29,10 @@ loop-place-preserved c =
           ∙ ap (λ (xs : List Data). front ++ xs)
           (sym (names_step place c.args.flags c.args.number (omega arith)))
           ∙ c.loop-place.invariant.0,
-      ap (λ (left : ℕ). unnamed_from (16 - (place + 1)) (place + 1) c.args.flags c.args.number left)
-          c.without-left.ensures
-          ∙ sym (unnamed_step place c.args.flags c.args.number c.loop-place.left (omega arith))
+      ap (λ (left : ℕ). over_flags without (16 - (place + 1)) (place + 1) c.args.flags
+          c.args.number left) c.without-left.ensures
+          ∙ sym (flags_step without place c.args.flags c.args.number c.loop-place.left
+          (omega arith))
           ∙ c.loop-place.invariant.1,
     )
 
@@ -43,7 +44,8 @@ returns c =
     ∙ sym (ap (λ (xs : List Data). front ++ xs)
     (names_end place c.args.flags c.args.number (omega arith)))
     ∙ c.loop-place.invariant.0 in
-    let unnamed = sym (unnamed_end place c.args.flags c.args.number c.loop-place.left (omega arith))
+    let unnamed = sym (flags_end without place c.args.flags c.args.number c.loop-place.left
+    (omega arith))
     ∙ c.loop-place.invariant.1 in
     view-Array c.push_unnamed.new.names
     ∙ ap (λ (xs : List Data). array (items_of xs)) (c.in_ok-push_unnamed.ensures

@@ -6,4 +6,4 @@ use Rattle.linkinfo_view.proofs.text.push_after_colons.Given as goal
 abbrev pub invariant-loop-octet : goal.invariant-loop-octet
 invariant-loop-octet l =
     string_bytes l.text
-    ≡ string_bytes l.initial.text ++ flat_map after_colon (take l.octet-index l.octets)
+    ≡ string_bytes l.initial.text ++ flat_map (after_colon l.digits) (take l.octet-index l.octets)
