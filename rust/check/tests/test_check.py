@@ -66,7 +66,9 @@ pub fn after(alloc: Global, text: &[u8], kind: Kind) -> Result<usize, AllocError
 }
 """
 
-CRATE = """//! Attributes in bytes.
+CRATE = """// @generated from crates/frame/src/lib.rt by rust/translate/run.
+
+//! Attributes in bytes.
 use crate::frame::kinds::Kind;
 use crate::frame::kinds::Name;
 use crate::memory::AllocError;
@@ -280,6 +282,23 @@ fn held() -> Held { Held { len: of(x) } }
 
     def test_an_import_that_is_gone(self):
         self.assertEqual(wrong_in(CRATE.replace("use crate::frame::kinds::Name;\n", "")), [])
+
+    def test_a_first_line_that_is_wrong_or_missing(self):
+        for new in ("crates/other.rt", "crates/frame/src/lib.rt by me, not"):
+            self.assertEqual(len(wrong_in(CRATE.replace("crates/frame/src/lib.rt", new))), 1)
+        self.assertEqual(len(wrong_in(CRATE[CRATE.index("//!") :])), 1)
+        long = CRATE.replace("lib.rt by", "lib.rt\n// by")
+        self.assertEqual(wrong_in(long), [])
+
+    def test_links(self):
+        source = SOURCE.replace("after the header.", "after the `Header::len`, as `start`.")
+        crate = CRATE.replace("after the header.", """after the [`Header::len`], as [`start`].
+///
+/// [`Header::len`]: crate::frame::Header::len
+/// [`start`]: crate::frame::start""")
+        self.assertEqual(wrong_in(crate, source), [])
+        other = crate.replace("crate::frame::start", "crate::frame::stop")
+        self.assertEqual(len(wrong_in(other, source)), 1)
 
     def test_a_doc_comment(self):
         self.edited("/// The offset after the header.", "/// The offset of the header.")
