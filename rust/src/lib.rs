@@ -19,8 +19,8 @@
 //!     LinkInfo::Data(InfoData::Vxlan([InfoVxlan::Id(42), InfoVxlan::Port(4789)].into())),
 //! ]);
 //! let bytes = list.to_vec()?;
-//! // Validating allocates nothing. The text of an `ErrorAt` is a sentence; `main` prints `Debug` of
-//! // what it returns, so give it the text.
+//! // Validating allocates nothing. The text of its error is a sentence. `main` prints
+//! // `Debug` of what it returns, so it gets the text.
 //! check_at(&bytes).map_err(|error| error.to_string())?;
 //! assert_eq!(VecLinkInfo::try_from(bytes.as_slice())?, list);
 //!
