@@ -9,9 +9,17 @@ import unittest
 
 FOLDER = pathlib.Path(__file__).resolve().parent.parent
 sys.dont_write_bytecode = True
-loader = importlib.machinery.SourceFileLoader("check_run", str(FOLDER / "run"))
-check_run = importlib.util.module_from_spec(importlib.util.spec_from_loader("check_run", loader))
-loader.exec_module(check_run)
+
+
+def program(path):
+    """A program without a suffix, as a module."""
+    loader = importlib.machinery.SourceFileLoader(path.name, str(path))
+    module = importlib.util.module_from_spec(importlib.util.spec_from_loader(path.name, loader))
+    loader.exec_module(module)
+    return module
+
+
+check_run = program(FOLDER / "run")
 
 PLACES = """
 crate frame crate::frame rust/src/frame.rs
@@ -326,6 +334,14 @@ fn held() -> Held { Held { len: of(x) } }
 
     def test_a_source_without_a_file(self):
         self.assertEqual(len(wrong_in(CRATE, more={"crates/frame/src/more.rt": "mod x;"})), 1)
+
+
+class Planted(unittest.TestCase):
+    def test_each_text_that_is_planted_is_there_once(self):
+        """gate/rust_planted takes minutes; that its texts are there is seen at once."""
+        for name, old, _ in program(FOLDER.parent.parent / "gate/rust_planted").PLANTED:
+            text = (FOLDER.parent / name).read_text(encoding="utf-8")
+            self.assertEqual(text.count(old), 1, (name, old))
 
 
 if __name__ == "__main__":
