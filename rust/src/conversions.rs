@@ -95,7 +95,7 @@ macro_rules! last_attributes {
 }
 
 last_attributes! {
-    /// Returns the kind of the link: that of the last `IFLA_INFO_KIND`, as the kernel takes the last
+    /// Returns the kind of the link: the last `IFLA_INFO_KIND`, as the kernel takes the last
     /// attribute of a type. `None` if the list has none.
     ///
     /// ```
@@ -112,7 +112,7 @@ last_attributes! {
     /// attribute of a type. `None` if the list has none.
     data: Data(InfoDataOf<P>);
 
-    /// Returns the port kind: that of the last `IFLA_INFO_SLAVE_KIND`, as the kernel takes the last
+    /// Returns the port kind: the last `IFLA_INFO_SLAVE_KIND`, as the kernel takes the last
     /// attribute of a type. `None` if the list has none.
     port_kind: PortKind(InfoPortKind);
 

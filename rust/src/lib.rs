@@ -55,8 +55,8 @@
 //!
 //! # Where to find what
 //!
-//! - **A list and its data**: [`VecLinkInfo`] has attributes [`LinkInfo`]: a kind [`InfoKind`], data
-//!   [`InfoData`], a port kind [`InfoPortKind`], port data [`InfoPortData`], and statistics
+//! - **A list and its data**: [`VecLinkInfo`] has attributes [`LinkInfo`]: a kind [`InfoKind`],
+//!   data [`InfoData`], a port kind [`InfoPortKind`], port data [`InfoPortData`], and statistics
 //!   [`LinkXstats`]. [`Nlas`], [`Bytes`], [`Text`] and [`DefaultNla`] are what they own.
 //!   [`LinkInfoWalk`] borrows them. [`nlas_fit_len`] and [`emit_nlas`] write into a buffer.
 //! - **Validating and comparing encodings**: [`check`], [`check_at`], [`same`], [`same_at`],
@@ -68,9 +68,9 @@
 //!   lists has the error; [`ErrorIn::at`] adds the offset. [`ToVecError`], [`CanonError`] and
 //!   [`CanonIntoError`] are those of writing, [`AllocError`] and [`AllocFailed`] those of memory.
 //!   [`attribute_name`] is the kernel's name of a type.
-//! - **Families of attributes**: one enum for the data of each kind or of several, as [`InfoVxlan`],
-//!   [`InfoGre`] or [`InfoMacSec`]. Those of bond, bridge, vlan and others are kept verbatim
-//!   ([`InfoBond`], [`InfoBridge`], [`InfoVlan`]).
+//! - **Families of attributes**: one enum for the data of each kind or of several, as
+//!   [`InfoVxlan`], [`InfoGre`] or [`InfoMacSec`]. Those of bond, bridge, vlan and others are kept
+//!   verbatim ([`InfoBond`], [`InfoBridge`], [`InfoVlan`]).
 //! - **Peers** of veth, vxcan and netkit links: a type that implements [`LinkPeer`], in
 //!   [`VecLinkInfoOf`], [`InfoDataOf`], [`InfoVethOf`] and so on. [`VecLinkInfo`] keeps them as
 //!   [`Bytes`].

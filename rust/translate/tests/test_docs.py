@@ -23,7 +23,8 @@ class Derives(RuleTest):
     def test_others(self):
         self.assert_kept(
             derives.derive_orders,
-            "#[derive(Clone, Copy, PartialEq)] struct A; #[derive(Eq, Clone)] struct B<'a>(&'a u8);",
+            "#[derive(Clone, Copy, PartialEq)] struct A; "
+            "#[derive(Eq, Clone)] struct B<'a>(&'a u8);",
         )
 
 
@@ -96,7 +97,8 @@ class Links(unittest.TestCase):
         ):
             lines = ["", f"[`{name}`]: {module}::{path}"]
             self.assertEqual(self.link(f"As `{name}` is."), (f"As [`{name}`] is.", lines))
-        self.assertEqual(self.link("`layers::nla_frame`")[1], ["", f"[`layers::nla_frame`]: {module}"])
+        lines = ["", f"[`layers::nla_frame`]: {module}"]
+        self.assertEqual(self.link("`layers::nla_frame`")[1], lines)
 
     def test_members_of_the_type_that_a_comment_is_about(self):
         lines = ["", "[`Raw`]: crate::layers::nla_frame::Shape::Raw"]

@@ -4,7 +4,7 @@ They are the public functions and methods, outside impls of traits, that return 
 none of their arguments. A `Result` and an iterator of `core` have the attribute themselves.
 """
 
-from .items import function_parts, impl_head
+from .items import begins_item, function_parts, impl_head
 from .panics import item_start
 
 # Types with the attribute, as a path that is returned begins.
@@ -14,7 +14,7 @@ MARKED = ("Result", "slice", "vec")
 def bodies_of_traits(source):
     """The ranges of the bodies of impls of traits."""
     for index in source.words():
-        if source.at(index) == "impl" and source.at(index - 1) not in ("&", "(", ":", "-", ">", ","):
+        if source.at(index) == "impl" and begins_item(source, index):
             trait, _, body = impl_head(source, index)
             if trait:
                 yield range(body, source.close(body))
@@ -38,7 +38,8 @@ def must_use(source):
         if source.at(index) != "fn" or source.kind(index + 1) != "word":
             continue
         start = item_start(source, index)
-        public = any(source.is_word(k, "pub") and source.at(k + 1) != "(" for k in range(start, index))
+        words = range(start, index)
+        public = any(source.is_word(k, "pub") and source.at(k + 1) != "(" for k in words)
         if not public or any(index in body for body in traits):
             continue
         result = returned(source, index)

@@ -267,7 +267,7 @@ pub fn first_unmet_of<P: LinkPeer>(have: &[u8], want: &[u8]) -> Result<Option<Un
 /// ```
 /// use linkinfo::first_unmet;
 ///
-/// // IFLA_INFO_KIND (1) "vrf"; in what is wanted also IFLA_INFO_DATA (2) with IFLA_VRF_TABLE (1) 10.
+/// // IFLA_INFO_KIND (1) "vrf"; what is wanted also has IFLA_INFO_DATA (2) with IFLA_VRF_TABLE 10.
 /// let received = *b"\x08\0\x01\0vrf\0";
 /// let wanted = *b"\x08\0\x01\0vrf\0\x0c\0\x02\0\x08\0\x01\0\x0a\0\0\0";
 /// // A link meets what it has.
