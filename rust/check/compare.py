@@ -71,11 +71,29 @@ def compare(left, right, paths, crate):
     return found, differences(comments, new_comments, context=6)
 
 
+# A link to an item, and the line that says where it goes: to what has the name of the link.
+LINK = re.compile(r"\[(`[\w:]+`)\]")
+DESTINATION = re.compile(r"//[/!] \[`(?:\w+::)*(\w+)`\]: crate::(?:\w+::)*\1")
+
+
 def prose(words):
-    """The words of the comments; how they are broken into lines is not looked at."""
+    """The words of the comments; how they are broken into lines is not looked at. A link counts as
+    its text: rustdoc rejects one that goes nowhere."""
     comments = [comment for word in words for comment in word.comments]
     return [
         Word(text, comment.line, ())
         for comment in comments
-        for text in re.sub(r"^//[/!]?", "", comment.text).split()
+        if not DESTINATION.fullmatch(comment.text)
+        for text in LINK.sub(r"\1", re.sub(r"^//[/!]?", "", comment.text)).split()
     ]
+
+
+def origin(words):
+    """What the first line of a file, or the first two, says of its source; and the words without
+    these comments."""
+    comments = words[0].comments
+    count = 0
+    while count < len(comments) and not comments[count].text.startswith(("///", "//!")):
+        count += 1
+    first = words[0]._replace(comments=comments[count:])
+    return " ".join(comment.text[3:] for comment in comments[:count]), [first, *words[1:]]

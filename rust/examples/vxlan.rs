@@ -1,6 +1,6 @@
 //! Builds the link info of a vxlan link for RTM_NEWLINK, and parses that of the link.
 use linkinfo::{
-    InfoData, InfoKind, InfoVxlan, LinkInfo, LinkInfoWalk, VecLinkInfo, check, first_unmet, same,
+    InfoData, InfoKind, InfoVxlan, LinkInfo, LinkInfoWalk, VecLinkInfo, check_at, first_unmet, same,
 };
 use std::error::Error;
 use std::net::Ipv4Addr;
@@ -32,7 +32,7 @@ fn main() -> Result<(), Box<dyn Error>> {
         5, 0, 5, 0, 64, 0, 0, 0, // IFLA_VXLAN_TTL 64
         6, 0, 15, 0, 0x12, 0xb5, 0, 0, // IFLA_VXLAN_PORT 4789
     ];
-    check(&link)?;
+    check_at(&link).map_err(|error| error.to_string())?;
     // Does the link meet the request? `same` is for two requests, so it is false here.
     assert_eq!(first_unmet(&link, &bytes), Ok(None));
     assert!(!same(&link, &bytes)?);
@@ -41,7 +41,9 @@ fn main() -> Result<(), Box<dyn Error>> {
         LinkInfo::Kind(InfoKind::Vxlan),
         LinkInfo::Data(InfoData::Vxlan([InfoVxlan::Id(43)].into())),
     ]);
-    println!("{:?}", first_unmet(&link, &other.to_vec()?));
+    if let Some(unmet) = first_unmet(&link, &other.to_vec()?)? {
+        println!("{unmet}");
+    }
     for info in &VecLinkInfo::parse(&link)? {
         println!("{info:?}");
     }
@@ -57,7 +59,7 @@ fn main() -> Result<(), Box<dyn Error>> {
         );
     }
 
-    // The first error of truncated bytes.
-    println!("{}", check(&link[..20]).unwrap_err());
+    // The first error of truncated bytes, as a sentence.
+    println!("{}", check_at(&link[..20]).unwrap_err());
     Ok(())
 }

@@ -3,15 +3,18 @@
 use crate::layers::messages::{Capture, LinkMessages};
 use crate::layers::nla_frame::NlasIterator;
 use crate::{
-    Bytes, DecodeError, ErrorIn, LinkInfoOf, LinkInfoWalk, LinkPeer, Nlas, Text, ToVecError,
-    VecLinkInfoOf,
+    AllocError, Bytes, DecodeError, ErrorIn, InfoDataOf, InfoKind, InfoPortData, InfoPortKind,
+    LinkInfoOf, LinkInfoWalk, LinkPeer, Nlas, Text, ToVecError, VecLinkInfoOf,
 };
 use alloc::string::String;
 use alloc::vec::Vec;
+use core::cmp::Ordering;
 use core::error::Error;
 use core::fmt;
+use core::hash::{Hash, Hasher};
 use core::iter::FusedIterator;
 use core::ops::Deref;
+use core::str::FromStr;
 
 /// Parses the list, as [`VecLinkInfoOf::parse`].
 impl<P: LinkPeer> TryFrom<&[u8]> for VecLinkInfoOf<P> {
@@ -54,6 +57,70 @@ impl<P, const N: usize> From<[LinkInfoOf<P>; N]> for VecLinkInfoOf<P> {
     }
 }
 
+/// The attributes, in order. The `Vec` is moved, not copied.
+impl<P> From<VecLinkInfoOf<P>> for Vec<LinkInfoOf<P>> {
+    fn from(list: VecLinkInfoOf<P>) -> Vec<LinkInfoOf<P>> {
+        list.into_vec()
+    }
+}
+
+/// The list without attributes, of which the encoding is the empty string. Does not allocate.
+impl<P> Default for VecLinkInfoOf<P> {
+    fn default() -> VecLinkInfoOf<P> {
+        VecLinkInfoOf(Nlas::default())
+    }
+}
+
+/// Adds the attributes at the end. It aborts where memory runs out, as `Vec` does.
+impl<P> Extend<LinkInfoOf<P>> for VecLinkInfoOf<P> {
+    fn extend<I: IntoIterator<Item = LinkInfoOf<P>>>(&mut self, items: I) {
+        self.0.extend(items);
+    }
+}
+
+/// Calls that return the last attribute of a type in a list, by its variant.
+macro_rules! last_attributes {
+    ($($(#[$doc:meta])* $name:ident: $variant:ident($contents:ty);)*) => {
+        impl<P> VecLinkInfoOf<P> {$(
+            $(#[$doc])*
+            #[must_use]
+            pub fn $name(&self) -> Option<&$contents> {
+                self.iter().rev().find_map(|item| match item {
+                    LinkInfoOf::$variant(contents) => Some(contents),
+                    _ => None,
+                })
+            }
+        )*}
+    };
+}
+
+last_attributes! {
+    /// Returns the kind of the link: the last `IFLA_INFO_KIND`, as the kernel takes the last
+    /// attribute of a type. `None` if the list has none.
+    ///
+    /// ```
+    /// use linkinfo::{InfoKind, VecLinkInfo};
+    ///
+    /// // IFLA_INFO_KIND (1) "vrf"
+    /// let list = VecLinkInfo::parse(&[8, 0, 1, 0, b'v', b'r', b'f', 0])?;
+    /// assert_eq!(list.kind(), Some(&InfoKind::Vrf));
+    /// # Ok::<(), linkinfo::DecodeError>(())
+    /// ```
+    kind: Kind(InfoKind);
+
+    /// Returns the data of the link: the last `IFLA_INFO_DATA`, as the kernel takes the last
+    /// attribute of a type. `None` if the list has none.
+    data: Data(InfoDataOf<P>);
+
+    /// Returns the port kind: the last `IFLA_INFO_SLAVE_KIND`, as the kernel takes the last
+    /// attribute of a type. `None` if the list has none.
+    port_kind: PortKind(InfoPortKind);
+
+    /// Returns the data of the port: the last `IFLA_INFO_SLAVE_DATA`, as the kernel takes the last
+    /// attribute of a type. `None` if the list has none.
+    port_data: PortData(InfoPortData);
+}
+
 impl<P> Deref for VecLinkInfoOf<P> {
     type Target = [LinkInfoOf<P>];
 
@@ -76,6 +143,50 @@ impl<T, const N: usize> From<[T; N]> for Nlas<T> {
     }
 }
 
+/// The items, in order. The `Vec` is moved, not copied.
+impl<T> From<Nlas<T>> for Vec<T> {
+    fn from(list: Nlas<T>) -> Vec<T> {
+        list.into_vec()
+    }
+}
+
+/// The list without items. Does not allocate.
+impl<T> Default for Nlas<T> {
+    fn default() -> Nlas<T> {
+        Nlas::new(Vec::new())
+    }
+}
+
+/// Adds the items at the end. It aborts where memory runs out, as `Vec` does.
+impl<T> Extend<T> for Nlas<T> {
+    fn extend<I: IntoIterator<Item = T>>(&mut self, items: I) {
+        let mut all = core::mem::take(self).into_vec();
+        all.extend(items);
+        *self = Nlas::new(all);
+    }
+}
+
+/// By the items, as slices are hashed.
+impl<T: Hash> Hash for Nlas<T> {
+    fn hash<H: Hasher>(&self, state: &mut H) {
+        self.as_slice().hash(state);
+    }
+}
+
+/// By the items, as slices are ordered.
+impl<T: PartialOrd> PartialOrd for Nlas<T> {
+    fn partial_cmp(&self, other: &Nlas<T>) -> Option<Ordering> {
+        self.as_slice().partial_cmp(other.as_slice())
+    }
+}
+
+/// By the items, as slices are ordered.
+impl<T: Ord> Ord for Nlas<T> {
+    fn cmp(&self, other: &Nlas<T>) -> Ordering {
+        self.as_slice().cmp(other.as_slice())
+    }
+}
+
 impl<T> Deref for Nlas<T> {
     type Target = [T];
 
@@ -88,6 +199,47 @@ impl<T> Deref for Nlas<T> {
 impl From<&str> for Text {
     fn from(text: &str) -> Text {
         Text::new(String::from(text))
+    }
+}
+
+/// The kind of this name, as [`InfoKind::from_text`]: `Other` if the name is unknown. The error is
+/// that the copy of an unknown name could not be allocated.
+impl FromStr for InfoKind {
+    type Err = AllocError;
+
+    fn from_str(name: &str) -> Result<InfoKind, AllocError> {
+        InfoKind::from_text(name)
+    }
+}
+
+/// The port kind of this name, as [`InfoPortKind::from_text`]: `Other` if the name is unknown. The
+/// error is that the copy of an unknown name could not be allocated.
+impl FromStr for InfoPortKind {
+    type Err = AllocError;
+
+    fn from_str(name: &str) -> Result<InfoPortKind, AllocError> {
+        InfoPortKind::from_text(name)
+    }
+}
+
+/// As the text in a string is hashed.
+impl Hash for Text {
+    fn hash<H: Hasher>(&self, state: &mut H) {
+        self.as_str().hash(state);
+    }
+}
+
+/// By the bytes, as strings are ordered.
+impl PartialOrd for Text {
+    fn partial_cmp(&self, other: &Text) -> Option<Ordering> {
+        Some(self.cmp(other))
+    }
+}
+
+/// By the bytes, as strings are ordered.
+impl Ord for Text {
+    fn cmp(&self, other: &Text) -> Ordering {
+        self.as_str().cmp(other.as_str())
     }
 }
 
@@ -108,6 +260,27 @@ impl From<&[u8]> for Bytes {
 impl<const N: usize> From<[u8; N]> for Bytes {
     fn from(bytes: [u8; N]) -> Bytes {
         Bytes::new(Vec::from(bytes))
+    }
+}
+
+/// As the bytes in a slice are hashed.
+impl Hash for Bytes {
+    fn hash<H: Hasher>(&self, state: &mut H) {
+        self.as_slice().hash(state);
+    }
+}
+
+/// By the bytes, as slices are ordered.
+impl PartialOrd for Bytes {
+    fn partial_cmp(&self, other: &Bytes) -> Option<Ordering> {
+        Some(self.cmp(other))
+    }
+}
+
+/// By the bytes, as slices are ordered.
+impl Ord for Bytes {
+    fn cmp(&self, other: &Bytes) -> Ordering {
+        self.as_slice().cmp(other.as_slice())
     }
 }
 

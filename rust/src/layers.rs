@@ -1,3 +1,5 @@
+// @generated from rust/translate/translator/layers.rs by rust/translate/run.
+
 //! The layers of the crate, one module each, for who writes families of attributes or peers.
 //!
 //! Many calls here require something of their caller: a buffer of a certain length, a string that

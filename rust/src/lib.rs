@@ -10,21 +10,26 @@
 //! - [`LinkInfoWalk`] iterates over the borrowed attributes.
 //! - [`messages`] finds link info in the bytes of a netlink socket, and in captures of it.
 //!
-//! The calls at the root accept every input. Those in [`layers`] are for authors of a family of
-//! attributes or of a peer: many of them have conditions for their caller, and panic where one does
-//! not hold.
-//!
 //! ```
-//! use linkinfo::{InfoData, InfoKind, InfoVxlan, LinkInfo, VecLinkInfo, check};
+//! use linkinfo::{InfoData, InfoKind, InfoVxlan, LinkInfo, VecLinkInfo, check_at};
 //!
+//! # fn main() -> Result<(), Box<dyn std::error::Error>> {
 //! let list = VecLinkInfo::from([
 //!     LinkInfo::Kind(InfoKind::Vxlan),
 //!     LinkInfo::Data(InfoData::Vxlan([InfoVxlan::Id(42), InfoVxlan::Port(4789)].into())),
 //! ]);
 //! let bytes = list.to_vec()?;
-//! assert_eq!(check(&bytes), Ok(()));
+//! // Validating allocates nothing. The text of its error is a sentence. `main` prints
+//! // `Debug` of what it returns, so it gets the text.
+//! check_at(&bytes).map_err(|error| error.to_string())?;
 //! assert_eq!(VecLinkInfo::try_from(bytes.as_slice())?, list);
-//! # Ok::<(), Box<dyn std::error::Error>>(())
+//!
+//! // Data without a kind before it: the bytes after the first attribute, of 12 bytes.
+//! let error = check_at(&bytes[12..]).unwrap_err();
+//! assert_eq!(error.to_string(), "IFLA_INFO_DATA before IFLA_INFO_KIND, at offset 0");
+//! assert_eq!(error.error.to_string(), "linkinfo 2 order");
+//! # Ok(())
+//! # }
 //! ```
 //!
 //! The links in the bytes of a netlink socket, here of one message:
@@ -48,11 +53,46 @@
 //! # Ok::<(), linkinfo::messages::MessageError>(())
 //! ```
 //!
+//! # Where to find what
+//!
+//! - **A list and its data**: [`VecLinkInfo`] has attributes [`LinkInfo`]: a kind [`InfoKind`],
+//!   data [`InfoData`], a port kind [`InfoPortKind`], port data [`InfoPortData`], and statistics
+//!   [`LinkXstats`]. [`Nlas`], [`Bytes`], [`Text`] and [`DefaultNla`] are what they own.
+//!   [`LinkInfoWalk`] borrows them. [`nlas_fit_len`] and [`emit_nlas`] write into a buffer.
+//! - **Validating and comparing encodings**: [`check`], [`check_at`], [`same`], [`same_at`],
+//!   [`first_unmet`] with [`Unmet`], [`first_difference`] with [`Difference`], [`canon`] and
+//!   [`canon_into`]. Those that end in `_of` take another type of peer, and those with `counted` a
+//!   [`HeaderCount`] for the headers examined.
+//! - **Errors**: [`DecodeError`] has a [`Family`], a type and a [`Cause`]. [`ErrorAt`] adds the
+//!   offset, and is displayed as a sentence, as [`Explanation`] is. [`ErrorIn`] says which of two
+//!   lists has the error; [`ErrorIn::at`] adds the offset. [`ToVecError`], [`CanonError`] and
+//!   [`CanonIntoError`] are those of writing, [`AllocError`] and [`AllocFailed`] those of memory.
+//!   [`attribute_name`] is the kernel's name of a type.
+//! - **Families of attributes**: one enum for the data of each kind or of several, as
+//!   [`InfoVxlan`], [`InfoGre`] or [`InfoMacSec`]. Those of bond, bridge, vlan and others are kept
+//!   verbatim ([`InfoBond`], [`InfoBridge`], [`InfoVlan`]).
+//! - **Peers** of veth, vxcan and netkit links: a type that implements [`LinkPeer`], in
+//!   [`VecLinkInfoOf`], [`InfoDataOf`], [`InfoVethOf`] and so on. [`VecLinkInfo`] keeps them as
+//!   [`Bytes`].
+//! - **Numbers and flags**: as [`VxlanDf`], [`MacVlanMode`] and [`GreIOFlags`]; [`Flags`] has the
+//!   bits of a set. [`KindTag`] and [`PortTag`] are kinds without their text.
+//! - **Messages and captures**: [`LinkMessages`] and [`Capture`]; the module [`messages`] has what
+//!   they yield.
+//!
+//! The calls at the root accept every input, but for those that say otherwise under "Panics":
+//! [`emit_nlas`] requires a buffer of the right length, and the counted calls a counter at zero.
+//! What is in [`layers`] is for authors of a family of attributes or of a peer: many calls there
+//! have conditions for their caller, and panic where one does not hold.
+//!
+//! Values are compared, ordered and hashed by their fields in the order of their declaration; so
+//! the order of numbers that have a name is that of the variants, and every number without one is
+//! after them.
+//!
 //! Most of the crate is translated from sources that are proved against their contracts. The crate
 //! itself is not proved: `docs/RUST.md` of the repository says what may be claimed of it.
 //!
-//! `clone`, `collect`, and `From` of arrays, slices and `&str` abort the process where memory runs
-//! out, as those of `alloc` do. Every other call reports it.
+//! `clone`, `collect`, `extend`, and `From` of arrays, slices and `&str` abort the process where
+//! memory runs out, as those of `alloc` do. Every other call reports it.
 //!
 //! # Features
 //!
@@ -77,45 +117,86 @@ extern crate std;
 #[doc(hidden)]
 pub mod compat;
 mod conversions;
+mod display;
 pub mod layers;
 #[cfg(feature = "netlink-packet-core")]
 mod netlink_packet_core;
 mod operators;
 
+// The list, its data, and what they own.
+#[doc(inline)]
+pub use layers::data::{InfoData, InfoDataOf, InfoPortData};
+#[doc(inline)]
+pub use layers::link::{
+    LinkInfo, LinkInfoItem, LinkInfoOf, LinkInfoWalk, LinkXstats, VecLinkInfo, VecLinkInfoOf,
+};
+#[doc(inline)]
+pub use layers::nla_frame::{Bytes, DefaultNla, Nlas, Text, emit_nlas, nlas_fit_len};
+#[doc(inline)]
+pub use layers::numbers::{
+    IFLA_INFO_DATA, IFLA_INFO_KIND, IFLA_INFO_SLAVE_DATA, IFLA_INFO_SLAVE_KIND, IFLA_INFO_XSTATS,
+    InfoKind, InfoPortKind, KindTag, PortTag, port_tag_of_name, tag_of_name,
+};
+
+// Encodings validated, compared and made canonical.
+#[doc(inline)]
+pub use layers::data::{Difference, Unmet};
+#[doc(inline)]
+pub use layers::link::{
+    canon, canon_into, canon_into_of, canon_of, check, check_at, check_at_of, check_counted,
+    check_counted_of, check_of, first_difference, first_difference_of, first_unmet, first_unmet_of,
+    same, same_at, same_at_of, same_counted, same_counted_of, same_of,
+};
+#[doc(inline)]
+pub use layers::nla_frame::HeaderCount;
+
+// Errors.
+#[doc(inline)]
 pub use compat::{AllocError, AllocFailed};
-pub use layers::data::{Difference, InfoData, InfoDataOf, InfoPortData, Unmet};
+#[doc(inline)]
+pub use layers::link::{CanonError, CanonIntoError, ErrorAt, ErrorIn};
+#[doc(inline)]
+pub use layers::names::{Explanation, attribute_name};
+#[doc(inline)]
+pub use layers::nla_frame::{Cause, DecodeError, Family, ToVecError};
+
+// The attributes of each family.
+#[doc(inline)]
 pub use layers::devices::{
     InfoIpVlan, InfoIpVtap, InfoIpoib, InfoMacSec, InfoMacVlan, InfoMacVtap, InfoRmNet, InfoVrf,
     InfoVrfPort, InfoXfrm,
 };
-pub use layers::link::{
-    CanonError, CanonIntoError, ErrorAt, ErrorIn, LinkInfo, LinkInfoItem, LinkInfoOf, LinkInfoWalk,
-    LinkXstats, VecLinkInfo, VecLinkInfoOf, canon, canon_into, canon_into_of, canon_of, check,
-    check_at, check_at_of, check_of, first_difference, first_difference_of, first_unmet,
-    first_unmet_of, same, same_at, same_at_of, same_of,
-};
+#[doc(inline)]
 pub use layers::lower::{
     InfoBond, InfoBondPort, InfoBridge, InfoBridgePort, InfoCan, InfoDsa, InfoHsr, InfoVlan,
 };
-pub use layers::messages;
-pub use layers::names::{Explanation, attribute_name};
-pub use layers::nla_frame::{
-    Bytes, Cause, DecodeError, DefaultNla, Family, Nlas, Text, ToVecError,
-};
-pub use layers::numbers::{
-    AmtMode, ErSpanDir, EthernetProtocol, GeneveDf, GreEncapFlags, GreEncapType, GreIOFlags,
-    GtpRole, IFLA_INFO_DATA, IFLA_INFO_KIND, IFLA_INFO_SLAVE_DATA, IFLA_INFO_SLAVE_KIND,
-    IFLA_INFO_XSTATS, InfoKind, InfoPortKind, InfoRmNetFlags, Ip6TunnelFlags, IpProtocol,
-    IpVlanFlags, IpVlanMode, IpVtapFlags, IpVtapMode, IpoibMode, KindTag, MacSecCipherId,
-    MacSecOffload, MacSecValidate, MacVlanFlags, MacVlanMacAddressMode, MacVlanMode, MacVtapFlags,
-    MacVtapMacAddressMode, MacVtapMode, NetkitMode, NetkitPolicy, NetkitScrub, PortTag, RmNetFlags,
-    TunnelEncapFlags, TunnelEncapType, VxlanDf, port_tag_of_name, tag_of_name,
-};
-pub use layers::peers::{
-    InfoBatAdv, InfoNetkit, InfoNetkitOf, InfoPfcp, InfoTeamPort, InfoTun, InfoVeth, InfoVethOf,
-    InfoVxcan, InfoVxcanOf, InfoWireguard, InfoWwan,
-};
-pub use layers::table::{LinkPeer, PeerFault};
+#[doc(inline)]
+pub use layers::peers::{InfoBatAdv, InfoPfcp, InfoTeamPort, InfoTun, InfoWireguard, InfoWwan};
+#[doc(inline)]
 pub use layers::tunnels::{
     InfoAmt, InfoBareUdp, InfoGeneve, InfoGre, InfoGre6, InfoGtp, InfoIpTunnel, InfoVti, InfoVxlan,
 };
+
+// Families with a peer, custom peers and custom families.
+#[doc(inline)]
+pub use layers::peers::{InfoNetkit, InfoNetkitOf, InfoVeth, InfoVethOf, InfoVxcan, InfoVxcanOf};
+#[doc(inline)]
+pub use layers::table::{LinkFamily, LinkPeer, PeerFault};
+
+// Numbers and flags.
+#[doc(inline)]
+pub use bitflags::Flags;
+#[doc(inline)]
+pub use layers::numbers::{
+    AmtMode, ErSpanDir, EthernetProtocol, GeneveDf, GreEncapFlags, GreEncapType, GreIOFlags,
+    GtpRole, InfoRmNetFlags, Ip6TunnelFlags, IpProtocol, IpVlanFlags, IpVlanMode, IpVtapFlags,
+    IpVtapMode, IpoibMode, MacSecCipherId, MacSecOffload, MacSecValidate, MacVlanFlags,
+    MacVlanMacAddressMode, MacVlanMode, MacVtapFlags, MacVtapMacAddressMode, MacVtapMode,
+    NetkitMode, NetkitPolicy, NetkitScrub, RmNetFlags, TunnelEncapFlags, TunnelEncapType, VxlanDf,
+};
+
+// Link info in netlink messages and captures.
+#[doc(inline)]
+pub use layers::messages;
+#[doc(inline)]
+pub use layers::messages::{Capture, LinkMessages};

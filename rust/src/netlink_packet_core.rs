@@ -1,7 +1,8 @@
 //! The list as the attribute `IFLA_LINKINFO`, by the traits of the crate `netlink-packet-core`.
 //!
 //! `Emitable` comes with [`Nla`]. Of the crate's own errors, a list that does not fit an attribute
-//! is the one that these traits cannot report.
+//! is the one that these traits cannot report. `Nla::kind(&list)` is the type of the attribute, 18,
+//! while [`VecLinkInfoOf::kind`] is the kind of the link.
 
 use crate::layers::nla_frame::{emit_nlas, nlas_fit_len};
 use crate::{LinkPeer, ToVecError, VecLinkInfoOf};

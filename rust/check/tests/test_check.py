@@ -9,9 +9,17 @@ import unittest
 
 FOLDER = pathlib.Path(__file__).resolve().parent.parent
 sys.dont_write_bytecode = True
-loader = importlib.machinery.SourceFileLoader("check_run", str(FOLDER / "run"))
-check_run = importlib.util.module_from_spec(importlib.util.spec_from_loader("check_run", loader))
-loader.exec_module(check_run)
+
+
+def program(path):
+    """A program without a suffix, as a module."""
+    loader = importlib.machinery.SourceFileLoader(path.name, str(path))
+    module = importlib.util.module_from_spec(importlib.util.spec_from_loader(path.name, loader))
+    loader.exec_module(module)
+    return module
+
+
+check_run = program(FOLDER / "run")
 
 PLACES = """
 crate frame crate::frame rust/src/frame.rs
@@ -66,7 +74,9 @@ pub fn after(alloc: Global, text: &[u8], kind: Kind) -> Result<usize, AllocError
 }
 """
 
-CRATE = """//! Attributes in bytes.
+CRATE = """// @generated from crates/frame/src/lib.rt by rust/translate/run.
+
+//! Attributes in bytes.
 use crate::frame::kinds::Kind;
 use crate::frame::kinds::Name;
 use crate::memory::AllocError;
@@ -281,6 +291,23 @@ fn held() -> Held { Held { len: of(x) } }
     def test_an_import_that_is_gone(self):
         self.assertEqual(wrong_in(CRATE.replace("use crate::frame::kinds::Name;\n", "")), [])
 
+    def test_a_first_line_that_is_wrong_or_missing(self):
+        for new in ("crates/other.rt", "crates/frame/src/lib.rt by me, not"):
+            self.assertEqual(len(wrong_in(CRATE.replace("crates/frame/src/lib.rt", new))), 1)
+        self.assertEqual(len(wrong_in(CRATE[CRATE.index("//!") :])), 1)
+        long = CRATE.replace("lib.rt by", "lib.rt\n// by")
+        self.assertEqual(wrong_in(long), [])
+
+    def test_links(self):
+        source = SOURCE.replace("after the header.", "after the `Header::len`, as `start`.")
+        crate = CRATE.replace("after the header.", """after the [`Header::len`], as [`start`].
+///
+/// [`Header::len`]: crate::frame::Header::len
+/// [`start`]: crate::frame::start""")
+        self.assertEqual(wrong_in(crate, source), [])
+        other = crate.replace("crate::frame::start", "crate::frame::stop")
+        self.assertEqual(len(wrong_in(other, source)), 1)
+
     def test_a_doc_comment(self):
         self.edited("/// The offset after the header.", "/// The offset of the header.")
 
@@ -307,6 +334,14 @@ fn held() -> Held { Held { len: of(x) } }
 
     def test_a_source_without_a_file(self):
         self.assertEqual(len(wrong_in(CRATE, more={"crates/frame/src/more.rt": "mod x;"})), 1)
+
+
+class Planted(unittest.TestCase):
+    def test_each_text_that_is_planted_is_there_once(self):
+        """gate/rust_planted takes minutes; that its texts are there is seen at once."""
+        for name, old, _ in program(FOLDER.parent.parent / "gate/rust_planted").PLANTED:
+            text = (FOLDER.parent / name).read_text(encoding="utf-8")
+            self.assertEqual(text.count(old), 1, (name, old))
 
 
 if __name__ == "__main__":

@@ -47,7 +47,7 @@ fn the_examples_run() {
 fn the_list_is_an_attribute() {
     let list = vxlan();
     assert_eq!(
-        (list.kind(), list.value_len(), list.buffer_len()),
+        (Nla::kind(&list), list.value_len(), list.buffer_len()),
         (18, 32, 36)
     );
     let mut bytes = [0xa5; 36];

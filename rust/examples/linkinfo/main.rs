@@ -1,3 +1,5 @@
+// @generated from crates/linkinfo_tool/src/main.rt by rust/translate/run.
+
 //! Reads lines of standard input, and writes a result line for each to standard output: whether a
 //! list of link info attributes is accepted, its canonical encoding, and whether two lists are
 //! equivalent.

@@ -1,3 +1,5 @@
+// @generated from crates/linkinfo_show/src/main.rt by rust/translate/run.
+
 //! Prints lists of link info for people: in hex on lines, in netlink messages, or in a capture.
 
 #![forbid(unsafe_code)]

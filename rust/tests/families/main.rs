@@ -1,3 +1,5 @@
+// @generated from crates/linkinfo_families_tests/src/lib.rt by rust/translate/run.
+
 //! Tests of the families of attributes, each by its public calls.
 
 #![allow(

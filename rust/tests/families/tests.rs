@@ -1,3 +1,5 @@
+// @generated from crates/linkinfo_families_tests/src/tests.rt by rust/translate/run.
+
 //! Tests over worked attributes: each row of each family, as the kernel writes it, and both types
 //! of peer in each call of the families with one. Also nested lists, families without rows, and the
 //! calls that families are made of.

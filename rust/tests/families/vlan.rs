@@ -1,3 +1,5 @@
+// @generated from crates/linkinfo_families_tests/src/vlan.rt by rust/translate/run.
+
 //! A custom family, whose rows the table of all families does not have: attributes of `vlan` links
 //! (`IFLA_VLAN_*`, include/uapi/linux/if_link.h), which the list itself keeps opaque.
 

@@ -1,3 +1,5 @@
+// @generated from crates/linkinfo_layers_tests/src/lib.rt by rust/translate/run.
+
 //! Tests of `layers::nla_frame`, `layers::numbers`, `layers::shapes` and `linkinfo_view`, the
 //! crates below the families, by their public calls alone.
 

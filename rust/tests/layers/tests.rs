@@ -1,3 +1,5 @@
+// @generated from crates/linkinfo_layers_tests/src/tests.rt by rust/translate/run.
+
 //! Tests over worked byte strings, values and payloads: what the format specifies of values,
 //! lengths, texts, numbers and rows.
 

@@ -1,3 +1,5 @@
+// @generated from crates/linkinfo_tests/src/any_peer.rt by rust/translate/run.
+
 //! A custom peer that needs `linkinfo` alone.
 
 use linkinfo::layers::link::ExactEq;

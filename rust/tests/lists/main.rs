@@ -1,3 +1,5 @@
+// @generated from crates/linkinfo_tests/src/lib.rt by rust/translate/run.
+
 //! Tests of `linkinfo` and `linkinfo_lines`, by their public calls alone, and a custom peer as a
 //! user of `linkinfo` writes it.
 

@@ -1,3 +1,5 @@
+// @generated from crates/linkinfo_tests/src/tests.rt by rust/translate/run.
+
 //! Tests with worked examples, with replies of a Linux kernel, of the lines of the program, and of
 //! failed allocations.
 

@@ -165,9 +165,10 @@ class Known(RuleTest):
 class Docs(RuleTest):
     def fitted(self, text, pairs=()):
         source = Source(text, "case")
-        used = set()
-        docs.fit_docs(source, place_of("nla_frame"), pairs, used)
-        return source.text(), used
+        fit = docs.Fit()
+        fit.sentences = pairs
+        fit.source(source, place_of("nla_frame"))
+        return source.text(), fit.used
 
     def test_examples(self):
         text = (

@@ -1,13 +1,15 @@
-"""Fits doc comments to the crate: examples without an allocator, and sentences by a table.
+"""Fits doc comments to the crate: examples without an allocator, sentences by a table, and links.
 
 `sentences.txt` has pairs of lines, `- ` before a text of the source and `+ ` before what is
 written for it. A text that no doc comment has any more is an error: the table has no dead lines.
+Examples of the library become tests by `examples.txt`.
 """
 
 import pathlib
 import re
 import textwrap
 
+from . import examples, links
 from .source import Unknown
 
 WIDTH = 100
@@ -95,40 +97,64 @@ def fitted(text, pairs, used):
     return text
 
 
-def fit_lines(lines, width, pairs, used):
-    """The lines of a doc comment, as they are written."""
-    result = []
-    for kind, text in paragraphs(lines):
-        for pattern, new in IN_EXAMPLES:
-            text = pattern.sub(new, text)
-        if kind == "example":
-            result.append(text)
-            continue
-        changed = fitted(text, pairs, used)
-        if text and not changed.strip():
-            continue
-        hanging = "  " if changed.startswith("- ") else ""
-        wrapped = textwrap.wrap(changed, width, subsequent_indent=hanging, **WHOLE_WORDS)
-        result.extend(wrapped or [""])
-    while result and not result[-1]:
-        result.pop()
-    return result
+class Fit:
+    """How the doc comments of some crates are written: by the table of sentences, that of examples,
+    and the names that are linked. `used` has the sentences and examples that were met. In programs
+    and tests no name is linked and no example is a test."""
+
+    def __init__(self, names=None):
+        self.names = names
+        self.sentences = read_table()
+        self.examples = examples.read_table() if names else {}
+        self.used = set()
+
+    def entries(self):
+        """What the tables expect in doc comments."""
+        return {old for old, _ in self.sentences} | set(self.examples)
+
+    def lines(self, lines, width, about, found):
+        """The lines of a doc comment about a type; `found` gets its links."""
+        result = []
+        for kind, text in paragraphs(lines):
+            for pattern, new in IN_EXAMPLES:
+                text = pattern.sub(new, text)
+            if kind == "example":
+                result.append(text)
+                continue
+            changed = fitted(text, self.sentences, self.used)
+            if text and not changed.strip():
+                continue
+            if self.names:
+                changed = links.linked(changed, self.names, about, found)
+            hanging = "  " if changed.startswith("- ") else ""
+            wrapped = textwrap.wrap(changed, width, subsequent_indent=hanging, **WHOLE_WORDS)
+            result.extend(wrapped or [""])
+        while result and not result[-1]:
+            result.pop()
+        return examples.tested(result, self.examples, self.used) if self.names else result
+
+    def source(self, source, place):
+        """Rewrites each doc comment in place: its first token gets the text, the others none."""
+        spans = links.subjects(source) if self.names else []
+        for run, column in list(blocks(source)):
+            old = [token.text[3:].removeprefix(" ") for token in run]
+            named = [name_modules(line, place.crates) for line in old]
+            about, found = links.subject_of(spans, run[0]), {}
+            new = self.lines(named, WIDTH - column - 4, about, found)
+            if word := OF_PROOFS.search(" ".join(new)):
+                where = f"{source.name}:{run[0].line}"
+                raise Unknown(f"{where}: a doc comment has {word.group()!r}: {new}")
+            write(source, run, column, old, new, links.definitions(found))
+        source.refresh()
 
 
-def fit_docs(source, place, pairs, used):
-    """Rewrites each doc comment in place: its first token gets the text, the others none."""
-    for run, column in blocks(source):
-        mark = run[0].text[:3]
-        old = [token.text[3:].removeprefix(" ") for token in run]
-        lines = [name_modules(line, place.crates) for line in old]
-        new = fit_lines(lines, WIDTH - column - 4, pairs, used)
-        written = [f"{mark} {line}".rstrip() for line in new]
-        for token in run[1:]:
-            token.out = ""
-        if found := OF_PROOFS.search(" ".join(new)):
-            place = f"{source.name}:{run[0].line}"
-            raise Unknown(f"{place}: a doc comment has {found.group()!r}: {new}")
-        run[0].out = ("\n" + " " * column).join(written)
-        if new != old:
-            source.put["docs: a comment"] += 1
-    source.refresh()
+def write(source, run, column, old, new, ends):
+    """Writes the lines in place of a run of doc comments, and the last lines after all that a rule
+    put after it."""
+    mark, space = run[0].text[:3], "\n" + " " * column
+    for token in run:
+        token.out = ""
+    run[0].out = space.join(f"{mark} {line}".rstrip() for line in new)
+    run[-1].after += "".join(space + f"{mark} {line}".rstrip() for line in ends)
+    if new + ends != old:
+        source.put["docs: a comment"] += 1

@@ -2,7 +2,7 @@
 
 import pathlib
 
-from . import macros
+from . import docs, macros
 from .paths import Place
 from .rules import Crate, Translation
 from .source import Unknown
@@ -31,6 +31,8 @@ TESTS = {
     "linkinfo_families_tests": "families",
     "linkinfo_tests": "lists",
 }
+# How the first line of a generated file begins.
+MARK = "// @generated"
 PARTLY_USED = "dead_code, unused_imports, unused_macros"
 # Some imports were used in contracts alone, and clippy's forms of these would be other text.
 TEST_ROOT = """#![allow(
@@ -112,15 +114,27 @@ def rust_name(file, root):
     return root if file in ("lib.rt", "main.rt") else str(path.with_suffix(".rs"))
 
 
-def written(crate, root):
+def marked(path, text, command="rust/translate/run"):
+    """The text after a line, two where it is long, that says from what and by which command."""
+    line = f"{MARK} from {path} by {command}."
+    if len(line) > docs.WIDTH:
+        line = line.replace(" by ", "\n// by ")
+    return f"{line}\n\n{text}"
+
+
+def written(crate, root, **command):
     """The texts of a crate, by their names in Rust."""
-    return {rust_name(file, root): source.text() for file, source in crate.sources.items()}
+    return {
+        rust_name(file, root): marked(f"crates/{crate.name}/src/{file}", source.text(), **command)
+        for file, source in crate.sources.items()
+    }
 
 
 def layers_text(libraries):
     """The module that has one module for each library crate."""
     head = (pathlib.Path(__file__).parent / "layers.rs").read_text(encoding="utf-8")
-    return head + "".join(f"pub mod {module_of(crate.name)};\n" for crate in libraries)
+    modules = "".join(f"pub mod {module_of(crate.name)};\n" for crate in libraries)
+    return marked("rust/translate/translator/layers.rs", head + modules)
 
 
 def library_files(libraries):
@@ -138,7 +152,8 @@ def library_files(libraries):
 def with_modules(text, modules):
     """The root of a package with these `mod` items put in before its first item."""
     lines = text.split("\n")
-    at = next(k for k, line in enumerate(lines) if line and not line.startswith(("//!", "#!")))
+    before = ("//!", "#!", MARK, "// by ")
+    at = next(k for k, line in enumerate(lines) if line and not line.startswith(before))
     return "\n".join(lines[:at] + modules + [""] + lines[at:])
 
 
@@ -190,8 +205,8 @@ def package_files(repository):
     library = Translation(libraries)
     others = [read_crate(repository, name) for name in (LINES, TOOL, *TESTS, *SHOWN, SHOW)]
     rest = Translation(others, library)
-    if dead := [old for old, _ in rest.sentences if old not in library.used | rest.used]:
-        raise Unknown(f"sentences.txt: no doc comment has {dead[0]!r}")
+    if dead := library.fit.entries() - library.fit.used - rest.fit.used:
+        raise Unknown(f"sentences.txt or examples.txt: no doc comment has {min(dead)!r}")
     by_name = {crate.name: crate for crate in others}
     files = library_files(libraries) | program_files(by_name[LINES], by_name[TOOL])
     files |= show_files([by_name[name] for name in SHOWN], by_name[SHOW])

@@ -1,7 +1,7 @@
 """The rules in order, and the translation of the files of a crate."""
 
-from . import allocator, casts, clones, docs, fallible, flags, formatting, imports, inlining, known
-from . import macros, panics, paths, proofs, without_laws
+from . import allocator, casts, clones, derives, docs, fallible, flags, formatting, hidden, imports
+from . import inlining, known, links, macros, must_use, panics, paths, proofs, without_laws
 from .items import functions, methods, methods_of_traits
 from .laws import Laws
 from .source import Source
@@ -44,7 +44,10 @@ def rewrite_calls(source, own, place):
     if not place.hosted:
         formatting.name_zeros(source)
         formatting.name_multiples(source)
+        derives.derive_orders(source)
+        must_use.must_use(source)
         inlining.inline_small(source)
+        hidden.hide_specified(source)
     flags.name_flag_tables(source)
     flags.make_flags(source)
     flags.read_flag_tables(source)
@@ -78,8 +81,8 @@ class Translation:
         self.delete_imports()
         macros.delete_unexpanded(self.sources)
         macros.hide_exported(self.sources)
-        self.sentences = docs.read_table()
-        self.used = set()
+        # The names of the library alone are linked, and its examples alone are tests.
+        self.fit = docs.Fit(None if earlier else links.Names(crates))
         self.finish()
 
     def rewrite(self):
@@ -111,4 +114,4 @@ class Translation:
                 known.check_known(source, names)
                 paths.name_paths(source, crate.place)
                 imports.put_imports(source, crate.place)
-                docs.fit_docs(source, crate.place, self.sentences, self.used)
+                self.fit.source(source, crate.place)

@@ -1,3 +1,5 @@
+// @generated from crates/linkinfo_c/src/attributes.rt by rust/c/translate.
+
 //! The attributes in data, written into an array of the caller.
 
 use crate::calls::codes::{kind_of_code, port_kind_of_code, shape_code};
@@ -13,7 +15,7 @@ const IFLA_IPTUN_FLAGS: u16 = 8;
 
 /// `struct linkinfo_attribute`: an attribute in data.
 #[repr(C)]
-#[derive(Clone, Copy, Debug, PartialEq, Eq)]
+#[derive(Clone, Copy, Debug, PartialEq, Eq, Hash, PartialOrd, Ord)]
 pub struct LinkinfoAttribute {
     /// The offset of its header in the data, in bytes; its payload is four bytes after that.
     pub place: usize,

@@ -1,3 +1,5 @@
+// @generated from crates/linkinfo_c/src/canon.rt by rust/c/translate.
+
 //! Canonical encodings, written into a buffer of the caller.
 
 use crate::calls::error::{LinkinfoError, NO_ERROR, error_record};
@@ -14,7 +16,7 @@ const SHORT: u32 = 3;
 
 /// `struct linkinfo_canon_result`: the outcome of `linkinfo_canon`.
 #[repr(C)]
-#[derive(Clone, Copy, Debug, PartialEq, Eq)]
+#[derive(Clone, Copy, Debug, PartialEq, Eq, Hash, PartialOrd, Ord)]
 pub struct LinkinfoCanon {
     /// The error of the list, if it is rejected.
     pub error: LinkinfoError,

@@ -1,3 +1,5 @@
+// @generated from crates/linkinfo_c/src/check.rt by rust/c/translate.
+
 //! Lists validated, compared, and their headers counted.
 
 use crate::calls::error::{LinkinfoError, NO_ERROR, error_or_none, error_record};
@@ -5,7 +7,7 @@ use linkinfo::layers::link::{ErrorIn, HeaderCount, check, check_at, check_counte
 
 /// `struct linkinfo_same_result`: whether two lists are equivalent.
 #[repr(C)]
-#[derive(Clone, Copy, Debug, PartialEq, Eq)]
+#[derive(Clone, Copy, Debug, PartialEq, Eq, Hash, PartialOrd, Ord)]
 pub struct LinkinfoSame {
     /// The error of the first list, otherwise that of the second.
     pub error: LinkinfoError,
@@ -17,7 +19,7 @@ pub struct LinkinfoSame {
 
 /// `struct linkinfo_count_result`: the number of headers examined.
 #[repr(C)]
-#[derive(Clone, Copy, Debug, PartialEq, Eq)]
+#[derive(Clone, Copy, Debug, PartialEq, Eq, Hash, PartialOrd, Ord)]
 pub struct LinkinfoCount {
     /// The error of the list.
     pub error: LinkinfoError,
@@ -27,7 +29,7 @@ pub struct LinkinfoCount {
 
 /// `struct linkinfo_error_at`: an error and its offset.
 #[repr(C)]
-#[derive(Clone, Copy, Debug, PartialEq, Eq)]
+#[derive(Clone, Copy, Debug, PartialEq, Eq, Hash, PartialOrd, Ord)]
 pub struct LinkinfoErrorAt {
     /// The error of the list.
     pub error: LinkinfoError,
@@ -39,7 +41,7 @@ pub struct LinkinfoErrorAt {
 /// `struct linkinfo_inner_error`: an error, its offset, and that of the innermost attribute that
 /// has it.
 #[repr(C)]
-#[derive(Clone, Copy, Debug, PartialEq, Eq)]
+#[derive(Clone, Copy, Debug, PartialEq, Eq, Hash, PartialOrd, Ord)]
 pub struct LinkinfoInnerError {
     /// The error of the list.
     pub error: LinkinfoError,
@@ -53,11 +55,13 @@ pub struct LinkinfoInnerError {
 }
 
 /// Validates a list: returns its first error in byte order, or none.
+#[must_use]
 pub fn linkinfo_check(bytes: &[u8]) -> LinkinfoError {
     error_or_none(check(bytes))
 }
 
 /// Validates a list, and returns the offset of its error too.
+#[must_use]
 pub fn linkinfo_check_at(bytes: &[u8]) -> LinkinfoErrorAt {
     match check_at(bytes) {
         Ok(()) => LinkinfoErrorAt {
@@ -72,6 +76,7 @@ pub fn linkinfo_check_at(bytes: &[u8]) -> LinkinfoErrorAt {
 }
 
 /// Validates a list, and returns the offset of the innermost attribute with the error too.
+#[must_use]
 pub fn linkinfo_check_inner(bytes: &[u8]) -> LinkinfoInnerError {
     match check_at(bytes) {
         Ok(()) => LinkinfoInnerError {
@@ -89,6 +94,7 @@ pub fn linkinfo_check_inner(bytes: &[u8]) -> LinkinfoInnerError {
 
 /// Returns whether two lists are equivalent. The error is that of the first list, otherwise that of
 /// the second.
+#[must_use]
 pub fn linkinfo_same(a: &[u8], b: &[u8]) -> LinkinfoSame {
     match same_at(a, b) {
         Ok(same) => LinkinfoSame {
@@ -111,6 +117,7 @@ pub fn linkinfo_same(a: &[u8], b: &[u8]) -> LinkinfoSame {
 
 /// Validates a list, and counts the headers examined up to its error: at most a quarter of its
 /// bytes.
+#[must_use]
 pub fn linkinfo_count(bytes: &[u8]) -> LinkinfoCount {
     let mut count = HeaderCount::new();
     let error = error_or_none(check_counted(bytes, &mut count));

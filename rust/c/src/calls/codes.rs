@@ -1,3 +1,5 @@
+// @generated from crates/linkinfo_c/src/codes.rt by rust/c/translate.
+
 //! The numbers by which C knows families, causes, kinds, port kinds and shapes.
 
 use linkinfo::layers::link::families::Shape;

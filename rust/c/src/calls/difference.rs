@@ -1,3 +1,5 @@
+// @generated from crates/linkinfo_c/src/difference.rt by rust/c/translate.
+
 //! Where two lists differ.
 
 use crate::calls::codes::family_code;
@@ -7,7 +9,7 @@ use linkinfo::layers::link::{DecodeError, Difference, ErrorIn, first_difference}
 /// `struct linkinfo_difference`: whether two lists are equivalent, and the first pair of attributes
 /// in which they differ.
 #[repr(C)]
-#[derive(Clone, Copy, Debug, PartialEq, Eq)]
+#[derive(Clone, Copy, Debug, PartialEq, Eq, Hash, PartialOrd, Ord)]
 pub struct LinkinfoDifference {
     /// The error of the first list, otherwise that of the second.
     pub error: LinkinfoError,
@@ -81,6 +83,7 @@ fn difference_record(answer: Result<Option<Difference>, ErrorIn>) -> LinkinfoDif
 }
 
 /// Returns whether two lists are equivalent, or the first pair of attributes in which they differ.
+#[must_use]
 pub fn linkinfo_first_difference(a: &[u8], b: &[u8]) -> LinkinfoDifference {
     difference_record(first_difference(a, b))
 }

@@ -1,3 +1,5 @@
+// @generated from crates/linkinfo_c/src/error.rt by rust/c/translate.
+
 //! Errors, as C has them.
 
 use crate::calls::codes::family_code;
@@ -6,7 +8,7 @@ use linkinfo::layers::link::DecodeError;
 /// `struct linkinfo_error`: the error of a list. With cause 0 there is none, and family and type
 /// are 0 too.
 #[repr(C)]
-#[derive(Clone, Copy, Debug, PartialEq, Eq)]
+#[derive(Clone, Copy, Debug, PartialEq, Eq, Hash, PartialOrd, Ord)]
 pub struct LinkinfoError {
     /// The family of attributes, `enum linkinfo_family`.
     pub family: u16,

@@ -1,3 +1,5 @@
+// @generated from crates/linkinfo_c/src/items.rt by rust/c/translate.
+
 //! The attributes of a list, written into an array of the caller.
 
 use crate::calls::codes::{kind_code, port_kind_code};
@@ -6,7 +8,7 @@ use linkinfo::layers::link::{LinkInfoItem, LinkInfoWalk};
 
 /// `struct linkinfo_item`: an attribute of a list.
 #[repr(C)]
-#[derive(Clone, Copy, Debug, PartialEq, Eq)]
+#[derive(Clone, Copy, Debug, PartialEq, Eq, Hash, PartialOrd, Ord)]
 pub struct LinkinfoItem {
     /// The offset of its header in the list, in bytes; its payload is four bytes after that.
     pub place: usize,
@@ -22,7 +24,7 @@ pub struct LinkinfoItem {
 
 /// `struct linkinfo_list_result`: the number of attributes, and the error that ends them.
 #[repr(C)]
-#[derive(Clone, Copy, Debug, PartialEq, Eq)]
+#[derive(Clone, Copy, Debug, PartialEq, Eq, Hash, PartialOrd, Ord)]
 pub struct LinkinfoListResult {
     /// The error that ends the attributes, or none.
     pub error: LinkinfoError,

@@ -1,3 +1,5 @@
+// @generated from crates/linkinfo_c/src/lib.rt by rust/c/translate.
+
 //! The calls of `linkinfo` for C, as c/linkinfo.h declares them. Results are returned by value, and
 //! no call allocates. A pointer and a length are a slice.
 

@@ -1,3 +1,5 @@
+// @generated from crates/linkinfo_c/src/texts.rt by rust/c/translate.
+
 //! Names and texts, written into a buffer of the caller.
 //!
 //! Each call writes the text and a NUL after it, and returns the length of the whole text in bytes.
@@ -69,12 +71,14 @@ pub fn linkinfo_port_kind_name(kind: u16, buffer: &mut [u8]) -> usize {
 
 /// Returns the kind of a name, or `LINKINFO_KIND_OTHER` if no kind has it. The name is given
 /// without a closing NUL.
+#[must_use]
 pub fn linkinfo_kind_of_name(name: &[u8]) -> u16 {
     kind_code(tag_of_name(name))
 }
 
 /// Returns the port kind of a name, or `LINKINFO_PORT_KIND_OTHER` if no port kind has it. The name
 /// is given without a closing NUL.
+#[must_use]
 pub fn linkinfo_port_kind_of_name(name: &[u8]) -> u16 {
     port_kind_code(port_tag_of_name(name))
 }

@@ -1,3 +1,5 @@
+// @generated from crates/linkinfo_c/src/unmet.rt by rust/c/translate.
+
 //! Whether a link has all attributes of a request, and the first one that it lacks.
 
 use crate::calls::codes::family_code;
@@ -7,7 +9,7 @@ use linkinfo::layers::link::{DecodeError, ErrorIn, Unmet, first_unmet};
 /// `struct linkinfo_unmet`: whether a link has all attributes of a request, and the first one that
 /// it lacks.
 #[repr(C)]
-#[derive(Clone, Copy, Debug, PartialEq, Eq)]
+#[derive(Clone, Copy, Debug, PartialEq, Eq, Hash, PartialOrd, Ord)]
 pub struct LinkinfoUnmet {
     /// The error of the link's list, otherwise that of the request.
     pub error: LinkinfoError,
@@ -77,6 +79,7 @@ fn unmet_record(answer: Result<Option<Unmet>, ErrorIn>) -> LinkinfoUnmet {
 
 /// Returns whether the link's list `have` has all attributes of the request `want`, or the first
 /// one that it lacks.
+#[must_use]
 pub fn linkinfo_first_unmet(have: &[u8], want: &[u8]) -> LinkinfoUnmet {
     unmet_record(first_unmet(have, want))
 }

@@ -1,3 +1,5 @@
+// @generated from crates/linkinfo_c/src/values.rt by rust/c/translate.
+
 //! The attributes in data with their values, written into an array of the caller.
 
 use crate::calls::attributes::{AttributeRecord, datum_in, write_inside};
@@ -34,7 +36,7 @@ const BYTES: u32 = 11;
 /// `struct linkinfo_value`: what a payload means. Every member that `value_type` does not name is 0
 /// or false.
 #[repr(C)]
-#[derive(Clone, Copy, Debug, PartialEq, Eq)]
+#[derive(Clone, Copy, Debug, PartialEq, Eq, Hash, PartialOrd, Ord)]
 pub struct LinkinfoValue {
     /// The value, if it is an unsigned number.
     pub number: u64,
@@ -57,7 +59,7 @@ pub struct LinkinfoValue {
 
 /// `struct linkinfo_valued_attribute`: an attribute in data, and its value.
 #[repr(C)]
-#[derive(Clone, Copy, Debug, PartialEq, Eq)]
+#[derive(Clone, Copy, Debug, PartialEq, Eq, Hash, PartialOrd, Ord)]
 pub struct LinkinfoValuedAttribute {
     /// The offset of its header in the data, in bytes; its payload is four bytes after that.
     pub place: usize,

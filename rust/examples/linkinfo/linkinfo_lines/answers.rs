@@ -1,3 +1,5 @@
+// @generated from crates/linkinfo_lines/src/answers.rt by rust/translate/run.
+
 //! The result lines for the lines of an input.
 
 use crate::linkinfo_lines::lines::{cut, first_line};

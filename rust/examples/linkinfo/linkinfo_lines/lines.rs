@@ -1,3 +1,5 @@
+// @generated from crates/linkinfo_lines/src/lines.rt by rust/translate/run.
+
 //! Lines and words, split off a text one after another.
 
 /// Returns the first line of a text, and what follows its line feed. Requires a text that is not

@@ -1,3 +1,5 @@
+// @generated from crates/linkinfo_lines/src/streams.rt by rust/translate/run.
+
 //! One run of the program. It reads all input, processes each line once it has ended, and writes
 //! the results at the end of the input.
 

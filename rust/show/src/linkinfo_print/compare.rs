@@ -1,3 +1,5 @@
+// @generated from crates/linkinfo_print/src/compare.rt by rust/translate/run.
+
 //! Where two lists differ first, and what of one list another does not meet, as JSON.
 
 use crate::compat::AllocError;

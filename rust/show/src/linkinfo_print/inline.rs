@@ -1,3 +1,5 @@
+// @generated from crates/linkinfo_print/src/inline.rt by rust/translate/run.
+
 //! JSON values within a line of text.
 
 use crate::compat::AllocError;

@@ -1,3 +1,5 @@
+// @generated from crates/linkinfo_print/src/lines.rt by rust/translate/run.
+
 //! What is printed for a line.
 
 use crate::compat::AllocError;

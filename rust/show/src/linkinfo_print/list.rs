@@ -1,3 +1,5 @@
+// @generated from crates/linkinfo_print/src/list.rt by rust/translate/run.
+
 //! A list of link info as JSON.
 
 use crate::compat::AllocError;

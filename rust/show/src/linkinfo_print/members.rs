@@ -1,3 +1,5 @@
+// @generated from crates/linkinfo_print/src/members.rt by rust/translate/run.
+
 //! Parts of JSON objects: texts from the wire, and members that may be absent.
 
 use crate::compat::AllocError;

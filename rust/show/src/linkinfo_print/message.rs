@@ -1,3 +1,5 @@
+// @generated from crates/linkinfo_print/src/message.rt by rust/translate/run.
+
 //! A link message as JSON.
 
 use crate::compat::AllocError;

@@ -1,3 +1,5 @@
+// @generated from crates/linkinfo_print/src/lib.rt by rust/translate/run.
+
 //! Lists of link info for people: as JSON, as text, and where two differ.
 
 mod compare;

@@ -1,3 +1,5 @@
+// @generated from crates/linkinfo_print/src/options.rt by rust/translate/run.
+
 //! The options of the program.
 
 /// What the input is, and what is written of it.

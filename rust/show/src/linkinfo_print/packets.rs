@@ -1,3 +1,5 @@
+// @generated from crates/linkinfo_print/src/packets.rt by rust/translate/run.
+
 //! What is printed for a message or a packet.
 
 use crate::compat::AllocError;

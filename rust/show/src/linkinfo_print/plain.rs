@@ -1,3 +1,5 @@
+// @generated from crates/linkinfo_print/src/plain.rt by rust/translate/run.
+
 //! Text that a terminal shows as it is.
 
 use crate::compat::AllocError;

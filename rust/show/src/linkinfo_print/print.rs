@@ -1,3 +1,5 @@
+// @generated from crates/linkinfo_print/src/print.rt by rust/translate/run.
+
 //! What is printed for an input.
 
 use crate::compat::AllocError;

@@ -1,3 +1,5 @@
+// @generated from crates/linkinfo_print/src/report.rt by rust/translate/run.
+
 //! What is printed, until it is written.
 
 use crate::compat::AllocError;

@@ -1,3 +1,5 @@
+// @generated from crates/linkinfo_print/src/streams.rt by rust/translate/run.
+
 //! One run of the program. It prints each line, message or packet once it has come.
 
 use crate::compat::calls::*;

@@ -1,3 +1,5 @@
+// @generated from crates/linkinfo_print/src/text.rt by rust/translate/run.
+
 //! Lists and messages as text for people, made of what is printed as JSON.
 
 use crate::compat::AllocError;

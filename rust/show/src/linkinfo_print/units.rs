@@ -1,3 +1,5 @@
+// @generated from crates/linkinfo_print/src/units.rt by rust/translate/run.
+
 //! An input, cut into lines, messages or packets as it comes.
 
 use crate::linkinfo_print::options::Input;

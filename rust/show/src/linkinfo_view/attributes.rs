@@ -1,3 +1,5 @@
+// @generated from crates/linkinfo_view/src/attributes.rt by rust/translate/run.
+
 //! One attribute of a list after another.
 
 use linkinfo::layers::nla_frame::{HeaderCount, NlaBuffer, next_attribute};

@@ -1,3 +1,5 @@
+// @generated from crates/linkinfo_view/src/entries.rt by rust/translate/run.
+
 //! The rows of all tables: how each attribute is shown to people.
 
 use crate::linkinfo_view::format::{Elements, Flags, Format, Table, Words};

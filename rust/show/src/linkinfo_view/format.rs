@@ -1,3 +1,5 @@
+// @generated from crates/linkinfo_view/src/format.rt by rust/translate/run.
+
 //! Rows, and how the value of an attribute is shown.
 
 use linkinfo::layers::nla_frame::Family;

@@ -1,3 +1,5 @@
+// @generated from crates/linkinfo_view/src/list.rt by rust/translate/run.
+
 //! A list of attributes as a JSON object.
 
 use crate::compat::AllocError;

@@ -1,3 +1,5 @@
+// @generated from crates/linkinfo_view/src/members.rt by rust/translate/run.
+
 //! The members of one attribute, by its row.
 
 use crate::compat::AllocError;

@@ -1,3 +1,5 @@
+// @generated from crates/linkinfo_view/src/lib.rt by rust/translate/run.
+
 //! What an attribute of link info is for a reader: names and values, as JSON.
 
 mod attributes;

@@ -1,3 +1,5 @@
+// @generated from crates/linkinfo_view/src/table.rt by rust/translate/run.
+
 //! The row of each type, by table.
 
 use crate::linkinfo_view::entries::{

@@ -1,3 +1,5 @@
+// @generated from crates/linkinfo_view/src/text.rt by rust/translate/run.
+
 //! Texts of printable ASCII: bytes, numbers and addresses.
 
 use crate::compat::AllocError;

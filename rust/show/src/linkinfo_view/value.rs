@@ -1,3 +1,5 @@
+// @generated from crates/linkinfo_view/src/value.rt by rust/translate/run.
+
 //! One payload as JSON: its value by a format.
 
 use crate::compat::AllocError;

@@ -1,3 +1,5 @@
+// @generated from crates/linkinfo_view/src/words.rt by rust/translate/run.
+
 //! The names of numbers and of flags, as `ip` prints them.
 
 use crate::linkinfo_view::format::{Flags, Words};

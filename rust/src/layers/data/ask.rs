@@ -1,3 +1,5 @@
+// @generated from crates/linkinfo_data/src/ask.rt by rust/translate/run.
+
 //! Calls on payloads that return no parsed value: whether a payload is accepted, whether two are
 //! equivalent, how long the canonical payload is, and the canonical payload itself.
 
@@ -8,9 +10,11 @@ use crate::layers::table::{
 };
 
 /// A call on payloads: lists of attributes, first attributes, or bytes. The family selects which
-/// (`PayloadFamily::ask`).
+/// ([`PayloadFamily::ask`]).
 ///
 /// A call may count the headers that it examines, and may write to the front of a buffer.
+///
+/// [`PayloadFamily::ask`]: crate::layers::data::PayloadFamily::ask
 pub trait Ask: Sized {
     /// The result.
     type Answer;

@@ -1,8 +1,12 @@
-//! The bodies of the calls of `PayloadFamily` for the data of one family.
+// @generated from crates/linkinfo_data/src/calls.rt by rust/translate/run.
+
+//! The bodies of the calls of [`PayloadFamily`] for the data of one family.
 //!
 //! That data is written `list(VARIANT, ATTRIBUTE, CONTEXT)`, if it is a list of attributes of this
 //! type, parsed with this context, `first(VARIANT, ATTRIBUTE, CONTEXT)`, if it is the first
 //! attribute alone, or `bytes(VARIANT)`.
+//!
+//! [`PayloadFamily`]: crate::layers::data::PayloadFamily
 
 /// Parses a payload.
 macro_rules! read {

@@ -1,3 +1,5 @@
+// @generated from crates/linkinfo_data/src/data.rt by rust/translate/run.
+
 //! The family of a kind's data, and data parsed, validated, compared and written by family.
 
 use crate::layers::data::ask::Ask;
@@ -12,15 +14,21 @@ use crate::layers::numbers::KindTag;
 use crate::layers::table::LinkPeer;
 
 /// The family of the attributes in `IFLA_INFO_DATA`, which the kind of the link chooses.
-#[derive(Clone, Copy, Debug, PartialEq, Eq)]
+#[derive(Clone, Copy, Debug, PartialEq, Eq, Hash, PartialOrd, Ord)]
 pub enum DataFamily {
     /// An opaque family (`layers::table::lower`), whose attributes are kept verbatim.
     Lower(LowerFamily),
-    /// A family of `layers::devices`.
+    /// A family of [`layers::devices`].
+    ///
+    /// [`layers::devices`]: crate::layers::devices
     Device(DeviceFamily),
-    /// A family of `layers::tunnels`.
+    /// A family of [`layers::tunnels`].
+    ///
+    /// [`layers::tunnels`]: crate::layers::tunnels
     Tunnel(TunnelFamily),
-    /// A family of `layers::peers`.
+    /// A family of [`layers::peers`].
+    ///
+    /// [`layers::peers`]: crate::layers::peers
     Peered(PeeredFamily),
     /// No family: the data is kept as bytes.
     Raw,
@@ -29,6 +37,7 @@ pub enum DataFamily {
 impl ExactEq for DataFamily {}
 
 /// The family of the data of links of a kind, by the kind's tag.
+#[must_use]
 pub fn family_of(tag: KindTag) -> DataFamily {
     match tag {
         KindTag::Bridge => DataFamily::Lower(LowerFamily::Bridge),

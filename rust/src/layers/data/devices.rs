@@ -1,3 +1,5 @@
+// @generated from crates/linkinfo_data/src/devices.rt by rust/translate/run.
+
 //! Data of ipvlan, ipvtap, macvlan, macvtap, vrf, ipoib, xfrm, macsec and rmnet links.
 
 use crate::layers::data::ask::Ask;
@@ -13,7 +15,7 @@ use crate::layers::table::LinkPeer;
 
 /// The families of data of ipvlan, ipvtap, macvlan, macvtap, vrf, ipoib, xfrm, macsec and rmnet
 /// links.
-#[derive(Clone, Copy, Debug, PartialEq, Eq)]
+#[derive(Clone, Copy, Debug, PartialEq, Eq, Hash, PartialOrd, Ord)]
 pub enum DeviceFamily {
     /// Attributes of `ipvlan` links (`IFLA_IPVLAN_*`).
     IpVlan,

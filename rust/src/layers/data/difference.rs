@@ -1,3 +1,5 @@
+// @generated from crates/linkinfo_data/src/difference.rt by rust/translate/run.
+
 //! The first difference of two lists of attributes, and the offset of the error of a list.
 
 use crate::layers::data::payload_family::{PayloadFamily, check_payload, same_payloads};
@@ -5,10 +7,12 @@ use crate::layers::nla_frame::{ExactEq, Family, HeaderCount, next_attribute};
 use crate::layers::table::{PlacedNla, own_bytes};
 
 /// The first pair of attributes in which two lists differ.
-#[derive(Clone, Copy, Debug, PartialEq, Eq)]
+#[derive(Clone, Copy, Debug, PartialEq, Eq, Hash, PartialOrd, Ord)]
 pub struct Difference {
-    /// The family of the attributes; `Family::LinkInfo` for attributes of the list in
+    /// The family of the attributes; [`Family::LinkInfo`] for attributes of the list in
     /// `IFLA_LINKINFO`.
+    ///
+    /// [`Family::LinkInfo`]: crate::layers::nla_frame::Family::LinkInfo
     pub family: Family,
     /// The attribute's type without flag bits: of the attribute in the first list, or in the second
     /// one if the first list has ended.
@@ -23,6 +27,7 @@ pub struct Difference {
 
 impl Difference {
     /// The difference of two lists at this pair of attributes, each compared as a whole.
+    #[must_use]
     pub fn of_pair(family: Family, first: &PlacedNla<'_>, second: &PlacedNla<'_>) -> Difference {
         Difference {
             family,
@@ -34,6 +39,7 @@ impl Difference {
 
     /// The difference of two lists of which the second has ended before this attribute of the
     /// first.
+    #[must_use]
     pub fn of_first(family: Family, first: &PlacedNla<'_>) -> Difference {
         Difference {
             family,
@@ -45,6 +51,7 @@ impl Difference {
 
     /// The difference of two lists of which the first has ended before this attribute of the
     /// second.
+    #[must_use]
     pub fn of_second(family: Family, second: &PlacedNla<'_>) -> Difference {
         Difference {
             family,
@@ -62,6 +69,7 @@ impl Difference {
     ///
     /// May panic where a condition of the caller that is named here does not hold. Where it does
     /// not panic then, the result has no meaning.
+    #[must_use]
     pub fn inside(self, first: &PlacedNla<'_>, second: &PlacedNla<'_>) -> Difference {
         Difference {
             family: self.family,
@@ -100,6 +108,7 @@ fn within(attribute: usize, inside: Option<usize>) -> Option<usize> {
 ///
 /// May panic where a condition of the caller that is named here does not hold. Where it does
 /// not panic then, the result has no meaning.
+#[must_use]
 pub fn list_difference<D, F: PayloadFamily<D>>(
     family: F,
     name: Family,
@@ -191,6 +200,7 @@ fn pair_difference<D, F: PayloadFamily<D>>(
 ///
 /// May panic where a condition of the caller that is named here does not hold. Where it does
 /// not panic then, the result has no meaning.
+#[must_use]
 pub fn list_error<D, F: PayloadFamily<D>>(family: F, payload: &[u8]) -> Option<usize> {
     let mut count = HeaderCount::new();
     let mut rest = payload;

@@ -1,3 +1,5 @@
+// @generated from crates/linkinfo_data/src/encode.rt by rust/translate/run.
+
 //! The encoding of data: its length, and its bytes. Data is encoded as a list of attributes, as one
 //! attribute, or as bytes.
 

@@ -1,3 +1,5 @@
+// @generated from crates/linkinfo_data/src/info_data.rt by rust/translate/run.
+
 //! The data of a link: `IFLA_INFO_DATA`, include/uapi/linux/if_link.h.
 
 use crate::layers::data::data::family_of;
@@ -20,7 +22,7 @@ use crate::layers::tunnels::{
 
 /// The data of a link (`IFLA_INFO_DATA`): the attributes of its kind's family, or bytes if the kind
 /// has no family. Peers have the type `P`.
-#[derive(Debug, PartialEq, Eq, Clone)]
+#[derive(Debug, PartialEq, Eq, Hash, PartialOrd, Ord, Clone)]
 pub enum InfoDataOf<P> {
     /// Attributes of a `bridge` link (`IFLA_BR_*`), kept verbatim.
     Bridge(Nlas<InfoBridge>),
@@ -105,12 +107,14 @@ impl<P: LinkPeer> InfoDataOf<P> {
     /// Parses the payload of `IFLA_INFO_DATA` of a link of this kind.
     ///
     /// The result holds the attributes of the kind's family, or the bytes if the kind has none.
-    /// `InfoKind::Other` has no family, whatever its name. Of the data of veth and vxcan links, the
-    /// first attribute alone is parsed.
+    /// [`InfoKind::Other`] has no family, whatever its name. Of the data of veth and vxcan links,
+    /// the first attribute alone is parsed.
     ///
     /// The error is that of the first attribute in byte order whose header or value is rejected, or
     /// `(Frame, 0, Memory)` if an allocation fails first. Every other result depends on the payload
     /// and the kind alone.
+    ///
+    /// [`InfoKind::Other`]: crate::layers::numbers::InfoKind::Other
     pub fn parse_with_param(payload: &[u8], kind: &InfoKind) -> Result<InfoDataOf<P>, DecodeError> {
         let mut count = HeaderCount::new();
         family_of(kind.tag()).read(payload, &mut count)

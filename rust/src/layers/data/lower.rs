@@ -1,3 +1,5 @@
+// @generated from crates/linkinfo_data/src/lower.rt by rust/translate/run.
+
 //! Data of bridge, vlan, bond, hsr, can and dsa links.
 
 use crate::layers::data::ask::Ask;
@@ -10,7 +12,7 @@ use crate::layers::table::lower::{InfoBond, InfoBridge, InfoCan, InfoDsa, InfoHs
 
 /// The families of data of bridge, vlan, bond, hsr, can and dsa links, whose attributes are kept
 /// verbatim.
-#[derive(Clone, Copy, Debug, PartialEq, Eq)]
+#[derive(Clone, Copy, Debug, PartialEq, Eq, Hash, PartialOrd, Ord)]
 pub enum LowerFamily {
     /// Attributes of `bridge` links (`IFLA_BR_*`).
     Bridge,

@@ -1,3 +1,5 @@
+// @generated from crates/linkinfo_data/src/lib.rt by rust/translate/run.
+
 //! Data of links (`IFLA_INFO_DATA`) and of ports (`IFLA_INFO_SLAVE_DATA`), by the family that the
 //! kind chooses.
 

@@ -1,3 +1,5 @@
+// @generated from crates/linkinfo_data/src/payload_family.rt by rust/translate/run.
+
 //! Payloads that are parsed, validated, compared and written by a family chosen among several.
 
 use crate::layers::data::ask::{Ask, Check, Measure, Same, WriteCanonical};
@@ -72,9 +74,11 @@ pub fn same_payloads<D, F: PayloadFamily<D>>(
     family.ask(Same { a, b }, count, &mut [])
 }
 
-/// Validates a payload as `check_payload` does, and measures it in the same pass. The error is that
-/// of the payload. Of an accepted payload the result is the length, in bytes, of the canonical
+/// Validates a payload as [`check_payload`] does, and measures it in the same pass. The error is
+/// that of the payload. Of an accepted payload the result is the length, in bytes, of the canonical
 /// payload of the data that it parses as, or `None` if that is above 65531. Does not allocate.
+///
+/// [`check_payload`]: crate::layers::data::check_payload
 pub fn measure_payload<D, F: PayloadFamily<D>>(
     family: F,
     payload: &[u8],

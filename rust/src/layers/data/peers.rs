@@ -1,3 +1,5 @@
+// @generated from crates/linkinfo_data/src/peers.rt by rust/translate/run.
+
 //! Data of veth, vxcan, netkit, tun, wireguard, batadv, wwan and pfcp links.
 
 use crate::layers::data::ask::Ask;
@@ -12,7 +14,7 @@ use crate::layers::table::LinkPeer;
 
 /// The families of data of links with a peer (veth, vxcan and netkit), and of tun, wireguard,
 /// batadv, wwan and pfcp links.
-#[derive(Clone, Copy, Debug, PartialEq, Eq)]
+#[derive(Clone, Copy, Debug, PartialEq, Eq, Hash, PartialOrd, Ord)]
 pub enum PeeredFamily {
     /// Attributes of `tun` links (`IFLA_TUN_*`), kept verbatim.
     Tun,

@@ -1,3 +1,5 @@
+// @generated from crates/linkinfo_data/src/port_data.rt by rust/translate/run.
+
 //! The data of a port: `IFLA_INFO_SLAVE_DATA`, include/uapi/linux/if_link.h.
 
 use crate::layers::data::ask::Ask;
@@ -11,7 +13,7 @@ use crate::layers::peers::InfoTeamPort;
 use crate::layers::table::lower::{InfoBondPort, InfoBridgePort};
 
 /// The family of the attributes in `IFLA_INFO_SLAVE_DATA`, which the kind of the port chooses.
-#[derive(Clone, Copy, Debug, PartialEq, Eq)]
+#[derive(Clone, Copy, Debug, PartialEq, Eq, Hash, PartialOrd, Ord)]
 pub enum PortFamily {
     /// Attributes of ports of a `bond` link (`IFLA_BOND_SLAVE_*`), kept verbatim.
     Bond,
@@ -28,6 +30,7 @@ pub enum PortFamily {
 impl ExactEq for PortFamily {}
 
 /// The family of the data of ports of a kind, by the port kind's tag.
+#[must_use]
 pub fn port_family_of(tag: PortTag) -> PortFamily {
     match tag {
         PortTag::Bond => PortFamily::Bond,
@@ -40,7 +43,7 @@ pub fn port_family_of(tag: PortTag) -> PortFamily {
 
 /// The data of a port (`IFLA_INFO_SLAVE_DATA`): the attributes of its port kind's family, or bytes
 /// if the port kind has no family.
-#[derive(Debug, PartialEq, Eq, Clone)]
+#[derive(Debug, PartialEq, Eq, Hash, PartialOrd, Ord, Clone)]
 pub enum InfoPortData {
     /// Attributes of a port of a `bond` link (`IFLA_BOND_SLAVE_*`), kept verbatim.
     BondPort(Nlas<InfoBondPort>),
@@ -96,11 +99,13 @@ impl InfoPortData {
     /// Parses the payload of `IFLA_INFO_SLAVE_DATA` of a port of this kind.
     ///
     /// The result holds the attributes of the port kind's family, or the bytes if the port kind has
-    /// none. `InfoPortKind::Other` has no family, whatever its name.
+    /// none. [`InfoPortKind::Other`] has no family, whatever its name.
     ///
     /// The error is that of the first attribute in byte order whose header or value is rejected, or
     /// `(Frame, 0, Memory)` if an allocation fails first. Every other result depends on the payload
     /// and the port kind alone.
+    ///
+    /// [`InfoPortKind::Other`]: crate::layers::numbers::InfoPortKind::Other
     pub fn parse_with_param(
         payload: &[u8],
         kind: &InfoPortKind,

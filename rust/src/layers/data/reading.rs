@@ -1,3 +1,5 @@
+// @generated from crates/linkinfo_data/src/reading.rt by rust/translate/run.
+
 //! Payloads read as a list of attributes.
 
 use crate::layers::nla_frame::{DecodeError, HeaderCount, Nlas};

@@ -1,3 +1,5 @@
+// @generated from crates/linkinfo_data/src/tunnels.rt by rust/translate/run.
+
 //! Data of tunnels.
 
 use crate::layers::data::ask::Ask;
@@ -12,7 +14,7 @@ use crate::layers::tunnels::{
 };
 
 /// The families of data of tunnels.
-#[derive(Clone, Copy, Debug, PartialEq, Eq)]
+#[derive(Clone, Copy, Debug, PartialEq, Eq, Hash, PartialOrd, Ord)]
 pub enum TunnelFamily {
     /// Attributes of `vxlan` links (`IFLA_VXLAN_*`).
     Vxlan,

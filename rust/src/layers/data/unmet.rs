@@ -1,3 +1,5 @@
+// @generated from crates/linkinfo_data/src/unmet.rt by rust/translate/run.
+
 //! Whether a list of attributes meets those of another one, and which one it does not meet.
 
 use crate::layers::data::payload_family::{PayloadFamily, same_payloads};
@@ -5,7 +7,7 @@ use crate::layers::nla_frame::{ExactEq, Family, HeaderCount, next_attribute};
 use crate::layers::table::{INDEXED, LastOfType, PlacedNla, own_bytes, types_end};
 
 /// An attribute of a request that is not met.
-#[derive(Clone, Copy, Debug, PartialEq, Eq)]
+#[derive(Clone, Copy, Debug, PartialEq, Eq, Hash, PartialOrd, Ord)]
 pub struct Unmet {
     /// The family of the attribute.
     pub family: Family,
@@ -28,6 +30,7 @@ pub struct UnmetAt {
 }
 
 /// The one of two attributes that is earlier in their list, or the only one.
+#[must_use]
 pub fn earlier(one: Option<UnmetAt>, other: Option<UnmetAt>) -> Option<UnmetAt> {
     let Some(old) = one else {
         return other;
@@ -51,6 +54,7 @@ pub fn earlier(one: Option<UnmetAt>, other: Option<UnmetAt>) -> Option<UnmetAt> 
 ///
 /// May panic where a condition of the caller that is named here does not hold. Where it does
 /// not panic then, the result has no meaning.
+#[must_use]
 pub fn list_unmet<D, F: PayloadFamily<D>>(
     family: F,
     name: Family,

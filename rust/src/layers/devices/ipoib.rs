@@ -1,3 +1,5 @@
+// @generated from crates/linkinfo_devices/src/ipoib.rt by rust/translate/run.
+
 //! IP over InfiniBand.
 
 use crate::compat::AllocError;
@@ -12,7 +14,7 @@ use crate::layers::table::{
 
 /// An attribute in the data of an `ipoib` link, an IP over InfiniBand interface
 /// (include/uapi/linux/if_link.h).
-#[derive(Debug, PartialEq, Eq, Clone)]
+#[derive(Debug, PartialEq, Eq, Hash, PartialOrd, Ord, Clone)]
 pub enum InfoIpoib {
     /// Partition key (`IFLA_IPOIB_PKEY`), little-endian.
     Pkey(u16),

@@ -1,3 +1,5 @@
+// @generated from crates/linkinfo_devices/src/ipvlan.rt by rust/translate/run.
+
 //! Links of kinds `ipvlan` and `ipvtap`.
 
 use crate::compat::AllocError;
@@ -14,8 +16,11 @@ use bitflags::Flags;
 /// An attribute in the data of an `ipvlan` or an `ipvtap` link, an IPVLAN interface or a TAP device
 /// on one (include/uapi/linux/if_link.h).
 ///
-/// `TAP` selects the family: `Family::IpVtap` if it is true, else `Family::IpVlan`.
-#[derive(Debug, PartialEq, Eq, Clone)]
+/// `TAP` selects the family: [`Family::IpVtap`] if it is true, else [`Family::IpVlan`].
+///
+/// [`Family::IpVtap`]: crate::layers::nla_frame::Family::IpVtap
+/// [`Family::IpVlan`]: crate::layers::nla_frame::Family::IpVlan
+#[derive(Debug, PartialEq, Eq, Hash, PartialOrd, Ord, Clone)]
 pub enum InfoIpVlanOf<const TAP: bool> {
     /// Mode: `l2`, `l3` or `l3s` (`IFLA_IPVLAN_MODE`), little-endian.
     Mode(IpVlanMode),

@@ -1,3 +1,5 @@
+// @generated from crates/linkinfo_devices/src/mac_rows.rt by rust/translate/run.
+
 //! The rows that `macvlan` and `macvtap` links share: `IFLA_MACVLAN_*`
 //! (include/uapi/linux/if_link.h).
 

@@ -1,3 +1,5 @@
+// @generated from crates/linkinfo_devices/src/macsec.rt by rust/translate/run.
+
 //! MACsec interfaces.
 
 use crate::compat::AllocError;
@@ -12,7 +14,7 @@ use crate::layers::table::{
 
 /// An attribute in the data of a `macsec` link, an IEEE 802.1AE MACsec interface
 /// (include/uapi/linux/if_link.h).
-#[derive(Debug, PartialEq, Eq, Clone)]
+#[derive(Debug, PartialEq, Eq, Hash, PartialOrd, Ord, Clone)]
 pub enum InfoMacSec {
     /// SCI, the secure channel identifier (`IFLA_MACSEC_SCI`), 64 bits, read as little-endian
     /// although the kernel writes it in network byte order.

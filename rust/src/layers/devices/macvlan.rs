@@ -1,3 +1,5 @@
+// @generated from crates/linkinfo_devices/src/macvlan.rt by rust/translate/run.
+
 //! Links of kind `macvlan`.
 
 use crate::compat::AllocError;
@@ -22,7 +24,7 @@ use bitflags::Flags;
 
 /// An attribute in the data of a `macvlan` link, a virtual interface with a MAC address of its own
 /// (include/uapi/linux/if_link.h).
-#[derive(Debug, PartialEq, Eq, Clone)]
+#[derive(Debug, PartialEq, Eq, Hash, PartialOrd, Ord, Clone)]
 pub enum InfoMacVlan {
     /// Mode (`IFLA_MACVLAN_MODE`), little-endian.
     Mode(MacVlanMode),

@@ -1,3 +1,5 @@
+// @generated from crates/linkinfo_devices/src/macvtap.rt by rust/translate/run.
+
 //! Links of kind `macvtap`, whose attributes have the types of those of `macvlan` links.
 
 use crate::compat::AllocError;
@@ -22,7 +24,7 @@ use bitflags::Flags;
 
 /// An attribute in the data of a `macvtap` link, a TAP device on a MACVLAN interface
 /// (include/uapi/linux/if_link.h).
-#[derive(Debug, PartialEq, Eq, Clone)]
+#[derive(Debug, PartialEq, Eq, Hash, PartialOrd, Ord, Clone)]
 pub enum InfoMacVtap {
     /// Mode (`IFLA_MACVLAN_MODE`), little-endian.
     Mode(MacVlanMode),

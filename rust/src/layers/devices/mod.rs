@@ -1,3 +1,5 @@
+// @generated from crates/linkinfo_devices/src/lib.rt by rust/translate/run.
+
 //! Attributes of `macvlan`, `macvtap`, `ipvlan`, `ipvtap`, `ipoib`, `macsec`, `rmnet`, `xfrm` and
 //! `vrf` links.
 

@@ -1,3 +1,5 @@
+// @generated from crates/linkinfo_devices/src/nested_calls.rt by rust/translate/run.
+
 //! Reads, checks and compares attributes of a family with nested lists, and such lists, by mutually
 //! recursive calls.
 

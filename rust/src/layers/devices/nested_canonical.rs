@@ -1,3 +1,5 @@
+// @generated from crates/linkinfo_devices/src/nested_canonical.rt by rust/translate/run.
+
 //! Re-encodes accepted attributes of a family with nested lists canonically, without building a
 //! value. The calls that measure and write are mutually recursive, and visit each attribute once,
 //! at any depth.
@@ -14,6 +16,7 @@ use crate::layers::table::{row_canonical_len, row_write_canonical};
 ///
 /// May panic where a condition of the caller that is named here does not hold. Where it does
 /// not panic then, the result has no meaning.
+#[must_use]
 pub fn nested_canonical_len<F: NestedFamily>(nla: &NlaBuffer<'_>, lists: u8) -> Option<usize> {
     if nla.kind() == LIST_TYPE && lists < MOST_LISTS {
         nested_list_canonical_len::<F>(nla.value(), lists + 1)

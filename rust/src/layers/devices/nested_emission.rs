@@ -1,3 +1,5 @@
+// @generated from crates/linkinfo_devices/src/nested_emission.rt by rust/translate/run.
+
 //! Measures and writes values of a family with nested lists: each call is one walk over the value,
 //! linear in its size at any depth.
 
@@ -7,6 +9,7 @@ use crate::layers::nla_frame::{fitting, write_frame};
 use crate::layers::table::{row_emit_payload, row_fit_len, row_kind};
 
 /// Returns the length of a value's payload if the value fits, and `None` otherwise.
+#[must_use]
 pub fn nested_fit_len<F: NestedFamily>(value: &F) -> Option<usize> {
     match value.list() {
         Some(list) => nested_list_fit_len(list.as_slice()),
@@ -30,6 +33,7 @@ fn nested_list_fit_len<F: NestedFamily>(items: &[F]) -> Option<usize> {
 ///
 /// May panic where a condition of the caller that is named here does not hold. Where it does
 /// not panic then, the result has no meaning.
+#[must_use]
 pub fn nested_value_len<F: NestedFamily>(value: &F) -> usize {
     match nested_fit_len(value) {
         Some(len) => len,
@@ -38,6 +42,7 @@ pub fn nested_value_len<F: NestedFamily>(value: &F) -> usize {
 }
 
 /// The type that a value is written with.
+#[must_use]
 pub fn nested_kind<F: NestedFamily>(value: &F) -> u16 {
     match value.list() {
         Some(_) => LIST_TYPE,

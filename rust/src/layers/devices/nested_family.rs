@@ -1,3 +1,5 @@
+// @generated from crates/linkinfo_devices/src/nested_family.rt by rust/translate/run.
+
 //! Families whose attributes of one type contain a list of the family's own attributes.
 
 use crate::layers::nla_frame::{Cause, Family, Nlas};
@@ -24,6 +26,7 @@ pub trait NestedFamily: RowFamily<Context = u8> {
 
 /// How a type without flag bits is read inside `lists` lists: by the table of all families, except
 /// that a list nested in 128 others is rejected.
+#[must_use]
 #[inline(always)]
 pub fn nested_shape(family: Family, lists: u8, kind: u16) -> Lookup {
     if kind == LIST_TYPE && lists >= MOST_LISTS {

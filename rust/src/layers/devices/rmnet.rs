@@ -1,3 +1,5 @@
+// @generated from crates/linkinfo_devices/src/rmnet.rt by rust/translate/run.
+
 //! Links of kind `rmnet`.
 
 use crate::compat::AllocError;
@@ -13,7 +15,7 @@ use bitflags::Flags;
 
 /// An attribute in the data of an `rmnet` link, a device on a Qualcomm modem
 /// (include/uapi/linux/if_link.h).
-#[derive(Debug, PartialEq, Eq, Clone)]
+#[derive(Debug, PartialEq, Eq, Hash, PartialOrd, Ord, Clone)]
 pub enum InfoRmNet {
     /// Mux ID of the channel of the modem (`IFLA_RMNET_MUX_ID`), little-endian.
     MuxId(u16),

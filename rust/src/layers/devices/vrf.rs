@@ -1,3 +1,5 @@
+// @generated from crates/linkinfo_devices/src/vrf.rt by rust/translate/run.
+
 //! Virtual routing and forwarding: `IFLA_VRF_*`, and `IFLA_VRF_PORT_*` of its ports
 //! (include/uapi/linux/if_link.h).
 
@@ -11,7 +13,7 @@ use crate::layers::table::{
 };
 
 /// An attribute in the data of a `vrf` link, or in the data of its ports.
-#[derive(Debug, PartialEq, Eq, Clone)]
+#[derive(Debug, PartialEq, Eq, Hash, PartialOrd, Ord, Clone)]
 pub enum InfoVrf {
     /// Routing table ID (`IFLA_VRF_TABLE`, and `IFLA_VRF_PORT_TABLE` of a port), little-endian.
     TableId(u32),

@@ -1,3 +1,5 @@
+// @generated from crates/linkinfo_devices/src/xfrm.rt by rust/translate/run.
+
 //! XFRM interfaces: `IFLA_XFRM_*` (include/uapi/linux/if_link.h).
 
 use crate::compat::AllocError;
@@ -10,7 +12,7 @@ use crate::layers::table::{
 };
 
 /// An attribute in the data of an `xfrm` link, an XFRM (IPsec) interface.
-#[derive(Debug, PartialEq, Eq, Clone)]
+#[derive(Debug, PartialEq, Eq, Hash, PartialOrd, Ord, Clone)]
 pub enum InfoXfrm {
     /// Interface index of the underlying device (`IFLA_XFRM_LINK`), little-endian.
     Link(u32),

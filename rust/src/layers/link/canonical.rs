@@ -1,3 +1,5 @@
+// @generated from crates/linkinfo/src/canonical.rt by rust/translate/run.
+
 //! The canonical encoding of a list, from another encoding of it.
 
 use crate::compat::AllocError;
@@ -10,10 +12,12 @@ use core::error::Error;
 use core::fmt;
 
 /// Why a byte string has no canonical encoding.
-#[derive(Clone, Copy, Debug, PartialEq, Eq)]
+#[derive(Clone, Copy, Debug, PartialEq, Eq, Hash, PartialOrd, Ord)]
 pub enum CanonError {
-    /// The byte string is rejected, with the error of `VecLinkInfoOf::parse`, or an allocation
+    /// The byte string is rejected, with the error of [`VecLinkInfoOf::parse`], or an allocation
     /// failed: `(Frame, 0, Memory)`.
+    ///
+    /// [`VecLinkInfoOf::parse`]: crate::layers::link::VecLinkInfoOf::parse
     Refused(DecodeError),
     /// The list does not fit: the payload of an attribute has more than 65531 bytes, or the
     /// encoding more than a `usize` can count.
@@ -49,10 +53,12 @@ impl ExactEq for CanonError {}
 
 /// Returns the canonical encoding of the list that `bytes` encodes, with peers of type `P`.
 ///
-/// It is the result of `VecLinkInfoOf::parse` and `to_vec`, without building values. The error is
+/// It is the result of [`VecLinkInfoOf::parse`] and `to_vec`, without building values. The error is
 /// that of `parse` if the bytes are rejected, `Unfit` if the list does not fit, and `(Frame, 0,
 /// Memory)` if the allocation fails. An error in the bytes, `Unfit` and an empty result need no
 /// memory.
+///
+/// [`VecLinkInfoOf::parse`]: crate::layers::link::VecLinkInfoOf::parse
 pub fn canon_of<P: LinkPeer>(bytes: &[u8]) -> Result<Vec<u8>, CanonError> {
     let len = canonical_len_of::<P>(bytes)?;
     let mut string = Vec::new();
@@ -62,11 +68,19 @@ pub fn canon_of<P: LinkPeer>(bytes: &[u8]) -> Result<Vec<u8>, CanonError> {
 }
 
 /// Returns the canonical encoding of the list that `bytes` encodes, with peers kept as bytes;
-/// `canon_of` takes other types of peer.
+/// [`canon_of`] takes other types of peer.
 ///
-/// ```text
-/// let bytes = canon(&received)?;
 /// ```
+/// use linkinfo::canon;
+///
+/// // IFLA_INFO_KIND (1) "vrf" without the NUL that the canonical encoding has.
+/// let received = [7, 0, 1, 0, b'v', b'r', b'f', 0];
+/// let bytes = canon(&received)?;
+/// assert_eq!(bytes, [8, 0, 1, 0, b'v', b'r', b'f', 0]);
+/// # Ok::<(), linkinfo::CanonError>(())
+/// ```
+///
+/// [`canon_of`]: crate::layers::link::canon_of
 pub fn canon(bytes: &[u8]) -> Result<Vec<u8>, CanonError> {
     canon_of::<Bytes>(bytes)
 }

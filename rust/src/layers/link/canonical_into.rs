@@ -1,3 +1,5 @@
+// @generated from crates/linkinfo/src/canonical_into.rt by rust/translate/run.
+
 //! The canonical encoding of a list, from another encoding of it, in a buffer of the caller and
 //! without allocating.
 
@@ -10,9 +12,11 @@ use core::error::Error;
 use core::fmt;
 
 /// Why no canonical encoding was written into the buffer.
-#[derive(Clone, Copy, Debug, PartialEq, Eq)]
+#[derive(Clone, Copy, Debug, PartialEq, Eq, Hash, PartialOrd, Ord)]
 pub enum CanonIntoError {
-    /// The byte string is rejected, with the error of `check`.
+    /// The byte string is rejected, with the error of [`check`].
+    ///
+    /// [`check`]: crate::layers::link::check
     Refused(DecodeError),
     /// The list does not fit: the payload of an attribute has more than 65531 bytes, or the
     /// encoding more than a `usize` can count.
@@ -90,10 +94,12 @@ pub(crate) fn write_canonical_of<P: LinkPeer>(bytes: &[u8], buffer: &mut [u8]) {
 /// Writes the canonical encoding of the list that `bytes` encodes, with peers of type `P`, to the
 /// front of the buffer, and returns its length in bytes.
 ///
-/// It builds no values and does not allocate. The error is `Refused` if `check_of` rejects the
+/// It builds no values and does not allocate. The error is `Refused` if [`check_of`] rejects the
 /// bytes. It is `Unfit` if the list does not fit, and `Short`, with the length that is needed, if
 /// the buffer is too short. An error leaves the whole buffer unchanged, and success the rest after
 /// the encoding.
+///
+/// [`check_of`]: crate::layers::link::check_of
 pub fn canon_into_of<P: LinkPeer>(
     bytes: &[u8],
     buffer: &mut [u8],
@@ -107,12 +113,21 @@ pub fn canon_into_of<P: LinkPeer>(
 }
 
 /// Writes the canonical encoding of the list that `bytes` encodes to the front of the buffer, and
-/// returns its length in bytes. Peers are kept as bytes; `canon_into_of` takes other types of peer.
+/// returns its length in bytes. Peers are kept as bytes; [`canon_into_of`] takes other types of
+/// peer.
 ///
-/// ```text
+/// ```
+/// use linkinfo::canon_into;
+///
+/// // IFLA_INFO_KIND (1) "vrf" without the NUL that the canonical encoding has.
+/// let received = [7, 0, 1, 0, b'v', b'r', b'f', 0];
 /// let mut buffer = [0; 4096];
 /// let len = canon_into(&received, &mut buffer)?;
+/// assert_eq!(buffer[..len], [8, 0, 1, 0, b'v', b'r', b'f', 0]);
+/// # Ok::<(), linkinfo::CanonIntoError>(())
 /// ```
+///
+/// [`canon_into_of`]: crate::layers::link::canon_into_of
 pub fn canon_into(bytes: &[u8], buffer: &mut [u8]) -> Result<usize, CanonIntoError> {
     canon_into_of::<Bytes>(bytes, buffer)
 }

@@ -1,3 +1,5 @@
+// @generated from crates/linkinfo/src/collection.rt by rust/translate/run.
+
 //! The list as a collection of its attributes: built from them, and iterated over.
 
 use crate::layers::link::link_info::LinkInfoOf;
@@ -25,7 +27,9 @@ impl<P> IntoIterator for VecLinkInfoOf<P> {
     }
 }
 
-/// Iterates over the attributes in order, by reference, as `iter` does.
+/// Iterates over the attributes in order, by reference, as [`iter`] does.
+///
+/// [`iter`]: crate::layers::link::VecLinkInfoOf::iter
 impl<'a, P> IntoIterator for &'a VecLinkInfoOf<P> {
     type Item = &'a LinkInfoOf<P>;
 

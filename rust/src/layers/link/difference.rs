@@ -1,3 +1,5 @@
+// @generated from crates/linkinfo/src/difference.rt by rust/translate/run.
+
 //! Where two lists of link info differ first.
 
 use crate::layers::data::{
@@ -87,16 +89,19 @@ fn first_difference_in<P: LinkPeer>(a: &[u8], b: &[u8]) -> Option<Difference> {
 }
 
 /// Returns the first pair of attributes in which two lists differ, with peers of type `P`, or
-/// `None` if and only if the lists are equivalent (`same_of`).
+/// `None` if and only if the lists are equivalent ([`same_of`]).
 ///
 /// Attributes are compared in byte order. Data that is a list is compared attribute by attribute,
 /// and so are lists inside it. Data of veth and vxcan links, and data without a family, is compared
 /// as a whole. In the result, `family` is the family of the data that differs, or
-/// `Family::LinkInfo`. Offsets are in bytes from the beginning of each list, and `None` for a list
-/// that has ended.
+/// [`Family::LinkInfo`]. Offsets are in bytes from the beginning of each list, and `None` for a
+/// list that has ended.
 ///
 /// The error is that of `a`, otherwise that of `b`. Each header is examined at most four times.
 /// Does not allocate.
+///
+/// [`same_of`]: crate::layers::link::same_of
+/// [`Family::LinkInfo`]: crate::layers::nla_frame::Family::LinkInfo
 pub fn first_difference_of<P: LinkPeer>(a: &[u8], b: &[u8]) -> Result<Option<Difference>, ErrorIn> {
     match check_of::<P>(a) {
         Ok(()) => {}
@@ -110,14 +115,26 @@ pub fn first_difference_of<P: LinkPeer>(a: &[u8], b: &[u8]) -> Result<Option<Dif
 }
 
 /// Returns the first pair of attributes in which two lists differ, or `None` if and only if the
-/// lists are equivalent (`same`). Peers are kept as bytes; `first_difference_of` takes other types
-/// of peer.
+/// lists are equivalent ([`same`]). Peers are kept as bytes; [`first_difference_of`] takes other
+/// types of peer.
 ///
-/// ```text
-/// if let Some(difference) = first_difference(&before, &after)? {
-///     .. // an attribute of `difference.family` with the type `difference.kind`
-/// }
 /// ```
+/// use linkinfo::first_difference;
+///
+/// // IFLA_INFO_KIND (1) "vrf", and then IFLA_INFO_DATA (2) with IFLA_VRF_TABLE (1), 10 and 11.
+/// let before = *b"\x08\0\x01\0vrf\0\x0c\0\x02\0\x08\0\x01\0\x0a\0\0\0";
+/// let after = *b"\x08\0\x01\0vrf\0\x0c\0\x02\0\x08\0\x01\0\x0b\0\0\0";
+/// let difference = first_difference(&before, &after)?.unwrap();
+/// assert_eq!((difference.first, difference.second), (Some(12), Some(12)));
+/// assert_eq!(
+///     difference.to_string(),
+///     "IFLA_VRF_TABLE at offset 12 differs from the attribute at offset 12"
+/// );
+/// # Ok::<(), linkinfo::ErrorIn>(())
+/// ```
+///
+/// [`same`]: crate::layers::link::same
+/// [`first_difference_of`]: crate::layers::link::first_difference_of
 pub fn first_difference(a: &[u8], b: &[u8]) -> Result<Option<Difference>, ErrorIn> {
     first_difference_of::<Bytes>(a, b)
 }

@@ -1,3 +1,5 @@
+// @generated from crates/linkinfo/src/families.rt by rust/translate/run.
+
 //! For authors of a family of attributes, of a peer of veth, vxcan and netkit links, or of a flag
 //! set: the traits to implement, the calls that follow from a table, and the writers of numbers and
 //! attributes.

@@ -1,3 +1,5 @@
+// @generated from crates/linkinfo/src/item.rt by rust/translate/run.
+
 //! One attribute of the list: parsed, validated, compared and written.
 
 use crate::compat::NextMultiple;

@@ -1,3 +1,5 @@
+// @generated from crates/linkinfo/src/link_info.rt by rust/translate/run.
+
 //! Attributes of the list inside `IFLA_LINKINFO`, include/uapi/linux/if_link.h.
 
 use crate::layers::data::{InfoDataOf, InfoPortData};
@@ -7,7 +9,7 @@ use crate::layers::numbers::{IFLA_INFO_XSTATS, InfoKind, InfoPortKind};
 use crate::layers::table::LinkPeer;
 
 /// An attribute in `IFLA_LINKINFO`, with peers of type `P`.
-#[derive(Debug, PartialEq, Eq, Clone)]
+#[derive(Debug, PartialEq, Eq, Hash, PartialOrd, Ord, Clone)]
 pub enum LinkInfoOf<P> {
     /// The statistics of the link (`IFLA_INFO_XSTATS`).
     Xstats(LinkXstats),

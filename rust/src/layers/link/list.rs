@@ -1,3 +1,5 @@
+// @generated from crates/linkinfo/src/list.rt by rust/translate/run.
+
 //! The list in `IFLA_LINKINFO`: parsed, validated, compared and serialized.
 
 use crate::compat::TryVec;
@@ -79,10 +81,16 @@ fn check_string<P: LinkPeer>(bytes: &[u8], count: &mut HeaderCount) -> Result<()
 /// The contents of `IFLA_LINKINFO` (include/uapi/linux/if_link.h): a list of attributes, with peers
 /// of type `P`.
 ///
-/// It is built from a `Vec` by `From`, iterated over by `iter` or a `for` loop, and serialized by
-/// `to_vec`. To serialize it into an existing buffer, call `nlas_fit_len` and `emit_nlas` on
-/// `as_slice`.
-#[derive(Debug, PartialEq, Eq, Clone)]
+/// It is built from a `Vec` by `From`, iterated over by [`iter`] or a `for` loop, and serialized by
+/// [`to_vec`]. To serialize it into an existing buffer, call [`nlas_fit_len`] and [`emit_nlas`] on
+/// [`as_slice`].
+///
+/// [`iter`]: crate::layers::link::VecLinkInfoOf::iter
+/// [`to_vec`]: crate::layers::link::VecLinkInfoOf::to_vec
+/// [`nlas_fit_len`]: crate::layers::nla_frame::nlas_fit_len
+/// [`emit_nlas`]: crate::layers::nla_frame::emit_nlas
+/// [`as_slice`]: crate::layers::link::VecLinkInfoOf::as_slice
+#[derive(Debug, PartialEq, Eq, Hash, PartialOrd, Ord, Clone)]
 pub struct VecLinkInfoOf<P>(pub Nlas<LinkInfoOf<P>>);
 
 /// The contents of `IFLA_LINKINFO`: a list of attributes, with peers kept as bytes.
@@ -92,11 +100,13 @@ impl<P: ExactEq> ExactEq for VecLinkInfoOf<P> {}
 
 impl<P> VecLinkInfoOf<P> {
     /// Returns the `Vec` of the attributes.
+    #[must_use]
     pub fn into_vec(self) -> Vec<LinkInfoOf<P>> {
         self.0.into_vec()
     }
 
     /// Returns the attributes as a slice.
+    #[must_use]
     pub fn as_slice(&self) -> &[LinkInfoOf<P>] {
         self.0.as_slice()
     }
@@ -107,24 +117,28 @@ impl<P> VecLinkInfoOf<P> {
     }
 
     /// Returns the number of attributes.
+    #[must_use]
     pub fn len(&self) -> usize {
         self.0.len()
     }
 
     /// Returns whether the list is empty.
+    #[must_use]
     pub fn is_empty(&self) -> bool {
         self.0.is_empty()
     }
 }
 
 impl<P: LinkPeer> VecLinkInfoOf<P> {
-    /// Parses the contents of `IFLA_LINKINFO` as `parse` does, and counts the headers examined at
+    /// Parses the contents of `IFLA_LINKINFO` as [`parse`] does, and counts the headers examined at
     /// all levels: at most a quarter of the bytes. Requires a counter at zero.
     ///
     /// # Panics
     ///
     /// May panic where a condition of the caller that is named here does not hold. Where it does
     /// not panic then, the result has no meaning.
+    ///
+    /// [`parse`]: crate::layers::link::VecLinkInfoOf::parse
     pub fn parse_counted(
         bytes: &[u8],
         count: &mut HeaderCount,
@@ -155,9 +169,14 @@ impl<P: LinkPeer> VecLinkInfoOf<P> {
     /// The error is `Unfit` if and only if the list does not fit, before any allocation, and
     /// `Memory` if the allocation fails. The empty list is serialized without allocating.
     ///
-    /// ```text
+    /// ```
+    /// use linkinfo::{InfoKind, LinkInfo, VecLinkInfo};
+    ///
     /// let list = VecLinkInfo::from(vec![LinkInfo::Kind(InfoKind::Xfrm)]);
     /// let bytes = list.to_vec()?;
+    /// // Length 9, IFLA_INFO_KIND (1), the name, its NUL and the padding.
+    /// assert_eq!(bytes, *b"\x09\0\x01\0xfrm\0\0\0\0");
+    /// # Ok::<(), linkinfo::ToVecError>(())
     /// ```
     pub fn to_vec(&self) -> Result<Vec<u8>, ToVecError> {
         nlas_to_vec(self.as_slice())
@@ -165,20 +184,24 @@ impl<P: LinkPeer> VecLinkInfoOf<P> {
 }
 
 /// Validates the contents of `IFLA_LINKINFO`, with peers of type `P`: returns `Ok` if
-/// `VecLinkInfoOf::parse` accepts them, otherwise the error of the bytes. Each header is examined
+/// [`VecLinkInfoOf::parse`] accepts them, otherwise the error of the bytes. Each header is examined
 /// once. Does not allocate.
+///
+/// [`VecLinkInfoOf::parse`]: crate::layers::link::VecLinkInfoOf::parse
 pub fn check_of<P: LinkPeer>(bytes: &[u8]) -> Result<(), DecodeError> {
     let mut count = HeaderCount::new();
     check_string::<P>(bytes, &mut count)
 }
 
-/// Validates the contents of `IFLA_LINKINFO` as `check_of` does, and counts the headers examined at
-/// all levels: at most a quarter of the bytes. Requires a counter at zero. Does not allocate.
+/// Validates the contents of `IFLA_LINKINFO` as [`check_of`] does, and counts the headers examined
+/// at all levels: at most a quarter of the bytes. Requires a counter at zero. Does not allocate.
 ///
 /// # Panics
 ///
 /// May panic where a condition of the caller that is named here does not hold. Where it does
 /// not panic then, the result has no meaning.
+///
+/// [`check_of`]: crate::layers::link::check_of
 pub fn check_counted_of<P: LinkPeer>(
     bytes: &[u8],
     count: &mut HeaderCount,
@@ -186,14 +209,16 @@ pub fn check_counted_of<P: LinkPeer>(
     check_string::<P>(bytes, count)
 }
 
-/// Returns whether two lists are equivalent, as `same_of` does, and counts the headers examined at
-/// all levels: at most half as many as both have bytes. Requires a counter at zero. Does not
+/// Returns whether two lists are equivalent, as [`same_of`] does, and counts the headers examined
+/// at all levels: at most half as many as both have bytes. Requires a counter at zero. Does not
 /// allocate.
 ///
 /// # Panics
 ///
 /// May panic where a condition of the caller that is named here does not hold. Where it does
 /// not panic then, the result has no meaning.
+///
+/// [`same_of`]: crate::layers::link::same_of
 pub fn same_counted_of<P: LinkPeer>(
     a: &[u8],
     b: &[u8],
@@ -222,7 +247,9 @@ pub fn same_at_of<P: LinkPeer>(a: &[u8], b: &[u8]) -> Result<bool, ErrorIn> {
     Ok(same_strings::<P>(a, b, &mut count))
 }
 
-/// The result of `same_counted_of`, without counting.
+/// The result of [`same_counted_of`], without counting.
+///
+/// [`same_counted_of`]: crate::layers::link::same_counted_of
 fn same_uncounted<P: LinkPeer>(a: &[u8], b: &[u8]) -> Result<bool, DecodeError> {
     match same_at_of::<P>(a, b) {
         Ok(same) => Ok(same),
@@ -238,58 +265,76 @@ fn same_uncounted<P: LinkPeer>(a: &[u8], b: &[u8]) -> Result<bool, DecodeError> 
 ///
 /// It compares two requests, or two canonical encodings. A request and the link that the kernel
 /// made for it are rarely equivalent, since the kernel adds attributes: compare these by
-/// `first_unmet_of`.
+/// [`first_unmet_of`].
+///
+/// [`first_unmet_of`]: crate::layers::link::first_unmet_of
 pub fn same_of<P: LinkPeer>(a: &[u8], b: &[u8]) -> Result<bool, DecodeError> {
     same_uncounted::<P>(a, b)
 }
 
-/// Validates the contents of `IFLA_LINKINFO`: returns `Ok` if `VecLinkInfo::parse` accepts them,
-/// otherwise the error of the bytes. Peers are kept as bytes; `check_of` takes other types of peer.
-/// Does not allocate.
+/// Validates the contents of `IFLA_LINKINFO`: returns `Ok` if [`VecLinkInfo::parse`] accepts them,
+/// otherwise the error of the bytes. Peers are kept as bytes; [`check_of`] takes other types of
+/// peer. Does not allocate.
+///
+/// [`VecLinkInfo::parse`]: crate::layers::link::VecLinkInfoOf::parse
+/// [`check_of`]: crate::layers::link::check_of
 pub fn check(bytes: &[u8]) -> Result<(), DecodeError> {
     check_of::<Bytes>(bytes)
 }
 
-/// Validates the contents of `IFLA_LINKINFO` as `check` does, and counts the headers examined at
+/// Validates the contents of `IFLA_LINKINFO` as [`check`] does, and counts the headers examined at
 /// all levels: at most a quarter of the bytes. Requires a counter at zero. Does not allocate.
 ///
 /// # Panics
 ///
 /// May panic where a condition of the caller that is named here does not hold. Where it does
 /// not panic then, the result has no meaning.
+///
+/// [`check`]: crate::layers::link::check
 pub fn check_counted(bytes: &[u8], count: &mut HeaderCount) -> Result<(), DecodeError> {
     check_counted_of::<Bytes>(bytes, count)
 }
 
 /// Returns whether two lists are equivalent: whether they parse as equal values. The error is that
-/// of the first list, otherwise that of the second. Peers are kept as bytes; `same_of` takes other
-/// types of peer. Does not allocate.
+/// of the first list, otherwise that of the second. Peers are kept as bytes; [`same_of`] takes
+/// other types of peer. Does not allocate.
+///
+/// [`same_of`]: crate::layers::link::same_of
 pub fn same(a: &[u8], b: &[u8]) -> Result<bool, DecodeError> {
     same_of::<Bytes>(a, b)
 }
 
-/// Returns whether two lists are equivalent, as `same` does, and counts the headers examined at all
-/// levels: at most half as many as both have bytes. Requires a counter at zero. Does not allocate.
+/// Returns whether two lists are equivalent, as [`same`] does, and counts the headers examined at
+/// all levels: at most half as many as both have bytes. Requires a counter at zero. Does not
+/// allocate.
 ///
 /// # Panics
 ///
 /// May panic where a condition of the caller that is named here does not hold. Where it does
 /// not panic then, the result has no meaning.
+///
+/// [`same`]: crate::layers::link::same
 pub fn same_counted(a: &[u8], b: &[u8], count: &mut HeaderCount) -> Result<bool, DecodeError> {
     same_counted_of::<Bytes>(a, b, count)
 }
 
 /// Returns whether two lists are equivalent. The error is that of the first list, otherwise that of
-/// the second, and says which of the two has it. Peers are kept as bytes; `same_at_of` takes other
-/// types of peer. Does not allocate.
+/// the second, and says which of the two has it. Peers are kept as bytes; [`same_at_of`] takes
+/// other types of peer. Does not allocate.
 ///
-/// ```text
+/// ```
+/// use linkinfo::{ErrorIn, same_at};
+///
+/// // IFLA_INFO_KIND (1) "vrf"; and three bytes, which are no header.
+/// let (wanted, received) = ([8, 0, 1, 0, b'v', b'r', b'f', 0], [8, 0, 1]);
 /// match same_at(&wanted, &received) {
-///     Ok(same) => ..,
-///     Err(ErrorIn::First(error)) => .., // `wanted` is rejected
-///     Err(ErrorIn::Second(error)) => .., // `received` is rejected
+///     Ok(same) => unreachable!("compared: {same}"),
+///     Err(ErrorIn::First(error)) => unreachable!("`wanted` is rejected: {error}"),
+///     Err(ErrorIn::Second(error)) => assert_eq!(error.to_string(), "frame 0 header"),
 /// }
 /// ```
+///
+/// [`same_at_of`]: crate::layers::link::same_at_of
 pub fn same_at(a: &[u8], b: &[u8]) -> Result<bool, ErrorIn> {
     same_at_of::<Bytes>(a, b)
 }

@@ -1,3 +1,5 @@
+// @generated from crates/linkinfo/src/lib.rt by rust/translate/run.
+
 //! The contents of `IFLA_LINKINFO` (include/uapi/linux/if_link.h), the rtnetlink attribute that
 //! describes a network link: parsed, validated, compared and serialized.
 //!

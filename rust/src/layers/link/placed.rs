@@ -1,3 +1,5 @@
+// @generated from crates/linkinfo/src/placed.rt by rust/translate/run.
+
 //! The first error of a list, with its offsets.
 
 use crate::layers::data::{
@@ -14,7 +16,7 @@ use core::error::Error;
 use core::fmt;
 
 /// The first error of a list, with its offsets.
-#[derive(Clone, Copy, Debug, PartialEq, Eq)]
+#[derive(Clone, Copy, Debug, PartialEq, Eq, Hash, PartialOrd, Ord)]
 pub struct ErrorAt {
     /// The error: family, type and cause.
     pub error: DecodeError,
@@ -45,7 +47,7 @@ impl Error for ErrorAt {}
 impl ExactEq for ErrorAt {}
 
 /// The error of one of two byte strings, and which of them has it.
-#[derive(Clone, Copy, Debug, PartialEq, Eq)]
+#[derive(Clone, Copy, Debug, PartialEq, Eq, Hash, PartialOrd, Ord)]
 pub enum ErrorIn {
     /// The first byte string is rejected with this error.
     First(DecodeError),
@@ -55,6 +57,7 @@ pub enum ErrorIn {
 
 impl ErrorIn {
     /// Returns the error, whichever byte string has it.
+    #[must_use]
     pub fn error(self) -> DecodeError {
         match self {
             ErrorIn::First(error) | ErrorIn::Second(error) => error,
@@ -90,12 +93,14 @@ fn error_in<P: LinkPeer>(nla: &NlaBuffer<'_>, role: Role) -> usize {
     }
 }
 
-/// Validates the contents of `IFLA_LINKINFO`, with peers of type `P`, as `check_of` does, and
+/// Validates the contents of `IFLA_LINKINFO`, with peers of type `P`, as [`check_of`] does, and
 /// returns the offsets of the error beside it.
 ///
 /// The offset `place` is that of an attribute of the list: for an error inside data, port data or a
 /// list in them, it is that of the data's own header. Each header is examined once, those of
 /// rejected data up to three times. Does not allocate.
+///
+/// [`check_of`]: crate::layers::link::check_of
 pub fn check_at_of<P: LinkPeer>(bytes: &[u8]) -> Result<(), ErrorAt> {
     let mut walk = LinkInfoWalk::new(bytes);
     let mut count = HeaderCount::new();
@@ -125,14 +130,22 @@ pub fn check_at_of<P: LinkPeer>(bytes: &[u8]) -> Result<(), ErrorAt> {
     Ok(())
 }
 
-/// Validates the contents of `IFLA_LINKINFO` as `check` does, and returns the offsets of the error
-/// beside it. Peers are kept as bytes; `check_at_of` takes other types of peer. Does not allocate.
+/// Validates the contents of `IFLA_LINKINFO` as [`check`] does, and returns the offsets of the
+/// error beside it. Peers are kept as bytes; [`check_at_of`] takes other types of peer. Does not
+/// allocate.
 ///
-/// ```text
-/// if let Err(at) = check_at(&received) {
-///     println!("{} at byte {}", at.error, at.place);
-/// }
 /// ```
+/// use linkinfo::check_at;
+///
+/// // IFLA_INFO_DATA (2) without a kind before it.
+/// let received = [4, 0, 2, 0];
+/// let at = check_at(&received).unwrap_err();
+/// assert_eq!((at.error.kind, at.place), (2, 0));
+/// assert_eq!(at.to_string(), "IFLA_INFO_DATA before IFLA_INFO_KIND, at offset 0");
+/// ```
+///
+/// [`check`]: crate::layers::link::check
+/// [`check_at_of`]: crate::layers::link::check_at_of
 pub fn check_at(bytes: &[u8]) -> Result<(), ErrorAt> {
     check_at_of::<Bytes>(bytes)
 }

@@ -1,3 +1,5 @@
+// @generated from crates/linkinfo/src/role.rt by rust/translate/run.
+
 //! The role of an attribute of the list, by its type and the current kinds before it.
 
 use crate::layers::nla_frame::{Cause, DecodeError, ExactEq, Family, NlaBuffer, without_nul};
@@ -9,7 +11,7 @@ use crate::layers::table::{Shape, read_datum};
 
 /// The current kinds: the kind of the link is the last one named, and the kind of the port the last
 /// one named that no port data has used up.
-#[derive(Clone, Copy, Debug, PartialEq, Eq)]
+#[derive(Clone, Copy, Debug, PartialEq, Eq, Hash, PartialOrd, Ord)]
 pub struct CurrentKinds {
     pub(crate) kind: Option<KindTag>,
     pub(crate) port: Option<PortTag>,
@@ -28,7 +30,7 @@ impl CurrentKinds {
 }
 
 /// The role of an attribute of the list: what it holds.
-#[derive(Clone, Copy, Debug, PartialEq, Eq)]
+#[derive(Clone, Copy, Debug, PartialEq, Eq, Hash, PartialOrd, Ord)]
 pub enum Role {
     /// The name of a kind.
     Kind,

@@ -1,3 +1,5 @@
+// @generated from crates/linkinfo/src/unmet.rt by rust/translate/run.
+
 //! Whether a link has all attributes of a request, and which one it lacks.
 
 use crate::layers::data::{
@@ -231,14 +233,18 @@ fn unmet_from<P: LinkPeer>(have: &[u8], want: &[u8], start: u16) -> Option<Unmet
 ///
 /// Of several attributes of a type the last one counts, as in the kernel. It is met where the last
 /// attribute of its type in `have`, of the same kind or port kind, has an equal payload or is
-/// equivalent. Data that is a list is compared attribute by attribute (`list_unmet`). Names, other
-/// data, statistics, and lists inside data are compared as a whole, with their order and the flags
-/// inside. Flags of an attribute's own type do not matter. Empty data is met by data alone.
+/// equivalent. Data that is a list is compared attribute by attribute ([`list_unmet`]). Names,
+/// other data, statistics, and lists inside data are compared as a whole, with their order and the
+/// flags inside. Flags of an attribute's own type do not matter. Empty data is met by data alone.
 ///
-/// Of what is not met, `family` is that of the attribute inside data, or `Family::LinkInfo` of one
-/// of the list; offsets count from the beginning of each list. The error is that of `have`, else
-/// that of `want`. Does not allocate. Equal lists are validated once. Otherwise the passes over the
-/// lists are as many as in `list_unmet`, and one more over both for data, statistics and port data.
+/// Of what is not met, `family` is that of the attribute inside data, or [`Family::LinkInfo`] of
+/// one of the list; offsets count from the beginning of each list. The error is that of `have`,
+/// else that of `want`. Does not allocate. Equal lists are validated once. Otherwise the passes
+/// over the lists are as many as in [`list_unmet`], and one more over both for data, statistics and
+/// port data.
+///
+/// [`list_unmet`]: crate::layers::data::list_unmet
+/// [`Family::LinkInfo`]: crate::layers::nla_frame::Family::LinkInfo
 pub fn first_unmet_of<P: LinkPeer>(have: &[u8], want: &[u8]) -> Result<Option<Unmet>, ErrorIn> {
     match check_of::<P>(have) {
         Ok(()) => {}
@@ -256,14 +262,23 @@ pub fn first_unmet_of<P: LinkPeer>(have: &[u8], want: &[u8]) -> Result<Option<Un
 
 /// Returns the first attribute of the list `want` that the list `have` does not meet, or `None`
 /// where it meets all of them. The error is that of `have`, else that of `want`. Peers are kept as
-/// bytes; `first_unmet_of` takes other types of peer, and says what is met. Does not allocate.
+/// bytes; [`first_unmet_of`] takes other types of peer, and says what is met. Does not allocate.
 ///
-/// ```text
-/// match first_unmet(&received, &wanted)? {
-///     None => .., // the link has all that is wanted
-///     Some(unmet) => .., // an attribute at offset `unmet.want` of what is wanted
-/// }
 /// ```
+/// use linkinfo::first_unmet;
+///
+/// // IFLA_INFO_KIND (1) "vrf"; what is wanted also has IFLA_INFO_DATA (2) with IFLA_VRF_TABLE 10.
+/// let received = *b"\x08\0\x01\0vrf\0";
+/// let wanted = *b"\x08\0\x01\0vrf\0\x0c\0\x02\0\x08\0\x01\0\x0a\0\0\0";
+/// // A link meets what it has.
+/// assert_eq!(first_unmet(&wanted, &received)?, None);
+/// let unmet = first_unmet(&received, &wanted)?.unwrap();
+/// assert_eq!((unmet.want, unmet.have), (8, None));
+/// assert_eq!(unmet.to_string(), "IFLA_INFO_DATA at offset 8 is not met: there is none");
+/// # Ok::<(), linkinfo::ErrorIn>(())
+/// ```
+///
+/// [`first_unmet_of`]: crate::layers::link::first_unmet_of
 pub fn first_unmet(have: &[u8], want: &[u8]) -> Result<Option<Unmet>, ErrorIn> {
     first_unmet_of::<Bytes>(have, want)
 }

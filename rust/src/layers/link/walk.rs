@@ -1,3 +1,5 @@
+// @generated from crates/linkinfo/src/walk.rt by rust/translate/run.
+
 //! An iterator over the attributes of a list, borrowed, with the current kinds before each.
 
 use crate::layers::link::role::{CurrentKinds, Role, kinds_after, role_of};
@@ -5,7 +7,7 @@ use crate::layers::nla_frame::{DecodeError, ExactEq, NlaBuffer, NlasIterator};
 use crate::layers::numbers::{KindTag, PortTag};
 
 /// An attribute of a list, borrowed from the bytes of the list.
-#[derive(Clone, Copy, Debug, PartialEq, Eq)]
+#[derive(Clone, Copy, Debug, PartialEq, Eq, Hash, PartialOrd, Ord)]
 pub struct LinkInfoItem<'a> {
     /// The offset of the attribute's header, in bytes from the beginning of the list.
     pub place: usize,
@@ -36,6 +38,7 @@ pub struct LinkInfoWalk<'a> {
 
 impl<'a> LinkInfoWalk<'a> {
     /// Returns a walk over the attributes in `bytes`, from offset 0 and with no current kind.
+    #[must_use]
     pub fn new(bytes: &'a [u8]) -> LinkInfoWalk<'a> {
         LinkInfoWalk {
             attributes: NlasIterator::new(bytes),
@@ -45,6 +48,7 @@ impl<'a> LinkInfoWalk<'a> {
     }
 
     /// Returns the number of headers examined so far: at most a quarter of the number of bytes.
+    #[must_use]
     pub fn examined(&self) -> usize {
         self.attributes.examined()
     }
@@ -52,6 +56,7 @@ impl<'a> LinkInfoWalk<'a> {
     /// Returns the walk's offset, in bytes from the beginning of the list: that of the next header.
     /// After the last attribute it is the length of the list, and after an error the offset of the
     /// attribute that has it.
+    #[must_use]
     pub fn place(&self) -> usize {
         match self.error {
             Some(place) => place,

@@ -1,3 +1,5 @@
+// @generated from crates/linkinfo/src/xstats.rt by rust/translate/run.
+
 //! Statistics of links: `IFLA_INFO_XSTATS`, include/uapi/linux/if_link.h.
 
 use crate::layers::nla_frame::{
@@ -6,7 +8,7 @@ use crate::layers::nla_frame::{
 use crate::layers::numbers::InfoKind;
 
 /// The statistics of a link (`IFLA_INFO_XSTATS`), in the layout of its driver.
-#[derive(Debug, PartialEq, Eq, Clone)]
+#[derive(Debug, PartialEq, Eq, Hash, PartialOrd, Ord, Clone)]
 pub enum LinkXstats {
     /// The bytes of the statistics, for every kind of link.
     Other(Bytes),

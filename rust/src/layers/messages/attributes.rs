@@ -1,3 +1,5 @@
+// @generated from crates/linkinfo_messages/src/attributes.rt by rust/translate/run.
+
 //! The attributes of a link message.
 
 use crate::layers::messages::link::LinkContents;

@@ -1,3 +1,5 @@
+// @generated from crates/linkinfo_messages/src/capture.rt by rust/translate/run.
+
 //! Capture files of nlmon devices, in the format of pcap.
 
 use crate::layers::messages::capture_error::{CaptureCause, CaptureError};
@@ -23,7 +25,7 @@ const LINKTYPE_NETLINK: u16 = 253;
 const ARPHRD_NETLINK: u16 = 824;
 
 /// How a capture file writes numbers and times.
-#[derive(Clone, Copy, Debug, PartialEq, Eq)]
+#[derive(Clone, Copy, Debug, PartialEq, Eq, Hash, PartialOrd, Ord)]
 pub struct CaptureFormat {
     /// Numbers are big-endian, and little-endian otherwise.
     pub big_endian: bool,
@@ -73,6 +75,7 @@ impl CaptureFormat {
     /// 16 bytes are there, so that its header is incomplete.
     ///
     /// A reader of a stream asks for it after 16 bytes, and then reads the rest of this one record.
+    #[must_use]
     pub fn record_len(self, bytes: &[u8]) -> Option<usize> {
         if bytes.len() < RECORD_HEADER_LEN {
             return None;
@@ -81,6 +84,7 @@ impl CaptureFormat {
     }
 
     /// Iterates over the records in bytes that follow the header of a capture file.
+    #[must_use]
     pub fn records<'a>(self, bytes: &'a [u8]) -> Capture<'a> {
         Capture {
             bytes,
@@ -93,7 +97,7 @@ impl CaptureFormat {
 }
 
 /// A record of a capture file: a packet, and when it was captured.
-#[derive(Clone, Copy, Debug, PartialEq, Eq)]
+#[derive(Clone, Copy, Debug, PartialEq, Eq, Hash, PartialOrd, Ord)]
 pub struct Record<'a> {
     /// The offset of the record's header, in bytes from the beginning of the bytes iterated over.
     /// The packet follows 16 bytes later.
@@ -144,8 +148,10 @@ impl<'a> Record<'a> {
 }
 
 /// Iterates over the records of a capture file, in order. It yields one error at most, and ends
-/// after it. Each header of a record is looked at once, and no packet. `examined` counts these
+/// after it. Each header of a record is looked at once, and no packet. [`examined`] counts these
 /// headers.
+///
+/// [`examined`]: crate::layers::messages::Capture::examined
 #[derive(Debug)]
 pub struct Capture<'a> {
     bytes: &'a [u8],
@@ -157,7 +163,9 @@ pub struct Capture<'a> {
 
 impl<'a> Capture<'a> {
     /// Reads the header of a capture file, and iterates over the records after it. The errors are
-    /// those of `CaptureFormat::new`.
+    /// those of [`CaptureFormat::new`].
+    ///
+    /// [`CaptureFormat::new`]: crate::layers::messages::CaptureFormat::new
     pub fn new(bytes: &'a [u8]) -> Result<Capture<'a>, CaptureError> {
         let format = CaptureFormat::new(bytes)?;
         Ok(Capture {
@@ -171,12 +179,14 @@ impl<'a> Capture<'a> {
 
     /// The number of headers of records examined so far, those of which all 16 bytes are there. It
     /// is at most a sixteenth of the number of bytes.
+    #[must_use]
     pub fn examined(&self) -> usize {
         self.examined.get()
     }
 
     /// The offset of the next record's header: after the last record, the number of bytes; after an
     /// error, the offset of the rejected record.
+    #[must_use]
     pub fn place(&self) -> usize {
         self.place
     }

@@ -1,10 +1,12 @@
+// @generated from crates/linkinfo_messages/src/capture_error.rt by rust/translate/run.
+
 //! Why a capture file is rejected.
 
 use core::error::Error;
 use core::fmt;
 
 /// What is wrong with a capture file, or with one of its records.
-#[derive(Clone, Copy, Debug, PartialEq, Eq)]
+#[derive(Clone, Copy, Debug, PartialEq, Eq, Hash, PartialOrd, Ord)]
 pub enum CaptureCause {
     /// The file has fewer than 24 bytes, the length of its header.
     FileHeader,
@@ -26,7 +28,7 @@ pub enum CaptureCause {
 }
 
 /// Why a capture file, or one of its records, is rejected.
-#[derive(Clone, Copy, Debug, PartialEq, Eq)]
+#[derive(Clone, Copy, Debug, PartialEq, Eq, Hash, PartialOrd, Ord)]
 pub struct CaptureError {
     /// The offset of the record's header in bytes, or 0 for the file.
     pub place: usize,
@@ -48,7 +50,9 @@ impl fmt::Display for CaptureError {
     }
 }
 
-/// Writes what is wrong, as the sentence of `CaptureError` has it.
+/// Writes what is wrong, as the sentence of [`CaptureError`] has it.
+///
+/// [`CaptureError`]: crate::layers::messages::CaptureError
 impl fmt::Display for CaptureCause {
     fn fmt(&self, f: &mut fmt::Formatter<'_>) -> fmt::Result {
         match *self {

@@ -1,10 +1,12 @@
+// @generated from crates/linkinfo_messages/src/error.rt by rust/translate/run.
+
 //! Why the bytes of a netlink socket are rejected.
 
 use core::error::Error;
 use core::fmt;
 
 /// What is wrong with a message. The lengths are those of its length field (`nlmsg_len`).
-#[derive(Clone, Copy, Debug, PartialEq, Eq)]
+#[derive(Clone, Copy, Debug, PartialEq, Eq, Hash, PartialOrd, Ord)]
 pub enum MessageCause {
     /// Fewer than 16 bytes are left, the length of a message header (`struct nlmsghdr`).
     Header,
@@ -22,7 +24,7 @@ pub enum MessageCause {
 
 /// Why a message is rejected. The offsets are in bytes from the beginning of the bytes that are
 /// iterated over.
-#[derive(Clone, Copy, Debug, PartialEq, Eq)]
+#[derive(Clone, Copy, Debug, PartialEq, Eq, Hash, PartialOrd, Ord)]
 pub struct MessageError {
     /// The offset of the message's header.
     pub place: usize,
@@ -39,7 +41,9 @@ impl fmt::Display for MessageError {
     }
 }
 
-/// Writes what is wrong, as the sentence of `MessageError` has it.
+/// Writes what is wrong, as the sentence of [`MessageError`] has it.
+///
+/// [`MessageError`]: crate::layers::messages::MessageError
 impl fmt::Display for MessageCause {
     fn fmt(&self, f: &mut fmt::Formatter<'_>) -> fmt::Result {
         match *self {

@@ -1,3 +1,5 @@
+// @generated from crates/linkinfo_messages/src/integers.rt by rust/translate/run.
+
 //! Integers in byte strings.
 
 /// The 16-bit little-endian integer at this offset.

@@ -1,3 +1,5 @@
+// @generated from crates/linkinfo_messages/src/link.rt by rust/translate/run.
+
 //! One link message.
 
 use crate::compat::ToSigned;
@@ -18,7 +20,7 @@ const NEW_LINK: u16 = 16;
 const DELETED_LINK: u16 = 17;
 
 /// What has happened to a link.
-#[derive(Clone, Copy, Debug, PartialEq, Eq)]
+#[derive(Clone, Copy, Debug, PartialEq, Eq, Hash, PartialOrd, Ord)]
 pub enum LinkEvent {
     /// The link is there: it is new, has changed, or is part of a dump (`RTM_NEWLINK`).
     New,
@@ -27,7 +29,7 @@ pub enum LinkEvent {
 }
 
 /// The contents of an `IFLA_LINKINFO`, borrowed.
-#[derive(Clone, Copy, Debug, PartialEq, Eq)]
+#[derive(Clone, Copy, Debug, PartialEq, Eq, Hash, PartialOrd, Ord)]
 pub struct LinkContents<'a> {
     /// The offset of the contents, in bytes from the beginning of the bytes iterated over.
     pub place: usize,
@@ -37,7 +39,7 @@ pub struct LinkContents<'a> {
 
 /// A link message, borrowed from the bytes that hold it. Where an attribute is there twice, the
 /// last counts, as in the kernel's `nla_parse`.
-#[derive(Clone, Copy, Debug, PartialEq, Eq)]
+#[derive(Clone, Copy, Debug, PartialEq, Eq, Hash, PartialOrd, Ord)]
 pub struct LinkMessage<'a> {
     /// The offset of the message's header, in bytes from the beginning of the bytes iterated over.
     pub place: usize,

@@ -1,3 +1,5 @@
+// @generated from crates/linkinfo_messages/src/links.rt by rust/translate/run.
+
 //! An iterator over the link messages of a byte string.
 
 use crate::layers::messages::error::MessageError;
@@ -14,7 +16,10 @@ use crate::layers::nla_frame::HeaderCount;
 /// yields one error at most, and ends after it.
 ///
 /// Each header of a message, and each header of an attribute of a link message, is looked at once;
-/// `examined` counts them. Of payloads only `ifinfomsg` and the last byte of a name are looked at.
+/// [`examined`] counts them. Of payloads only `ifinfomsg` and the last byte of a name are looked
+/// at.
+///
+/// [`examined`]: crate::layers::messages::LinkMessages::examined
 #[derive(Debug)]
 pub struct LinkMessages<'a> {
     bytes: &'a [u8],
@@ -26,6 +31,7 @@ pub struct LinkMessages<'a> {
 impl<'a> LinkMessages<'a> {
     /// An iterator that starts at offset 0 of the bytes. It yields at most one item per sixteen
     /// bytes, and one more.
+    #[must_use]
     pub fn new(bytes: &'a [u8]) -> LinkMessages<'a> {
         LinkMessages {
             bytes,
@@ -38,12 +44,14 @@ impl<'a> LinkMessages<'a> {
     /// The number of headers examined so far: those of messages of which all 16 bytes are there,
     /// and those of attributes of link messages of which all four bytes are there. It is at most a
     /// quarter of the number of bytes.
+    #[must_use]
     pub fn examined(&self) -> usize {
         self.examined.get()
     }
 
     /// The offset of the next message's header: after the last message, the number of bytes; after
     /// an error, the offset of the rejected message.
+    #[must_use]
     pub fn place(&self) -> usize {
         self.place
     }

@@ -1,3 +1,5 @@
+// @generated from crates/linkinfo_messages/src/message.rt by rust/translate/run.
+
 //! One netlink message in borrowed bytes.
 
 use crate::compat::NextMultiple;

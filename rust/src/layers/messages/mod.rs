@@ -1,3 +1,5 @@
+// @generated from crates/linkinfo_messages/src/lib.rt by rust/translate/run.
+
 //! Link messages in the bytes of a netlink socket, and the packets of captures of an nlmon device.
 
 mod attributes;

@@ -1,3 +1,5 @@
+// @generated from crates/linkinfo_names/src/entries.rt by rust/translate/run.
+
 //! The kernel's names of the attributes of each family.
 
 /// A row: the type without flag bits, and the name, of at most 31 bytes.

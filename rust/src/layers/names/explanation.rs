@@ -1,3 +1,5 @@
+// @generated from crates/linkinfo_names/src/explanation.rt by rust/translate/run.
+
 //! What an error says of an attribute, for people.
 
 use crate::layers::names::names::attribute_name;
@@ -6,7 +8,9 @@ use core::fmt;
 
 /// An error, and the offset of the attribute that has it, as a sentence for people.
 ///
-/// The offset is in bytes from the beginning of the list, as `check_at` returns it.
+/// The offset is in bytes from the beginning of the list, as [`check_at`] returns it.
+///
+/// [`check_at`]: crate::layers::link::check_at
 #[derive(Clone, Copy, Debug)]
 pub struct Explanation {
     /// What is wrong.
@@ -59,6 +63,7 @@ impl fmt::Display for Subject {
 /// What an error says of its attribute, after the attribute's name: at most 40 bytes.
 ///
 /// It is empty for the causes that are no attribute's: `Header`, `Word` and `Memory`.
+#[must_use]
 pub fn problem(error: DecodeError) -> &'static str {
     match error.cause {
         Cause::Length => "has a payload of invalid length",

@@ -1,3 +1,5 @@
+// @generated from crates/linkinfo_names/src/lib.rt by rust/translate/run.
+
 //! Names and sentences for people: the name that the kernel gives to an attribute, and what an
 //! error says of it.
 

@@ -1,3 +1,5 @@
+// @generated from crates/linkinfo_names/src/names.rt by rust/translate/run.
+
 //! The name that the kernel gives to each type of attribute.
 
 use crate::layers::names::entries::{
@@ -13,6 +15,7 @@ use crate::layers::nla_frame::Family;
 /// gre6, of ipvlan and ipvtap, and of macvlan and macvtap. The attribute of a vrf's port, which it
 /// names `IFLA_VRF_PORT_TABLE`, is of the same family and type as `IFLA_VRF_TABLE`, and has that
 /// name here.
+#[must_use]
 pub fn attribute_name(family: Family, kind: u16) -> Option<&'static str> {
     name_among(family_names(family), kind)
 }

@@ -1,3 +1,5 @@
+// @generated from crates/nla_frame/src/buffer.rt by rust/translate/run.
+
 //! One attribute in borrowed bytes, and one step from an attribute to the next.
 
 use crate::compat::NextMultiple;
@@ -64,7 +66,7 @@ impl<'a> NlaBuffer<'a> {
         })
     }
 
-    /// Reads the attribute at the front of the bytes as `new_checked` does, and counts its header
+    /// Reads the attribute at the front of the bytes as [`new_checked`] does, and counts its header
     /// as examined if there are at least four bytes. Requires that the new count fits into a
     /// `usize`.
     ///
@@ -72,6 +74,8 @@ impl<'a> NlaBuffer<'a> {
     ///
     /// May panic where a condition of the caller that is named here does not hold. Where it does
     /// not panic then, the result has no meaning.
+    ///
+    /// [`new_checked`]: crate::layers::nla_frame::NlaBuffer::new_checked
     #[inline(always)]
     pub fn new_counted(
         bytes: &'a [u8],
@@ -82,24 +86,28 @@ impl<'a> NlaBuffer<'a> {
     }
 
     /// The type without its flags `NLA_F_NESTED` (0x8000) and `NLA_F_NET_BYTEORDER` (0x4000).
+    #[must_use]
     #[inline(always)]
     pub fn kind(&self) -> u16 {
         self.kind & TYPE_MASK
     }
 
     /// The whole 16-bit type, flag bits included.
+    #[must_use]
     #[inline(always)]
     pub fn raw_kind(&self) -> u16 {
         self.kind
     }
 
     /// The length field (`nla_len`): the four header bytes and the payload, without the padding.
+    #[must_use]
     #[inline(always)]
     pub fn length(&self) -> u16 {
         crate::compat::narrow_u16(HEADER_LEN + self.value.len())
     }
 
     /// The payload, borrowed from the source.
+    #[must_use]
     #[inline(always)]
     pub fn value(&self) -> &'a [u8] {
         self.value

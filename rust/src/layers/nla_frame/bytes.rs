@@ -1,3 +1,5 @@
+// @generated from crates/nla_frame/src/bytes.rt by rust/translate/run.
+
 //! Byte strings that a value owns.
 
 use crate::compat::AllocError;
@@ -13,6 +15,7 @@ pub struct Bytes {
 
 impl Bytes {
     /// Wraps a `Vec` without copying it.
+    #[must_use]
     pub fn new(bytes: Vec<u8>) -> Bytes {
         Bytes { bytes }
     }
@@ -26,21 +29,25 @@ impl Bytes {
     }
 
     /// Unwraps the `Vec` that holds the bytes.
+    #[must_use]
     pub fn into_vec(self) -> Vec<u8> {
         self.bytes
     }
 
     /// The bytes as a slice.
+    #[must_use]
     pub fn as_slice(&self) -> &[u8] {
         self.bytes.as_slice()
     }
 
     /// The number of bytes.
+    #[must_use]
     pub fn len(&self) -> usize {
         self.bytes.len()
     }
 
     /// Whether there are no bytes.
+    #[must_use]
     pub fn is_empty(&self) -> bool {
         self.bytes.is_empty()
     }

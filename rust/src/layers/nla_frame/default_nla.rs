@@ -1,3 +1,5 @@
+// @generated from crates/nla_frame/src/default_nla.rt by rust/translate/run.
+
 //! Opaque attributes: type and payload kept verbatim.
 
 use crate::layers::nla_frame::buffer::NlaBuffer;
@@ -10,7 +12,7 @@ use alloc::vec::Vec;
 
 /// An opaque attribute, of a type that its family does not define: the whole 16-bit type, flag bits
 /// included, and the payload verbatim.
-#[derive(Debug, PartialEq, Eq, Clone)]
+#[derive(Debug, PartialEq, Eq, Hash, PartialOrd, Ord, Clone)]
 pub struct DefaultNla {
     /// The whole `nla_type`, with its two flag bits.
     pub kind: u16,
@@ -20,6 +22,7 @@ pub struct DefaultNla {
 
 impl DefaultNla {
     /// Makes an attribute of this type and payload. It fits if the payload has at most 65531 bytes.
+    #[must_use]
     pub fn new(kind: u16, value: Vec<u8>) -> DefaultNla {
         DefaultNla {
             kind,

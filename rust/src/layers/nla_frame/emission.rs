@@ -1,3 +1,5 @@
+// @generated from crates/nla_frame/src/emission.rt by rust/translate/run.
+
 //! Measures and writes attributes and lists of attributes.
 
 use crate::compat::FillZeros;
@@ -9,6 +11,7 @@ use crate::layers::nla_frame::traits::Nla;
 const VALUE_LEN_MAX: usize = 65531;
 
 /// Returns the length of a payload if it fits, which means at most 65531, and `None` otherwise.
+#[must_use]
 #[inline(always)]
 pub fn fitting(len: usize) -> Option<usize> {
     if len <= VALUE_LEN_MAX {
@@ -92,6 +95,7 @@ fn write_header(buffer: &mut [u8], length: u16, kind: u16) {
 
 /// Returns the length of the list's byte string if each item fits and that length fits into a
 /// `usize`, and `None` otherwise.
+#[must_use]
 pub fn nlas_fit_len<T: Nla>(items: &[T]) -> Option<usize> {
     let mut total: usize = 0;
     for item in items {
@@ -107,6 +111,7 @@ pub fn nlas_fit_len<T: Nla>(items: &[T]) -> Option<usize> {
 ///
 /// May panic where a condition of the caller that is named here does not hold. Where it does
 /// not panic then, the result has no meaning.
+#[must_use]
 pub fn nlas_buffer_len<T: Nla>(items: &[T]) -> usize {
     let mut total: usize = 0;
     for item in items {
@@ -119,12 +124,14 @@ pub fn nlas_buffer_len<T: Nla>(items: &[T]) -> usize {
 /// length.
 ///
 /// Earlier contents of the buffer do not matter, and the bytes after the list stay unchanged.
-/// Requires that the list fits and that the buffer has at least `nlas_buffer_len` bytes.
+/// Requires that the list fits and that the buffer has at least [`nlas_buffer_len`] bytes.
 ///
 /// # Panics
 ///
 /// May panic where a condition of the caller that is named here does not hold. Where it does
 /// not panic then, the result has no meaning.
+///
+/// [`nlas_buffer_len`]: crate::layers::nla_frame::nlas_buffer_len
 pub fn write_attributes<T: Nla>(items: &[T], buffer: &mut [u8]) -> usize {
     let mut place: usize = 0;
     for item in items {
@@ -136,12 +143,14 @@ pub fn write_attributes<T: Nla>(items: &[T], buffer: &mut [u8]) -> usize {
 /// Writes the list's byte string at the front of the buffer, the items in order.
 ///
 /// Earlier contents of the buffer do not matter, and the bytes after the list stay unchanged.
-/// Requires that the list fits and that the buffer has at least `nlas_buffer_len` bytes.
+/// Requires that the list fits and that the buffer has at least [`nlas_buffer_len`] bytes.
 ///
 /// # Panics
 ///
 /// May panic where a condition of the caller that is named here does not hold. Where it does
 /// not panic then, the result has no meaning.
+///
+/// [`nlas_buffer_len`]: crate::layers::nla_frame::nlas_buffer_len
 pub fn emit_nlas<T: Nla>(items: &[T], buffer: &mut [u8]) {
     write_attributes(items, buffer);
 }

@@ -1,3 +1,5 @@
+// @generated from crates/nla_frame/src/emitters.rt by rust/translate/run.
+
 //! Writes numbers at the front of a buffer. The bytes after a number stay unchanged.
 
 use crate::compat::ToUnsigned;

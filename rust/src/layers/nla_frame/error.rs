@@ -1,3 +1,5 @@
+// @generated from crates/nla_frame/src/error.rt by rust/translate/run.
+
 //! Decoding errors: a family, an attribute type and a cause.
 
 use crate::compat::{AllocError, AllocFailed};
@@ -6,7 +8,7 @@ use core::fmt;
 
 /// Whose rules the bytes break: those of attribute headers, of `IFLA_LINKINFO`, or of the
 /// attributes of one family.
-#[derive(Clone, Copy, Debug, PartialEq, Eq)]
+#[derive(Clone, Copy, Debug, PartialEq, Eq, Hash, PartialOrd, Ord)]
 pub enum Family {
     /// Attribute headers (`struct nlattr`).
     Frame,
@@ -87,6 +89,7 @@ pub enum Family {
 
 impl Family {
     /// The name of the family in lower case, such as `linkinfo` or `bareudp`.
+    #[must_use]
     pub fn name(self) -> &'static str {
         match self {
             Family::Frame => "frame",
@@ -137,8 +140,11 @@ impl fmt::Display for Family {
     }
 }
 
-/// What is wrong with the bytes, or that memory ran out. Each cause has a number (`Cause::number`).
-#[derive(Clone, Copy, Debug, PartialEq, Eq)]
+/// What is wrong with the bytes, or that memory ran out. Each cause has a number
+/// ([`Cause::number`]).
+///
+/// [`Cause::number`]: crate::layers::nla_frame::Cause::number
+#[derive(Clone, Copy, Debug, PartialEq, Eq, Hash, PartialOrd, Ord)]
 pub enum Cause {
     /// No header is accepted here: fewer than four bytes, or a length field below four or above the
     /// number of bytes.
@@ -167,11 +173,13 @@ pub enum Cause {
 
 impl Cause {
     /// The number of the cause, from 1 to 11; equal to `cause as u8`.
+    #[must_use]
     pub fn number(self) -> u8 {
         self as u8
     }
 
     /// The name of the cause in lower case, such as `header` or `addresskind`.
+    #[must_use]
     pub fn name(self) -> &'static str {
         match self {
             Cause::Header => "header",
@@ -198,10 +206,12 @@ impl fmt::Display for Cause {
 
 /// Why bytes are rejected, or that an allocation failed.
 ///
-/// The causes `Header` and `Memory` have `Family::Frame` and type 0. Every other error has the
+/// The causes `Header` and `Memory` have [`Family::Frame`] and type 0. Every other error has the
 /// family and the type of the rejected attribute, the type without its two flag bits. The cause
 /// `Word` has type 0.
-#[derive(Clone, Copy, Debug, PartialEq, Eq)]
+///
+/// [`Family::Frame`]: crate::layers::nla_frame::Family::Frame
+#[derive(Clone, Copy, Debug, PartialEq, Eq, Hash, PartialOrd, Ord)]
 pub struct DecodeError {
     /// The family whose rules the rejected attribute breaks.
     pub family: Family,

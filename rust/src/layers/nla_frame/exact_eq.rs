@@ -1,3 +1,5 @@
+// @generated from crates/nla_frame/src/exact_eq.rt by rust/translate/run.
+
 //! Types whose `==` is equality of values.
 
 use crate::layers::nla_frame::error::{Cause, DecodeError, Family};
@@ -7,6 +9,7 @@ use core::net::{IpAddr, Ipv4Addr, Ipv6Addr};
 pub trait ExactEq: PartialEq {}
 
 /// Whether the two values are equal.
+#[must_use]
 pub fn is_equal<T: ExactEq>(a: &T, b: &T) -> bool {
     *a == *b
 }

@@ -1,21 +1,25 @@
+// @generated from crates/nla_frame/src/header_count.rt by rust/translate/run.
+
 //! The count of headers examined.
 
 use crate::layers::nla_frame::exact_eq::ExactEq;
 
 /// A count of headers examined: those of which all four bytes are there.
-#[derive(Debug, PartialEq, Eq, Clone)]
+#[derive(Debug, PartialEq, Eq, Hash, PartialOrd, Ord, Clone)]
 pub struct HeaderCount {
     headers: usize,
 }
 
 impl HeaderCount {
     /// A count of zero.
+    #[must_use]
     #[inline(always)]
     pub const fn new() -> HeaderCount {
         HeaderCount { headers: 0 }
     }
 
     /// The number of headers counted.
+    #[must_use]
     #[inline(always)]
     pub const fn get(&self) -> usize {
         self.headers

@@ -1,3 +1,5 @@
+// @generated from crates/nla_frame/src/iterator.rt by rust/translate/run.
+
 //! An iterator over the attributes of a byte string.
 
 use crate::layers::nla_frame::buffer::{NlaBuffer, next_attribute};
@@ -22,6 +24,7 @@ pub struct NlasIterator<'a> {
 impl<'a> NlasIterator<'a> {
     /// An iterator that starts at offset 0 of the bytes. It yields at most one item per four bytes,
     /// and one more.
+    #[must_use]
     #[inline(always)]
     pub fn new(bytes: &'a [u8]) -> NlasIterator<'a> {
         NlasIterator {
@@ -34,6 +37,7 @@ impl<'a> NlasIterator<'a> {
 
     /// The number of headers examined so far, those of which all four bytes are there. It is at
     /// most a quarter of the number of bytes.
+    #[must_use]
     #[inline(always)]
     pub fn examined(&self) -> usize {
         self.examined.get()
@@ -41,6 +45,7 @@ impl<'a> NlasIterator<'a> {
 
     /// The offset of the next header: after the last attribute, the number of bytes; after an
     /// error, the offset of the rejected header.
+    #[must_use]
     #[inline(always)]
     pub fn place(&self) -> usize {
         self.place

@@ -1,3 +1,5 @@
+// @generated from crates/nla_frame/src/lib.rt by rust/translate/run.
+
 //! Netlink attributes: how byte strings frame them, and how values are written as attributes.
 
 mod buffer;

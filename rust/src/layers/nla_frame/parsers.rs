@@ -1,3 +1,5 @@
+// @generated from crates/nla_frame/src/parsers.rt by rust/translate/run.
+
 //! Reads numbers, addresses and names from payloads.
 
 use crate::layers::nla_frame::error::Cause;
@@ -93,6 +95,7 @@ pub fn parse_ip(payload: &[u8]) -> Result<IpAddr, Cause> {
 }
 
 /// The bytes of a name: the payload without one closing NUL, if there is one.
+#[must_use]
 #[inline(always)]
 pub fn without_nul(payload: &[u8]) -> &[u8] {
     match payload {

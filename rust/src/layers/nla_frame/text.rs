@@ -1,3 +1,5 @@
+// @generated from crates/nla_frame/src/text.rt by rust/translate/run.
+
 //! Text that a value owns.
 
 use crate::compat::AllocError;
@@ -14,6 +16,7 @@ pub struct Text {
 
 impl Text {
     /// Wraps a `String` without copying it.
+    #[must_use]
     pub fn new(text: String) -> Text {
         Text { text }
     }
@@ -27,26 +30,31 @@ impl Text {
     }
 
     /// Unwraps the `String` that holds the text.
+    #[must_use]
     pub fn into_string(self) -> String {
         self.text
     }
 
     /// The text as a string slice.
+    #[must_use]
     pub fn as_str(&self) -> &str {
         self.text.as_str()
     }
 
     /// The UTF-8 bytes of the text.
+    #[must_use]
     pub fn as_bytes(&self) -> &[u8] {
         self.text.as_bytes()
     }
 
     /// The length of the text in bytes.
+    #[must_use]
     pub fn len(&self) -> usize {
         self.text.len()
     }
 
     /// Whether the text is empty.
+    #[must_use]
     pub fn is_empty(&self) -> bool {
         self.text.is_empty()
     }

@@ -1,3 +1,5 @@
+// @generated from crates/nla_frame/src/traits.rt by rust/translate/run.
+
 //! What values can do: be written as an attribute or as plain bytes, and be read from bytes.
 
 use crate::compat::NextMultiple;
@@ -7,8 +9,10 @@ use crate::layers::nla_frame::error::DecodeError;
 /// A value that is written as an attribute.
 ///
 /// A value fits if its canonical payload has at most 65531 bytes: what a 16-bit length field can
-/// count, less the four header bytes. `fit_len` reports it; the other calls that measure or write
+/// count, less the four header bytes. [`fit_len`] reports it; the other calls that measure or write
 /// require it.
+///
+/// [`fit_len`]: crate::layers::nla_frame::Nla::fit_len
 pub trait Nla {
     /// The length of the payload in bytes. Requires that the value fits.
     ///
@@ -22,13 +26,15 @@ pub trait Nla {
     /// bits.
     fn kind(&self) -> u16;
 
-    /// Writes the payload. Requires that the value fits and that the buffer has exactly `value_len`
-    /// bytes.
+    /// Writes the payload. Requires that the value fits and that the buffer has exactly
+    /// [`value_len`] bytes.
     ///
     /// # Panics
     ///
     /// May panic where a condition of the caller that is named here does not hold. Where it does
     /// not panic then, the result has no meaning.
+    ///
+    /// [`value_len`]: crate::layers::nla_frame::Nla::value_len
     fn emit_value(&self, buffer: &mut [u8]);
 
     /// Returns the length of the payload if the value fits, and `None` otherwise.
@@ -38,12 +44,14 @@ pub trait Nla {
     ///
     /// Earlier contents of the buffer do not matter, and the bytes after the payload stay
     /// unchanged. So a payload that is itself a list need not be measured first. Requires that the
-    /// value fits and that the buffer has at least `value_len` bytes.
+    /// value fits and that the buffer has at least [`value_len`] bytes.
     ///
     /// # Panics
     ///
     /// May panic where a condition of the caller that is named here does not hold. Where it does
     /// not panic then, the result has no meaning.
+    ///
+    /// [`value_len`]: crate::layers::nla_frame::Nla::value_len
     fn emit_payload(&self, buffer: &mut [u8]) -> usize {
         let len = self.value_len();
         self.emit_value(&mut buffer[..len]);
@@ -64,12 +72,15 @@ pub trait Nla {
     /// Writes header, payload and zero padding at the front of the buffer.
     ///
     /// Earlier contents of the buffer do not matter, and the bytes after the attribute stay
-    /// unchanged. Requires that the value fits and that the buffer has at least `buffer_len` bytes.
+    /// unchanged. Requires that the value fits and that the buffer has at least [`buffer_len`]
+    /// bytes.
     ///
     /// # Panics
     ///
     /// May panic where a condition of the caller that is named here does not hold. Where it does
     /// not panic then, the result has no meaning.
+    ///
+    /// [`buffer_len`]: crate::layers::nla_frame::Nla::buffer_len
     fn emit(&self, buffer: &mut [u8]) {
         let len = self.emit_payload(&mut buffer[4..]);
         write_frame(buffer, self.kind(), len);
@@ -82,12 +93,14 @@ pub trait Emitable {
     fn buffer_len(&self) -> usize;
 
     /// Writes the bytes at the front of the buffer. The bytes after them stay unchanged. Requires
-    /// that the buffer has at least `buffer_len` bytes.
+    /// that the buffer has at least [`buffer_len`] bytes.
     ///
     /// # Panics
     ///
     /// May panic where a condition of the caller that is named here does not hold. Where it does
     /// not panic then, the result has no meaning.
+    ///
+    /// [`buffer_len`]: crate::layers::nla_frame::Emitable::buffer_len
     fn emit(&self, buffer: &mut [u8]);
 }
 

@@ -1,3 +1,5 @@
+// @generated from crates/linkinfo_numbers/src/amt.rt by rust/translate/run.
+
 //! AMT tunnels.
 
 use crate::layers::nla_frame::{DecodeError, ExactEq, Family};
@@ -9,7 +11,7 @@ use core::str::FromStr;
 
 /// The mode of an AMT interface: `IFLA_AMT_MODE`, a little-endian 32-bit number
 /// (include/uapi/linux/amt.h).
-#[derive(Clone, Copy, Debug, PartialEq, Eq)]
+#[derive(Clone, Copy, Debug, PartialEq, Eq, Hash, PartialOrd, Ord)]
 pub enum AmtMode {
     /// `AMT_MODE_GATEWAY`: the interface is an AMT gateway.
     Gateway,

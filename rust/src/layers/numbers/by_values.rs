@@ -1,8 +1,10 @@
+// @generated from crates/linkinfo_numbers/src/by_values.rt by rust/translate/run.
+
 //! The bodies of the calls of a number type, by one list of its values.
 //!
 //! A type defines its list as a macro, with an entry for each value that has a name:
 //!
-//! ```text
+//! ```
 //! macro_rules! modes {
 //!     ($body:ident $given:tt) => {
 //!         $body! { AmtMode $given;

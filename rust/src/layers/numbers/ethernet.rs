@@ -1,9 +1,11 @@
+// @generated from crates/linkinfo_numbers/src/ethernet.rt by rust/translate/run.
+
 //! Protocols carried in Ethernet frames.
 
 use crate::layers::nla_frame::ExactEq;
 
 /// The EtherType of a frame, a 16-bit number (include/uapi/linux/if_ether.h).
-#[derive(Clone, Copy, Debug, PartialEq, Eq)]
+#[derive(Clone, Copy, Debug, PartialEq, Eq, Hash, PartialOrd, Ord)]
 pub enum EthernetProtocol {
     /// `ETH_P_MPLS_UC` (0x8847): MPLS unicast.
     MplsUc,

@@ -1,3 +1,5 @@
+// @generated from crates/linkinfo_numbers/src/flags.rt by rust/translate/run.
+
 //! Flag sets that keep every bit.
 
 use bitflags::Flags;
@@ -13,6 +15,7 @@ pub trait KeepsEveryBit: Flags {}
 ///
 /// May panic where a condition of the caller that is named here does not hold. Where it does
 /// not panic then, the result has no meaning.
+#[must_use]
 pub fn bits_again<F: KeepsEveryBit>(bits: F::Bits) -> (Option<F::Bits>, F::Bits) {
     let again = match F::from_bits(bits) {
         Some(set) => Some(set.bits()),

@@ -1,3 +1,5 @@
+// @generated from crates/linkinfo_numbers/src/geneve.rt by rust/translate/run.
+
 //! Geneve tunnels.
 
 use crate::layers::nla_frame::{DecodeError, ExactEq, Family};
@@ -9,7 +11,7 @@ use core::str::FromStr;
 
 /// How a Geneve tunnel sets the don't-fragment (DF) bit of the outer header: `IFLA_GENEVE_DF`, one
 /// byte (include/uapi/linux/if_link.h).
-#[derive(Clone, Copy, Debug, PartialEq, Eq)]
+#[derive(Clone, Copy, Debug, PartialEq, Eq, Hash, PartialOrd, Ord)]
 pub enum GeneveDf {
     /// `GENEVE_DF_UNSET`: the DF bit is not set.
     Unset,

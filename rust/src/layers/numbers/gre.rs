@@ -1,3 +1,5 @@
+// @generated from crates/linkinfo_numbers/src/gre.rt by rust/translate/run.
+
 //! GRE tunnels.
 
 use crate::layers::nla_frame::ExactEq;
@@ -8,7 +10,7 @@ use core::fmt;
 
 /// The secondary encapsulation of a GRE tunnel: `IFLA_GRE_ENCAP_TYPE`, a little-endian 16-bit
 /// number (include/uapi/linux/if_tunnel.h).
-#[derive(Clone, Copy, Debug, PartialEq, Eq)]
+#[derive(Clone, Copy, Debug, PartialEq, Eq, Hash, PartialOrd, Ord)]
 pub enum GreEncapType {
     /// `TUNNEL_ENCAP_NONE`: no secondary encapsulation.
     None,
@@ -59,7 +61,7 @@ impl ExactEq for GreEncapType {}
 
 /// The direction of the traffic that an ERSPAN version 2 tunnel mirrors: `IFLA_GRE_ERSPAN_DIR`, one
 /// byte (include/uapi/linux/if_tunnel.h).
-#[derive(Clone, Copy, Debug, PartialEq, Eq)]
+#[derive(Clone, Copy, Debug, PartialEq, Eq, Hash, PartialOrd, Ord)]
 pub enum ErSpanDir {
     /// Ingress traffic (0).
     Ingress,
@@ -107,7 +109,7 @@ impl ExactEq for ErSpanDir {}
 
 /// The flags of a GRE header: `IFLA_GRE_IFLAGS` and `IFLA_GRE_OFLAGS`, a big-endian 16-bit number
 /// (include/uapi/linux/if_tunnel.h). Every 16-bit number is a valid set.
-#[derive(Clone, Copy, Debug, PartialEq, Eq)]
+#[derive(Clone, Copy, Debug, PartialEq, Eq, Hash, PartialOrd, Ord)]
 pub struct GreIOFlags(u16);
 
 impl GreIOFlags {
@@ -180,7 +182,7 @@ impl ExactEq for GreIOFlags {}
 /// The flags of the secondary encapsulation of a GRE tunnel: `IFLA_GRE_ENCAP_FLAGS`, a
 /// little-endian 16-bit number (include/uapi/linux/if_tunnel.h). Every 16-bit number is a valid
 /// set.
-#[derive(Clone, Copy, Debug, PartialEq, Eq)]
+#[derive(Clone, Copy, Debug, PartialEq, Eq, Hash, PartialOrd, Ord)]
 pub struct GreEncapFlags(u16);
 
 impl GreEncapFlags {

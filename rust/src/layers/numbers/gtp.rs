@@ -1,3 +1,5 @@
+// @generated from crates/linkinfo_numbers/src/gtp.rt by rust/translate/run.
+
 //! GTP tunnels.
 
 use crate::layers::nla_frame::ExactEq;
@@ -6,7 +8,7 @@ use core::fmt;
 
 /// The role of a GTP device: `IFLA_GTP_ROLE`, a little-endian 32-bit number
 /// (include/uapi/linux/if_link.h).
-#[derive(Clone, Copy, Debug, PartialEq, Eq)]
+#[derive(Clone, Copy, Debug, PartialEq, Eq, Hash, PartialOrd, Ord)]
 pub enum GtpRole {
     /// `GTP_ROLE_GGSN`: Gateway GPRS Support Node.
     Ggsn,

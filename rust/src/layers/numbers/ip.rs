@@ -1,10 +1,12 @@
+// @generated from crates/linkinfo_numbers/src/ip.rt by rust/translate/run.
+
 //! Protocols carried in IP packets.
 
 use crate::layers::nla_frame::ExactEq;
 use crate::layers::numbers::by_values::{number_of_value, value_of_number};
 
 /// The protocol number of an IP packet, one byte (include/uapi/linux/in.h).
-#[derive(Clone, Copy, Debug, PartialEq, Eq)]
+#[derive(Clone, Copy, Debug, PartialEq, Eq, Hash, PartialOrd, Ord)]
 pub enum IpProtocol {
     /// `IPPROTO_IPIP` (4): IPv4 in IP.
     Ipip,

@@ -1,10 +1,12 @@
+// @generated from crates/linkinfo_numbers/src/ipoib.rt by rust/translate/run.
+
 //! IP over InfiniBand.
 
 use crate::layers::nla_frame::ExactEq;
 
 /// The mode of an IPoIB interface: `IFLA_IPOIB_MODE`, a little-endian 16-bit number
 /// (include/uapi/linux/if_link.h).
-#[derive(Clone, Copy, Debug, PartialEq, Eq)]
+#[derive(Clone, Copy, Debug, PartialEq, Eq, Hash, PartialOrd, Ord)]
 pub enum IpoibMode {
     /// `IPOIB_MODE_DATAGRAM`: unreliable datagram (UD) transport.
     Datagram,

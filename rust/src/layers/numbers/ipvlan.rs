@@ -1,3 +1,5 @@
+// @generated from crates/linkinfo_numbers/src/ipvlan.rt by rust/translate/run.
+
 //! IPVLAN and IPVTAP links.
 
 use crate::layers::nla_frame::{DecodeError, ExactEq, Family};
@@ -11,13 +13,15 @@ use core::str::FromStr;
 
 /// The mode of an `ipvlan` or `ipvtap` link: `IFLA_IPVLAN_MODE`, a little-endian 16-bit number
 /// (include/uapi/linux/if_link.h).
-#[derive(Clone, Copy, Debug, PartialEq, Eq)]
+#[derive(Clone, Copy, Debug, PartialEq, Eq, Hash, PartialOrd, Ord)]
 pub enum IpVlanMode {
     /// `IPVLAN_MODE_L2`: the link processes packets at layer 2.
     L2,
     /// `IPVLAN_MODE_L3`: the lower device routes packets at layer 3.
     L3,
-    /// `IPVLAN_MODE_L3S`: layer 3 as in `L3`, with working connection tracking.
+    /// `IPVLAN_MODE_L3S`: layer 3 as in [`L3`], with working connection tracking.
+    ///
+    /// [`L3`]: crate::layers::numbers::IpVlanMode::L3
     L3S,
     /// Any number without a name.
     Other(u16),
@@ -65,7 +69,7 @@ impl ExactEq for IpVlanMode {}
 /// The flags of an `ipvlan` or `ipvtap` link: `IFLA_IPVLAN_FLAGS`, a little-endian 16-bit number
 /// (include/uapi/linux/if_link.h). Every 16-bit number is a valid set. Without a flag, the links of
 /// one lower device can talk to each other (bridge).
-#[derive(Clone, Copy, Debug, PartialEq, Eq)]
+#[derive(Clone, Copy, Debug, PartialEq, Eq, Hash, PartialOrd, Ord)]
 pub struct IpVlanFlags(u16);
 
 impl IpVlanFlags {

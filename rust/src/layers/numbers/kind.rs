@@ -1,3 +1,5 @@
+// @generated from crates/linkinfo_numbers/src/kind.rt by rust/translate/run.
+
 //! Link kinds.
 
 use crate::compat::AllocError;
@@ -8,7 +10,7 @@ use crate::layers::numbers::types::IFLA_INFO_KIND;
 use core::fmt;
 
 /// The kind of a link: `IFLA_INFO_KIND`, the name of its driver (include/uapi/linux/if_link.h).
-#[derive(Debug, PartialEq, Eq, Clone)]
+#[derive(Debug, PartialEq, Eq, Hash, PartialOrd, Ord, Clone)]
 pub enum InfoKind {
     /// `dummy`: a dummy interface.
     Dummy,
@@ -195,7 +197,9 @@ pub(crate) use name_by_kinds;
 pub(crate) use tag_by_kinds;
 
 impl InfoKind {
-    /// Makes the kind of this name, `Other` if the name is unknown. A known name needs no memory.
+    /// Makes the kind of this name, [`Other`] if the name is unknown. A known name needs no memory.
+    ///
+    /// [`Other`]: crate::layers::numbers::InfoKind::Other
     pub fn from_text(text: &str) -> Result<InfoKind, AllocError> {
         match InfoKind::from_tag(tag_of_name(text.as_bytes())) {
             Some(kind) => Ok(kind),
@@ -203,17 +207,24 @@ impl InfoKind {
         }
     }
 
-    /// The tag of the kind, by the variant: the tag of `Other` is `Other`, whatever its name.
+    /// The tag of the kind, by the variant: the tag of [`Other`] is [`Other`], whatever its name.
+    ///
+    /// [`Other`]: crate::layers::numbers::InfoKind::Other
+    #[must_use]
     pub fn tag(&self) -> KindTag {
         kinds!(tag_by_kinds self)
     }
 
     /// The name of the kind.
+    #[must_use]
     pub fn name(&self) -> &str {
         kinds!(name_by_kinds self)
     }
 
-    /// The kind of this tag, or `None` for `Other`, whose name the tag does not tell.
+    /// The kind of this tag, or `None` for [`Other`], whose name the tag does not tell.
+    ///
+    /// [`Other`]: crate::layers::numbers::InfoKind::Other
+    #[must_use]
     pub fn from_tag(tag: KindTag) -> Option<InfoKind> {
         kinds!(kind_by_kinds tag)
     }

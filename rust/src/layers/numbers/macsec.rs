@@ -1,3 +1,5 @@
+// @generated from crates/linkinfo_numbers/src/macsec.rt by rust/translate/run.
+
 //! MACsec links.
 
 use crate::layers::nla_frame::ExactEq;
@@ -5,7 +7,7 @@ use crate::layers::numbers::by_values::{number_of_value, value_of_number};
 
 /// The cipher suite of a MACsec interface: `IFLA_MACSEC_CIPHER_SUITE`, a little-endian 64-bit
 /// number (include/uapi/linux/if_macsec.h).
-#[derive(Clone, Copy, Debug, PartialEq, Eq)]
+#[derive(Clone, Copy, Debug, PartialEq, Eq, Hash, PartialOrd, Ord)]
 pub enum MacSecCipherId {
     /// `MACSEC_DEFAULT_CIPHER_ID`: the default cipher suite, GCM-AES-128.
     DefaultGcmAes128,
@@ -49,7 +51,7 @@ impl ExactEq for MacSecCipherId {}
 
 /// How a MACsec interface validates frames: `IFLA_MACSEC_VALIDATION`, one byte
 /// (include/uapi/linux/if_link.h).
-#[derive(Clone, Copy, Debug, PartialEq, Eq)]
+#[derive(Clone, Copy, Debug, PartialEq, Eq, Hash, PartialOrd, Ord)]
 pub enum MacSecValidate {
     /// `MACSEC_VALIDATE_DISABLED`: frames are not validated.
     Disabled,
@@ -87,7 +89,7 @@ impl ExactEq for MacSecValidate {}
 
 /// What MACsec processing is offloaded to hardware: `IFLA_MACSEC_OFFLOAD`, one byte
 /// (include/uapi/linux/if_link.h).
-#[derive(Clone, Copy, Debug, PartialEq, Eq)]
+#[derive(Clone, Copy, Debug, PartialEq, Eq, Hash, PartialOrd, Ord)]
 pub enum MacSecOffload {
     /// `MACSEC_OFFLOAD_OFF`: nothing is offloaded.
     Off,

@@ -1,3 +1,5 @@
+// @generated from crates/linkinfo_numbers/src/macvlan.rt by rust/translate/run.
+
 //! MACVLAN and MACVTAP links.
 
 use crate::layers::nla_frame::{DecodeError, ExactEq, Family};
@@ -11,7 +13,7 @@ use core::str::FromStr;
 
 /// The mode of a `macvlan` or `macvtap` link: `IFLA_MACVLAN_MODE`, a little-endian 32-bit number
 /// (include/uapi/linux/if_link.h).
-#[derive(Clone, Copy, Debug, PartialEq, Eq)]
+#[derive(Clone, Copy, Debug, PartialEq, Eq, Hash, PartialOrd, Ord)]
 pub enum MacVlanMode {
     /// `MACVLAN_MODE_PRIVATE`: the links of one lower device cannot talk to each other.
     Private,
@@ -71,7 +73,7 @@ impl ExactEq for MacVlanMode {}
 
 /// How a request changes the source MAC addresses of a `macvlan` or `macvtap` link:
 /// `IFLA_MACVLAN_MACADDR_MODE`, a little-endian 32-bit number (include/uapi/linux/if_link.h).
-#[derive(Clone, Copy, Debug, PartialEq, Eq)]
+#[derive(Clone, Copy, Debug, PartialEq, Eq, Hash, PartialOrd, Ord)]
 pub enum MacVlanMacAddressMode {
     /// `MACVLAN_MACADDR_ADD`: add one address.
     Add,
@@ -112,7 +114,7 @@ impl ExactEq for MacVlanMacAddressMode {}
 
 /// The flags of a `macvlan` or `macvtap` link: `IFLA_MACVLAN_FLAGS`, a little-endian 16-bit number
 /// (include/uapi/linux/if_link.h). Every 16-bit number is a valid set.
-#[derive(Clone, Copy, Debug, PartialEq, Eq)]
+#[derive(Clone, Copy, Debug, PartialEq, Eq, Hash, PartialOrd, Ord)]
 pub struct MacVlanFlags(u16);
 
 impl MacVlanFlags {

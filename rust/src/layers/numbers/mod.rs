@@ -1,3 +1,5 @@
+// @generated from crates/linkinfo_numbers/src/lib.rt by rust/translate/run.
+
 //! The numbers, flag sets and names in the contents of `IFLA_LINKINFO`.
 
 mod amt;

@@ -1,3 +1,5 @@
+// @generated from crates/linkinfo_numbers/src/name.rt by rust/translate/run.
+
 //! Names in attributes: a text with one closing NUL.
 
 use crate::layers::nla_frame::{Cause, DecodeError, Family, NlaBuffer, fitting, without_nul};

@@ -1,3 +1,5 @@
+// @generated from crates/linkinfo_numbers/src/netkit.rt by rust/translate/run.
+
 //! netkit links.
 
 use crate::layers::nla_frame::{DecodeError, ExactEq, Family};
@@ -10,7 +12,7 @@ use core::str::FromStr;
 
 /// The layer at which a netkit pair operates: `IFLA_NETKIT_MODE`, a little-endian 32-bit number
 /// (include/uapi/linux/if_link.h).
-#[derive(Clone, Copy, Debug, PartialEq, Eq)]
+#[derive(Clone, Copy, Debug, PartialEq, Eq, Hash, PartialOrd, Ord)]
 pub enum NetkitMode {
     /// `NETKIT_L2`: layer 2.
     L2,
@@ -60,7 +62,7 @@ impl ExactEq for NetkitMode {}
 
 /// What a netkit link does with packets if no BPF program is attached: `IFLA_NETKIT_POLICY` and
 /// `IFLA_NETKIT_PEER_POLICY`, a little-endian 32-bit number (include/uapi/linux/if_link.h).
-#[derive(Clone, Copy, Debug, PartialEq, Eq)]
+#[derive(Clone, Copy, Debug, PartialEq, Eq, Hash, PartialOrd, Ord)]
 pub enum NetkitPolicy {
     /// `NETKIT_PASS`: packets are forwarded.
     Pass,
@@ -118,8 +120,10 @@ impl ExactEq for NetkitPolicy {}
 
 /// Whether a netkit link clears the mark and priority of a packet that changes the network
 /// namespace: `IFLA_NETKIT_SCRUB` and `IFLA_NETKIT_PEER_SCRUB`, a little-endian 32-bit number
-/// (include/uapi/linux/if_link.h). Every number but 0 is `Default`.
-#[derive(Clone, Copy, Debug, PartialEq, Eq)]
+/// (include/uapi/linux/if_link.h). Every number but 0 is [`Default`].
+///
+/// [`Default`]: crate::layers::numbers::NetkitScrub::Default
+#[derive(Clone, Copy, Debug, PartialEq, Eq, Hash, PartialOrd, Ord)]
 pub enum NetkitScrub {
     /// `NETKIT_SCRUB_NONE`: mark and priority are kept.
     None,

@@ -1,3 +1,5 @@
+// @generated from crates/linkinfo_numbers/src/port_kind.rt by rust/translate/run.
+
 //! Port kinds.
 
 use crate::compat::AllocError;
@@ -10,7 +12,7 @@ use core::fmt;
 
 /// The port kind: `IFLA_INFO_SLAVE_KIND`, the name of the driver of the link that this link is a
 /// port of (include/uapi/linux/if_link.h).
-#[derive(Clone, Debug, PartialEq, Eq)]
+#[derive(Clone, Debug, PartialEq, Eq, Hash, PartialOrd, Ord)]
 pub enum InfoPortKind {
     /// `bond`: a port of a bonding device.
     Bond,
@@ -37,8 +39,10 @@ macro_rules! port_kinds {
 }
 
 impl InfoPortKind {
-    /// Makes the port kind of this name, `Other` if the name is unknown. A known name needs no
+    /// Makes the port kind of this name, [`Other`] if the name is unknown. A known name needs no
     /// memory.
+    ///
+    /// [`Other`]: crate::layers::numbers::InfoPortKind::Other
     pub fn from_text(text: &str) -> Result<InfoPortKind, AllocError> {
         match InfoPortKind::from_tag(port_tag_of_name(text.as_bytes())) {
             Some(kind) => Ok(kind),
@@ -46,17 +50,25 @@ impl InfoPortKind {
         }
     }
 
-    /// The tag of the port kind, by the variant: the tag of `Other` is `Other`, whatever its name.
+    /// The tag of the port kind, by the variant: the tag of [`Other`] is [`Other`], whatever its
+    /// name.
+    ///
+    /// [`Other`]: crate::layers::numbers::InfoPortKind::Other
+    #[must_use]
     pub fn tag(&self) -> PortTag {
         port_kinds!(tag_by_kinds self)
     }
 
     /// The name of the port kind.
+    #[must_use]
     pub fn name(&self) -> &str {
         port_kinds!(name_by_kinds self)
     }
 
-    /// The port kind of this tag, or `None` for `Other`, whose name the tag does not tell.
+    /// The port kind of this tag, or `None` for [`Other`], whose name the tag does not tell.
+    ///
+    /// [`Other`]: crate::layers::numbers::InfoPortKind::Other
+    #[must_use]
     pub fn from_tag(tag: PortTag) -> Option<InfoPortKind> {
         port_kinds!(kind_by_kinds tag)
     }

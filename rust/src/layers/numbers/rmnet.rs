@@ -1,3 +1,5 @@
+// @generated from crates/linkinfo_numbers/src/rmnet.rt by rust/translate/run.
+
 //! Links of kind `rmnet`.
 
 use crate::layers::nla_frame::ExactEq;
@@ -6,7 +8,7 @@ use bitflags::{Flag, Flags};
 
 /// The flags of an `rmnet` link: `flags` and `mask` of `struct ifla_rmnet_flags`, little-endian
 /// 32-bit numbers (include/uapi/linux/if_link.h). Every 32-bit number is a valid set.
-#[derive(Clone, Copy, Debug, PartialEq, Eq)]
+#[derive(Clone, Copy, Debug, PartialEq, Eq, Hash, PartialOrd, Ord)]
 pub struct RmNetFlags(u32);
 
 impl RmNetFlags {
@@ -58,7 +60,7 @@ impl KeepsEveryBit for RmNetFlags {}
 impl ExactEq for RmNetFlags {}
 
 /// `struct ifla_rmnet_flags`: flags, and the mask of those to change.
-#[derive(Clone, Copy, Debug, PartialEq, Eq)]
+#[derive(Clone, Copy, Debug, PartialEq, Eq, Hash, PartialOrd, Ord)]
 pub struct InfoRmNetFlags {
     /// `flags`: the values of the flags, little-endian.
     pub flags: RmNetFlags,
@@ -68,6 +70,7 @@ pub struct InfoRmNetFlags {
 
 impl InfoRmNetFlags {
     /// Makes the pair of these flags and this mask.
+    #[must_use]
     pub fn new(flags: RmNetFlags, mask: RmNetFlags) -> InfoRmNetFlags {
         InfoRmNetFlags { flags, mask }
     }

@@ -1,9 +1,14 @@
+// @generated from crates/linkinfo_numbers/src/tags.rt by rust/translate/run.
+
 //! Tags: link kinds and port kinds without their text.
 
 use crate::layers::nla_frame::ExactEq;
 
-/// The kind of a link without its text: one of the kinds that this crate knows by name, or `Other`.
-#[derive(Clone, Copy, Debug, PartialEq, Eq)]
+/// The kind of a link without its text: one of the kinds that this crate knows by name, or
+/// [`Other`].
+///
+/// [`Other`]: crate::layers::numbers::KindTag::Other
+#[derive(Clone, Copy, Debug, PartialEq, Eq, Hash, PartialOrd, Ord)]
 pub enum KindTag {
     /// The kind `dummy`.
     Dummy,
@@ -103,8 +108,11 @@ pub enum KindTag {
 
 impl ExactEq for KindTag {}
 
-/// The port kind without its text: one of the port kinds that this crate knows by name, or `Other`.
-#[derive(Clone, Copy, Debug, PartialEq, Eq)]
+/// The port kind without its text: one of the port kinds that this crate knows by name, or
+/// [`Other`].
+///
+/// [`Other`]: crate::layers::numbers::PortTag::Other
+#[derive(Clone, Copy, Debug, PartialEq, Eq, Hash, PartialOrd, Ord)]
 pub enum PortTag {
     /// The port kind `bond`.
     Bond,
@@ -144,6 +152,7 @@ macro_rules! number_of_eight {
 /// `Other`.
 ///
 /// A name is compared as a number, one word at a time.
+#[must_use]
 pub fn tag_of_name(name: &[u8]) -> KindTag {
     match *name {
         [a, b, c] => tag_of_three(u32::from_le_bytes([a, b, c, 0])),
@@ -340,6 +349,7 @@ fn tag_of_nine(front: u64, last: u8) -> KindTag {
 
 /// The tag of the port kind with this name, which is given without a closing NUL. An unknown name
 /// gives `Other`.
+#[must_use]
 pub fn port_tag_of_name(name: &[u8]) -> PortTag {
     match tag_of_name(name) {
         KindTag::Bond => PortTag::Bond,

@@ -1,3 +1,5 @@
+// @generated from crates/linkinfo_numbers/src/tunnel.rt by rust/translate/run.
+
 //! IP tunnels.
 
 use crate::layers::nla_frame::ExactEq;
@@ -8,7 +10,7 @@ use core::fmt;
 
 /// The secondary encapsulation of an IP tunnel: `IFLA_IPTUN_ENCAP_TYPE`, a little-endian 16-bit
 /// number (include/uapi/linux/if_tunnel.h).
-#[derive(Clone, Copy, Debug, PartialEq, Eq)]
+#[derive(Clone, Copy, Debug, PartialEq, Eq, Hash, PartialOrd, Ord)]
 pub enum TunnelEncapType {
     /// `TUNNEL_ENCAP_NONE`: no secondary encapsulation.
     None,
@@ -56,7 +58,7 @@ impl ExactEq for TunnelEncapType {}
 /// The flags of the secondary encapsulation of an IP tunnel: `IFLA_IPTUN_ENCAP_FLAGS`, a
 /// little-endian 16-bit number (include/uapi/linux/if_tunnel.h). Every 16-bit number is a valid
 /// set.
-#[derive(Clone, Copy, Debug, PartialEq, Eq, Hash)]
+#[derive(Clone, Copy, Debug, PartialEq, Eq, PartialOrd, Ord, Hash)]
 pub struct TunnelEncapFlags(u16);
 
 impl TunnelEncapFlags {
@@ -98,7 +100,7 @@ impl ExactEq for TunnelEncapFlags {}
 /// The flags of an IPv6 tunnel: `IFLA_IPTUN_FLAGS` of the kind `ip6tnl`, a little-endian 32-bit
 /// number (include/uapi/linux/ip6_tunnel.h; the last three in include/net/ip6_tunnel.h). Every
 /// 32-bit number is a valid set.
-#[derive(Clone, Copy, Debug, PartialEq, Eq, Hash)]
+#[derive(Clone, Copy, Debug, PartialEq, Eq, PartialOrd, Ord, Hash)]
 pub struct Ip6TunnelFlags(u32);
 
 impl Ip6TunnelFlags {

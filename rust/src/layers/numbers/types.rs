@@ -1,3 +1,5 @@
+// @generated from crates/linkinfo_numbers/src/types.rt by rust/translate/run.
+
 //! The types of the attributes in `IFLA_LINKINFO` (include/uapi/linux/if_link.h).
 
 /// The kind of the link, a name.

@@ -1,3 +1,5 @@
+// @generated from crates/linkinfo_numbers/src/vxlan.rt by rust/translate/run.
+
 //! VXLAN tunnels.
 
 use crate::layers::nla_frame::ExactEq;
@@ -6,7 +8,7 @@ use core::fmt;
 
 /// How a VXLAN tunnel sets the don't-fragment (DF) bit of the outer header: `IFLA_VXLAN_DF`, one
 /// byte (include/uapi/linux/if_link.h).
-#[derive(Clone, Copy, Debug, PartialEq, Eq)]
+#[derive(Clone, Copy, Debug, PartialEq, Eq, Hash, PartialOrd, Ord)]
 pub enum VxlanDf {
     /// `VXLAN_DF_UNSET`: the DF bit is not set.
     Unset,

@@ -1,3 +1,5 @@
+// @generated from crates/linkinfo_numbers/src/word.rt by rust/translate/run.
+
 //! Texts that name values.
 
 use crate::layers::nla_frame::{Cause, DecodeError, Family};

@@ -1,3 +1,5 @@
+// @generated from crates/linkinfo_peers/src/batadv.rt by rust/translate/run.
+
 //! B.A.T.M.A.N. Advanced links: `IFLA_BATADV_*` (include/uapi/linux/batman_adv.h).
 
 use crate::compat::AllocError;
@@ -10,7 +12,7 @@ use crate::layers::table::{
 };
 
 /// An attribute in the data of a `batadv` link, a B.A.T.M.A.N. Advanced mesh interface.
-#[derive(Debug, PartialEq, Eq, Clone)]
+#[derive(Debug, PartialEq, Eq, Hash, PartialOrd, Ord, Clone)]
 pub enum InfoBatAdv {
     /// Name of the routing algorithm (`IFLA_BATADV_ALGO_NAME`), with one closing zero byte.
     AlgoName(Text),

@@ -1,3 +1,5 @@
+// @generated from crates/linkinfo_peers/src/bit.rt by rust/translate/run.
+
 //! A peer that is a single boolean.
 
 use crate::layers::nla_frame::ExactEq;
@@ -11,7 +13,7 @@ use crate::layers::table::{LinkPeer, PeerFault};
 /// length is rejected.
 ///
 /// Every value is well formed, and no call allocates.
-#[derive(Clone, Copy, Debug, PartialEq, Eq)]
+#[derive(Clone, Copy, Debug, PartialEq, Eq, Hash, PartialOrd, Ord)]
 pub struct BitPeer(pub bool);
 
 impl LinkPeer for BitPeer {

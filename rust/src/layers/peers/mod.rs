@@ -1,3 +1,5 @@
+// @generated from crates/linkinfo_peers/src/lib.rt by rust/translate/run.
+
 //! Attributes of `veth`, `vxcan` and `netkit` links, each with a user-supplied type of peer. Also
 //! those of `wwan`, `batadv`, `tun`, `wireguard` and `pfcp` links, and of ports of a `team`.
 

@@ -1,3 +1,5 @@
+// @generated from crates/linkinfo_peers/src/netkit.rt by rust/translate/run.
+
 //! Netkit links, which come in pairs: `IFLA_NETKIT_*` (include/uapi/linux/if_link.h).
 
 use crate::compat::AllocError;
@@ -17,7 +19,7 @@ use crate::layers::table::{
 };
 
 /// An attribute in the data of a `netkit` link, with a peer of type `P`.
-#[derive(Debug, PartialEq, Eq, Clone)]
+#[derive(Debug, PartialEq, Eq, Hash, PartialOrd, Ord, Clone)]
 pub enum InfoNetkitOf<P> {
     /// The peer of the pair (`IFLA_NETKIT_PEER_INFO`).
     Peer(P),

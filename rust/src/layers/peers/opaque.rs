@@ -1,3 +1,5 @@
+// @generated from crates/linkinfo_peers/src/opaque.rt by rust/translate/run.
+
 //! Families without typed attributes.
 
 use crate::layers::table::Opaque;

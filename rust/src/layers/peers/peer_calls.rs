@@ -1,3 +1,5 @@
+// @generated from crates/linkinfo_peers/src/peer_calls.rt by rust/translate/run.
+
 //! The calls of families with a peer: those of families defined by rows, except for attributes of
 //! type 1.
 
@@ -74,6 +76,7 @@ pub fn peer_check<F: PeerFamily>(nla: &NlaBuffer<'_>, ctx: F::Context) -> Result
 ///
 /// May panic where a condition of the caller that is named here does not hold. Where it does
 /// not panic then, the result has no meaning.
+#[must_use]
 pub fn peer_same<F: PeerFamily>(a: &NlaBuffer<'_>, b: &NlaBuffer<'_>, ctx: F::Context) -> bool {
     if a.kind() == PEER {
         same_as_peer::<F>(a, b)
@@ -83,6 +86,7 @@ pub fn peer_same<F: PeerFamily>(a: &NlaBuffer<'_>, b: &NlaBuffer<'_>, ctx: F::Co
 }
 
 /// The type of a value.
+#[must_use]
 pub fn peer_kind<F: PeerFamily>(value: &F) -> u16 {
     match value.peer() {
         Some(_) => PEER,
@@ -91,6 +95,7 @@ pub fn peer_kind<F: PeerFamily>(value: &F) -> u16 {
 }
 
 /// Returns the length of a value's payload if the value fits, and `None` otherwise.
+#[must_use]
 pub fn peer_fit_len<F: PeerFamily>(value: &F) -> Option<usize> {
     match value.peer() {
         Some(peer) => peer.fit_len(),
@@ -104,6 +109,7 @@ pub fn peer_fit_len<F: PeerFamily>(value: &F) -> Option<usize> {
 ///
 /// May panic where a condition of the caller that is named here does not hold. Where it does
 /// not panic then, the result has no meaning.
+#[must_use]
 pub fn peer_value_len<F: PeerFamily>(value: &F) -> usize {
     match peer_fit_len(value) {
         Some(len) => len,

@@ -1,3 +1,5 @@
+// @generated from crates/linkinfo_peers/src/peer_canonical.rt by rust/translate/run.
+
 //! Re-encodes accepted attributes of a family with a peer canonically, without building a value.
 
 use crate::compat::NextMultiple;
@@ -23,6 +25,7 @@ fn write_as_peer<F: PeerFamily>(nla: &NlaBuffer<'_>, buffer: &mut [u8]) -> usize
 ///
 /// May panic where a condition of the caller that is named here does not hold. Where it does
 /// not panic then, the result has no meaning.
+#[must_use]
 pub fn peer_canonical_len<F: PeerFamily>(nla: &NlaBuffer<'_>, ctx: F::Context) -> Option<usize> {
     if nla.kind() == PEER {
         len_as_peer::<F>(nla)

@@ -1,3 +1,5 @@
+// @generated from crates/linkinfo_peers/src/peer_family.rt by rust/translate/run.
+
 //! Families with a peer.
 
 use crate::layers::table::{LinkPeer, RowFamily};
@@ -12,6 +14,8 @@ pub trait PeerFamily: RowFamily {
     fn from_peer(peer: Self::Peer) -> Self;
 
     /// The peer of a value of type 1, and `None` for any other value, which is written from its
-    /// `Encodable`.
+    /// [`Encodable`].
+    ///
+    /// [`Encodable`]: crate::layers::table::Encodable
     fn peer(&self) -> Option<&Self::Peer>;
 }

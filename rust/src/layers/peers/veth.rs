@@ -1,3 +1,5 @@
+// @generated from crates/linkinfo_peers/src/veth.rt by rust/translate/run.
+
 //! Veth links, which come in pairs: `VETH_INFO_*` (include/uapi/linux/veth.h).
 
 use crate::compat::AllocError;
@@ -15,7 +17,7 @@ use crate::layers::table::{
 };
 
 /// An attribute in the data of a `veth` link, with a peer of type `P`.
-#[derive(Debug, PartialEq, Eq, Clone)]
+#[derive(Debug, PartialEq, Eq, Hash, PartialOrd, Ord, Clone)]
 pub enum InfoVethOf<P> {
     /// The peer of the pair (`VETH_INFO_PEER`).
     Peer(P),

@@ -1,3 +1,5 @@
+// @generated from crates/linkinfo_peers/src/vxcan.rt by rust/translate/run.
+
 //! Virtual CAN links that come in pairs: `VXCAN_INFO_*` (include/uapi/linux/can/vxcan.h).
 
 use crate::compat::AllocError;
@@ -15,7 +17,7 @@ use crate::layers::table::{
 };
 
 /// An attribute in the data of a `vxcan` link, with a peer of type `P`.
-#[derive(Debug, PartialEq, Eq, Clone)]
+#[derive(Debug, PartialEq, Eq, Hash, PartialOrd, Ord, Clone)]
 pub enum InfoVxcanOf<P> {
     /// The peer of the pair (`VXCAN_INFO_PEER`).
     Peer(P),

@@ -1,3 +1,5 @@
+// @generated from crates/linkinfo_peers/src/wwan.rt by rust/translate/run.
+
 //! Wireless WAN links: `IFLA_WWAN_*` (include/uapi/linux/wwan.h).
 
 use crate::compat::AllocError;
@@ -10,7 +12,7 @@ use crate::layers::table::{
 };
 
 /// An attribute in the data of a `wwan` link, a link of a wireless modem.
-#[derive(Debug, PartialEq, Eq, Clone)]
+#[derive(Debug, PartialEq, Eq, Hash, PartialOrd, Ord, Clone)]
 pub enum InfoWwan {
     /// Link ID (`IFLA_WWAN_LINK_ID`), little-endian.
     LinkId(u32),

@@ -1,36 +1,71 @@
+// @generated from crates/linkinfo_shapes/src/datum.rt by rust/translate/run.
+
 //! Data: decoded payloads, one type for all shapes.
 
 use core::net::{IpAddr, Ipv4Addr, Ipv6Addr};
 
 /// A datum: a decoded payload, whose text or bytes are borrowed. The data of a shape are those of
 /// certain variants, within bounds.
-#[derive(Clone, Copy, Debug, PartialEq, Eq)]
+#[derive(Clone, Copy, Debug, PartialEq, Eq, Hash, PartialOrd, Ord)]
 pub enum Datum<'a> {
-    /// The number of `Shape::U8`, of the `Le` and `Be` shapes, or the byte of `Shape::EmptyOrByte`.
+    /// The number of [`Shape::U8`], of the `Le` and `Be` shapes, or the byte of
+    /// [`Shape::EmptyOrByte`].
+    ///
+    /// [`Shape::U8`]: crate::layers::shapes::Shape::U8
+    /// [`Shape::EmptyOrByte`]: crate::layers::shapes::Shape::EmptyOrByte
     Number(u64),
-    /// The number of `Shape::I32`.
+    /// The number of [`Shape::I32`].
+    ///
+    /// [`Shape::I32`]: crate::layers::shapes::Shape::I32
     Signed(i32),
-    /// The boolean of `Shape::Truth` and `Shape::TruthOne`; of `Shape::Scrub`, true for default
-    /// scrubbing.
+    /// The boolean of [`Shape::Truth`] and [`Shape::TruthOne`]; of [`Shape::Scrub`], true for
+    /// default scrubbing.
+    ///
+    /// [`Shape::Truth`]: crate::layers::shapes::Shape::Truth
+    /// [`Shape::TruthOne`]: crate::layers::shapes::Shape::TruthOne
+    /// [`Shape::Scrub`]: crate::layers::shapes::Shape::Scrub
     Truth(bool),
-    /// No payload: `Shape::Mark`, and `Shape::EmptyOrByte` without a byte.
+    /// No payload: [`Shape::Mark`], and [`Shape::EmptyOrByte`] without a byte.
+    ///
+    /// [`Shape::Mark`]: crate::layers::shapes::Shape::Mark
+    /// [`Shape::EmptyOrByte`]: crate::layers::shapes::Shape::EmptyOrByte
     Empty,
-    /// The text of `Shape::Name`, without its closing zero byte.
+    /// The text of [`Shape::Name`], without its closing zero byte.
+    ///
+    /// [`Shape::Name`]: crate::layers::shapes::Shape::Name
     Text(&'a str),
-    /// The IPv4 address of `Shape::V4`, `Shape::GeneveV4` and `Shape::Ip`.
+    /// The IPv4 address of [`Shape::V4`], [`Shape::GeneveV4`] and [`Shape::Ip`].
+    ///
+    /// [`Shape::V4`]: crate::layers::shapes::Shape::V4
+    /// [`Shape::GeneveV4`]: crate::layers::shapes::Shape::GeneveV4
+    /// [`Shape::Ip`]: crate::layers::shapes::Shape::Ip
     V4(Ipv4Addr),
-    /// The IPv6 address of `Shape::V6`, `Shape::GeneveV6` and `Shape::Ip`.
+    /// The IPv6 address of [`Shape::V6`], [`Shape::GeneveV6`] and [`Shape::Ip`].
+    ///
+    /// [`Shape::V6`]: crate::layers::shapes::Shape::V6
+    /// [`Shape::GeneveV6`]: crate::layers::shapes::Shape::GeneveV6
+    /// [`Shape::Ip`]: crate::layers::shapes::Shape::Ip
     V6(Ipv6Addr),
-    /// The hardware address of `Shape::Mac`.
+    /// The hardware address of [`Shape::Mac`].
+    ///
+    /// [`Shape::Mac`]: crate::layers::shapes::Shape::Mac
     Mac([u8; 6]),
-    /// The two numbers of `Shape::BePair`, or flags and mask of `Shape::FlagPair`.
+    /// The two numbers of [`Shape::BePair`], or flags and mask of [`Shape::FlagPair`].
+    ///
+    /// [`Shape::BePair`]: crate::layers::shapes::Shape::BePair
+    /// [`Shape::FlagPair`]: crate::layers::shapes::Shape::FlagPair
     Pair(u32, u32),
-    /// The bytes of `Shape::Raw`.
+    /// The bytes of [`Shape::Raw`].
+    ///
+    /// [`Shape::Raw`]: crate::layers::shapes::Shape::Raw
     Bytes(&'a [u8]),
 }
 
 impl<'a> Datum<'a> {
-    /// The number if this is a datum of `Shape::U8`, and 0 otherwise.
+    /// The number if this is a datum of [`Shape::U8`], and 0 otherwise.
+    ///
+    /// [`Shape::U8`]: crate::layers::shapes::Shape::U8
+    #[must_use]
     #[inline(always)]
     pub fn u8_or_zero(self) -> u8 {
         match self {
@@ -39,7 +74,11 @@ impl<'a> Datum<'a> {
         }
     }
 
-    /// The number if this is a datum of `Shape::Le16` or `Shape::Be16`, and 0 otherwise.
+    /// The number if this is a datum of [`Shape::Le16`] or [`Shape::Be16`], and 0 otherwise.
+    ///
+    /// [`Shape::Le16`]: crate::layers::shapes::Shape::Le16
+    /// [`Shape::Be16`]: crate::layers::shapes::Shape::Be16
+    #[must_use]
     #[inline(always)]
     pub fn u16_or_zero(self) -> u16 {
         match self {
@@ -48,7 +87,11 @@ impl<'a> Datum<'a> {
         }
     }
 
-    /// The number if this is a datum of `Shape::Le32` or `Shape::Be32`, and 0 otherwise.
+    /// The number if this is a datum of [`Shape::Le32`] or [`Shape::Be32`], and 0 otherwise.
+    ///
+    /// [`Shape::Le32`]: crate::layers::shapes::Shape::Le32
+    /// [`Shape::Be32`]: crate::layers::shapes::Shape::Be32
+    #[must_use]
     #[inline(always)]
     pub fn u32_or_zero(self) -> u32 {
         match self {
@@ -57,7 +100,11 @@ impl<'a> Datum<'a> {
         }
     }
 
-    /// The number if this is a datum of `Shape::Le64` or `Shape::Be64`, and 0 otherwise.
+    /// The number if this is a datum of [`Shape::Le64`] or [`Shape::Be64`], and 0 otherwise.
+    ///
+    /// [`Shape::Le64`]: crate::layers::shapes::Shape::Le64
+    /// [`Shape::Be64`]: crate::layers::shapes::Shape::Be64
+    #[must_use]
     #[inline(always)]
     pub fn u64_or_zero(self) -> u64 {
         match self {
@@ -66,7 +113,10 @@ impl<'a> Datum<'a> {
         }
     }
 
-    /// The number if this is a datum of `Shape::I32`, and 0 otherwise.
+    /// The number if this is a datum of [`Shape::I32`], and 0 otherwise.
+    ///
+    /// [`Shape::I32`]: crate::layers::shapes::Shape::I32
+    #[must_use]
     #[inline(always)]
     pub fn i32_or_zero(self) -> i32 {
         match self {
@@ -75,8 +125,13 @@ impl<'a> Datum<'a> {
         }
     }
 
-    /// The boolean if this is a datum of `Shape::Truth`, `Shape::TruthOne` or `Shape::Scrub`, and
-    /// false otherwise.
+    /// The boolean if this is a datum of [`Shape::Truth`], [`Shape::TruthOne`] or [`Shape::Scrub`],
+    /// and false otherwise.
+    ///
+    /// [`Shape::Truth`]: crate::layers::shapes::Shape::Truth
+    /// [`Shape::TruthOne`]: crate::layers::shapes::Shape::TruthOne
+    /// [`Shape::Scrub`]: crate::layers::shapes::Shape::Scrub
+    #[must_use]
     #[inline(always)]
     pub fn bool_or_false(self) -> bool {
         match self {
@@ -85,7 +140,10 @@ impl<'a> Datum<'a> {
         }
     }
 
-    /// The text if this is a datum of `Shape::Name`, and the empty text otherwise.
+    /// The text if this is a datum of [`Shape::Name`], and the empty text otherwise.
+    ///
+    /// [`Shape::Name`]: crate::layers::shapes::Shape::Name
+    #[must_use]
     #[inline(always)]
     pub fn text_or_empty(self) -> &'a str {
         match self {
@@ -94,7 +152,12 @@ impl<'a> Datum<'a> {
         }
     }
 
-    /// The address if this is a datum of `Shape::V4` or `Shape::GeneveV4`, and 0.0.0.0 otherwise.
+    /// The address if this is a datum of [`Shape::V4`] or [`Shape::GeneveV4`], and 0.0.0.0
+    /// otherwise.
+    ///
+    /// [`Shape::V4`]: crate::layers::shapes::Shape::V4
+    /// [`Shape::GeneveV4`]: crate::layers::shapes::Shape::GeneveV4
+    #[must_use]
     #[inline(always)]
     pub fn ipv4_or_unspecified(self) -> Ipv4Addr {
         match self {
@@ -103,7 +166,11 @@ impl<'a> Datum<'a> {
         }
     }
 
-    /// The address if this is a datum of `Shape::V6` or `Shape::GeneveV6`, and `::` otherwise.
+    /// The address if this is a datum of [`Shape::V6`] or [`Shape::GeneveV6`], and `::` otherwise.
+    ///
+    /// [`Shape::V6`]: crate::layers::shapes::Shape::V6
+    /// [`Shape::GeneveV6`]: crate::layers::shapes::Shape::GeneveV6
+    #[must_use]
     #[inline(always)]
     pub fn ipv6_or_unspecified(self) -> Ipv6Addr {
         match self {
@@ -112,7 +179,10 @@ impl<'a> Datum<'a> {
         }
     }
 
-    /// The address if this is a datum of `Shape::Ip`, and `::` otherwise.
+    /// The address if this is a datum of [`Shape::Ip`], and `::` otherwise.
+    ///
+    /// [`Shape::Ip`]: crate::layers::shapes::Shape::Ip
+    #[must_use]
     #[inline(always)]
     pub fn ip_or_unspecified(self) -> IpAddr {
         match self {
@@ -122,7 +192,10 @@ impl<'a> Datum<'a> {
         }
     }
 
-    /// The hardware address if this is a datum of `Shape::Mac`, and six zeros otherwise.
+    /// The hardware address if this is a datum of [`Shape::Mac`], and six zeros otherwise.
+    ///
+    /// [`Shape::Mac`]: crate::layers::shapes::Shape::Mac
+    #[must_use]
     #[inline(always)]
     pub fn mac_or_zeros(self) -> [u8; 6] {
         match self {
@@ -131,7 +204,10 @@ impl<'a> Datum<'a> {
         }
     }
 
-    /// The two numbers if this is a datum of `Shape::BePair`, and two zeros otherwise.
+    /// The two numbers if this is a datum of [`Shape::BePair`], and two zeros otherwise.
+    ///
+    /// [`Shape::BePair`]: crate::layers::shapes::Shape::BePair
+    #[must_use]
     #[inline(always)]
     pub fn u16_pair_or_zeros(self) -> (u16, u16) {
         match self {
@@ -142,7 +218,10 @@ impl<'a> Datum<'a> {
         }
     }
 
-    /// Flags and mask if this is a datum of `Shape::FlagPair`, and two zeros otherwise.
+    /// Flags and mask if this is a datum of [`Shape::FlagPair`], and two zeros otherwise.
+    ///
+    /// [`Shape::FlagPair`]: crate::layers::shapes::Shape::FlagPair
+    #[must_use]
     #[inline(always)]
     pub fn u32_pair_or_zeros(self) -> (u32, u32) {
         match self {
@@ -151,7 +230,10 @@ impl<'a> Datum<'a> {
         }
     }
 
-    /// The byte if this is a datum of `Shape::EmptyOrByte` with one, and `None` otherwise.
+    /// The byte if this is a datum of [`Shape::EmptyOrByte`] with one, and `None` otherwise.
+    ///
+    /// [`Shape::EmptyOrByte`]: crate::layers::shapes::Shape::EmptyOrByte
+    #[must_use]
     #[inline(always)]
     pub fn byte_or_none(self) -> Option<u8> {
         match self {
@@ -160,7 +242,10 @@ impl<'a> Datum<'a> {
         }
     }
 
-    /// The bytes if this is a datum of `Shape::Raw`, and no bytes otherwise.
+    /// The bytes if this is a datum of [`Shape::Raw`], and no bytes otherwise.
+    ///
+    /// [`Shape::Raw`]: crate::layers::shapes::Shape::Raw
+    #[must_use]
     #[inline(always)]
     pub fn bytes_or_empty(self) -> &'a [u8] {
         match self {

@@ -1,3 +1,5 @@
+// @generated from crates/linkinfo_shapes/src/lib.rt by rust/translate/run.
+
 //! Shapes, the layouts of payloads: what bytes mean under each shape, and what is written for a
 //! datum. Also which payloads are equivalent, and which shape each attribute of a link info family
 //! has.

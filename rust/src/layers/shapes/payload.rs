@@ -1,3 +1,5 @@
+// @generated from crates/linkinfo_shapes/src/payload.rt by rust/translate/run.
+
 //! Checks, reads, compares, measures and writes payloads, by shape.
 
 use crate::layers::nla_frame::{Cause, fitting, without_nul};
@@ -9,13 +11,16 @@ use crate::layers::shapes::writers::*;
 /// Returns whether the shape accepts the payload, and the cause if not. Does not allocate, and
 /// looks at the contents of names only, otherwise at lengths.
 ///
-/// Requires a shape other than `Shape::SelfList` and `Shape::Peer`, whose payloads the family reads
-/// itself.
+/// Requires a shape other than [`Shape::SelfList`] and [`Shape::Peer`], whose payloads the family
+/// reads itself.
 ///
 /// # Panics
 ///
 /// May panic where a condition of the caller that is named here does not hold. Where it does
 /// not panic then, the result has no meaning.
+///
+/// [`Shape::SelfList`]: crate::layers::shapes::Shape::SelfList
+/// [`Shape::Peer`]: crate::layers::shapes::Shape::Peer
 #[inline(always)]
 pub fn shape_check(shape: Shape, payload: &[u8]) -> Result<(), Cause> {
     match accepted_len(shape) {
@@ -103,12 +108,15 @@ fn check_name(payload: &[u8]) -> Result<(), Cause> {
 /// Reads the payload under the shape; returns the datum, or why the payload is rejected. Does not
 /// allocate: text and bytes are borrowed from the payload.
 ///
-/// Requires a shape other than `Shape::SelfList` and `Shape::Peer`.
+/// Requires a shape other than [`Shape::SelfList`] and [`Shape::Peer`].
 ///
 /// # Panics
 ///
 /// May panic where a condition of the caller that is named here does not hold. Where it does
 /// not panic then, the result has no meaning.
+///
+/// [`Shape::SelfList`]: crate::layers::shapes::Shape::SelfList
+/// [`Shape::Peer`]: crate::layers::shapes::Shape::Peer
 #[inline(always)]
 pub fn read_datum(shape: Shape, payload: &[u8]) -> Result<Datum<'_>, Cause> {
     match shape {
@@ -141,13 +149,17 @@ pub fn read_datum(shape: Shape, payload: &[u8]) -> Result<Datum<'_>, Cause> {
 
 /// Whether two payloads are equivalent: they have equal data under the shape. Does not allocate.
 ///
-/// Requires a shape other than `Shape::SelfList` and `Shape::Peer`, and two payloads that the shape
-/// accepts.
+/// Requires a shape other than [`Shape::SelfList`] and [`Shape::Peer`], and two payloads that the
+/// shape accepts.
 ///
 /// # Panics
 ///
 /// May panic where a condition of the caller that is named here does not hold. Where it does
 /// not panic then, the result has no meaning.
+///
+/// [`Shape::SelfList`]: crate::layers::shapes::Shape::SelfList
+/// [`Shape::Peer`]: crate::layers::shapes::Shape::Peer
+#[must_use]
 #[inline(always)]
 pub fn shape_same(shape: Shape, a: &[u8], b: &[u8]) -> bool {
     is_alike(shape, a, b)
@@ -184,6 +196,7 @@ fn is_zero(payload: &[u8]) -> bool {
 ///
 /// May panic where a condition of the caller that is named here does not hold. Where it does
 /// not panic then, the result has no meaning.
+#[must_use]
 #[inline(always)]
 pub fn datum_len(shape: Shape, datum: &Datum<'_>) -> Option<usize> {
     fitting(written_len(shape, datum))
@@ -225,12 +238,14 @@ fn variable_len(datum: &Datum<'_>) -> usize {
 }
 
 /// Writes the payload of the datum. Requires a datum of the shape, and that the buffer has exactly
-/// the length that `datum_len` returns.
+/// the length that [`datum_len`] returns.
 ///
 /// # Panics
 ///
 /// May panic where a condition of the caller that is named here does not hold. Where it does
 /// not panic then, the result has no meaning.
+///
+/// [`datum_len`]: crate::layers::shapes::datum_len
 #[inline(always)]
 pub fn write_datum(shape: Shape, datum: &Datum<'_>, buffer: &mut [u8]) {
     match shape {

@@ -1,3 +1,5 @@
+// @generated from crates/linkinfo_shapes/src/readers.rt by rust/translate/run.
+
 //! One reader per shape: the datum of a payload, or why the payload is rejected.
 
 use crate::layers::nla_frame::{

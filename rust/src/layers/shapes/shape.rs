@@ -1,3 +1,5 @@
+// @generated from crates/linkinfo_shapes/src/shape.rt by rust/translate/run.
+
 //! Shapes: the layouts of payloads.
 
 use crate::layers::nla_frame::ExactEq;
@@ -7,7 +9,7 @@ use crate::layers::nla_frame::ExactEq;
 ///
 /// A payload of another length is rejected with the cause `Length`, unless noted otherwise. Numbers
 /// that the kernel writes in native byte order are little-endian.
-#[derive(Clone, Copy, Debug, PartialEq, Eq)]
+#[derive(Clone, Copy, Debug, PartialEq, Eq, Hash, PartialOrd, Ord)]
 pub enum Shape {
     /// One byte, an unsigned number (`nla_get_u8`).
     U8,
@@ -70,8 +72,12 @@ pub enum Shape {
 }
 
 impl Shape {
-    /// Whether this crate reads payloads of the shape: true for every shape but `SelfList` and
-    /// `Peer`, whose payloads the family reads itself.
+    /// Whether this crate reads payloads of the shape: true for every shape but [`SelfList`] and
+    /// [`Peer`], whose payloads the family reads itself.
+    ///
+    /// [`SelfList`]: crate::layers::shapes::Shape::SelfList
+    /// [`Peer`]: crate::layers::shapes::Shape::Peer
+    #[must_use]
     pub fn is_plain(self) -> bool {
         !matches!(self, Shape::SelfList | Shape::Peer)
     }

@@ -1,3 +1,5 @@
+// @generated from crates/linkinfo_shapes/src/table.rt by rust/translate/run.
+
 //! The shape of each attribute: one table for all families.
 
 use crate::layers::nla_frame::Family;
@@ -5,10 +7,15 @@ use crate::layers::shapes::shape::Shape;
 
 /// The shape of a family's attribute, by its type without the two flag bits.
 ///
-/// `None` if the family has no row for that type, and for `Family::Frame` and `Family::LinkInfo`.
-/// Also `None` for type 8 of `Family::IpTunnel` (`IFLA_IPTUN_FLAGS`), whose shape depends on the
-/// kind of the link. The types are those of include/uapi/linux/if_link.h unless another file is
-/// named.
+/// `None` if the family has no row for that type, and for [`Family::Frame`] and
+/// [`Family::LinkInfo`]. Also `None` for type 8 of [`Family::IpTunnel`] (`IFLA_IPTUN_FLAGS`), whose
+/// shape depends on the kind of the link. The types are those of include/uapi/linux/if_link.h
+/// unless another file is named.
+///
+/// [`Family::Frame`]: crate::layers::nla_frame::Family::Frame
+/// [`Family::LinkInfo`]: crate::layers::nla_frame::Family::LinkInfo
+/// [`Family::IpTunnel`]: crate::layers::nla_frame::Family::IpTunnel
+#[must_use]
 #[inline(always)]
 pub fn table_shape(family: Family, kind: u16) -> Option<Shape> {
     match family {

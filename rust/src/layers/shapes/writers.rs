@@ -1,3 +1,5 @@
+// @generated from crates/linkinfo_shapes/src/writers.rt by rust/translate/run.
+
 //! One writer per shape: the canonical payload of a datum.
 
 use crate::layers::nla_frame::{

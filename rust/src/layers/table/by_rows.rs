@@ -1,8 +1,10 @@
+// @generated from crates/linkinfo_table/src/by_rows.rt by rust/translate/run.
+
 //! Reads and writes values by one list of rows.
 //!
 //! A family defines its list as a macro, with an entry for each row of its table:
 //!
-//! ```text
+//! ```
 //! macro_rules! rows {
 //!     ($body:ident $given:tt) => {
 //!         $body! { InfoGtp $given;
@@ -25,7 +27,9 @@
 //! A row with a payload that the family reads and writes itself has the word `custom` as its shape.
 //! After the rows, `; else Ipv4Flags` names variants that the family reads and writes before it
 //! consults the list. Types and functions in the list are resolved where the family expands it:
-//! `Flags`, and `Text` for a name, must be in scope there.
+//! `Flags`, and [`Text`] for a name, must be in scope there.
+//!
+//! [`Text`]: crate::layers::nla_frame::Text
 
 /// Stores the decoded value of an attribute, by the rows: `rows!(store_by_rows(slot, decoded))`.
 #[doc(hidden)]
@@ -204,7 +208,9 @@ macro_rules! row_pattern {
     };
 }
 
-/// The `Encodable` of one row's value.
+/// The [`Encodable`] of one row's value.
+///
+/// [`Encodable`]: crate::layers::table::Encodable
 #[doc(hidden)]
 #[macro_export]
 macro_rules! encodable_row {

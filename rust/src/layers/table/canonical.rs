@@ -1,3 +1,5 @@
+// @generated from crates/linkinfo_table/src/canonical.rt by rust/translate/run.
+
 //! Re-encodes accepted attributes canonically by their rows, without building a value.
 
 use crate::layers::nla_frame::{NlaBuffer, fitting, write_bytes_attribute};
@@ -35,6 +37,7 @@ fn written_from<'a, F: RowFamily>(nla: &NlaBuffer<'a>, ctx: F::Context) -> Writt
 ///
 /// May panic where a condition of the caller that is named here does not hold. Where it does
 /// not panic then, the result has no meaning.
+#[must_use]
 #[inline(always)]
 pub fn row_canonical_len<F: RowFamily>(nla: &NlaBuffer<'_>, ctx: F::Context) -> Option<usize> {
     match written_from::<F>(nla, ctx) {

@@ -1,3 +1,5 @@
+// @generated from crates/linkinfo_table/src/decoded.rt by rust/translate/run.
+
 //! What a value is built from.
 
 use crate::layers::nla_frame::DefaultNla;

@@ -1,3 +1,5 @@
+// @generated from crates/linkinfo_table/src/family.rt by rust/translate/run.
+
 //! Families of attributes: how the attributes of one kind of data are read, checked, compared and
 //! written.
 
@@ -51,12 +53,14 @@ pub trait LinkFamily: Nla + Sized {
         Ok(())
     }
 
-    /// Checks whether `read` would succeed, and returns the error if not. Does not allocate.
+    /// Checks whether [`read`] would succeed, and returns the error if not. Does not allocate.
     ///
     /// # Panics
     ///
     /// May panic where a condition of the caller that is named here does not hold. Where it does
     /// not panic then, the result has no meaning.
+    ///
+    /// [`read`]: crate::layers::table::LinkFamily::read
     fn check_value(
         nla: &NlaBuffer<'_>,
         ctx: Self::Context,

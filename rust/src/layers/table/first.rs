@@ -1,3 +1,5 @@
+// @generated from crates/linkinfo_table/src/first.rt by rust/translate/run.
+
 //! Calls on the first attribute of a byte string alone. They do not examine what follows it.
 
 use crate::compat::NextMultiple;
@@ -31,12 +33,14 @@ pub fn first_read<F: LinkFamily>(
     }
 }
 
-/// Checks whether `first_read` would succeed, and returns the error if not. Does not allocate.
+/// Checks whether [`first_read`] would succeed, and returns the error if not. Does not allocate.
 ///
 /// # Panics
 ///
 /// May panic where a condition of the caller that is named here does not hold. Where it does
 /// not panic then, the result has no meaning.
+///
+/// [`first_read`]: crate::layers::table::first_read
 pub fn first_check<F: LinkFamily>(
     bytes: &[u8],
     ctx: F::Context,
@@ -67,10 +71,12 @@ pub fn first_same<F: LinkFamily>(
     F::same_value(&p, &q, ctx, count)
 }
 
-/// Validates the first attribute as `first_check` does, and measures it in the same pass. The error
-/// is that of `first_check`. Of an accepted attribute the result is the length of the canonical
-/// encoding of its value, or `None` above 65531, the maximum length of a payload. Does not
-/// allocate.
+/// Validates the first attribute as [`first_check`] does, and measures it in the same pass. The
+/// error is that of [`first_check`]. Of an accepted attribute the result is the length of the
+/// canonical encoding of its value, or `None` above 65531, the maximum length of a payload. Does
+/// not allocate.
+///
+/// [`first_check`]: crate::layers::table::first_check
 pub fn first_measure<F: LinkFamily>(
     bytes: &[u8],
     ctx: F::Context,

@@ -1,4 +1,8 @@
-//! A family in which each row has a shape of the table is a `LinkFamily`.
+// @generated from crates/linkinfo_table/src/flat.rt by rust/translate/run.
+
+//! A family in which each row has a shape of the table is a [`LinkFamily`].
+//!
+//! [`LinkFamily`]: crate::layers::table::LinkFamily
 
 use crate::layers::nla_frame::{DecodeError, Family, HeaderCount, NlaBuffer};
 use crate::layers::table::canonical::{row_canonical_len, row_write_canonical};

@@ -1,3 +1,5 @@
+// @generated from crates/linkinfo_table/src/last.rt by rust/translate/run.
+
 //! The last attribute of each type in a list: the one that the kernel reads.
 
 use crate::layers::nla_frame::{ExactEq, HeaderCount, NlaBuffer, next_attribute};
@@ -27,6 +29,7 @@ pub struct LastOfType<'a> {
 
 impl<'a> LastOfType<'a> {
     /// The index of a byte string for `INDEXED` types, `first` and those after it, in one pass.
+    #[must_use]
     pub fn new(source: &'a [u8], first: u16) -> LastOfType<'a> {
         let mut offsets = [None; INDEXED as usize];
         let mut count = HeaderCount::new();
@@ -46,12 +49,14 @@ impl<'a> LastOfType<'a> {
 
     /// The offset of the last attribute of a type, or `None` where there is none, or where the type
     /// has no entry.
+    #[must_use]
     pub fn offset(&self, kind: u16) -> Option<usize> {
         let entry = entry_of(self.first, kind)?;
         self.offsets[entry]
     }
 
     /// The last attribute of a type, or `None` where there is none, or where the type has no entry.
+    #[must_use]
     pub fn find(&self, kind: u16) -> Option<PlacedNla<'a>> {
         let offset = self.offset(kind)?;
         Some(placed_at(self.source, offset))
@@ -69,6 +74,7 @@ fn entry_of(first: u16, kind: u16) -> Option<usize> {
 
 /// The least number above all types of the attributes of a byte string, without their flags, up to
 /// a damaged header: 0 where there is no attribute, and at most 16,384.
+#[must_use]
 pub fn types_end(source: &[u8]) -> u16 {
     let mut end = 0;
     let mut count = HeaderCount::new();
@@ -98,6 +104,7 @@ fn placed_at<'a>(source: &'a [u8], offset: usize) -> PlacedNla<'a> {
 ///
 /// May panic where a condition of the caller that is named here does not hold. Where it does
 /// not panic then, the result has no meaning.
+#[must_use]
 pub fn own_bytes<'a>(source: &'a [u8], placed: &PlacedNla<'_>) -> &'a [u8] {
     let end = placed.offset + placed.nla.length() as usize;
     &source[placed.offset..end]

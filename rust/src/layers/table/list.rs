@@ -1,3 +1,5 @@
+// @generated from crates/linkinfo_table/src/list.rt by rust/translate/run.
+
 //! Lists of attributes of one family.
 
 use crate::compat::NextMultiple;
@@ -44,12 +46,14 @@ pub fn list_read<F: LinkFamily>(
     Ok(items)
 }
 
-/// Checks whether `list_read` would succeed, and returns the error if not. Does not allocate.
+/// Checks whether [`list_read`] would succeed, and returns the error if not. Does not allocate.
 ///
 /// # Panics
 ///
 /// May panic where a condition of the caller that is named here does not hold. Where it does
 /// not panic then, the result has no meaning.
+///
+/// [`list_read`]: crate::layers::table::list_read
 pub fn list_check<F: LinkFamily>(
     bytes: &[u8],
     ctx: F::Context,
@@ -99,12 +103,14 @@ fn pairs_same<F: LinkFamily>(a: &[u8], b: &[u8], ctx: F::Context, count: &mut He
     next_attribute(y, count).is_none()
 }
 
-/// Validates a list as `list_check` does, and measures it in the same pass. The error is that of
+/// Validates a list as [`list_check`] does, and measures it in the same pass. The error is that of
 /// the list. Of an accepted list the result is the length of its canonical encoding, or `None`
 /// above 65531, the maximum length of a payload.
 ///
 /// An attribute that does not fit does not end the pass, since a later one may be rejected. Does
 /// not allocate.
+///
+/// [`list_check`]: crate::layers::table::list_check
 pub fn list_measure<F: LinkFamily>(
     bytes: &[u8],
     ctx: F::Context,
@@ -132,6 +138,7 @@ pub fn list_measure<F: LinkFamily>(
 ///
 /// May panic where a condition of the caller that is named here does not hold. Where it does
 /// not panic then, the result has no meaning.
+#[must_use]
 #[inline(always)]
 pub fn total_with(total: Option<usize>, len: Option<usize>) -> Option<usize> {
     total?.checked_add(4 + len?.next_multiple_of_four())

@@ -1,7 +1,11 @@
-//! The names of `layers::lower`: attributes of `bond`, `bridge`, `vlan`, `can`, `hsr` and `dsa`
+// @generated from crates/linkinfo_table/src/lower.rt by rust/translate/run.
+
+//! The names of [`layers::lower`]: attributes of `bond`, `bridge`, `vlan`, `can`, `hsr` and `dsa`
 //! links, and of ports of bonds and bridges, which are opaque.
 //!
 //! They are defined here, so that the crates above need not wait for a crate of their own.
+//!
+//! [`layers::lower`]: crate::layers::lower
 
 use crate::layers::table::opaque::{
     BOND, BOND_PORT, BRIDGE, BRIDGE_PORT, CAN, DSA, HSR, Opaque, VLAN,

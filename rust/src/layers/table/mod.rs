@@ -1,3 +1,5 @@
+// @generated from crates/linkinfo_table/src/lib.rt by rust/translate/run.
+
 //! Families of link info attributes: rows, lists and peers.
 
 mod by_rows;

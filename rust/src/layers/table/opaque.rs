@@ -1,3 +1,5 @@
+// @generated from crates/linkinfo_table/src/opaque.rt by rust/translate/run.
+
 //! Families without rows: each of their attributes is opaque.
 
 use crate::compat::AllocError;
@@ -50,8 +52,10 @@ pub const WIREGUARD: u8 = 12;
 /// of its type included.
 ///
 /// `NUMBER` selects the family, by the constants from `BOND` on. Any other number selects
-/// `Family::Frame`, and has no name.
-#[derive(Debug, PartialEq, Eq, Clone)]
+/// [`Family::Frame`], and has no name.
+///
+/// [`Family::Frame`]: crate::layers::nla_frame::Family::Frame
+#[derive(Debug, PartialEq, Eq, Hash, PartialOrd, Ord, Clone)]
 pub enum Opaque<const NUMBER: u8> {
     /// An opaque attribute of any type.
     Other(DefaultNla),

@@ -1,9 +1,11 @@
+// @generated from crates/linkinfo_table/src/peer.rt by rust/translate/run.
+
 //! Peers, of a type that the layer above supplies.
 
 use crate::layers::nla_frame::{Bytes, ExactEq, fitting, write_bytes};
 
 /// Why a peer was not read.
-#[derive(Clone, Copy, Debug, PartialEq, Eq)]
+#[derive(Clone, Copy, Debug, PartialEq, Eq, Hash, PartialOrd, Ord)]
 pub enum PeerFault {
     /// The payload is rejected.
     Refused,

@@ -1,3 +1,5 @@
+// @generated from crates/linkinfo_table/src/row_family.rt by rust/translate/run.
+
 //! Families defined by rows.
 
 use crate::compat::AllocError;
@@ -41,5 +43,7 @@ pub trait RowFamily: Sized {
 }
 
 /// A family in which each row has a shape of the table, and that writes its attributes as its rows
-/// define them. It is a `LinkFamily` by its rows.
+/// define them. It is a [`LinkFamily`] by its rows.
+///
+/// [`LinkFamily`]: crate::layers::table::LinkFamily
 pub trait FlatFamily: RowFamily + Nla {}

@@ -1,3 +1,5 @@
+// @generated from crates/linkinfo_table/src/rows.rt by rust/translate/run.
+
 //! The calls of families defined by rows.
 
 use crate::layers::nla_frame::{Cause, DecodeError, DefaultNla, Family, Nla, NlaBuffer, Parseable};
@@ -20,6 +22,7 @@ fn error(family: Family, kind: u16, cause: Cause) -> DecodeError {
 }
 
 /// How the table of all families reads a type without flag bits: by its shape, or as opaque.
+#[must_use]
 #[inline(always)]
 pub fn table_lookup(family: Family, kind: u16) -> Lookup {
     match table_shape(family, kind) {
@@ -70,13 +73,15 @@ pub fn row_read<F: RowFamily>(nla: &NlaBuffer<'_>, ctx: F::Context) -> Result<F,
     }
 }
 
-/// Checks whether `row_read` would succeed, and returns the error if not. Does not allocate.
+/// Checks whether [`row_read`] would succeed, and returns the error if not. Does not allocate.
 /// Requires that the family does not read the payload itself.
 ///
 /// # Panics
 ///
 /// May panic where a condition of the caller that is named here does not hold. Where it does
 /// not panic then, the result has no meaning.
+///
+/// [`row_read`]: crate::layers::table::row_read
 #[inline(always)]
 pub fn row_check<F: RowFamily>(nla: &NlaBuffer<'_>, ctx: F::Context) -> Result<(), DecodeError> {
     let kind = nla.kind();
@@ -99,6 +104,7 @@ pub fn row_check<F: RowFamily>(nla: &NlaBuffer<'_>, ctx: F::Context) -> Result<(
 ///
 /// May panic where a condition of the caller that is named here does not hold. Where it does
 /// not panic then, the result has no meaning.
+#[must_use]
 #[inline(always)]
 pub fn row_same<F: RowFamily>(a: &NlaBuffer<'_>, b: &NlaBuffer<'_>, ctx: F::Context) -> bool {
     match F::shape(ctx, a.kind()) {
@@ -124,6 +130,7 @@ fn kept_same(a: &NlaBuffer<'_>, b: &NlaBuffer<'_>) -> bool {
 ///
 /// May panic where a condition of the caller that is named here does not hold. Where it does
 /// not panic then, the result has no meaning.
+#[must_use]
 #[inline(always)]
 pub fn row_kind<F: RowFamily>(value: &F) -> u16 {
     match value.to_encodable() {
@@ -140,6 +147,7 @@ pub fn row_kind<F: RowFamily>(value: &F) -> u16 {
 ///
 /// May panic where a condition of the caller that is named here does not hold. Where it does
 /// not panic then, the result has no meaning.
+#[must_use]
 #[inline(always)]
 pub fn row_fit_len<F: RowFamily>(value: &F) -> Option<usize> {
     match value.to_encodable() {
@@ -156,6 +164,7 @@ pub fn row_fit_len<F: RowFamily>(value: &F) -> Option<usize> {
 ///
 /// May panic where a condition of the caller that is named here does not hold. Where it does
 /// not panic then, the result has no meaning.
+#[must_use]
 #[inline(always)]
 pub fn row_value_len<F: RowFamily>(value: &F) -> usize {
     match row_fit_len(value) {

@@ -1,3 +1,5 @@
+// @generated from crates/linkinfo_table/src/slot.rt by rust/translate/run.
+
 //! Where a decoded value is stored.
 
 use crate::compat::AllocError;

@@ -1,3 +1,5 @@
+// @generated from crates/linkinfo_tunnels/src/amt.rt by rust/translate/run.
+
 //! AMT tunnels.
 
 use crate::compat::AllocError;
@@ -13,7 +15,7 @@ use core::net::IpAddr;
 
 /// An attribute in the data of an `amt` link, an Automatic Multicast Tunneling interface
 /// (include/uapi/linux/amt.h).
-#[derive(Debug, PartialEq, Eq, Clone)]
+#[derive(Debug, PartialEq, Eq, Hash, PartialOrd, Ord, Clone)]
 pub enum InfoAmt {
     /// Mode, gateway or relay (`IFLA_AMT_MODE`), little-endian.
     Mode(AmtMode),

@@ -1,3 +1,5 @@
+// @generated from crates/linkinfo_tunnels/src/bare_udp.rt by rust/translate/run.
+
 //! Bare UDP tunnels.
 
 use crate::compat::AllocError;
@@ -11,7 +13,7 @@ use crate::layers::table::{
 };
 
 /// An attribute in the data of a `bareudp` link, a bare UDP tunnel (include/uapi/linux/if_link.h).
-#[derive(Debug, PartialEq, Eq, Clone)]
+#[derive(Debug, PartialEq, Eq, Hash, PartialOrd, Ord, Clone)]
 pub enum InfoBareUdp {
     /// UDP destination port (`IFLA_BAREUDP_PORT`), big-endian.
     Port(u16),
@@ -19,8 +21,10 @@ pub enum InfoBareUdp {
     Ethertype(EthernetProtocol),
     /// Lowest UDP source port (`IFLA_BAREUDP_SRCPORT_MIN`), little-endian.
     SrcPortMin(u16),
-    /// Multiprotocol mode: protocols related to `Ethertype` are tunneled too
+    /// Multiprotocol mode: protocols related to [`Ethertype`] are tunneled too
     /// (`IFLA_BAREUDP_MULTIPROTO_MODE`), a presence flag.
+    ///
+    /// [`Ethertype`]: crate::layers::tunnels::InfoBareUdp::Ethertype
     MultiprotoMode,
     /// An opaque attribute, of a type that has no variant here, kept verbatim.
     Other(DefaultNla),

@@ -1,3 +1,5 @@
+// @generated from crates/linkinfo_tunnels/src/geneve.rt by rust/translate/run.
+
 //! Geneve tunnels.
 
 use crate::compat::AllocError;
@@ -12,7 +14,7 @@ use crate::layers::table::{
 use core::net::{Ipv4Addr, Ipv6Addr};
 
 /// An attribute in the data of a `geneve` link, a Geneve tunnel (include/uapi/linux/if_link.h).
-#[derive(Debug, PartialEq, Eq, Clone)]
+#[derive(Debug, PartialEq, Eq, Hash, PartialOrd, Ord, Clone)]
 pub enum InfoGeneve {
     /// VNI, 24 bits (`IFLA_GENEVE_ID`), little-endian.
     Id(u32),

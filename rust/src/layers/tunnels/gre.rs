@@ -1,3 +1,5 @@
+// @generated from crates/linkinfo_tunnels/src/gre.rt by rust/translate/run.
+
 //! GRE tunnels over IPv4.
 
 use crate::compat::AllocError;
@@ -14,7 +16,7 @@ use core::net::Ipv4Addr;
 
 /// An attribute in the data of a `gre`, `gretap` or `erspan` link, a GRE tunnel over IPv4
 /// (include/uapi/linux/if_tunnel.h).
-#[derive(Debug, PartialEq, Eq, Clone)]
+#[derive(Debug, PartialEq, Eq, Hash, PartialOrd, Ord, Clone)]
 pub enum InfoGre {
     /// Interface index of the underlying device (`IFLA_GRE_LINK`), little-endian.
     Link(u32),

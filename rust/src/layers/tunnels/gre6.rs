@@ -1,3 +1,5 @@
+// @generated from crates/linkinfo_tunnels/src/gre6.rt by rust/translate/run.
+
 //! GRE tunnels over IPv6.
 
 use crate::compat::AllocError;
@@ -14,7 +16,7 @@ use core::net::Ipv6Addr;
 
 /// An attribute in the data of an `ip6gre`, `ip6gretap` or `ip6erspan` link, a GRE tunnel over IPv6
 /// (include/uapi/linux/if_tunnel.h).
-#[derive(Debug, PartialEq, Eq, Clone)]
+#[derive(Debug, PartialEq, Eq, Hash, PartialOrd, Ord, Clone)]
 pub enum InfoGre6 {
     /// Interface index of the underlying device (`IFLA_GRE_LINK`), little-endian.
     Link(u32),

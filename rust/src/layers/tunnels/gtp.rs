@@ -1,3 +1,5 @@
+// @generated from crates/linkinfo_tunnels/src/gtp.rt by rust/translate/run.
+
 //! GTP tunnels.
 
 use crate::compat::AllocError;
@@ -12,7 +14,7 @@ use crate::layers::table::{
 use core::net::{Ipv4Addr, Ipv6Addr};
 
 /// An attribute in the data of a `gtp` link, a GTP device (include/uapi/linux/if_link.h).
-#[derive(Debug, PartialEq, Eq, Clone)]
+#[derive(Debug, PartialEq, Eq, Hash, PartialOrd, Ord, Clone)]
 pub enum InfoGtp {
     /// File descriptor of the GTPv0 socket (`IFLA_GTP_FD0`), little-endian.
     Fd0(u32),

@@ -1,3 +1,5 @@
+// @generated from crates/linkinfo_tunnels/src/ip_tunnel.rt by rust/translate/run.
+
 //! IP tunnels.
 
 use crate::compat::AllocError;
@@ -19,7 +21,7 @@ const IFLA_IPTUN_FLAGS: u16 = 8;
 
 /// An attribute in the data of an `ipip`, `sit` or `ip6tnl` link, an IP tunnel
 /// (include/uapi/linux/if_tunnel.h).
-#[derive(Debug, PartialEq, Eq, Clone)]
+#[derive(Debug, PartialEq, Eq, Hash, PartialOrd, Ord, Clone)]
 pub enum InfoIpTunnel {
     /// Interface index of the underlying device (`IFLA_IPTUN_LINK`), little-endian.
     Link(u32),

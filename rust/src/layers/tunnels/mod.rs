@@ -1,3 +1,5 @@
+// @generated from crates/linkinfo_tunnels/src/lib.rt by rust/translate/run.
+
 //! Attributes of tunnels: `vxlan`, `geneve`, `gre`, `gretap`, `erspan`, `ip6gre`, `ip6gretap`,
 //! `ip6erspan`, `ipip`, `sit`, `ip6tnl`, `vti`, `vti6`, `gtp`, `amt` and `bareudp` links.
 

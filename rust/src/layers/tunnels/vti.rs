@@ -1,3 +1,5 @@
+// @generated from crates/linkinfo_tunnels/src/vti.rt by rust/translate/run.
+
 //! VTI tunnels.
 
 use crate::compat::AllocError;
@@ -12,7 +14,7 @@ use core::net::IpAddr;
 
 /// An attribute in the data of a `vti` or `vti6` link, a VTI tunnel
 /// (include/uapi/linux/if_tunnel.h).
-#[derive(Debug, PartialEq, Eq, Clone)]
+#[derive(Debug, PartialEq, Eq, Hash, PartialOrd, Ord, Clone)]
 pub enum InfoVti {
     /// Interface index of the underlying device (`IFLA_VTI_LINK`), little-endian.
     Link(u32),

@@ -1,3 +1,5 @@
+// @generated from crates/linkinfo_tunnels/src/vxlan.rt by rust/translate/run.
+
 //! VXLAN tunnels.
 
 use crate::compat::AllocError;
@@ -12,7 +14,7 @@ use crate::layers::table::{
 use core::net::{Ipv4Addr, Ipv6Addr};
 
 /// An attribute in the data of a `vxlan` link, a VXLAN tunnel (include/uapi/linux/if_link.h).
-#[derive(Debug, PartialEq, Eq, Clone)]
+#[derive(Debug, PartialEq, Eq, Hash, PartialOrd, Ord, Clone)]
 pub enum InfoVxlan {
     /// VNI, 24 bits (`IFLA_VXLAN_ID`), little-endian.
     Id(u32),

@@ -1,3 +1,5 @@
+// @generated from crates/linkinfo_families_tests/src/tests/bare_udp.rt by rust/translate/run.
+
 //! Rows of bare UDP tunnels.
 
 use super::rows::{

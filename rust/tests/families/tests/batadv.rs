@@ -1,3 +1,5 @@
+// @generated from crates/linkinfo_families_tests/src/tests/batadv.rt by rust/translate/run.
+
 //! Rows of `batadv` links.
 
 use super::rows::{

@@ -1,3 +1,5 @@
+// @generated from crates/linkinfo_families_tests/src/tests/bit.rt by rust/translate/run.
+
 //! Peers of one bit. The other tests call the families with a peer with both types of peer.
 
 use super::rows::assert_is;

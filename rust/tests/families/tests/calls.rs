@@ -1,3 +1,5 @@
+// @generated from crates/linkinfo_families_tests/src/tests/calls.rt by rust/translate/run.
+
 //! The calls that a family defined by rows is made of, each with the family `xfrm`: reading,
 //! checking, comparing and writing by the row of a type, and the slots for values.
 

@@ -1,3 +1,5 @@
+// @generated from crates/linkinfo_families_tests/src/tests/encodables.rt by rust/translate/run.
+
 //! The canonical attributes of values, by a function for each shape.
 
 use super::rows::is_text;

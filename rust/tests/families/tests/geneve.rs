@@ -1,3 +1,5 @@
+// @generated from crates/linkinfo_families_tests/src/tests/geneve.rt by rust/translate/run.
+
 //! Rows of Geneve tunnels.
 
 use super::rows::{

@@ -1,3 +1,5 @@
+// @generated from crates/linkinfo_families_tests/src/tests/gre.rt by rust/translate/run.
+
 //! Rows of GRE tunnels over IPv4.
 
 use super::rows::{

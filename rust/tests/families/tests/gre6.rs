@@ -1,3 +1,5 @@
+// @generated from crates/linkinfo_families_tests/src/tests/gre6.rt by rust/translate/run.
+
 //! Rows of GRE tunnels over IPv6.
 
 use super::rows::{

@@ -1,3 +1,5 @@
+// @generated from crates/linkinfo_families_tests/src/tests/gtp.rt by rust/translate/run.
+
 //! Rows of GTP tunnels.
 
 use super::rows::{HasExample, HoldsOthers, UNLISTED, has_rows, has_rows_and_others, is_list};

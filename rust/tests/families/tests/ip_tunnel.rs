@@ -1,3 +1,5 @@
+// @generated from crates/linkinfo_families_tests/src/tests/ip_tunnel.rt by rust/translate/run.
+
 //! Rows of IP tunnels, and their flags by the kind of the link.
 
 use super::rows::{

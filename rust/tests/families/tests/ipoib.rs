@@ -1,3 +1,5 @@
+// @generated from crates/linkinfo_families_tests/src/tests/ipoib.rt by rust/translate/run.
+
 //! Rows of `ipoib` links.
 
 use super::rows::{HasExample, HoldsOthers, UNLISTED, has_rows_and_others, is_list};

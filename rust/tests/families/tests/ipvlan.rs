@@ -1,3 +1,5 @@
+// @generated from crates/linkinfo_families_tests/src/tests/ipvlan.rt by rust/translate/run.
+
 //! Rows of `ipvlan` and `ipvtap` links.
 
 use super::rows::{HasExample, HoldsOthers, UNLISTED, has_rows_and_others, is_list};

@@ -1,3 +1,5 @@
+// @generated from crates/linkinfo_families_tests/src/tests/last.rt by rust/translate/run.
+
 //! The last attribute of each type in a byte string, and the bytes of one attribute.
 
 use super::rows::assert_is;

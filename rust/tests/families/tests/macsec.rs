@@ -1,3 +1,5 @@
+// @generated from crates/linkinfo_families_tests/src/tests/macsec.rt by rust/translate/run.
+
 //! Rows of `macsec` links.
 
 use super::rows::{

@@ -1,3 +1,5 @@
+// @generated from crates/linkinfo_families_tests/src/tests/macvlan.rt by rust/translate/run.
+
 //! Rows of `macvlan` and `macvtap` links.
 
 use super::rows::{

@@ -1,3 +1,5 @@
+// @generated from crates/linkinfo_families_tests/src/tests/nested.rt by rust/translate/run.
+
 //! Nested address lists.
 
 use super::rows::{

@@ -1,3 +1,5 @@
+// @generated from crates/linkinfo_families_tests/src/tests/netkit.rt by rust/translate/run.
+
 //! Rows of `netkit` links.
 
 use super::rows::{

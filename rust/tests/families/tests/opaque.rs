@@ -1,3 +1,5 @@
+// @generated from crates/linkinfo_families_tests/src/tests/opaque.rt by rust/translate/run.
+
 //! Families without rows keep every attribute verbatim.
 
 use super::rows::{

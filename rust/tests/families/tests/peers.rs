@@ -1,3 +1,5 @@
+// @generated from crates/linkinfo_families_tests/src/tests/peers.rt by rust/translate/run.
+
 //! Both types of peer in each call of the families with a peer.
 
 use super::rows::{

@@ -1,3 +1,5 @@
+// @generated from crates/linkinfo_families_tests/src/tests/rmnet.rt by rust/translate/run.
+
 //! Rows of `rmnet` links.
 
 use super::rows::{HasExample, HoldsOthers, UNLISTED, has_rows_and_others, is_list, is_rejected};

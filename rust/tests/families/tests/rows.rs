@@ -1,3 +1,5 @@
+// @generated from crates/linkinfo_families_tests/src/tests/rows.rt by rust/translate/run.
+
 //! Assertions on attributes, values and lists for the tests of families.
 
 use crate::support::*;

@@ -1,3 +1,5 @@
+// @generated from crates/linkinfo_families_tests/src/tests/table.rt by rust/translate/run.
+
 //! Peers of bytes; the decoded contents of attributes, and the parts of values.
 
 use super::rows::{assert_is, kept};

@@ -1,3 +1,5 @@
+// @generated from crates/linkinfo_families_tests/src/tests/vlan.rt by rust/translate/run.
+
 //! A custom family: lists of it read, checked, compared and written.
 
 use super::rows::{

@@ -1,3 +1,5 @@
+// @generated from crates/linkinfo_families_tests/src/tests/vti.rt by rust/translate/run.
+
 //! Rows of VTI tunnels.
 
 use super::rows::{HasExample, HoldsOthers, UNLISTED, has_rows, has_rows_and_others};

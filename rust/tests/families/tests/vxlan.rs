@@ -1,3 +1,5 @@
+// @generated from crates/linkinfo_families_tests/src/tests/vxlan.rt by rust/translate/run.
+
 //! Rows of VXLAN tunnels.
 
 use super::rows::{

@@ -1,3 +1,5 @@
+// @generated from crates/linkinfo_families_tests/src/tests/wwan.rt by rust/translate/run.
+
 //! Rows of `wwan` links.
 
 use super::rows::{HasExample, HoldsOthers, UNLISTED, has_rows_and_others, has_shapes, is_list};

@@ -1,3 +1,5 @@
+// @generated from crates/linkinfo_families_tests/src/tests/xfrm.rt by rust/translate/run.
+
 //! Rows of `xfrm` and `vrf` links, and lists and first attributes of a family.
 
 use super::rows::{

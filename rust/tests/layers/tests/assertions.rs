@@ -1,3 +1,5 @@
+// @generated from crates/linkinfo_layers_tests/src/tests/assertions.rt by rust/translate/run.
+
 //! Assertions and values for the tests.
 
 use crate::support::*;

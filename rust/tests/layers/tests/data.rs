@@ -1,3 +1,5 @@
+// @generated from crates/linkinfo_layers_tests/src/tests/data.rt by rust/translate/run.
+
 //! How a family reads data.
 
 use super::assertions::assert_is;

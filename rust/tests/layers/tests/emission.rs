@@ -1,3 +1,5 @@
+// @generated from crates/linkinfo_layers_tests/src/tests/emission.rt by rust/translate/run.
+
 //! Attributes written into buffers.
 
 use super::assertions::{assert_is, copied, kept, kept_list, repeated};

@@ -1,3 +1,5 @@
+// @generated from crates/linkinfo_layers_tests/src/tests/flags.rt by rust/translate/run.
+
 //! Flag sets: the named bits, and every number of their width as a set.
 
 use super::assertions::assert_is;

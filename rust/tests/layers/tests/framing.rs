@@ -1,3 +1,5 @@
+// @generated from crates/linkinfo_layers_tests/src/tests/framing.rt by rust/translate/run.
+
 //! Byte strings and the attributes that they frame.
 
 use super::assertions::{assert_equality, assert_is, attribute, kept_list, repeated};

@@ -1,3 +1,5 @@
+// @generated from crates/linkinfo_layers_tests/src/tests/kinds.rt by rust/translate/run.
+
 //! Link kinds and port kinds: names, tags, attributes.
 
 use super::assertions::{assert_displayed, assert_is, attribute, decode_error, repeated, text_of};

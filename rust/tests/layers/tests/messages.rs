@@ -1,3 +1,5 @@
+// @generated from crates/linkinfo_layers_tests/src/tests/messages.rt by rust/translate/run.
+
 //! Netlink messages and capture files, written as the kernel's headers and the format of pcap say.
 
 use super::assertions::{assert_displayed, assert_is};

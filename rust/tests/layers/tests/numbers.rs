@@ -1,3 +1,5 @@
+// @generated from crates/linkinfo_layers_tests/src/tests/numbers.rt by rust/translate/run.
+
 //! Each number type, converted both ways.
 
 use super::assertions::assert_is;

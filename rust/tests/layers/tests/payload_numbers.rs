@@ -1,3 +1,5 @@
+// @generated from crates/linkinfo_layers_tests/src/tests/payload_numbers.rt by rust/translate/run.
+
 //! Numbers and addresses in payloads.
 
 use super::assertions::assert_is;

@@ -1,3 +1,5 @@
+// @generated from crates/linkinfo_layers_tests/src/tests/payloads.rt by rust/translate/run.
+
 //! Payloads under each shape.
 
 use super::assertions::{assert_is, repeated};

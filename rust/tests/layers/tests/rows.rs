@@ -1,3 +1,5 @@
+// @generated from crates/linkinfo_layers_tests/src/tests/rows.rt by rust/translate/run.
+
 //! The rows of all families.
 
 use super::assertions::assert_is;

@@ -1,3 +1,5 @@
+// @generated from crates/linkinfo_layers_tests/src/tests/values.rt by rust/translate/run.
+
 //! Errors, and values that own memory.
 
 use super::assertions::{

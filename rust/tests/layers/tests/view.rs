@@ -1,3 +1,5 @@
+// @generated from crates/linkinfo_layers_tests/src/tests/view.rt by rust/translate/run.
+
 //! Lists of attributes as JSON. Where a list is one that iproute2 prints, the text is the object
 //! that `ip -d -j link` of version 7.3 prints, with the masks that it hides.
 

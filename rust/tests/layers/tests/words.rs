@@ -1,3 +1,5 @@
+// @generated from crates/linkinfo_layers_tests/src/tests/words.rt by rust/translate/run.
+
 //! Displayed texts of values, and values of texts.
 
 use super::assertions::{assert_displayed, assert_is, decode_error};

@@ -1,3 +1,5 @@
+// @generated from crates/linkinfo_tests/src/tests/assertions.rt by rust/translate/run.
+
 //! Assertions on one byte string or one value.
 
 use crate::support::*;

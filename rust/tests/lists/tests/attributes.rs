@@ -1,3 +1,5 @@
+// @generated from crates/linkinfo_tests/src/tests/attributes.rt by rust/translate/run.
+
 //! Values written as attributes.
 
 use super::assertions::{

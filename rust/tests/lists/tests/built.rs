@@ -1,3 +1,5 @@
+// @generated from crates/linkinfo_tests/src/tests/built.rt by rust/translate/run.
+
 //! Values that are built, written and parsed back: at least one of each group of families, and of
 //! each shape of data.
 

@@ -1,3 +1,5 @@
+// @generated from crates/linkinfo_tests/src/tests/canonical.rt by rust/translate/run.
+
 //! The texts of the errors of `canon` and `canon_into`.
 
 use super::assertions::{assert_equal, link_error};

@@ -1,3 +1,5 @@
+// @generated from crates/linkinfo_tests/src/tests/comparing.rt by rust/translate/run.
+
 //! Byte strings that are compared.
 
 use super::assertions::{assert_equal, bytes_of, reads_equal};

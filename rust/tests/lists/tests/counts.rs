@@ -1,3 +1,5 @@
+// @generated from crates/linkinfo_tests/src/tests/counts.rt by rust/translate/run.
+
 //! How many headers are examined.
 
 use super::assertions::{assert_equal, assert_headers, bytes_of};

@@ -1,3 +1,5 @@
+// @generated from crates/linkinfo_tests/src/tests/dumps.rt by rust/translate/run.
+
 //! The contents of `IFLA_LINKINFO` in replies of a Linux 6.18 kernel.
 //!
 //! Links of these kinds were made in a network namespace, and the contents were taken from a dump

@@ -1,3 +1,5 @@
+// @generated from crates/linkinfo_tests/src/tests/errors.rt by rust/translate/run.
+
 //! Byte strings that are rejected.
 
 use super::assertions::{HEADER_ERROR, assert_equal, assert_refused, bytes_of};

@@ -1,3 +1,5 @@
+// @generated from crates/linkinfo_tests/src/tests/families.rt by rust/translate/run.
+
 //! The family of a kind's data, and payloads parsed, validated and compared by family.
 
 use super::assertions::{assert_equal, assert_holds, nlas};

@@ -1,3 +1,5 @@
+// @generated from crates/linkinfo_tests/src/tests/fronts.rt by rust/translate/run.
+
 //! Every prefix of every worked example: `check` and `parse` agree, and an accepted prefix is
 //! equivalent to itself.
 

@@ -1,3 +1,5 @@
+// @generated from crates/linkinfo_tests/src/tests/kinds.rt by rust/translate/run.
+
 //! A list of each kind and of each port kind. The byte strings were written by a kernel, `ip` or
 //! pyroute2, or are made from the rows of the tables. Values are given as `Debug` writes them.
 

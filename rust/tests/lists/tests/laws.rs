@@ -1,3 +1,5 @@
+// @generated from crates/linkinfo_tests/src/tests/laws.rt by rust/translate/run.
+
 //! What holds of headers, tags and data.
 
 use super::assertions::{

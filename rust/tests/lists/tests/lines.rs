@@ -1,3 +1,5 @@
+// @generated from crates/linkinfo_tests/src/tests/lines.rt by rust/translate/run.
+
 //! The lines of the program, with input and output in memory.
 
 use super::assertions::{assert_equal, assert_holds};

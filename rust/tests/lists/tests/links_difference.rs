@@ -1,3 +1,5 @@
+// @generated from crates/linkinfo_tests/src/tests/links_difference.rt by rust/translate/run.
+
 //! Where two lists differ first.
 
 use super::assertions::{DATA_ORDER, HEADER_ERROR, assert_equal, bytes_of};

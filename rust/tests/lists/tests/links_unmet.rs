@@ -1,3 +1,5 @@
+// @generated from crates/linkinfo_tests/src/tests/links_unmet.rt by rust/translate/run.
+
 //! Whether a link has all attributes of a request, and which one it lacks.
 
 use super::assertions::{DATA_ORDER, HEADER_ERROR, assert_equal, bytes_of};

@@ -1,3 +1,5 @@
+// @generated from crates/linkinfo_tests/src/tests/lists.rt by rust/translate/run.
+
 //! Lists that are parsed and written.
 
 use super::assertions::{

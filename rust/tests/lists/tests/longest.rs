@@ -1,3 +1,5 @@
+// @generated from crates/linkinfo_tests/src/tests/longest.rt by rust/translate/run.
+
 //! Values that just fit into one attribute, and longer ones.
 
 use super::assertions::{

@@ -1,3 +1,5 @@
+// @generated from crates/linkinfo_tests/src/tests/names.rt by rust/translate/run.
+
 //! The kernel's names of attributes, and errors as sentences for people.
 
 use super::assertions::{assert_equal, bytes_of, link_error};

@@ -1,3 +1,5 @@
+// @generated from crates/linkinfo_tests/src/tests/nesting.rt by rust/translate/run.
+
 //! Address lists inside address lists.
 
 use super::assertions::{assert_canon_into, assert_emitted, assert_equal, assert_headers, parsed};

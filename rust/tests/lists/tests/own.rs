@@ -1,3 +1,5 @@
+// @generated from crates/linkinfo_tests/src/tests/own.rt by rust/translate/run.
+
 //! A custom peer: links with it parsed, validated, compared and written.
 
 use super::assertions::{assert_emitted, assert_equal, assert_parses, bytes_of, nlas};

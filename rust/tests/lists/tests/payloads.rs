@@ -1,3 +1,5 @@
+// @generated from crates/linkinfo_tests/src/tests/payloads.rt by rust/translate/run.
+
 //! Data, port data and statistics that are parsed by themselves.
 
 use super::assertions::{

@@ -1,3 +1,5 @@
+// @generated from crates/linkinfo_tests/src/tests/peers.rt by rust/translate/run.
+
 //! Lists with peers of another type than bytes.
 
 use super::assertions::{

@@ -1,3 +1,5 @@
+// @generated from crates/linkinfo_tests/src/tests/pfcp.rt by rust/translate/run.
+
 //! Links of the kind pfcp, whose data is attributes of a family without rows.
 
 use super::assertions::{

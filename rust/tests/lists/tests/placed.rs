@@ -1,3 +1,5 @@
+// @generated from crates/linkinfo_tests/src/tests/placed.rt by rust/translate/run.
+
 //! The offsets of the first error of a list.
 
 use super::assertions::{HEADER_ERROR, PORT_DATA_ORDER, assert_equal, assert_holds, bytes_of};

@@ -1,3 +1,5 @@
+// @generated from crates/linkinfo_tests/src/tests/readme.rt by rust/translate/run.
+
 //! The README's example, word for word: a vxlan link is built, written, parsed, compared and
 //! iterated over.
 

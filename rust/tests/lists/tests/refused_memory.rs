@@ -1,3 +1,5 @@
+// @generated from crates/linkinfo_tests/src/tests/refused_memory.rt by rust/translate/run.
+
 //! Calls that are repeated once where an allocation failed. `tests/refused.rs` makes each
 //! allocation fail in turn.
 

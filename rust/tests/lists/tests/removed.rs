@@ -1,3 +1,5 @@
+// @generated from crates/linkinfo_tests/src/tests/removed.rt by rust/translate/run.
+
 //! Lists without their last attribute, and without the last attribute of their data.
 //!
 //! The lists are worked examples, a list of each kind, and replies of a Linux kernel. What is

@@ -1,3 +1,5 @@
+// @generated from crates/linkinfo_tests/src/tests/streams.rt by rust/translate/run.
+
 //! Runs with readers and writers that transfer few bytes at a time, and that fail.
 
 use super::assertions::{assert_equal, assert_holds};

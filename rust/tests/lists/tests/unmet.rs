@@ -1,3 +1,5 @@
+// @generated from crates/linkinfo_tests/src/tests/unmet.rt by rust/translate/run.
+
 //! Whether the data of a link, or of a port, meets the attributes of other data.
 
 use super::assertions::{assert_equal, assert_holds, bytes_of};

@@ -1,3 +1,5 @@
+// @generated from crates/linkinfo_tests/src/tests/unmet_laws.rt by rust/translate/run.
+
 //! Lists that meet themselves, lists with more attributes, equivalent lists, and other orders.
 
 use super::assertions::{assert_equal, bytes_of};

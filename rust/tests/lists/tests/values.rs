@@ -1,3 +1,5 @@
+// @generated from crates/linkinfo_tests/src/tests/values.rt by rust/translate/run.
+
 //! Worked examples and the lists that they parse as: at least one of each group of families, and of
 //! each shape of data.
 

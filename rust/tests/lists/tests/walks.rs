@@ -1,3 +1,5 @@
+// @generated from crates/linkinfo_tests/src/tests/walks.rt by rust/translate/run.
+
 //! The iterator over borrowed attributes, `LinkInfoWalk`.
 
 use super::assertions::{

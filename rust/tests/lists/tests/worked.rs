@@ -1,3 +1,5 @@
+// @generated from crates/linkinfo_tests/src/tests/worked.rt by rust/translate/run.
+
 //! Worked examples, in hex digits.
 
 /// An xfrm link with its underlying interface and its identifier.

@@ -1,3 +1,5 @@
+// @generated from crates/linkinfo_tests/src/tests/refused_memory/answers.rt by rust/translate/run.
+
 //! The results that a call may return if an allocation may fail.
 
 use linkinfo::compat::AllocError;

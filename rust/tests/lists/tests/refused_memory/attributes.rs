@@ -1,3 +1,6 @@
+// @generated from crates/linkinfo_tests/src/tests/refused_memory/attributes.rt
+// by rust/translate/run.
+
 //! Single attributes that are parsed.
 
 use super::answers::{MEMORY, at_last};

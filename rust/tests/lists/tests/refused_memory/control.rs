@@ -1,3 +1,5 @@
+// @generated from crates/linkinfo_tests/src/tests/refused_memory/control.rt by rust/translate/run.
+
 //! A test that the script must see fail.
 
 use crate::support::*;

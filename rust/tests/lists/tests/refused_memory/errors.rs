@@ -1,3 +1,5 @@
+// @generated from crates/linkinfo_tests/src/tests/refused_memory/errors.rt by rust/translate/run.
+
 //! Byte strings that are rejected.
 
 use super::answers::is_refused_at_last;

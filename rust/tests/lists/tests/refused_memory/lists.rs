@@ -1,3 +1,5 @@
+// @generated from crates/linkinfo_tests/src/tests/refused_memory/lists.rt by rust/translate/run.
+
 //! Lists that are parsed and written.
 
 use super::answers::{MEMORY, at_last, read_at_last, reads};

@@ -1,3 +1,5 @@
+// @generated from crates/linkinfo_tests/src/tests/refused_memory/names.rt by rust/translate/run.
+
 //! Kinds that are made from names.
 
 use super::answers::{at_last, text_at_last};

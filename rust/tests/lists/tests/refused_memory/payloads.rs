@@ -1,3 +1,5 @@
+// @generated from crates/linkinfo_tests/src/tests/refused_memory/payloads.rt by rust/translate/run.
+
 //! Payloads that are parsed by themselves.
 
 use super::answers::{MEMORY, at_last, copied_at_last, text_at_last};

@@ -1,3 +1,5 @@
+// @generated from crates/linkinfo_tests/src/tests/refused_memory/program.rt by rust/translate/run.
+
 //! A run of the program, with input and output in memory.
 
 use crate::linkinfo_lines::{RunError, run};

@@ -1,3 +1,5 @@
+// @generated from crates/linkinfo_tests/src/tests/refused_memory/strings.rt by rust/translate/run.
+
 //! Accepted byte strings that are parsed.
 
 use super::answers::reads;

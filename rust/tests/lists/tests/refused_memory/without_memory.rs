@@ -1,3 +1,6 @@
+// @generated from crates/linkinfo_tests/src/tests/refused_memory/without_memory.rt
+// by rust/translate/run.
+
 //! Calls that do not allocate.
 
 use super::answers::{is_emitted, is_refused, reads};
