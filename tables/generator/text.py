@@ -1,0 +1,101 @@
+"""Lays out text: lines of at most 100 columns, broken as `rt fmt` and rustfmt break them."""
+import functools
+import pathlib
+import re
+
+MOST = 100
+TEMPLATES = pathlib.Path(__file__).resolve().parent.parent / "templates"
+
+
+def snake(name):
+    """A name of a type as that of a function: MacSecCipherId gives mac_sec_cipher_id."""
+    return re.sub(r"(?<=[a-z0-9])(?=[A-Z])|(?<=[A-Z])(?=[A-Z][a-z])", "_", name).lower()
+
+
+def camel(name):
+    """A name of a module as that of a file: bare_udp gives BareUdp."""
+    return "".join(part.capitalize() for part in name.split("_"))
+
+
+def spelled(name):
+    """A name of a variant in lower case, with an underscore before each capital."""
+    return re.sub(r"(?=[A-Z])", "_", name).lstrip("_").lower()
+
+
+def fill(words, first, rest, most=MOST):
+    """Lines of words, as many as fit on each; the first line begins with `first`."""
+    lines, line = [], first
+    for word in words:
+        if line in (first, rest):
+            line += word
+        elif len(line) + 1 + len(word) <= most:
+            line += " " + word
+        else:
+            lines.append(line)
+            line = rest + word
+    return "\n".join([*lines, line])
+
+
+def comment(text, mark="/// ", indent=""):
+    """A comment, filled."""
+    return fill(text.split(), indent + mark, indent + mark)
+
+
+def listed(names, word="and"):
+    """Names as a sentence has them: a, b and c."""
+    return f" {word} ".join(filter(None, [", ".join(names[:-1]), names[-1]]))
+
+
+def imports(head, names, end="", broken=False, indent=""):
+    """An import of names: on one line if they fit, else each on its own."""
+    line = f"{indent}{head}.{{{', '.join(names)}}}{end}"
+    if len(line) <= MOST and not broken:
+        return line
+    return f"{indent}{head}.{{\n" + "".join(f"{indent}  {name},\n" for name in names) + \
+        f"{indent}}}{end}"
+
+
+def by_word(name):
+    """The order of rustfmt, in which an underscore is before digits and letters."""
+    return name.upper().replace("_", "\x01")
+
+
+def rust_use(path, names, indent=""):
+    """An import of Rust, filled."""
+    line = f"{indent}use {path}::{{{', '.join(names)}}};"
+    if len(names) == 1:
+        return f"{indent}use {path}::{names[0]};\n"
+    if len(line) <= MOST:
+        return line + "\n"
+    words = [f"{name}," for name in names]
+    filled = fill(words, indent + "    ", indent + "    ", MOST - 1)
+    return f"{indent}use {path}::{{\n{filled}\n{indent}}};\n"
+
+
+def pairs(items, indent=""):
+    """A list of pairs that ends with tt, on one line if it fits, else broken into lines."""
+    text = "tt"
+    for item in reversed(items):
+        text = f"({item}, {text})"
+    if len(indent) + len(text) + 1 <= MOST:
+        return text
+    inner = pairs(items[1:], indent + "  ")
+    return f"(\n{indent}  {items[0]},\n{indent}  {inner},\n{indent})"
+
+
+@functools.cache
+def template(name):
+    """The text of tables/templates/NAME."""
+    return (TEMPLATES / name).read_text(encoding="utf-8")
+
+
+def put(name, **given):
+    """A template with what is given in place of its marks: ‹name› for name."""
+    return re.sub("‹(\\w+)›", lambda mark: given[mark[1]], template(name))
+
+
+def markdown(columns, rows):
+    """A table of Markdown; an empty cell is one space."""
+    lines = ["|" + "|".join(f" {cell} " if cell else " " for cell in row) + "|"
+             for row in [columns, *rows]]
+    return "\n".join([lines[0], "|" + "---|" * len(columns), *lines[1:]]) + "\n"
