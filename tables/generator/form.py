@@ -169,12 +169,10 @@ def read(root, name, columns, keys=()):
     return table
 
 
-def apart(given, key, said):
-    """Rejects the second of two rows of which `key` gives the same."""
+def apart(named):
+    """Rejects the second of two lines with one name, of pairs of a line and a name."""
     seen = set()
-    for row in given:
-        it = key(row)
-        if it in seen:
-            raise row.line.bad(f"{it} is there twice: {said}")
-        if it:
-            seen.add(it)
+    for line, name in named:
+        if name and name in seen:
+            raise line.bad(f"{name} is there twice")
+        seen.add(name)

@@ -4,6 +4,7 @@ import pathlib
 import re
 
 MOST = 100
+INDENT = "    "
 TEMPLATES = pathlib.Path(__file__).resolve().parent.parent / "templates"
 
 
@@ -55,21 +56,26 @@ def imports(head, names, end="", broken=False, indent=""):
         f"{indent}}}{end}"
 
 
+def used(body, head, names, end=""):
+    """The import of those names that a text has; empty if it has none."""
+    words = set(re.findall(r"[^\s(),]+", body))
+    names = [name for name in names if name.strip("◌") in words]
+    return imports(head, names, f"{end}\n") if names else ""
+
+
 def by_word(name):
     """The order of rustfmt, in which an underscore is before digits and letters."""
     return name.upper().replace("_", "\x01")
 
 
-def rust_use(path, names, indent=""):
-    """An import of Rust, filled."""
-    line = f"{indent}use {path}::{{{', '.join(names)}}};"
-    if len(names) == 1:
-        return f"{indent}use {path}::{names[0]};\n"
-    if len(line) <= MOST:
-        return line + "\n"
-    words = [f"{name}," for name in names]
-    filled = fill(words, indent + "    ", indent + "    ", MOST - 1)
-    return f"{indent}use {path}::{{\n{filled}\n{indent}}};\n"
+def rust_use(path, names):
+    """An import of Rust, filled; empty if there are no names."""
+    line = f"use {path}::{{{', '.join(names)}}};\n"
+    if len(names) < 2:
+        return "".join(f"use {path}::{name};\n" for name in names)
+    if len(line) <= MOST + 1:
+        return line
+    return f"use {path}::{{\n{fill([f'{name},' for name in names], INDENT, INDENT, MOST - 1)}\n}};\n"
 
 
 def pairs(items, indent=""):
@@ -89,9 +95,9 @@ def template(name):
     return (TEMPLATES / name).read_text(encoding="utf-8")
 
 
-def put(name, **given):
+def put(path, /, **given):
     """A template with what is given in place of its marks: ‹name› for name."""
-    return re.sub("‹(\\w+)›", lambda mark: given[mark[1]], template(name))
+    return re.sub("‹(\\w+)›", lambda mark: given[mark[1]], template(path))
 
 
 def markdown(columns, rows):
