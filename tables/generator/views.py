@@ -53,7 +53,8 @@ def page(families):
             body = markdown(["type", "member", "shape", "format"],
                             [[str(row.number), f"`{row.member}`", row.shape, row.shown]
                              for row in rows])
-            text += f"{fill(f'**{title}**: {said}'.split(), '', '')}\n\n{body}{others}\n"
+            head = fill(f"**{title}**: {said}".split(), "", "")
+            text += f"{head}\n\n{body.replace('| |', '|  |')}{others}\n"
     return text
 
 

@@ -57,7 +57,7 @@ use Rattle.linkinfo_tunnels.specs.Gtp.{gtp_rows}
 use Rattle.linkinfo_tunnels.specs.IpTunnel.{flags_row, ip_tunnel_row, ip_tunnel_rows}
 use Rattle.linkinfo_tunnels.specs.Vti.{vti_rows}
 use Rattle.linkinfo_tunnels.specs.Vxlan.{vxlan_rows}
-use Rattle.linkinfo_peers.specs.Batadv.{batadv_rows}
+use Rattle.linkinfo_peers.specs.Batadv.{bat_adv_rows}
 use Rattle.linkinfo_peers.specs.Netkit.{netkit_plain}
 use Rattle.linkinfo_peers.specs.Wwan.{wwan_rows}
 use Rattle.linkinfo_peers.specs.declared.veth.InfoVethOf.{InfoVethOf}
@@ -318,7 +318,7 @@ peers_errors peered.Vxcan p =
     a) (nla_items p))
 peers_errors peered.BatAdv p =
     variant_errors (λ xs. info.BatAdv xs) (values plain.bat_adv.meaning (nla_items p))
-    (table_errors _ _ batadv_rows p)
+    (table_errors _ _ bat_adv_rows p)
 peers_errors peered.Wwan p =
     variant_errors (λ xs. info.Wwan xs) (values plain.wwan.meaning (nla_items p))
     (table_errors _ _ wwan_rows p)

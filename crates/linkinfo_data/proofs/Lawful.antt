@@ -54,7 +54,7 @@ use Rattle.linkinfo_tunnels.specs.declared.gtp.InfoGtp.TheVariants as gtp
 use Rattle.linkinfo_tunnels.specs.declared.ip_tunnel.InfoIpTunnel.TheVariants as ip_tunnel
 use Rattle.linkinfo_tunnels.specs.declared.vti.InfoVti.TheVariants as vti
 use Rattle.linkinfo_tunnels.specs.declared.vxlan.InfoVxlan.TheVariants as vxlan
-use Rattle.linkinfo_peers.specs.Batadv.{batadv_attribute, batadv_keeps, batadv_rows}
+use Rattle.linkinfo_peers.specs.Batadv.{bat_adv_attribute, bat_adv_keeps, bat_adv_rows}
 use Rattle.linkinfo_peers.specs.Wwan.{wwan_attribute, wwan_keeps, wwan_rows}
 use Rattle.linkinfo_peers.specs.declared.batadv.InfoBatAdv.TheVariants as batadv
 use Rattle.linkinfo_peers.specs.declared.wwan.InfoWwan.TheVariants as wwan
@@ -197,14 +197,14 @@ vxlan_names s = table_names family.Vxlan
 
 -- ---- batadv
 
-pub batadv_is : IsFamily plain.bat_adv
-batadv_is = table_is_family family.BatAdv
-    (λ d. batadv.Other d) batadv_attribute batadv_rows batadv_keeps (λ _. refl)
+pub bat_adv_is : IsFamily plain.bat_adv
+bat_adv_is = table_is_family family.BatAdv
+    (λ d. batadv.Other d) bat_adv_attribute bat_adv_rows bat_adv_keeps (λ _. refl)
 
-pub batadv_names : (s : List ℕ) →
+pub bat_adv_names : (s : List ℕ) →
     EachNames family.BatAdv (values plain.bat_adv.meaning (nla_items s))
-batadv_names s = table_names family.BatAdv
-    (λ d. batadv.Other d) batadv_attribute batadv_rows batadv_keeps s
+bat_adv_names s = table_names family.BatAdv
+    (λ d. batadv.Other d) bat_adv_attribute bat_adv_rows bat_adv_keeps s
 
 -- ---- wwan
 

@@ -7,7 +7,7 @@ use Rattle.linkinfo_devices.specs.Conditions.{ip_vlan_conditions}
 use Rattle.linkinfo_devices.specs.Conditions.{ipoib_conditions, mac_sec_conditions}
 use Rattle.linkinfo_devices.specs.Conditions.{mac_vlan_conditions, mac_vtap_conditions}
 use Rattle.linkinfo_devices.specs.Conditions.{rm_net_conditions, vrf_conditions, xfrm_conditions}
-use Rattle.linkinfo_peers.specs.Conditions.{batadv_conditions, netkit_conditions, veth_conditions}
+use Rattle.linkinfo_peers.specs.Conditions.{bat_adv_conditions, netkit_conditions, veth_conditions}
 use Rattle.linkinfo_peers.specs.Conditions.{vxcan_conditions, wwan_conditions}
 use Rattle.linkinfo_table.specs.Conditions.{each_stated, opaque_conditions}
 use Rattle.linkinfo_table.specs.Members.{Members}
@@ -88,7 +88,7 @@ peered_conditions well peered.Veth d = IsOneOf (λ x. info.Veth x) (veth_conditi
 peered_conditions well peered.Wireguard d = IsListOf (λ xs. info.Wireguard xs) opaque_conditions d
 peered_conditions well peered.Netkit d = IsListOf (λ xs. info.Netkit xs) (netkit_conditions well) d
 peered_conditions well peered.Vxcan d = IsOneOf (λ x. info.Vxcan x) (vxcan_conditions well) d
-peered_conditions well peered.BatAdv d = IsListOf (λ xs. info.BatAdv xs) batadv_conditions d
+peered_conditions well peered.BatAdv d = IsListOf (λ xs. info.BatAdv xs) bat_adv_conditions d
 peered_conditions well peered.Wwan d = IsListOf (λ xs. info.Wwan xs) wwan_conditions d
 peered_conditions well peered.Pfcp d = IsListOf (λ xs. info.Pfcp xs) opaque_conditions d
 

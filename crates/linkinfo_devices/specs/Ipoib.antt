@@ -1,3 +1,4 @@
+-- Written by tables/generate from tables/ipoib.
 -- The rows of `ipoib` links.
 use Rattle.std.specs.Prelude.{List, [], ◌∷◌, refl}
 use Rattle.std.proofs.Common.{ap}

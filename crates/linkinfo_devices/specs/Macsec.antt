@@ -1,3 +1,4 @@
+-- Written by tables/generate from tables/macsec.
 -- The rows of `macsec` links.
 use Rattle.std.specs.Prelude.{List, [], ◌∷◌, refl}
 use Rattle.std.proofs.Common.{ap}

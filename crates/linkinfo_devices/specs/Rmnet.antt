@@ -1,3 +1,4 @@
+-- Written by tables/generate from tables/rmnet.
 -- The rows of `rmnet` links.
 use Rattle.std.specs.Prelude.{ℕ, List, [], ◌∷◌, refl}
 use Rattle.nla_frame.specs.Attribute.{Attribute}

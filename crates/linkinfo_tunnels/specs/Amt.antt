@@ -1,4 +1,5 @@
--- The rows of AMT tunnels.
+-- Written by tables/generate from tables/amt.
+-- The rows of `amt` links.
 use Rattle.std.specs.Prelude.{List, [], ◌∷◌, refl}
 use Rattle.std.proofs.Common.{ap}
 use Rattle.nla_frame.specs.Attribute.{Attribute}

@@ -1,4 +1,5 @@
--- The rows of bare UDP tunnels.
+-- Written by tables/generate from tables/bareudp.
+-- The rows of `bareudp` links.
 use Rattle.std.specs.Prelude.{List, [], ◌∷◌, refl}
 use Rattle.std.proofs.Common.{ap}
 use Rattle.nla_frame.specs.Attribute.{Attribute}

@@ -1,4 +1,5 @@
--- The rows of Geneve tunnels.
+-- Written by tables/generate from tables/geneve.
+-- The rows of `geneve` links.
 use Rattle.std.specs.Prelude.{List, [], ◌∷◌, refl}
 use Rattle.std.proofs.Common.{ap}
 use Rattle.nla_frame.specs.Attribute.{Attribute}

@@ -1,4 +1,5 @@
--- The rows of GRE tunnels over IPv4.
+-- Written by tables/generate from tables/gre.
+-- The rows of `gre`, `gretap` and `erspan` links.
 use Rattle.std.specs.Prelude.{List, [], ◌∷◌, refl}
 use Rattle.std.proofs.Common.{ap}
 use Rattle.nla_frame.specs.Attribute.{Attribute}

@@ -1,4 +1,5 @@
--- The rows of GRE tunnels over IPv6.
+-- Written by tables/generate from tables/gre6.
+-- The rows of `ip6gre`, `ip6gretap` and `ip6erspan` links.
 use Rattle.std.specs.Prelude.{List, [], ◌∷◌, refl}
 use Rattle.std.proofs.Common.{ap}
 use Rattle.nla_frame.specs.Attribute.{Attribute}

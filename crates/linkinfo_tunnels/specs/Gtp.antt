@@ -1,4 +1,5 @@
--- The rows of GTP tunnels.
+-- Written by tables/generate from tables/gtp.
+-- The rows of `gtp` links.
 use Rattle.std.specs.Prelude.{List, [], ◌∷◌, refl}
 use Rattle.std.proofs.Common.{ap}
 use Rattle.nla_frame.specs.Attribute.{Attribute}

@@ -1,4 +1,5 @@
--- The rows of VTI tunnels.
+-- Written by tables/generate from tables/vti.
+-- The rows of `vti` and `vti6` links.
 use Rattle.std.specs.Prelude.{List, [], ◌∷◌, refl}
 use Rattle.nla_frame.specs.Attribute.{Attribute}
 use Rattle.nla_frame.specs.Kept.{attribute_of}

@@ -1,4 +1,5 @@
--- The rows of VXLAN tunnels.
+-- Written by tables/generate from tables/vxlan.
+-- The rows of `vxlan` links.
 use Rattle.std.specs.Prelude.{◌≡◌, ℕ, List, [], ◌∷◌, Option, Some, None, refl}
 use Rattle.std.proofs.Common.{ap}
 use Rattle.nla_frame.specs.Attribute.{Attribute}

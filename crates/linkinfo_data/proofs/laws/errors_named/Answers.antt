@@ -6,7 +6,7 @@ use Rattle.linkinfo_table.specs.UnnestedFamily.{first_named, list_named}
 use Rattle.linkinfo_peers.specs.Veth.{veth_lawful}
 use Rattle.linkinfo_peers.specs.Vxcan.{vxcan_lawful}
 use Rattle.linkinfo_peers.specs.PeerMembers.{netkit_members, veth_members, vxcan_members}
-use Rattle.linkinfo_data.proofs.Lawful.{amt_names, bare_udp_names, batadv_names, geneve_names}
+use Rattle.linkinfo_data.proofs.Lawful.{amt_names, bare_udp_names, bat_adv_names, geneve_names}
 use Rattle.linkinfo_data.proofs.Lawful.{gre6_names, gre_names, gtp_names, ip_tunnel_names}
 use Rattle.linkinfo_data.proofs.Lawful.{ip_vlan_names, ipoib_names, mac_sec_names}
 use Rattle.linkinfo_data.proofs.Lawful.{mac_vlan_names, mac_vtap_names, opaque_names}
@@ -106,7 +106,7 @@ returns g c =
       | peered.Pfcp ↦ list_errors_name family.Pfcp plain.pfcp (λ xs. info.Pfcp xs)
           (opaque_names family.Pfcp)
       | peered.BatAdv ↦ list_errors_name family.BatAdv plain.bat_adv
-          (λ xs. info.BatAdv xs) batadv_names
+          (λ xs. info.BatAdv xs) bat_adv_names
       | peered.Wwan ↦ list_errors_name family.Wwan plain.wwan (λ xs. info.Wwan xs) wwan_names
       | peered.Veth ↦ first_errors_name family.Veth (veth_members peer) (λ x. info.Veth x)
           (first_named (veth_lawful peer is) family.Veth)

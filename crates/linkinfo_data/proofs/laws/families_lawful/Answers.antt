@@ -6,7 +6,7 @@ use Rattle.linkinfo_peers.specs.Netkit.{netkit_lawful}
 use Rattle.linkinfo_peers.specs.Veth.{veth_lawful}
 use Rattle.linkinfo_peers.specs.Vxcan.{vxcan_lawful}
 use Rattle.linkinfo_peers.specs.PeerMembers.{netkit_members, veth_members, vxcan_members}
-use Rattle.linkinfo_data.proofs.Lawful.{amt_is, bare_udp_is, batadv_is, geneve_is, gre6_is, gre_is}
+use Rattle.linkinfo_data.proofs.Lawful.{amt_is, bare_udp_is, bat_adv_is, geneve_is, gre6_is, gre_is}
 use Rattle.linkinfo_data.proofs.Lawful.{gtp_is, ip_tunnel_is, ip_vlan_is, ipoib_is}
 use Rattle.linkinfo_data.proofs.Lawful.{mac_sec_is, opaque_is}
 use Rattle.linkinfo_data.proofs.Lawful.{rm_net_is, vrf_is, vti_is, vxlan_is}
@@ -115,7 +115,7 @@ returns g c =
           (λ xs. info.Wireguard xs) (data_payload peer) (λ _. refl) (λ x y e. cc)
       | peered.Pfcp ↦ as_list_is_lawful plain.pfcp (opaque_is family.Pfcp) (λ xs. info.Pfcp xs)
           (data_payload peer) (λ _. refl) (λ x y e. cc)
-      | peered.BatAdv ↦ as_list_is_lawful plain.bat_adv batadv_is (λ xs. info.BatAdv xs)
+      | peered.BatAdv ↦ as_list_is_lawful plain.bat_adv bat_adv_is (λ xs. info.BatAdv xs)
           (data_payload peer) (λ _. refl) (λ x y e. cc)
       | peered.Wwan ↦ as_list_is_lawful plain.wwan wwan_is (λ xs. info.Wwan xs)
           (data_payload peer) (λ _. refl) (λ x y e. cc)

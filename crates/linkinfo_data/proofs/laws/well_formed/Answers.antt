@@ -5,7 +5,7 @@ use Rattle.linkinfo_devices.specs.Conditions.{mac_vlan_conditions, mac_vlan_stat
 use Rattle.linkinfo_devices.specs.Conditions.{mac_vtap_conditions, mac_vtap_stated}
 use Rattle.linkinfo_devices.specs.Conditions.{rm_net_conditions, rm_net_stated, vrf_conditions}
 use Rattle.linkinfo_devices.specs.Conditions.{vrf_stated, xfrm_conditions, xfrm_stated}
-use Rattle.linkinfo_peers.specs.Conditions.{batadv_conditions, batadv_stated, netkit_conditions}
+use Rattle.linkinfo_peers.specs.Conditions.{bat_adv_conditions, bat_adv_stated, netkit_conditions}
 use Rattle.linkinfo_peers.specs.Conditions.{netkit_stated, veth_conditions, veth_stated}
 use Rattle.linkinfo_peers.specs.Conditions.{vxcan_conditions, vxcan_stated, wwan_conditions}
 use Rattle.linkinfo_peers.specs.Conditions.{wwan_stated}
@@ -100,7 +100,7 @@ returns g c =
           (λ xs. info.Wireguard xs) opaque_conditions opaque_stated
       | peered.Pfcp ↦ list_stated plain.pfcp (λ xs. info.Pfcp xs) opaque_conditions opaque_stated
       | peered.BatAdv ↦ list_stated plain.bat_adv
-          (λ xs. info.BatAdv xs) batadv_conditions batadv_stated
+          (λ xs. info.BatAdv xs) bat_adv_conditions bat_adv_stated
       | peered.Wwan ↦ list_stated plain.wwan (λ xs. info.Wwan xs) wwan_conditions wwan_stated
       | peered.Veth ↦ one_stated (veth_members peer) (λ x. info.Veth x) (veth_conditions peer.well)
           (veth_stated peer.meaning peer.alike peer.canonical peer.well)
