@@ -53,10 +53,11 @@ def whole_text(output):
 
 
 def pattern(path, name):
-    """The lines of a part: that before it, its own, and that after it."""
+    """The lines of a part: that before it, its own, and those after it, with an empty line if the
+    layout of the file wants one."""
     mark = re.escape(comment(path, BEGIN)).replace(r"\{\}", "{}").replace("{}", name)
     end = re.escape(comment(path, END))
-    return re.compile(rf"^( *{mark}\n)(.*?)(^ *{end}\n)", re.MULTILINE | re.DOTALL)
+    return re.compile(rf"^( *{mark}\n)(.*?)((?:^\n)?^ *{end}\n)", re.MULTILINE | re.DOTALL)
 
 
 def with_part(text, output):
@@ -65,7 +66,7 @@ def with_part(text, output):
     if len(found) != 1:
         raise Missing(f"{output.path}: {len(found)} parts from tables/{output.name}, not one")
     return pattern(output.path, re.escape(output.name)).sub(
-        lambda mark: mark[1] + output.text + mark[3], text)
+        lambda mark: f"{mark[1]}{output.text.rstrip()}\n{mark[3]}", text)
 
 
 def files(root, outputs):

@@ -29,6 +29,7 @@ pub use Rattle.linkinfo_devices.specs.MacsecConditions.{mac_sec_conditions, mac_
 pub use Rattle.linkinfo_devices.specs.RmnetConditions.{rm_net_conditions, rm_net_stated}
 pub use Rattle.linkinfo_devices.specs.VrfConditions.{vrf_conditions, vrf_stated}
 pub use Rattle.linkinfo_devices.specs.XfrmConditions.{xfrm_conditions, xfrm_stated}
+
 -- End: written by tables/generate.
 
 -- ---- `ipvlan` and `ipvtap` links

@@ -28,6 +28,7 @@ use Rattle.linkinfo_names.specs.declared.entries.TheConstants.{
   WWAN,
   XFRM,
 }
+
 -- End: written by tables/generate.
 
 -- the rows of a constant

@@ -23,6 +23,7 @@ use Rattle.linkinfo_peers.specs.declared.vxcan.InfoVxcanOf.TheVariants as vxcan
 -- Begin: written by tables/generate from tables/families.
 pub use Rattle.linkinfo_peers.specs.BatadvConditions.{bat_adv_conditions, bat_adv_stated}
 pub use Rattle.linkinfo_peers.specs.WwanConditions.{wwan_conditions, wwan_stated}
+
 -- End: written by tables/generate.
 
 -- ---- links with a peer, which is well formed by its own type

@@ -70,7 +70,7 @@ pub fn tabled()
         ⟦<InfoBatAdv as LinkFamily>⟧.lookup tt n ≡ lookup_in (shape_of family.BatAdv n) }
     ensures wwan { (n : ℕ) →
         ⟦<InfoWwan as LinkFamily>⟧.lookup tt n ≡ lookup_in (shape_of family.Wwan n) }
-    // End: written by tables/generate.
+// End: written by tables/generate.
 {}
 
 /// The families with a peer read a type without flag bits by its row of the table of all families,
@@ -93,7 +93,7 @@ pub fn well_formed()
     ensures bat_adv { (x : InfoBatAdv) →
         ⟦<InfoBatAdv as LinkFamily>⟧.well tt x ↔ bat_adv_conditions x }
     ensures wwan { (x : InfoWwan) → ⟦<InfoWwan as LinkFamily>⟧.well tt x ↔ wwan_conditions x }
-    // End: written by tables/generate.
+// End: written by tables/generate.
 {}
 
 /// Which attributes of `netkit`, `veth` and `vxcan` links are well formed, whatever the type of the

@@ -29,6 +29,7 @@ pub use Rattle.linkinfo_tunnels.specs.Gre6Conditions.{gre6_conditions, gre6_stat
 pub use Rattle.linkinfo_tunnels.specs.GtpConditions.{gtp_conditions, gtp_stated}
 pub use Rattle.linkinfo_tunnels.specs.VtiConditions.{vti_conditions, vti_stated}
 pub use Rattle.linkinfo_tunnels.specs.VxlanConditions.{vxlan_conditions, vxlan_stated}
+
 -- End: written by tables/generate.
 
 -- ---- `ipip`, `sit` and `ip6tnl` links

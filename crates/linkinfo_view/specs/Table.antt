@@ -58,6 +58,7 @@ use Rattle.linkinfo_view.specs.declared.entries.TheConstants.{
   WWAN,
   XFRM,
 }
+
 -- End: written by tables/generate.
 
 -- the rows of a family, as `entries.rt` lists them, but for those that it shares with others

@@ -25,6 +25,7 @@ returns-clause-vrf c = vrf_stated
 
 pub returns-clause-xfrm : goal.returns-clause-xfrm
 returns-clause-xfrm c = xfrm_stated
+
 -- End: written by tables/generate.
 
 pub returns-clause-ip_vlan : goal.returns-clause-ip_vlan

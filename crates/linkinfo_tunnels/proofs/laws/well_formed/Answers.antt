@@ -37,6 +37,7 @@ returns-clause-vti c = vti_stated
 
 pub returns-clause-vxlan : goal.returns-clause-vxlan
 returns-clause-vxlan c = vxlan_stated
+
 -- End: written by tables/generate.
 
 pub returns-clause-ip_tunnel : goal.returns-clause-ip_tunnel
