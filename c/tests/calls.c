@@ -573,6 +573,10 @@ static void sentences(void) {
     text_is(names[at].text, write_attribute, names[at].pair);
 }
 
+/* Begin: written by tables/generate from tables/kinds. */
+enum { LAST_FAMILY = 37, LAST_KIND = 47, LAST_PORT_KIND = 260 };
+/* End: written by tables/generate. */
+
 static void texts(void) {
   static const char *causes[] = {"",     "header",    "length", "utf8",  "order",  "addresskind",
                                  "word", "wrongtype", "kind",   "depth", "memory", "peer",
@@ -583,16 +587,16 @@ static void texts(void) {
   for (uint32_t code = 0; code < 65536; code++) {
     uint16_t number = (uint16_t)code;
     size_t length = linkinfo_family_name(number, name, sizeof name);
-    CHECK((length > 0) == (code >= 1 && code <= 37));
+    CHECK((length > 0) == (code >= 1 && code <= LAST_FAMILY));
     text_is(name, write_family, &number);
     length = linkinfo_kind_name(number, name, sizeof name);
-    CHECK((length > 0) == (code >= 2 && code <= 47));
+    CHECK((length > 0) == (code >= 2 && code <= LAST_KIND));
     if (length > 0)
       CHECK(linkinfo_kind_of_name((const char *)at_end((const uint8_t *)name, length), length) ==
             number);
     text_is(name, write_kind, &number);
     length = linkinfo_port_kind_name(number, name, sizeof name);
-    CHECK((length > 0) == (code >= 257 && code <= 260));
+    CHECK((length > 0) == (code >= 257 && code <= LAST_PORT_KIND));
     if (length > 0)
       CHECK(linkinfo_port_kind_of_name((const char *)at_end((const uint8_t *)name, length),
                                        length) == number);
@@ -609,7 +613,7 @@ static void texts(void) {
   struct linkinfo_error short_error = {LINKINFO_FAMILY_FRAME, 0, LINKINFO_CAUSE_HEADER};
   text_is("frame 0 header", write_error, &short_error);
   struct linkinfo_error none = {LINKINFO_FAMILY_XFRM, 2, LINKINFO_CAUSE_NONE},
-                        no_family = {38, 2, LINKINFO_CAUSE_LENGTH}, no_cause = {1, 0, 12};
+                        no_family = {LAST_FAMILY + 1, 2, LINKINFO_CAUSE_LENGTH}, no_cause = {1, 0, 12};
   text_is("", write_error, &none);
   text_is("", write_error, &no_family);
   text_is("", write_error, &no_cause);

@@ -84,38 +84,50 @@ mod operators;
 
 pub use compat::{AllocError, AllocFailed};
 pub use layers::data::{Difference, InfoData, InfoDataOf, InfoPortData, Unmet};
+// Begin: written by tables/generate from tables/kinds (device).
 pub use layers::devices::{
     InfoIpVlan, InfoIpVtap, InfoIpoib, InfoMacSec, InfoMacVlan, InfoMacVtap, InfoRmNet, InfoVrf,
-    InfoVrfPort, InfoXfrm,
+    InfoXfrm,
 };
+// End: written by tables/generate.
+pub use layers::devices::InfoVrfPort;
 pub use layers::link::{
     CanonError, CanonIntoError, ErrorAt, ErrorIn, LinkInfo, LinkInfoItem, LinkInfoOf, LinkInfoWalk,
     LinkXstats, VecLinkInfo, VecLinkInfoOf, canon, canon_into, canon_into_of, canon_of, check,
     check_at, check_at_of, check_of, first_difference, first_difference_of, first_unmet,
     first_unmet_of, same, same_at, same_at_of, same_of,
 };
-pub use layers::lower::{
-    InfoBond, InfoBondPort, InfoBridge, InfoBridgePort, InfoCan, InfoDsa, InfoHsr, InfoVlan,
-};
+// Begin: written by tables/generate from tables/kinds (lower).
+pub use layers::lower::{InfoBond, InfoBridge, InfoCan, InfoDsa, InfoHsr, InfoVlan};
+// End: written by tables/generate.
+pub use layers::lower::{InfoBondPort, InfoBridgePort};
 pub use layers::messages;
 pub use layers::names::{Explanation, attribute_name};
 pub use layers::nla_frame::{
     Bytes, Cause, DecodeError, DefaultNla, Family, Nlas, Text, ToVecError,
 };
+// Begin: written by tables/generate from tables/numbers.
 pub use layers::numbers::{
     AmtMode, ErSpanDir, EthernetProtocol, GeneveDf, GreEncapFlags, GreEncapType, GreIOFlags,
-    GtpRole, IFLA_INFO_DATA, IFLA_INFO_KIND, IFLA_INFO_SLAVE_DATA, IFLA_INFO_SLAVE_KIND,
-    IFLA_INFO_XSTATS, InfoKind, InfoPortKind, InfoRmNetFlags, Ip6TunnelFlags, IpProtocol,
-    IpVlanFlags, IpVlanMode, IpVtapFlags, IpVtapMode, IpoibMode, KindTag, MacSecCipherId,
-    MacSecOffload, MacSecValidate, MacVlanFlags, MacVlanMacAddressMode, MacVlanMode, MacVtapFlags,
-    MacVtapMacAddressMode, MacVtapMode, NetkitMode, NetkitPolicy, NetkitScrub, PortTag, RmNetFlags,
-    TunnelEncapFlags, TunnelEncapType, VxlanDf, port_tag_of_name, tag_of_name,
+    GtpRole, InfoRmNetFlags, Ip6TunnelFlags, IpProtocol, IpVlanFlags, IpVlanMode, IpVtapFlags,
+    IpVtapMode, IpoibMode, MacSecCipherId, MacSecOffload, MacSecValidate, MacVlanFlags,
+    MacVlanMacAddressMode, MacVlanMode, MacVtapFlags, MacVtapMacAddressMode, MacVtapMode,
+    NetkitMode, NetkitPolicy, NetkitScrub, RmNetFlags, TunnelEncapFlags, TunnelEncapType, VxlanDf,
 };
+// End: written by tables/generate.
+pub use layers::numbers::{
+    IFLA_INFO_DATA, IFLA_INFO_KIND, IFLA_INFO_SLAVE_DATA, IFLA_INFO_SLAVE_KIND, IFLA_INFO_XSTATS,
+    InfoKind, InfoPortKind, KindTag, PortTag, port_tag_of_name, tag_of_name,
+};
+// Begin: written by tables/generate from tables/kinds (peered).
 pub use layers::peers::{
-    InfoBatAdv, InfoNetkit, InfoNetkitOf, InfoPfcp, InfoTeamPort, InfoTun, InfoVeth, InfoVethOf,
-    InfoVxcan, InfoVxcanOf, InfoWireguard, InfoWwan,
+    InfoBatAdv, InfoNetkitOf, InfoPfcp, InfoTun, InfoVethOf, InfoVxcanOf, InfoWireguard, InfoWwan,
 };
+// End: written by tables/generate.
+pub use layers::peers::{InfoNetkit, InfoTeamPort, InfoVeth, InfoVxcan};
 pub use layers::table::{LinkPeer, PeerFault};
+// Begin: written by tables/generate from tables/kinds (tunnel).
 pub use layers::tunnels::{
     InfoAmt, InfoBareUdp, InfoGeneve, InfoGre, InfoGre6, InfoGtp, InfoIpTunnel, InfoVti, InfoVxlan,
 };
+// End: written by tables/generate.

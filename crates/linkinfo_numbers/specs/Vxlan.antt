@@ -1,4 +1,5 @@
--- The numbers and texts of VXLAN tunnels.
+-- Written by tables/generate from tables/numbers/vxlan.
+-- VXLAN tunnels: numbers and texts.
 use Rattle.std.specs.Prelude.{ℕ, List, [], ◌∷◌, codes, refl}
 use Rattle.std.specs.Fmt.{decimal}
 use Rattle.std.proofs.Common.{inl, inr}
