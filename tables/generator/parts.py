@@ -54,9 +54,9 @@ def whole_text(output):
 
 def pattern(path, name):
     """The lines of a part: that before it, its own, and those after it, with an empty line if the
-    layout of the file wants one."""
-    mark = re.escape(comment(path, BEGIN)).replace(r"\{\}", "{}").replace("{}", name)
-    end = re.escape(comment(path, END))
+    layout of the file wants one. A ghost block of a .rt file has comments as .antt files have."""
+    mark, end = (re.escape(comment(path, text)).replace("//", "(?://|--)") for text in (BEGIN, END))
+    mark = mark.replace(r"\{\}", "{}").replace("{}", name)
     return re.compile(rf"^( *{mark}\n)(.*?)((?:^\n)?^ *{end}\n)", re.MULTILINE | re.DOTALL)
 
 
