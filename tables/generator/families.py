@@ -54,6 +54,16 @@ class Row:
         return self.value.made if self.value else ""
 
     @property
+    def two(self):
+        """Whether an empty payload has a variant of its own."""
+        return len(self.variants) == 2
+
+    @property
+    def numbered(self):
+        """Whether the value is of a number type."""
+        return self.made in ("number", "reference")
+
+    @property
     def field(self):
         return self.value.name if self.value else self.layout.field
 
@@ -190,9 +200,9 @@ def order(root):
     return rows
 
 
-def read(root, values, ordered):
+def read(root, values, known, ordered):
     """The families that have a table, in their order."""
-    known, found = layouts(root), {}
+    found = {}
     for row in ordered:
         if row["table"] and row["table"] not in found:
             table = form.read(root, row["table"], COLUMNS, KEYS)

@@ -6,7 +6,7 @@ class Tables:
     """The tables of a repository.
 
     `numbers` are the groups of number types and flag sets, `values` their types by name (each a
-    `form.Value`), `kinds` the kinds of links, `order` the rows of tables/families (C's code, the
+    `form.Value`), `layouts` the layouts of payloads, `kinds` the kinds of links, `order` the rows of tables/families (C's code, the
     family, its table, and what it is of), `codes` the families by C's code, and `families` those
     with a table, in their order.
     """
@@ -19,7 +19,8 @@ class Tables:
         self.order = families.order(root)
         self.codes = [row["family"] for row in sorted(
             (row for row in self.order if row["code"]), key=lambda row: row.number("code"))]
-        self.families = families.read(root, self.values, self.order)
+        self.layouts = families.layouts(root)
+        self.families = families.read(root, self.values, self.layouts, self.order)
 
     def without(self, has):
         """The families by C's code of which `has` is false, or that have no table."""

@@ -56,11 +56,21 @@ def imports(head, names, end="", broken=False, indent=""):
         f"{indent}}}{end}"
 
 
-def used(body, head, names, end=""):
-    """The import of those names that a text has; empty if it has none."""
-    words = set(re.findall(r"[^\s(),]+", body))
-    names = [name for name in names if name.strip("◌") in words]
-    return imports(head, names, f"{end}\n") if names else ""
+IMPORT = re.compile(r"^((?:ghost )?use [^\s{]+)(\.|::)\{([^}]*)\}(;?)\n", re.MULTILINE)
+
+
+def tidy(text):
+    """A text without imports of what it does not name."""
+    code = IMPORT.sub("", re.sub(r"(?m)(//|^--).*", "", text))
+    words = {*re.findall(r"[^\s(),]+", code), *re.findall(r"\w+", code)}
+
+    def kept(mark):
+        names = [name for name in re.findall(r"[^\s,]+", mark[3]) if name.strip("◌") in words]
+        if mark[2] == "::":
+            return rust_use(mark[1].removeprefix("use "), names)
+        return f"{imports(mark[1], names, mark[4])}\n" if names else ""
+
+    return IMPORT.sub(kept, text)
 
 
 def by_word(name):

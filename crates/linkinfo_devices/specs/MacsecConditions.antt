@@ -6,9 +6,14 @@ use Rattle.linkinfo_numbers.specs.Table.{IsNumber, number_label}
 use Rattle.linkinfo_table.specs.Conditions.{IsUnknown, are_typed, unknown_label}
 use Rattle.linkinfo_table.specs.FamilyRows.{row_of, table_row}
 use Rattle.linkinfo_table.specs.Rows.{WellFormed}
-use Rattle.linkinfo_numbers.specs.Macsec.{mac_sec_cipher_id_table, mac_sec_cipher_id_table_holds}
-use Rattle.linkinfo_numbers.specs.Macsec.{mac_sec_offload_table, mac_sec_offload_table_holds}
-use Rattle.linkinfo_numbers.specs.Macsec.{mac_sec_validate_table, mac_sec_validate_table_holds}
+use Rattle.linkinfo_numbers.specs.Macsec.{
+  mac_sec_cipher_id_table,
+  mac_sec_cipher_id_table_holds,
+  mac_sec_validate_table,
+  mac_sec_validate_table_holds,
+  mac_sec_offload_table,
+  mac_sec_offload_table_holds,
+}
 use Rattle.linkinfo_devices.specs.Macsec.{mac_sec_attribute, mac_sec_rows}
 use Rattle.linkinfo_devices.specs.declared.macsec.InfoMacSec.{InfoMacSec}
 use Rattle.linkinfo_devices.specs.declared.macsec.InfoMacSec.TheVariants as mac_sec
@@ -44,7 +49,8 @@ mac_sec_stated = elim [
       (λ y. mac_sec.Validation y) mac_sec_conditions (λ _ is. is) (λ _ is. is) x
   | mac_sec.Offload x ↦ number_label mac_sec_offload_table_holds 256
       (λ y. mac_sec.Offload y) mac_sec_conditions (λ _ is. is) (λ _ is. is) x
-  | mac_sec.Other d ↦ unknown_label (λ z. mac_sec.Other z) mac_sec_attribute mac_sec_rows mac_sec_is_other
-      (λ _. refl) (λ _. refl) (are_typed mac_sec_is_other mac_sec_rows refl) d
+  | mac_sec.Other d ↦ unknown_label
+      (λ z. mac_sec.Other z) mac_sec_attribute mac_sec_rows mac_sec_is_other (λ _. refl) (λ _. refl)
+      (are_typed mac_sec_is_other mac_sec_rows refl) d
   | _ ↦ (λ w. subst mac_sec_conditions w.2 w.1, λ h. (_, h, refl))
 ]

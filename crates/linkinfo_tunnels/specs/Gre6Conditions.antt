@@ -7,8 +7,12 @@ use Rattle.linkinfo_numbers.specs.Table.{IsNumber, number_label}
 use Rattle.linkinfo_table.specs.Conditions.{IsUnknown, are_typed, unknown_label}
 use Rattle.linkinfo_table.specs.FamilyRows.{row_of, table_row}
 use Rattle.linkinfo_table.specs.Rows.{WellFormed}
-use Rattle.linkinfo_numbers.specs.Gre.{er_span_dir_table, er_span_dir_table_holds}
-use Rattle.linkinfo_numbers.specs.Gre.{gre_encap_type_table, gre_encap_type_table_holds}
+use Rattle.linkinfo_numbers.specs.Gre.{
+  gre_encap_type_table,
+  gre_encap_type_table_holds,
+  er_span_dir_table,
+  er_span_dir_table_holds,
+}
 use Rattle.linkinfo_tunnels.specs.Gre6.{gre6_attribute, gre6_rows}
 use Rattle.linkinfo_tunnels.specs.declared.gre6.InfoGre6.{InfoGre6}
 use Rattle.linkinfo_tunnels.specs.declared.gre6.InfoGre6.TheVariants as gre6

@@ -1,0 +1,103 @@
+"""Writes what people see of rows: how linkinfo_view shows them, docs/SHOW.md, docs/FORMAT.md, and
+the stored lines that the program rejects or accepts by a row (gate/lines/rows.in and rows.out)."""
+import re
+
+from .lists import arms, clauses, used
+from .parts import Part, Whole
+from .places import put_in, sections
+from .text import fill, listed
+
+VIEW = "crates/linkinfo_view"
+PARTS = {"Word": "Words", "Bits": "Flags", "Options": "Flags", "Names": "Flags",
+         "SecondNames": "Flags", "List": "Elements", "Nested": "Table"}
+
+
+def views(family):
+    """The tables to show: constant, comment, title, and rows. If kinds of a family differ, each has
+    the rows in which it does, and one table the others."""
+    rows = [row for row in family.rows if row.member]
+    if not family.parts:
+        return [(family.constant, family.names, family.links, rows)]
+    apart, found = {row.number for row in family.rows if row.under}, []
+    for kind, name in family.parts.items():
+        own = {row.number: row for row in rows if row.number in apart and row.under in ("", kind)}
+        constant = re.sub(r"(?<=[a-z0-9])(?=[A-Z])", "_", name).upper()
+        where = f" ({family.header})" if not found else ""
+        found.append((constant, f"`{family.prefix}*`{where} of `{kind}` links.", kind,
+                      list(own.values())))
+    return [found[0], ("TUNNEL", f"`{family.prefix}*` that all tunnels over IP have.", family.links,
+                       [row for row in rows if row.number not in apart]), *found[1:]]
+
+
+def view_marks(family):
+    """What templates/lists has in its marks of each table to show."""
+    found = views(family)
+    for at, (constant, said, title, rows) in enumerate(found):
+        values = []
+        for row in rows:
+            name, _, part = row.shown.partition(" ")
+            values.append({
+                "number": str(row.number), "member": row.member, "shape": row.shape,
+                "shown": row.shown,
+                "format": f"{name}({PARTS[name]}::{part})" if part else name or "Plain"})
+        yield {"constant": constant, "said": said, "values": values,
+               "head": fill(f"**{title}**: {said}".split(), "", ""),
+               "others": family.links if len(found) > 1 and at != 1 else ""}
+
+
+def page_marks(family):
+    """What templates/lists has in its marks of a family in docs/FORMAT.md."""
+    rows = []
+    for row in family.typed:
+        names = dict.fromkeys([row.kernel, row.kernel.replace(family.prefix, family.twin_prefix)])
+        rows.append({
+            "number": str(row.number), "under_kind": f" under `{row.under}`" if row.under else "",
+            "kernel_names": ", ".join(f"`{name}`" for name in names), "shape": row.shape,
+            "page_variants": f"{row.variants[0]} (empty), {row.variant} (one byte)" if row.two
+            else row.variant, "made_into": f" {row.value.name} " if row.value else " "})
+    return {"heading": listed([f"`{name}`" for name in family.families]), "values": rows,
+            "note": fill((family.note or "").split(), "", "")}
+
+
+def attribute(kind, payload):
+    """The bytes of an attribute, with padding."""
+    data = (len(payload) + 4).to_bytes(2, "little") + kind.to_bytes(2, "little") + payload
+    return data + bytes(-len(data) % 4)
+
+
+def lines(family, kind):
+    """The lines of one kind for the program, and its output: each row with a payload that its
+    layout rejects, or accepts if it takes any."""
+    name = family.families[family.kinds.index(kind) if family.twin else 0].lower()
+    for row in family.typed:
+        if row.under in ("", kind) and row.layout.rejects:
+            given, cause = row.layout.rejects.split()
+            payload = bytes.fromhex(given[2:]) if given[:2] == "0x" else bytes(int(given))
+            data = attribute(1, kind.encode() + b"\0") + attribute(2, attribute(row.number, payload))
+            said = {"ok": "ok", "header": "err frame 0 header"}.get(
+                cause, f"err {name} {row.number} {cause}")
+            yield f"check {data.hex()}", said
+
+
+def outputs(tables):
+    """The rows to show, the pages, and the lines."""
+    def put(name, marks):
+        return put_in(sections("lists")[name], marks)
+
+    found = [it for family in tables.families for it in view_marks(family)]
+    named = [(family.families, family.constant) for family in tables.families
+             if family.name in tables.codes]
+    rows = [{"rows": put("view of a family", it).removesuffix("\n")} for it in found]
+    yield Whole(f"{VIEW}/src/entries.rt", "families", put("view", {"values": rows}))
+    yield from used(f"{VIEW}/src/table", f"{VIEW}/specs/Table.antt",
+                    [(None, it["constant"]) for it in found])
+    yield Part(f"{VIEW}/src/table.rt", "families (arms)", arms(named))
+    yield Part(f"{VIEW}/specs/Table.antt", "families (clauses)",
+               clauses("family_rows", "lines", named))
+    yield Part("docs/SHOW.md", "families", "".join(put("page of a view", it) for it in found))
+    yield Part("docs/FORMAT.md", "families", "".join(
+        put("page of a family", page_marks(family)) for family in tables.families if family.typed))
+    stored = [line for family in tables.families for kind in family.kinds
+              for line in lines(family, kind)]
+    for at, name in enumerate(("in", "out")):
+        yield Whole(f"gate/lines/rows.{name}", "", "".join(f"{line[at]}\n" for line in stored))

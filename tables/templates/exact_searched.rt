@@ -1,3 +1,0 @@
-    ghost use Rattle.std.proofs.Common.{rules};
-
-    ghost exact = { Prim.search rules };
