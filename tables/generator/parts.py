@@ -1,8 +1,7 @@
 """Whole files and marked parts of files: what they hold, and which of them are stale.
 
 The first line of a whole file says from which table it is; a part is between two lines, of which
-the first one says so. The text between them, and the text of a whole file, is what follows from the
-tables and nothing else.
+the first one says so. The text between them, and that of a whole file, follows from the tables.
 """
 import dataclasses
 import pathlib
@@ -11,14 +10,14 @@ import subprocess
 
 ATTRIBUTES = ".gitattributes"
 COMMENTS = {".rt": "// {}", ".rs": "// {}", ".antt": "-- {}", ".md": "<!-- {} -->",
-            ".h": "/* {} */", ".c": "/* {} */", ".py": "# {}", "": "# {}"}
+            ".h": "/* {} */", ".c": "/* {} */", "": "# {}"}
 WRITTEN = "Written by tables/generate from tables/{}."
 BEGIN = "Begin: written by tables/generate from tables/{}."
 END = "End: written by tables/generate."
 
 
 class Missing(Exception):
-    """A part that no file holds."""
+    """A part that its file does not hold, or holds twice."""
 
 
 @dataclasses.dataclass(frozen=True)
@@ -33,7 +32,7 @@ class Whole:
 @dataclasses.dataclass(frozen=True)
 class Part:
     """A part of a file. `name` is the table that it is from, with what it is in parentheses if the
-    file has several parts: `kinds (variants)`. `text` ends with a line feed."""
+    file has several parts: `kinds (variants)`."""
     path: str
     name: str
     text: str
@@ -41,45 +40,37 @@ class Part:
 
 def comment(path, text):
     """A line of comment, as the file of this path has it."""
-    suffix = pathlib.PurePath(path).suffix if pathlib.PurePath(path).name != ATTRIBUTES else ""
-    return COMMENTS[suffix].format(text)
-
-
-def whole_text(output):
-    """The text of a whole file."""
-    if not output.name:
-        return output.text
-    return f"{comment(output.path, WRITTEN.format(output.name))}\n{output.text}"
+    return COMMENTS.get(pathlib.PurePath(path).suffix, COMMENTS[""]).format(text)
 
 
 def pattern(path, name):
-    """The lines of a part: that before it, its own, and those after it, with an empty line if the
-    layout of the file wants one. A ghost block of a .rt file has comments as .antt files have."""
-    mark, end = (re.escape(comment(path, text)).replace("//", "(?://|--)") for text in (BEGIN, END))
-    mark = mark.replace(r"\{\}", "{}").replace("{}", name)
-    return re.compile(rf"^( *{mark}\n)(.*?)((?:^\n)?^ *{end}\n)", re.MULTILINE | re.DOTALL)
+    """The lines of a part, by an expression for its name: that before it with the name, its own,
+    and those after it, with an empty line if the layout of the file wants one. A ghost block of a
+    .rt file has comments as .antt files have."""
+    begin, end = (re.escape(comment(path, it)).replace("//", "(?://|--)") for it in (BEGIN, END))
+    begin = begin.replace(r"\{\}", f"({name})")
+    return re.compile(rf"^( *{begin}\n)(.*?)((?:^\n)?^ *{end}\n)", re.MULTILINE | re.DOTALL)
 
 
 def with_part(text, output):
     """A file's text with a part in its place."""
-    found = pattern(output.path, re.escape(output.name)).findall(text)
-    if len(found) != 1:
-        raise Missing(f"{output.path}: {len(found)} parts from tables/{output.name}, not one")
-    return pattern(output.path, re.escape(output.name)).sub(
-        lambda mark: f"{mark[1]}{output.text.rstrip()}\n{mark[3]}", text)
+    text, count = pattern(output.path, re.escape(output.name)).subn(
+        lambda mark: f"{mark[1]}{output.text.rstrip()}\n{mark[4]}", text)
+    if count != 1:
+        raise Missing(f"{output.path}: {count} parts from tables/{output.name}, and not one")
+    return text
 
 
 def files(root, outputs):
     """The text of each file that an output is in, by path."""
     found = {}
-    for output in outputs:
+    for output in sorted(outputs, key=lambda output: isinstance(output, Part)):
         if isinstance(output, Whole):
-            found[output.path] = whole_text(output)
-    for output in outputs:
-        if isinstance(output, Part):
-            if output.path not in found:
-                found[output.path] = (root / output.path).read_text(encoding="utf-8")
-            found[output.path] = with_part(found[output.path], output)
+            first = f"{comment(output.path, WRITTEN.format(output.name))}\n" * bool(output.name)
+            found[output.path] = first + output.text
+        else:
+            text = found.get(output.path) or (root / output.path).read_text(encoding="utf-8")
+            found[output.path] = with_part(text, output)
     return found
 
 
@@ -90,33 +81,20 @@ def attributes(outputs):
                 "".join(f"/{path} linguist-generated\n" for path in paths))
 
 
-def listed(root):
-    """The whole files that .gitattributes marks now."""
-    text = (root / ATTRIBUTES).read_text(encoding="utf-8")
-    found = pattern(ATTRIBUTES, "families").search(text)
-    return re.findall(r"(?m)^/(\S+) linguist-generated$", found[2]) if found else []
-
-
-def tracked(root):
-    """The files of the repository that may have a part or a first line: those of git."""
-    names = subprocess.run(["git", "-C", root, "grep", "-lE", "--untracked",
-                            "ritten by tables/generate from tables/", "--", ".", ":!tables"],
-                           capture_output=True, text=True, check=False).stdout
-    return names.split()
-
-
 def without_table(root, outputs):
-    """What is generated in the repository and follows from no table any more: whole files, and
-    parts, each as its path and its name."""
-    whole = {output.path for output in outputs if isinstance(output, Whole)}
-    parts = {(output.path, output.name) for output in outputs if isinstance(output, Part)}
-    gone = [path for path in listed(root) if path not in whole and (root / path).exists()]
-    named = []
-    for path in tracked(root):
+    """What is generated in the repository and follows from no table any more: whole files, and the
+    parts of others, each as its path and its name. Files of rust/ follow from those of crates/."""
+    here = {(output.path, isinstance(output, Part) and output.name) for output in outputs}
+    marked = (root / ATTRIBUTES).read_text(encoding="utf-8")
+    whole = {path for path in re.findall(r"(?m)^/(\S+) linguist-generated$", marked)
+             if (root / path).exists()}
+    parts = []
+    for path in subprocess.run(
+            ["git", "-C", root, "grep", "-lE", "--untracked", "ritten by tables/generate", "--",
+             ".", ":!tables", ":!rust"], capture_output=True, text=True).stdout.split():
         text = (root / path).read_text(encoding="utf-8")
-        if path not in whole and path not in gone and re.match(
-                re.escape(comment(path, WRITTEN)).replace(r"\{\}", r"\S+"), text):
-            gone.append(path)
-        named += [(path, name) for name in pattern(path, "([^\n]*)").findall(text)
-                  if (path, name[1]) not in parts]
-    return gone, [(path, name[1]) for path, name in named]
+        first = re.escape(comment(path, WRITTEN)).replace(r"\{\}", r"\S+")
+        whole |= {path} if re.match(first, text) else set()
+        parts += [(path, found[1]) for found in pattern(path, "[^\n]*").findall(text)]
+    return sorted(path for path in whole if (path, False) not in here), \
+        [part for part in parts if part not in here]
