@@ -6,9 +6,8 @@ from .places import put_in, sections
 
 def marks(family):
     """What templates/laws has in its marks of a family."""
-    types = ", ".join(family.types)
-    return {"module": family.module, "snake": family.snake, "type": family.type, "name": family.name,
-            "spec": family.spec, "types": f"{{{types}}}" if ", " in types else types}
+    types = f"{{{family.type}, {family.alias}}}" if family.alias else family.type
+    return {**vars(family), "types": types}
 
 
 def outputs(tables):

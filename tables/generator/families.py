@@ -9,7 +9,8 @@ ORDER = ["code", "family", "table", "what"]
 LAYOUTS = ["layout", "field", "variable", "read", "exact", "rejects"]
 COLUMNS = ["type", "name", "variant", "layout", "member", "shown as"]
 KEYS = ["family", "links", "names", "twin", "tables", "header", "about", "note", "alias", "rows"]
-FAMILY = re.compile(r"(\w+)(?: and (\w+))?(?:, (by hand )?in (\w+)(?:::(\w+)(?: and (\w+))?)?)?")
+FAMILY = re.compile(
+    r"(\w+)(?: and (\w+))?(?:, (by hand )?in (\w+)(?:::(\w+)(?: and (\w+))?)?)?")
 
 
 @dataclasses.dataclass(frozen=True)
@@ -32,40 +33,18 @@ class Row:
     number: int
     under: str          # the kind of link that alone has it, else empty
     kernel: str         # the kernel's name
-    variants: list      # none if it is shown, and otherwise opaque
+    variants: list      # none if it is shown, and otherwise opaque; two if an empty payload has one
     layout: Layout
     value: form.Value   # the type that the number is made into, or none
     member: str
     shown: str
     docs: list
 
-    @property
-    def variant(self):
-        """The variant of a datum; the last if an empty payload has one of its own."""
-        return self.variants[-1]
-
-    @property
-    def shape(self):
-        return self.layout.name
-
-    @property
-    def made(self):
-        """How the value is made from a number, or empty."""
-        return self.value.made if self.value else ""
-
-    @property
-    def two(self):
-        """Whether an empty payload has a variant of its own."""
-        return len(self.variants) == 2
-
-    @property
-    def numbered(self):
-        """Whether the value is of a number type."""
-        return self.made in ("number", "reference")
-
-    @property
-    def field(self):
-        return self.value.name if self.value else self.layout.field
+    def __post_init__(self):
+        self.shape, self.variant = self.layout.name, (self.variants or [""])[-1]
+        self.two, self.made = len(self.variants) == 2, self.value.made if self.value else ""
+        self.field = self.value.name if self.value else self.layout.field
+        self.numbered = self.made in ("number", "reference")
 
     def doc(self, at):
         """The doc comment of a variant. A text without a full stop gets the kernel's name and the
@@ -82,91 +61,57 @@ class Family:
     """A family, or two that have the same rows: the head of the table, and its rows."""
 
     def __init__(self, table, layouts, values):
-        self.table, self.title = table.path.removeprefix("tables/"), table.title
+        for key in KEYS[:3]:
+            if key not in table.head:
+                raise form.Bad(table.path, 1, f"the head has no line `{key}`")
         where = FAMILY.fullmatch(table.head["family"].text)
-        if not where:
-            raise table.head["family"].bad("not `NAME, in CRATE` or `NAME`")
+        names = re.fullmatch(r"(\w+)\*(.*)", table.head["names"].text)
+        if not where or not names:
+            raise table.head["names" if where else "family"].bad(
+                "it is not `NAME, in CRATE` or `NAME`" if not where else "it is not `PREFIX_*`")
         self.name, self.twin, by_hand, self.crate, module, other = where.groups()
+        self.table, self.title = table.path.removeprefix("tables/"), table.title
         self.flat = bool(self.crate and not by_hand)
-        self.module = module or snake(self.name)
-        self.modules = [self.module, *[other] * bool(other)]
+        self.families = [self.name, *[self.twin] * bool(self.twin)]
         self.type, self.snake = f"Info{self.name}", snake(self.name)
-        self.spec = camel(self.module)
+        self.module, self.constant = module or self.snake, self.snake.upper()
+        self.modules, self.spec = [self.module, *[other] * bool(other)], camel(self.module)
         self.links, self.about = table.head["links"].text, table.value("about")
-        self.prefix, self.more = re.fullmatch(r"(\w+)\*(.*)", table.head["names"].text).groups()
+        self.prefix, more = names.groups()
         self.twin_prefix = table.value("twin", self.prefix).removesuffix("*")
         self.header = table.value("header", form.LINK_HEADER)
-        self.note, self.alias = table.value("note"), table.value("alias")
-        self.listed_in = table.value("rows")
+        self.note, self.listed_in = table.value("note"), table.value("rows")
+        self.alias, _, self.alias_said = table.value("alias", "").partition(", ")
         self.parts = dict(it.split() for it in table.value("tables", "").split(", ") if it)
         self.rows = [read_row(row, self.prefix, layouts, values) for row in table.rows]
         check(self.rows)
-
-    @property
-    def families(self):
-        """The names of the families that have these rows."""
-        return [self.name, *[self.twin] * bool(self.twin)]
-
-    @property
-    def types(self):
-        """The names of the type of an attribute."""
-        return [self.type, *(self.alias or "").split(",")[:bool(self.alias)]]
-
-    @property
-    def constant(self):
-        """The constant of names, and of rows to show."""
-        return self.snake.upper()
-
-    @property
-    def typed(self):
-        """The rows that have a variant."""
-        return [row for row in self.rows if row.variants]
-
-    @property
-    def plain(self):
-        """The rows of the table of all families."""
-        return [row for row in self.typed if not row.under]
-
-    @property
-    def values(self):
-        """The types that rows are made into, in the order of their first use."""
-        return list(dict.fromkeys(row.value for row in self.typed if row.value))
-
-    @property
-    def kinds(self):
-        """The kinds of links."""
-        return re.findall(r"\w+", self.links.split(", and its")[0].replace(" and ", ", "))
-
-    @property
-    def names(self):
-        """What the rows are, for the comment before a list."""
-        where = "" if self.header == form.LINK_HEADER else f" ({self.header})"
-        return f"`{self.prefix}*`{where}{self.more}."
-
-    @property
-    def quoted(self):
-        """The kinds of links, each in backquotes."""
-        return listed([f"`{kind}`" for kind in self.kinds])
+        self.typed = [row for row in self.rows if row.variants]
+        self.plain = [row for row in self.typed if not row.under]
+        self.values = list(dict.fromkeys(row.value for row in self.typed if row.value))
+        self.kinds = re.findall(r"\w+", self.links.split(", and its")[0].replace(" and ", ", "))
+        self.quoted = listed([f"`{kind}`" for kind in self.kinds])
+        where = f" ({self.header})" * (self.header != form.LINK_HEADER)
+        self.names = f"`{self.prefix}*`{where}{more}."
 
 
 def read_row(row, prefix, layouts, values):
     """An attribute of a row."""
     number, _, under = row["type"].partition("/")
-    layout, *value = row["layout"].split()
+    name, *value = (row["layout"] or "-").split()
     if not number.isdecimal() or int(number) >= 1 << 14:
         raise row.line.bad(f"{number or '-'} is no type")
-    if layout not in layouts:
-        raise row.line.bad(f"{layout or '-'} is no layout")
-    layout = layouts[layout]
+    if name not in layouts:
+        raise row.line.bad(f"{name} is no layout")
+    layout = layouts[name]
     made = values.get(value[-1]) if value[:1] == ["as"] and len(value) == 2 else None
     if value and not made:
         raise row.line.bad(f"{' '.join(value)} is not `as` and a type of tables/numbers")
     bits = re.fullmatch(r"[ui](\d+)", layout.field)
     if made and bits and made.bits != int(bits[1]):
-        raise row.line.bad(f"{made.name} has {made.bits} bits, and {layout.name} has {bits[1]}")
+        raise row.line.bad(f"{made.name} has {made.bits} bits, and {name} has {bits[1]}")
     variants = row["variant"].split("/") if row["variant"] else []
     if len(row.docs) != len(variants):
-        raise row.line.bad("a doc comment for each variant, and none else")
+        raise row.line.bad("not a doc comment for each variant")
     if not row["name"]:
         raise row.line.bad("a row without a name")
     return Row(row.line, int(number), under, prefix + row["name"], variants, layout, made,
@@ -186,10 +131,9 @@ def check(rows):
 
 def layouts(root):
     """The layouts by name, in the order of `Shape`."""
-    found = {}
-    for row in form.read(root, "layouts", LAYOUTS).rows:
-        found[row["layout"]] = Layout(*row.cells.values(), *[*row.docs, ""][:2])
-    return found
+    rows = form.read(root, "layouts", LAYOUTS).rows
+    form.apart((row.line, row["layout"]) for row in rows)
+    return {row["layout"]: Layout(*row.cells.values(), *[*row.docs, "", ""][:2]) for row in rows}
 
 
 def order(root):
@@ -202,12 +146,5 @@ def order(root):
 
 def read(root, values, known, ordered):
     """The families that have a table, in their order."""
-    found = {}
-    for row in ordered:
-        if row["table"] and row["table"] not in found:
-            table = form.read(root, row["table"], COLUMNS, KEYS)
-            for key in KEYS[:3]:
-                if key not in table.head:
-                    raise form.Bad(table.path, 1, f"the head has no line `{key}`")
-            found[row["table"]] = Family(table, known, values)
-    return list(found.values())
+    names = dict.fromkeys(row["table"] for row in ordered if row["table"])
+    return [Family(form.read(root, name, COLUMNS, KEYS), known, values) for name in names]

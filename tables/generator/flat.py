@@ -28,7 +28,7 @@ def by_hand(family):
         yield Part(f"{source}/{name}.rt", f"{family.table} (variants)", of_twin(
             put_in(sections("family")["variants"], {"values": rows}), family, at))
     if family.listed_in:
-        rows = [of_row(row, 0) for row in family.plain]
+        rows = [of_row(row) for row in family.plain]
         yield Part(f"{source}/{family.listed_in}.rt", f"{family.table} (rows)",
                    put_in(sections("family")["rows"], {"values": rows}))
 

@@ -1,7 +1,7 @@
 """Reads the form of all tables: a title, a head, and rows of columns with doc comments below them.
 
 Columns are two or more spaces apart, and `-` is an empty cell. A doc comment is a line that begins
-with spaces; a line that begins with more of them continues it.
+with spaces; a line that is indented further continues it.
 """
 import dataclasses
 import re
@@ -27,10 +27,6 @@ class Line:
         """The error of this line."""
         return Bad(self.path, self.number, said)
 
-    def of(self, text):
-        """A part of this line."""
-        return dataclasses.replace(self, text=text)
-
 
 @dataclasses.dataclass(frozen=True)
 class Row:
@@ -52,7 +48,7 @@ class Row:
 
 @dataclasses.dataclass(frozen=True)
 class Table:
-    """A table: its title, the lines of its head by their first word, and its rows."""
+    """A table: its path, title, the lines of its head by their first word, and its rows."""
     path: str
     title: str
     head: dict
@@ -80,20 +76,17 @@ def lines(root, name):
     path = f"tables/{name}"
     try:
         text = (root / path).read_bytes().decode("utf-8")
-    except FileNotFoundError:
-        raise Bad(path, 1, "there is no such table") from None
-    except UnicodeDecodeError:
-        raise Bad(path, 1, "the table is not UTF-8") from None
+    except (FileNotFoundError, UnicodeDecodeError) as error:
+        missing = isinstance(error, FileNotFoundError)
+        raise Bad(path, 1, "there is no such table" if missing else "it is not UTF-8") from None
     if not text.strip():
         raise Bad(path, 1, "the table is empty")
     found = [Line(path, at, line) for at, line in enumerate(text.split("\n"), 1)]
     if found.pop().text:
         raise Bad(path, len(found) + 1, "the last line has no end")
     for line in found:
-        if "\t" in line.text:
-            raise line.bad("a tab")
-        if line.text != line.text.rstrip():
-            raise line.bad("a trailing blank")
+        if "\t" in line.text or line.text != line.text.rstrip():
+            raise line.bad("a tab" if "\t" in line.text else "a trailing blank")
     return found
 
 
@@ -102,57 +95,39 @@ def cells(text):
     return ["" if cell == "-" else cell for cell in re.split(r"\s{2,}", text.strip())]
 
 
-def indent(line):
-    """How many spaces a line begins with."""
-    return len(line.text) - len(line.text.lstrip(" "))
-
-
-def texts(found):
-    """The texts of indented lines: a line that is indented further continues the one before."""
-    said = []
-    for line in found:
-        if said and indent(line) > indent(found[0]):
-            said[-1] += " " + line.text.strip()
-        else:
-            said.append(line.text.strip())
-    return said
-
-
 def head(found, keys):
     """The title and the head, the lines up to an empty one. Rejects keys that are not expected."""
+    given = {}
     if not found[0].text.startswith("# "):
         raise found[0].bad("the first line is not a title, `# ..`")
-    given = {}
     for line in found[1:]:
         if not line.text:
             return found[0].text.removeprefix("# "), given
         key, _, value = line.text.partition(" ")
-        if key not in keys or not value.strip():
-            raise line.bad(f"{key} is none of {', '.join(keys)} with a value")
-        if key in given:
-            raise line.bad(f"{key} is there twice")
-        given[key] = line.of(value.strip())
-    raise found[-1].bad("no empty line after the head, or no columns")
+        if key not in keys or key in given or not value.strip():
+            raise line.bad(f"{key} is there twice" if key in given else
+                           f"{key} is none of {', '.join(keys)} with a value")
+        given[key] = Line(line.path, line.number, value.strip())
+    raise found[-1].bad("there is no empty line after the head")
 
 
 def rows(found, columns):
-    """The rows, of which the first line names the columns. The last cells may be missing."""
-    if not found or cells(found[0].text) != columns:
-        line = found[0] if found else None
-        raise line.bad(f"the columns are {', '.join(columns)}")
-    at, given = 1, []
-    while at < len(found):
-        line, to = found[at], at + 1
-        while to < len(found) and found[to].text.startswith(" "):
-            to += 1
-        if not line.text or line.text.startswith(" "):
-            raise line.bad("an empty line" if not line.text else "a doc comment without a row")
-        named = cells(line.text)
-        if len(named) > len(columns):
-            raise line.bad(f"{len(named)} cells, where there are {len(columns)} columns")
-        named += [""] * (len(columns) - len(named))
-        given.append(Row(line, dict(zip(columns, named)), texts(found[at + 1:to])))
-        at = to
+    """The rows. The last cells of one may be missing."""
+    given, margin = [], 0
+    for line in found:
+        named, depth = cells(line.text), len(line.text) - len(line.text.lstrip(" "))
+        if not line.text or depth and not given:
+            raise line.bad("a doc comment without a row" if line.text else "an empty line")
+        if not depth:
+            if len(named) > len(columns):
+                raise line.bad(f"{len(named)} cells, and not {len(columns)}")
+            named += [""] * (len(columns) - len(named))
+            given.append(Row(line, dict(zip(columns, named)), []))
+        elif given[-1].docs and depth > margin:
+            given[-1].docs[-1] += " " + line.text.strip()
+        else:
+            margin = depth
+            given[-1].docs.append(line.text.strip())
     return given
 
 
@@ -160,13 +135,12 @@ def read(root, name, columns, keys=()):
     """The table tables/NAME with these columns, and these keys of its head."""
     found = lines(root, name)
     title, given = head(found, keys)
-    after = found[2 + len(given):]
-    if not after:
-        raise found[-1].bad(f"the columns are {', '.join(columns)}")
-    table = Table(found[0].path, title, given, rows(after, columns))
-    if not table.rows:
-        raise found[-1].bad("the table has no rows")
-    return table
+    at = len(given) + 2
+    if at >= len(found) or cells(found[at].text) != columns:
+        raise found[min(at, len(found) - 1)].bad(f"the columns are not {', '.join(columns)}")
+    if at + 1 == len(found):
+        raise found[at].bad("the table has no rows")
+    return Table(found[0].path, title, given, rows(found[at + 1:], columns))
 
 
 def apart(named):

@@ -5,16 +5,17 @@ from .places import put_in, sections
 from .text import MOST, by_word, imports, listed, rust_use
 
 SHAPES, NAMES = "crates/linkinfo_shapes", "crates/linkinfo_names"
+LINE = "\n        | "
 
 
-def either(names, between):
+def either(names, between=" | "):
     """Alternatives of a match."""
     return between.join(f"Family::{name}" for name in names)
 
 
 def arms(constants):
     """The arm of each constant: pairs of names of families, and it."""
-    return "".join(f"        {either(names, ' | ')} => {constant},\n" for names, constant in constants)
+    return "".join(f"        {either(names)} => {constant},\n" for names, constant in constants)
 
 
 def clauses(name, call, constants):
@@ -23,28 +24,23 @@ def clauses(name, call, constants):
                    for names, constant in constants for family in names)
 
 
-def used(path, head, constants):
+def used(crate, file, constants):
     """The imports of constants, in code and in specs."""
-    named = [constant for _, constant in constants]
-    yield Part(f"{path}.rt", "families (imports)",
-               rust_use("crate::entries", sorted([*named, "Entry"], key=by_word)))
-    yield Part(head, "families (imports)", imports(
-        f"use Rattle.{head.split('/')[1]}.specs.declared.entries.TheConstants", sorted(named)))
+    yield Part(f"crates/{crate}/src/{file}.rt", "families (imports)",
+               rust_use("crate::entries", sorted([*constants, "Entry"], key=by_word)))
+    yield Part(f"crates/{crate}/specs/{file.capitalize()}.antt", "families (imports)", imports(
+        f"use Rattle.{crate}.specs.declared.entries.TheConstants", sorted(constants)))
 
 
 def marks(family):
     """What templates/lists has in its marks of a family: of its rows, and of itself."""
     apart = dict.fromkeys((row.number, row.kernel) for row in family.typed if row.under)
-    given = {
-        "snake": family.snake, "name": family.name, "twin": family.twin,
-        "both": listed(family.families), "alternatives": either(family.families, " | "),
-        "about": family.names + "".join(
-            f" Type {number}, `{kernel}`, has no row, since its shape depends on the kind of the "
-            "link." for number, kernel in apart),
-        "apart": "".join(f"; its type {number} has no row, since its shape depends on the kind of "
-                         "the link" for number, _ in apart),
-        "values": [{**of_row(row, 0), "variants": ", ".join(row.variants)}
-                   for row in family.typed]}
+    why = "has no row, since its shape depends on the kind of the link"
+    given = {**vars(family), "both": listed(family.families), "arm": either(family.families),
+             "about": family.names + "".join(
+                 f" Type {number}, `{kernel}`, {why}." for number, kernel in apart),
+             "apart": "".join(f"; its type {number} {why}" for number, _ in apart),
+             "values": [of_row(row) for row in family.typed]}
     return {**given, **{name: put_in(sections("lists")[f"{name} of a family"], given)
                         .removesuffix("\n") for name in ("shapes", "shapes_spec")}}
 
@@ -75,19 +71,19 @@ def outputs(tables):
     typed = [family for family in tables.families if family.plain]
     without = tables.without(lambda family: family.plain)
     shapes = {row.shape for family in typed for row in family.plain}
-    given = {"values": [marks(family) for family in typed],
-             "used": ", ".join(f"{family.snake}_rows" for family in typed),
-             "without": either(without, "\n        | "),
+    values = [marks(family) for family in typed]
+    given = {"used": ", ".join(f"{family.snake}_rows" for family in typed),
+             "without": either(without, LINE),
              "names_of_shapes": ", ".join(it for it in tables.layouts if it in shapes)}
-    for path, name, values in (
-            (f"{SHAPES}/src/table.rt", "shapes", given["values"]),
-            (f"{SHAPES}/specs/Table.antt", "shapes_spec", given["values"]),
+    for path, name, rows in (
+            (f"{SHAPES}/src/table.rt", "shapes", values),
+            (f"{SHAPES}/specs/Table.antt", "shapes_spec", values),
             (f"{NAMES}/src/entries.rt", "names", [it for family in typed for it in names(family)])):
-        yield Whole(path, "families", put_in(sections("lists")[name], {**given, "values": values}))
+        yield Whole(path, "families", put_in(sections("lists")[name], {**given, "values": rows}))
     found = [(["LinkInfo"], "LINK_INFO"), *(it[:2] for family in typed for it in constants(family))]
-    code, specs = f"{NAMES}/src/names", f"{NAMES}/specs/Names.antt"
     without.remove("LinkInfo")
-    yield from used(code, specs, found)
-    yield Part(f"{code}.rt", "families (arms)",
-               f"{arms(found)}        {either(without, chr(10) + '        | ')} => &[],\n")
-    yield Part(specs, "families (clauses)", clauses("names_of", "rows", found))
+    yield from used("linkinfo_names", "names", [constant for _, constant in found])
+    yield Part(f"{NAMES}/src/names.rt", "families (arms)",
+               f"{arms(found)}        {either(without, LINE)} => &[],\n")
+    yield Part(f"{NAMES}/specs/Names.antt", "families (clauses)",
+               clauses("names_of", "rows", found))

@@ -1,5 +1,5 @@
 """What templates/family has in its marks: of a flat family, and of each of its rows."""
-from .text import listed, pairs, snake, spelled
+from .text import pairs, snake, spelled
 
 SEARCHED = 10   # up to so many variants, `ExactEq` is found by a search
 LONG = 8        # from so many rows on, what a label keeps is a line for each row
@@ -10,30 +10,30 @@ HOW = {"number": " as ‹›", "reference": " as &‹›", "flags": " as flags �
 
 
 def of_value(row):
-    """How a row's datum is made into its variant and back, and which values it can hold."""
-    layout, value, it = row.layout, row.value, row.value and snake(row.value.name)
-    name, variable = row.variant, row.layout.variable
-    most = value and ("256" if value.bits == 8 else f"(2 ^ {value.bits})")
-    found = {"variable": variable, "value": f"{name} {variable}", "conditioned": variable,
-             "pattern": f"({name} {variable})", "datum": variable, "condition": layout.condition}
+    """How a row's datum is made into its variant and back, and which values the variant holds: the
+    variable of a datum and its value, the variant as a pattern and its datum, and the variable of a
+    condition and it."""
+    value, name, variable = row.value, row.variant, row.layout.variable
+    it, most = value and snake(value.name), value and (
+        "256" if value.bits == 8 else f"(2 ^ {value.bits})")
+    given = [variable, f"{name} {variable}", f"({name} {variable})", variable, variable,
+             row.layout.condition]
     if row.shape == "Mark":
-        found |= {"value": name, "pattern": name, "datum": "tt"}
+        given[1:4] = name, name, "tt"
     elif row.two:
-        found |= {"value": f"{spelled(name)} {variable}", "pattern": f"({name} n)",
-                  "datum": "(Some n)", "conditioned": "n"}
+        given[1:5] = f"{spelled(name)} {variable}", f"({name} n)", "(Some n)", "n"
     elif row.numbered:
-        found |= {"variable": "n", "value": f"{name} ({it} n)", "pattern": f"({name} {value.word})",
-                  "datum": f"({it}_number {value.word})", "conditioned": "x",
-                  "condition": f"IsNumber {it}_table {most} x"}
+        given = ["n", f"{name} ({it} n)", f"({name} {value.word})", f"({it}_number {value.word})",
+                 "x", f"IsNumber {it}_table {most} x"]
     elif row.made == "flags":
-        found |= {"variable": "n", "value": f"{name} ({it} n)", "pattern": f"({name} flags)",
-                  "datum": "flags.0", "conditioned": "flags",
-                  "condition": f"flags.0 < 2 ^ {value.bits}"}
+        given = ["n", f"{name} ({it} n)", f"({name} flags)", "flags.0", "flags",
+                 f"flags.0 < 2 ^ {value.bits}"]
     elif row.made == "pair":
-        found |= {"value": f"{name} (flags_under_mask pair)", "pattern": f"({name} under)",
-                  "datum": "(under.flags.0, under.mask.0)", "conditioned": "under",
-                  "condition": "(under.flags.0 < 2 ^ 32) × (under.mask.0 < 2 ^ 32)"}
-    return {**found, "table": it and f"{it}_table", "most": most}
+        given = [variable, f"{name} (flags_under_mask {variable})", f"({name} under)",
+                 "(under.flags.0, under.mask.0)", "under",
+                 "(under.flags.0 < 2 ^ 32) × (under.mask.0 < 2 ^ 32)"]
+    marks = ("variable", "made_from", "pattern", "datum", "conditioned", "condition")
+    return {**dict(zip(marks, given)), "table": it and f"{it}_table", "most": most}
 
 
 def kept(row, marks):
@@ -55,24 +55,22 @@ def keeps(rows):
     return f" {pairs(proofs)}" if "\n" in text else f"\n    {text}"
 
 
-def unique(seen, call, number):
-    """The name of a call's result in an arm: a later call of the same function has the arm's."""
-    name = f"c.store_by_rows-{call}" + f"-in-{number}" * (call in seen)
-    seen.add(call)
-    return name
-
-
 def stored(row, seen):
-    """The proofs of what a row's arm reads, and of what it makes."""
+    """The proofs of what a row's arm of `store_decoded` reads, and of what it makes. A later call
+    of a function has the arm in its name."""
+    def result(call):
+        name = f"c.store_by_rows-{call}" + f"-in-{row.number}" * (call in seen)
+        seen.add(call)
+        return name
+
     read, made, it = "(λ _. refl)", "refl", row.value and snake(row.value.name)
     if row.layout.read:
         call, clause = row.layout.read.split()
-        read = f"{unique(seen, call, row.number)}.ensures.{clause}"
+        read = f"{result(call)}.ensures.{clause}"
     if row.made == "flags":
-        bits = unique(seen, "from_bits_retain", row.number)
-        made = f"(ap (λ n. {row.variant} ({it} n)) ({bits}.ensures tt))"
+        made = f"(ap (λ n. {row.variant} ({it} n)) ({result('from_bits_retain')}.ensures tt))"
     elif row.value:
-        made = f"(ap (λ x. {row.variant} x) {unique(seen, 'from', row.number)}.ensures)"
+        made = f"(ap (λ x. {row.variant} x) {result('from')}.ensures)"
     return {"read": read, "made": made}
 
 
@@ -80,10 +78,12 @@ def exact(row, at, lets, is_listed):
     """The entry of a row in `ExactEq`."""
     entry = row.value.exact if row.value else row.layout.exact
     is_new = is_listed and bool(row.field) and entry not in lets
-    law = ("linkinfo_numbers", row.value.module) if row.value else ("nla_frame", "exact_eq")
+    crate, module = "nla_frame", "exact_eq"
+    if row.value:
+        crate, module = "linkinfo_numbers", row.value.module
     found = {"entry": entry, "decides": KNOWN.get(entry, f"{entry}_exact"),
              "law": is_new and entry not in KNOWN and
-             f"{law[0]}.specs.contracts.{law[1]}.{row.field}ExactEq.TheImpl.Laws",
+             f"{crate}.specs.contracts.{module}.{row.field}ExactEq.TheImpl.Laws",
              "let_first": is_new and not lets, "let_later": is_new and bool(lets),
              "entry_first": is_listed and not at, "entry_later": is_listed and at > 0,
              "two_later": is_listed and row.two}
@@ -91,43 +91,39 @@ def exact(row, at, lets, is_listed):
     return found
 
 
-def of_row(row, at, info=""):
+def of_row(row, at=0, info=""):
     """The marks of a row that need nothing else."""
-    field = row.field.replace("‹info›", info)
-    either = spelled(row.variant)
+    field, either = row.field.replace("‹info›", info), spelled(row.variant)
     return {
-        "number": str(row.number), "shape": row.shape, "variant": row.variant, "two": row.two,
+        **vars(row), "number": str(row.number), "held": f"({field})" if field else "",
         "spelled": "custom" if row.shape in ("Peer", "SelfList") else spelled(row.shape),
         "how": f" or {row.variants[0]}" if row.two else HOW.get(row.made, "").replace("‹›", field),
-        "held": f"({field})" if field else "", "doc": row.doc(len(row.variants) - 1),
-        "first_doc": row.doc(0), "empty": row.variants[0], "either": either,
-        "short": either.split("_")[0], "at": str(at), "after": str(at + 1),
-        "numbered": row.numbered, "under": row.made == "pair", "arm": not row.two,
-        "kernel": row.kernel, "plain": not row.under, **of_value(row)}
+        "doc": row.doc(len(row.variants) - 1), "first_doc": row.doc(0), "empty": row.variants[0],
+        "either": either, "short": either.split("_")[0], "at": str(at), "after": str(at + 1),
+        "pair": row.made == "pair", "arm": not row.two, "plain": not row.under,
+        "names": ", ".join(row.variants), **of_value(row)}
 
 
-def of_rows(family):
+def of_rows(family, is_listed):
     """The marks of the rows."""
     seen, lets, found = set(), set(), []
-    count = sum(len(row.variants) for row in family.typed) + 1
     for at, row in enumerate(family.typed):
-        marks = {**of_row(row, at), **stored(row, seen), **exact(row, at, lets, count > SEARCHED)}
+        marks = {**of_row(row, at), **stored(row, seen), **exact(row, at, lets, is_listed)}
         found.append({**marks, "kept": kept(row, marks)})
     return found
 
 
 def numbers(family):
     """The imports of value types, one of each module: numbers, then flag sets."""
-    names = {}
+    names, head = {}, "use Rattle.linkinfo_numbers.specs"
     for value in family.values:
         it = snake(value.name).removeprefix("info_")
-        named = names.setdefault(value.module, ([], []))
-        named[value.made == "flags"].extend([it, f"{it}_number", f"{it}_table", f"{it}_table_holds"])
-    return "".join(
-        f"use Rattle.linkinfo_numbers.specs.{module.capitalize()}.{{{', '.join(first + flags)}}}\n"
-        for module, (first, flags) in names.items()) + "".join(
-            f"use Rattle.linkinfo_numbers.specs.declared.{value.module}.{value.name}"
-            f".{{{value.name}}}\n" for value in family.values if value.made == "pair")
+        names.setdefault(value.module, ([], []))[value.made == "flags"].extend(
+            [it, f"{it}_number", f"{it}_table", f"{it}_table_holds"])
+    return "".join([*(f"{head}.{module.capitalize()}.{{{', '.join(first + flags)}}}\n"
+                      for module, (first, flags) in names.items()),
+                    *(f"{head}.declared.{value.module}.{value.name}.{{{value.name}}}\n"
+                      for value in family.values if value.made == "pair")])
 
 
 def reads(family, shapes):
@@ -144,30 +140,23 @@ def reads(family, shapes):
 
 def of_family(family):
     """The marks of a family, with those of its rows as `values`."""
-    rows, shapes = of_rows(family), dict.fromkeys(row.shape for row in family.typed)
+    variants = [variant for row in family.typed for variant in row.variants]
+    is_listed = len(variants) + 1 > SEARCHED
+    rows, shapes = of_rows(family, is_listed), dict.fromkeys(row.shape for row in family.typed)
     pair = next((value.name for value in family.values if value.made == "pair"), "")
-    alias, _, said = (family.alias or "").partition(", ")
-    entries = {row["entry"]: row for row in rows if row["held"]}
-    is_listed = any(row["entry_first"] for row in rows)
-    derived = ["derived_decides", "no_field", "one_field", *["two_fields"] * ("pair" in entries)]
-    if not any(row["two"] or not row["held"] for row in rows):
-        derived.remove("no_field")
-    set_name = pair.removeprefix("Info")
-    either = [row["either"] for row in rows if row["two"]]
+    either, entries = [row["either"] for row in rows if row["two"]], {row["entry"] for row in rows}
+    used = {value.name for value in family.values} | {pair.removeprefix("Info")}
     return {
-        "it": family.snake, "name": family.name, "info": family.type, "crate": family.crate,
-        "module": family.module, "spec": family.spec, "title": family.title, "alias": alias,
-        "about": family.about, "header": family.header, "quoted": family.quoted,
-        "alias_doc": f"{said[:1].upper()}{said[1:]}.", "pair": pair, "pair_set": set_name,
-        "pair_flags": snake(set_name), "flags": pair or any(
-            value.made == "flags" for value in family.values), "shapes": ", ".join(shapes),
-        "value_names": ", ".join(sorted({value.name for value in family.values} | {set_name})
-                                 if set_name else sorted(value.name for value in family.values)),
+        **vars(family), "it": family.snake, "info": family.type, "pair": pair,
+        "alias_doc": family.alias_said[:1].upper() + family.alias_said[1:] + ".",
+        "pair_set": pair.removeprefix("Info"), "pair_flags": snake(pair.removeprefix("Info")),
+        "flags": pair or any(value.made == "flags" for value in family.values),
+        "shapes": ", ".join(shapes), "value_names": ", ".join(sorted(used - {""})),
         "reads": reads(family, set(shapes)), "numbers": numbers(family), "keeps": keeps(rows),
-        "all_variants": ", ".join(variant for row in family.typed for variant in row.variants),
-        "searched": not is_listed, "listed": is_listed, "derived": ", ".join(derived),
-        "has_truth": is_listed and "truth" in entries,
+        "all_variants": ", ".join(variants), "searched": not is_listed, "listed": is_listed,
+        "no_field": "no_field, " * bool(either or "no_field" in entries),
+        "two_fields": ", two_fields" * ("pair" in entries),
+        "has_truth": is_listed and "truth" in entries, "values": rows,
         "not_each": any(row["two"] or not row["condition"] for row in rows),
         "eithers": "".join(f"{it}, " for it in either), "are_typed": f"{family.snake}_typed" if
-        either else f"(are_typed {family.snake}_is_other {family.snake}_rows refl)",
-        "values": rows}
+        either else f"(are_typed {family.snake}_is_other {family.snake}_rows refl)"}

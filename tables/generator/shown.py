@@ -29,17 +29,19 @@ def views(family):
                        [row for row in rows if row.number not in apart]), *found[1:]]
 
 
+def shown(row):
+    """How code has the format of a row."""
+    name, _, part = row.shown.partition(" ")
+    if part and name not in PARTS:
+        raise row.line.bad(f"{row.shown} is none of {', '.join(PARTS)} with a name")
+    return f"{name}({PARTS[name]}::{part})" if part else name or "Plain"
+
+
 def view_marks(family):
     """What templates/lists has in its marks of each table to show."""
     found = views(family)
     for at, (constant, said, title, rows) in enumerate(found):
-        values = []
-        for row in rows:
-            name, _, part = row.shown.partition(" ")
-            values.append({
-                "number": str(row.number), "member": row.member, "shape": row.shape,
-                "shown": row.shown,
-                "format": f"{name}({PARTS[name]}::{part})" if part else name or "Plain"})
+        values = [{**vars(row), "number": str(row.number), "format": shown(row)} for row in rows]
         yield {"constant": constant, "said": said, "values": values,
                "head": fill(f"**{title}**: {said}".split(), "", ""),
                "others": family.links if len(found) > 1 and at != 1 else ""}
@@ -51,9 +53,9 @@ def page_marks(family):
     for row in family.typed:
         names = dict.fromkeys([row.kernel, row.kernel.replace(family.prefix, family.twin_prefix)])
         rows.append({
-            "number": str(row.number), "under_kind": f" under `{row.under}`" if row.under else "",
-            "kernel_names": ", ".join(f"`{name}`" for name in names), "shape": row.shape,
-            "page_variants": f"{row.variants[0]} (empty), {row.variant} (one byte)" if row.two
+            "number": f"{row.number} under `{row.under}`" if row.under else str(row.number),
+            "names": ", ".join(f"`{name}`" for name in names), "shape": row.shape,
+            "variants": f"{row.variants[0]} (empty), {row.variant} (one byte)" if row.two
             else row.variant, "made_into": f" {row.value.name} " if row.value else " "})
     return {"heading": listed([f"`{name}`" for name in family.families]), "values": rows,
             "note": fill((family.note or "").split(), "", "")}
@@ -73,7 +75,8 @@ def lines(family, kind):
         if row.under in ("", kind) and row.layout.rejects:
             given, cause = row.layout.rejects.split()
             payload = bytes.fromhex(given[2:]) if given[:2] == "0x" else bytes(int(given))
-            data = attribute(1, kind.encode() + b"\0") + attribute(2, attribute(row.number, payload))
+            inner = attribute(2, attribute(row.number, payload))
+            data = attribute(1, kind.encode() + b"\0") + inner
             said = {"ok": "ok", "header": "err frame 0 header"}.get(
                 cause, f"err {name} {row.number} {cause}")
             yield f"check {data.hex()}", said
@@ -89,8 +92,7 @@ def outputs(tables):
              if family.name in tables.codes]
     rows = [{"rows": put("view of a family", it).removesuffix("\n")} for it in found]
     yield Whole(f"{VIEW}/src/entries.rt", "families", put("view", {"values": rows}))
-    yield from used(f"{VIEW}/src/table", f"{VIEW}/specs/Table.antt",
-                    [(None, it["constant"]) for it in found])
+    yield from used("linkinfo_view", "table", [it["constant"] for it in found])
     yield Part(f"{VIEW}/src/table.rt", "families (arms)", arms(named))
     yield Part(f"{VIEW}/specs/Table.antt", "families (clauses)",
                clauses("family_rows", "lines", named))

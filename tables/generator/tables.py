@@ -6,9 +6,9 @@ class Tables:
     """The tables of a repository.
 
     `numbers` are the groups of number types and flag sets, `values` their types by name (each a
-    `form.Value`), `layouts` the layouts of payloads, `kinds` the kinds of links, `order` the rows of tables/families (C's code, the
-    family, its table, and what it is of), `codes` the families by C's code, and `families` those
-    with a table, in their order.
+    `form.Value`), `layouts` the layouts of payloads, `kinds` the kinds of links, `order` the rows
+    of tables/families (C's code, the family, its table, and what it is of), `codes` the families by
+    C's code, and `families` those with a table, in their order.
     """
 
     def __init__(self, root):

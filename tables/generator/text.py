@@ -4,7 +4,6 @@ import pathlib
 import re
 
 MOST = 100
-INDENT = "    "
 TEMPLATES = pathlib.Path(__file__).resolve().parent.parent / "templates"
 
 
@@ -47,10 +46,10 @@ def listed(names, word="and"):
     return f" {word} ".join(filter(None, [", ".join(names[:-1]), names[-1]]))
 
 
-def imports(head, names, end="", broken=False, indent=""):
+def imports(head, names, end="", indent=""):
     """An import of names: on one line if they fit, else each on its own."""
     line = f"{indent}{head}.{{{', '.join(names)}}}{end}"
-    if len(line) <= MOST and not broken:
+    if len(line) <= MOST:
         return line
     return f"{indent}{head}.{{\n" + "".join(f"{indent}  {name},\n" for name in names) + \
         f"{indent}}}{end}"
@@ -62,7 +61,7 @@ IMPORT = re.compile(r"^((?:ghost )?use [^\s{]+)(\.|::)\{([^}]*)\}(;?)\n", re.MUL
 def tidy(text):
     """A text without imports of what it does not name."""
     code = IMPORT.sub("", re.sub(r"(?m)(//|^--).*", "", text))
-    words = {*re.findall(r"[^\s(),]+", code), *re.findall(r"\w+", code)}
+    words = {*re.findall(r"[^\s(),;]+", code), *re.findall(r"\w+", code)}
 
     def kept(mark):
         names = [name for name in re.findall(r"[^\s,]+", mark[3]) if name.strip("◌") in words]
@@ -85,7 +84,8 @@ def rust_use(path, names):
         return "".join(f"use {path}::{name};\n" for name in names)
     if len(line) <= MOST + 1:
         return line
-    return f"use {path}::{{\n{fill([f'{name},' for name in names], INDENT, INDENT, MOST - 1)}\n}};\n"
+    names = fill([f"{name}," for name in names], "    ", "    ", MOST - 1)
+    return f"use {path}::{{\n{names}\n}};\n"
 
 
 def pairs(items, indent=""):
@@ -103,15 +103,3 @@ def pairs(items, indent=""):
 def template(name):
     """The text of tables/templates/NAME."""
     return (TEMPLATES / name).read_text(encoding="utf-8")
-
-
-def put(path, /, **given):
-    """A template with what is given in place of its marks: ‹name› for name."""
-    return re.sub("‹(\\w+)›", lambda mark: given[mark[1]], template(path))
-
-
-def markdown(columns, rows):
-    """A table of Markdown; an empty cell is one space."""
-    lines = ["|" + "|".join(f" {cell} " if cell else " " for cell in row) + "|"
-             for row in [columns, *rows]]
-    return "\n".join([lines[0], "|" + "---|" * len(columns), *lines[1:]]) + "\n"
