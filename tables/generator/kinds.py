@@ -5,7 +5,9 @@ import re
 from . import form
 
 COLUMNS = ["code", "kind", "variant", "data", "what"]
-GROUPS = ("Lower", "Device", "Tunnel", "Peered")
+# Each group of data, and the crate of its families.
+GROUPS = {"Lower": "linkinfo_table::lower", "Device": "linkinfo_devices",
+          "Tunnel": "linkinfo_tunnels", "Peered": "linkinfo_peers"}
 # The lengths of names for which `tag_of_name` has an arm; those above four are compared as u64.
 LENGTHS = {3: "three", 4: "four", 5: "five", 6: "six", 7: "seven", 9: "nine"}
 
@@ -46,13 +48,13 @@ def read(root, name="kinds"):
     return found
 
 
-def row_of(kind, last):
+def row_of(kind):
     """What lines have of a kind."""
     wide = len(kind.name) > 4
     padded = kind.name + "\\0" * ((8 if wide else 4) - len(kind.name))
     name = kind.name.upper()
     return {"name": kind.name, "NAME": name, "variant": kind.variant, "code": str(kind.code),
-            "what": kind.what, "comma": "," * (kind is not last), "padded": padded,
+            "what": kind.what, "data": kind.data or "Other", "padded": padded,
             "bits": "64" if wide else "32", "wide": "eight" if wide else "four",
             "pattern": f"({name}, b'{kind.name[8:]}')" if kind.name[8:] else name}
 
@@ -60,34 +62,5 @@ def row_of(kind, last):
 def known(found):
     """The list of kinds in specs, as `rt fmt` lays it out: a kind that no longer fits on a line is
     alone on the next one."""
-    lines, line = [], ""
-    for kind in found:
-        word = f"kind.{kind.variant}"
-        if line and len(f"    {line} ∷ {word}") > 100:
-            lines += [line, f"∷ {word} ∷"]
-            line = ""
-        else:
-            line += f"{' ∷ ' if line else ''}{word}"
-    return "\n".join(f"    {it}" for it in [*lines, f"{line} ∷ []" if line else "[]"])
-
-
-def pairs(found, families):
-    """The cells of the table of names in docs/FORMAT.md, two kinds in a line."""
-    cells = []
-    for kind in found:
-        of = next((it for it in families if it.flat and kind.name in it.kinds), None)
-        of = f" of {of.type}" if of and kind.data not in of.families else ""
-        cells.append(f"`{kind.name}` {kind.variant}, {kind.data or 'Other'}{of}")
-    cells += [""] * (len(cells) % 2)
-    return [{"left": left, "right": right} for left, right in zip(cells[::2], cells[1::2])]
-
-
-def selections(tables, ports):
-    """The selections of templates/places that are of kinds."""
-    rows = [row_of(kind, tables.kinds[-1]) for kind in tables.kinds]
-    lengths = [({"word": word}, [row for row in rows if len(row["name"]) == length])
-               for length, word in LENGTHS.items()]
-    return {"kinds": [({}, rows)], "ports": [({}, [row_of(kind, ports[-1]) for kind in ports])],
-            "length": lengths, "known kinds": [({}, [{"known": known(tables.kinds)}])],
-            "known ports": [({}, [{"known": known(ports)}])],
-            "name pairs": [({}, [{"values": pairs(tables.kinds, tables.families)}])]}
+    text = " ∷ ".join([*(f"kind.{kind.variant}" for kind in found), "[]"])
+    return "    " + re.sub(r"(?=.{97})(.{,96}) ∷ (\S+) ∷ ", r"\1\n    ∷ \2 ∷\n    ", text)

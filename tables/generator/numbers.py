@@ -1,40 +1,24 @@
-"""Reads tables/numbers: number types and flag sets, a table for each module that holds them.
-
-A type is a block: its name, width, variable in specs (`flags` for a flag set), the macro of its
-values, and what it has more; then its doc comment, and its values. The title is that of the module.
-"""
+"""Reads tables/numbers: number types and flag sets, a table for each module of linkinfo_numbers. A
+type is a block: a line of itself, its doc comment, and a line for each value."""
+import collections
 import dataclasses
 import itertools
 import re
 
 from . import form
-from .text import camel, snake
+from .text import snake
 
-WIDTHS = {"u8": 8, "u16": 16, "u32": 32, "u64": 64}
-MORE = ("alias", "by hand", "by reference", "default", "hashed", "in ExactEq", "in specs", "others",
-        "pair", "words of")
+HEAD = re.compile(r"(\w+)  +u(8|16|32|64)  +(\w+)  +([\w-]+)(?:  +(.*))?")
+MORE = re.compile("(alias|by hand|by reference|default|hashed|in ExactEq|in specs|others|pair|"
+                  "words of)(?: (.+))?")
+COLUMNS = ("number", "name", "variant", "word")
 VALUE = re.compile(r"    (0x[\dA-Fa-f_]+|\d+)  ")
 
 
 @dataclasses.dataclass(frozen=True)
-class Number:
-    """A value: its number as it is written, the kernel's name, the variant, the word and the doc
-    comment."""
-    line: form.Line
-    text: str
-    kernel: str
-    variant: str
-    word: str
-    doc: str
-
-    @property
-    def value(self):
-        return int(self.text.replace("_", ""), 0)
-
-
-@dataclasses.dataclass(frozen=True)
 class Type:
-    """A number type, or a flag set. `word` is its variable, `listed` the macro of its values."""
+    """A number type, or a flag set. `word` is its variable, `listed` the macro of its values, which
+    are rows with a number, the kernel's name, a variant, and a word or none."""
     line: form.Line
     module: str
     name: str
@@ -64,7 +48,7 @@ class Type:
 
     @property
     def worded(self):
-        return any(value.word for value in self.values)
+        return any(value["word"] for value in self.values)
 
     @property
     def in_specs(self):
@@ -78,39 +62,29 @@ class Type:
         return "flags" if self.is_set else "reference" if "by reference" in self.more else "number"
 
 
-@dataclasses.dataclass(frozen=True)
-class Group:
-    """The types of a module of linkinfo_numbers, and those of them that the generator writes."""
-    module: str
-    title: str
-    types: list
-    written: list
-
-    @property
-    def file(self):
-        """The name of the file in specs/."""
-        return camel(self.module)
+# A module: its name, title, types, and those of them that the generator writes.
+Group = collections.namedtuple("Group", "module title types written")
 
 
-def more(line, cells):
+def more(line, text):
     """What a type has more."""
     given = {}
-    for it in ", ".join(cells).split(", ") if cells else []:
-        key = next((key for key in MORE if it == key or it.startswith(f"{key} ")), None)
-        if not key:
-            raise line.bad(f"{it} is none of {', '.join(MORE)}")
-        given[key] = it.removeprefix(key).strip()
+    for it in text.split(", ") if text else ():
+        found = MORE.fullmatch(it)
+        if not found:
+            raise line.bad(f"{it} is nothing that a type can have")
+        given[found[1]] = found[2] or ""
     return given
 
 
-def number(line, bits, further):
+def value_of(bits, line, further):
     """A value, of its line and the lines that continue its doc comment."""
-    cells = [*form.cells(line.text), "", "", ""][:max(4, len(form.cells(line.text)))]
+    cells = form.cells(line.text)
     doc = " ".join([*cells[4:], *(it.text.strip() for it in further)])
-    value = Number(line, *cells[:4], doc)
-    if value.value >= 2 ** bits:
-        raise line.bad(f"{value.text} has more than {bits} bits")
-    if not value.variant or not doc:
+    value = form.Row(line, dict(zip(COLUMNS, [*cells, "", "", ""])), [doc])
+    if value.number("number") >= 2 ** bits:
+        raise line.bad(f"{value['number']} has more than {bits} bits")
+    if not value["variant"] or not doc:
         raise line.bad("a value has a variant and a doc comment")
     return value
 
@@ -118,38 +92,35 @@ def number(line, bits, further):
 def type_of(module, block):
     """The type of a block."""
     head, *body = block
-    cells = form.cells(head.text)
-    if head.text.startswith(" ") or len(cells) < 4 or cells[1] not in WIDTHS:
+    found = HEAD.fullmatch(head.text)
+    if not found:
         raise head.bad("no line NAME WIDTH VARIABLE MACRO with a width of u8, u16, u32 or u64")
+    name, bits, word, listed, other = found.groups()
     starts = [at for at, line in enumerate(body) if VALUE.match(line.text)] + [len(body)]
-    values = [number(body[at], WIDTHS[cells[1]], body[at + 1:to])
-              for at, to in zip(starts, starts[1:])]
-    kind = Type(head, module, cells[0], WIDTHS[cells[1]], *cells[2:4], more(head, cells[4:]),
-                " ".join(line.text.strip() for line in body[:starts[0]]), values)
-    if not kind.doc or not values and not kind.by_hand:
-        raise head.bad(f"{kind.name} has no doc comment, or no values")
-    for key in ("value", "variant", "kernel", "word"):
-        form.apart((it.line, str(getattr(it, key))) for it in values)
-    if kind.worded and not all(value.word for value in values):
-        raise head.bad(f"some values of {kind.name} have a word, and some have none")
+    values = [value_of(int(bits), body[at], body[at + 1:to]) for at, to in zip(starts, starts[1:])]
+    doc = " ".join(line.text.strip() for line in body[:starts[0]])
+    kind = Type(head, module, name, int(bits), word, listed, more(head, other), doc, values)
+    if not doc or not values and not kind.by_hand:
+        raise head.bad(f"{name} has no doc comment, or no values")
+    form.apart((it.line, str(it.number("number"))) for it in values)
+    for column in COLUMNS[1:]:
+        form.apart((it.line, it[column]) for it in values)
+    if kind.worded and not all(value["word"] for value in values):
+        raise head.bad(f"some values of {name} have a word, and some have none")
     return kind
-
-
-def read_group(root, module):
-    """The types of tables/numbers/MODULE."""
-    found = form.lines(root, f"numbers/{module}")
-    title, _ = form.head(found, ())
-    blocks = [list(block) for there, block in itertools.groupby(found[2:], lambda line: bool(line.text))
-              if there]
-    if not blocks or not found[-1].text:
-        raise found[-1].bad("no types, or an empty line at the end")
-    types = [type_of(module, block) for block in blocks]
-    return Group(module, title, types, [kind for kind in types if not kind.by_hand])
 
 
 def read(root):
     """All groups."""
-    groups = [read_group(root, path.name) for path in sorted((root / "tables/numbers").iterdir())]
+    groups = []
+    for path in sorted((root / "tables/numbers").iterdir()):
+        found = form.lines(root, f"numbers/{path.name}")
+        blocks = itertools.groupby(found[2:], lambda line: bool(line.text))
+        types = [type_of(path.name, block) for there, block in blocks if there]
+        if not types or not found[-1].text:
+            raise found[-1].bad("no types, or an empty line at the end")
+        groups.append(Group(path.name, form.head(found, ())[0], types,
+                            [kind for kind in types if not kind.by_hand]))
     form.apart((kind.line, kind.name) for group in groups for kind in group.types)
     return groups
 

@@ -55,7 +55,6 @@ def joined(lines):
 def line_of(line):
     """A line without marks, and broken if it is long: a doc comment, an import, or a block."""
     plain, indent = re.sub("[⟪⟫]", "", line), re.match(" *", line)[0]
-    plain = re.sub(r"::\{(\w+)\};$", r"::\1;", plain)
     if len(plain) <= MOST:
         return plain
     if line.lstrip().startswith("/// "):
@@ -75,18 +74,17 @@ def put_in(text, row):
     return "\n".join(map(line_of, joined(lines)))
 
 
-def lines_of(body, rows):
-    """The lines of a section for rows, each by the form of its row."""
-    first, *others = FORM.split(body)
-    forms = {form: text for forms, text in zip(others[::2], others[1::2]) for form in forms.split()}
-    return "".join(put_in(forms.get(row.get("form"), first), row) for row in rows)
-
-
 def parts(selections):
-    """The parts of templates/places, for those selections that are given: each is a list of what
-    the head of a section has in its marks, with rows."""
+    """The parts of templates/places: each selection is a list of what the head of a section has in
+    its marks, with rows."""
     for head, body in sections("places").items():
         path, name, selection = head.split(" | ")
-        for given, rows in selections.get(selection, ()):
-            text = lines_of(body, rows)
-            yield Part(put_in(path, given), put_in(name, given), re.sub("\n\n+$", "\n", text))
+        first, *others = FORM.split(body)
+        forms = {form: text for names, text in zip(others[::2], others[1::2])
+                 for form in names.split()}
+        for given, rows in selections[selection]:
+            text = "".join(put_in(forms.get(row.get("form"), first), {
+                **row, "and": "& " if at else "(", "comma": "," * (at + 1 < len(rows))})
+                for at, row in enumerate(rows))
+            text = re.sub(r"::\{(\w+)\};\n", r"::\1;\n", text.rstrip("\n") + "\n")
+            yield Part(put_in(path, given), put_in(name, given), text)

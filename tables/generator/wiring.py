@@ -1,37 +1,29 @@
 """Says of each kind, family and variant of data what the lines of templates/places have."""
-from . import kinds, number_laws, places
+import re
+
+from . import kinds, number_types, places
 from .text import fill, listed, snake
 
-# Each group of data: the crate of its families, that in rust/, what its files and functions are
-# named, and what clauses have before a family.
-GROUPS = {
-    "Lower": {"of": "linkinfo_table::lower", "layer": "lower", "groups": "lower",
-              "specs": "LowerData"},
-    "Device": {"of": "linkinfo_devices", "layer": "devices", "groups": "devices",
-               "specs": "DeviceData"},
-    "Tunnel": {"of": "linkinfo_tunnels", "layer": "tunnels", "groups": "tunnels",
-               "specs": "TunnelData", "flagged": "h "},
-    "Peered": {"of": "linkinfo_peers", "layer": "peers", "groups": "peers", "specs": "PeerData",
-               "peer": "peer ", "known": "peer", "well": "well ", "paired": "peer netkit"},
-}
-PLAIN = {"peer": "", "known": "P", "well": "", "paired": "P", "flagged": ""}
+DATA = {"data": "data (`IFLA_INFO_DATA`)", "port data": "port data (`IFLA_INFO_SLAVE_DATA`)"}
 
 
-def described(what):
-    """The doc comment of a family, by what its attributes are."""
-    the = "" if what.startswith("attribute") else "The "
-    text = what.removeprefix("the ").replace("port data", "port data (`IFLA_INFO_SLAVE_DATA`)")
-    if text.startswith("data"):
-        text = text.replace("data", "data (`IFLA_INFO_DATA`)", 1)
-    return f"{the}{text if the else text.capitalize()}."
+def group_row(group):
+    """What templates have of a group of data: files, functions, and what their clauses name."""
+    crate, peered = kinds.GROUPS[group], group == "Peered"
+    files = re.split("::|_", crate)[-1]
+    return {"Group": group, "group": group.lower(), "of": crate, "groups": files,
+            "specs": f"{files.removesuffix('s').capitalize()}Data", "peer": "peer " * peered,
+            "known": "peer" if peered else "P", "well": "well " * peered,
+            "paired": "peer netkit" if peered else "P", "flagged": "h " * (group == "Tunnel")}
 
 
 def coded(order):
     """The families by C's code."""
     found = sorted((row for row in order if row["code"]), key=lambda row: row.number("code"))
     return [{"family": row["family"], "name": row["family"].lower(), "NAME": row["family"].upper(),
-             "code": row["code"], "doc": described(row["what"]),
-             "comma": "," * (row is not found[-1])} for row in found]
+             "code": row["code"], "doc": f"{row['what'][:1].upper()}" + re.sub(
+                 "port data|data", lambda mark: DATA[mark[0]], row["what"][1:]) + "."}
+            for row in found]
 
 
 def form_of(family):
@@ -63,9 +55,8 @@ def data_row(ours, families, names):
         "spec": family and family.spec, "names": f" (`{prefix}*`)" if family else "",
         "these": listed(family.kinds) if family else "",
         "verbatim": ", kept verbatim" * (form == "opaque"),
-        "links": listed([f"`{it.name}`" for it in ours]), "Group": kind.group,
-        "group": kind.group.lower(), "tags": " | ".join(f"KindTag::{it.variant}" for it in ours),
-        **PLAIN, **GROUPS[kind.group]}
+        "links": listed([f"`{it.name}`" for it in ours]),
+        "tags": " | ".join(f"KindTag::{it.variant}" for it in ours), **group_row(kind.group)}
 
 
 def data_rows(tables):
@@ -83,11 +74,6 @@ def unique(rows, key):
                 dict.fromkeys(row[key] for row in rows))
 
 
-def with_and(rows):
-    """Rows, of which the first one opens a list of pairs."""
-    return [{**row, "and": "(" if row is rows[0] else "& "} for row in rows]
-
-
 def named(rows):
     """A row for each family, with the patterns of its variants."""
     return [{**row, "patterns": " | ".join(
@@ -100,34 +86,42 @@ def typed(rows):
     return [{**rows[0], "types": ", ".join(sorted({row["holder"] for row in rows}))}]
 
 
-def selections(tables):
-    """The selections of templates/places."""
-    ports, rows = kinds.read(tables.root, "ports"), data_rows(tables)
-    groups = [[row for row in rows if row["Group"] == group] for group in GROUPS]
-    ordered = unique([row for group in groups[1:] for row in group], "plain")
-    with_rows = [row for row in ordered if row["form"] not in ("opaque", "peers", "first")]
-    variants = {row["data"]: row for row in rows}
+def of_kinds(tables, ports, variants):
+    """The selections that are of kinds, port kinds, or families by C's code."""
+    rows = [kinds.row_of(kind) for kind in tables.kinds]
+    held = [{**row, **variants[kind.data], "variant": kind.variant}
+            for kind, row in zip(tables.kinds, rows) if kind.group]
+    of = {row["name"]: f" {row['family']} " for row in held}
     codes = coded(tables.order)
-    found = {
-        "families": codes, "data": with_and(rows), "tables": unique(with_rows, "it"),
-        "plain": with_rows, "flat": [row for row in ordered if not row["form"]],
-        "laws": [row for row in unique(rows, "plain") if row in with_rows and row["form"] != "twin"],
-        "kinds with data": [{**variants[kind.data], "variant": kind.variant}
-                            for kind in tables.kinds if kind.group],
-        "Tunnel": with_and(groups[2]),
-        "family names": [{"names": fill([f"{it['family']}," for it in codes[2:]], "", "")[:-1]}],
-        "last codes": [{"family": codes[-1]["code"], "kind": str(tables.kinds[-1].code),
-                        "port": str(ports[-1].code)}]}
-    return {**{name: [({}, given)] for name, given in found.items()},
-            **kinds.selections(tables, ports), **number_laws.selections(tables.numbers),
-            "group": [(group[0], group) for group in groups],
-            "named": [(group[0], named(group)) for group in groups],
-            "types by group": [(group[0], typed(group)) for group in groups],
-            "rows by group": [(group[0], typed(group)) for group in
-                              ([row for row in group if row in with_rows] for group in groups)
-                              if group]}
+    return {"kinds": rows, "kinds with data": held, "families": codes,
+            "ports": [kinds.row_of(kind) for kind in ports],
+            "names": [{"values": [{**row, "of": of.get(row["name"], " ")} for row in rows]}],
+            "known kinds": [{"known": kinds.known(tables.kinds)}],
+            "known ports": [{"known": kinds.known(ports)}],
+            "family names": [{"names": fill(", ".join(it["family"] for it in codes[2:]).split(),
+                                            "", "")}],
+            "last codes": [{"family": codes[-1]["code"], "kind": rows[-1]["code"],
+                            "port": str(ports[-1].code)}]}
 
 
 def outputs(tables):
     """The parts of templates/places."""
-    return list(places.parts(selections(tables)))
+    rows = data_rows(tables)
+    groups = [[row for row in rows if row["Group"] == group] for group in kinds.GROUPS]
+    ordered = unique([row for group in groups[1:] for row in group], "plain")
+    listed_in = [row for row in ordered if row["form"] not in ("opaque", "peers", "first")]
+    found = of_kinds(tables, kinds.read(tables.root, "ports"), {row["data"]: row for row in rows})
+    found |= {"data": rows, "tables": unique(listed_in, "it"), "plain": listed_in,
+              "flat": [row for row in ordered if not row["form"]], "Tunnel": groups[2],
+              "laws": [row for row in unique(rows, "plain")
+                       if row in listed_in and row["form"] != "twin"]}
+    return list(places.parts({
+        **{name: [({}, given)] for name, given in found.items()},
+        **number_types.selections(tables.numbers),
+        "group": [(group[0], group) for group in groups],
+        "named": [(group[0], named(group)) for group in groups],
+        "types by group": [(group[0], typed(group)) for group in groups],
+        "rows by group": [(group[0], typed([row for row in group if row in listed_in]))
+                          for group in groups[1:]],
+        "length": [({"word": word}, [row for row in found["kinds"] if len(row["name"]) == length])
+                   for length, word in kinds.LENGTHS.items()]}))

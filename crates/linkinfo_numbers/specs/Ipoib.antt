@@ -1,5 +1,5 @@
 -- Written by tables/generate from tables/numbers/ipoib.
--- IP over InfiniBand: numbers.
+-- IP over InfiniBand: the values of each type.
 use Rattle.std.specs.Prelude.{ℕ, [], ◌∷◌, refl}
 use Rattle.std.proofs.Common.{inl, inr}
 use Rattle.std.proofs.lemmas.Bool.Decides.{Decides-eqb}

@@ -1,5 +1,5 @@
 -- Written by tables/generate from tables/numbers/vxlan.
--- VXLAN tunnels: numbers and texts.
+-- VXLAN tunnels: the values of each type.
 use Rattle.std.specs.Prelude.{ℕ, List, [], ◌∷◌, codes, refl}
 use Rattle.std.specs.Fmt.{decimal}
 use Rattle.std.proofs.Common.{inl, inr}

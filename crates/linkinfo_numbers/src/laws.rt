@@ -299,8 +299,8 @@ pub fn tunnel_encap_flag_bits()
     ensures rem_csum { TunnelEncapFlags.RemCSum ≡ tunnel_encap_flags 4 }
 {}
 
-/// The bits of `Ip6TunnelFlags`: `IP6_TNL_F_IGN_ENCAP_LIMIT` and the others (the last three in
-/// include/net/ip6_tunnel.h).
+/// The bits of `Ip6TunnelFlags`: `IP6_TNL_F_IGN_ENCAP_LIMIT` and the others
+/// (include/uapi/linux/ip6_tunnel.h; the last three in include/net/ip6_tunnel.h).
 pub fn ip6_tunnel_flag_bits()
     ensures ign_encap_limit { Ip6TunnelFlags.IgnEncapLimit ≡ ip6_tunnel_flags 0x1 }
     ensures use_orig_tclass { Ip6TunnelFlags.UseOrigTclass ≡ ip6_tunnel_flags 0x2 }
