@@ -62,13 +62,12 @@ def doc_of(kind):
 def type_row(kind):
     """What templates have of a type."""
     others, default = kind.more.get("others"), kind.more.get("default")
-    alias, _, links = kind.more.get("alias", "").partition(" of ")
     ref, (doc, header) = "&" * (kind.made == "reference"), doc_of(kind)
     return {
         "name": kind.name, "snake": kind.snake, "module": kind.module, "file": camel(kind.module),
         "bits": str(kind.bits), "doc": doc, "header": header, "listed": kind.listed,
         "word": kind.word, "in_specs": kind.in_specs, "family": kind.family, "ref": ref,
-        "number": not kind.is_set, "now": ".now" * bool(ref), "alias": alias, "alias_links": links,
+        "number": not kind.is_set, "now": ".now" * bool(ref), "alias": kind.more.get("alias"),
         "hash": ", Hash" * ("hashed" in kind.more), "default": default,
         "others": f', "{others.replace("(n)", "({})")}"' if others else "",
         "values": [value_row(value) for value in kind.values], "listing": listing(kind),
@@ -110,7 +109,7 @@ def outputs(tables):
 
 def names(kinds, others=True):
     """Types and their other names, as an import has them."""
-    aliases = [kind.more["alias"].split()[0] for kind in kinds if others and "alias" in kind.more]
+    aliases = [kind.more["alias"] for kind in kinds if others and "alias" in kind.more]
     return ", ".join(sorted([*(kind.name for kind in kinds), *aliases]))
 
 

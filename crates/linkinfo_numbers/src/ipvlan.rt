@@ -163,8 +163,8 @@ impl ExactEq for IpVlanFlags {
     ghost exact = { Prim.search rules };
 }
 
-/// `IpVlanMode` of `ipvtap` links.
+/// Another name of `IpVlanMode`.
 pub type IpVtapMode = IpVlanMode;
 
-/// `IpVlanFlags` of `ipvtap` links.
+/// Another name of `IpVlanFlags`.
 pub type IpVtapFlags = IpVlanFlags;

@@ -38,7 +38,7 @@ pub enum InfoKind {
     Vxlan,
     /// `bond`: a bonding device.
     Bond,
-    /// `ipvlan`: a virtual interface with the MAC address of its lower device.
+    /// `ipvlan`: an interface with the MAC address of its lower device.
     IpVlan,
     /// `ipvtap`: a TAP device on an IPVLAN interface.
     IpVtap,

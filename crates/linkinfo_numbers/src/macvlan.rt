@@ -213,11 +213,11 @@ impl ExactEq for MacVlanFlags {
     ghost exact = { Prim.search rules };
 }
 
-/// `MacVlanMode` of `macvtap` links.
+/// Another name of `MacVlanMode`.
 pub type MacVtapMode = MacVlanMode;
 
-/// `MacVlanMacAddressMode` of `macvtap` links.
+/// Another name of `MacVlanMacAddressMode`.
 pub type MacVtapMacAddressMode = MacVlanMacAddressMode;
 
-/// `MacVlanFlags` of `macvtap` links.
+/// Another name of `MacVlanFlags`.
 pub type MacVtapFlags = MacVlanFlags;
