@@ -114,7 +114,8 @@ BazFlags  u16  flags  -  hashed
         for text in (
                 "//! Baz links.\n", "use std::str::FromStr;\n", "use bitflags::{Flag, Flags};\n",
                 "/// The mode of a baz link, a little-endian number "
-                "(include/uapi/linux/if_link.h).\n#[derive(Clone, Copy, Debug, PartialEq, Eq)]\npub enum BazMode {\n",
+                "(include/uapi/linux/if_link.h).\n#[derive(Clone, Copy, Debug, PartialEq, Eq)]\n"
+                "pub enum BazMode {\n",
                 "    /// `BAZ_ON`: everything is sent, and what is received is counted.\n    On,\n",
                 '            (On, 0x10_0, "on"),\n', "    fn default() -> BazMode {\n",
                 "/// The flags of a baz link, a little-endian number (include/uapi/linux/baz.h). "
