@@ -1,5 +1,6 @@
-"""Writes what follows from the table of a flat family: its module, its specs, its conditions, and
-an explicit proof if it has many rows. Of a family by hand, it writes the variants and the rows."""
+"""Writes what follows from the table of a flat family: its module, its specs, its conditions, an
+explicit proof if it has many rows, and its lines and clauses in its crate. Of a family by hand it
+writes the variants and the rows."""
 from .marks import of_family, of_row
 from .parts import Part, Whole
 from .places import put_in, sections
@@ -12,35 +13,42 @@ PATHS = {"module": "crates/‹crate›/src/‹module›.rt",
          "answers": "crates/‹crate›/proofs/‹module›/‹info›RowFamily/store_decoded/Answers.antt"}
 
 
-def of_twin(text, family, twin):
-    """A text about a family, about its twin."""
-    if twin:
-        text = text.replace(f"`{family.kinds[0]}`", f"`{family.kinds[1]}`")
-        text = text.replace(family.prefix, family.twin_prefix)
-    return text
-
-
 def by_hand(family):
-    """The parts of modules by hand."""
-    source = f"crates/{family.crate}/src"
+    """The parts of modules by hand. Of two families, the second one has names of its own."""
     for at, name in enumerate(family.modules):
         rows = [of_row(row, 0, f"Info{family.families[at]}") for row in family.typed]
-        yield Part(f"{source}/{name}.rt", f"{family.table} (variants)", of_twin(
-            put_in(sections("family")["variants"], {"values": rows}), family, at))
+        text = put_in(sections("family")["variants"], {"values": rows})
+        if at:
+            text = text.replace(f"`{family.kinds[0]}`", f"`{family.kinds[1]}`")
+            text = text.replace(family.prefix, family.twin_prefix)
+        yield Part(f"crates/{family.crate}/src/{name}.rt", f"{family.table} (variants)", text)
     if family.listed_in:
-        rows = [of_row(row) for row in family.plain]
-        yield Part(f"{source}/{family.listed_in}.rt", f"{family.table} (rows)",
-                   put_in(sections("family")["rows"], {"values": rows}))
+        yield Part(f"crates/{family.crate}/src/{family.listed_in}.rt", f"{family.table} (rows)",
+                   put_in(sections("family")["rows"], {"values": map(of_row, family.plain)}))
+
+
+def crate_parts(crate, families):
+    """The lines and clauses of the flat families of a crate."""
+    given = {"crate": crate, "values": [
+        {**vars(it), "types": f"{{{it.type}, {it.alias}}}" if it.alias else it.type}
+        for it in families]}
+    for mark in ("conditions", "stated"):
+        given[mark] = ", ".join(sorted(f"{it.snake}_{mark}" for it in families))
+    for head, body in sections("laws").items():
+        path, name = put_in(head, given).split(" | ")
+        yield Part(path, name, put_in(body, given))
 
 
 def outputs(tables):
-    """The files of flat families, and the parts of those by hand."""
-    for family in tables.families:
-        if not family.flat:
-            yield from by_hand(family) if family.crate else ()
-            continue
-        marks, many = of_family(family), len(family.typed) >= MANY
+    """The files of flat families, and all parts."""
+    flat = sorted((it for it in tables.families if it.flat), key=lambda it: it.module)
+    for family in flat:
+        marks = of_family(family)
         for name, path in PATHS.items():
-            if name != "answers" or many:
+            if name != "answers" or len(family.typed) >= MANY:
                 yield Whole(put_in(path, marks), family.table,
                             tidy(put_in(sections("family")[name], marks)))
+    for crate in sorted({family.crate for family in flat}):
+        yield from crate_parts(crate, [family for family in flat if family.crate == crate])
+    for family in tables.families:
+        yield from by_hand(family) if family.crate and not family.flat else ()

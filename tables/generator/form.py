@@ -118,9 +118,9 @@ def rows(found, columns):
         named, depth = cells(line.text), len(line.text) - len(line.text.lstrip(" "))
         if not line.text or depth and not given:
             raise line.bad("a doc comment without a row" if line.text else "an empty line")
+        if not depth and len(named) > len(columns):
+            raise line.bad(f"{len(named)} cells, and not {len(columns)}")
         if not depth:
-            if len(named) > len(columns):
-                raise line.bad(f"{len(named)} cells, and not {len(columns)}")
             named += [""] * (len(columns) - len(named))
             given.append(Row(line, dict(zip(columns, named)), []))
         elif given[-1].docs and depth > margin:

@@ -36,13 +36,12 @@ def marks(family):
     """What templates/lists has in its marks of a family: of its rows, and of itself."""
     apart = dict.fromkeys((row.number, row.kernel) for row in family.typed if row.under)
     why = "has no row, since its shape depends on the kind of the link"
+    about = "".join(f" Type {number}, `{kernel}`, {why}." for number, kernel in apart)
     given = {**vars(family), "both": listed(family.families), "arm": either(family.families),
-             "about": family.names + "".join(
-                 f" Type {number}, `{kernel}`, {why}." for number, kernel in apart),
-             "apart": "".join(f"; its type {number} {why}" for number, _ in apart),
-             "values": [of_row(row) for row in family.typed]}
-    return {**given, **{name: put_in(sections("lists")[f"{name} of a family"], given)
-                        .removesuffix("\n") for name in ("shapes", "shapes_spec")}}
+             "about": family.names + about, "values": [of_row(row) for row in family.typed],
+             "apart": "".join(f"; its type {number} {why}" for number, _ in apart)}
+    return given | {name: put_in(sections("lists")[f"{name} of a family"], given)[:-1]
+                    for name in ("shapes", "shapes_spec")}
 
 
 def constants(family):

@@ -9,40 +9,14 @@ HOW = {"number": " as ‹›", "reference": " as &‹›", "flags": " as flags �
        "pair": " by flags_of, pair_of", "scrub": " by scrub_of, is_by_default"}
 
 
-def of_value(row):
-    """How a row's datum is made into its variant and back, and which values the variant holds: the
-    variable of a datum and its value, the variant as a pattern and its datum, and the variable of a
-    condition and it."""
-    value, name, variable = row.value, row.variant, row.layout.variable
-    it, most = value and snake(value.name), value and (
-        "256" if value.bits == 8 else f"(2 ^ {value.bits})")
-    given = [variable, f"{name} {variable}", f"({name} {variable})", variable, variable,
-             row.layout.condition]
-    if row.shape == "Mark":
-        given[1:4] = name, name, "tt"
-    elif row.two:
-        given[1:5] = f"{spelled(name)} {variable}", f"({name} n)", "(Some n)", "n"
-    elif row.numbered:
-        given = ["n", f"{name} ({it} n)", f"({name} {value.word})", f"({it}_number {value.word})",
-                 "x", f"IsNumber {it}_table {most} x"]
-    elif row.made == "flags":
-        given = ["n", f"{name} ({it} n)", f"({name} flags)", "flags.0", "flags",
-                 f"flags.0 < 2 ^ {value.bits}"]
-    elif row.made == "pair":
-        given = [variable, f"{name} (flags_under_mask {variable})", f"({name} under)",
-                 "(under.flags.0, under.mask.0)", "under",
-                 "(under.flags.0 < 2 ^ 32) × (under.mask.0 < 2 ^ 32)"]
-    marks = ("variable", "made_from", "pattern", "datum", "conditioned", "condition")
-    return {**dict(zip(marks, given)), "table": it and f"{it}_table", "most": most}
-
-
 def kept(row, marks):
     """The proof that a label keeps number and datum."""
     if row.two:
         return f"{marks['either']}_keeps"
     if row.numbered:
-        return f"λ n. ap (typed {row.number} {row.shape}) (key-value_of {marks['table']}_holds n)"
-    return f"λ {marks['variable']}. refl"
+        label = f"ap (typed {row.number} {row.shape})"
+        return f"λ n. {label} (key-value_of {marks['value']}_table_holds n)"
+    return f"λ {'n' if marks['set'] else row.layout.variable}. refl"
 
 
 def keeps(rows):
@@ -55,7 +29,7 @@ def keeps(rows):
     return f" {pairs(proofs)}" if "\n" in text else f"\n    {text}"
 
 
-def stored(row, seen):
+def stored(row, marks, seen):
     """The proofs of what a row's arm of `store_decoded` reads, and of what it makes. A later call
     of a function has the arm in its name."""
     def result(call):
@@ -63,12 +37,13 @@ def stored(row, seen):
         seen.add(call)
         return name
 
-    read, made, it = "(λ _. refl)", "refl", row.value and snake(row.value.name)
+    read, made = "(λ _. refl)", "refl"
     if row.layout.read:
         call, clause = row.layout.read.split()
         read = f"{result(call)}.ensures.{clause}"
-    if row.made == "flags":
-        made = f"(ap (λ n. {row.variant} ({it} n)) ({result('from_bits_retain')}.ensures tt))"
+    if marks["set"]:
+        bits = result("from_bits_retain")
+        made = f"(ap (λ n. {row.variant} ({marks['value']} n)) ({bits}.ensures tt))"
     elif row.value:
         made = f"(ap (λ x. {row.variant} x) {result('from')}.ensures)"
     return {"read": read, "made": made}
@@ -78,12 +53,10 @@ def exact(row, at, lets, is_listed):
     """The entry of a row in `ExactEq`."""
     entry = row.value.exact if row.value else row.layout.exact
     is_new = is_listed and bool(row.field) and entry not in lets
-    crate, module = "nla_frame", "exact_eq"
-    if row.value:
-        crate, module = "linkinfo_numbers", row.value.module
+    where = f"linkinfo_numbers.specs.contracts.{row.value.module}" if row.value else \
+        "nla_frame.specs.contracts.exact_eq"
     found = {"entry": entry, "decides": KNOWN.get(entry, f"{entry}_exact"),
-             "law": is_new and entry not in KNOWN and
-             f"{crate}.specs.contracts.{module}.{row.field}ExactEq.TheImpl.Laws",
+             "law": is_new and entry not in KNOWN and f"{where}.{row.field}ExactEq.TheImpl.Laws",
              "let_first": is_new and not lets, "let_later": is_new and bool(lets),
              "entry_first": is_listed and not at, "entry_later": is_listed and at > 0,
              "two_later": is_listed and row.two}
@@ -94,22 +67,29 @@ def exact(row, at, lets, is_listed):
 def of_row(row, at=0, info=""):
     """The marks of a row that need nothing else."""
     field, either = row.field.replace("‹info›", info), spelled(row.variant)
+    bits, bare = row.value.bits if row.value else 0, row.shape == "Mark"
+    simple = not (row.value or row.two or bare)
     return {
         **vars(row), "number": str(row.number), "held": f"({field})" if field else "",
         "spelled": "custom" if row.shape in ("Peer", "SelfList") else spelled(row.shape),
         "how": f" or {row.variants[0]}" if row.two else HOW.get(row.made, "").replace("‹›", field),
         "doc": row.doc(len(row.variants) - 1), "first_doc": row.doc(0), "empty": row.variants[0],
         "either": either, "short": either.split("_")[0], "at": str(at), "after": str(at + 1),
-        "pair": row.made == "pair", "arm": not row.two, "plain": not row.under,
-        "names": ", ".join(row.variants), **of_value(row)}
+        "value": row.value and snake(row.value.name), "word": row.value and row.value.word,
+        "bits": str(bits), "most": "256" if bits == 8 else f"(2 ^ {bits})", "bare": bare,
+        "set": row.made == "flags", "pair": row.made == "pair", "simple": simple,
+        "made_from": row.made == "flags" or row.numbered, "variable": row.layout.variable,
+        "condition": row.layout.condition, "said": simple and row.layout.condition,
+        "arm": not row.two, "plain": not row.under, "names": ", ".join(row.variants)}
 
 
 def of_rows(family, is_listed):
     """The marks of the rows."""
     seen, lets, found = set(), set(), []
     for at, row in enumerate(family.typed):
-        marks = {**of_row(row, at), **stored(row, seen), **exact(row, at, lets, is_listed)}
-        found.append({**marks, "kept": kept(row, marks)})
+        marks = of_row(row, at)
+        found.append({**marks, **stored(row, marks, seen), **exact(row, at, lets, is_listed),
+                      "kept": kept(row, marks)})
     return found
 
 
@@ -157,6 +137,7 @@ def of_family(family):
         "no_field": "no_field, " * bool(either or "no_field" in entries),
         "two_fields": ", two_fields" * ("pair" in entries),
         "has_truth": is_listed and "truth" in entries, "values": rows,
-        "not_each": any(row["two"] or not row["condition"] for row in rows),
+        "not_each": any(row["two"] or row["bare"] or row["simple"] and not row["said"]
+                        for row in rows),
         "eithers": "".join(f"{it}, " for it in either), "are_typed": f"{family.snake}_typed" if
         either else f"(are_typed {family.snake}_is_other {family.snake}_rows refl)"}

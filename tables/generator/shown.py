@@ -16,35 +16,36 @@ def views(family):
     """The tables to show: constant, comment, title, and rows. If kinds of a family differ, each has
     the rows in which it does, and one table the others."""
     rows = [row for row in family.rows if row.member]
-    if not family.parts:
-        return [(family.constant, family.names, family.links, rows)]
     apart, found = {row.number for row in family.rows if row.under}, []
     for kind, name in family.parts.items():
         own = {row.number: row for row in rows if row.number in apart and row.under in ("", kind)}
         constant = re.sub(r"(?<=[a-z0-9])(?=[A-Z])", "_", name).upper()
-        where = f" ({family.header})" if not found else ""
-        found.append((constant, f"`{family.prefix}*`{where} of `{kind}` links.", kind,
+        header = f" ({family.header})" * (not found)
+        found.append((constant, f"`{family.prefix}*`{header} of `{kind}` links.", kind,
                       list(own.values())))
-    return [found[0], ("TUNNEL", f"`{family.prefix}*` that all tunnels over IP have.", family.links,
-                       [row for row in rows if row.number not in apart]), *found[1:]]
+    if not found:
+        return [(family.constant, family.names, family.links, rows)]
+    found.insert(1, ("TUNNEL", f"`{family.prefix}*` that all tunnels over IP have.", family.links,
+                     [row for row in rows if row.number not in apart]))
+    return found
 
 
 def shown(row):
     """How code has the format of a row."""
     name, _, part = row.shown.partition(" ")
     if part and name not in PARTS:
-        raise row.line.bad(f"{row.shown} is none of {', '.join(PARTS)} with a name")
+        raise row.line.bad(f"{name} is none of {', '.join(PARTS)}")
     return f"{name}({PARTS[name]}::{part})" if part else name or "Plain"
 
 
 def view_marks(family):
     """What templates/lists has in its marks of each table to show."""
-    found = views(family)
-    for at, (constant, said, title, rows) in enumerate(found):
-        values = [{**vars(row), "number": str(row.number), "format": shown(row)} for row in rows]
-        yield {"constant": constant, "said": said, "values": values,
+    for constant, said, title, rows in views(family):
+        yield {"constant": constant, "said": said,
                "head": fill(f"**{title}**: {said}".split(), "", ""),
-               "others": family.links if len(found) > 1 and at != 1 else ""}
+               "others": family.links if family.parts and constant != "TUNNEL" else "",
+               "values": [{**vars(row), "number": str(row.number), "format": shown(row)}
+                          for row in rows]}
 
 
 def page_marks(family):
@@ -84,21 +85,19 @@ def lines(family, kind):
 
 def outputs(tables):
     """The rows to show, the pages, and the lines."""
-    def put(name, marks):
-        return put_in(sections("lists")[name], marks)
-
+    parts = sections("lists")
     found = [it for family in tables.families for it in view_marks(family)]
-    named = [(family.families, family.constant) for family in tables.families
-             if family.name in tables.codes]
-    rows = [{"rows": put("view of a family", it).removesuffix("\n")} for it in found]
-    yield Whole(f"{VIEW}/src/entries.rt", "families", put("view", {"values": rows}))
+    named = [(it.families, it.constant) for it in tables.families if it.name in tables.codes]
+    rows = [{"rows": put_in(parts["view of a family"], it)[:-1]} for it in found]
+    yield Whole(f"{VIEW}/src/entries.rt", "families", put_in(parts["view"], {"values": rows}))
     yield from used("linkinfo_view", "table", [it["constant"] for it in found])
     yield Part(f"{VIEW}/src/table.rt", "families (arms)", arms(named))
     yield Part(f"{VIEW}/specs/Table.antt", "families (clauses)",
                clauses("family_rows", "lines", named))
-    yield Part("docs/SHOW.md", "families", "".join(put("page of a view", it) for it in found))
+    yield Part("docs/SHOW.md", "families", "".join(
+        put_in(parts["page of a view"], it) for it in found))
     yield Part("docs/FORMAT.md", "families", "".join(
-        put("page of a family", page_marks(family)) for family in tables.families if family.typed))
+        put_in(parts["page of a family"], page_marks(it)) for it in tables.families if it.typed))
     stored = [line for family in tables.families for kind in family.kinds
               for line in lines(family, kind)]
     for at, name in enumerate(("in", "out")):

@@ -115,7 +115,7 @@ class Written(Copy):
         row = marks.of_family(self.family)["values"][-1]
         wanted = {"number": "35", "shape": "Be16", "kernel": "IFLA_VXLAN_NEW", "held": "(u16)",
                   "doc": "Something new (`IFLA_VXLAN_NEW`), big-endian.", "condition": "n < 2 ^ 16",
-                  "pattern": "(New n)", "kept": "λ n. refl", "how": "", "member": "new"}
+                  "bits": "0", "kept": "λ n. refl", "how": "", "member": "new"}
         self.assertEqual({name: row[name] for name in wanted}, wanted)
 
     def test_files(self):
