@@ -1,4 +1,5 @@
 """Reads the tables of families, their order (tables/families), and the layouts of payloads."""
+import collections
 import dataclasses
 import re
 
@@ -13,17 +14,12 @@ FAMILY = re.compile(
     r"(\w+)(?: and (\w+))?(?:, (by hand )?in (\w+)(?:::(\w+)(?: and (\w+))?)?)?")
 
 
-@dataclasses.dataclass(frozen=True)
-class Layout:
-    """What follows from the layout of a payload, a `Shape`."""
-    name: str
-    field: str          # the type of the variant's field, if it has one
-    variable: str       # the datum's variable in specs
-    read: str           # the call that gives the datum, and its clause
-    exact: str          # the entry of `ExactEq`
-    rejects: str        # a payload that is rejected, or how many zeros are, and the cause
-    tail: str           # how the doc comment of a row ends
-    condition: str      # which data are well formed, of the variable; empty if all are
+# What follows from the layout of a payload, a `Shape`: the type of the variant's field, if it has
+# one; the datum's variable in specs; the call that gives the datum, and its clause; the entry of
+# `ExactEq`; a payload that is rejected, or how many zeros are, and the cause; how the doc comment
+# of a row ends; and which data are well formed, of the variable, or empty if all are.
+Layout = collections.namedtuple("Layout", [
+    "name", "field", "variable", "read", "exact", "rejects", "tail", "condition"])
 
 
 @dataclasses.dataclass

@@ -1,6 +1,7 @@
 """Writes what follows from the table of a flat family: its module, its specs, its conditions, an
 explicit proof if it has many rows, and its lines and clauses in its crate. Of a family by hand it
 writes the variants and the rows."""
+from .lists import parts_of
 from .marks import of_family, of_row
 from .parts import Part, Whole
 from .places import put_in, sections
@@ -34,9 +35,7 @@ def crate_parts(crate, families):
         for it in families]}
     for mark in ("conditions", "stated"):
         given[mark] = ", ".join(sorted(f"{it.snake}_{mark}" for it in families))
-    for head, body in sections("laws").items():
-        path, name = put_in(head, given).split(" | ")
-        yield Part(path, name, put_in(body, given))
+    return parts_of("crate", given)
 
 
 def outputs(tables):

@@ -2,10 +2,9 @@
 from .marks import of_row
 from .parts import Part, Whole
 from .places import put_in, sections
-from .text import MOST, by_word, imports, listed, rust_use
+from .text import MOST, by_word, listed
 
-SHAPES, NAMES = "crates/linkinfo_shapes", "crates/linkinfo_names"
-LINE = "\n        | "
+SHAPES = "crates/linkinfo_shapes"
 
 
 def either(names, between=" | "):
@@ -13,23 +12,11 @@ def either(names, between=" | "):
     return between.join(f"Family::{name}" for name in names)
 
 
-def arms(constants):
-    """The arm of each constant: pairs of names of families, and it."""
-    return "".join(f"        {either(names)} => {constant},\n" for names, constant in constants)
-
-
-def clauses(name, call, constants):
-    """The clause of each family."""
-    return "".join(f"{name} family.{family} = {call} {constant}.now\n"
-                   for names, constant in constants for family in names)
-
-
-def used(crate, file, constants):
-    """The imports of constants, in code and in specs."""
-    yield Part(f"crates/{crate}/src/{file}.rt", "families (imports)",
-               rust_use("crate::entries", sorted([*constants, "Entry"], key=by_word)))
-    yield Part(f"crates/{crate}/specs/{file.capitalize()}.antt", "families (imports)", imports(
-        f"use Rattle.{crate}.specs.declared.entries.TheConstants", sorted(constants)))
+def parts_of(template, given):
+    """The parts of a template, of which each section is headed `PATH | TABLE (PART)`."""
+    for head, body in sections(template).items():
+        path, name = put_in(head, given).split(" | ")
+        yield Part(path, name, put_in(body, given))
 
 
 def marks(family):
@@ -44,45 +31,46 @@ def marks(family):
                     for name in ("shapes", "shapes_spec")}
 
 
-def constants(family):
-    """The constants of names, each with its families and what its names begin with: a twin may
-    have names of its own."""
-    if family.twin_prefix == family.prefix:
-        return [(family.families, family.constant, family.prefix)]
-    return [([family.name], family.constant, family.prefix),
-            ([family.twin], family.twin.upper(), family.twin_prefix)]
-
-
 def names(family):
-    """The constants of names in code."""
-    for _, constant, prefix in constants(family):
+    """The constants of names, each with its families: a twin may have names of its own."""
+    shared = family.twin_prefix == family.prefix
+    found = [(family.families if shared else [family.name], family.constant, family.prefix)]
+    if not shared:
+        found.append(([family.twin], family.twin.upper(), family.twin_prefix))
+    for of, constant, prefix in found:
         rows = [f'({number}, "{kernel.replace(family.prefix, prefix)}")' for number, kernel in
                 dict.fromkeys((row.number, row.kernel) for row in family.typed)]
         head = f"pub(crate) const {constant}: &[Entry] = &["
         line = f"{head}{', '.join(rows)}];"
         if len(line) > MOST:
             line = head + "\n" + "".join(f"    {row},\n" for row in rows) + "];"
-        yield {"prefix": prefix, "names": line}
+        yield {"prefix": prefix, "names": line, "constant": constant, "arm": either(of),
+               "name": of[0], "twin": of[1:] and of[1]}
+
+
+def constant_parts(crate, file, values, constants, **given):
+    """The parts of files that name constants."""
+    return parts_of("constants", {
+        "crate": crate, "file": file, "spec": file.capitalize(), "values": values,
+        "constants": ", ".join(sorted(constants)), "without": "", **given,
+        "entries": ", ".join(sorted([*constants, "Entry"], key=by_word))})
 
 
 def outputs(tables):
     """The shapes and the names."""
     typed = [family for family in tables.families if family.plain]
-    without = tables.without(lambda family: family.plain)
-    shapes = {row.shape for family in typed for row in family.plain}
-    values = [marks(family) for family in typed]
+    without, shapes = tables.without(lambda family: family.plain), {
+        row.shape for family in typed for row in family.plain}
+    values, named = [marks(it) for it in typed], [it for family in typed for it in names(family)]
     given = {"used": ", ".join(f"{family.snake}_rows" for family in typed),
-             "without": either(without, LINE),
+             "without": either(without, "\n        | "),
              "names_of_shapes": ", ".join(it for it in tables.layouts if it in shapes)}
-    for path, name, rows in (
-            (f"{SHAPES}/src/table.rt", "shapes", values),
-            (f"{SHAPES}/specs/Table.antt", "shapes_spec", values),
-            (f"{NAMES}/src/entries.rt", "names", [it for family in typed for it in names(family)])):
+    for path, name, rows in ((f"{SHAPES}/src/table.rt", "shapes", values),
+                             (f"{SHAPES}/specs/Table.antt", "shapes_spec", values),
+                             ("crates/linkinfo_names/src/entries.rt", "names", named)):
         yield Whole(path, "families", put_in(sections("lists")[name], {**given, "values": rows}))
-    found = [(["LinkInfo"], "LINK_INFO"), *(it[:2] for family in typed for it in constants(family))]
     without.remove("LinkInfo")
-    yield from used("linkinfo_names", "names", [constant for _, constant in found])
-    yield Part(f"{NAMES}/src/names.rt", "families (arms)",
-               f"{arms(found)}        {either(without, LINE)} => &[],\n")
-    yield Part(f"{NAMES}/specs/Names.antt", "families (clauses)",
-               clauses("names_of", "rows", found))
+    named.insert(0, {"constant": "LINK_INFO", "arm": "Family::LinkInfo", "name": "LinkInfo",
+                     "twin": ""})
+    yield from constant_parts("linkinfo_names", "names", named, [it["constant"] for it in named],
+                              of="names_of", call="rows", without=either(without, "\n        | "))

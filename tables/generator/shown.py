@@ -2,12 +2,11 @@
 the stored lines that the program rejects or accepts by a row (gate/lines/rows.in and rows.out)."""
 import re
 
-from .lists import arms, clauses, used
+from .lists import constant_parts, either
 from .parts import Part, Whole
 from .places import put_in, sections
 from .text import fill, listed
 
-VIEW = "crates/linkinfo_view"
 PARTS = {"Word": "Words", "Bits": "Flags", "Options": "Flags", "Names": "Flags",
          "SecondNames": "Flags", "List": "Elements", "Nested": "Table"}
 
@@ -87,13 +86,13 @@ def outputs(tables):
     """The rows to show, the pages, and the lines."""
     parts = sections("lists")
     found = [it for family in tables.families for it in view_marks(family)]
-    named = [(it.families, it.constant) for it in tables.families if it.name in tables.codes]
     rows = [{"rows": put_in(parts["view of a family"], it)[:-1]} for it in found]
-    yield Whole(f"{VIEW}/src/entries.rt", "families", put_in(parts["view"], {"values": rows}))
-    yield from used("linkinfo_view", "table", [it["constant"] for it in found])
-    yield Part(f"{VIEW}/src/table.rt", "families (arms)", arms(named))
-    yield Part(f"{VIEW}/specs/Table.antt", "families (clauses)",
-               clauses("family_rows", "lines", named))
+    yield Whole("crates/linkinfo_view/src/entries.rt", "families",
+                put_in(parts["view"], {"values": rows}))
+    named = [{**vars(it), "arm": either(it.families)} for it in tables.families
+             if it.name in tables.codes]
+    yield from constant_parts("linkinfo_view", "table", named, [it["constant"] for it in found],
+                              of="family_rows", call="lines")
     yield Part("docs/SHOW.md", "families", "".join(
         put_in(parts["page of a view"], it) for it in found))
     yield Part("docs/FORMAT.md", "families", "".join(

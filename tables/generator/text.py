@@ -65,9 +65,13 @@ def tidy(text):
 
     def kept(mark):
         names = [name for name in re.findall(r"[^\s,]+", mark[3]) if name.strip("◌") in words]
-        if mark[2] == "::":
-            return rust_use(mark[1].removeprefix("use "), names)
-        return f"{imports(mark[1], names, mark[4])}\n" if names else ""
+        if mark[2] == "." and names:
+            return f"{imports(mark[1], names, mark[4])}\n"
+        line = f"{mark[1]}::{{{', '.join(names)}}};\n"
+        if len(names) > 1 and len(line) > MOST + 1:
+            names = fill([f"{name}," for name in names], "    ", "    ", MOST - 1)
+            return f"{mark[1]}::{{\n{names}\n}};\n"
+        return line if len(names) > 1 else "".join(f"{mark[1]}::{name};\n" for name in names)
 
     return IMPORT.sub(kept, text)
 
@@ -75,17 +79,6 @@ def tidy(text):
 def by_word(name):
     """The order of rustfmt, in which an underscore is before digits and letters."""
     return name.upper().replace("_", "\x01")
-
-
-def rust_use(path, names):
-    """An import of Rust, filled; empty if there are no names."""
-    line = f"use {path}::{{{', '.join(names)}}};\n"
-    if len(names) < 2:
-        return "".join(f"use {path}::{name};\n" for name in names)
-    if len(line) <= MOST + 1:
-        return line
-    names = fill([f"{name}," for name in names], "    ", "    ", MOST - 1)
-    return f"use {path}::{{\n{names}\n}};\n"
 
 
 def pairs(items, indent=""):
