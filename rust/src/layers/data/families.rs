@@ -1,11 +1,17 @@
 //! Specifications of the attributes of each family without a peer, a line a family.
 
+// End: written by tables/generate.
+
 /// The specification of the attributes of each family without a peer. For `ipip`, `ip6tnl` and
 /// `sit` links it depends on the tag of the kind.
-pub trait PlainFamilies {}
+pub trait PlainFamilies {
+    // End: written by tables/generate.
+}
 
 /// The type that implements `PlainFamilies`. Only specifications name it: no call takes or returns
 /// it.
 pub struct Plain;
 
-impl PlainFamilies for Plain {}
+impl PlainFamilies for Plain {
+    // End: written by tables/generate.
+}

@@ -1,3 +1,4 @@
+// Written by tables/generate from tables/ipoib.
 //! IP over InfiniBand.
 
 use crate::compat::AllocError;

@@ -1,3 +1,4 @@
+// Written by tables/generate from tables/macsec.
 //! MACsec interfaces.
 
 use crate::compat::AllocError;

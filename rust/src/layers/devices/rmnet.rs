@@ -1,3 +1,4 @@
+// Written by tables/generate from tables/rmnet.
 //! Links of kind `rmnet`.
 
 use crate::compat::AllocError;

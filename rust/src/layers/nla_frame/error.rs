@@ -8,6 +8,7 @@ use core::fmt;
 /// attributes of one family.
 #[derive(Clone, Copy, Debug, PartialEq, Eq)]
 pub enum Family {
+    // Begin: written by tables/generate from tables/families (variants).
     /// Attribute headers (`struct nlattr`).
     Frame,
     /// The contents of `IFLA_LINKINFO`.
@@ -83,12 +84,14 @@ pub enum Family {
     Wwan,
     /// The data (`IFLA_INFO_DATA`) of `xfrm` links.
     Xfrm,
+    // End: written by tables/generate.
 }
 
 impl Family {
     /// The name of the family in lower case, such as `linkinfo` or `bareudp`.
     pub fn name(self) -> &'static str {
         match self {
+            // Begin: written by tables/generate from tables/families (names).
             Family::Frame => "frame",
             Family::LinkInfo => "linkinfo",
             Family::Amt => "amt",
@@ -126,6 +129,7 @@ impl Family {
             Family::Wireguard => "wireguard",
             Family::Wwan => "wwan",
             Family::Xfrm => "xfrm",
+            // End: written by tables/generate.
         }
     }
 }

@@ -1,3 +1,4 @@
+// Written by tables/generate from tables/numbers/amt.
 //! AMT tunnels.
 
 use crate::layers::nla_frame::{DecodeError, ExactEq, Family};

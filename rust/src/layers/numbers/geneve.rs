@@ -1,3 +1,4 @@
+// Written by tables/generate from tables/numbers/geneve.
 //! Geneve tunnels.
 
 use crate::layers::nla_frame::{DecodeError, ExactEq, Family};

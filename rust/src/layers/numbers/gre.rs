@@ -1,3 +1,4 @@
+// Written by tables/generate from tables/numbers/gre.
 //! GRE tunnels.
 
 use crate::layers::nla_frame::ExactEq;

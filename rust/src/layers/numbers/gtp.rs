@@ -1,3 +1,4 @@
+// Written by tables/generate from tables/numbers/gtp.
 //! GTP tunnels.
 
 use crate::layers::nla_frame::ExactEq;

@@ -1,3 +1,4 @@
+// Written by tables/generate from tables/numbers/ipvlan.
 //! IPVLAN and IPVTAP links.
 
 use crate::layers::nla_frame::{DecodeError, ExactEq, Family};
@@ -108,8 +109,8 @@ impl Default for IpVlanFlags {
 
 impl ExactEq for IpVlanFlags {}
 
-/// The mode of an `ipvtap` link; it has the values of an `ipvlan` link.
+/// Another name of `IpVlanMode`.
 pub type IpVtapMode = IpVlanMode;
 
-/// The flags of an `ipvtap` link; they are those of an `ipvlan` link.
+/// Another name of `IpVlanFlags`.
 pub type IpVtapFlags = IpVlanFlags;

@@ -1,3 +1,4 @@
+// Written by tables/generate from tables/numbers/macsec.
 //! MACsec links.
 
 use crate::layers::nla_frame::ExactEq;

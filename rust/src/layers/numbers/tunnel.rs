@@ -1,3 +1,4 @@
+// Written by tables/generate from tables/numbers/tunnel.
 //! IP tunnels.
 
 use crate::layers::nla_frame::ExactEq;

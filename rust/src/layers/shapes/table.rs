@@ -1,3 +1,4 @@
+// Written by tables/generate from tables/families.
 //! The shape of each attribute: one table for all families.
 
 use crate::layers::nla_frame::Family;
@@ -49,7 +50,7 @@ pub fn table_shape(family: Family, kind: u16) -> Option<Shape> {
     }
 }
 
-/// `IFLA_AMT_*`.
+/// `IFLA_AMT_*` (include/uapi/linux/amt.h).
 #[inline(always)]
 fn amt(kind: u16) -> Option<Shape> {
     match kind {
@@ -298,8 +299,7 @@ fn rm_net(kind: u16) -> Option<Shape> {
     }
 }
 
-/// `VETH_INFO_PEER` (include/uapi/linux/veth.h) and `VXCAN_INFO_PEER`
-/// (include/uapi/linux/can/vxcan.h).
+/// `VETH_INFO_*` (include/uapi/linux/veth.h), and `VXCAN_INFO_*` (include/uapi/linux/can/vxcan.h).
 #[inline(always)]
 fn veth(kind: u16) -> Option<Shape> {
     match kind {
@@ -308,7 +308,7 @@ fn veth(kind: u16) -> Option<Shape> {
     }
 }
 
-/// `IFLA_VRF_*`.
+/// `IFLA_VRF_*`, and `IFLA_VRF_PORT_*`.
 #[inline(always)]
 fn vrf(kind: u16) -> Option<Shape> {
     match kind {

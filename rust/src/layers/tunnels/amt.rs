@@ -1,3 +1,4 @@
+// Written by tables/generate from tables/amt.
 //! AMT tunnels.
 
 use crate::compat::AllocError;

@@ -1,3 +1,4 @@
+// Written by tables/generate from tables/bareudp.
 //! Bare UDP tunnels.
 
 use crate::compat::AllocError;

@@ -1,3 +1,4 @@
+// Written by tables/generate from tables/gre.
 //! GRE tunnels over IPv4.
 
 use crate::compat::AllocError;

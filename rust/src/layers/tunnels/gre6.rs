@@ -1,3 +1,4 @@
+// Written by tables/generate from tables/gre6.
 //! GRE tunnels over IPv6.
 
 use crate::compat::AllocError;

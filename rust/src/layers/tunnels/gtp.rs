@@ -1,3 +1,4 @@
+// Written by tables/generate from tables/gtp.
 //! GTP tunnels.
 
 use crate::compat::AllocError;

@@ -1,3 +1,4 @@
+// Written by tables/generate from tables/vti.
 //! VTI tunnels.
 
 use crate::compat::AllocError;

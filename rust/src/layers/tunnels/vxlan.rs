@@ -1,3 +1,4 @@
+// Written by tables/generate from tables/vxlan.
 //! VXLAN tunnels.
 
 use crate::compat::AllocError;
