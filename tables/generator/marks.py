@@ -134,8 +134,8 @@ def of_family(family):
         "shapes": ", ".join(shapes), "value_names": ", ".join(sorted(used - {""})),
         "reads": reads(family, set(shapes)), "numbers": numbers(family), "keeps": keeps(rows),
         "all_variants": ", ".join(variants), "searched": not is_listed, "listed": is_listed,
-        "no_field": "no_field, " * bool(either or "no_field" in entries),
-        "two_fields": ", two_fields" * ("pair" in entries),
+        "derived": ", ".join(["derived_decides", *["no_field"] * bool(
+            either or "no_field" in entries), "one_field", *["two_fields"] * ("pair" in entries)]),
         "has_truth": is_listed and "truth" in entries, "values": rows,
         "not_each": any(row["two"] or row["bare"] or row["simple"] and not row["said"]
                         for row in rows),

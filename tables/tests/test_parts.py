@@ -57,7 +57,8 @@ class Parts(unittest.TestCase):
         self.assertEqual(self.files(Whole("b.in", "", "text\n"))["b.in"], "text\n")
 
     def test_the_list_of_whole_files(self):
-        outputs = [Whole("c.rt", "amt", ""), Part("a.rt", "kinds (arms)", ""), Whole("b.in", "", "")]
+        outputs = [Whole("c.rt", "amt", ""), Part("a.rt", "kinds (arms)", ""),
+                   Whole("b.in", "", "")]
         self.assertEqual(parts.attributes(outputs).text,
                          "/b.in linguist-generated\n/c.rt linguist-generated\n")
 

@@ -1,5 +1,6 @@
 -- Written by tables/generate from tables/ipoib.
--- Which attributes of `ipoib` links are well formed, by the variant of each.
+-- Which attributes are well formed, by the variant of each, in the data of
+-- `ipoib` links.
 use Rattle.std.specs.Prelude.{◌↔◌, ◌<◌, ◌^◌, Bool, true, false, refl}
 use Rattle.std.proofs.Common.{subst}
 use Rattle.linkinfo_numbers.specs.Table.{IsNumber, number_label}

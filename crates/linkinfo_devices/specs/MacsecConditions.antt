@@ -1,5 +1,6 @@
 -- Written by tables/generate from tables/macsec.
--- Which attributes of `macsec` links are well formed, by the variant of each.
+-- Which attributes are well formed, by the variant of each, in the data of
+-- `macsec` links.
 use Rattle.std.specs.Prelude.{◌↔◌, ◌<◌, ◌^◌, Bool, true, false, refl}
 use Rattle.std.proofs.Common.{subst}
 use Rattle.linkinfo_numbers.specs.Table.{IsNumber, number_label}

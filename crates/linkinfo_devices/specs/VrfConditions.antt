@@ -1,5 +1,6 @@
 -- Written by tables/generate from tables/vrf.
--- Which attributes of `vrf` links are well formed, by the variant of each.
+-- Which attributes are well formed, by the variant of each, in the data of
+-- `vrf` links.
 use Rattle.std.specs.Prelude.{◌↔◌, ◌<◌, ◌^◌, Bool, true, false, refl}
 use Rattle.std.proofs.Common.{subst}
 use Rattle.linkinfo_table.specs.Conditions.{IsUnknown, are_typed, unknown_label}

@@ -1,5 +1,6 @@
 -- Written by tables/generate from tables/xfrm.
--- Which attributes of `xfrm` links are well formed, by the variant of each.
+-- Which attributes are well formed, by the variant of each, in the data of
+-- `xfrm` links.
 use Rattle.std.specs.Prelude.{◌↔◌, ◌<◌, ◌^◌, Bool, true, false, refl}
 use Rattle.std.proofs.Common.{subst}
 use Rattle.linkinfo_table.specs.Conditions.{IsUnknown, are_typed, unknown_label}

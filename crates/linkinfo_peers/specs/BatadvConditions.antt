@@ -1,5 +1,6 @@
 -- Written by tables/generate from tables/batadv.
--- Which attributes of `batadv` links are well formed, by the variant of each.
+-- Which attributes are well formed, by the variant of each, in the data of
+-- `batadv` links.
 use Rattle.std.specs.Prelude.{◌≡◌, ◌↔◌, Bool, true, false, refl}
 use Rattle.std.specs.Str.{is_utf8}
 use Rattle.std.proofs.Common.{subst}

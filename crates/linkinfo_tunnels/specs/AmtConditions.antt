@@ -1,5 +1,6 @@
 -- Written by tables/generate from tables/amt.
--- Which attributes of `amt` links are well formed, by the variant of each.
+-- Which attributes are well formed, by the variant of each, in the data of
+-- `amt` links.
 use Rattle.std.specs.Prelude.{◌↔◌, ◌<◌, ◌^◌, Bool, true, false, refl}
 use Rattle.std.proofs.Common.{subst}
 use Rattle.linkinfo_shapes.specs.Shapes.{IsIp}

@@ -1,5 +1,6 @@
 -- Written by tables/generate from tables/geneve.
--- Which attributes of `geneve` links are well formed, by the variant of each.
+-- Which attributes are well formed, by the variant of each, in the data of
+-- `geneve` links.
 use Rattle.std.specs.Prelude.{◌↔◌, ◌<◌, ◌^◌, Bool, true, false, refl}
 use Rattle.std.proofs.Common.{subst}
 use Rattle.linkinfo_shapes.specs.Shapes.{IsIpv4, IsIpv6}

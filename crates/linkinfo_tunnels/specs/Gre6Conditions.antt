@@ -1,5 +1,6 @@
 -- Written by tables/generate from tables/gre6.
--- Which attributes of `ip6gre`, `ip6gretap` and `ip6erspan` links are well formed, by the variant of each.
+-- Which attributes are well formed, by the variant of each, in the data of
+-- `ip6gre`, `ip6gretap` and `ip6erspan` links.
 use Rattle.std.specs.Prelude.{◌↔◌, ◌<◌, ◌^◌, Bool, true, false, refl}
 use Rattle.std.proofs.Common.{subst}
 use Rattle.linkinfo_shapes.specs.Shapes.{IsIpv6}

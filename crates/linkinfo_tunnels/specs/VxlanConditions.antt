@@ -1,5 +1,6 @@
 -- Written by tables/generate from tables/vxlan.
--- Which attributes of `vxlan` links are well formed, by the variant of each.
+-- Which attributes are well formed, by the variant of each, in the data of
+-- `vxlan` links.
 use Rattle.std.specs.Prelude.{
   ◌≡◌,
   ◌↔◌,
