@@ -7,8 +7,8 @@ from .parts import Part, Whole
 from .places import put_in, sections
 from .text import fill, listed
 
-PARTS = {"Word": "Words", "Bits": "Flags", "Options": "Flags", "Names": "Flags",
-         "SecondNames": "Flags", "List": "Elements", "Nested": "Table"}
+PARTS = {"Word": "Words", "List": "Elements", "Nested": "Table", **dict.fromkeys(
+    ["Bits", "Mask", "Names", "Options", "SecondNames"], "Flags")}
 
 
 def views(family):
