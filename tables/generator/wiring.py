@@ -41,8 +41,9 @@ def data_row(ours, families, names):
     kind = ours[0]
     family = next((it for it in families if kind.name in it.kinds), None)
     name = kind.data if kind.data in names else family.name if family else None
-    if not name:
-        raise kind.line.bad(f"no family is {kind.data}, and no table has the kind {kind.name}")
+    if not name or family and family.crate not in (None, kinds.GROUPS[kind.group]):
+        raise kind.line.bad(f"no family of {kinds.GROUPS[kind.group]} is {kind.data}, and no table "
+                            f"of one has the kind {kind.name}")
     form, first = form_of(family), bool(family) and name == family.name
     holder = f"Info{name}" + "Of" * (form in ("first", "peers"))
     prefix = family and (family.prefix if first else family.twin_prefix)

@@ -53,7 +53,9 @@ BAD = [
     ("kinds", "Lower Bridge", "Lower       ",
      "kinds:6: Lower is not one of Lower, Device, Tunnel, Peered, and a variant"),
     ("kinds", "-                 an Intermediate", "Lower Ifb         an Intermediate",
-     "kinds:5: no family is Ifb, and no table has the kind ifb"),
+     "kinds:5: no family of linkinfo_table::lower is Ifb, and no table of one has the kind ifb"),
+    ("kinds", "Tunnel Vxlan", "Device Vxlan",
+     "kinds:11: no family of linkinfo_devices is Vxlan, and no table of one has the kind vxlan"),
     ("ports", "258   bridge", "256   bridge", "ports:5: code 256 is after code 257"),
 ]
 
