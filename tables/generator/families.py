@@ -57,14 +57,14 @@ class Family:
     """A family, or two that have the same rows: the head of the table, and its rows."""
 
     def __init__(self, table, layouts, values):
-        for key in KEYS[:3]:
+        head = {key: table.head[key].text if key in table.head else "" for key in KEYS}
+        where = FAMILY.fullmatch(head["family"])
+        names = re.fullmatch(r"(\w+)\*(.*)", head["names"])
+        for key, found in (("family", where), ("links", head["links"]), ("names", names)):
             if key not in table.head:
                 raise form.Bad(table.path, 1, f"the head has no line `{key}`")
-        where = FAMILY.fullmatch(table.head["family"].text)
-        names = re.fullmatch(r"(\w+)\*(.*)", table.head["names"].text)
-        if not where or not names:
-            raise table.head["names" if where else "family"].bad(
-                "it is not `NAME, in CRATE` or `NAME`" if not where else "it is not `PREFIX_*`")
+            if not found:
+                raise table.head[key].bad(f"{head[key]} is no {key}: see tables/README.md")
         self.name, self.twin, by_hand, self.crate, module, other = where.groups()
         self.table, self.title = table.path.removeprefix("tables/"), table.title
         self.flat = bool(self.crate and not by_hand)
@@ -72,13 +72,12 @@ class Family:
         self.type, self.snake = f"Info{self.name}", snake(self.name)
         self.module, self.constant = module or self.snake, self.snake.upper()
         self.modules, self.spec = [self.module, *[other] * bool(other)], camel(self.module)
-        self.links, self.about = table.head["links"].text, table.value("about")
+        self.links, self.about, self.note = head["links"], head["about"], head["note"]
         self.prefix, more = names.groups()
-        self.twin_prefix = table.value("twin", self.prefix).removesuffix("*")
-        self.header = table.value("header", form.LINK_HEADER)
-        self.note, self.listed_in = table.value("note"), table.value("rows")
-        self.alias, _, self.alias_said = table.value("alias", "").partition(", ")
-        self.parts = dict(it.split() for it in table.value("tables", "").split(", ") if it)
+        self.twin_prefix = head["twin"].removesuffix("*") or self.prefix
+        self.header, self.listed_in = head["header"] or form.LINK_HEADER, head["rows"]
+        self.alias, _, self.alias_said = head["alias"].partition(", ")
+        self.parts = dict(it.split() for it in head["tables"].split(", ") if it)
         self.rows = [read_row(row, self.prefix, layouts, values) for row in table.rows]
         check(self.rows)
         self.typed = [row for row in self.rows if row.variants]

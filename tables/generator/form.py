@@ -3,6 +3,7 @@
 Columns are two or more spaces apart, and `-` is an empty cell. A doc comment is a line that begins
 with spaces; a line that is indented further continues it.
 """
+import collections
 import dataclasses
 import re
 
@@ -46,28 +47,13 @@ class Row:
             raise self.line.bad(f"{self.cells[column] or '-'} is no number") from None
 
 
-@dataclasses.dataclass(frozen=True)
-class Table:
-    """A table: its path, title, the lines of its head by their first word, and its rows."""
-    path: str
-    title: str
-    head: dict
-    rows: list
+# A table: its path, its title, the lines of its head by their first word, and its rows.
+Table = collections.namedtuple("Table", ["path", "title", "head", "rows"])
 
-    def value(self, key, otherwise=None):
-        """The text of a line of the head, or what is given if it has no such line."""
-        return self.head[key].text if key in self.head else otherwise
-
-
-@dataclasses.dataclass(frozen=True)
-class Value:
-    """A type that is made from a number: what rows need to know of it."""
-    name: str
-    bits: int
-    made: str           # number, reference (a number made from a reference), flags, pair, or scrub
-    module: str         # the module of linkinfo_numbers
-    word: str           # its variable in specs
-    exact: str          # the name of its entry in a proof of `ExactEq`
+# A type that is made from a number: its name; its width; how it is made, which is number, reference
+# (a number made from a reference), flags, pair, or scrub; the module of linkinfo_numbers; its
+# variable in specs; and the name of its entry in a proof of `ExactEq`.
+Value = collections.namedtuple("Value", ["name", "bits", "made", "module", "word", "exact"])
 
 
 def lines(root, name):

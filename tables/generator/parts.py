@@ -3,7 +3,7 @@
 The first line of a whole file says from which table it is; a part is between two lines, of which
 the first one says so. The text between them, and that of a whole file, follows from the tables.
 """
-import dataclasses
+import collections
 import pathlib
 import re
 import subprocess
@@ -20,22 +20,11 @@ class Missing(Exception):
     """A part that its file does not hold, or holds twice."""
 
 
-@dataclasses.dataclass(frozen=True)
-class Whole:
-    """A file that the generator writes whole, without its first line. `name` is the table that it
-    is from, or empty for a file that cannot have a comment."""
-    path: str
-    name: str
-    text: str
-
-
-@dataclasses.dataclass(frozen=True)
-class Part:
-    """A part of a file. `name` is the table that it is from, with what it is in parentheses if the
-    file has several parts: `kinds (variants)`."""
-    path: str
-    name: str
-    text: str
+# A file that the generator writes whole, without its first line; and a part of a file. `name` is
+# the table that it is from, with what it is in parentheses if the file has several parts, as
+# `kinds (variants)`. It is empty for a file that cannot have a comment.
+Whole = collections.namedtuple("Whole", ["path", "name", "text"])
+Part = collections.namedtuple("Part", ["path", "name", "text"])
 
 
 def comment(path, text):

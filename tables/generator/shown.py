@@ -58,7 +58,7 @@ def page_marks(family):
             "variants": f"{row.variants[0]} (empty), {row.variant} (one byte)" if row.two
             else row.variant, "made_into": f" {row.value.name} " if row.value else " "})
     return {"heading": listed([f"`{name}`" for name in family.families]), "values": rows,
-            "note": fill((family.note or "").split(), "", "")}
+            "note": fill(family.note.split(), "", "")}
 
 
 def attribute(kind, payload):
