@@ -82,6 +82,10 @@ class Family:
         check(self.rows)
         self.typed = [row for row in self.rows if row.variants]
         self.plain = [row for row in self.typed if not row.under]
+        for row in self.typed:
+            known = row.layout.variable and (row.field or row.shape == "Mark") and not row.under
+            if self.flat and not known:
+                raise row.line.bad("such a row is only in a module by hand")
         self.values = list(dict.fromkeys(row.value for row in self.typed if row.value))
         self.kinds = re.findall(r"\w+", self.links.split(", and its")[0].replace(" and ", ", "))
         self.quoted = listed([f"`{kind}`" for kind in self.kinds])
