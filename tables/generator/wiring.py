@@ -50,6 +50,7 @@ def data_row(ours, families, names):
     return {
         "form": form, "data": kind.data, "variant": kind.variant, "family": name,
         "plain": snake(name), "it": family.snake if family else "", "holder": holder,
+        "declared": family.snake if form == "twin" else name,
         "module": family.module if first else name.lower(),
         "type": f"{holder}<P>" if holder.endswith("Of") else holder,
         "members": f"InfoIpVlanOf {int(not first)}", "crate": family and family.crate,
@@ -112,7 +113,7 @@ def outputs(tables):
     ordered = unique([row for group in groups[1:] for row in group], "plain")
     listed_in = [row for row in ordered if row["form"] not in ("opaque", "peers", "first")]
     found = of_kinds(tables, kinds.read(tables.root, "ports"), {row["data"]: row for row in rows})
-    found |= {"data": rows, "tables": unique(listed_in, "it"), "plain": listed_in,
+    found |= {"data": rows, "tables": unique(listed_in, "declared"), "plain": listed_in,
               "flat": [row for row in ordered if not row["form"]], "Tunnel": groups[2],
               "laws": [row for row in unique(rows, "plain")
                        if row in listed_in and row["form"] != "twin"]}

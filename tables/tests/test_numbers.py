@@ -1,6 +1,7 @@
 """What the generator says of tables of numbers and kinds with an error, and what it writes of a
 number type, a flag set and a kind that are new."""
 import pathlib
+import re
 import shutil
 import sys
 import tempfile
@@ -213,6 +214,12 @@ type  name  variant  layout  member  shown as
                  "enum { LAST_FAMILY = 38, LAST_KIND = 48, LAST_PORT_KIND = 260 };\n")):
             with self.subTest(f"{path} {name}"):
                 self.assertIn(text, found[path, name])
+
+    def test_each_declared_type_is_imported(self):
+        found, path = self.parts(), "crates/linkinfo_data/src/families.rt"
+        named = re.findall(r"Info\w+", found[path, "kinds (declared)"])
+        self.assertEqual(re.findall(r"\{(\w+)\}", found[path, "kinds (types)"]),
+                         list(dict.fromkeys(named)))
 
 
 if __name__ == "__main__":

@@ -4,6 +4,7 @@ ghost use Rattle.std.specs.Prelude.{ℕ};
 // Begin: written by tables/generate from tables/kinds (types).
 ghost use Rattle.linkinfo_devices.specs.declared.ipvlan.InfoIpVlanOf.{InfoIpVlanOf};
 ghost use Rattle.linkinfo_devices.specs.declared.macvlan.InfoMacVlan.{InfoMacVlan};
+ghost use Rattle.linkinfo_devices.specs.declared.macvtap.InfoMacVtap.{InfoMacVtap};
 ghost use Rattle.linkinfo_devices.specs.declared.vrf.InfoVrf.{InfoVrf};
 ghost use Rattle.linkinfo_devices.specs.declared.ipoib.InfoIpoib.{InfoIpoib};
 ghost use Rattle.linkinfo_devices.specs.declared.xfrm.InfoXfrm.{InfoXfrm};
