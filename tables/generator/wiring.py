@@ -53,7 +53,7 @@ def data_row(ours, families, names):
         "declared": family.snake if form == "twin" else name,
         "module": family.module if first else name.lower(),
         "type": f"{holder}<P>" if holder.endswith("Of") else holder,
-        "members": f"InfoIpVlanOf {int(not first)}", "crate": family and family.crate,
+        "members": family and f"{family.type}Of {int(not first)}", "crate": family and family.crate,
         "spec": family and family.spec, "names": f" (`{prefix}*`)" if family else "",
         "these": listed(family.kinds) if family else "",
         "verbatim": ", kept verbatim" * (form == "opaque"),
@@ -64,9 +64,8 @@ def data_row(ours, families, names):
 def data_rows(tables):
     """The variants of data, in the order of their first kinds."""
     names, held = {row["family"] for row in tables.order}, {}
-    for kind in tables.kinds:
-        if kind.group:
-            held.setdefault((kind.group, kind.data), []).append(kind)
+    for kind in (it for it in tables.kinds if it.group):
+        held.setdefault((kind.group, kind.data), []).append(kind)
     return [data_row(ours, tables.families, names) for ours in held.values()]
 
 
