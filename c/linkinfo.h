@@ -132,6 +132,7 @@ enum linkinfo_cause {
 /* The family of attributes that has the error. */
 enum linkinfo_family {
   LINKINFO_FAMILY_NONE = 0,
+  /* Begin: written by tables/generate from tables/families. */
   LINKINFO_FAMILY_FRAME = 1,
   LINKINFO_FAMILY_LINKINFO = 2,
   LINKINFO_FAMILY_AMT = 3,
@@ -169,12 +170,14 @@ enum linkinfo_family {
   LINKINFO_FAMILY_WIREGUARD = 35,
   LINKINFO_FAMILY_WWAN = 36,
   LINKINFO_FAMILY_XFRM = 37
+  /* End: written by tables/generate. */
 };
 
 /* The kind of a link: the string of IFLA_INFO_KIND. */
 enum linkinfo_kind {
   LINKINFO_KIND_NONE = 0,
   LINKINFO_KIND_OTHER = 1, /* every other name */
+  /* Begin: written by tables/generate from tables/kinds. */
   LINKINFO_KIND_DUMMY = 2,
   LINKINFO_KIND_IFB = 3,
   LINKINFO_KIND_BRIDGE = 4,
@@ -221,6 +224,7 @@ enum linkinfo_kind {
   LINKINFO_KIND_IP6ERSPAN = 45,
   LINKINFO_KIND_PFCP = 46,
   LINKINFO_KIND_RMNET = 47
+  /* End: written by tables/generate. */
 };
 
 /* The kind of the link that a port belongs to: the string of
@@ -228,10 +232,12 @@ enum linkinfo_kind {
 enum linkinfo_port_kind {
   LINKINFO_PORT_KIND_NONE = 0,
   LINKINFO_PORT_KIND_OTHER = 256, /* every other name */
+  /* Begin: written by tables/generate from tables/ports. */
   LINKINFO_PORT_KIND_BOND = 257,
   LINKINFO_PORT_KIND_BRIDGE = 258,
   LINKINFO_PORT_KIND_VRF = 259,
   LINKINFO_PORT_KIND_TEAM = 260
+  /* End: written by tables/generate. */
 };
 
 /* An error. With cause 0 there is none, and family and type are 0 too. */

@@ -310,6 +310,11 @@ static void values_of(const uint8_t *bytes, size_t length, uint16_t kind) {
   }
 }
 
+/* The last numbers of families, kinds and port kinds. */
+/* Begin: written by tables/generate from tables/kinds. */
+enum { LAST_FAMILY = 37, LAST_KIND = 47, LAST_PORT_KIND = 260 };
+/* End: written by tables/generate. */
+
 /* The attributes of data, of its kind and of every other kind. */
 static void inside(const uint8_t *bytes, size_t length) {
   static struct linkinfo_item items[MOST_BYTES / 4 + 1];
@@ -320,7 +325,8 @@ static void inside(const uint8_t *bytes, size_t length) {
       CHECK(attributes_of(payload, items[i].length, items[i].kind) > 0);
     if ((items[i].raw_type & 0x3fff) == 5)
       CHECK(attributes_of(payload, items[i].length, items[i].port_kind) > 0);
-    for (uint16_t kind = 0; kind < 262; kind = kind == 50 ? 255 : kind + 1) {
+    for (uint16_t kind = 0; kind < LAST_PORT_KIND + 2;
+         kind = kind == LAST_KIND + 3 ? 255 : kind + 1) {
       attributes_of(payload, items[i].length, kind);
       values_of(payload, items[i].length, kind);
     }
@@ -567,7 +573,7 @@ static void sentences(void) {
       {{LINKINFO_FAMILY_VXLAN, 0x8001}, ""},
       {{LINKINFO_FAMILY_BOND, 1}, ""},
       {{0, 1}, ""},
-      {{38, 1}, ""},
+      {{LAST_FAMILY + 1, 1}, ""},
   };
   for (size_t at = 0; at < sizeof names / sizeof *names; at++)
     text_is(names[at].text, write_attribute, names[at].pair);
@@ -583,16 +589,16 @@ static void texts(void) {
   for (uint32_t code = 0; code < 65536; code++) {
     uint16_t number = (uint16_t)code;
     size_t length = linkinfo_family_name(number, name, sizeof name);
-    CHECK((length > 0) == (code >= 1 && code <= 37));
+    CHECK((length > 0) == (code >= 1 && code <= LAST_FAMILY));
     text_is(name, write_family, &number);
     length = linkinfo_kind_name(number, name, sizeof name);
-    CHECK((length > 0) == (code >= 2 && code <= 47));
+    CHECK((length > 0) == (code >= 2 && code <= LAST_KIND));
     if (length > 0)
       CHECK(linkinfo_kind_of_name((const char *)at_end((const uint8_t *)name, length), length) ==
             number);
     text_is(name, write_kind, &number);
     length = linkinfo_port_kind_name(number, name, sizeof name);
-    CHECK((length > 0) == (code >= 257 && code <= 260));
+    CHECK((length > 0) == (code >= 257 && code <= LAST_PORT_KIND));
     if (length > 0)
       CHECK(linkinfo_port_kind_of_name((const char *)at_end((const uint8_t *)name, length),
                                        length) == number);
@@ -609,7 +615,8 @@ static void texts(void) {
   struct linkinfo_error short_error = {LINKINFO_FAMILY_FRAME, 0, LINKINFO_CAUSE_HEADER};
   text_is("frame 0 header", write_error, &short_error);
   struct linkinfo_error none = {LINKINFO_FAMILY_XFRM, 2, LINKINFO_CAUSE_NONE},
-                        no_family = {38, 2, LINKINFO_CAUSE_LENGTH}, no_cause = {1, 0, 12};
+                        no_family = {LAST_FAMILY + 1, 2, LINKINFO_CAUSE_LENGTH},
+                        no_cause = {1, 0, 12};
   text_is("", write_error, &none);
   text_is("", write_error, &no_family);
   text_is("", write_error, &no_cause);

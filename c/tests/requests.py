@@ -15,10 +15,10 @@ def families(path):
     with open(path, encoding="utf-8") as page:
         names = page.read().split("## Names")[1].split("## Numbers")[0]
     links, ports = re.split(r"The\s+port\s+kinds\s+are", names)
-    of_links = dict(re.findall(r"`(\w+)` \w+, (?:\w+ of Info)?(\w+)", links))
+    of_links = dict(re.findall(r"(?m)^\| `(\w+)` \| \w+ \| \w+ \| (\w+) \|", links))
     of_ports = dict(re.findall(r"`(\w+)`\s+(\w+)", ports.split("\n\n")[0]))
     lists = {DATA: {name: family.lower() for name, family in of_links.items()
-                    if family not in ("Other", "Veth", "Vxcan")},
+                    if family not in ("Veth", "Vxcan")},
              PORT_DATA: {name: family.lower() + ("" if family == "Vrf" else "port")
                          for name, family in of_ports.items()}}
     return lists

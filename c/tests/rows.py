@@ -22,7 +22,7 @@ for families, table in tables:
 names = text.split("## Names")[1].split("## Numbers")[0]
 # (a paragraph may be broken anywhere)
 links, ports = re.split(r"The\s+port\s+kinds\s+are", names)
-for name, family in re.findall(r"`(\w+)` \w+, (?:\w+ of Info)?(\w+)", links):
+for name, family in re.findall(r"(?m)^\| `(\w+)` \| \w+ \| \w+ \| ?(\w*) ?\|", links):
     print("link", name, 0, "None")
     for number, shape in rows.get(family, []) + of_kind.get(name, []):
         print("link", name, number, shape)

@@ -162,24 +162,38 @@ pub use layers::nla_frame::{Cause, DecodeError, Family, ToVecError};
 
 // The attributes of each family.
 #[doc(inline)]
+// Begin: written by tables/generate from tables/kinds (device).
 pub use layers::devices::{
     InfoIpVlan, InfoIpVtap, InfoIpoib, InfoMacSec, InfoMacVlan, InfoMacVtap, InfoRmNet, InfoVrf,
-    InfoVrfPort, InfoXfrm,
+    InfoXfrm,
 };
+// End: written by tables/generate.
 #[doc(inline)]
-pub use layers::lower::{
-    InfoBond, InfoBondPort, InfoBridge, InfoBridgePort, InfoCan, InfoDsa, InfoHsr, InfoVlan,
+pub use layers::devices::InfoVrfPort;
+#[doc(inline)]
+// Begin: written by tables/generate from tables/kinds (lower).
+pub use layers::lower::{InfoBond, InfoBridge, InfoCan, InfoDsa, InfoHsr, InfoVlan};
+// End: written by tables/generate.
+#[doc(inline)]
+pub use layers::lower::{InfoBondPort, InfoBridgePort};
+#[doc(inline)]
+// Begin: written by tables/generate from tables/kinds (peered).
+pub use layers::peers::{
+    InfoBatAdv, InfoNetkitOf, InfoPfcp, InfoTun, InfoVethOf, InfoVxcanOf, InfoWireguard, InfoWwan,
 };
+// End: written by tables/generate.
 #[doc(inline)]
-pub use layers::peers::{InfoBatAdv, InfoPfcp, InfoTeamPort, InfoTun, InfoWireguard, InfoWwan};
+pub use layers::peers::InfoTeamPort;
 #[doc(inline)]
+// Begin: written by tables/generate from tables/kinds (tunnel).
 pub use layers::tunnels::{
     InfoAmt, InfoBareUdp, InfoGeneve, InfoGre, InfoGre6, InfoGtp, InfoIpTunnel, InfoVti, InfoVxlan,
 };
+// End: written by tables/generate.
 
 // Families with a peer, custom peers and custom families.
 #[doc(inline)]
-pub use layers::peers::{InfoNetkit, InfoNetkitOf, InfoVeth, InfoVethOf, InfoVxcan, InfoVxcanOf};
+pub use layers::peers::{InfoNetkit, InfoVeth, InfoVxcan};
 #[doc(inline)]
 pub use layers::table::{LinkFamily, LinkPeer, PeerFault};
 
@@ -187,6 +201,7 @@ pub use layers::table::{LinkFamily, LinkPeer, PeerFault};
 #[doc(inline)]
 pub use bitflags::Flags;
 #[doc(inline)]
+// Begin: written by tables/generate from tables/numbers.
 pub use layers::numbers::{
     AmtMode, ErSpanDir, EthernetProtocol, GeneveDf, GreEncapFlags, GreEncapType, GreIOFlags,
     GtpRole, InfoRmNetFlags, Ip6TunnelFlags, IpProtocol, IpVlanFlags, IpVlanMode, IpVtapFlags,
@@ -194,6 +209,7 @@ pub use layers::numbers::{
     MacVlanMacAddressMode, MacVlanMode, MacVtapFlags, MacVtapMacAddressMode, MacVtapMode,
     NetkitMode, NetkitPolicy, NetkitScrub, RmNetFlags, TunnelEncapFlags, TunnelEncapType, VxlanDf,
 };
+// End: written by tables/generate.
 
 // Link info in netlink messages and captures.
 #[doc(inline)]

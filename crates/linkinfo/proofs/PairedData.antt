@@ -79,6 +79,7 @@ unfolding attributes_of
 as_paired f typed s t e = pairs_are f.alike typed (nla_items s) (nla_items t) 0 0 e
 
 pub lower_paired : (P : Type 0) (f : LowerFamily) → IsPaired (lower_data_of {P = P} f)
+-- Begin: written by tables/generate from tables/kinds (lower).
 lower_paired P lower.Bridge = as_paired plain.bridge (rows_type _)
 lower_paired P lower.Vlan = as_paired plain.vlan (rows_type _)
 lower_paired P lower.Bond = as_paired plain.bond (rows_type _)
@@ -86,7 +87,10 @@ lower_paired P lower.Hsr = as_paired plain.hsr (rows_type _)
 lower_paired P lower.Can = as_paired plain.can (rows_type _)
 lower_paired P lower.Dsa = as_paired plain.dsa (rows_type _)
 
+-- End: written by tables/generate.
+
 pub devices_paired : (P : Type 0) (f : DeviceFamily) → IsPaired (devices_data_of {P = P} f)
+-- Begin: written by tables/generate from tables/kinds (device).
 devices_paired P device.IpVlan = as_paired plain.ip_vlan (rows_type _)
 devices_paired P device.IpVtap = as_paired plain.ip_vtap (rows_type _)
 devices_paired P (device.MacVlan around) = as_paired (plain.mac_vlan around) (rows_type _)
@@ -97,7 +101,10 @@ devices_paired P device.Xfrm = as_paired plain.xfrm (rows_type _)
 devices_paired P device.MacSec = as_paired plain.mac_sec (rows_type _)
 devices_paired P device.RmNet = as_paired plain.rm_net (rows_type _)
 
+-- End: written by tables/generate.
+
 pub tunnels_paired : (P : Type 0) (f : TunnelFamily) → IsPaired (tunnels_data_of {P = P} f)
+-- Begin: written by tables/generate from tables/kinds (tunnel).
 tunnels_paired P tunnel.Vxlan = as_paired plain.vxlan (rows_type _)
 tunnels_paired P tunnel.GreTap = as_paired plain.gre (rows_type _)
 tunnels_paired P tunnel.GreTap6 = as_paired plain.gre6 (rows_type _)
@@ -112,8 +119,11 @@ tunnels_paired P tunnel.BareUdp = as_paired plain.bare_udp (rows_type _)
 tunnels_paired P tunnel.ErSpan = as_paired plain.gre (rows_type _)
 tunnels_paired P tunnel.Ip6ErSpan = as_paired plain.gre6 (rows_type _)
 
+-- End: written by tables/generate.
+
 pub peers_paired : {P : Type 0} (peer : Ghosts P) → HaveOneType (netkit_members peer).alike →
     (f : PeeredFamily) → IsPaired (peers_data_of peer f)
+-- Begin: written by tables/generate from tables/kinds (peered).
 peers_paired peer netkit peered.Tun = as_paired plain.tun (rows_type _)
 peers_paired peer netkit peered.Veth = tt {0}
 peers_paired peer netkit peered.Wireguard = as_paired plain.wireguard (rows_type _)
@@ -122,6 +132,8 @@ peers_paired peer netkit peered.Vxcan = tt {0}
 peers_paired peer netkit peered.BatAdv = as_paired plain.bat_adv (rows_type _)
 peers_paired peer netkit peered.Wwan = as_paired plain.wwan (rows_type _)
 peers_paired peer netkit peered.Pfcp = as_paired plain.pfcp (rows_type _)
+
+-- End: written by tables/generate.
 
 pub port_paired : (f : PortFamily) → IsPaired (port_data_of f)
 port_paired port_of.Bond = as_paired plain.bond_port (rows_type _)

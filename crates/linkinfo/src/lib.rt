@@ -50,10 +50,14 @@ pub use xstats::LinkXstats;
 // Values of the data of links and of ports: the attributes of each family, their numbers and their
 // flags (`Flags` has their bits).
 pub use bitflags::Flags;
+// Begin: written by tables/generate from tables/kinds (device).
 pub use linkinfo_devices::{
-    InfoIpVlan, InfoIpVlanOf, InfoIpVtap, InfoIpoib, InfoMacSec, InfoMacVlan, InfoMacVtap,
-    InfoRmNet, InfoVrf, InfoVrfPort, InfoXfrm,
+    InfoIpVlan, InfoIpVtap, InfoIpoib, InfoMacSec, InfoMacVlan, InfoMacVtap, InfoRmNet, InfoVrf,
+    InfoXfrm,
 };
+// End: written by tables/generate.
+pub use linkinfo_devices::{InfoIpVlanOf, InfoVrfPort};
+// Begin: written by tables/generate from tables/numbers.
 pub use linkinfo_numbers::{
     AmtMode, ErSpanDir, EthernetProtocol, GeneveDf, GreEncapFlags, GreEncapType, GreIOFlags,
     GtpRole, InfoRmNetFlags, Ip6TunnelFlags, IpProtocol, IpVlanFlags, IpVlanMode, IpVtapFlags,
@@ -61,16 +65,22 @@ pub use linkinfo_numbers::{
     MacVlanMacAddressMode, MacVlanMode, MacVtapFlags, MacVtapMacAddressMode, MacVtapMode,
     NetkitMode, NetkitPolicy, NetkitScrub, RmNetFlags, TunnelEncapFlags, TunnelEncapType, VxlanDf,
 };
+// End: written by tables/generate.
+// Begin: written by tables/generate from tables/kinds (peered).
 pub use linkinfo_peers::{
-    InfoBatAdv, InfoNetkit, InfoNetkitOf, InfoPfcp, InfoTeamPort, InfoTun, InfoVeth, InfoVethOf,
-    InfoVxcan, InfoVxcanOf, InfoWireguard, InfoWwan,
+    InfoBatAdv, InfoNetkitOf, InfoPfcp, InfoTun, InfoVethOf, InfoVxcanOf, InfoWireguard, InfoWwan,
 };
-pub use linkinfo_table::lower::{
-    InfoBond, InfoBondPort, InfoBridge, InfoBridgePort, InfoCan, InfoDsa, InfoHsr, InfoVlan,
-};
+// End: written by tables/generate.
+pub use linkinfo_peers::{InfoNetkit, InfoTeamPort, InfoVeth, InfoVxcan};
+// Begin: written by tables/generate from tables/kinds (lower).
+pub use linkinfo_table::lower::{InfoBond, InfoBridge, InfoCan, InfoDsa, InfoHsr, InfoVlan};
+// End: written by tables/generate.
+pub use linkinfo_table::lower::{InfoBondPort, InfoBridgePort};
+// Begin: written by tables/generate from tables/kinds (tunnel).
 pub use linkinfo_tunnels::{
     InfoAmt, InfoBareUdp, InfoGeneve, InfoGre, InfoGre6, InfoGtp, InfoIpTunnel, InfoVti, InfoVxlan,
 };
+// End: written by tables/generate.
 
 // The data of a link or of a port alone: the family of a kind, and payloads parsed, validated and
 // compared by family. Also what of a payload is not met, where two payloads differ, and the offset

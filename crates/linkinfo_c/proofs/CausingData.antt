@@ -38,30 +38,32 @@ use Rattle.linkinfo_table.specs.FamilyRows.{PlainRow, own, row_of, table_row}
 use Rattle.linkinfo_table.specs.Lists.{first_meaning, values}
 use Rattle.linkinfo_table.specs.Rows.{labelled, meaning_in, row_meaning}
 use Rattle.linkinfo_table.specs.SelfList.{inside}
-use Rattle.linkinfo_devices.specs.Ipoib.{ipoib_rows}
 use Rattle.linkinfo_devices.specs.Ipvlan.{ip_vlan_rows}
-use Rattle.linkinfo_devices.specs.Macsec.{mac_sec_rows}
 use Rattle.linkinfo_devices.specs.Macvlan.{mac_vlan_attribute, mac_vlan_plain_rows, mac_vlan_rows}
 use Rattle.linkinfo_devices.specs.Macvtap.{mac_vtap_attribute, mac_vtap_plain_rows, mac_vtap_rows}
 use Rattle.linkinfo_devices.specs.declared.macvlan.InfoMacVlan as macvlan
 use Rattle.linkinfo_devices.specs.declared.macvtap.InfoMacVtap as macvtap
-use Rattle.linkinfo_devices.specs.Rmnet.{rm_net_rows}
-use Rattle.linkinfo_devices.specs.Vrf.{vrf_rows}
-use Rattle.linkinfo_devices.specs.Xfrm.{xfrm_rows}
-use Rattle.linkinfo_tunnels.specs.Amt.{amt_rows}
-use Rattle.linkinfo_tunnels.specs.BareUdp.{bare_udp_rows}
-use Rattle.linkinfo_tunnels.specs.Geneve.{geneve_rows}
-use Rattle.linkinfo_tunnels.specs.Gre.{gre_rows}
-use Rattle.linkinfo_tunnels.specs.Gre6.{gre6_rows}
-use Rattle.linkinfo_tunnels.specs.Gtp.{gtp_rows}
 use Rattle.linkinfo_tunnels.specs.IpTunnel.{flags_row, ip_tunnel_row, ip_tunnel_rows}
-use Rattle.linkinfo_tunnels.specs.Vti.{vti_rows}
-use Rattle.linkinfo_tunnels.specs.Vxlan.{vxlan_rows}
-use Rattle.linkinfo_peers.specs.Batadv.{batadv_rows}
 use Rattle.linkinfo_peers.specs.Netkit.{netkit_plain}
-use Rattle.linkinfo_peers.specs.Wwan.{wwan_rows}
 use Rattle.linkinfo_peers.specs.declared.veth.InfoVethOf.{InfoVethOf}
 use Rattle.linkinfo_peers.specs.declared.vxcan.InfoVxcanOf.{InfoVxcanOf}
+-- Begin: written by tables/generate from tables/kinds (rows).
+use Rattle.linkinfo_devices.specs.Vrf.{vrf_rows}
+use Rattle.linkinfo_devices.specs.Ipoib.{ipoib_rows}
+use Rattle.linkinfo_devices.specs.Xfrm.{xfrm_rows}
+use Rattle.linkinfo_devices.specs.Macsec.{mac_sec_rows}
+use Rattle.linkinfo_devices.specs.Rmnet.{rm_net_rows}
+use Rattle.linkinfo_tunnels.specs.Vxlan.{vxlan_rows}
+use Rattle.linkinfo_tunnels.specs.Gre.{gre_rows}
+use Rattle.linkinfo_tunnels.specs.Gre6.{gre6_rows}
+use Rattle.linkinfo_tunnels.specs.Vti.{vti_rows}
+use Rattle.linkinfo_tunnels.specs.Gtp.{gtp_rows}
+use Rattle.linkinfo_tunnels.specs.Geneve.{geneve_rows}
+use Rattle.linkinfo_tunnels.specs.Amt.{amt_rows}
+use Rattle.linkinfo_tunnels.specs.BareUdp.{bare_udp_rows}
+use Rattle.linkinfo_peers.specs.Batadv.{bat_adv_rows}
+use Rattle.linkinfo_peers.specs.Wwan.{wwan_rows}
+-- End: written by tables/generate.
 use Rattle.linkinfo_data.specs.BytesPeer.{bytes_peer}
 use Rattle.linkinfo_peers.specs.PeerMembers.{netkit_members, veth_members, vxcan_members}
 use Rattle.linkinfo_data.specs.Data.{data_of, family_of}
@@ -147,6 +149,7 @@ table_errors f other table p =
     (λ a. rows_errors f other (λ n. table_row table n) (λ n. table_rows table n) a) (nla_items p)
 
 lower_errors : (f : LowerFamily) (p : List ℕ) → EachError ((lower_data_of {P = Bytes} f).means p)
+-- Begin: written by tables/generate from tables/kinds (lower).
 lower_errors lower.Bridge p =
     variant_errors (λ xs. info.Bridge xs) (values plain.bridge.meaning (nla_items p))
     (table_errors _ _ [] p)
@@ -166,6 +169,8 @@ lower_errors lower.Dsa p =
     variant_errors (λ xs. info.Dsa xs) (values plain.dsa.meaning (nla_items p))
     (table_errors _ _ [] p)
 
+-- End: written by tables/generate.
+
 mac_vlan_each : (c n : ℕ) → EachRow (mac_vlan_rows c n)
 mac_vlan_each c n =
     level_each family.MacVlan (λ d. macvlan.Other d) mac_vlan_attribute
@@ -178,6 +183,7 @@ mac_vtap_each c n =
 
 devices_errors : (f : DeviceFamily) (p : List ℕ) →
     EachError ((devices_data_of {P = Bytes} f).means p)
+-- Begin: written by tables/generate from tables/kinds (device).
 devices_errors device.IpVlan p =
     variant_errors (λ xs. info.IpVlan xs) (values plain.ip_vlan.meaning (nla_items p))
     (table_errors _ _ ip_vlan_rows p)
@@ -212,6 +218,8 @@ devices_errors device.RmNet p =
     variant_errors (λ xs. info.RmNet xs) (values plain.rm_net.meaning (nla_items p))
     (table_errors _ _ rm_net_rows p)
 
+-- End: written by tables/generate.
+
 -- the tunnel flags have a row under these kinds
 abbrev HasFlags : KindTag → Type 0
 HasFlags tag.IpIp = Unit {0}
@@ -237,6 +245,7 @@ IsFlagged _ = Unit {0}
 
 tunnels_errors : (f : TunnelFamily) → IsFlagged f → (p : List ℕ) →
     EachError ((tunnels_data_of {P = Bytes} f).means p)
+-- Begin: written by tables/generate from tables/kinds (tunnel).
 tunnels_errors tunnel.Vxlan h p =
     variant_errors (λ xs. info.Vxlan xs) (values plain.vxlan.meaning (nla_items p))
     (table_errors _ _ vxlan_rows p)
@@ -246,6 +255,11 @@ tunnels_errors tunnel.GreTap h p =
 tunnels_errors tunnel.GreTap6 h p =
     variant_errors (λ xs. info.GreTap6 xs) (values plain.gre6.meaning (nla_items p))
     (table_errors _ _ gre6_rows p)
+tunnels_errors (tunnel.IpTunnel t) h p =
+    variant_errors (λ xs. info.IpTunnel xs) (values (plain.ip_tunnel t).meaning (nla_items p))
+    (list_errors (plain.ip_tunnel t).meaning
+    (λ a. rows_errors family.IpTunnel _ (λ n. ip_tunnel_row t n) (λ n. ip_tunnel_each t h n) a)
+    (nla_items p))
 tunnels_errors tunnel.GreTun h p =
     variant_errors (λ xs. info.GreTun xs) (values plain.gre.meaning (nla_items p))
     (table_errors _ _ gre_rows p)
@@ -273,17 +287,15 @@ tunnels_errors tunnel.ErSpan h p =
 tunnels_errors tunnel.Ip6ErSpan h p =
     variant_errors (λ xs. info.Ip6ErSpan xs) (values plain.gre6.meaning (nla_items p))
     (table_errors _ _ gre6_rows p)
-tunnels_errors (tunnel.IpTunnel t) h p =
-    variant_errors (λ xs. info.IpTunnel xs) (values (plain.ip_tunnel t).meaning (nla_items p))
-    (list_errors (plain.ip_tunnel t).meaning
-    (λ a. rows_errors family.IpTunnel _ (λ n. ip_tunnel_row t n) (λ n. ip_tunnel_each t h n) a)
-    (nla_items p))
+
+-- End: written by tables/generate.
 
 -- a payload of a peer that is kept as bytes has no error
 sure : {X : Type 0} (x : X) → EachPayloadError (let m : Result X PayloadError = Ok x in m)
 sure x = (λ c k. absurd cc, λ e k. absurd cc)
 
 peers_errors : (f : PeeredFamily) (p : List ℕ) → EachError ((peers_data_of bytes_peer f).means p)
+-- Begin: written by tables/generate from tables/kinds (peered).
 peers_errors peered.Tun p =
     variant_errors (λ xs. info.Tun xs) (values plain.tun.meaning (nla_items p))
     (table_errors _ _ [] p)
@@ -318,13 +330,15 @@ peers_errors peered.Vxcan p =
     a) (nla_items p))
 peers_errors peered.BatAdv p =
     variant_errors (λ xs. info.BatAdv xs) (values plain.bat_adv.meaning (nla_items p))
-    (table_errors _ _ batadv_rows p)
+    (table_errors _ _ bat_adv_rows p)
 peers_errors peered.Wwan p =
     variant_errors (λ xs. info.Wwan xs) (values plain.wwan.meaning (nla_items p))
     (table_errors _ _ wwan_rows p)
 peers_errors peered.Pfcp p =
     variant_errors (λ xs. info.Pfcp xs) (values plain.pfcp.meaning (nla_items p))
     (table_errors _ _ [] p)
+
+-- End: written by tables/generate.
 
 abbrev IsFlaggedData : DataFamily → Type 0
 IsFlaggedData (of.Tunnel f) = IsFlagged f

@@ -33,6 +33,7 @@ of_code code_of (x ∷ more) code = if code == code_of x then Some x else of_cod
 
 -- the codes of families; 0 is none
 abbrev pub family_code : Family → ℕ
+-- Begin: written by tables/generate from tables/families (codes).
 family_code family.Frame = 1
 family_code family.LinkInfo = 2
 family_code family.Amt = 3
@@ -71,8 +72,11 @@ family_code family.Wireguard = 35
 family_code family.Wwan = 36
 family_code family.Xfrm = 37
 
+-- End: written by tables/generate.
+
 abbrev pub peer : List Family
 peer =
+    -- Begin: written by tables/generate from tables/families (list).
     family.Frame ∷
     family.LinkInfo ∷
     family.Amt ∷
@@ -110,6 +114,7 @@ peer =
     family.Wireguard ∷
     family.Wwan ∷
     family.Xfrm ∷
+    -- End: written by tables/generate.
     []
 
 abbrev pub family_of_code : ℕ → Option Family
@@ -137,6 +142,7 @@ cause_of_code code = of_code cause_number causes code
 -- the codes of kinds; 0 is none
 abbrev pub kind_code : KindTag → ℕ
 kind_code kind.Other = 1
+-- Begin: written by tables/generate from tables/kinds (codes).
 kind_code kind.Dummy = 2
 kind_code kind.Ifb = 3
 kind_code kind.Bridge = 4
@@ -184,9 +190,12 @@ kind_code kind.Ip6ErSpan = 45
 kind_code kind.Pfcp = 46
 kind_code kind.RmNet = 47
 
+-- End: written by tables/generate.
+
 abbrev pub kinds : List KindTag
 kinds =
     kind.Other ∷
+    -- Begin: written by tables/generate from tables/kinds (list).
     kind.Dummy ∷
     kind.Ifb ∷
     kind.Bridge ∷
@@ -233,6 +242,7 @@ kinds =
     kind.Ip6ErSpan ∷
     kind.Pfcp ∷
     kind.RmNet ∷
+    -- End: written by tables/generate.
     []
 
 abbrev pub kind_of_code : ℕ → Option KindTag
@@ -241,18 +251,23 @@ kind_of_code code = of_code kind_code kinds code
 -- the codes of port kinds, none of which is that of a kind
 abbrev pub port_kind_code : PortTag → ℕ
 port_kind_code port.Other = 256
+-- Begin: written by tables/generate from tables/ports (codes).
 port_kind_code port.Bond = 257
 port_kind_code port.Bridge = 258
 port_kind_code port.Vrf = 259
 port_kind_code port.Team = 260
 
+-- End: written by tables/generate.
+
 abbrev pub port_kinds : List PortTag
 port_kinds =
     port.Other ∷
+    -- Begin: written by tables/generate from tables/ports (list).
     port.Bond ∷
     port.Bridge ∷
     port.Vrf ∷
     port.Team ∷
+    -- End: written by tables/generate.
     []
 
 abbrev pub port_kind_of_code : ℕ → Option PortTag

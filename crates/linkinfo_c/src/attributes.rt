@@ -86,12 +86,14 @@ fn lower_name(family: LowerFamily) -> Family
     ensures { result ≡ lower_name family }
 {
     match family {
+        // Begin: written by tables/generate from tables/kinds (lower).
         LowerFamily::Bridge => Family::Bridge,
         LowerFamily::Vlan => Family::Vlan,
         LowerFamily::Bond => Family::Bond,
         LowerFamily::Hsr => Family::Hsr,
         LowerFamily::Can => Family::Can,
         LowerFamily::Dsa => Family::Dsa,
+        // End: written by tables/generate.
     }
 }
 
@@ -99,6 +101,7 @@ fn device_name(family: DeviceFamily) -> Family
     ensures { result ≡ device_name family }
 {
     match family {
+        // Begin: written by tables/generate from tables/kinds (device).
         DeviceFamily::IpVlan => Family::IpVlan,
         DeviceFamily::IpVtap => Family::IpVtap,
         DeviceFamily::MacVlan(_) => Family::MacVlan,
@@ -108,6 +111,7 @@ fn device_name(family: DeviceFamily) -> Family
         DeviceFamily::Xfrm => Family::Xfrm,
         DeviceFamily::MacSec => Family::MacSec,
         DeviceFamily::RmNet => Family::RmNet,
+        // End: written by tables/generate.
     }
 }
 
@@ -115,6 +119,7 @@ fn tunnel_name(family: TunnelFamily) -> Family
     ensures { result ≡ tunnel_name family }
 {
     match family {
+        // Begin: written by tables/generate from tables/kinds (tunnel).
         TunnelFamily::Vxlan => Family::Vxlan,
         TunnelFamily::GreTap | TunnelFamily::GreTun | TunnelFamily::ErSpan => Family::Gre,
         TunnelFamily::GreTap6 | TunnelFamily::GreTun6 | TunnelFamily::Ip6ErSpan => Family::Gre6,
@@ -124,6 +129,7 @@ fn tunnel_name(family: TunnelFamily) -> Family
         TunnelFamily::Geneve => Family::Geneve,
         TunnelFamily::Amt => Family::Amt,
         TunnelFamily::BareUdp => Family::BareUdp,
+        // End: written by tables/generate.
     }
 }
 
@@ -131,6 +137,7 @@ fn peered_name(family: PeeredFamily) -> Family
     ensures { result ≡ peered_name family }
 {
     match family {
+        // Begin: written by tables/generate from tables/kinds (peered).
         PeeredFamily::Tun => Family::Tun,
         PeeredFamily::Veth => Family::Veth,
         PeeredFamily::Wireguard => Family::Wireguard,
@@ -139,6 +146,7 @@ fn peered_name(family: PeeredFamily) -> Family
         PeeredFamily::BatAdv => Family::BatAdv,
         PeeredFamily::Wwan => Family::Wwan,
         PeeredFamily::Pfcp => Family::Pfcp,
+        // End: written by tables/generate.
     }
 }
 

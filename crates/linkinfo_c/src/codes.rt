@@ -35,6 +35,7 @@ macro_rules! by_codes {
 macro_rules! families {
     ($given:ident $way:ident) => {
         by_codes! { Family $given $way;
+            // Begin: written by tables/generate from tables/families.
             Frame = 1,
             LinkInfo = 2,
             Amt = 3,
@@ -72,6 +73,7 @@ macro_rules! families {
             Wireguard = 35,
             Wwan = 36,
             Xfrm = 37,
+            // End: written by tables/generate.
         }
     };
 }
@@ -81,6 +83,7 @@ macro_rules! kinds {
     ($given:ident $way:ident) => {
         by_codes! { KindTag $given $way;
             Other = 1,
+            // Begin: written by tables/generate from tables/kinds.
             Dummy = 2,
             Ifb = 3,
             Bridge = 4,
@@ -127,6 +130,7 @@ macro_rules! kinds {
             Ip6ErSpan = 45,
             Pfcp = 46,
             RmNet = 47,
+            // End: written by tables/generate.
         }
     };
 }
@@ -136,10 +140,12 @@ macro_rules! port_kinds {
     ($given:ident $way:ident) => {
         by_codes! { PortTag $given $way;
             Other = 256,
+            // Begin: written by tables/generate from tables/ports.
             Bond = 257,
             Bridge = 258,
             Vrf = 259,
             Team = 260,
+            // End: written by tables/generate.
         }
     };
 }

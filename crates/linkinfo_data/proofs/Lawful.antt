@@ -17,47 +17,49 @@ use Rattle.linkinfo_table.specs.Members.{IsFamily, Members}
 use Rattle.linkinfo_table.specs.Rows.{meaning_in}
 use Rattle.linkinfo_table.specs.declared.opaque.Opaque.TheVariants as opaque
 use Rattle.linkinfo_table.specs.declared.opaque.Opaque.{Opaque}
-use Rattle.linkinfo_devices.specs.Ipoib.{ipoib_attribute, ipoib_keeps, ipoib_rows}
 use Rattle.linkinfo_devices.specs.Ipvlan.{ip_vlan_attribute, ip_vlan_keeps, ip_vlan_rows}
-use Rattle.linkinfo_devices.specs.Macsec.{mac_sec_attribute, mac_sec_keeps, mac_sec_rows}
 use Rattle.linkinfo_devices.specs.Macvlan.{mac_vlan_attribute}
 use Rattle.linkinfo_devices.specs.Macvlan.{mac_vlan_rows, mac_vlan_says}
 use Rattle.linkinfo_devices.specs.Macvtap.{mac_vtap_attribute}
 use Rattle.linkinfo_devices.specs.Macvtap.{mac_vtap_rows, mac_vtap_says}
-use Rattle.linkinfo_devices.specs.Rmnet.{rm_net_attribute, rm_net_keeps, rm_net_rows}
-use Rattle.linkinfo_devices.specs.Vrf.{vrf_attribute, vrf_keeps, vrf_rows}
-use Rattle.linkinfo_devices.specs.Xfrm.{xfrm_attribute, xfrm_keeps, xfrm_rows}
-use Rattle.linkinfo_devices.specs.declared.ipoib.InfoIpoib.TheVariants as ipoib
 use Rattle.linkinfo_devices.specs.declared.ipvlan.InfoIpVlanOf.TheVariants as ip_vlan
-use Rattle.linkinfo_devices.specs.declared.macsec.InfoMacSec.TheVariants as mac_sec
 use Rattle.linkinfo_devices.specs.declared.macvlan.InfoMacVlan as macvlan
 use Rattle.linkinfo_devices.specs.declared.macvtap.InfoMacVtap as macvtap
-use Rattle.linkinfo_devices.specs.declared.rmnet.InfoRmNet.TheVariants as rm_net
-use Rattle.linkinfo_devices.specs.declared.vrf.InfoVrf.TheVariants as vrf
-use Rattle.linkinfo_devices.specs.declared.xfrm.InfoXfrm.TheVariants as xfrm
-use Rattle.linkinfo_tunnels.specs.Amt.{amt_attribute, amt_keeps, amt_rows}
-use Rattle.linkinfo_tunnels.specs.BareUdp.{bare_udp_attribute, bare_udp_keeps, bare_udp_rows}
-use Rattle.linkinfo_tunnels.specs.Geneve.{geneve_attribute, geneve_keeps, geneve_rows}
-use Rattle.linkinfo_tunnels.specs.Gre.{gre_attribute, gre_keeps, gre_rows}
-use Rattle.linkinfo_tunnels.specs.Gre6.{gre6_attribute, gre6_keeps, gre6_rows}
-use Rattle.linkinfo_tunnels.specs.Gtp.{gtp_attribute, gtp_keeps, gtp_rows}
 use Rattle.linkinfo_tunnels.specs.IpTunnel.{ip_tunnel_attribute, ip_tunnel_flat, ip_tunnel_owes}
 use Rattle.linkinfo_tunnels.specs.IpTunnel.{ip_tunnel_row}
-use Rattle.linkinfo_tunnels.specs.Vti.{vti_attribute, vti_keeps, vti_rows}
-use Rattle.linkinfo_tunnels.specs.Vxlan.{vxlan_attribute, vxlan_keeps, vxlan_rows}
-use Rattle.linkinfo_tunnels.specs.declared.amt.InfoAmt.TheVariants as amt
-use Rattle.linkinfo_tunnels.specs.declared.bare_udp.InfoBareUdp.TheVariants as bare_udp
-use Rattle.linkinfo_tunnels.specs.declared.geneve.InfoGeneve.TheVariants as geneve
-use Rattle.linkinfo_tunnels.specs.declared.gre.InfoGre.TheVariants as gre
-use Rattle.linkinfo_tunnels.specs.declared.gre6.InfoGre6.TheVariants as gre6
-use Rattle.linkinfo_tunnels.specs.declared.gtp.InfoGtp.TheVariants as gtp
 use Rattle.linkinfo_tunnels.specs.declared.ip_tunnel.InfoIpTunnel.TheVariants as ip_tunnel
-use Rattle.linkinfo_tunnels.specs.declared.vti.InfoVti.TheVariants as vti
+-- Begin: written by tables/generate from tables/kinds (specs).
+use Rattle.linkinfo_devices.specs.Vrf.{vrf_attribute, vrf_keeps, vrf_rows}
+use Rattle.linkinfo_devices.specs.declared.vrf.InfoVrf.TheVariants as vrf
+use Rattle.linkinfo_devices.specs.Ipoib.{ipoib_attribute, ipoib_keeps, ipoib_rows}
+use Rattle.linkinfo_devices.specs.declared.ipoib.InfoIpoib.TheVariants as ipoib
+use Rattle.linkinfo_devices.specs.Xfrm.{xfrm_attribute, xfrm_keeps, xfrm_rows}
+use Rattle.linkinfo_devices.specs.declared.xfrm.InfoXfrm.TheVariants as xfrm
+use Rattle.linkinfo_devices.specs.Macsec.{mac_sec_attribute, mac_sec_keeps, mac_sec_rows}
+use Rattle.linkinfo_devices.specs.declared.macsec.InfoMacSec.TheVariants as mac_sec
+use Rattle.linkinfo_devices.specs.Rmnet.{rm_net_attribute, rm_net_keeps, rm_net_rows}
+use Rattle.linkinfo_devices.specs.declared.rmnet.InfoRmNet.TheVariants as rm_net
+use Rattle.linkinfo_tunnels.specs.Vxlan.{vxlan_attribute, vxlan_keeps, vxlan_rows}
 use Rattle.linkinfo_tunnels.specs.declared.vxlan.InfoVxlan.TheVariants as vxlan
-use Rattle.linkinfo_peers.specs.Batadv.{batadv_attribute, batadv_keeps, batadv_rows}
+use Rattle.linkinfo_tunnels.specs.Gre.{gre_attribute, gre_keeps, gre_rows}
+use Rattle.linkinfo_tunnels.specs.declared.gre.InfoGre.TheVariants as gre
+use Rattle.linkinfo_tunnels.specs.Gre6.{gre6_attribute, gre6_keeps, gre6_rows}
+use Rattle.linkinfo_tunnels.specs.declared.gre6.InfoGre6.TheVariants as gre6
+use Rattle.linkinfo_tunnels.specs.Vti.{vti_attribute, vti_keeps, vti_rows}
+use Rattle.linkinfo_tunnels.specs.declared.vti.InfoVti.TheVariants as vti
+use Rattle.linkinfo_tunnels.specs.Gtp.{gtp_attribute, gtp_keeps, gtp_rows}
+use Rattle.linkinfo_tunnels.specs.declared.gtp.InfoGtp.TheVariants as gtp
+use Rattle.linkinfo_tunnels.specs.Geneve.{geneve_attribute, geneve_keeps, geneve_rows}
+use Rattle.linkinfo_tunnels.specs.declared.geneve.InfoGeneve.TheVariants as geneve
+use Rattle.linkinfo_tunnels.specs.Amt.{amt_attribute, amt_keeps, amt_rows}
+use Rattle.linkinfo_tunnels.specs.declared.amt.InfoAmt.TheVariants as amt
+use Rattle.linkinfo_tunnels.specs.BareUdp.{bare_udp_attribute, bare_udp_keeps, bare_udp_rows}
+use Rattle.linkinfo_tunnels.specs.declared.bare_udp.InfoBareUdp.TheVariants as bare_udp
+use Rattle.linkinfo_peers.specs.Batadv.{bat_adv_attribute, bat_adv_keeps, bat_adv_rows}
+use Rattle.linkinfo_peers.specs.declared.batadv.InfoBatAdv.TheVariants as bat_adv
 use Rattle.linkinfo_peers.specs.Wwan.{wwan_attribute, wwan_keeps, wwan_rows}
-use Rattle.linkinfo_peers.specs.declared.batadv.InfoBatAdv.TheVariants as batadv
 use Rattle.linkinfo_peers.specs.declared.wwan.InfoWwan.TheVariants as wwan
+-- End: written by tables/generate.
 use Rattle.linkinfo_data.specs.Plain.{plain}
 
 -- ---- ipvlan and ipvtap
@@ -73,6 +75,8 @@ pub ip_vlan_names : {tap : ℕ} (f : Family) (s : List ℕ) → EachNames f
     (λ n. row_of (table_row (ip_vlan_rows {tap = tap}) n))) (nla_items s))
 ip_vlan_names f s = table_names f
     (λ d. ip_vlan.Other d) ip_vlan_attribute ip_vlan_rows (ip_vlan_keeps _) s
+
+-- Begin: written by tables/generate from tables/kinds (laws).
 
 -- ---- vrf
 
@@ -122,6 +126,60 @@ pub rm_net_names : (s : List ℕ) → EachNames family.RmNet (values plain.rm_ne
 rm_net_names s = table_names family.RmNet
     (λ d. rm_net.Other d) rm_net_attribute rm_net_rows rm_net_keeps s
 
+-- ---- vxlan
+
+pub vxlan_is : IsFamily plain.vxlan
+vxlan_is = table_is_family family.Vxlan (λ d. vxlan.Other d) vxlan_attribute vxlan_rows vxlan_keeps
+    (λ _. refl)
+
+pub vxlan_names : (s : List ℕ) → EachNames family.Vxlan (values plain.vxlan.meaning (nla_items s))
+vxlan_names s = table_names family.Vxlan
+    (λ d. vxlan.Other d) vxlan_attribute vxlan_rows vxlan_keeps s
+
+-- ---- gre, gretap and erspan
+
+pub gre_is : IsFamily plain.gre
+gre_is = table_is_family family.Gre (λ d. gre.Other d) gre_attribute gre_rows gre_keeps (λ _. refl)
+
+pub gre_names : (s : List ℕ) → EachNames family.Gre (values plain.gre.meaning (nla_items s))
+gre_names s = table_names family.Gre (λ d. gre.Other d) gre_attribute gre_rows gre_keeps s
+
+-- ---- ip6gre, ip6gretap and ip6erspan
+
+pub gre6_is : IsFamily plain.gre6
+gre6_is = table_is_family family.Gre6 (λ d. gre6.Other d) gre6_attribute gre6_rows gre6_keeps
+    (λ _. refl)
+
+pub gre6_names : (s : List ℕ) → EachNames family.Gre6 (values plain.gre6.meaning (nla_items s))
+gre6_names s = table_names family.Gre6 (λ d. gre6.Other d) gre6_attribute gre6_rows gre6_keeps s
+
+-- ---- vti and vti6
+
+pub vti_is : IsFamily plain.vti
+vti_is = table_is_family family.Vti (λ d. vti.Other d) vti_attribute vti_rows vti_keeps (λ _. refl)
+
+pub vti_names : (s : List ℕ) → EachNames family.Vti (values plain.vti.meaning (nla_items s))
+vti_names s = table_names family.Vti (λ d. vti.Other d) vti_attribute vti_rows vti_keeps s
+
+-- ---- gtp
+
+pub gtp_is : IsFamily plain.gtp
+gtp_is = table_is_family family.Gtp (λ d. gtp.Other d) gtp_attribute gtp_rows gtp_keeps (λ _. refl)
+
+pub gtp_names : (s : List ℕ) → EachNames family.Gtp (values plain.gtp.meaning (nla_items s))
+gtp_names s = table_names family.Gtp (λ d. gtp.Other d) gtp_attribute gtp_rows gtp_keeps s
+
+-- ---- geneve
+
+pub geneve_is : IsFamily plain.geneve
+geneve_is = table_is_family family.Geneve
+    (λ d. geneve.Other d) geneve_attribute geneve_rows geneve_keeps (λ _. refl)
+
+pub geneve_names : (s : List ℕ) →
+    EachNames family.Geneve (values plain.geneve.meaning (nla_items s))
+geneve_names s = table_names family.Geneve
+    (λ d. geneve.Other d) geneve_attribute geneve_rows geneve_keeps s
+
 -- ---- amt
 
 pub amt_is : IsFamily plain.amt
@@ -141,70 +199,16 @@ pub bare_udp_names : (s : List ℕ) →
 bare_udp_names s = table_names family.BareUdp
     (λ d. bare_udp.Other d) bare_udp_attribute bare_udp_rows bare_udp_keeps s
 
--- ---- geneve
-
-pub geneve_is : IsFamily plain.geneve
-geneve_is = table_is_family family.Geneve
-    (λ d. geneve.Other d) geneve_attribute geneve_rows geneve_keeps (λ _. refl)
-
-pub geneve_names : (s : List ℕ) →
-    EachNames family.Geneve (values plain.geneve.meaning (nla_items s))
-geneve_names s = table_names family.Geneve
-    (λ d. geneve.Other d) geneve_attribute geneve_rows geneve_keeps s
-
--- ---- gre, gretap and erspan
-
-pub gre_is : IsFamily plain.gre
-gre_is = table_is_family family.Gre (λ d. gre.Other d) gre_attribute gre_rows gre_keeps (λ _. refl)
-
-pub gre_names : (s : List ℕ) → EachNames family.Gre (values plain.gre.meaning (nla_items s))
-gre_names s = table_names family.Gre (λ d. gre.Other d) gre_attribute gre_rows gre_keeps s
-
--- ---- ip6gre, ip6gretap and ip6erspan
-
-pub gre6_is : IsFamily plain.gre6
-gre6_is = table_is_family family.Gre6 (λ d. gre6.Other d) gre6_attribute gre6_rows gre6_keeps
-    (λ _. refl)
-
-pub gre6_names : (s : List ℕ) → EachNames family.Gre6 (values plain.gre6.meaning (nla_items s))
-gre6_names s = table_names family.Gre6 (λ d. gre6.Other d) gre6_attribute gre6_rows gre6_keeps s
-
--- ---- gtp
-
-pub gtp_is : IsFamily plain.gtp
-gtp_is = table_is_family family.Gtp (λ d. gtp.Other d) gtp_attribute gtp_rows gtp_keeps (λ _. refl)
-
-pub gtp_names : (s : List ℕ) → EachNames family.Gtp (values plain.gtp.meaning (nla_items s))
-gtp_names s = table_names family.Gtp (λ d. gtp.Other d) gtp_attribute gtp_rows gtp_keeps s
-
--- ---- vti and vti6
-
-pub vti_is : IsFamily plain.vti
-vti_is = table_is_family family.Vti (λ d. vti.Other d) vti_attribute vti_rows vti_keeps (λ _. refl)
-
-pub vti_names : (s : List ℕ) → EachNames family.Vti (values plain.vti.meaning (nla_items s))
-vti_names s = table_names family.Vti (λ d. vti.Other d) vti_attribute vti_rows vti_keeps s
-
--- ---- vxlan
-
-pub vxlan_is : IsFamily plain.vxlan
-vxlan_is = table_is_family family.Vxlan (λ d. vxlan.Other d) vxlan_attribute vxlan_rows vxlan_keeps
-    (λ _. refl)
-
-pub vxlan_names : (s : List ℕ) → EachNames family.Vxlan (values plain.vxlan.meaning (nla_items s))
-vxlan_names s = table_names family.Vxlan
-    (λ d. vxlan.Other d) vxlan_attribute vxlan_rows vxlan_keeps s
-
 -- ---- batadv
 
-pub batadv_is : IsFamily plain.bat_adv
-batadv_is = table_is_family family.BatAdv
-    (λ d. batadv.Other d) batadv_attribute batadv_rows batadv_keeps (λ _. refl)
+pub bat_adv_is : IsFamily plain.bat_adv
+bat_adv_is = table_is_family family.BatAdv
+    (λ d. bat_adv.Other d) bat_adv_attribute bat_adv_rows bat_adv_keeps (λ _. refl)
 
-pub batadv_names : (s : List ℕ) →
+pub bat_adv_names : (s : List ℕ) →
     EachNames family.BatAdv (values plain.bat_adv.meaning (nla_items s))
-batadv_names s = table_names family.BatAdv
-    (λ d. batadv.Other d) batadv_attribute batadv_rows batadv_keeps s
+bat_adv_names s = table_names family.BatAdv
+    (λ d. bat_adv.Other d) bat_adv_attribute bat_adv_rows bat_adv_keeps s
 
 -- ---- wwan
 
@@ -214,6 +218,8 @@ wwan_is = table_is_family family.Wwan (λ d. wwan.Other d) wwan_attribute wwan_r
 
 pub wwan_names : (s : List ℕ) → EachNames family.Wwan (values plain.wwan.meaning (nla_items s))
 wwan_names s = table_names family.Wwan (λ d. wwan.Other d) wwan_attribute wwan_rows wwan_keeps s
+
+-- End: written by tables/generate.
 
 -- ---- ipip, ip6tnl and sit
 

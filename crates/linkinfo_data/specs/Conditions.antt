@@ -4,17 +4,28 @@ use Rattle.std.specs.Prelude.{◌↔◌, List}
 use Rattle.std.specs.List.{AllByRecursion}
 use Rattle.nla_frame.specs.Attribute.{IsBytes}
 use Rattle.linkinfo_devices.specs.Conditions.{ip_vlan_conditions}
-use Rattle.linkinfo_devices.specs.Conditions.{ipoib_conditions, mac_sec_conditions}
 use Rattle.linkinfo_devices.specs.Conditions.{mac_vlan_conditions, mac_vtap_conditions}
-use Rattle.linkinfo_devices.specs.Conditions.{rm_net_conditions, vrf_conditions, xfrm_conditions}
-use Rattle.linkinfo_peers.specs.Conditions.{batadv_conditions, netkit_conditions, veth_conditions}
-use Rattle.linkinfo_peers.specs.Conditions.{vxcan_conditions, wwan_conditions}
+use Rattle.linkinfo_peers.specs.Conditions.{netkit_conditions, veth_conditions, vxcan_conditions}
 use Rattle.linkinfo_table.specs.Conditions.{each_stated, opaque_conditions}
 use Rattle.linkinfo_table.specs.Members.{Members}
-use Rattle.linkinfo_tunnels.specs.Conditions.{amt_conditions, bare_udp_conditions}
-use Rattle.linkinfo_tunnels.specs.Conditions.{geneve_conditions, gre6_conditions, gre_conditions}
-use Rattle.linkinfo_tunnels.specs.Conditions.{gtp_conditions, ip_tunnel_conditions, vti_conditions}
+use Rattle.linkinfo_tunnels.specs.Conditions.{ip_tunnel_conditions}
+-- Begin: written by tables/generate from tables/kinds (imports).
+use Rattle.linkinfo_devices.specs.Conditions.{vrf_conditions}
+use Rattle.linkinfo_devices.specs.Conditions.{ipoib_conditions}
+use Rattle.linkinfo_devices.specs.Conditions.{xfrm_conditions}
+use Rattle.linkinfo_devices.specs.Conditions.{mac_sec_conditions}
+use Rattle.linkinfo_devices.specs.Conditions.{rm_net_conditions}
 use Rattle.linkinfo_tunnels.specs.Conditions.{vxlan_conditions}
+use Rattle.linkinfo_tunnels.specs.Conditions.{gre_conditions}
+use Rattle.linkinfo_tunnels.specs.Conditions.{gre6_conditions}
+use Rattle.linkinfo_tunnels.specs.Conditions.{vti_conditions}
+use Rattle.linkinfo_tunnels.specs.Conditions.{gtp_conditions}
+use Rattle.linkinfo_tunnels.specs.Conditions.{geneve_conditions}
+use Rattle.linkinfo_tunnels.specs.Conditions.{amt_conditions}
+use Rattle.linkinfo_tunnels.specs.Conditions.{bare_udp_conditions}
+use Rattle.linkinfo_peers.specs.Conditions.{bat_adv_conditions}
+use Rattle.linkinfo_peers.specs.Conditions.{wwan_conditions}
+-- End: written by tables/generate.
 use Rattle.linkinfo_data.specs.Data.{data_of}
 use Rattle.linkinfo_table.specs.declared.peer.LinkPeer.{Ghosts}
 use Rattle.linkinfo_data.specs.Payloads.{Labelled, Payload, as_first, as_list}
@@ -45,6 +56,7 @@ abbrev pub IsOneOf : {A X : Type 0} → (A → X) → (A → Type 0) → X → T
 IsOneOf variant conditions d = Labelled variant conditions d
 
 abbrev pub lower_conditions : {P : Type 0} → LowerFamily → InfoDataOf P → Type 0
+-- Begin: written by tables/generate from tables/kinds (lower).
 lower_conditions lower.Bridge d = IsListOf (λ xs. info.Bridge xs) opaque_conditions d
 lower_conditions lower.Vlan d = IsListOf (λ xs. info.Vlan xs) opaque_conditions d
 lower_conditions lower.Bond d = IsListOf (λ xs. info.Bond xs) opaque_conditions d
@@ -52,7 +64,10 @@ lower_conditions lower.Hsr d = IsListOf (λ xs. info.Hsr xs) opaque_conditions d
 lower_conditions lower.Can d = IsListOf (λ xs. info.Can xs) opaque_conditions d
 lower_conditions lower.Dsa d = IsListOf (λ xs. info.Dsa xs) opaque_conditions d
 
+-- End: written by tables/generate.
+
 abbrev pub device_conditions : {P : Type 0} → DeviceFamily → InfoDataOf P → Type 0
+-- Begin: written by tables/generate from tables/kinds (device).
 device_conditions device.IpVlan d = IsListOf (λ xs. info.IpVlan xs) ip_vlan_conditions d
 device_conditions device.IpVtap d = IsListOf (λ xs. info.IpVtap xs) ip_vlan_conditions d
 device_conditions (device.MacVlan lists) d =
@@ -65,7 +80,10 @@ device_conditions device.Xfrm d = IsListOf (λ xs. info.Xfrm xs) xfrm_conditions
 device_conditions device.MacSec d = IsListOf (λ xs. info.MacSec xs) mac_sec_conditions d
 device_conditions device.RmNet d = IsListOf (λ xs. info.RmNet xs) rm_net_conditions d
 
+-- End: written by tables/generate.
+
 abbrev pub tunnel_conditions : {P : Type 0} → TunnelFamily → InfoDataOf P → Type 0
+-- Begin: written by tables/generate from tables/kinds (tunnel).
 tunnel_conditions tunnel.Vxlan d = IsListOf (λ xs. info.Vxlan xs) vxlan_conditions d
 tunnel_conditions tunnel.GreTap d = IsListOf (λ xs. info.GreTap xs) gre_conditions d
 tunnel_conditions tunnel.GreTap6 d = IsListOf (λ xs. info.GreTap6 xs) gre6_conditions d
@@ -81,16 +99,21 @@ tunnel_conditions tunnel.BareUdp d = IsListOf (λ xs. info.BareUdp xs) bare_udp_
 tunnel_conditions tunnel.ErSpan d = IsListOf (λ xs. info.ErSpan xs) gre_conditions d
 tunnel_conditions tunnel.Ip6ErSpan d = IsListOf (λ xs. info.Ip6ErSpan xs) gre6_conditions d
 
+-- End: written by tables/generate.
+
 -- the conditions of data of links with a peer, given the condition of a peer
 abbrev pub peered_conditions : {P : Type 0} → (P → Type 0) → PeeredFamily → InfoDataOf P → Type 0
+-- Begin: written by tables/generate from tables/kinds (peered).
 peered_conditions well peered.Tun d = IsListOf (λ xs. info.Tun xs) opaque_conditions d
 peered_conditions well peered.Veth d = IsOneOf (λ x. info.Veth x) (veth_conditions well) d
 peered_conditions well peered.Wireguard d = IsListOf (λ xs. info.Wireguard xs) opaque_conditions d
 peered_conditions well peered.Netkit d = IsListOf (λ xs. info.Netkit xs) (netkit_conditions well) d
 peered_conditions well peered.Vxcan d = IsOneOf (λ x. info.Vxcan x) (vxcan_conditions well) d
-peered_conditions well peered.BatAdv d = IsListOf (λ xs. info.BatAdv xs) batadv_conditions d
+peered_conditions well peered.BatAdv d = IsListOf (λ xs. info.BatAdv xs) bat_adv_conditions d
 peered_conditions well peered.Wwan d = IsListOf (λ xs. info.Wwan xs) wwan_conditions d
 peered_conditions well peered.Pfcp d = IsListOf (λ xs. info.Pfcp xs) opaque_conditions d
+
+-- End: written by tables/generate.
 
 -- the conditions of data of a family, and of data without a family, which is bytes
 abbrev pub data_conditions : {P : Type 0} → (P → Type 0) → DataFamily → InfoDataOf P → Type 0

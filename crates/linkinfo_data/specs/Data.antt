@@ -27,6 +27,7 @@ use Rattle.linkinfo_data.specs.TunnelData.{tunnels_data_of, tunnels_known, tunne
 
 -- the family of a kind's data
 abbrev pub family_of : KindTag → DataFamily
+-- Begin: written by tables/generate from tables/kinds.
 family_of tag.Bridge = of.Lower lower.Bridge
 family_of tag.Tun = of.Peered peered.Tun
 family_of tag.Vlan = of.Lower lower.Vlan
@@ -66,6 +67,7 @@ family_of tag.ErSpan = of.Tunnel tunnel.ErSpan
 family_of tag.Ip6ErSpan = of.Tunnel tunnel.Ip6ErSpan
 family_of tag.Pfcp = of.Peered peered.Pfcp
 family_of tag.RmNet = of.Device device.RmNet
+-- End: written by tables/generate.
 family_of _ = of.Raw
 
 -- what payloads mean as data of a family, and the variant that holds it

@@ -30,6 +30,7 @@ abbrev pub mac_vtap_lists : ℕ → Lists
 mac_vtap_lists around = lists_inside plain.mac_vtap (128 - around) around
 
 abbrev pub devices_data_of : {P : Type 0} → DeviceFamily → Payload (InfoDataOf P)
+-- Begin: written by tables/generate from tables/kinds (data).
 devices_data_of of.IpVlan = as_list plain.ip_vlan (λ xs. info.IpVlan xs)
 devices_data_of of.IpVtap = as_list plain.ip_vtap (λ xs. info.IpVtap xs)
 devices_data_of (of.MacVlan around) =
@@ -42,7 +43,10 @@ devices_data_of of.Xfrm = as_list plain.xfrm (λ xs. info.Xfrm xs)
 devices_data_of of.MacSec = as_list plain.mac_sec (λ xs. info.MacSec xs)
 devices_data_of of.RmNet = as_list plain.rm_net (λ xs. info.RmNet xs)
 
+-- End: written by tables/generate.
+
 pub devices_known : (P : Type 0) (f : DeviceFamily) → IsKnown (devices_data_of {P = P} f)
+-- Begin: written by tables/generate from tables/kinds (known).
 devices_known P of.IpVlan = list_is_known plain.ip_vlan (λ xs. info.IpVlan xs)
 devices_known P of.IpVtap = list_is_known plain.ip_vtap (λ xs. info.IpVtap xs)
 devices_known P (of.MacVlan around) =
@@ -54,6 +58,8 @@ devices_known P of.Ipoib = list_is_known plain.ipoib (λ xs. info.Ipoib xs)
 devices_known P of.Xfrm = list_is_known plain.xfrm (λ xs. info.Xfrm xs)
 devices_known P of.MacSec = list_is_known plain.mac_sec (λ xs. info.MacSec xs)
 devices_known P of.RmNet = list_is_known plain.rm_net (λ xs. info.RmNet xs)
+
+-- End: written by tables/generate.
 
 -- attributes of type 5 of macvlan and macvtap links hold lists if fewer than 128 are around them
 abbrev pub devices_nested_in : DeviceFamily → Option (ℕ × DeviceFamily)

@@ -11,6 +11,7 @@ use Rattle.linkinfo_data.specs.Plain.{plain}
 
 -- Opaque, so that proofs about data do not unfold the rows of all families.
 unfoldable pub data_payload : {P : Type 0} → Ghosts P → InfoDataOf P → List ℕ
+-- Begin: written by tables/generate from tables/kinds.
 data_payload peer (info.Bridge xs) = list_string (map plain.bridge.attribute xs)
 data_payload peer (info.Tun xs) = list_string (map plain.tun.attribute xs)
 data_payload peer (info.Vlan xs) = list_string (map plain.vlan.attribute xs)
@@ -47,6 +48,7 @@ data_payload peer (info.ErSpan xs) = list_string (map plain.gre.attribute xs)
 data_payload peer (info.Ip6ErSpan xs) = list_string (map plain.gre6.attribute xs)
 data_payload peer (info.Pfcp xs) = list_string (map plain.pfcp.attribute xs)
 data_payload peer (info.RmNet xs) = list_string (map plain.rm_net.attribute xs)
+-- End: written by tables/generate.
 data_payload peer (info.Other bytes) = bytes
 
 -- the canonical attribute of data

@@ -26,6 +26,7 @@ use Rattle.linkinfo_data.specs.declared.tunnels.TunnelFamily.{TunnelFamily}
 use Rattle.linkinfo_data.specs.declared.tunnels.TunnelFamily.TheVariants as tunnel
 
 abbrev pub lower_name : LowerFamily → Family
+-- Begin: written by tables/generate from tables/kinds (lower).
 lower_name lower.Bridge = family.Bridge
 lower_name lower.Vlan = family.Vlan
 lower_name lower.Bond = family.Bond
@@ -33,7 +34,10 @@ lower_name lower.Hsr = family.Hsr
 lower_name lower.Can = family.Can
 lower_name lower.Dsa = family.Dsa
 
+-- End: written by tables/generate.
+
 abbrev pub device_name : DeviceFamily → Family
+-- Begin: written by tables/generate from tables/kinds (device).
 device_name device.IpVlan = family.IpVlan
 device_name device.IpVtap = family.IpVtap
 device_name (device.MacVlan lists) = family.MacVlan
@@ -44,7 +48,10 @@ device_name device.Xfrm = family.Xfrm
 device_name device.MacSec = family.MacSec
 device_name device.RmNet = family.RmNet
 
+-- End: written by tables/generate.
+
 abbrev pub tunnel_name : TunnelFamily → Family
+-- Begin: written by tables/generate from tables/kinds (tunnel).
 tunnel_name tunnel.Vxlan = family.Vxlan
 tunnel_name tunnel.GreTap = family.Gre
 tunnel_name tunnel.GreTap6 = family.Gre6
@@ -59,7 +66,10 @@ tunnel_name tunnel.BareUdp = family.BareUdp
 tunnel_name tunnel.ErSpan = family.Gre
 tunnel_name tunnel.Ip6ErSpan = family.Gre6
 
+-- End: written by tables/generate.
+
 abbrev pub peered_name : PeeredFamily → Family
+-- Begin: written by tables/generate from tables/kinds (peered).
 peered_name peered.Tun = family.Tun
 peered_name peered.Veth = family.Veth
 peered_name peered.Wireguard = family.Wireguard
@@ -68,6 +78,8 @@ peered_name peered.Vxcan = family.Vxcan
 peered_name peered.BatAdv = family.BatAdv
 peered_name peered.Wwan = family.Wwan
 peered_name peered.Pfcp = family.Pfcp
+
+-- End: written by tables/generate.
 
 abbrev pub data_name : DataFamily → Option Family
 data_name (of.Lower f) = Some (lower_name f)

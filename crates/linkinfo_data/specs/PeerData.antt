@@ -12,6 +12,7 @@ use Rattle.linkinfo_data.specs.Payloads.{Payload, as_list, as_first}
 use Rattle.linkinfo_data.specs.Plain.{plain}
 
 abbrev pub peers_data_of : {P : Type 0} → Ghosts P → PeeredFamily → Payload (InfoDataOf P)
+-- Begin: written by tables/generate from tables/kinds (data).
 peers_data_of peer of.Tun = as_list plain.tun (λ xs. info.Tun xs)
 peers_data_of peer of.Veth = as_first (veth_members peer) (λ x. info.Veth x)
 peers_data_of peer of.Wireguard = as_list plain.wireguard (λ xs. info.Wireguard xs)
@@ -21,8 +22,11 @@ peers_data_of peer of.BatAdv = as_list plain.bat_adv (λ xs. info.BatAdv xs)
 peers_data_of peer of.Wwan = as_list plain.wwan (λ xs. info.Wwan xs)
 peers_data_of peer of.Pfcp = as_list plain.pfcp (λ xs. info.Pfcp xs)
 
+-- End: written by tables/generate.
+
 pub peers_known : {P : Type 0} (peer : Ghosts P) (f : PeeredFamily) →
     IsKnown (peers_data_of peer f)
+-- Begin: written by tables/generate from tables/kinds (known).
 peers_known peer of.Tun = list_is_known plain.tun (λ xs. info.Tun xs)
 peers_known peer of.Veth = first_is_known (veth_members peer) (λ x. info.Veth x)
 peers_known peer of.Wireguard = list_is_known plain.wireguard (λ xs. info.Wireguard xs)
@@ -31,6 +35,8 @@ peers_known peer of.Vxcan = first_is_known (vxcan_members peer) (λ x. info.Vxca
 peers_known peer of.BatAdv = list_is_known plain.bat_adv (λ xs. info.BatAdv xs)
 peers_known peer of.Wwan = list_is_known plain.wwan (λ xs. info.Wwan xs)
 peers_known peer of.Pfcp = list_is_known plain.pfcp (λ xs. info.Pfcp xs)
+
+-- End: written by tables/generate.
 
 -- no attribute holds a list
 pub peers_nest : {P : Type 0} (peer : Ghosts P) (f : PeeredFamily) →

@@ -9,6 +9,7 @@ use Rattle.linkinfo_data.specs.Payloads.{Payload, as_list}
 use Rattle.linkinfo_data.specs.Plain.{plain}
 
 abbrev pub tunnels_data_of : {P : Type 0} → TunnelFamily → Payload (InfoDataOf P)
+-- Begin: written by tables/generate from tables/kinds (data).
 tunnels_data_of of.Vxlan = as_list plain.vxlan (λ xs. info.Vxlan xs)
 tunnels_data_of of.GreTap = as_list plain.gre (λ xs. info.GreTap xs)
 tunnels_data_of of.GreTap6 = as_list plain.gre6 (λ xs. info.GreTap6 xs)
@@ -23,7 +24,10 @@ tunnels_data_of of.BareUdp = as_list plain.bare_udp (λ xs. info.BareUdp xs)
 tunnels_data_of of.ErSpan = as_list plain.gre (λ xs. info.ErSpan xs)
 tunnels_data_of of.Ip6ErSpan = as_list plain.gre6 (λ xs. info.Ip6ErSpan xs)
 
+-- End: written by tables/generate.
+
 pub tunnels_known : (P : Type 0) (f : TunnelFamily) → IsKnown (tunnels_data_of {P = P} f)
+-- Begin: written by tables/generate from tables/kinds (known).
 tunnels_known P of.Vxlan = list_is_known plain.vxlan (λ xs. info.Vxlan xs)
 tunnels_known P of.GreTap = list_is_known plain.gre (λ xs. info.GreTap xs)
 tunnels_known P of.GreTap6 = list_is_known plain.gre6 (λ xs. info.GreTap6 xs)
@@ -38,6 +42,8 @@ tunnels_known P of.Amt = list_is_known plain.amt (λ xs. info.Amt xs)
 tunnels_known P of.BareUdp = list_is_known plain.bare_udp (λ xs. info.BareUdp xs)
 tunnels_known P of.ErSpan = list_is_known plain.gre (λ xs. info.ErSpan xs)
 tunnels_known P of.Ip6ErSpan = list_is_known plain.gre6 (λ xs. info.Ip6ErSpan xs)
+
+-- End: written by tables/generate.
 
 -- no attribute holds a list
 pub tunnels_nest : (P : Type 0) (f : TunnelFamily) → IsNested (tunnels_data_of {P = P}) f None

@@ -11,10 +11,13 @@ use crate::ask::Ask;
 use crate::calls::{ask, read};
 use crate::info_data::InfoDataOf;
 use crate::payload_family::PayloadFamily;
+// Begin: written by tables/generate from tables/kinds (types).
 use linkinfo_devices::{
     InfoIpVlan, InfoIpVtap, InfoIpoib, InfoMacSec, InfoMacVlan, InfoMacVtap, InfoRmNet, InfoVrf,
-    InfoXfrm, LIST_TYPE, MOST_LISTS,
+    InfoXfrm,
 };
+// End: written by tables/generate.
+use linkinfo_devices::{LIST_TYPE, MOST_LISTS};
 use linkinfo_table::LinkPeer;
 use nla_frame::{DecodeError, ExactEq, Family, HeaderCount};
 use std::alloc::Global;
@@ -23,6 +26,7 @@ use std::alloc::Global;
 /// links.
 #[derive(Clone, Copy, Debug, PartialEq, Eq)]
 pub enum DeviceFamily {
+    // Begin: written by tables/generate from tables/kinds (variants).
     /// Attributes of `ipvlan` links (`IFLA_IPVLAN_*`).
     IpVlan,
     /// Attributes of `ipvtap` links (`IFLA_IPVLAN_*`).
@@ -43,6 +47,7 @@ pub enum DeviceFamily {
     MacSec,
     /// Attributes of `rmnet` links (`IFLA_RMNET_*`).
     RmNet,
+    // End: written by tables/generate.
 }
 
 impl ExactEq for DeviceFamily {
@@ -55,6 +60,7 @@ impl ExactEq for DeviceFamily {
 macro_rules! of_device {
     ($family:expr, $call:ident $given:tt) => {
         match $family {
+            // Begin: written by tables/generate from tables/kinds (calls).
             DeviceFamily::IpVlan => $call!(list(InfoDataOf::IpVlan, InfoIpVlan, ()) $given),
             DeviceFamily::IpVtap => $call!(list(InfoDataOf::IpVtap, InfoIpVtap, ()) $given),
             DeviceFamily::MacVlan(n) => $call!(list(InfoDataOf::MacVlan, InfoMacVlan, n) $given),
@@ -64,6 +70,7 @@ macro_rules! of_device {
             DeviceFamily::Xfrm => $call!(list(InfoDataOf::Xfrm, InfoXfrm, ()) $given),
             DeviceFamily::MacSec => $call!(list(InfoDataOf::MacSec, InfoMacSec, ()) $given),
             DeviceFamily::RmNet => $call!(list(InfoDataOf::RmNet, InfoRmNet, ()) $given),
+            // End: written by tables/generate.
         }
     };
 }
@@ -79,6 +86,7 @@ impl<P: LinkPeer> PayloadFamily<InfoDataOf<P>> for DeviceFamily {
 
     fn listing(self) -> Option<Family> {
         match self {
+            // Begin: written by tables/generate from tables/kinds (listing).
             DeviceFamily::IpVlan => Some(Family::IpVlan),
             DeviceFamily::IpVtap => Some(Family::IpVtap),
             DeviceFamily::MacVlan(_) => Some(Family::MacVlan),
@@ -88,6 +96,7 @@ impl<P: LinkPeer> PayloadFamily<InfoDataOf<P>> for DeviceFamily {
             DeviceFamily::Xfrm => Some(Family::Xfrm),
             DeviceFamily::MacSec => Some(Family::MacSec),
             DeviceFamily::RmNet => Some(Family::RmNet),
+            // End: written by tables/generate.
         }
     }
 

@@ -1,6 +1,7 @@
 //! Specifications of the attributes of each family without a peer, a line a family.
 
 ghost use Rattle.std.specs.Prelude.{ℕ};
+// Begin: written by tables/generate from tables/kinds (types).
 ghost use Rattle.linkinfo_devices.specs.declared.ipvlan.InfoIpVlanOf.{InfoIpVlanOf};
 ghost use Rattle.linkinfo_devices.specs.declared.macvlan.InfoMacVlan.{InfoMacVlan};
 ghost use Rattle.linkinfo_devices.specs.declared.macvtap.InfoMacVtap.{InfoMacVtap};
@@ -20,22 +21,31 @@ ghost use Rattle.linkinfo_tunnels.specs.declared.amt.InfoAmt.{InfoAmt};
 ghost use Rattle.linkinfo_tunnels.specs.declared.bare_udp.InfoBareUdp.{InfoBareUdp};
 ghost use Rattle.linkinfo_peers.specs.declared.batadv.InfoBatAdv.{InfoBatAdv};
 ghost use Rattle.linkinfo_peers.specs.declared.wwan.InfoWwan.{InfoWwan};
+// End: written by tables/generate.
 ghost use Rattle.linkinfo_numbers.specs.declared.tags.KindTag.{KindTag};
 ghost use Rattle.linkinfo_table.specs.Members.{Members};
 ghost use Rattle.linkinfo_table.specs.declared.opaque.Opaque.{Opaque};
 
+// Begin: written by tables/generate from tables/kinds (device).
 use linkinfo_devices::{
     InfoIpVlan, InfoIpVtap, InfoIpoib, InfoMacSec, InfoMacVlan, InfoMacVtap, InfoRmNet, InfoVrf,
-    InfoVrfPort, InfoXfrm,
+    InfoXfrm,
 };
-use linkinfo_peers::{InfoBatAdv, InfoPfcp, InfoTeamPort, InfoTun, InfoWireguard, InfoWwan};
+// End: written by tables/generate.
+// Begin: written by tables/generate from tables/kinds (peered).
+use linkinfo_peers::{InfoBatAdv, InfoWwan};
+// End: written by tables/generate.
+use linkinfo_devices::InfoVrfPort;
+use linkinfo_peers::{InfoPfcp, InfoTeamPort, InfoTun, InfoWireguard};
 use linkinfo_table::ListedFamily;
 use linkinfo_table::lower::{
     InfoBond, InfoBondPort, InfoBridge, InfoBridgePort, InfoCan, InfoDsa, InfoHsr, InfoVlan,
 };
+// Begin: written by tables/generate from tables/kinds (tunnel).
 use linkinfo_tunnels::{
     InfoAmt, InfoBareUdp, InfoGeneve, InfoGre, InfoGre6, InfoGtp, InfoIpTunnel, InfoVti, InfoVxlan,
 };
+// End: written by tables/generate.
 
 /// The specification of the attributes of each family without a peer. For `ipip`, `ip6tnl` and
 /// `sit` links it depends on the tag of the kind.
@@ -56,6 +66,9 @@ pub trait PlainFamilies {
 
     ghost bond_port: { Members (Opaque 2) };
 
+    ghost vrf_port: { Members InfoVrf };
+
+    // Begin: written by tables/generate from tables/kinds (declared).
     ghost ip_vlan: { Members (InfoIpVlanOf 0) };
 
     ghost ip_vtap: { Members (InfoIpVlanOf 1) };
@@ -65,8 +78,6 @@ pub trait PlainFamilies {
     ghost mac_vtap: { ℕ → Members InfoMacVtap };
 
     ghost vrf: { Members InfoVrf };
-
-    ghost vrf_port: { Members InfoVrf };
 
     ghost ipoib: { Members InfoIpoib };
 
@@ -94,13 +105,14 @@ pub trait PlainFamilies {
 
     ghost bare_udp: { Members InfoBareUdp };
 
-    ghost tun: { Members (Opaque 10) };
-
-    ghost wireguard: { Members (Opaque 12) };
-
     ghost bat_adv: { Members InfoBatAdv };
 
     ghost wwan: { Members InfoWwan };
+    // End: written by tables/generate.
+
+    ghost tun: { Members (Opaque 10) };
+
+    ghost wireguard: { Members (Opaque 12) };
 
     ghost pfcp: { Members (Opaque 8) };
 
@@ -128,6 +140,9 @@ impl PlainFamilies for Plain {
 
     ghost bond_port = { ⟦<InfoBondPort as ListedFamily>⟧.members tt };
 
+    ghost vrf_port = { ⟦<InfoVrfPort as ListedFamily>⟧.members tt };
+
+    // Begin: written by tables/generate from tables/kinds (members).
     ghost ip_vlan = { ⟦<InfoIpVlan as ListedFamily>⟧.members tt };
 
     ghost ip_vtap = { ⟦<InfoIpVtap as ListedFamily>⟧.members tt };
@@ -137,8 +152,6 @@ impl PlainFamilies for Plain {
     ghost mac_vtap = { ⟦<InfoMacVtap as ListedFamily>⟧.members };
 
     ghost vrf = { ⟦<InfoVrf as ListedFamily>⟧.members tt };
-
-    ghost vrf_port = { ⟦<InfoVrfPort as ListedFamily>⟧.members tt };
 
     ghost ipoib = { ⟦<InfoIpoib as ListedFamily>⟧.members tt };
 
@@ -166,13 +179,14 @@ impl PlainFamilies for Plain {
 
     ghost bare_udp = { ⟦<InfoBareUdp as ListedFamily>⟧.members tt };
 
-    ghost tun = { ⟦<InfoTun as ListedFamily>⟧.members tt };
-
-    ghost wireguard = { ⟦<InfoWireguard as ListedFamily>⟧.members tt };
-
     ghost bat_adv = { ⟦<InfoBatAdv as ListedFamily>⟧.members tt };
 
     ghost wwan = { ⟦<InfoWwan as ListedFamily>⟧.members tt };
+    // End: written by tables/generate.
+
+    ghost tun = { ⟦<InfoTun as ListedFamily>⟧.members tt };
+
+    ghost wireguard = { ⟦<InfoWireguard as ListedFamily>⟧.members tt };
 
     ghost pfcp = { ⟦<InfoPfcp as ListedFamily>⟧.members tt };
 

@@ -7,9 +7,11 @@ use crate::ask::Ask;
 use crate::calls::{ask, read};
 use crate::info_data::InfoDataOf;
 use crate::payload_family::PayloadFamily;
+// Begin: written by tables/generate from tables/kinds (types).
 use linkinfo_peers::{
     InfoBatAdv, InfoNetkitOf, InfoPfcp, InfoTun, InfoVethOf, InfoVxcanOf, InfoWireguard, InfoWwan,
 };
+// End: written by tables/generate.
 use linkinfo_table::LinkPeer;
 use nla_frame::{DecodeError, ExactEq, Family, HeaderCount};
 use std::alloc::Global;
@@ -18,6 +20,7 @@ use std::alloc::Global;
 /// batadv, wwan and pfcp links.
 #[derive(Clone, Copy, Debug, PartialEq, Eq)]
 pub enum PeeredFamily {
+    // Begin: written by tables/generate from tables/kinds (variants).
     /// Attributes of `tun` links (`IFLA_TUN_*`), kept verbatim.
     Tun,
     /// The attribute of `veth` links (`VETH_INFO_*`): the first one of their data.
@@ -34,6 +37,7 @@ pub enum PeeredFamily {
     Wwan,
     /// Attributes of `pfcp` links, kept verbatim.
     Pfcp,
+    // End: written by tables/generate.
 }
 
 impl ExactEq for PeeredFamily {
@@ -46,6 +50,7 @@ impl ExactEq for PeeredFamily {
 macro_rules! of_peered {
     ($family:expr, $call:ident $given:tt) => {
         match $family {
+            // Begin: written by tables/generate from tables/kinds (calls).
             PeeredFamily::Tun => $call!(list(InfoDataOf::Tun, InfoTun, ()) $given),
             PeeredFamily::Veth => $call!(first(InfoDataOf::Veth, InfoVethOf<P>, ()) $given),
             PeeredFamily::Wireguard => {
@@ -56,6 +61,7 @@ macro_rules! of_peered {
             PeeredFamily::BatAdv => $call!(list(InfoDataOf::BatAdv, InfoBatAdv, ()) $given),
             PeeredFamily::Wwan => $call!(list(InfoDataOf::Wwan, InfoWwan, ()) $given),
             PeeredFamily::Pfcp => $call!(list(InfoDataOf::Pfcp, InfoPfcp, ()) $given),
+            // End: written by tables/generate.
         }
     };
 }
@@ -71,6 +77,7 @@ impl<P: LinkPeer> PayloadFamily<InfoDataOf<P>> for PeeredFamily {
 
     fn listing(self) -> Option<Family> {
         match self {
+            // Begin: written by tables/generate from tables/kinds (listing).
             PeeredFamily::Tun => Some(Family::Tun),
             PeeredFamily::Veth => None,
             PeeredFamily::Wireguard => Some(Family::Wireguard),
@@ -79,6 +86,7 @@ impl<P: LinkPeer> PayloadFamily<InfoDataOf<P>> for PeeredFamily {
             PeeredFamily::BatAdv => Some(Family::BatAdv),
             PeeredFamily::Wwan => Some(Family::Wwan),
             PeeredFamily::Pfcp => Some(Family::Pfcp),
+            // End: written by tables/generate.
         }
     }
 

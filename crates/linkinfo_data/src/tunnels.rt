@@ -9,15 +9,18 @@ use crate::info_data::InfoDataOf;
 use crate::payload_family::PayloadFamily;
 use linkinfo_numbers::KindTag;
 use linkinfo_table::LinkPeer;
+// Begin: written by tables/generate from tables/kinds (types).
 use linkinfo_tunnels::{
     InfoAmt, InfoBareUdp, InfoGeneve, InfoGre, InfoGre6, InfoGtp, InfoIpTunnel, InfoVti, InfoVxlan,
 };
+// End: written by tables/generate.
 use nla_frame::{DecodeError, ExactEq, Family, HeaderCount};
 use std::alloc::Global;
 
 /// The families of data of tunnels.
 #[derive(Clone, Copy, Debug, PartialEq, Eq)]
 pub enum TunnelFamily {
+    // Begin: written by tables/generate from tables/kinds (variants).
     /// Attributes of `vxlan` links (`IFLA_VXLAN_*`).
     Vxlan,
     /// Attributes of `gretap` links (`IFLA_GRE_*`).
@@ -44,6 +47,7 @@ pub enum TunnelFamily {
     ErSpan,
     /// Attributes of `ip6erspan` links (`IFLA_GRE_*`).
     Ip6ErSpan,
+    // End: written by tables/generate.
 }
 
 impl ExactEq for TunnelFamily {
@@ -55,6 +59,7 @@ impl ExactEq for TunnelFamily {
     ghost use Rattle.linkinfo_data.specs.contracts.tunnels.TunnelFamily.{enum};
 
     ghost exact = { derived_decides enum _
+        -- Begin: written by tables/generate from tables/kinds (fields).
         (no_field
         & no_field
         & no_field
@@ -68,6 +73,7 @@ impl ExactEq for TunnelFamily {
         & no_field
         & no_field
         & no_field
+        -- End: written by tables/generate.
         & tt) };
 }
 
@@ -75,6 +81,7 @@ impl ExactEq for TunnelFamily {
 macro_rules! of_tunnel {
     ($family:expr, $call:ident $given:tt) => {
         match $family {
+            // Begin: written by tables/generate from tables/kinds (calls).
             TunnelFamily::Vxlan => $call!(list(InfoDataOf::Vxlan, InfoVxlan, ()) $given),
             TunnelFamily::GreTap => $call!(list(InfoDataOf::GreTap, InfoGre, ()) $given),
             TunnelFamily::GreTap6 => $call!(list(InfoDataOf::GreTap6, InfoGre6, ()) $given),
@@ -90,6 +97,7 @@ macro_rules! of_tunnel {
             TunnelFamily::BareUdp => $call!(list(InfoDataOf::BareUdp, InfoBareUdp, ()) $given),
             TunnelFamily::ErSpan => $call!(list(InfoDataOf::ErSpan, InfoGre, ()) $given),
             TunnelFamily::Ip6ErSpan => $call!(list(InfoDataOf::Ip6ErSpan, InfoGre6, ()) $given),
+            // End: written by tables/generate.
         }
     };
 }
@@ -105,6 +113,7 @@ impl<P: LinkPeer> PayloadFamily<InfoDataOf<P>> for TunnelFamily {
 
     fn listing(self) -> Option<Family> {
         match self {
+            // Begin: written by tables/generate from tables/kinds (listing).
             TunnelFamily::Vxlan => Some(Family::Vxlan),
             TunnelFamily::GreTap => Some(Family::Gre),
             TunnelFamily::GreTap6 => Some(Family::Gre6),
@@ -118,6 +127,7 @@ impl<P: LinkPeer> PayloadFamily<InfoDataOf<P>> for TunnelFamily {
             TunnelFamily::BareUdp => Some(Family::BareUdp),
             TunnelFamily::ErSpan => Some(Family::Gre),
             TunnelFamily::Ip6ErSpan => Some(Family::Gre6),
+            // End: written by tables/generate.
         }
     }
 

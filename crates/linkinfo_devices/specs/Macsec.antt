@@ -1,15 +1,11 @@
+-- Written by tables/generate from tables/macsec.
 -- The rows of `macsec` links.
 use Rattle.std.specs.Prelude.{List, [], ◌∷◌, refl}
 use Rattle.std.proofs.Common.{ap}
 use Rattle.nla_frame.specs.Attribute.{Attribute}
 use Rattle.nla_frame.specs.Kept.{attribute_of}
 use Rattle.nla_frame.specs.Pairs.{◌&◌}
-use Rattle.linkinfo_table.specs.FamilyRows.{
-  PlainRow,
-  row,
-  typed,
-  EachKeeps,
-}
+use Rattle.linkinfo_table.specs.FamilyRows.{PlainRow, row, typed, EachKeeps}
 use Rattle.linkinfo_shapes.specs.declared.shape.Shape.TheVariants.{Le64, Be16, U8, Le32}
 use Rattle.linkinfo_numbers.specs.Table.{key-value_of}
 use Rattle.linkinfo_numbers.specs.Macsec.{

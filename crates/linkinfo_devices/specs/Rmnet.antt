@@ -1,13 +1,9 @@
+-- Written by tables/generate from tables/rmnet.
 -- The rows of `rmnet` links.
 use Rattle.std.specs.Prelude.{ℕ, List, [], ◌∷◌, refl}
 use Rattle.nla_frame.specs.Attribute.{Attribute}
 use Rattle.nla_frame.specs.Kept.{attribute_of}
-use Rattle.linkinfo_table.specs.FamilyRows.{
-  PlainRow,
-  row,
-  typed,
-  EachKeeps,
-}
+use Rattle.linkinfo_table.specs.FamilyRows.{PlainRow, row, typed, EachKeeps}
 use Rattle.linkinfo_shapes.specs.declared.shape.Shape.TheVariants.{Le16, FlagPair}
 use Rattle.linkinfo_numbers.specs.Rmnet.{rm_net_flags}
 use Rattle.linkinfo_numbers.specs.declared.rmnet.InfoRmNetFlags.{InfoRmNetFlags}

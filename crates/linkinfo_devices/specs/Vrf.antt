@@ -1,15 +1,11 @@
--- The rows of a `vrf`, and of its ports.
+-- Written by tables/generate from tables/vrf.
+-- The rows of `vrf` links.
 use Rattle.std.specs.Prelude.{List, [], ◌∷◌, refl}
-use Rattle.std.proofs.Common.{lit<}
 use Rattle.nla_frame.specs.Attribute.{Attribute}
 use Rattle.nla_frame.specs.Kept.{attribute_of}
-use Rattle.linkinfo_table.specs.FamilyRows.{
-  PlainRow,
-  row,
-  typed,
-  EachKeeps,
-}
+use Rattle.linkinfo_table.specs.FamilyRows.{PlainRow, row, typed, EachKeeps}
 use Rattle.linkinfo_shapes.specs.declared.shape.Shape.TheVariants.{Le32}
+use Rattle.linkinfo_table.specs.Labels.{each_keeps}
 use Rattle.linkinfo_devices.specs.declared.vrf.InfoVrf.{InfoVrf}
 use Rattle.linkinfo_devices.specs.declared.vrf.InfoVrf.TheVariants.{TableId, Other}
 
@@ -23,4 +19,5 @@ vrf_attribute (TableId n) = typed 1 Le32 n
 vrf_attribute (Other nla) = attribute_of nla
 
 pub vrf_keeps : EachKeeps vrf_attribute vrf_rows
-vrf_keeps = (record { low = lit< tt; plain = tt; keeps = λ n. refl }, tt)
+vrf_keeps = each_keeps vrf_attribute vrf_rows refl
+    (λ n. refl, tt)

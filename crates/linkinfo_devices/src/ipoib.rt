@@ -1,3 +1,4 @@
+// Written by tables/generate from tables/ipoib.
 //! IP over InfiniBand.
 
 ghost use Rattle.linkinfo_devices.specs.declared.ipoib.InfoIpoib.TheVariants.{Other};

@@ -28,10 +28,12 @@ use std::alloc::{AllocError, Global};
 /// `TAP` selects the family: `Family::IpVtap` if it is true, else `Family::IpVlan`.
 #[derive(Debug, PartialEq, Eq, Drop)]
 pub enum InfoIpVlanOf<const TAP: bool> {
+    // Begin: written by tables/generate from tables/ipvlan (variants).
     /// Mode: `l2`, `l3` or `l3s` (`IFLA_IPVLAN_MODE`), little-endian.
     Mode(IpVlanMode),
     /// Flags `private` and `vepa` (`IFLA_IPVLAN_FLAGS`), little-endian.
     Flags(IpVlanFlags),
+    // End: written by tables/generate.
     /// An opaque attribute, of a type that has no variant here, kept verbatim.
     Other(DefaultNla),
 }
@@ -54,8 +56,10 @@ const fn family_of(tap: bool) -> Family
 macro_rules! rows {
     ($body:ident $given:tt) => {
         $body! { InfoIpVlanOf $given;
+            // Begin: written by tables/generate from tables/ipvlan (rows).
             (1, le16, Mode as IpVlanMode),
             (2, le16, Flags as flags IpVlanFlags),
+            // End: written by tables/generate.
         }
     };
 }

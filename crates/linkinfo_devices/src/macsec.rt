@@ -1,3 +1,4 @@
+// Written by tables/generate from tables/macsec.
 //! MACsec interfaces.
 
 ghost use Rattle.linkinfo_devices.specs.declared.macsec.InfoMacSec.TheVariants.{Other};

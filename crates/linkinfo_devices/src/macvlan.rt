@@ -62,6 +62,7 @@ use std::alloc::{AllocError, Global};
 /// (include/uapi/linux/if_link.h).
 #[derive(Debug, PartialEq, Eq, Clone, Drop)]
 pub enum InfoMacVlan {
+    // Begin: written by tables/generate from tables/macvlan (variants).
     /// Mode (`IFLA_MACVLAN_MODE`), little-endian.
     Mode(MacVlanMode),
     /// Flags (`IFLA_MACVLAN_FLAGS`), little-endian.
@@ -84,6 +85,7 @@ pub enum InfoMacVlan {
     /// Broadcast queueing threshold in devices, -1 to disable the queue (`IFLA_MACVLAN_BC_CUTOFF`),
     /// little-endian.
     BcCutoff(i32),
+    // End: written by tables/generate.
     /// An opaque attribute, of a type that has no variant here, kept verbatim.
     Other(DefaultNla),
 }

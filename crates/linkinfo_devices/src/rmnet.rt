@@ -1,3 +1,4 @@
+// Written by tables/generate from tables/rmnet.
 //! Links of kind `rmnet`.
 
 ghost use Rattle.linkinfo_devices.specs.declared.rmnet.InfoRmNet.TheVariants.{Other};

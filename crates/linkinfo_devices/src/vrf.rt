@@ -1,5 +1,5 @@
-//! Virtual routing and forwarding: `IFLA_VRF_*`, and `IFLA_VRF_PORT_*` of its ports
-//! (include/uapi/linux/if_link.h).
+// Written by tables/generate from tables/vrf.
+//! Virtual routing and forwarding.
 
 ghost use Rattle.linkinfo_devices.specs.declared.vrf.InfoVrf.TheVariants.{Other};
 ghost use Rattle.linkinfo_devices.specs.Vrf.{vrf_attribute, vrf_keeps, vrf_rows};
@@ -17,7 +17,8 @@ use linkinfo_table::{
 use nla_frame::{DecodeError, DefaultNla, ExactEq, Family, Nla, NlaBuffer, Parseable};
 use std::alloc::{AllocError, Global};
 
-/// An attribute in the data of a `vrf` link, or in the data of its ports.
+/// An attribute in the data of a `vrf` link, or in the data of its ports
+/// (include/uapi/linux/if_link.h).
 #[derive(Debug, PartialEq, Eq, Drop)]
 pub enum InfoVrf {
     /// Routing table ID (`IFLA_VRF_TABLE`, and `IFLA_VRF_PORT_TABLE` of a port), little-endian.

@@ -1,4 +1,5 @@
-//! XFRM interfaces: `IFLA_XFRM_*` (include/uapi/linux/if_link.h).
+// Written by tables/generate from tables/xfrm.
+//! XFRM interfaces.
 
 ghost use Rattle.linkinfo_devices.specs.declared.xfrm.InfoXfrm.TheVariants.{Other};
 ghost use Rattle.linkinfo_devices.specs.Xfrm.{xfrm_attribute, xfrm_keeps, xfrm_rows};
@@ -16,7 +17,8 @@ use linkinfo_table::{
 use nla_frame::{DecodeError, DefaultNla, ExactEq, Family, Nla, NlaBuffer, Parseable};
 use std::alloc::{AllocError, Global};
 
-/// An attribute in the data of an `xfrm` link, an XFRM (IPsec) interface.
+/// An attribute in the data of an `xfrm` link, an XFRM (IPsec) interface
+/// (include/uapi/linux/if_link.h).
 #[derive(Debug, PartialEq, Eq, Drop)]
 pub enum InfoXfrm {
     /// Interface index of the underlying device (`IFLA_XFRM_LINK`), little-endian.

@@ -3,6 +3,7 @@ use Rattle.std.specs.Prelude.{ℕ, ◌==◌, if◌then◌else◌, List, [], ◌�
 use Rattle.std.specs.Borrow.{Bor}
 use Rattle.nla_frame.specs.declared.error.Family.{Family}
 use Rattle.nla_frame.specs.declared.error.Family.TheVariants as family
+-- Begin: written by tables/generate from tables/families (imports).
 use Rattle.linkinfo_names.specs.declared.entries.TheConstants.{
   AMT,
   BARE_UDP,
@@ -28,6 +29,8 @@ use Rattle.linkinfo_names.specs.declared.entries.TheConstants.{
   XFRM,
 }
 
+-- End: written by tables/generate.
+
 -- the rows of a constant
 abbrev pub rows : List (ℕ × record { now : List ℕ }) → List (ℕ × List ℕ)
 rows entries = map (λ (number, name). (number, name.now)) entries
@@ -38,6 +41,7 @@ slice_rows entries = map (λ (number, name). (number, name.now)) entries
 
 -- the names of a family, by type, as `entries.rt` lists them
 abbrev pub names_of : Family → List (ℕ × List ℕ)
+-- Begin: written by tables/generate from tables/families (clauses).
 names_of family.LinkInfo = rows LINK_INFO.now
 names_of family.Amt = rows AMT.now
 names_of family.BareUdp = rows BARE_UDP.now
@@ -62,6 +66,7 @@ names_of family.Wwan = rows WWAN.now
 names_of family.Xfrm = rows XFRM.now
 names_of family.Vti = rows VTI.now
 names_of family.Vxlan = rows VXLAN.now
+-- End: written by tables/generate.
 names_of _ = []
 
 -- the name in the row of a type, if there is one

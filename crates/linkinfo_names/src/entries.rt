@@ -1,3 +1,4 @@
+// Written by tables/generate from tables/families.
 //! The kernel's names of the attributes of each family.
 
 /// A row: the type without flag bits, and the name, of at most 31 bytes.
@@ -32,7 +33,7 @@ pub(crate) const BARE_UDP: &[Entry] = &[
     (4, "IFLA_BAREUDP_MULTIPROTO_MODE"),
 ];
 
-/// `IFLA_BATADV_*` (include/uapi/linux/batman_adv.h).
+/// `IFLA_BATADV_*`.
 pub(crate) const BAT_ADV: &[Entry] = &[(1, "IFLA_BATADV_ALGO_NAME")];
 
 /// `IFLA_GENEVE_*`.

@@ -4,10 +4,12 @@ ghost use Rattle.std.specs.Prelude.{◌≡◌, ◌≤◌, IfSome, length};
 ghost use Rattle.std.specs.Option.{option_copied};
 ghost use Rattle.linkinfo_names.specs.Names.{attribute_name, named, names_of, slice_rows};
 
+// Begin: written by tables/generate from tables/families (imports).
 use crate::entries::{
     AMT, BARE_UDP, BAT_ADV, Entry, GENEVE, GRE, GRE6, GTP, IP_TUNNEL, IP_VLAN, IPOIB, LINK_INFO,
     MAC_SEC, MAC_VLAN, NETKIT, RM_NET, VETH, VRF, VTI, VXCAN, VXLAN, WWAN, XFRM,
 };
+// End: written by tables/generate.
 use nla_frame::Family;
 
 /// The kernel's name of a type of attributes, as `IFLA_VXLAN_ID`: at most 31 bytes.
@@ -42,6 +44,7 @@ fn family_names(family: Family) -> &'static [Entry]
     ensures { slice_rows result.now ≡ names_of family }
 {
     match family {
+        // Begin: written by tables/generate from tables/families (arms).
         Family::LinkInfo => LINK_INFO,
         Family::Amt => AMT,
         Family::BareUdp => BARE_UDP,
@@ -77,5 +80,6 @@ fn family_names(family: Family) -> &'static [Entry]
         | Family::Tun
         | Family::Vlan
         | Family::Wireguard => &[],
+        // End: written by tables/generate.
     }
 }

@@ -1,4 +1,5 @@
--- The numbers and words of AMT tunnels.
+-- Written by tables/generate from tables/numbers/amt.
+-- AMT tunnels: the values of each type.
 use Rattle.std.specs.Prelude.{ℕ, List, [], ◌∷◌, codes, Result, refl}
 use Rattle.std.specs.Fmt.{decimal}
 use Rattle.std.proofs.Common.{inl, inr}

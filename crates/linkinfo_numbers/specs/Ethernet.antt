@@ -1,4 +1,5 @@
--- The numbers of Ethernet protocols.
+-- Written by tables/generate from tables/numbers/ethernet.
+-- Protocols carried in Ethernet frames: the values of each type.
 use Rattle.std.specs.Prelude.{ℕ, [], ◌∷◌, refl}
 use Rattle.std.proofs.Common.{inl, inr}
 use Rattle.std.proofs.lemmas.Bool.Decides.{Decides-eqb}

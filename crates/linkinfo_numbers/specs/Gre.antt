@@ -1,4 +1,5 @@
--- The numbers and texts of GRE tunnels.
+-- Written by tables/generate from tables/numbers/gre.
+-- GRE tunnels: the values of each type.
 use Rattle.std.specs.Prelude.{◌≡◌, ℕ, List, [], ◌∷◌, ◌++◌, codes, refl}
 use Rattle.std.specs.Fmt.{decimal}
 use Rattle.std.proofs.Common.{inl, inr}

@@ -1,4 +1,5 @@
--- The numbers of IP protocols.
+-- Written by tables/generate from tables/numbers/ip.
+-- Protocols carried in IP packets: the values of each type.
 use Rattle.std.specs.Prelude.{ℕ, [], ◌∷◌, refl}
 use Rattle.std.proofs.Common.{inl, inr}
 use Rattle.std.proofs.lemmas.Bool.Decides.{Decides-eqb}

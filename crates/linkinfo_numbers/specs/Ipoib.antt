@@ -1,4 +1,5 @@
--- The numbers of IP over InfiniBand.
+-- Written by tables/generate from tables/numbers/ipoib.
+-- IP over InfiniBand: the values of each type.
 use Rattle.std.specs.Prelude.{ℕ, [], ◌∷◌, refl}
 use Rattle.std.proofs.Common.{inl, inr}
 use Rattle.std.proofs.lemmas.Bool.Decides.{Decides-eqb}

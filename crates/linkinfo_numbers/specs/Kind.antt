@@ -82,6 +82,7 @@ use Rattle.linkinfo_numbers.specs.Tags.{tag_among-of_length, tag_among-other_len
 
 -- the text of each kind
 abbrev pub text_of_kind : InfoKind → List ℕ
+-- Begin: written by tables/generate from tables/kinds (texts).
 text_of_kind kind.Dummy = codes "dummy"
 text_of_kind kind.Ifb = codes "ifb"
 text_of_kind kind.Bridge = codes "bridge"
@@ -128,10 +129,12 @@ text_of_kind kind.ErSpan = codes "erspan"
 text_of_kind kind.Ip6ErSpan = codes "ip6erspan"
 text_of_kind kind.Pfcp = codes "pfcp"
 text_of_kind kind.RmNet = codes "rmnet"
+-- End: written by tables/generate.
 text_of_kind (kind.Other text) = text
 
 -- the tag of each kind, by its variant
 abbrev pub tag_of_kind : InfoKind → KindTag
+-- Begin: written by tables/generate from tables/kinds (tags).
 tag_of_kind kind.Dummy = tag.Dummy
 tag_of_kind kind.Ifb = tag.Ifb
 tag_of_kind kind.Bridge = tag.Bridge
@@ -178,10 +181,12 @@ tag_of_kind kind.ErSpan = tag.ErSpan
 tag_of_kind kind.Ip6ErSpan = tag.Ip6ErSpan
 tag_of_kind kind.Pfcp = tag.Pfcp
 tag_of_kind kind.RmNet = tag.RmNet
+-- End: written by tables/generate.
 tag_of_kind (kind.Other text) = tag.Other
 
 -- the kind of each tag except `Other`
 abbrev pub kind_of_tag : KindTag → Option InfoKind
+-- Begin: written by tables/generate from tables/kinds (of tags).
 kind_of_tag tag.Dummy = Some kind.Dummy
 kind_of_tag tag.Ifb = Some kind.Ifb
 kind_of_tag tag.Bridge = Some kind.Bridge
@@ -228,11 +233,13 @@ kind_of_tag tag.ErSpan = Some kind.ErSpan
 kind_of_tag tag.Ip6ErSpan = Some kind.Ip6ErSpan
 kind_of_tag tag.Pfcp = Some kind.Pfcp
 kind_of_tag tag.RmNet = Some kind.RmNet
+-- End: written by tables/generate.
 kind_of_tag tag.Other = None
 
 -- the kinds with a known name
 unfoldable pub known_kinds : List InfoKind
 known_kinds =
+    -- Begin: written by tables/generate from tables/kinds (known).
     kind.Dummy ∷ kind.Ifb ∷ kind.Bridge ∷ kind.Tun ∷ kind.Nlmon ∷ kind.Vlan ∷ kind.Veth ∷ kind.Vxlan
     ∷ kind.Bond ∷
     kind.IpVlan ∷ kind.IpVtap ∷ kind.MacVlan ∷ kind.MacVtap ∷ kind.GreTap ∷ kind.GreTap6 ∷ kind.IpIp
@@ -244,6 +251,7 @@ known_kinds =
     kind.Amt ∷ kind.BatAdv ∷ kind.BareUdp ∷ kind.Netdevsim ∷ kind.VirtWifi ∷ kind.Wwan ∷ kind.Can
     ∷ kind.Dsa ∷
     kind.Team ∷ kind.ErSpan ∷ kind.Ip6ErSpan ∷ kind.Pfcp ∷ kind.RmNet ∷ []
+    -- End: written by tables/generate.
 
 abbrev pub kind_table : Table (List ℕ) InfoKind
 kind_table = by_name text_of_kind kind.Other known_kinds

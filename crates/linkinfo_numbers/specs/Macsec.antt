@@ -1,4 +1,5 @@
--- The numbers of MACsec interfaces.
+-- Written by tables/generate from tables/numbers/macsec.
+-- MACsec links: the values of each type.
 use Rattle.std.specs.Prelude.{ℕ, [], ◌∷◌, refl}
 use Rattle.std.proofs.Common.{inl, inr}
 use Rattle.std.proofs.lemmas.Bool.Decides.{Decides-eqb}

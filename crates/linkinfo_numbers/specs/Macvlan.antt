@@ -1,4 +1,5 @@
--- The numbers and words of `macvlan` and `macvtap` links.
+-- Written by tables/generate from tables/numbers/macvlan.
+-- MACVLAN and MACVTAP links: the values of each type.
 use Rattle.std.specs.Prelude.{◌≡◌, ℕ, List, [], ◌∷◌, codes, Result, refl}
 use Rattle.std.specs.Fmt.{decimal}
 use Rattle.std.proofs.Common.{inl, inr}

@@ -14,6 +14,7 @@ use Rattle.linkinfo_numbers.specs.declared.netkit.NetkitScrub.TheVariants as scr
 use Rattle.linkinfo_numbers.specs.Table.{Table, IsTable, by_number, value_of}
 use Rattle.linkinfo_numbers.specs.Word.{value_of_word, ReadsWords, reads_words}
 
+-- Begin: written by tables/generate from tables/numbers/netkit.
 -- the number of each value
 abbrev pub netkit_mode_number : NetkitMode → ℕ
 netkit_mode_number mode.L2 = 0
@@ -85,11 +86,10 @@ netkit_policy_of_word word =
     value_of_word family.Netkit netkit_policy_text netkit_policy_table.named word
 
 pub netkit_policy_words_hold : ReadsWords family.Netkit netkit_policy_text netkit_policy_table.named
-netkit_policy_words_hold =
-    reads_words family.Netkit netkit_policy_text netkit_policy_table.named (
-      refl,
-      (refl, (refl, tt)),
-    )
+netkit_policy_words_hold = reads_words family.Netkit netkit_policy_text netkit_policy_table.named
+    (refl, (refl, (refl, tt)))
+
+-- End: written by tables/generate.
 
 -- the number of each value
 abbrev pub netkit_scrub_number : NetkitScrub → ℕ

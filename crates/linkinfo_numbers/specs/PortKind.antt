@@ -66,32 +66,40 @@ use Rattle.linkinfo_numbers.specs.Tags.{
 
 -- the text of each kind
 abbrev pub text_of_port_kind : InfoPortKind → List ℕ
+-- Begin: written by tables/generate from tables/ports (texts).
 text_of_port_kind kind.Bond = codes "bond"
 text_of_port_kind kind.Bridge = codes "bridge"
 text_of_port_kind kind.Vrf = codes "vrf"
 text_of_port_kind kind.Team = codes "team"
+-- End: written by tables/generate.
 text_of_port_kind (kind.Other text) = text
 
 -- the tag of each kind, by its variant
 abbrev pub tag_of_port_kind : InfoPortKind → PortTag
+-- Begin: written by tables/generate from tables/ports (tags).
 tag_of_port_kind kind.Bond = tag.Bond
 tag_of_port_kind kind.Bridge = tag.Bridge
 tag_of_port_kind kind.Vrf = tag.Vrf
 tag_of_port_kind kind.Team = tag.Team
+-- End: written by tables/generate.
 tag_of_port_kind (kind.Other text) = tag.Other
 
 -- the kind of each tag except `Other`
 abbrev pub port_kind_of_tag : PortTag → Option InfoPortKind
+-- Begin: written by tables/generate from tables/ports (of tags).
 port_kind_of_tag tag.Bond = Some kind.Bond
 port_kind_of_tag tag.Bridge = Some kind.Bridge
 port_kind_of_tag tag.Vrf = Some kind.Vrf
 port_kind_of_tag tag.Team = Some kind.Team
+-- End: written by tables/generate.
 port_kind_of_tag tag.Other = None
 
 -- the kinds with a known name
 unfoldable pub known_port_kinds : List InfoPortKind
 known_port_kinds =
+    -- Begin: written by tables/generate from tables/ports (known).
     kind.Bond ∷ kind.Bridge ∷ kind.Vrf ∷ kind.Team ∷ []
+    -- End: written by tables/generate.
 
 abbrev pub port_kind_table : Table (List ℕ) InfoPortKind
 port_kind_table = by_name text_of_port_kind kind.Other known_port_kinds
@@ -207,10 +215,12 @@ port_kind_meaning_is_proper a k e = name_meaning_is_proper port_kind_table_holds
 
 -- the port tag of a name that has this tag as a link kind
 abbrev pub port_tag_of_tag : KindTag → PortTag
+-- Begin: written by tables/generate from tables/ports (of kinds).
 port_tag_of_tag link.Bond = tag.Bond
 port_tag_of_tag link.Bridge = tag.Bridge
 port_tag_of_tag link.Vrf = tag.Vrf
 port_tag_of_tag link.Team = tag.Team
+-- End: written by tables/generate.
 port_tag_of_tag _ = tag.Other
 
 other_where_untagged : (k : InfoPortKind) → tag_of_name (text_of_port_kind k) ≡ link.Other →

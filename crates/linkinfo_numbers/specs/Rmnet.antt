@@ -3,6 +3,7 @@ use Rattle.std.specs.Prelude.{◌≡◌, ℕ, List, [], ◌∷◌, codes, refl}
 use Rattle.bitflags.specs.Sets.{known_bits, known_from}
 use Rattle.linkinfo_numbers.specs.declared.rmnet.RmNetFlags.{RmNetFlags}
 
+-- Begin: written by tables/generate from tables/numbers/rmnet.
 -- the flags by name, and a last entry without a name that has every bit
 abbrev pub rm_net_flags_table : List (List ℕ × ℕ)
 rm_net_flags_table =
@@ -21,3 +22,5 @@ rm_net_flags_known = refl
 -- the set with these bits
 abbrev pub rm_net_flags : ℕ → RmNetFlags
 rm_net_flags bits = record { 0 = bits }
+
+-- End: written by tables/generate.

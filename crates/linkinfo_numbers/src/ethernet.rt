@@ -1,16 +1,26 @@
+// Written by tables/generate from tables/numbers/ethernet.
 //! Protocols carried in Ethernet frames.
 
 ghost use Rattle.std.specs.Prelude.{◌≡◌};
 
+use crate::by_values::{number_of_value, value_of_number};
 use nla_frame::ExactEq;
 
 /// The EtherType of a frame, a 16-bit number (include/uapi/linux/if_ether.h).
 #[derive(Clone, Copy, Debug, PartialEq, Eq)]
 pub enum EthernetProtocol {
-    /// `ETH_P_MPLS_UC` (0x8847): MPLS unicast.
+    /// `ETH_P_MPLS_UC`: MPLS unicast.
     MplsUc,
     /// Any number without a name.
     Other(u16),
+}
+
+macro_rules! protocols {
+    ($body:ident $given:tt) => {
+        $body! { EthernetProtocol $given;
+            (MplsUc, 0x8847),
+        }
+    };
 }
 
 impl From<u16> for EthernetProtocol {
@@ -19,10 +29,7 @@ impl From<u16> for EthernetProtocol {
     ghost from_gives = { λ number protocol. protocol ≡ ethernet_protocol number };
 
     fn from(number: u16) -> EthernetProtocol {
-        match number {
-            0x8847 => EthernetProtocol::MplsUc,
-            _ => EthernetProtocol::Other(number),
-        }
+        protocols!(value_of_number number)
     }
 }
 
@@ -32,10 +39,7 @@ impl From<EthernetProtocol> for u16 {
     ghost from_gives = { λ protocol number. number ≡ ethernet_protocol_number protocol };
 
     fn from(protocol: EthernetProtocol) -> u16 {
-        match protocol {
-            EthernetProtocol::MplsUc => 0x8847,
-            EthernetProtocol::Other(number) => number,
-        }
+        protocols!(number_of_value protocol)
     }
 }
 

@@ -1,3 +1,4 @@
+// Written by tables/generate from tables/numbers/geneve.
 //! Geneve tunnels.
 
 ghost use Rattle.std.specs.Prelude.{◌≡◌};

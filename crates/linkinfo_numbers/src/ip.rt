@@ -1,3 +1,4 @@
+// Written by tables/generate from tables/numbers/ip.
 //! Protocols carried in IP packets.
 
 ghost use Rattle.std.specs.Prelude.{◌≡◌};
@@ -8,11 +9,11 @@ use nla_frame::ExactEq;
 /// The protocol number of an IP packet, one byte (include/uapi/linux/in.h).
 #[derive(Clone, Copy, Debug, PartialEq, Eq)]
 pub enum IpProtocol {
-    /// `IPPROTO_IPIP` (4): IPv4 in IP.
+    /// `IPPROTO_IPIP`: IPv4 in IP.
     Ipip,
-    /// `IPPROTO_IPV6` (41): IPv6 in IP.
+    /// `IPPROTO_IPV6`: IPv6 in IP.
     Ipv6,
-    /// `IPPROTO_MPLS` (137): MPLS in IP.
+    /// `IPPROTO_MPLS`: MPLS in IP.
     Mpls,
     /// Any number without a name.
     Other(u8),

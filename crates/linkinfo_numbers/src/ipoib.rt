@@ -1,7 +1,9 @@
+// Written by tables/generate from tables/numbers/ipoib.
 //! IP over InfiniBand.
 
 ghost use Rattle.std.specs.Prelude.{◌≡◌};
 
+use crate::by_values::{number_of_value, value_of_number};
 use nla_frame::ExactEq;
 
 /// The mode of an IPoIB interface: `IFLA_IPOIB_MODE`, a little-endian 16-bit number
@@ -16,17 +18,22 @@ pub enum IpoibMode {
     Other(u16),
 }
 
+macro_rules! modes {
+    ($body:ident $given:tt) => {
+        $body! { IpoibMode $given;
+            (Datagram, 0),
+            (Connected, 1),
+        }
+    };
+}
+
 impl From<u16> for IpoibMode {
     ghost use Rattle.linkinfo_numbers.specs.Ipoib.{ipoib_mode};
 
     ghost from_gives = { λ number mode. mode ≡ ipoib_mode number };
 
     fn from(number: u16) -> IpoibMode {
-        match number {
-            0 => IpoibMode::Datagram,
-            1 => IpoibMode::Connected,
-            _ => IpoibMode::Other(number),
-        }
+        modes!(value_of_number number)
     }
 }
 
@@ -36,11 +43,7 @@ impl From<IpoibMode> for u16 {
     ghost from_gives = { λ mode number. number ≡ ipoib_mode_number mode };
 
     fn from(mode: IpoibMode) -> u16 {
-        match mode {
-            IpoibMode::Datagram => 0,
-            IpoibMode::Connected => 1,
-            IpoibMode::Other(number) => number,
-        }
+        modes!(number_of_value mode)
     }
 }
 

@@ -1,3 +1,4 @@
+// Written by tables/generate from tables/numbers/ipvlan.
 //! IPVLAN and IPVTAP links.
 
 ghost use Rattle.std.specs.Prelude.{◌≡◌};
@@ -162,8 +163,8 @@ impl ExactEq for IpVlanFlags {
     ghost exact = { Prim.search rules };
 }
 
-/// The mode of an `ipvtap` link; it has the values of an `ipvlan` link.
+/// Another name of `IpVlanMode`.
 pub type IpVtapMode = IpVlanMode;
 
-/// The flags of an `ipvtap` link; they are those of an `ipvlan` link.
+/// Another name of `IpVlanFlags`.
 pub type IpVtapFlags = IpVlanFlags;

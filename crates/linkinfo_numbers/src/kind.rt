@@ -19,6 +19,7 @@ use std::fmt;
 /// The kind of a link: `IFLA_INFO_KIND`, the name of its driver (include/uapi/linux/if_link.h).
 #[derive(Debug, PartialEq, Eq, Drop)]
 pub enum InfoKind {
+    // Begin: written by tables/generate from tables/kinds (variants).
     /// `dummy`: a dummy interface.
     Dummy,
     /// `ifb`: an Intermediate Functional Block device.
@@ -37,7 +38,7 @@ pub enum InfoKind {
     Vxlan,
     /// `bond`: a bonding device.
     Bond,
-    /// `ipvlan`: a virtual interface with the MAC address of its lower device.
+    /// `ipvlan`: an interface with the MAC address of its lower device.
     IpVlan,
     /// `ipvtap`: a TAP device on an IPVLAN interface.
     IpVtap,
@@ -111,6 +112,7 @@ pub enum InfoKind {
     Pfcp,
     /// `rmnet`: an rmnet device on a Qualcomm modem.
     RmNet,
+    // End: written by tables/generate.
     /// Every other name.
     Other(Text),
 }
@@ -119,6 +121,7 @@ pub enum InfoKind {
 macro_rules! kinds {
     ($body:ident $given:tt) => {
         $body! { InfoKind KindTag $given;
+            // Begin: written by tables/generate from tables/kinds (names).
             (Dummy, "dummy"),
             (Ifb, "ifb"),
             (Bridge, "bridge"),
@@ -165,6 +168,7 @@ macro_rules! kinds {
             (Ip6ErSpan, "ip6erspan"),
             (Pfcp, "pfcp"),
             (RmNet, "rmnet"),
+            // End: written by tables/generate.
         }
     };
 }

@@ -2,11 +2,23 @@
 
 ghost use Rattle.std.specs.Prelude.{◌≡◌, ◌↔◌, ◌==◌, ℕ, List, Ok, IsTrue, if◌then◌else◌};
 ghost use Rattle.nla_frame.specs.Attribute.{Attribute};
+ghost use Rattle.linkinfo_numbers.specs.Netkit.{
+  netkit_scrub,
+  netkit_scrub_number,
+  netkit_scrub_text,
+  netkit_scrubs,
+};
+// Begin: written by tables/generate from tables/numbers (specs).
 ghost use Rattle.linkinfo_numbers.specs.Amt.{
   amt_mode,
   amt_mode_number,
   amt_mode_table,
   amt_mode_text,
+};
+ghost use Rattle.linkinfo_numbers.specs.Ethernet.{
+  ethernet_protocol,
+  ethernet_protocol_number,
+  ethernet_protocol_table,
 };
 ghost use Rattle.linkinfo_numbers.specs.Geneve.{
   geneve_df,
@@ -14,79 +26,67 @@ ghost use Rattle.linkinfo_numbers.specs.Geneve.{
   geneve_df_table,
   geneve_df_text,
 };
-ghost use Rattle.linkinfo_numbers.specs.Vxlan.{vxlan_df, vxlan_df_number, vxlan_df_table};
+ghost use Rattle.linkinfo_numbers.specs.Gre.{
+  gre_encap_type,
+  gre_encap_type_number,
+  gre_encap_type_table,
+  er_span_dir,
+  er_span_dir_number,
+  er_span_dir_table,
+  gre_io_flags,
+  gre_encap_flags,
+};
 ghost use Rattle.linkinfo_numbers.specs.Gtp.{gtp_role, gtp_role_number, gtp_role_table};
+ghost use Rattle.linkinfo_numbers.specs.Ip.{ip_protocol, ip_protocol_number, ip_protocol_table};
 ghost use Rattle.linkinfo_numbers.specs.Ipoib.{ipoib_mode, ipoib_mode_number, ipoib_mode_table};
 ghost use Rattle.linkinfo_numbers.specs.Ipvlan.{
   ip_vlan_mode,
   ip_vlan_mode_number,
   ip_vlan_mode_table,
   ip_vlan_mode_text,
+  ip_vlan_flags,
+};
+ghost use Rattle.linkinfo_numbers.specs.Macsec.{
+  mac_sec_cipher_id,
+  mac_sec_cipher_id_number,
+  mac_sec_cipher_id_table,
+  mac_sec_validate,
+  mac_sec_validate_number,
+  mac_sec_validate_table,
+  mac_sec_offload,
+  mac_sec_offload_number,
+  mac_sec_offload_table,
 };
 ghost use Rattle.linkinfo_numbers.specs.Macvlan.{
   mac_vlan_mode,
   mac_vlan_mode_number,
   mac_vlan_mode_table,
   mac_vlan_mode_text,
-};
-ghost use Rattle.linkinfo_numbers.specs.Macvlan.{
   mac_vlan_mac_address_mode,
   mac_vlan_mac_address_mode_number,
+  mac_vlan_mac_address_mode_table,
+  mac_vlan_flags,
 };
-ghost use Rattle.linkinfo_numbers.specs.Macvlan.{mac_vlan_mac_address_mode_table};
-ghost use Rattle.linkinfo_numbers.specs.Macsec.{
-  mac_sec_cipher_id,
-  mac_sec_cipher_id_number,
-  mac_sec_cipher_id_table,
-};
-ghost use Rattle.linkinfo_numbers.specs.Macsec.{
-  mac_sec_validate,
-  mac_sec_validate_number,
-  mac_sec_validate_table,
-  mac_sec_offload,
-};
-ghost use Rattle.linkinfo_numbers.specs.Macsec.{mac_sec_offload_number, mac_sec_offload_table};
 ghost use Rattle.linkinfo_numbers.specs.Netkit.{
   netkit_mode,
   netkit_mode_number,
   netkit_mode_table,
   netkit_mode_text,
-};
-ghost use Rattle.linkinfo_numbers.specs.Netkit.{
   netkit_policy,
   netkit_policy_number,
   netkit_policy_table,
   netkit_policy_text,
 };
-ghost use Rattle.linkinfo_numbers.specs.Netkit.{
-  netkit_scrub,
-  netkit_scrub_number,
-  netkit_scrub_text,
-  netkit_scrubs,
-};
-ghost use Rattle.linkinfo_numbers.specs.Gre.{
-  gre_encap_type,
-  gre_encap_type_number,
-  gre_encap_type_table,
-  er_span_dir,
-};
-ghost use Rattle.linkinfo_numbers.specs.Gre.{er_span_dir_number, er_span_dir_table};
-ghost use Rattle.linkinfo_numbers.specs.Gre.{gre_encap_flags, gre_io_flags};
-ghost use Rattle.linkinfo_numbers.specs.Ipvlan.{ip_vlan_flags};
-ghost use Rattle.linkinfo_numbers.specs.Macvlan.{mac_vlan_flags};
 ghost use Rattle.linkinfo_numbers.specs.Rmnet.{rm_net_flags};
-ghost use Rattle.linkinfo_numbers.specs.Tunnel.{ip6_tunnel_flags, tunnel_encap_flags};
 ghost use Rattle.linkinfo_numbers.specs.Tunnel.{
   tunnel_encap_type,
   tunnel_encap_type_number,
   tunnel_encap_type_table,
+  tunnel_encap_flags,
+  ip6_tunnel_flags,
 };
-ghost use Rattle.linkinfo_numbers.specs.Ethernet.{
-  ethernet_protocol,
-  ethernet_protocol_number,
-  ethernet_protocol_table,
-};
-ghost use Rattle.linkinfo_numbers.specs.Ip.{ip_protocol, ip_protocol_number, ip_protocol_table};
+ghost use Rattle.linkinfo_numbers.specs.Vxlan.{vxlan_df, vxlan_df_number, vxlan_df_table};
+// End: written by tables/generate.
 ghost use Rattle.std.specs.Str.{is_utf8};
 ghost use Rattle.linkinfo_numbers.specs.Kind.{
   kind_attribute,
@@ -111,6 +111,7 @@ ghost use Rattle.linkinfo_numbers.specs.PortKind.{
 ghost use Rattle.linkinfo_numbers.specs.Table.{IsProper, ReadsBackWhereProper};
 ghost use Rattle.linkinfo_numbers.specs.Word.{ReadsWords};
 
+// Begin: written by tables/generate from tables/numbers (types).
 use crate::amt::AmtMode;
 use crate::ethernet::EthernetProtocol;
 use crate::geneve::GeneveDf;
@@ -119,39 +120,43 @@ use crate::gtp::GtpRole;
 use crate::ip::IpProtocol;
 use crate::ipoib::IpoibMode;
 use crate::ipvlan::{IpVlanFlags, IpVlanMode};
-use crate::kind::InfoKind;
 use crate::macsec::{MacSecCipherId, MacSecOffload, MacSecValidate};
 use crate::macvlan::{MacVlanFlags, MacVlanMacAddressMode, MacVlanMode};
-use crate::netkit::{NetkitMode, NetkitPolicy, NetkitScrub};
-use crate::port_kind::InfoPortKind;
+use crate::netkit::{NetkitMode, NetkitPolicy};
 use crate::rmnet::RmNetFlags;
 use crate::tunnel::{Ip6TunnelFlags, TunnelEncapFlags, TunnelEncapType};
 use crate::vxlan::VxlanDf;
+// End: written by tables/generate.
+use crate::kind::InfoKind;
+use crate::netkit::NetkitScrub;
+use crate::port_kind::InfoPortKind;
 use nla_frame::Family;
 use std::hash::Hash;
 
 /// A number converted to its value and back is the same number. The exception is `NetkitScrub`,
 /// which gives 1 for every number but 0.
 pub fn number_round_trip(number: u64)
+    // Begin: written by tables/generate from tables/numbers (of numbers).
     ensures amt_mode { amt_mode_number (amt_mode number) ≡ number }
+    ensures ethernet_protocol { ethernet_protocol_number (ethernet_protocol number) ≡ number }
     ensures geneve_df { geneve_df_number (geneve_df number) ≡ number }
-    ensures vxlan_df { vxlan_df_number (vxlan_df number) ≡ number }
+    ensures gre_encap_type { gre_encap_type_number (gre_encap_type number) ≡ number }
+    ensures er_span_dir { er_span_dir_number (er_span_dir number) ≡ number }
     ensures gtp_role { gtp_role_number (gtp_role number) ≡ number }
+    ensures ip_protocol { ip_protocol_number (ip_protocol number) ≡ number }
     ensures ipoib_mode { ipoib_mode_number (ipoib_mode number) ≡ number }
     ensures ip_vlan_mode { ip_vlan_mode_number (ip_vlan_mode number) ≡ number }
-    ensures mac_vlan_mode { mac_vlan_mode_number (mac_vlan_mode number) ≡ number }
-    ensures mac_vlan_mac_address_mode { mac_vlan_mac_address_mode_number
-        (mac_vlan_mac_address_mode number) ≡ number }
     ensures mac_sec_cipher_id { mac_sec_cipher_id_number (mac_sec_cipher_id number) ≡ number }
     ensures mac_sec_validate { mac_sec_validate_number (mac_sec_validate number) ≡ number }
     ensures mac_sec_offload { mac_sec_offload_number (mac_sec_offload number) ≡ number }
+    ensures mac_vlan_mode { mac_vlan_mode_number (mac_vlan_mode number) ≡ number }
+    ensures mac_vlan_mac_address_mode { mac_vlan_mac_address_mode_number
+        (mac_vlan_mac_address_mode number) ≡ number }
     ensures netkit_mode { netkit_mode_number (netkit_mode number) ≡ number }
     ensures netkit_policy { netkit_policy_number (netkit_policy number) ≡ number }
-    ensures gre_encap_type { gre_encap_type_number (gre_encap_type number) ≡ number }
-    ensures er_span_dir { er_span_dir_number (er_span_dir number) ≡ number }
     ensures tunnel_encap_type { tunnel_encap_type_number (tunnel_encap_type number) ≡ number }
-    ensures ethernet_protocol { ethernet_protocol_number (ethernet_protocol number) ≡ number }
-    ensures ip_protocol { ip_protocol_number (ip_protocol number) ≡ number }
+    ensures vxlan_df { vxlan_df_number (vxlan_df number) ≡ number }
+    // End: written by tables/generate.
     ensures netkit_scrub { netkit_scrub_number (netkit_scrub number)
         ≡ (if number == 0 then 0 else 1) }
 {}
@@ -159,24 +164,26 @@ pub fn number_round_trip(number: u64)
 /// A value converted to its number and back is the same value if and only if it is not `Other` of a
 /// named number. `NetkitScrub` has no `Other`.
 pub fn value_round_trip()
+    // Begin: written by tables/generate from tables/numbers (of values).
     ensures amt_mode { ReadsBackWhereProper amt_mode_table }
+    ensures ethernet_protocol { ReadsBackWhereProper ethernet_protocol_table }
     ensures geneve_df { ReadsBackWhereProper geneve_df_table }
-    ensures vxlan_df { ReadsBackWhereProper vxlan_df_table }
+    ensures gre_encap_type { ReadsBackWhereProper gre_encap_type_table }
+    ensures er_span_dir { ReadsBackWhereProper er_span_dir_table }
     ensures gtp_role { ReadsBackWhereProper gtp_role_table }
+    ensures ip_protocol { ReadsBackWhereProper ip_protocol_table }
     ensures ipoib_mode { ReadsBackWhereProper ipoib_mode_table }
     ensures ip_vlan_mode { ReadsBackWhereProper ip_vlan_mode_table }
-    ensures mac_vlan_mode { ReadsBackWhereProper mac_vlan_mode_table }
-    ensures mac_vlan_mac_address_mode { ReadsBackWhereProper mac_vlan_mac_address_mode_table }
     ensures mac_sec_cipher_id { ReadsBackWhereProper mac_sec_cipher_id_table }
     ensures mac_sec_validate { ReadsBackWhereProper mac_sec_validate_table }
     ensures mac_sec_offload { ReadsBackWhereProper mac_sec_offload_table }
+    ensures mac_vlan_mode { ReadsBackWhereProper mac_vlan_mode_table }
+    ensures mac_vlan_mac_address_mode { ReadsBackWhereProper mac_vlan_mac_address_mode_table }
     ensures netkit_mode { ReadsBackWhereProper netkit_mode_table }
     ensures netkit_policy { ReadsBackWhereProper netkit_policy_table }
-    ensures gre_encap_type { ReadsBackWhereProper gre_encap_type_table }
-    ensures er_span_dir { ReadsBackWhereProper er_span_dir_table }
     ensures tunnel_encap_type { ReadsBackWhereProper tunnel_encap_type_table }
-    ensures ethernet_protocol { ReadsBackWhereProper ethernet_protocol_table }
-    ensures ip_protocol { ReadsBackWhereProper ip_protocol_table }
+    ensures vxlan_df { ReadsBackWhereProper vxlan_df_table }
+    // End: written by tables/generate.
     ensures netkit_scrub { (scrub : NetkitScrub) →
         netkit_scrub (netkit_scrub_number scrub) ≡ scrub }
     ensures forward { NetkitPolicy.Forward ≡ NetkitPolicy.Pass }
@@ -185,12 +192,14 @@ pub fn value_round_trip()
 /// The text that `Display` writes for a named value parses as that value, and every other text is
 /// rejected.
 pub fn word_round_trip()
+    // Begin: written by tables/generate from tables/numbers (of words).
     ensures amt_mode { ReadsWords Family.Amt amt_mode_text amt_mode_table.named }
     ensures geneve_df { ReadsWords Family.Geneve geneve_df_text geneve_df_table.named }
     ensures ip_vlan_mode { ReadsWords Family.IpVlan ip_vlan_mode_text ip_vlan_mode_table.named }
     ensures mac_vlan_mode { ReadsWords Family.MacVlan mac_vlan_mode_text mac_vlan_mode_table.named }
     ensures netkit_mode { ReadsWords Family.Netkit netkit_mode_text netkit_mode_table.named }
     ensures netkit_policy { ReadsWords Family.Netkit netkit_policy_text netkit_policy_table.named }
+    // End: written by tables/generate.
     ensures netkit_scrub { ReadsWords Family.Netkit netkit_scrub_text netkit_scrubs }
 {}
 
@@ -225,16 +234,19 @@ pub fn kind_texts()
 
 /// Equal sets have equal hashes: they make equal writes to a hasher.
 pub fn equal_sets_hash_alike()
+    // Begin: written by tables/generate from tables/numbers (of hashes).
     ensures tunnel_encap_flags { (x y : TunnelEncapFlags) →
         IsTrue (⟦<TunnelEncapFlags as PartialEq>⟧.eq x y)
         → ⟦<TunnelEncapFlags as Hash>⟧.hash_input x ≡ ⟦<TunnelEncapFlags as Hash>⟧.hash_input y }
     ensures ip6_tunnel_flags { (x y : Ip6TunnelFlags) →
         IsTrue (⟦<Ip6TunnelFlags as PartialEq>⟧.eq x y)
         → ⟦<Ip6TunnelFlags as Hash>⟧.hash_input x ≡ ⟦<Ip6TunnelFlags as Hash>⟧.hash_input y }
+// End: written by tables/generate.
 {}
 
-/// The bits of the flags of a GRE header: `GRE_CSUM` and the others
-/// (include/uapi/linux/if_tunnel.h, where each is `__cpu_to_be16` of this number).
+// Begin: written by tables/generate from tables/numbers (of bits).
+
+/// The bits of `GreIOFlags`: `GRE_CSUM` and the others (include/uapi/linux/if_tunnel.h).
 pub fn gre_io_flag_bits()
     ensures checksum { GreIOFlags.Checksum ≡ gre_io_flags 0x8000 }
     ensures routing { GreIOFlags.Routing ≡ gre_io_flags 0x4000 }
@@ -247,7 +259,7 @@ pub fn gre_io_flag_bits()
     ensures version { GreIOFlags.Version ≡ gre_io_flags 0x0007 }
 {}
 
-/// The bits of the flags of a GRE tunnel's encapsulation: `TUNNEL_ENCAP_FLAG_CSUM` and the others
+/// The bits of `GreEncapFlags`: `TUNNEL_ENCAP_FLAG_CSUM` and the others
 /// (include/uapi/linux/if_tunnel.h).
 pub fn gre_encap_flag_bits()
     ensures checksum { GreEncapFlags.Checksum ≡ gre_encap_flags 1 }
@@ -255,7 +267,31 @@ pub fn gre_encap_flag_bits()
     ensures remote_checksum { GreEncapFlags.RemoteChecksum ≡ gre_encap_flags 4 }
 {}
 
-/// The bits of the flags of an IP tunnel's encapsulation: `TUNNEL_ENCAP_FLAG_CSUM` and the others
+/// The bits of `IpVlanFlags`: `IPVLAN_F_PRIVATE` and the others (include/uapi/linux/if_link.h).
+pub fn ip_vlan_flag_bits()
+    ensures private { IpVlanFlags.Private ≡ ip_vlan_flags 1 }
+    ensures vepa { IpVlanFlags.Vepa ≡ ip_vlan_flags 2 }
+{}
+
+/// The bits of `MacVlanFlags`: `MACVLAN_FLAG_NOPROMISC` and the others
+/// (include/uapi/linux/if_link.h).
+pub fn mac_vlan_flag_bits()
+    ensures no_promisc { MacVlanFlags.NoPromisc ≡ mac_vlan_flags 1 }
+    ensures no_dst { MacVlanFlags.NoDst ≡ mac_vlan_flags 2 }
+{}
+
+/// The bits of `RmNetFlags`: `RMNET_FLAGS_INGRESS_DEAGGREGATION` and the others
+/// (include/uapi/linux/if_link.h).
+pub fn rm_net_flag_bits()
+    ensures ingress_deaggregation { RmNetFlags.IngressDeaggregation ≡ rm_net_flags 1 }
+    ensures ingress_commands { RmNetFlags.IngressCommands ≡ rm_net_flags 2 }
+    ensures ingress_map_cksum_v4 { RmNetFlags.IngressMapCksumV4 ≡ rm_net_flags 4 }
+    ensures egress_map_cksum_v4 { RmNetFlags.EgressMapCksumV4 ≡ rm_net_flags 8 }
+    ensures ingress_map_cksum_v5 { RmNetFlags.IngressMapCksumV5 ≡ rm_net_flags 16 }
+    ensures egress_map_cksum_v5 { RmNetFlags.EgressMapCksumV5 ≡ rm_net_flags 32 }
+{}
+
+/// The bits of `TunnelEncapFlags`: `TUNNEL_ENCAP_FLAG_CSUM` and the others
 /// (include/uapi/linux/if_tunnel.h).
 pub fn tunnel_encap_flag_bits()
     ensures csum { TunnelEncapFlags.CSum ≡ tunnel_encap_flags 1 }
@@ -263,9 +299,8 @@ pub fn tunnel_encap_flag_bits()
     ensures rem_csum { TunnelEncapFlags.RemCSum ≡ tunnel_encap_flags 4 }
 {}
 
-/// The bits of the flags of an IPv6 tunnel: `IP6_TNL_F_IGN_ENCAP_LIMIT` and the others
-/// (include/uapi/linux/ip6_tunnel.h). The kernel itself sets `IP6_TNL_F_CAP_XMIT`,
-/// `IP6_TNL_F_CAP_RCV` and `IP6_TNL_F_CAP_PER_PACKET` (include/net/ip6_tunnel.h).
+/// The bits of `Ip6TunnelFlags`: `IP6_TNL_F_IGN_ENCAP_LIMIT` and the others
+/// (include/uapi/linux/ip6_tunnel.h; the last three in include/net/ip6_tunnel.h).
 pub fn ip6_tunnel_flag_bits()
     ensures ign_encap_limit { Ip6TunnelFlags.IgnEncapLimit ≡ ip6_tunnel_flags 0x1 }
     ensures use_orig_tclass { Ip6TunnelFlags.UseOrigTclass ≡ ip6_tunnel_flags 0x2 }
@@ -278,28 +313,4 @@ pub fn ip6_tunnel_flag_bits()
     ensures cap_rcv { Ip6TunnelFlags.CapRcv ≡ ip6_tunnel_flags 0x20000 }
     ensures cap_per_packet { Ip6TunnelFlags.CapPerPacket ≡ ip6_tunnel_flags 0x40000 }
 {}
-
-/// The bits of the flags of an `ipvlan` link: `IPVLAN_F_PRIVATE` and the others
-/// (include/uapi/linux/if_link.h).
-pub fn ip_vlan_flag_bits()
-    ensures private { IpVlanFlags.Private ≡ ip_vlan_flags 1 }
-    ensures vepa { IpVlanFlags.Vepa ≡ ip_vlan_flags 2 }
-{}
-
-/// The bits of the flags of a `macvlan` link: `MACVLAN_FLAG_NOPROMISC` and the others
-/// (include/uapi/linux/if_link.h).
-pub fn mac_vlan_flag_bits()
-    ensures no_promisc { MacVlanFlags.NoPromisc ≡ mac_vlan_flags 1 }
-    ensures no_dst { MacVlanFlags.NoDst ≡ mac_vlan_flags 2 }
-{}
-
-/// The bits of the flags of an `rmnet` link: `RMNET_FLAGS_INGRESS_DEAGGREGATION` and the others
-/// (include/uapi/linux/if_link.h).
-pub fn rm_net_flag_bits()
-    ensures ingress_deaggregation { RmNetFlags.IngressDeaggregation ≡ rm_net_flags 1 }
-    ensures ingress_commands { RmNetFlags.IngressCommands ≡ rm_net_flags 2 }
-    ensures ingress_map_cksum_v4 { RmNetFlags.IngressMapCksumV4 ≡ rm_net_flags 4 }
-    ensures egress_map_cksum_v4 { RmNetFlags.EgressMapCksumV4 ≡ rm_net_flags 8 }
-    ensures ingress_map_cksum_v5 { RmNetFlags.IngressMapCksumV5 ≡ rm_net_flags 16 }
-    ensures egress_map_cksum_v5 { RmNetFlags.EgressMapCksumV5 ≡ rm_net_flags 32 }
-{}
+// End: written by tables/generate.

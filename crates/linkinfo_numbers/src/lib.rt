@@ -1,51 +1,55 @@
 //! The numbers, flag sets and names in the contents of `IFLA_LINKINFO`.
 #![tactic(auto)]
 
+// Begin: written by tables/generate from tables/numbers (modules).
 mod amt;
-mod by_values;
 mod ethernet;
-mod flags;
 mod geneve;
 mod gre;
 mod gtp;
 mod ip;
 mod ipoib;
 mod ipvlan;
-mod kind;
-pub mod laws;
 mod macsec;
 mod macvlan;
-mod name;
 mod netkit;
-mod port_kind;
 mod rmnet;
-mod tags;
 mod tunnel;
-mod types;
 mod vxlan;
+// End: written by tables/generate.
+mod by_values;
+mod flags;
+mod kind;
+pub mod laws;
+mod name;
+mod port_kind;
+mod tags;
+mod types;
 mod word;
 
+// Begin: written by tables/generate from tables/numbers (types).
 pub use amt::AmtMode;
 pub use ethernet::EthernetProtocol;
-pub use flags::{KeepsEveryBit, bits_again};
 pub use geneve::GeneveDf;
 pub use gre::{ErSpanDir, GreEncapFlags, GreEncapType, GreIOFlags};
 pub use gtp::GtpRole;
 pub use ip::IpProtocol;
 pub use ipoib::IpoibMode;
 pub use ipvlan::{IpVlanFlags, IpVlanMode, IpVtapFlags, IpVtapMode};
-pub use kind::InfoKind;
 pub use macsec::{MacSecCipherId, MacSecOffload, MacSecValidate};
 pub use macvlan::{
     MacVlanFlags, MacVlanMacAddressMode, MacVlanMode, MacVtapFlags, MacVtapMacAddressMode,
     MacVtapMode,
 };
 pub use netkit::{NetkitMode, NetkitPolicy, NetkitScrub};
-pub use port_kind::InfoPortKind;
 pub use rmnet::{InfoRmNetFlags, RmNetFlags};
-pub use tags::{KindTag, PortTag, port_tag_of_name, tag_of_name};
 pub use tunnel::{Ip6TunnelFlags, TunnelEncapFlags, TunnelEncapType};
+pub use vxlan::VxlanDf;
+// End: written by tables/generate.
+pub use flags::{KeepsEveryBit, bits_again};
+pub use kind::InfoKind;
+pub use port_kind::InfoPortKind;
+pub use tags::{KindTag, PortTag, port_tag_of_name, tag_of_name};
 pub use types::{
     IFLA_INFO_DATA, IFLA_INFO_KIND, IFLA_INFO_SLAVE_DATA, IFLA_INFO_SLAVE_KIND, IFLA_INFO_XSTATS,
 };
-pub use vxlan::VxlanDf;

@@ -1,3 +1,4 @@
+// Written by tables/generate from tables/numbers/macsec.
 //! MACsec links.
 
 ghost use Rattle.std.specs.Prelude.{◌≡◌};

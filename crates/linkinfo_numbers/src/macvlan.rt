@@ -1,3 +1,4 @@
+// Written by tables/generate from tables/numbers/macvlan.
 //! MACVLAN and MACVTAP links.
 
 ghost use Rattle.std.specs.Prelude.{◌≡◌};
@@ -212,12 +213,11 @@ impl ExactEq for MacVlanFlags {
     ghost exact = { Prim.search rules };
 }
 
-/// The mode of a `macvtap` link; it has the values of a `macvlan` link.
+/// Another name of `MacVlanMode`.
 pub type MacVtapMode = MacVlanMode;
 
-/// The flags of a `macvtap` link; they are those of a `macvlan` link.
-pub type MacVtapFlags = MacVlanFlags;
-
-/// How a request changes the source MAC addresses of a `macvtap` link; the values are those of a
-/// `macvlan` link.
+/// Another name of `MacVlanMacAddressMode`.
 pub type MacVtapMacAddressMode = MacVlanMacAddressMode;
+
+/// Another name of `MacVlanFlags`.
+pub type MacVtapFlags = MacVlanFlags;

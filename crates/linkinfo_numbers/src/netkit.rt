@@ -8,6 +8,7 @@ use nla_frame::{DecodeError, ExactEq, Family};
 use std::fmt;
 use std::str::FromStr;
 
+// Begin: written by tables/generate from tables/numbers/netkit.
 /// The layer at which a netkit pair operates: `IFLA_NETKIT_MODE`, a little-endian 32-bit number
 /// (include/uapi/linux/if_link.h).
 #[derive(Clone, Copy, Debug, PartialEq, Eq)]
@@ -93,11 +94,6 @@ pub enum NetkitPolicy {
     Other(u32),
 }
 
-impl NetkitPolicy {
-    /// `NETKIT_PASS` by the name that `ip link` and `Display` give it.
-    pub const Forward: NetkitPolicy = NetkitPolicy::Pass;
-}
-
 macro_rules! policies {
     ($body:ident $given:tt) => {
         $body! { NetkitPolicy $given;
@@ -156,6 +152,12 @@ impl ExactEq for NetkitPolicy {
     ghost use Rattle.std.proofs.Common.{rules};
 
     ghost exact = { Prim.search rules };
+}
+// End: written by tables/generate.
+
+impl NetkitPolicy {
+    /// `NETKIT_PASS` by the name that `ip link` and `Display` give it.
+    pub const Forward: NetkitPolicy = NetkitPolicy::Pass;
 }
 
 /// Whether a netkit link clears the mark and priority of a packet that changes the network

@@ -21,6 +21,7 @@ use std::fmt;
 /// port of (include/uapi/linux/if_link.h).
 #[derive(Clone, Debug, PartialEq, Eq, Drop)]
 pub enum InfoPortKind {
+    // Begin: written by tables/generate from tables/ports (variants).
     /// `bond`: a port of a bonding device.
     Bond,
     /// `bridge`: a port of an Ethernet bridge.
@@ -29,6 +30,7 @@ pub enum InfoPortKind {
     Vrf,
     /// `team`: a port of a team device.
     Team,
+    // End: written by tables/generate.
     /// Every other name.
     Other(Text),
 }
@@ -37,10 +39,12 @@ pub enum InfoPortKind {
 macro_rules! port_kinds {
     ($body:ident $given:tt) => {
         $body! { InfoPortKind PortTag $given;
+            // Begin: written by tables/generate from tables/ports (names).
             (Bond, "bond"),
             (Bridge, "bridge"),
             (Vrf, "vrf"),
             (Team, "team"),
+            // End: written by tables/generate.
         }
     };
 }

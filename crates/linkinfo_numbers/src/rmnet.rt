@@ -6,6 +6,7 @@ use crate::flags::KeepsEveryBit;
 use bitflags::{Flag, Flags};
 use nla_frame::ExactEq;
 
+// Begin: written by tables/generate from tables/numbers/rmnet.
 /// The flags of an `rmnet` link: `flags` and `mask` of `struct ifla_rmnet_flags`, little-endian
 /// 32-bit numbers (include/uapi/linux/if_link.h). Every 32-bit number is a valid set.
 #[derive(Clone, Copy, Debug, PartialEq, Eq)]
@@ -101,6 +102,7 @@ impl ExactEq for RmNetFlags {
 
     ghost exact = { Prim.search rules };
 }
+// End: written by tables/generate.
 
 /// `struct ifla_rmnet_flags`: flags, and the mask of those to change.
 #[derive(Clone, Copy, Debug, PartialEq, Eq)]

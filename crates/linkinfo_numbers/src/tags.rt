@@ -10,6 +10,7 @@ use nla_frame::ExactEq;
 /// The kind of a link without its text: one of the kinds that this crate knows by name, or `Other`.
 #[derive(Clone, Copy, Debug, PartialEq, Eq)]
 pub enum KindTag {
+    // Begin: written by tables/generate from tables/kinds (variants).
     /// The kind `dummy`.
     Dummy,
     /// The kind `ifb`.
@@ -102,6 +103,7 @@ pub enum KindTag {
     Pfcp,
     /// The kind `rmnet`.
     RmNet,
+    // End: written by tables/generate.
     /// Every other name.
     Other,
 }
@@ -115,6 +117,7 @@ impl ExactEq for KindTag {
 /// The port kind without its text: one of the port kinds that this crate knows by name, or `Other`.
 #[derive(Clone, Copy, Debug, PartialEq, Eq)]
 pub enum PortTag {
+    // Begin: written by tables/generate from tables/ports (variants).
     /// The port kind `bond`.
     Bond,
     /// The port kind `bridge`.
@@ -123,6 +126,7 @@ pub enum PortTag {
     Vrf,
     /// The port kind `team`.
     Team,
+    // End: written by tables/generate.
     /// Every other name.
     Other,
 }
@@ -176,6 +180,7 @@ pub fn tag_of_name(name: &[u8]) -> KindTag
     }
 }
 
+// Begin: written by tables/generate from tables/kinds (numbers of three bytes).
 const IFB: u32 = number_of_four!(b"ifb\0");
 
 const TUN: u32 = number_of_four!(b"tun\0");
@@ -197,6 +202,7 @@ const AMT: u32 = number_of_four!(b"amt\0");
 const CAN: u32 = number_of_four!(b"can\0");
 
 const DSA: u32 = number_of_four!(b"dsa\0");
+// End: written by tables/generate.
 
 /// The tag of the three-byte name with this number.
 #[tactic(auto, unfolding(crate::specs::Kind::known_kinds))]
@@ -204,6 +210,7 @@ fn tag_of_three(number: u32) -> KindTag
     ensures { result ≡ tag_of_number w32 3 number }
 {
     match number {
+        // Begin: written by tables/generate from tables/kinds (tags of three bytes).
         IFB => KindTag::Ifb,
         TUN => KindTag::Tun,
         SIT => KindTag::SitTun,
@@ -215,10 +222,12 @@ fn tag_of_three(number: u32) -> KindTag
         AMT => KindTag::Amt,
         CAN => KindTag::Can,
         DSA => KindTag::Dsa,
+        // End: written by tables/generate.
         _ => KindTag::Other,
     }
 }
 
+// Begin: written by tables/generate from tables/kinds (numbers of four bytes).
 const VLAN: u32 = number_of_four!(b"vlan");
 
 const VETH: u32 = number_of_four!(b"veth");
@@ -238,6 +247,7 @@ const WWAN: u32 = number_of_four!(b"wwan");
 const TEAM: u32 = number_of_four!(b"team");
 
 const PFCP: u32 = number_of_four!(b"pfcp");
+// End: written by tables/generate.
 
 /// The tag of the four-byte name with this number.
 #[tactic(auto, unfolding(crate::specs::Kind::known_kinds))]
@@ -245,6 +255,7 @@ fn tag_of_four(number: u32) -> KindTag
     ensures { result ≡ tag_of_number w32 4 number }
 {
     match number {
+        // Begin: written by tables/generate from tables/kinds (tags of four bytes).
         VLAN => KindTag::Vlan,
         VETH => KindTag::Veth,
         BOND => KindTag::Bond,
@@ -255,10 +266,12 @@ fn tag_of_four(number: u32) -> KindTag
         WWAN => KindTag::Wwan,
         TEAM => KindTag::Team,
         PFCP => KindTag::Pfcp,
+        // End: written by tables/generate.
         _ => KindTag::Other,
     }
 }
 
+// Begin: written by tables/generate from tables/kinds (numbers of five bytes).
 const DUMMY: u64 = number_of_eight!(b"dummy\0\0\0");
 
 const NLMON: u64 = number_of_eight!(b"nlmon\0\0\0");
@@ -270,6 +283,7 @@ const IPOIB: u64 = number_of_eight!(b"ipoib\0\0\0");
 const VXCAN: u64 = number_of_eight!(b"vxcan\0\0\0");
 
 const RMNET: u64 = number_of_eight!(b"rmnet\0\0\0");
+// End: written by tables/generate.
 
 /// The tag of the five-byte name with this number.
 #[tactic(auto, unfolding(crate::specs::Kind::known_kinds))]
@@ -277,16 +291,19 @@ fn tag_of_five(number: u64) -> KindTag
     ensures { result ≡ tag_of_number w64 5 number }
 {
     match number {
+        // Begin: written by tables/generate from tables/kinds (tags of five bytes).
         DUMMY => KindTag::Dummy,
         NLMON => KindTag::Nlmon,
         VXLAN => KindTag::Vxlan,
         IPOIB => KindTag::Ipoib,
         VXCAN => KindTag::Vxcan,
         RMNET => KindTag::RmNet,
+        // End: written by tables/generate.
         _ => KindTag::Other,
     }
 }
 
+// Begin: written by tables/generate from tables/kinds (numbers of six bytes).
 const BRIDGE: u64 = number_of_eight!(b"bridge\0\0");
 
 const IPVLAN: u64 = number_of_eight!(b"ipvlan\0\0");
@@ -308,6 +325,7 @@ const NETKIT: u64 = number_of_eight!(b"netkit\0\0");
 const BATADV: u64 = number_of_eight!(b"batadv\0\0");
 
 const ERSPAN: u64 = number_of_eight!(b"erspan\0\0");
+// End: written by tables/generate.
 
 /// The tag of the six-byte name with this number.
 #[tactic(auto, unfolding(crate::specs::Kind::known_kinds))]
@@ -315,6 +333,7 @@ fn tag_of_six(number: u64) -> KindTag
     ensures { result ≡ tag_of_number w64 6 number }
 {
     match number {
+        // Begin: written by tables/generate from tables/kinds (tags of six bytes).
         BRIDGE => KindTag::Bridge,
         IPVLAN => KindTag::IpVlan,
         IPVTAP => KindTag::IpVtap,
@@ -326,15 +345,18 @@ fn tag_of_six(number: u64) -> KindTag
         NETKIT => KindTag::Netkit,
         BATADV => KindTag::BatAdv,
         ERSPAN => KindTag::ErSpan,
+        // End: written by tables/generate.
         _ => KindTag::Other,
     }
 }
 
+// Begin: written by tables/generate from tables/kinds (numbers of seven bytes).
 const MACVLAN: u64 = number_of_eight!(b"macvlan\0");
 
 const MACVTAP: u64 = number_of_eight!(b"macvtap\0");
 
 const BAREUDP: u64 = number_of_eight!(b"bareudp\0");
+// End: written by tables/generate.
 
 /// The tag of the seven-byte name with this number.
 #[tactic(auto, unfolding(crate::specs::Kind::known_kinds))]
@@ -342,13 +364,16 @@ fn tag_of_seven(number: u64) -> KindTag
     ensures { result ≡ tag_of_number w64 7 number }
 {
     match number {
+        // Begin: written by tables/generate from tables/kinds (tags of seven bytes).
         MACVLAN => KindTag::MacVlan,
         MACVTAP => KindTag::MacVtap,
         BAREUDP => KindTag::BareUdp,
+        // End: written by tables/generate.
         _ => KindTag::Other,
     }
 }
 
+// Begin: written by tables/generate from tables/kinds (numbers of nine bytes).
 const IP6GRETAP: u64 = number_of_eight!(b"ip6gretap");
 
 const WIREGUARD: u64 = number_of_eight!(b"wireguard");
@@ -358,6 +383,7 @@ const NETDEVSIM: u64 = number_of_eight!(b"netdevsim");
 const VIRT_WIFI: u64 = number_of_eight!(b"virt_wifi");
 
 const IP6ERSPAN: u64 = number_of_eight!(b"ip6erspan");
+// End: written by tables/generate.
 
 /// The tag of a nine-byte name, given as the number of the first eight bytes and the last byte.
 #[tactic(auto, unfolding(crate::specs::Kind::known_kinds))]
@@ -365,11 +391,13 @@ fn tag_of_nine(front: u64, last: u8) -> KindTag
     ensures { result ≡ tag_of_number_then w64 9 front last }
 {
     match (front, last) {
+        // Begin: written by tables/generate from tables/kinds (tags of nine bytes).
         (IP6GRETAP, b'p') => KindTag::GreTap6,
         (WIREGUARD, b'd') => KindTag::Wireguard,
         (NETDEVSIM, b'm') => KindTag::Netdevsim,
         (VIRT_WIFI, b'i') => KindTag::VirtWifi,
         (IP6ERSPAN, b'n') => KindTag::Ip6ErSpan,
+        // End: written by tables/generate.
         _ => KindTag::Other,
     }
 }
@@ -380,10 +408,12 @@ pub fn port_tag_of_name(name: &[u8]) -> PortTag
     ensures { result ≡ port_tag_of_name name.now }
 {
     match tag_of_name(name) {
+        // Begin: written by tables/generate from tables/ports (of kinds).
         KindTag::Bond => PortTag::Bond,
         KindTag::Bridge => PortTag::Bridge,
         KindTag::Vrf => PortTag::Vrf,
         KindTag::Team => PortTag::Team,
+        // End: written by tables/generate.
         _ => PortTag::Other,
     }
 }

@@ -1,3 +1,4 @@
+// Written by tables/generate from tables/numbers/tunnel.
 //! IP tunnels.
 
 ghost use Rattle.std.specs.Prelude.{◌≡◌};

@@ -1,74 +1,30 @@
 -- Which attributes of `batadv`, `wwan`, `veth`, `vxcan` and `netkit` links are well formed, by the
 -- variant of each: the conditions on a number, a text, a peer or an opaque attribute.
 use Rattle.std.specs.Prelude.{◌≡◌, ◌↔◌, ℕ, ◌<◌, ◌^◌, Bool, true, false, List, [], Option, refl}
-use Rattle.std.specs.Str.{is_utf8}
 use Rattle.std.proofs.Common.{subst}
-use Rattle.nla_frame.specs.Attribute.{IsBytes}
 use Rattle.linkinfo_numbers.specs.Table.{IsNumber, number_label}
 use Rattle.linkinfo_numbers.specs.Netkit.{netkit_mode_table, netkit_mode_table_holds}
 use Rattle.linkinfo_numbers.specs.Netkit.{netkit_policy_table, netkit_policy_table_holds}
 use Rattle.linkinfo_numbers.specs.declared.netkit.NetkitScrub.{NetkitScrub}
 use Rattle.linkinfo_numbers.specs.declared.netkit.NetkitScrub.TheVariants as scrub
-use Rattle.linkinfo_table.specs.Conditions.{IsUnknown, IsUnknownBeside, are_typed, plain_label}
+use Rattle.linkinfo_table.specs.Conditions.{IsUnknownBeside, are_typed, plain_label}
 use Rattle.linkinfo_table.specs.Conditions.{unknown_beside, unknown_label}
-use Rattle.linkinfo_table.specs.FamilyRows.{row_of, table_row}
+use Rattle.linkinfo_table.specs.FamilyRows.{row_of}
 use Rattle.linkinfo_table.specs.Rows.{WellFormed}
-use Rattle.linkinfo_peers.specs.Batadv.{batadv_attribute, batadv_rows}
 use Rattle.linkinfo_peers.specs.Netkit.{netkit_attribute, netkit_plain, netkit_rows, scrub_of}
 use Rattle.linkinfo_peers.specs.Veth.{veth_attribute, veth_rows}
 use Rattle.linkinfo_peers.specs.Vxcan.{vxcan_attribute, vxcan_rows}
-use Rattle.linkinfo_peers.specs.Wwan.{wwan_attribute, wwan_rows}
-use Rattle.linkinfo_peers.specs.declared.batadv.InfoBatAdv.{InfoBatAdv}
-use Rattle.linkinfo_peers.specs.declared.batadv.InfoBatAdv.TheVariants as batadv
 use Rattle.linkinfo_peers.specs.declared.netkit.InfoNetkitOf.{InfoNetkitOf}
 use Rattle.linkinfo_peers.specs.declared.netkit.InfoNetkitOf.TheVariants as netkit
 use Rattle.linkinfo_peers.specs.declared.veth.InfoVethOf.{InfoVethOf}
 use Rattle.linkinfo_peers.specs.declared.veth.InfoVethOf.TheVariants as veth
 use Rattle.linkinfo_peers.specs.declared.vxcan.InfoVxcanOf.{InfoVxcanOf}
 use Rattle.linkinfo_peers.specs.declared.vxcan.InfoVxcanOf.TheVariants as vxcan
-use Rattle.linkinfo_peers.specs.declared.wwan.InfoWwan.{InfoWwan}
-use Rattle.linkinfo_peers.specs.declared.wwan.InfoWwan.TheVariants as wwan
+-- Begin: written by tables/generate from tables/families.
+pub use Rattle.linkinfo_peers.specs.BatadvConditions.{bat_adv_conditions, bat_adv_stated}
+pub use Rattle.linkinfo_peers.specs.WwanConditions.{wwan_conditions, wwan_stated}
 
--- ---- B.A.T.M.A.N. links
-
-abbrev pub batadv_conditions : InfoBatAdv → Type 0
-batadv_conditions (batadv.AlgoName text) = (is_utf8 text ≡ true) × IsBytes text
-batadv_conditions (batadv.Other d) = IsUnknown batadv_rows d
-
-abbrev batadv_is_other : InfoBatAdv → Bool
-batadv_is_other (batadv.Other d) = true
-batadv_is_other _ = false
-
-pub batadv_stated : (x : InfoBatAdv) →
-    WellFormed (λ d. batadv.Other d) batadv_attribute (λ n. row_of (table_row batadv_rows n)) x ↔
-    batadv_conditions x
-unfolding WellFormed
-batadv_stated = elim [
-  | batadv.Other d ↦ unknown_label
-      (λ z. batadv.Other z) batadv_attribute batadv_rows batadv_is_other (λ _. refl) (λ _. refl)
-      (are_typed batadv_is_other batadv_rows refl) d
-  | _ ↦ (λ w. subst batadv_conditions w.2 w.1, λ h. (_, h, refl))
-]
-
--- ---- WWAN links
-
-abbrev pub wwan_conditions : InfoWwan → Type 0
-wwan_conditions (wwan.LinkId n) = n < 2 ^ 32
-wwan_conditions (wwan.Other d) = IsUnknown wwan_rows d
-
-abbrev wwan_is_other : InfoWwan → Bool
-wwan_is_other (wwan.Other d) = true
-wwan_is_other _ = false
-
-pub wwan_stated : (x : InfoWwan) → WellFormed (λ d. wwan.Other d) wwan_attribute
-    (λ n. row_of (table_row wwan_rows n)) x ↔ wwan_conditions x
-unfolding WellFormed
-wwan_stated = elim [
-  | wwan.Other d ↦ unknown_label (λ z. wwan.Other z) wwan_attribute wwan_rows wwan_is_other
-      (λ _. refl) (λ _. refl)
-      (are_typed wwan_is_other wwan_rows refl) d
-  | _ ↦ (λ w. subst wwan_conditions w.2 w.1, λ h. (_, h, refl))
-]
+-- End: written by tables/generate.
 
 -- ---- links with a peer, which is well formed by its own type
 

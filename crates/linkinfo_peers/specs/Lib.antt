@@ -1,4 +1,9 @@
+-- Begin: written by tables/generate from tables/families.
 pub mod Batadv
+pub mod BatadvConditions
+pub mod Wwan
+pub mod WwanConditions
+-- End: written by tables/generate.
 pub mod Bit
 pub mod Conditions
 pub mod Netkit
@@ -6,4 +11,3 @@ pub mod PeerMembers
 pub mod PeerRows
 pub mod Veth
 pub mod Vxcan
-pub mod Wwan

@@ -1,7 +1,8 @@
-//! B.A.T.M.A.N. Advanced links: `IFLA_BATADV_*` (include/uapi/linux/batman_adv.h).
+// Written by tables/generate from tables/batadv.
+//! B.A.T.M.A.N. Advanced links.
 
 ghost use Rattle.linkinfo_peers.specs.declared.batadv.InfoBatAdv.TheVariants.{Other};
-ghost use Rattle.linkinfo_peers.specs.Batadv.{batadv_attribute, batadv_keeps, batadv_rows};
+ghost use Rattle.linkinfo_peers.specs.Batadv.{bat_adv_attribute, bat_adv_keeps, bat_adv_rows};
 ghost use Rattle.linkinfo_table.specs.FamilyMeaning.{table_meaning, table_memory};
 ghost use Rattle.linkinfo_table.specs.FamilyRowLaws.{table_flat, table_owes};
 ghost use Rattle.linkinfo_table.specs.FamilyRows.{table_row};
@@ -16,7 +17,8 @@ use linkinfo_table::{
 use nla_frame::{DecodeError, DefaultNla, ExactEq, Family, Nla, NlaBuffer, Parseable, Text};
 use std::alloc::{AllocError, Global};
 
-/// An attribute in the data of a `batadv` link, a B.A.T.M.A.N. Advanced mesh interface.
+/// An attribute in the data of a `batadv` link, a B.A.T.M.A.N. Advanced mesh interface
+/// (include/uapi/linux/batman_adv.h).
 #[derive(Debug, PartialEq, Eq, Drop)]
 pub enum InfoBatAdv {
     /// Name of the routing algorithm (`IFLA_BATADV_ALGO_NAME`), with one closing zero byte.
@@ -49,15 +51,15 @@ impl RowFamily for InfoBatAdv {
 
     ghost FAMILY = { family.BatAdv };
 
-    ghost rows = { λ _ n. table_row batadv_rows n };
+    ghost rows = { λ _ n. table_row bat_adv_rows n };
 
     ghost other = { λ nla. Other nla };
 
-    ghost canonical = { batadv_attribute };
+    ghost canonical = { bat_adv_attribute };
 
     ghost is_custom = { λ _. false };
 
-    ghost owes = { λ _ n. table_owes batadv_attribute batadv_rows batadv_keeps n };
+    ghost owes = { λ _ n. table_owes bat_adv_attribute bat_adv_rows bat_adv_keeps n };
 
     ghost keeps_other = { λ _. refl };
 
@@ -84,7 +86,7 @@ impl RowFamily for InfoBatAdv {
 }
 
 impl Nla for InfoBatAdv {
-    ghost attribute = { batadv_attribute };
+    ghost attribute = { bat_adv_attribute };
 
     fn value_len(&self) -> usize {
         row_value_len(self)
@@ -108,7 +110,7 @@ impl Nla for InfoBatAdv {
 }
 
 impl FlatFamily for InfoBatAdv {
-    ghost flat = { λ _ n. table_flat batadv_attribute batadv_rows batadv_keeps n };
+    ghost flat = { λ _ n. table_flat bat_adv_attribute bat_adv_rows bat_adv_keeps n };
 
     ghost never_custom = { λ _. refl };
 
@@ -117,9 +119,9 @@ impl FlatFamily for InfoBatAdv {
 
 /// Reads the attribute. A name that is not UTF-8 is rejected as `(BatAdv, 1, Utf8)`.
 impl<'a> Parseable<NlaBuffer<'a>> for InfoBatAdv {
-    ghost meaning = { table_meaning family.BatAdv (λ d. Other d) batadv_rows };
+    ghost meaning = { table_meaning family.BatAdv (λ d. Other d) bat_adv_rows };
 
-    ghost needs_memory = { table_memory batadv_rows };
+    ghost needs_memory = { table_memory bat_adv_rows };
 
     fn parse(alloc: Global, buffer: &NlaBuffer<'a>) -> Result<InfoBatAdv, DecodeError> {
         row_read(alloc, buffer, ())

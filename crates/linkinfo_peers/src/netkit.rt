@@ -37,6 +37,7 @@ use std::alloc::{AllocError, Global};
 /// An attribute in the data of a `netkit` link, with a peer of type `P`.
 #[derive(Debug, PartialEq, Eq, Clone, Drop)]
 pub enum InfoNetkitOf<P> {
+    // Begin: written by tables/generate from tables/netkit (variants).
     /// The peer of the pair (`IFLA_NETKIT_PEER_INFO`).
     Peer(P),
     /// Whether this is the primary device of the pair (`IFLA_NETKIT_PRIMARY`), one byte.
@@ -55,6 +56,7 @@ pub enum InfoNetkitOf<P> {
     Headroom(u16),
     /// Tailroom after each packet in bytes (`IFLA_NETKIT_TAILROOM`), little-endian.
     Tailroom(u16),
+    // End: written by tables/generate.
     /// An opaque attribute, of a type that has no variant here, kept verbatim.
     Other(DefaultNla),
 }
@@ -65,6 +67,7 @@ pub type InfoNetkit = InfoNetkitOf<Bytes>;
 macro_rules! rows {
     ($body:ident $given:tt) => {
         $body! { InfoNetkitOf $given;
+            // Begin: written by tables/generate from tables/netkit (rows).
             (1, custom, Peer),
             (2, truth, Primary),
             (3, le32, Policy as NetkitPolicy),
@@ -74,6 +77,7 @@ macro_rules! rows {
             (7, scrub, PeerScrub by scrub_of, is_by_default),
             (8, le16, Headroom),
             (9, le16, Tailroom),
+            // End: written by tables/generate.
         }
     };
 }

@@ -31,8 +31,10 @@ use std::alloc::{AllocError, Global};
 /// An attribute in the data of a `vxcan` link, with a peer of type `P`.
 #[derive(Debug, PartialEq, Eq, Clone, Drop)]
 pub enum InfoVxcanOf<P> {
+    // Begin: written by tables/generate from tables/veth (variants).
     /// The peer of the pair (`VXCAN_INFO_PEER`).
     Peer(P),
+    // End: written by tables/generate.
     /// An opaque attribute, of a type that has no variant here, kept verbatim.
     Other(DefaultNla),
 }

@@ -1,4 +1,5 @@
-//! Wireless WAN links: `IFLA_WWAN_*` (include/uapi/linux/wwan.h).
+// Written by tables/generate from tables/wwan.
+//! Wireless WAN links.
 
 ghost use Rattle.linkinfo_peers.specs.declared.wwan.InfoWwan.TheVariants.{Other};
 ghost use Rattle.linkinfo_peers.specs.Wwan.{wwan_attribute, wwan_keeps, wwan_rows};
@@ -16,7 +17,8 @@ use linkinfo_table::{
 use nla_frame::{DecodeError, DefaultNla, ExactEq, Family, Nla, NlaBuffer, Parseable};
 use std::alloc::{AllocError, Global};
 
-/// An attribute in the data of a `wwan` link, a link of a wireless modem.
+/// An attribute in the data of a `wwan` link, a link of a wireless modem
+/// (include/uapi/linux/wwan.h).
 #[derive(Debug, PartialEq, Eq, Drop)]
 pub enum InfoWwan {
     /// Link ID (`IFLA_WWAN_LINK_ID`), little-endian.
@@ -115,7 +117,7 @@ impl FlatFamily for InfoWwan {
     ghost written = { λ _. refl };
 }
 
-/// Reads the attribute. A payload of invalid length is rejected as `(Wwan, 1, Length)`.
+/// Reads the attribute. A payload of invalid length is rejected as `(Wwan, type, Length)`.
 impl<'a> Parseable<NlaBuffer<'a>> for InfoWwan {
     ghost meaning = { table_meaning family.Wwan (λ d. Other d) wwan_rows };
 

@@ -1,3 +1,4 @@
+-- Written by tables/generate from tables/families.
 -- The shape of each attribute, by family and type without flag bits: one table for all families.
 use Rattle.std.specs.Prelude.{ℕ, ◌==◌, if◌then◌else◌, List, [], ◌∷◌, Option, Some, None}
 use Rattle.nla_frame.specs.declared.error.Family.{Family}

@@ -1,3 +1,4 @@
+// Written by tables/generate from tables/families.
 //! The shape of each attribute: one table for all families.
 
 ghost use Rattle.std.specs.Prelude.{◌≡◌};
@@ -76,7 +77,7 @@ pub fn table_shape(family: Family, kind: u16) -> Option<Shape>
     }
 }
 
-/// `IFLA_AMT_*`.
+/// `IFLA_AMT_*` (include/uapi/linux/amt.h).
 #[inline(always)]
 fn amt(kind: u16) -> Option<Shape>
     ensures { result ≡ found amt_rows kind }
@@ -353,8 +354,7 @@ fn rm_net(kind: u16) -> Option<Shape>
     }
 }
 
-/// `VETH_INFO_PEER` (include/uapi/linux/veth.h) and `VXCAN_INFO_PEER`
-/// (include/uapi/linux/can/vxcan.h).
+/// `VETH_INFO_*` (include/uapi/linux/veth.h), and `VXCAN_INFO_*` (include/uapi/linux/can/vxcan.h).
 #[inline(always)]
 fn veth(kind: u16) -> Option<Shape>
     ensures { result ≡ found veth_rows kind }
@@ -365,7 +365,7 @@ fn veth(kind: u16) -> Option<Shape>
     }
 }
 
-/// `IFLA_VRF_*`.
+/// `IFLA_VRF_*`, and `IFLA_VRF_PORT_*`.
 #[inline(always)]
 fn vrf(kind: u16) -> Option<Shape>
     ensures { result ≡ found vrf_rows kind }

@@ -1,15 +1,11 @@
--- The rows of Geneve tunnels.
+-- Written by tables/generate from tables/geneve.
+-- The rows of `geneve` links.
 use Rattle.std.specs.Prelude.{List, [], ◌∷◌, refl}
 use Rattle.std.proofs.Common.{ap}
 use Rattle.nla_frame.specs.Attribute.{Attribute}
 use Rattle.nla_frame.specs.Kept.{attribute_of}
 use Rattle.nla_frame.specs.Pairs.{◌&◌}
-use Rattle.linkinfo_table.specs.FamilyRows.{
-  PlainRow,
-  row,
-  typed,
-  EachKeeps,
-}
+use Rattle.linkinfo_table.specs.FamilyRows.{PlainRow, row, typed, EachKeeps}
 use Rattle.linkinfo_shapes.specs.declared.shape.Shape.TheVariants.{
   Le32,
   GeneveV4,

@@ -1,15 +1,11 @@
--- The rows of GTP tunnels.
+-- Written by tables/generate from tables/gtp.
+-- The rows of `gtp` links.
 use Rattle.std.specs.Prelude.{List, [], ◌∷◌, refl}
 use Rattle.std.proofs.Common.{ap}
 use Rattle.nla_frame.specs.Attribute.{Attribute}
 use Rattle.nla_frame.specs.Kept.{attribute_of}
 use Rattle.nla_frame.specs.Pairs.{◌&◌}
-use Rattle.linkinfo_table.specs.FamilyRows.{
-  PlainRow,
-  row,
-  typed,
-  EachKeeps,
-}
+use Rattle.linkinfo_table.specs.FamilyRows.{PlainRow, row, typed, EachKeeps}
 use Rattle.linkinfo_shapes.specs.declared.shape.Shape.TheVariants.{Le32, Truth, U8, V4, V6}
 use Rattle.linkinfo_numbers.specs.Table.{key-value_of}
 use Rattle.linkinfo_numbers.specs.Gtp.{gtp_role, gtp_role_number, gtp_role_table_holds}

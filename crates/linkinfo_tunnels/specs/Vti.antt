@@ -1,13 +1,9 @@
--- The rows of VTI tunnels.
+-- Written by tables/generate from tables/vti.
+-- The rows of `vti` and `vti6` links.
 use Rattle.std.specs.Prelude.{List, [], ◌∷◌, refl}
 use Rattle.nla_frame.specs.Attribute.{Attribute}
 use Rattle.nla_frame.specs.Kept.{attribute_of}
-use Rattle.linkinfo_table.specs.FamilyRows.{
-  PlainRow,
-  row,
-  typed,
-  EachKeeps,
-}
+use Rattle.linkinfo_table.specs.FamilyRows.{PlainRow, row, typed, EachKeeps}
 use Rattle.linkinfo_shapes.specs.declared.shape.Shape.TheVariants.{Le32, Be32, Ip}
 use Rattle.linkinfo_table.specs.Labels.{each_keeps}
 use Rattle.linkinfo_tunnels.specs.declared.vti.InfoVti.{InfoVti}

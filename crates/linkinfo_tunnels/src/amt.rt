@@ -1,3 +1,4 @@
+// Written by tables/generate from tables/amt.
 //! AMT tunnels.
 
 ghost use Rattle.linkinfo_tunnels.specs.declared.amt.InfoAmt.TheVariants.{Other};

@@ -1,3 +1,4 @@
+// Written by tables/generate from tables/bareudp.
 //! Bare UDP tunnels.
 
 ghost use Rattle.linkinfo_tunnels.specs.declared.bare_udp.InfoBareUdp.TheVariants.{Other};

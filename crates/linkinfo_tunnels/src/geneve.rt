@@ -1,3 +1,4 @@
+// Written by tables/generate from tables/geneve.
 //! Geneve tunnels.
 
 ghost use Rattle.linkinfo_tunnels.specs.declared.geneve.InfoGeneve.TheVariants.{Other};
@@ -166,8 +167,8 @@ impl FlatFamily for InfoGeneve {
     ghost written = { λ _. refl };
 }
 
-/// Reads the attribute. An address of the other IP version is rejected as `(Geneve, type,
-/// AddressKind)`, any other payload of invalid length as `(Geneve, type, Length)`.
+/// Reads the attribute. A payload of invalid length is rejected as `(Geneve, type, Length)`, and an
+/// address of the other IP version as `(Geneve, type, AddressKind)`.
 impl<'a> Parseable<NlaBuffer<'a>> for InfoGeneve {
     ghost meaning = { table_meaning family.Geneve (λ d. Other d) geneve_rows };
 

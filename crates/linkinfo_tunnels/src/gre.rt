@@ -1,3 +1,4 @@
+// Written by tables/generate from tables/gre.
 //! GRE tunnels over IPv4.
 
 ghost use Rattle.linkinfo_tunnels.specs.declared.gre.InfoGre.TheVariants.{Other};

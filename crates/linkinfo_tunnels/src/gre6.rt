@@ -1,3 +1,4 @@
+// Written by tables/generate from tables/gre6.
 //! GRE tunnels over IPv6.
 
 ghost use Rattle.linkinfo_tunnels.specs.declared.gre6.InfoGre6.TheVariants.{Other};

@@ -1,3 +1,4 @@
+// Written by tables/generate from tables/gtp.
 //! GTP tunnels.
 
 ghost use Rattle.linkinfo_tunnels.specs.declared.gtp.InfoGtp.TheVariants.{Other};

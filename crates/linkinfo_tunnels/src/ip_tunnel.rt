@@ -36,6 +36,7 @@ const IFLA_IPTUN_FLAGS: u16 = 8;
 /// (include/uapi/linux/if_tunnel.h).
 #[derive(Debug, PartialEq, Eq, Drop)]
 pub enum InfoIpTunnel {
+    // Begin: written by tables/generate from tables/iptunnel (variants).
     /// Interface index of the underlying device (`IFLA_IPTUN_LINK`), little-endian.
     Link(u32),
     /// Local address (`IFLA_IPTUN_LOCAL`), network byte order.
@@ -81,6 +82,7 @@ pub enum InfoIpTunnel {
     CollectMetadata,
     /// Firewall mark for route lookups (`IFLA_IPTUN_FWMARK`), little-endian.
     FwMark(u32),
+    // End: written by tables/generate.
     /// An opaque attribute, of a type that has no variant here, kept verbatim.
     Other(DefaultNla),
 }
@@ -88,6 +90,7 @@ pub enum InfoIpTunnel {
 macro_rules! rows {
     ($body:ident $given:tt) => {
         $body! { InfoIpTunnel $given;
+            // Begin: written by tables/generate from tables/iptunnel (rows).
             (1, le32, Link),
             (2, ip, Local),
             (3, ip, Remote),
@@ -107,6 +110,7 @@ macro_rules! rows {
             (18, be16, EncapDPort),
             (19, mark, CollectMetadata),
             (20, le32, FwMark),
+            // End: written by tables/generate.
             ; else Ipv4Flags, Ipv6SitFlags, Ipv6Flags
         }
     };

@@ -1,3 +1,4 @@
+// Written by tables/generate from tables/vti.
 //! VTI tunnels.
 
 ghost use Rattle.linkinfo_tunnels.specs.declared.vti.InfoVti.TheVariants.{Other};

@@ -1,3 +1,4 @@
+// Written by tables/generate from tables/vxlan.
 //! VXLAN tunnels.
 
 ghost use Rattle.linkinfo_tunnels.specs.declared.vxlan.InfoVxlan.TheVariants.{Other};

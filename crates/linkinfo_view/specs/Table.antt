@@ -18,6 +18,7 @@ use Rattle.nla_frame.specs.declared.error.Family.TheVariants as family
 use Rattle.linkinfo_view.specs.Lines.{Line, lines}
 use Rattle.linkinfo_view.specs.declared.format.Table.{Table}
 use Rattle.linkinfo_view.specs.declared.format.Table.TheVariants as table
+-- Begin: written by tables/generate from tables/families (imports).
 use Rattle.linkinfo_view.specs.declared.entries.TheConstants.{
   AMT,
   BARE_UDP,
@@ -58,8 +59,11 @@ use Rattle.linkinfo_view.specs.declared.entries.TheConstants.{
   XFRM,
 }
 
+-- End: written by tables/generate.
+
 -- the rows of a family, as `entries.rt` lists them, but for those that it shares with others
 abbrev pub family_rows : Family → List (ℕ × Line)
+-- Begin: written by tables/generate from tables/families (clauses).
 family_rows family.Amt = lines AMT.now
 family_rows family.BareUdp = lines BARE_UDP.now
 family_rows family.BatAdv = lines BAT_ADV.now
@@ -92,6 +96,7 @@ family_rows family.Can = lines CAN.now
 family_rows family.Dsa = lines DSA.now
 family_rows family.Hsr = lines HSR.now
 family_rows family.Tun = lines TUN.now
+-- End: written by tables/generate.
 family_rows _ = []
 
 -- the rows of a table, but for those that it shares with others

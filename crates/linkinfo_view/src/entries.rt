@@ -1,3 +1,4 @@
+// Written by tables/generate from tables/families.
 //! The rows of all tables: how each attribute is shown to people.
 
 use crate::format::{Elements, Flags, Format, Table, Words};
@@ -14,7 +15,7 @@ macro_rules! rows {
     };
 }
 
-/// `IFLA_AMT_*`.
+/// `IFLA_AMT_*` (include/uapi/linux/amt.h).
 pub(crate) const AMT: &[Entry] = rows! {
     (1, "mode", Le32, Word(Words::AmtMode)),
     (2, "relay_port", Be16, Plain),
@@ -226,7 +227,7 @@ pub(crate) const RM_NET: &[Entry] = rows! {
     (2, "flags", FlagPair, Names(Flags::RmNet)),
 };
 
-/// `VETH_INFO_PEER` and `VXCAN_INFO_PEER`.
+/// `VETH_INFO_*` (include/uapi/linux/veth.h), and `VXCAN_INFO_*` (include/uapi/linux/can/vxcan.h).
 pub(crate) const VETH: &[Entry] = rows! {
     (1, "peer", Peer, Plain),
 };

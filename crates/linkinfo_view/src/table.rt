@@ -4,12 +4,14 @@ ghost use Rattle.std.specs.Prelude.{◌≡◌, option_map};
 ghost use Rattle.linkinfo_view.specs.Lines.{line_of, slice_lines};
 ghost use Rattle.linkinfo_view.specs.Table.{family_rows, found, own_rows, row_of, shared_rows};
 
+// Begin: written by tables/generate from tables/families (imports).
 use crate::entries::{
     AMT, BARE_UDP, BAT_ADV, BOND, BOND_AD_INFO, BOND_PORT, BRIDGE, BRIDGE_PORT, BRIDGE_QUERIER,
     CAN, CAN_DELAY, CAN_MODES, CAN_PULSE, DSA, Entry, GENEVE, GRE, GRE6, GTP, HSR, IP_TUNNEL,
     IP_VLAN, IP6_TUNNEL, IPOIB, MAC_SEC, MAC_VLAN, NETKIT, RM_NET, SIT, TUN, TUNNEL, VETH, VLAN,
     VRF, VTI, VXLAN, WWAN, XFRM,
 };
+// End: written by tables/generate.
 use crate::format::{Row, Table};
 use nla_frame::Family;
 
@@ -71,6 +73,7 @@ fn family_rows(family: Family) -> &'static [Entry]
     ensures { slice_lines result.now ≡ family_rows family }
 {
     match family {
+        // Begin: written by tables/generate from tables/families (arms).
         Family::Amt => AMT,
         Family::BareUdp => BARE_UDP,
         Family::BatAdv => BAT_ADV,
@@ -100,6 +103,7 @@ fn family_rows(family: Family) -> &'static [Entry]
         Family::Dsa => DSA,
         Family::Hsr => HSR,
         Family::Tun => TUN,
+        // End: written by tables/generate.
         Family::Frame | Family::LinkInfo | Family::Pfcp | Family::TeamPort | Family::Wireguard =>
             &[],
     }

@@ -11,6 +11,7 @@ use Rattle.nla_frame.specs.declared.to_vec.ToVecError.TheVariants as to_vec
 
 -- the name of a family in lower case
 abbrev pub family_name : Family → List ℕ
+-- Begin: written by tables/generate from tables/families.
 family_name family.Frame = codes "frame"
 family_name family.LinkInfo = codes "linkinfo"
 family_name family.Amt = codes "amt"
@@ -48,6 +49,8 @@ family_name family.Vxlan = codes "vxlan"
 family_name family.Wireguard = codes "wireguard"
 family_name family.Wwan = codes "wwan"
 family_name family.Xfrm = codes "xfrm"
+
+-- End: written by tables/generate.
 
 -- the name of a cause in lower case
 abbrev pub cause_name : Cause → List ℕ

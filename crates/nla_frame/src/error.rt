@@ -17,6 +17,7 @@ use std::fmt;
 /// attributes of one family.
 #[derive(Clone, Copy, Debug, PartialEq, Eq)]
 pub enum Family {
+    // Begin: written by tables/generate from tables/families (variants).
     /// Attribute headers (`struct nlattr`).
     Frame,
     /// The contents of `IFLA_LINKINFO`.
@@ -92,6 +93,7 @@ pub enum Family {
     Wwan,
     /// The data (`IFLA_INFO_DATA`) of `xfrm` links.
     Xfrm,
+    // End: written by tables/generate.
 }
 
 impl Family {
@@ -100,6 +102,7 @@ impl Family {
         ensures { result.now ≡ family_name self }
     {
         match self {
+            // Begin: written by tables/generate from tables/families (names).
             Family::Frame => "frame",
             Family::LinkInfo => "linkinfo",
             Family::Amt => "amt",
@@ -137,6 +140,7 @@ impl Family {
             Family::Wireguard => "wireguard",
             Family::Wwan => "wwan",
             Family::Xfrm => "xfrm",
+            // End: written by tables/generate.
         }
     }
 }

@@ -212,14 +212,42 @@ macro_rules! written_lists {
 
 fn written_data(data: &linkinfo::InfoData, value: &[u8]) {
     written_lists! { data value;
-        InfoDataOf::Amt InfoDataOf::BareUdp InfoDataOf::BatAdv InfoDataOf::Bond
-        InfoDataOf::Bridge InfoDataOf::Can InfoDataOf::Dsa InfoDataOf::ErSpan
-        InfoDataOf::Geneve InfoDataOf::GreTap InfoDataOf::GreTap6 InfoDataOf::GreTun
-        InfoDataOf::GreTun6 InfoDataOf::Gtp InfoDataOf::Hsr InfoDataOf::Ip6ErSpan
-        InfoDataOf::IpTunnel InfoDataOf::IpVlan InfoDataOf::IpVtap InfoDataOf::Ipoib
-        InfoDataOf::MacSec InfoDataOf::MacVlan InfoDataOf::MacVtap InfoDataOf::Netkit
-        InfoDataOf::Pfcp InfoDataOf::RmNet InfoDataOf::Tun InfoDataOf::Vlan InfoDataOf::Vrf
-        InfoDataOf::Vti InfoDataOf::Vxlan InfoDataOf::Wireguard InfoDataOf::Wwan InfoDataOf::Xfrm
+        // Begin: written by tables/generate from tables/kinds.
+        InfoDataOf::Bridge
+        InfoDataOf::Tun
+        InfoDataOf::Vlan
+        InfoDataOf::Vxlan
+        InfoDataOf::Bond
+        InfoDataOf::IpVlan
+        InfoDataOf::IpVtap
+        InfoDataOf::MacVlan
+        InfoDataOf::MacVtap
+        InfoDataOf::GreTap
+        InfoDataOf::GreTap6
+        InfoDataOf::IpTunnel
+        InfoDataOf::GreTun
+        InfoDataOf::GreTun6
+        InfoDataOf::Vti
+        InfoDataOf::Vrf
+        InfoDataOf::Gtp
+        InfoDataOf::Ipoib
+        InfoDataOf::Wireguard
+        InfoDataOf::Xfrm
+        InfoDataOf::MacSec
+        InfoDataOf::Hsr
+        InfoDataOf::Geneve
+        InfoDataOf::Netkit
+        InfoDataOf::Amt
+        InfoDataOf::BatAdv
+        InfoDataOf::BareUdp
+        InfoDataOf::Wwan
+        InfoDataOf::Can
+        InfoDataOf::Dsa
+        InfoDataOf::ErSpan
+        InfoDataOf::Ip6ErSpan
+        InfoDataOf::Pfcp
+        InfoDataOf::RmNet
+        // End: written by tables/generate.
     }
 }
 

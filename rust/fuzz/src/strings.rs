@@ -9,7 +9,8 @@ const IFLA_INFO_SLAVE_KIND: u16 = 4;
 const IFLA_INFO_SLAVE_DATA: u16 = 5;
 
 /// The strings that `IFLA_INFO_KIND` may have, an unknown one and a name that is no kind of link.
-const KINDS: [&str; 49] = [
+const KINDS: &[&str] = &[
+    // Begin: written by tables/generate from tables/kinds.
     "dummy",
     "ifb",
     "bridge",
@@ -56,11 +57,20 @@ const KINDS: [&str; 49] = [
     "ip6erspan",
     "pfcp",
     "rmnet",
+    // End: written by tables/generate.
     "other",
     "",
     "\u{e9}",
 ];
-const PORT_KINDS: [&str; 5] = ["bond", "bridge", "vrf", "team", "other"];
+const PORT_KINDS: &[&str] = &[
+    // Begin: written by tables/generate from tables/ports.
+    "bond",
+    "bridge",
+    "vrf",
+    "team",
+    // End: written by tables/generate.
+    "other",
+];
 
 /// Each word of hex in a text that is a whole number of bytes, and at least a header.
 pub fn of_text(text: &str) -> Vec<Vec<u8>> {
@@ -115,7 +125,7 @@ fn payload(random: &mut Random) -> Vec<u8> {
 /// A list of a kind and of its data, or of a port kind and of its data.
 fn made(random: &mut Random) -> Vec<u8> {
     let is_port = random.once_in(6);
-    let names: &[&str] = if is_port { &PORT_KINDS } else { &KINDS };
+    let names: &[&str] = if is_port { PORT_KINDS } else { KINDS };
     let mut name = random.one(names).as_bytes().to_vec();
     if !random.once_in(4) {
         name.push(0);

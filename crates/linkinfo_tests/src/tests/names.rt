@@ -7,156 +7,39 @@ use std::alloc::Global;
 use std::fmt::Display;
 use std::process::Abort;
 
-/// By family, the beginning of the names in the kernel's headers, and the rest of the names of
-/// types 1, 2, 3 and so on; `-` is a type without a name.
-const FIRST_NAMES: &[(Family, &str, &str)] = &[
-    (Family::Frame, "", "-"),
-    (
-        Family::LinkInfo,
-        "IFLA_INFO_",
-        "KIND DATA XSTATS SLAVE_KIND SLAVE_DATA",
-    ),
-    (
-        Family::Amt,
-        "IFLA_AMT_",
-        "MODE RELAY_PORT GATEWAY_PORT LINK LOCAL_IP REMOTE_IP DISCOVERY_IP MAX_TUNNELS",
-    ),
-    (
-        Family::BareUdp,
-        "IFLA_BAREUDP_",
-        "PORT ETHERTYPE SRCPORT_MIN MULTIPROTO_MODE",
-    ),
-    (Family::BatAdv, "IFLA_BATADV_", "ALGO_NAME"),
-    (Family::Bond, "", "-"),
-    (Family::BondPort, "", "-"),
-    (Family::Bridge, "", "-"),
-    (Family::BridgePort, "", "-"),
-    (Family::Can, "", "-"),
-    (Family::Dsa, "", "-"),
-    (
-        Family::Geneve,
-        "IFLA_GENEVE_",
-        "ID REMOTE TTL TOS PORT COLLECT_METADATA REMOTE6 UDP_CSUM UDP_ZERO_CSUM6_TX \
-         UDP_ZERO_CSUM6_RX LABEL TTL_INHERIT DF INNER_PROTO_INHERIT - - LOCAL LOCAL6",
-    ),
-    (
-        Family::Gre,
-        "IFLA_GRE_",
-        "LINK IFLAGS OFLAGS IKEY OKEY LOCAL REMOTE TTL TOS PMTUDISC - - - ENCAP_TYPE \
-         ENCAP_FLAGS ENCAP_SPORT ENCAP_DPORT COLLECT_METADATA - FWMARK ERSPAN_INDEX \
-         ERSPAN_VER ERSPAN_DIR ERSPAN_HWID",
-    ),
+/// The names of some types, from the kernel's headers: of families that share names, of the first
+/// and the last type of a family, and of types and families without names.
+const NAMES: &[(Family, u16, Option<&str>)] = &[
+    (Family::Frame, 1, None),
+    (Family::LinkInfo, 1, Some("IFLA_INFO_KIND")),
+    (Family::LinkInfo, 5, Some("IFLA_INFO_SLAVE_DATA")),
+    (Family::LinkInfo, 6, None),
+    (Family::Amt, 8, Some("IFLA_AMT_MAX_TUNNELS")),
+    (Family::Bond, 1, None),
+    (Family::Gre, 1, Some("IFLA_GRE_LINK")),
+    (Family::Gre, 11, None),
+    (Family::Gre6, 11, Some("IFLA_GRE_ENCAP_LIMIT")),
+    (Family::IpTunnel, 8, Some("IFLA_IPTUN_FLAGS")),
+    (Family::IpVtap, 2, Some("IFLA_IPVLAN_FLAGS")),
+    (Family::MacVtap, 5, Some("IFLA_MACVLAN_MACADDR_DATA")),
+    (Family::Veth, 1, Some("VETH_INFO_PEER")),
+    (Family::Vrf, 1, Some("IFLA_VRF_TABLE")),
+    (Family::Vxcan, 1, Some("VXCAN_INFO_PEER")),
+    (Family::Vxlan, 0, None),
+    (Family::Vxlan, 34, Some("IFLA_VXLAN_MC_ROUTE")),
+    (Family::Vxlan, u16::MAX, None),
 ];
-
-/// The names of further families, as in `FIRST_NAMES`.
-const MIDDLE_NAMES: &[(Family, &str, &str)] = &[
-    (
-        Family::Gre6,
-        "IFLA_GRE_",
-        "LINK IFLAGS OFLAGS IKEY OKEY LOCAL REMOTE TTL TOS - ENCAP_LIMIT FLOWINFO - \
-         ENCAP_TYPE ENCAP_FLAGS ENCAP_SPORT ENCAP_DPORT COLLECT_METADATA - FWMARK \
-         ERSPAN_INDEX ERSPAN_VER ERSPAN_DIR ERSPAN_HWID",
-    ),
-    (
-        Family::Gtp,
-        "IFLA_GTP_",
-        "FD0 FD1 PDP_HASHSIZE ROLE CREATE_SOCKETS RESTART_COUNT LOCAL LOCAL6",
-    ),
-    (Family::Hsr, "", "-"),
-    (
-        Family::IpTunnel,
-        "IFLA_IPTUN_",
-        "LINK LOCAL REMOTE TTL TOS ENCAP_LIMIT FLOWINFO FLAGS PROTO PMTUDISC 6RD_PREFIX \
-         6RD_RELAY_PREFIX 6RD_PREFIXLEN 6RD_RELAY_PREFIXLEN ENCAP_TYPE ENCAP_FLAGS \
-         ENCAP_SPORT ENCAP_DPORT COLLECT_METADATA FWMARK",
-    ),
-    (Family::IpVlan, "IFLA_IPVLAN_", "MODE FLAGS"),
-    (Family::IpVtap, "IFLA_IPVLAN_", "MODE FLAGS"),
-    (Family::Ipoib, "IFLA_IPOIB_", "PKEY MODE UMCAST"),
-    (
-        Family::MacSec,
-        "IFLA_MACSEC_",
-        "SCI PORT ICV_LEN CIPHER_SUITE WINDOW ENCODING_SA ENCRYPT PROTECT INC_SCI ES SCB \
-         REPLAY_PROTECT VALIDATION - OFFLOAD",
-    ),
-    (
-        Family::MacVlan,
-        "IFLA_MACVLAN_",
-        "MODE FLAGS MACADDR_MODE MACADDR MACADDR_DATA MACADDR_COUNT BC_QUEUE_LEN \
-         BC_QUEUE_LEN_USED BC_CUTOFF",
-    ),
-    (
-        Family::MacVtap,
-        "IFLA_MACVLAN_",
-        "MODE FLAGS MACADDR_MODE MACADDR MACADDR_DATA MACADDR_COUNT BC_QUEUE_LEN \
-         BC_QUEUE_LEN_USED BC_CUTOFF",
-    ),
-    (
-        Family::Netkit,
-        "IFLA_NETKIT_",
-        "PEER_INFO PRIMARY POLICY PEER_POLICY MODE SCRUB PEER_SCRUB HEADROOM TAILROOM",
-    ),
-    (Family::Pfcp, "", "-"),
-];
-
-/// The names of the last families, as in `FIRST_NAMES`.
-const NAMES: &[(Family, &str, &str)] = &[
-    (Family::RmNet, "IFLA_RMNET_", "MUX_ID FLAGS"),
-    (Family::TeamPort, "", "-"),
-    (Family::Tun, "", "-"),
-    (Family::Veth, "VETH_INFO_", "PEER"),
-    (Family::Vlan, "", "-"),
-    (Family::Vrf, "IFLA_VRF_", "TABLE"),
-    (
-        Family::Vti,
-        "IFLA_VTI_",
-        "LINK IKEY OKEY LOCAL REMOTE FWMARK",
-    ),
-    (Family::Vxcan, "VXCAN_INFO_", "PEER"),
-    (
-        Family::Vxlan,
-        "IFLA_VXLAN_",
-        "ID GROUP LINK LOCAL TTL TOS LEARNING AGEING LIMIT PORT_RANGE PROXY RSC L2MISS L3MISS \
-         PORT GROUP6 LOCAL6 UDP_CSUM UDP_ZERO_CSUM6_TX UDP_ZERO_CSUM6_RX REMCSUM_TX \
-         REMCSUM_RX GBP REMCSUM_NOPARTIAL COLLECT_METADATA LABEL GPE TTL_INHERIT DF VNIFILTER \
-         LOCALBYPASS LABEL_POLICY RESERVED_BITS MC_ROUTE",
-    ),
-    (Family::Wireguard, "", "-"),
-    (Family::Wwan, "IFLA_WWAN_", "LINK_ID"),
-    (Family::Xfrm, "IFLA_XFRM_", "LINK IF_ID"),
-];
-
-/// Asserts that the name of a type is the prefix and this rest, or that the type has no name.
-fn assert_name(rt: &impl Abort, family: Family, kind: u16, prefix: &str, rest: Option<&str>) {
-    let name = attribute_name(family, kind);
-    let found = name.and_then(|name| name.strip_prefix(prefix));
-    assert_equal(rt, &(family, kind), &name.is_some(), &rest.is_some());
-    assert_equal(rt, &(family, kind), &found, &rest);
-}
-
-/// Asserts the names of the types of a family, as in `FIRST_NAMES`.
-fn assert_names(rt: &impl Abort, family: Family, prefix: &str, names: &str) {
-    assert_name(rt, family, 0, prefix, None);
-    assert_name(rt, family, u16::MAX, prefix, None);
-    let mut names = names.split(' ');
-    for kind in 1..=40 {
-        let rest = names.next().filter(|name| *name != "-");
-        assert_name(rt, family, kind, prefix, rest);
-    }
-}
-
-/// Asserts the names of each family, as in `FIRST_NAMES`.
-fn assert_all_names(rt: &impl Abort, rows: &[(Family, &str, &str)]) {
-    for (family, prefix, names) in rows {
-        assert_names(rt, *family, prefix, names);
-    }
-}
 
 #[test]
-fn has_each_name(rt: HostRuntime) {
-    assert_all_names(&rt, FIRST_NAMES);
-    assert_all_names(&rt, MIDDLE_NAMES);
-    assert_all_names(&rt, NAMES);
+fn has_names(rt: HostRuntime) {
+    for (family, kind, name) in NAMES {
+        assert_equal(
+            &rt,
+            &(*family, *kind),
+            &attribute_name(*family, *kind),
+            name,
+        );
+    }
 }
 
 /// Asserts that a value is displayed as the text.

@@ -55,17 +55,20 @@ fn data_name(family: DataFamily) -> Option<Family> {
 
 fn lower_name(family: LowerFamily) -> Family {
     match family {
+        // Begin: written by tables/generate from tables/kinds (lower).
         LowerFamily::Bridge => Family::Bridge,
         LowerFamily::Vlan => Family::Vlan,
         LowerFamily::Bond => Family::Bond,
         LowerFamily::Hsr => Family::Hsr,
         LowerFamily::Can => Family::Can,
         LowerFamily::Dsa => Family::Dsa,
+        // End: written by tables/generate.
     }
 }
 
 fn device_name(family: DeviceFamily) -> Family {
     match family {
+        // Begin: written by tables/generate from tables/kinds (device).
         DeviceFamily::IpVlan => Family::IpVlan,
         DeviceFamily::IpVtap => Family::IpVtap,
         DeviceFamily::MacVlan(_) => Family::MacVlan,
@@ -75,11 +78,13 @@ fn device_name(family: DeviceFamily) -> Family {
         DeviceFamily::Xfrm => Family::Xfrm,
         DeviceFamily::MacSec => Family::MacSec,
         DeviceFamily::RmNet => Family::RmNet,
+        // End: written by tables/generate.
     }
 }
 
 fn tunnel_name(family: TunnelFamily) -> Family {
     match family {
+        // Begin: written by tables/generate from tables/kinds (tunnel).
         TunnelFamily::Vxlan => Family::Vxlan,
         TunnelFamily::GreTap | TunnelFamily::GreTun | TunnelFamily::ErSpan => Family::Gre,
         TunnelFamily::GreTap6 | TunnelFamily::GreTun6 | TunnelFamily::Ip6ErSpan => Family::Gre6,
@@ -89,11 +94,13 @@ fn tunnel_name(family: TunnelFamily) -> Family {
         TunnelFamily::Geneve => Family::Geneve,
         TunnelFamily::Amt => Family::Amt,
         TunnelFamily::BareUdp => Family::BareUdp,
+        // End: written by tables/generate.
     }
 }
 
 fn peered_name(family: PeeredFamily) -> Family {
     match family {
+        // Begin: written by tables/generate from tables/kinds (peered).
         PeeredFamily::Tun => Family::Tun,
         PeeredFamily::Veth => Family::Veth,
         PeeredFamily::Wireguard => Family::Wireguard,
@@ -102,6 +109,7 @@ fn peered_name(family: PeeredFamily) -> Family {
         PeeredFamily::BatAdv => Family::BatAdv,
         PeeredFamily::Wwan => Family::Wwan,
         PeeredFamily::Pfcp => Family::Pfcp,
+        // End: written by tables/generate.
     }
 }
 

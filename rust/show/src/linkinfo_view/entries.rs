@@ -1,5 +1,6 @@
 // @generated from crates/linkinfo_view/src/entries.rt by rust/translate/run.
 
+// Written by tables/generate from tables/families.
 //! The rows of all tables: how each attribute is shown to people.
 
 use crate::linkinfo_view::format::{Elements, Flags, Format, Table, Words};
@@ -16,7 +17,7 @@ macro_rules! rows {
     };
 }
 
-/// `IFLA_AMT_*`.
+/// `IFLA_AMT_*` (include/uapi/linux/amt.h).
 pub(crate) const AMT: &[Entry] = rows! {
     (1, "mode", Le32, Word(Words::AmtMode)),
     (2, "relay_port", Be16, Plain),
@@ -228,7 +229,7 @@ pub(crate) const RM_NET: &[Entry] = rows! {
     (2, "flags", FlagPair, Names(Flags::RmNet)),
 };
 
-/// `VETH_INFO_PEER` and `VXCAN_INFO_PEER`.
+/// `VETH_INFO_*` (include/uapi/linux/veth.h), and `VXCAN_INFO_*` (include/uapi/linux/can/vxcan.h).
 pub(crate) const VETH: &[Entry] = rows! {
     (1, "peer", Peer, Plain),
 };

@@ -2,12 +2,14 @@
 
 //! The row of each type, by table.
 
+// Begin: written by tables/generate from tables/families (imports).
 use crate::linkinfo_view::entries::{
     AMT, BARE_UDP, BAT_ADV, BOND, BOND_AD_INFO, BOND_PORT, BRIDGE, BRIDGE_PORT, BRIDGE_QUERIER,
     CAN, CAN_DELAY, CAN_MODES, CAN_PULSE, DSA, Entry, GENEVE, GRE, GRE6, GTP, HSR, IP_TUNNEL,
     IP_VLAN, IP6_TUNNEL, IPOIB, MAC_SEC, MAC_VLAN, NETKIT, RM_NET, SIT, TUN, TUNNEL, VETH, VLAN,
     VRF, VTI, VXLAN, WWAN, XFRM,
 };
+// End: written by tables/generate.
 use crate::linkinfo_view::format::{Row, Table};
 use linkinfo::layers::nla_frame::Family;
 
@@ -58,6 +60,7 @@ fn shared_rows(table: Table) -> &'static [Entry] {
 /// The rows of a family, but for those that it shares with others.
 fn family_rows(family: Family) -> &'static [Entry] {
     match family {
+        // Begin: written by tables/generate from tables/families (arms).
         Family::Amt => AMT,
         Family::BareUdp => BARE_UDP,
         Family::BatAdv => BAT_ADV,
@@ -87,6 +90,7 @@ fn family_rows(family: Family) -> &'static [Entry] {
         Family::Dsa => DSA,
         Family::Hsr => HSR,
         Family::Tun => TUN,
+        // End: written by tables/generate.
         Family::Frame | Family::LinkInfo | Family::Pfcp | Family::TeamPort | Family::Wireguard => {
             &[]
         }

@@ -40,6 +40,7 @@ impl ExactEq for DataFamily {}
 #[must_use]
 pub fn family_of(tag: KindTag) -> DataFamily {
     match tag {
+        // Begin: written by tables/generate from tables/kinds.
         KindTag::Bridge => DataFamily::Lower(LowerFamily::Bridge),
         KindTag::Tun => DataFamily::Peered(PeeredFamily::Tun),
         KindTag::Vlan => DataFamily::Lower(LowerFamily::Vlan),
@@ -78,6 +79,7 @@ pub fn family_of(tag: KindTag) -> DataFamily {
         KindTag::Ip6ErSpan => DataFamily::Tunnel(TunnelFamily::Ip6ErSpan),
         KindTag::Pfcp => DataFamily::Peered(PeeredFamily::Pfcp),
         KindTag::RmNet => DataFamily::Device(DeviceFamily::RmNet),
+        // End: written by tables/generate.
         _ => DataFamily::Raw,
     }
 }

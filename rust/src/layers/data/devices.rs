@@ -6,10 +6,13 @@ use crate::layers::data::ask::Ask;
 use crate::layers::data::calls::{ask, read};
 use crate::layers::data::info_data::InfoDataOf;
 use crate::layers::data::payload_family::PayloadFamily;
+// Begin: written by tables/generate from tables/kinds (types).
 use crate::layers::devices::{
     InfoIpVlan, InfoIpVtap, InfoIpoib, InfoMacSec, InfoMacVlan, InfoMacVtap, InfoRmNet, InfoVrf,
-    InfoXfrm, LIST_TYPE, MOST_LISTS,
+    InfoXfrm,
 };
+// End: written by tables/generate.
+use crate::layers::devices::{LIST_TYPE, MOST_LISTS};
 use crate::layers::nla_frame::{DecodeError, ExactEq, Family, HeaderCount};
 use crate::layers::table::LinkPeer;
 
@@ -17,6 +20,7 @@ use crate::layers::table::LinkPeer;
 /// links.
 #[derive(Clone, Copy, Debug, PartialEq, Eq, Hash, PartialOrd, Ord)]
 pub enum DeviceFamily {
+    // Begin: written by tables/generate from tables/kinds (variants).
     /// Attributes of `ipvlan` links (`IFLA_IPVLAN_*`).
     IpVlan,
     /// Attributes of `ipvtap` links (`IFLA_IPVLAN_*`).
@@ -37,6 +41,7 @@ pub enum DeviceFamily {
     MacSec,
     /// Attributes of `rmnet` links (`IFLA_RMNET_*`).
     RmNet,
+    // End: written by tables/generate.
 }
 
 impl ExactEq for DeviceFamily {}
@@ -45,6 +50,7 @@ impl ExactEq for DeviceFamily {}
 macro_rules! of_device {
     ($family:expr, $call:ident $given:tt) => {
         match $family {
+            // Begin: written by tables/generate from tables/kinds (calls).
             DeviceFamily::IpVlan => $call!(list(InfoDataOf::IpVlan, InfoIpVlan, ()) $given),
             DeviceFamily::IpVtap => $call!(list(InfoDataOf::IpVtap, InfoIpVtap, ()) $given),
             DeviceFamily::MacVlan(n) => $call!(list(InfoDataOf::MacVlan, InfoMacVlan, n) $given),
@@ -54,6 +60,7 @@ macro_rules! of_device {
             DeviceFamily::Xfrm => $call!(list(InfoDataOf::Xfrm, InfoXfrm, ()) $given),
             DeviceFamily::MacSec => $call!(list(InfoDataOf::MacSec, InfoMacSec, ()) $given),
             DeviceFamily::RmNet => $call!(list(InfoDataOf::RmNet, InfoRmNet, ()) $given),
+            // End: written by tables/generate.
         }
     };
 }
@@ -61,6 +68,7 @@ macro_rules! of_device {
 impl<P: LinkPeer> PayloadFamily<InfoDataOf<P>> for DeviceFamily {
     fn listing(self) -> Option<Family> {
         match self {
+            // Begin: written by tables/generate from tables/kinds (listing).
             DeviceFamily::IpVlan => Some(Family::IpVlan),
             DeviceFamily::IpVtap => Some(Family::IpVtap),
             DeviceFamily::MacVlan(_) => Some(Family::MacVlan),
@@ -70,6 +78,7 @@ impl<P: LinkPeer> PayloadFamily<InfoDataOf<P>> for DeviceFamily {
             DeviceFamily::Xfrm => Some(Family::Xfrm),
             DeviceFamily::MacSec => Some(Family::MacSec),
             DeviceFamily::RmNet => Some(Family::RmNet),
+            // End: written by tables/generate.
         }
     }
 

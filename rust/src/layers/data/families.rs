@@ -2,10 +2,14 @@
 
 //! Specifications of the attributes of each family without a peer, a line a family.
 
+// End: written by tables/generate.
+
 /// The specification of the attributes of each family without a peer. For `ipip`, `ip6tnl` and
 /// `sit` links it depends on the tag of the kind.
 #[doc(hidden)]
-pub trait PlainFamilies {}
+pub trait PlainFamilies {
+    // End: written by tables/generate.
+}
 
 /// The type that implements [`PlainFamilies`]. Only specifications name it: no call takes or
 /// returns it.
@@ -14,4 +18,6 @@ pub trait PlainFamilies {}
 #[doc(hidden)]
 pub struct Plain;
 
-impl PlainFamilies for Plain {}
+impl PlainFamilies for Plain {
+    // End: written by tables/generate.
+}

@@ -5,97 +5,107 @@
 use crate::layers::data::data::family_of;
 use crate::layers::data::encode::{Encode, FitLen, Write};
 use crate::layers::data::payload_family::PayloadFamily;
+// Begin: written by tables/generate from tables/kinds (device).
 use crate::layers::devices::{
     InfoIpVlan, InfoIpVtap, InfoIpoib, InfoMacSec, InfoMacVlan, InfoMacVtap, InfoRmNet, InfoVrf,
     InfoXfrm,
 };
-use crate::layers::nla_frame::{Bytes, DecodeError, ExactEq, HeaderCount, Nla, Nlas};
+// End: written by tables/generate.
 use crate::layers::numbers::{IFLA_INFO_DATA, InfoKind};
+// Begin: written by tables/generate from tables/kinds (peered).
 use crate::layers::peers::{
     InfoBatAdv, InfoNetkitOf, InfoPfcp, InfoTun, InfoVethOf, InfoVxcanOf, InfoWireguard, InfoWwan,
 };
+// End: written by tables/generate.
 use crate::layers::table::LinkPeer;
+// Begin: written by tables/generate from tables/kinds (lower).
 use crate::layers::table::lower::{InfoBond, InfoBridge, InfoCan, InfoDsa, InfoHsr, InfoVlan};
+// End: written by tables/generate.
+// Begin: written by tables/generate from tables/kinds (tunnel).
 use crate::layers::tunnels::{
     InfoAmt, InfoBareUdp, InfoGeneve, InfoGre, InfoGre6, InfoGtp, InfoIpTunnel, InfoVti, InfoVxlan,
 };
+// End: written by tables/generate.
+use crate::layers::nla_frame::{Bytes, DecodeError, ExactEq, HeaderCount, Nla, Nlas};
 
 /// The data of a link (`IFLA_INFO_DATA`): the attributes of its kind's family, or bytes if the kind
 /// has no family. Peers have the type `P`.
 #[derive(Debug, PartialEq, Eq, Hash, PartialOrd, Ord, Clone)]
 pub enum InfoDataOf<P> {
-    /// Attributes of a `bridge` link (`IFLA_BR_*`), kept verbatim.
+    // Begin: written by tables/generate from tables/kinds (variants).
+    /// Attributes of `bridge` links (`IFLA_BR_*`), kept verbatim.
     Bridge(Nlas<InfoBridge>),
-    /// Attributes of a `tun` link (`IFLA_TUN_*`), kept verbatim.
+    /// Attributes of `tun` links (`IFLA_TUN_*`), kept verbatim.
     Tun(Nlas<InfoTun>),
-    /// Attributes of a `vlan` link (`IFLA_VLAN_*`), kept verbatim.
+    /// Attributes of `vlan` links (`IFLA_VLAN_*`), kept verbatim.
     Vlan(Nlas<InfoVlan>),
-    /// The attribute of a `veth` link (`VETH_INFO_*`): the first one of its data.
+    /// The attribute of `veth` links (`VETH_INFO_*`): the first one of their data.
     Veth(InfoVethOf<P>),
-    /// Attributes of a `vxlan` link (`IFLA_VXLAN_*`).
+    /// Attributes of `vxlan` links (`IFLA_VXLAN_*`).
     Vxlan(Nlas<InfoVxlan>),
-    /// Attributes of a `bond` link (`IFLA_BOND_*`), kept verbatim.
+    /// Attributes of `bond` links (`IFLA_BOND_*`), kept verbatim.
     Bond(Nlas<InfoBond>),
-    /// Attributes of an `ipvlan` link (`IFLA_IPVLAN_*`).
+    /// Attributes of `ipvlan` links (`IFLA_IPVLAN_*`).
     IpVlan(Nlas<InfoIpVlan>),
-    /// Attributes of an `ipvtap` link (`IFLA_IPVLAN_*`).
+    /// Attributes of `ipvtap` links (`IFLA_IPVLAN_*`).
     IpVtap(Nlas<InfoIpVtap>),
-    /// Attributes of a `macvlan` link (`IFLA_MACVLAN_*`).
+    /// Attributes of `macvlan` links (`IFLA_MACVLAN_*`).
     MacVlan(Nlas<InfoMacVlan>),
-    /// Attributes of a `macvtap` link (`IFLA_MACVLAN_*`).
+    /// Attributes of `macvtap` links (`IFLA_MACVLAN_*`).
     MacVtap(Nlas<InfoMacVtap>),
-    /// Attributes of a `gretap` link (`IFLA_GRE_*`).
+    /// Attributes of `gretap` links (`IFLA_GRE_*`).
     GreTap(Nlas<InfoGre>),
-    /// Attributes of an `ip6gretap` link (`IFLA_GRE_*`).
+    /// Attributes of `ip6gretap` links (`IFLA_GRE_*`).
     GreTap6(Nlas<InfoGre6>),
-    /// Attributes of an `ipip`, `ip6tnl` or `sit` link (`IFLA_IPTUN_*`).
+    /// Attributes of `ipip`, `ip6tnl` and `sit` links (`IFLA_IPTUN_*`).
     IpTunnel(Nlas<InfoIpTunnel>),
-    /// Attributes of a `gre` link (`IFLA_GRE_*`).
+    /// Attributes of `gre` links (`IFLA_GRE_*`).
     GreTun(Nlas<InfoGre>),
-    /// Attributes of an `ip6gre` link (`IFLA_GRE_*`).
+    /// Attributes of `ip6gre` links (`IFLA_GRE_*`).
     GreTun6(Nlas<InfoGre6>),
-    /// Attributes of a `vti` or `vti6` link (`IFLA_VTI_*`).
+    /// Attributes of `vti` and `vti6` links (`IFLA_VTI_*`).
     Vti(Nlas<InfoVti>),
-    /// Attributes of a `vrf` link (`IFLA_VRF_*`).
+    /// Attributes of `vrf` links (`IFLA_VRF_*`).
     Vrf(Nlas<InfoVrf>),
-    /// Attributes of a `gtp` link (`IFLA_GTP_*`).
+    /// Attributes of `gtp` links (`IFLA_GTP_*`).
     Gtp(Nlas<InfoGtp>),
-    /// Attributes of an `ipoib` link (`IFLA_IPOIB_*`).
+    /// Attributes of `ipoib` links (`IFLA_IPOIB_*`).
     Ipoib(Nlas<InfoIpoib>),
-    /// Attributes of a `wireguard` link, kept verbatim.
+    /// Attributes of `wireguard` links, kept verbatim.
     Wireguard(Nlas<InfoWireguard>),
-    /// Attributes of an `xfrm` link (`IFLA_XFRM_*`).
+    /// Attributes of `xfrm` links (`IFLA_XFRM_*`).
     Xfrm(Nlas<InfoXfrm>),
-    /// Attributes of a `macsec` link (`IFLA_MACSEC_*`).
+    /// Attributes of `macsec` links (`IFLA_MACSEC_*`).
     MacSec(Nlas<InfoMacSec>),
-    /// Attributes of an `hsr` link (`IFLA_HSR_*`), kept verbatim.
+    /// Attributes of `hsr` links (`IFLA_HSR_*`), kept verbatim.
     Hsr(Nlas<InfoHsr>),
-    /// Attributes of a `geneve` link (`IFLA_GENEVE_*`).
+    /// Attributes of `geneve` links (`IFLA_GENEVE_*`).
     Geneve(Nlas<InfoGeneve>),
-    /// Attributes of a `netkit` link (`IFLA_NETKIT_*`).
+    /// Attributes of `netkit` links (`IFLA_NETKIT_*`).
     Netkit(Nlas<InfoNetkitOf<P>>),
-    /// The attribute of a `vxcan` link (`VXCAN_INFO_*`): the first one of its data.
+    /// The attribute of `vxcan` links (`VXCAN_INFO_*`): the first one of their data.
     Vxcan(InfoVxcanOf<P>),
-    /// Attributes of an `amt` link (`IFLA_AMT_*`).
+    /// Attributes of `amt` links (`IFLA_AMT_*`).
     Amt(Nlas<InfoAmt>),
-    /// Attributes of a `batadv` link (`IFLA_BATADV_*`).
+    /// Attributes of `batadv` links (`IFLA_BATADV_*`).
     BatAdv(Nlas<InfoBatAdv>),
-    /// Attributes of a `bareudp` link (`IFLA_BAREUDP_*`).
+    /// Attributes of `bareudp` links (`IFLA_BAREUDP_*`).
     BareUdp(Nlas<InfoBareUdp>),
-    /// Attributes of a `wwan` link (`IFLA_WWAN_*`).
+    /// Attributes of `wwan` links (`IFLA_WWAN_*`).
     Wwan(Nlas<InfoWwan>),
-    /// Attributes of a `can` link (`IFLA_CAN_*`), kept verbatim.
+    /// Attributes of `can` links (`IFLA_CAN_*`), kept verbatim.
     Can(Nlas<InfoCan>),
-    /// Attributes of a `dsa` link (`IFLA_DSA_*`), kept verbatim.
+    /// Attributes of `dsa` links (`IFLA_DSA_*`), kept verbatim.
     Dsa(Nlas<InfoDsa>),
-    /// Attributes of an `erspan` link (`IFLA_GRE_*`).
+    /// Attributes of `erspan` links (`IFLA_GRE_*`).
     ErSpan(Nlas<InfoGre>),
-    /// Attributes of an `ip6erspan` link (`IFLA_GRE_*`).
+    /// Attributes of `ip6erspan` links (`IFLA_GRE_*`).
     Ip6ErSpan(Nlas<InfoGre6>),
-    /// Attributes of a `pfcp` link, kept verbatim.
+    /// Attributes of `pfcp` links, kept verbatim.
     Pfcp(Nlas<InfoPfcp>),
-    /// Attributes of an `rmnet` link (`IFLA_RMNET_*`).
+    /// Attributes of `rmnet` links (`IFLA_RMNET_*`).
     RmNet(Nlas<InfoRmNet>),
+    // End: written by tables/generate.
     /// The bytes of the data of a link whose kind has no family.
     Other(Bytes),
 }
@@ -123,6 +133,7 @@ impl<P: LinkPeer> InfoDataOf<P> {
     /// Encodes the data: the encodings of the attributes, one after another, or the bytes.
     fn encode<E: Encode>(&self, encode: E, buffer: &mut [u8]) -> E::Answer {
         match self {
+            // Begin: written by tables/generate from tables/kinds (encoding).
             InfoDataOf::Bridge(list) => encode.list(list, buffer),
             InfoDataOf::Tun(list) => encode.list(list, buffer),
             InfoDataOf::Vlan(list) => encode.list(list, buffer),
@@ -159,6 +170,7 @@ impl<P: LinkPeer> InfoDataOf<P> {
             InfoDataOf::Ip6ErSpan(list) => encode.list(list, buffer),
             InfoDataOf::Pfcp(list) => encode.list(list, buffer),
             InfoDataOf::RmNet(list) => encode.list(list, buffer),
+            // End: written by tables/generate.
             InfoDataOf::Other(bytes) => encode.bytes(bytes.as_slice(), buffer),
         }
     }

@@ -6,16 +6,19 @@ use crate::layers::data::ask::Ask;
 use crate::layers::data::calls::{ask, read};
 use crate::layers::data::info_data::InfoDataOf;
 use crate::layers::data::payload_family::PayloadFamily;
-use crate::layers::nla_frame::{DecodeError, ExactEq, Family, HeaderCount};
+// Begin: written by tables/generate from tables/kinds (types).
 use crate::layers::peers::{
     InfoBatAdv, InfoNetkitOf, InfoPfcp, InfoTun, InfoVethOf, InfoVxcanOf, InfoWireguard, InfoWwan,
 };
+// End: written by tables/generate.
+use crate::layers::nla_frame::{DecodeError, ExactEq, Family, HeaderCount};
 use crate::layers::table::LinkPeer;
 
 /// The families of data of links with a peer (veth, vxcan and netkit), and of tun, wireguard,
 /// batadv, wwan and pfcp links.
 #[derive(Clone, Copy, Debug, PartialEq, Eq, Hash, PartialOrd, Ord)]
 pub enum PeeredFamily {
+    // Begin: written by tables/generate from tables/kinds (variants).
     /// Attributes of `tun` links (`IFLA_TUN_*`), kept verbatim.
     Tun,
     /// The attribute of `veth` links (`VETH_INFO_*`): the first one of their data.
@@ -32,6 +35,7 @@ pub enum PeeredFamily {
     Wwan,
     /// Attributes of `pfcp` links, kept verbatim.
     Pfcp,
+    // End: written by tables/generate.
 }
 
 impl ExactEq for PeeredFamily {}
@@ -40,6 +44,7 @@ impl ExactEq for PeeredFamily {}
 macro_rules! of_peered {
     ($family:expr, $call:ident $given:tt) => {
         match $family {
+            // Begin: written by tables/generate from tables/kinds (calls).
             PeeredFamily::Tun => $call!(list(InfoDataOf::Tun, InfoTun, ()) $given),
             PeeredFamily::Veth => $call!(first(InfoDataOf::Veth, InfoVethOf<P>, ()) $given),
             PeeredFamily::Wireguard => {
@@ -50,6 +55,7 @@ macro_rules! of_peered {
             PeeredFamily::BatAdv => $call!(list(InfoDataOf::BatAdv, InfoBatAdv, ()) $given),
             PeeredFamily::Wwan => $call!(list(InfoDataOf::Wwan, InfoWwan, ()) $given),
             PeeredFamily::Pfcp => $call!(list(InfoDataOf::Pfcp, InfoPfcp, ()) $given),
+            // End: written by tables/generate.
         }
     };
 }
@@ -57,6 +63,7 @@ macro_rules! of_peered {
 impl<P: LinkPeer> PayloadFamily<InfoDataOf<P>> for PeeredFamily {
     fn listing(self) -> Option<Family> {
         match self {
+            // Begin: written by tables/generate from tables/kinds (listing).
             PeeredFamily::Tun => Some(Family::Tun),
             PeeredFamily::Veth => None,
             PeeredFamily::Wireguard => Some(Family::Wireguard),
@@ -65,6 +72,7 @@ impl<P: LinkPeer> PayloadFamily<InfoDataOf<P>> for PeeredFamily {
             PeeredFamily::BatAdv => Some(Family::BatAdv),
             PeeredFamily::Wwan => Some(Family::Wwan),
             PeeredFamily::Pfcp => Some(Family::Pfcp),
+            // End: written by tables/generate.
         }
     }
 

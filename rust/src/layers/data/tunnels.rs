@@ -6,16 +6,19 @@ use crate::layers::data::ask::Ask;
 use crate::layers::data::calls::{ask, read};
 use crate::layers::data::info_data::InfoDataOf;
 use crate::layers::data::payload_family::PayloadFamily;
-use crate::layers::nla_frame::{DecodeError, ExactEq, Family, HeaderCount};
 use crate::layers::numbers::KindTag;
 use crate::layers::table::LinkPeer;
+// Begin: written by tables/generate from tables/kinds (types).
 use crate::layers::tunnels::{
     InfoAmt, InfoBareUdp, InfoGeneve, InfoGre, InfoGre6, InfoGtp, InfoIpTunnel, InfoVti, InfoVxlan,
 };
+// End: written by tables/generate.
+use crate::layers::nla_frame::{DecodeError, ExactEq, Family, HeaderCount};
 
 /// The families of data of tunnels.
 #[derive(Clone, Copy, Debug, PartialEq, Eq, Hash, PartialOrd, Ord)]
 pub enum TunnelFamily {
+    // Begin: written by tables/generate from tables/kinds (variants).
     /// Attributes of `vxlan` links (`IFLA_VXLAN_*`).
     Vxlan,
     /// Attributes of `gretap` links (`IFLA_GRE_*`).
@@ -42,6 +45,7 @@ pub enum TunnelFamily {
     ErSpan,
     /// Attributes of `ip6erspan` links (`IFLA_GRE_*`).
     Ip6ErSpan,
+    // End: written by tables/generate.
 }
 
 impl ExactEq for TunnelFamily {}
@@ -50,6 +54,7 @@ impl ExactEq for TunnelFamily {}
 macro_rules! of_tunnel {
     ($family:expr, $call:ident $given:tt) => {
         match $family {
+            // Begin: written by tables/generate from tables/kinds (calls).
             TunnelFamily::Vxlan => $call!(list(InfoDataOf::Vxlan, InfoVxlan, ()) $given),
             TunnelFamily::GreTap => $call!(list(InfoDataOf::GreTap, InfoGre, ()) $given),
             TunnelFamily::GreTap6 => $call!(list(InfoDataOf::GreTap6, InfoGre6, ()) $given),
@@ -65,6 +70,7 @@ macro_rules! of_tunnel {
             TunnelFamily::BareUdp => $call!(list(InfoDataOf::BareUdp, InfoBareUdp, ()) $given),
             TunnelFamily::ErSpan => $call!(list(InfoDataOf::ErSpan, InfoGre, ()) $given),
             TunnelFamily::Ip6ErSpan => $call!(list(InfoDataOf::Ip6ErSpan, InfoGre6, ()) $given),
+            // End: written by tables/generate.
         }
     };
 }
@@ -72,6 +78,7 @@ macro_rules! of_tunnel {
 impl<P: LinkPeer> PayloadFamily<InfoDataOf<P>> for TunnelFamily {
     fn listing(self) -> Option<Family> {
         match self {
+            // Begin: written by tables/generate from tables/kinds (listing).
             TunnelFamily::Vxlan => Some(Family::Vxlan),
             TunnelFamily::GreTap => Some(Family::Gre),
             TunnelFamily::GreTap6 => Some(Family::Gre6),
@@ -85,6 +92,7 @@ impl<P: LinkPeer> PayloadFamily<InfoDataOf<P>> for TunnelFamily {
             TunnelFamily::BareUdp => Some(Family::BareUdp),
             TunnelFamily::ErSpan => Some(Family::Gre),
             TunnelFamily::Ip6ErSpan => Some(Family::Gre6),
+            // End: written by tables/generate.
         }
     }
 

@@ -1,5 +1,6 @@
 // @generated from crates/linkinfo_devices/src/ipoib.rt by rust/translate/run.
 
+// Written by tables/generate from tables/ipoib.
 //! IP over InfiniBand.
 
 use crate::compat::AllocError;

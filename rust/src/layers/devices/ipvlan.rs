@@ -22,10 +22,12 @@ use bitflags::Flags;
 /// [`Family::IpVlan`]: crate::layers::nla_frame::Family::IpVlan
 #[derive(Debug, PartialEq, Eq, Hash, PartialOrd, Ord, Clone)]
 pub enum InfoIpVlanOf<const TAP: bool> {
+    // Begin: written by tables/generate from tables/ipvlan (variants).
     /// Mode: `l2`, `l3` or `l3s` (`IFLA_IPVLAN_MODE`), little-endian.
     Mode(IpVlanMode),
     /// Flags `private` and `vepa` (`IFLA_IPVLAN_FLAGS`), little-endian.
     Flags(IpVlanFlags),
+    // End: written by tables/generate.
     /// An opaque attribute, of a type that has no variant here, kept verbatim.
     Other(DefaultNla),
 }
@@ -46,8 +48,10 @@ const fn family_of(tap: bool) -> Family {
 macro_rules! rows {
     ($body:ident $given:tt) => {
         $body! { InfoIpVlanOf $given;
+            // Begin: written by tables/generate from tables/ipvlan (rows).
             (1, le16, Mode as IpVlanMode),
             (2, le16, Flags as flags IpVlanFlags),
+            // End: written by tables/generate.
         }
     };
 }

@@ -6,6 +6,7 @@
 macro_rules! mac_rows {
     ($family:ident $body:ident $given:tt) => {
         $body! { $family $given;
+            // Begin: written by tables/generate from tables/macvlan (rows).
             (1, le32, Mode as MacVlanMode),
             (2, le16, Flags as flags MacVlanFlags),
             (3, le32, MacAddrMode as MacVlanMacAddressMode),
@@ -15,6 +16,7 @@ macro_rules! mac_rows {
             (7, le32, BcQueueLen),
             (8, le32, BcQueueLenUsed),
             (9, i32, BcCutoff),
+            // End: written by tables/generate.
         }
     };
 }

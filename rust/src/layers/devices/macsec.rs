@@ -1,5 +1,6 @@
 // @generated from crates/linkinfo_devices/src/macsec.rt by rust/translate/run.
 
+// Written by tables/generate from tables/macsec.
 //! MACsec interfaces.
 
 use crate::compat::AllocError;

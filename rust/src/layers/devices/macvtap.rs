@@ -26,6 +26,7 @@ use bitflags::Flags;
 /// (include/uapi/linux/if_link.h).
 #[derive(Debug, PartialEq, Eq, Hash, PartialOrd, Ord, Clone)]
 pub enum InfoMacVtap {
+    // Begin: written by tables/generate from tables/macvlan (variants).
     /// Mode (`IFLA_MACVLAN_MODE`), little-endian.
     Mode(MacVlanMode),
     /// Flags (`IFLA_MACVLAN_FLAGS`), little-endian.
@@ -48,6 +49,7 @@ pub enum InfoMacVtap {
     /// Broadcast queueing threshold in devices, -1 to disable the queue (`IFLA_MACVLAN_BC_CUTOFF`),
     /// little-endian.
     BcCutoff(i32),
+    // End: written by tables/generate.
     /// An opaque attribute, of a type that has no variant here, kept verbatim.
     Other(DefaultNla),
 }

@@ -1,5 +1,6 @@
 // @generated from crates/linkinfo_devices/src/rmnet.rt by rust/translate/run.
 
+// Written by tables/generate from tables/rmnet.
 //! Links of kind `rmnet`.
 
 use crate::compat::AllocError;

@@ -1,7 +1,7 @@
 // @generated from crates/linkinfo_devices/src/vrf.rt by rust/translate/run.
 
-//! Virtual routing and forwarding: `IFLA_VRF_*`, and `IFLA_VRF_PORT_*` of its ports
-//! (include/uapi/linux/if_link.h).
+// Written by tables/generate from tables/vrf.
+//! Virtual routing and forwarding.
 
 use crate::compat::AllocError;
 use crate::layers::nla_frame::{
@@ -12,7 +12,8 @@ use crate::layers::table::{
     row_emit_value, row_fit_len, row_kind, row_read, row_value_len, store_by_rows, table_lookup,
 };
 
-/// An attribute in the data of a `vrf` link, or in the data of its ports.
+/// An attribute in the data of a `vrf` link, or in the data of its ports
+/// (include/uapi/linux/if_link.h).
 #[derive(Debug, PartialEq, Eq, Hash, PartialOrd, Ord, Clone)]
 pub enum InfoVrf {
     /// Routing table ID (`IFLA_VRF_TABLE`, and `IFLA_VRF_PORT_TABLE` of a port), little-endian.

@@ -1,6 +1,7 @@
 // @generated from crates/linkinfo_devices/src/xfrm.rt by rust/translate/run.
 
-//! XFRM interfaces: `IFLA_XFRM_*` (include/uapi/linux/if_link.h).
+// Written by tables/generate from tables/xfrm.
+//! XFRM interfaces.
 
 use crate::compat::AllocError;
 use crate::layers::nla_frame::{
@@ -11,7 +12,8 @@ use crate::layers::table::{
     row_emit_value, row_fit_len, row_kind, row_read, row_value_len, store_by_rows, table_lookup,
 };
 
-/// An attribute in the data of an `xfrm` link, an XFRM (IPsec) interface.
+/// An attribute in the data of an `xfrm` link, an XFRM (IPsec) interface
+/// (include/uapi/linux/if_link.h).
 #[derive(Debug, PartialEq, Eq, Hash, PartialOrd, Ord, Clone)]
 pub enum InfoXfrm {
     /// Interface index of the underlying device (`IFLA_XFRM_LINK`), little-endian.

@@ -1,5 +1,6 @@
 // @generated from crates/linkinfo_names/src/entries.rt by rust/translate/run.
 
+// Written by tables/generate from tables/families.
 //! The kernel's names of the attributes of each family.
 
 /// A row: the type without flag bits, and the name, of at most 31 bytes.
@@ -34,7 +35,7 @@ pub(crate) const BARE_UDP: &[Entry] = &[
     (4, "IFLA_BAREUDP_MULTIPROTO_MODE"),
 ];
 
-/// `IFLA_BATADV_*` (include/uapi/linux/batman_adv.h).
+/// `IFLA_BATADV_*`.
 pub(crate) const BAT_ADV: &[Entry] = &[(1, "IFLA_BATADV_ALGO_NAME")];
 
 /// `IFLA_GENEVE_*`.

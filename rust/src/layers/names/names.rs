@@ -2,10 +2,12 @@
 
 //! The name that the kernel gives to each type of attribute.
 
+// Begin: written by tables/generate from tables/families (imports).
 use crate::layers::names::entries::{
     AMT, BARE_UDP, BAT_ADV, Entry, GENEVE, GRE, GRE6, GTP, IP_TUNNEL, IP_VLAN, IPOIB, LINK_INFO,
     MAC_SEC, MAC_VLAN, NETKIT, RM_NET, VETH, VRF, VTI, VXCAN, VXLAN, WWAN, XFRM,
 };
+// End: written by tables/generate.
 use crate::layers::nla_frame::Family;
 
 /// The kernel's name of a type of attributes, as `IFLA_VXLAN_ID`: at most 31 bytes.
@@ -33,6 +35,7 @@ fn name_among(rows: &[Entry], kind: u16) -> Option<&'static str> {
 /// The names of a family, by type.
 fn family_names(family: Family) -> &'static [Entry] {
     match family {
+        // Begin: written by tables/generate from tables/families (arms).
         Family::LinkInfo => LINK_INFO,
         Family::Amt => AMT,
         Family::BareUdp => BARE_UDP,
@@ -68,5 +71,6 @@ fn family_names(family: Family) -> &'static [Entry] {
         | Family::Tun
         | Family::Vlan
         | Family::Wireguard => &[],
+        // End: written by tables/generate.
     }
 }

@@ -10,6 +10,7 @@ use core::fmt;
 /// attributes of one family.
 #[derive(Clone, Copy, Debug, PartialEq, Eq, Hash, PartialOrd, Ord)]
 pub enum Family {
+    // Begin: written by tables/generate from tables/families (variants).
     /// Attribute headers (`struct nlattr`).
     Frame,
     /// The contents of `IFLA_LINKINFO`.
@@ -85,6 +86,7 @@ pub enum Family {
     Wwan,
     /// The data (`IFLA_INFO_DATA`) of `xfrm` links.
     Xfrm,
+    // End: written by tables/generate.
 }
 
 impl Family {
@@ -92,6 +94,7 @@ impl Family {
     #[must_use]
     pub fn name(self) -> &'static str {
         match self {
+            // Begin: written by tables/generate from tables/families (names).
             Family::Frame => "frame",
             Family::LinkInfo => "linkinfo",
             Family::Amt => "amt",
@@ -129,6 +132,7 @@ impl Family {
             Family::Wireguard => "wireguard",
             Family::Wwan => "wwan",
             Family::Xfrm => "xfrm",
+            // End: written by tables/generate.
         }
     }
 }

@@ -1,5 +1,6 @@
 // @generated from crates/linkinfo_numbers/src/amt.rt by rust/translate/run.
 
+// Written by tables/generate from tables/numbers/amt.
 //! AMT tunnels.
 
 use crate::layers::nla_frame::{DecodeError, ExactEq, Family};

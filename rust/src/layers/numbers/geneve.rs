@@ -1,5 +1,6 @@
 // @generated from crates/linkinfo_numbers/src/geneve.rt by rust/translate/run.
 
+// Written by tables/generate from tables/numbers/geneve.
 //! Geneve tunnels.
 
 use crate::layers::nla_frame::{DecodeError, ExactEq, Family};

@@ -1,5 +1,6 @@
 // @generated from crates/linkinfo_numbers/src/gre.rt by rust/translate/run.
 
+// Written by tables/generate from tables/numbers/gre.
 //! GRE tunnels.
 
 use crate::layers::nla_frame::ExactEq;

@@ -1,5 +1,6 @@
 // @generated from crates/linkinfo_numbers/src/gtp.rt by rust/translate/run.
 
+// Written by tables/generate from tables/numbers/gtp.
 //! GTP tunnels.
 
 use crate::layers::nla_frame::ExactEq;

@@ -1,5 +1,6 @@
 // @generated from crates/linkinfo_numbers/src/ip.rt by rust/translate/run.
 
+// Written by tables/generate from tables/numbers/ip.
 //! Protocols carried in IP packets.
 
 use crate::layers::nla_frame::ExactEq;
@@ -8,11 +9,11 @@ use crate::layers::numbers::by_values::{number_of_value, value_of_number};
 /// The protocol number of an IP packet, one byte (include/uapi/linux/in.h).
 #[derive(Clone, Copy, Debug, PartialEq, Eq, Hash, PartialOrd, Ord)]
 pub enum IpProtocol {
-    /// `IPPROTO_IPIP` (4): IPv4 in IP.
+    /// `IPPROTO_IPIP`: IPv4 in IP.
     Ipip,
-    /// `IPPROTO_IPV6` (41): IPv6 in IP.
+    /// `IPPROTO_IPV6`: IPv6 in IP.
     Ipv6,
-    /// `IPPROTO_MPLS` (137): MPLS in IP.
+    /// `IPPROTO_MPLS`: MPLS in IP.
     Mpls,
     /// Any number without a name.
     Other(u8),

@@ -1,8 +1,10 @@
 // @generated from crates/linkinfo_numbers/src/ipoib.rt by rust/translate/run.
 
+// Written by tables/generate from tables/numbers/ipoib.
 //! IP over InfiniBand.
 
 use crate::layers::nla_frame::ExactEq;
+use crate::layers::numbers::by_values::{number_of_value, value_of_number};
 
 /// The mode of an IPoIB interface: `IFLA_IPOIB_MODE`, a little-endian 16-bit number
 /// (include/uapi/linux/if_link.h).
@@ -16,23 +18,24 @@ pub enum IpoibMode {
     Other(u16),
 }
 
+macro_rules! modes {
+    ($body:ident $given:tt) => {
+        $body! { IpoibMode $given;
+            (Datagram, 0),
+            (Connected, 1),
+        }
+    };
+}
+
 impl From<u16> for IpoibMode {
     fn from(number: u16) -> IpoibMode {
-        match number {
-            0 => IpoibMode::Datagram,
-            1 => IpoibMode::Connected,
-            _ => IpoibMode::Other(number),
-        }
+        modes!(value_of_number number)
     }
 }
 
 impl From<IpoibMode> for u16 {
     fn from(mode: IpoibMode) -> u16 {
-        match mode {
-            IpoibMode::Datagram => 0,
-            IpoibMode::Connected => 1,
-            IpoibMode::Other(number) => number,
-        }
+        modes!(number_of_value mode)
     }
 }
 

@@ -1,5 +1,6 @@
 // @generated from crates/linkinfo_numbers/src/ipvlan.rt by rust/translate/run.
 
+// Written by tables/generate from tables/numbers/ipvlan.
 //! IPVLAN and IPVTAP links.
 
 use crate::layers::nla_frame::{DecodeError, ExactEq, Family};
@@ -112,8 +113,12 @@ impl Default for IpVlanFlags {
 
 impl ExactEq for IpVlanFlags {}
 
-/// The mode of an `ipvtap` link; it has the values of an `ipvlan` link.
+/// Another name of [`IpVlanMode`].
+///
+/// [`IpVlanMode`]: crate::layers::numbers::IpVlanMode
 pub type IpVtapMode = IpVlanMode;
 
-/// The flags of an `ipvtap` link; they are those of an `ipvlan` link.
+/// Another name of [`IpVlanFlags`].
+///
+/// [`IpVlanFlags`]: crate::layers::numbers::IpVlanFlags
 pub type IpVtapFlags = IpVlanFlags;

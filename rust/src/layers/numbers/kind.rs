@@ -12,6 +12,7 @@ use core::fmt;
 /// The kind of a link: `IFLA_INFO_KIND`, the name of its driver (include/uapi/linux/if_link.h).
 #[derive(Debug, PartialEq, Eq, Hash, PartialOrd, Ord, Clone)]
 pub enum InfoKind {
+    // Begin: written by tables/generate from tables/kinds (variants).
     /// `dummy`: a dummy interface.
     Dummy,
     /// `ifb`: an Intermediate Functional Block device.
@@ -30,7 +31,7 @@ pub enum InfoKind {
     Vxlan,
     /// `bond`: a bonding device.
     Bond,
-    /// `ipvlan`: a virtual interface with the MAC address of its lower device.
+    /// `ipvlan`: an interface with the MAC address of its lower device.
     IpVlan,
     /// `ipvtap`: a TAP device on an IPVLAN interface.
     IpVtap,
@@ -104,6 +105,7 @@ pub enum InfoKind {
     Pfcp,
     /// `rmnet`: an rmnet device on a Qualcomm modem.
     RmNet,
+    // End: written by tables/generate.
     /// Every other name.
     Other(Text),
 }
@@ -112,6 +114,7 @@ pub enum InfoKind {
 macro_rules! kinds {
     ($body:ident $given:tt) => {
         $body! { InfoKind KindTag $given;
+            // Begin: written by tables/generate from tables/kinds (names).
             (Dummy, "dummy"),
             (Ifb, "ifb"),
             (Bridge, "bridge"),
@@ -158,6 +161,7 @@ macro_rules! kinds {
             (Ip6ErSpan, "ip6erspan"),
             (Pfcp, "pfcp"),
             (RmNet, "rmnet"),
+            // End: written by tables/generate.
         }
     };
 }

@@ -1,5 +1,6 @@
 // @generated from crates/linkinfo_numbers/src/macsec.rt by rust/translate/run.
 
+// Written by tables/generate from tables/numbers/macsec.
 //! MACsec links.
 
 use crate::layers::nla_frame::ExactEq;

@@ -1,5 +1,6 @@
 // @generated from crates/linkinfo_numbers/src/macvlan.rt by rust/translate/run.
 
+// Written by tables/generate from tables/numbers/macvlan.
 //! MACVLAN and MACVTAP links.
 
 use crate::layers::nla_frame::{DecodeError, ExactEq, Family};
@@ -150,12 +151,17 @@ impl KeepsEveryBit for MacVlanFlags {}
 
 impl ExactEq for MacVlanFlags {}
 
-/// The mode of a `macvtap` link; it has the values of a `macvlan` link.
+/// Another name of [`MacVlanMode`].
+///
+/// [`MacVlanMode`]: crate::layers::numbers::MacVlanMode
 pub type MacVtapMode = MacVlanMode;
 
-/// The flags of a `macvtap` link; they are those of a `macvlan` link.
-pub type MacVtapFlags = MacVlanFlags;
-
-/// How a request changes the source MAC addresses of a `macvtap` link; the values are those of a
-/// `macvlan` link.
+/// Another name of [`MacVlanMacAddressMode`].
+///
+/// [`MacVlanMacAddressMode`]: crate::layers::numbers::MacVlanMacAddressMode
 pub type MacVtapMacAddressMode = MacVlanMacAddressMode;
+
+/// Another name of [`MacVlanFlags`].
+///
+/// [`MacVlanFlags`]: crate::layers::numbers::MacVlanFlags
+pub type MacVtapFlags = MacVlanFlags;

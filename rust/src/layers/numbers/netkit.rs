@@ -10,6 +10,7 @@ use crate::layers::numbers::word::word_error;
 use core::fmt;
 use core::str::FromStr;
 
+// Begin: written by tables/generate from tables/numbers/netkit.
 /// The layer at which a netkit pair operates: `IFLA_NETKIT_MODE`, a little-endian 32-bit number
 /// (include/uapi/linux/if_link.h).
 #[derive(Clone, Copy, Debug, PartialEq, Eq, Hash, PartialOrd, Ord)]
@@ -74,11 +75,6 @@ pub enum NetkitPolicy {
     Other(u32),
 }
 
-impl NetkitPolicy {
-    /// `NETKIT_PASS` by the name that `ip link` and `Display` give it.
-    pub const Forward: NetkitPolicy = NetkitPolicy::Pass;
-}
-
 macro_rules! policies {
     ($body:ident $given:tt) => {
         $body! { NetkitPolicy $given;
@@ -117,6 +113,12 @@ impl FromStr for NetkitPolicy {
 }
 
 impl ExactEq for NetkitPolicy {}
+// End: written by tables/generate.
+
+impl NetkitPolicy {
+    /// `NETKIT_PASS` by the name that `ip link` and `Display` give it.
+    pub const Forward: NetkitPolicy = NetkitPolicy::Pass;
+}
 
 /// Whether a netkit link clears the mark and priority of a packet that changes the network
 /// namespace: `IFLA_NETKIT_SCRUB` and `IFLA_NETKIT_PEER_SCRUB`, a little-endian 32-bit number

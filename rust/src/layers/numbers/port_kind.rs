@@ -14,6 +14,7 @@ use core::fmt;
 /// port of (include/uapi/linux/if_link.h).
 #[derive(Clone, Debug, PartialEq, Eq, Hash, PartialOrd, Ord)]
 pub enum InfoPortKind {
+    // Begin: written by tables/generate from tables/ports (variants).
     /// `bond`: a port of a bonding device.
     Bond,
     /// `bridge`: a port of an Ethernet bridge.
@@ -22,6 +23,7 @@ pub enum InfoPortKind {
     Vrf,
     /// `team`: a port of a team device.
     Team,
+    // End: written by tables/generate.
     /// Every other name.
     Other(Text),
 }
@@ -30,10 +32,12 @@ pub enum InfoPortKind {
 macro_rules! port_kinds {
     ($body:ident $given:tt) => {
         $body! { InfoPortKind PortTag $given;
+            // Begin: written by tables/generate from tables/ports (names).
             (Bond, "bond"),
             (Bridge, "bridge"),
             (Vrf, "vrf"),
             (Team, "team"),
+            // End: written by tables/generate.
         }
     };
 }

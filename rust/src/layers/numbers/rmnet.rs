@@ -6,6 +6,7 @@ use crate::layers::nla_frame::ExactEq;
 use crate::layers::numbers::flags::KeepsEveryBit;
 use bitflags::{Flag, Flags};
 
+// Begin: written by tables/generate from tables/numbers/rmnet.
 /// The flags of an `rmnet` link: `flags` and `mask` of `struct ifla_rmnet_flags`, little-endian
 /// 32-bit numbers (include/uapi/linux/if_link.h). Every 32-bit number is a valid set.
 #[derive(Clone, Copy, Debug, PartialEq, Eq, Hash, PartialOrd, Ord)]
@@ -58,6 +59,7 @@ impl Flags for RmNetFlags {
 impl KeepsEveryBit for RmNetFlags {}
 
 impl ExactEq for RmNetFlags {}
+// End: written by tables/generate.
 
 /// `struct ifla_rmnet_flags`: flags, and the mask of those to change.
 #[derive(Clone, Copy, Debug, PartialEq, Eq, Hash, PartialOrd, Ord)]

@@ -1,5 +1,6 @@
 // @generated from crates/linkinfo_numbers/src/vxlan.rt by rust/translate/run.
 
+// Written by tables/generate from tables/numbers/vxlan.
 //! VXLAN tunnels.
 
 use crate::layers::nla_frame::ExactEq;

@@ -1,6 +1,7 @@
 // @generated from crates/linkinfo_peers/src/batadv.rt by rust/translate/run.
 
-//! B.A.T.M.A.N. Advanced links: `IFLA_BATADV_*` (include/uapi/linux/batman_adv.h).
+// Written by tables/generate from tables/batadv.
+//! B.A.T.M.A.N. Advanced links.
 
 use crate::compat::AllocError;
 use crate::layers::nla_frame::{
@@ -11,7 +12,8 @@ use crate::layers::table::{
     row_emit_value, row_fit_len, row_kind, row_read, row_value_len, store_by_rows, table_lookup,
 };
 
-/// An attribute in the data of a `batadv` link, a B.A.T.M.A.N. Advanced mesh interface.
+/// An attribute in the data of a `batadv` link, a B.A.T.M.A.N. Advanced mesh interface
+/// (include/uapi/linux/batman_adv.h).
 #[derive(Debug, PartialEq, Eq, Hash, PartialOrd, Ord, Clone)]
 pub enum InfoBatAdv {
     /// Name of the routing algorithm (`IFLA_BATADV_ALGO_NAME`), with one closing zero byte.

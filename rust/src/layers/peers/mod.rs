@@ -3,7 +3,11 @@
 //! Attributes of `veth`, `vxcan` and `netkit` links, each with a user-supplied type of peer. Also
 //! those of `wwan`, `batadv`, `tun`, `wireguard` and `pfcp` links, and of ports of a `team`.
 
+// Begin: written by tables/generate from tables/families (modules).
 mod batadv;
+mod wwan;
+// End: written by tables/generate.
+
 mod bit;
 mod netkit;
 mod opaque;
@@ -12,12 +16,14 @@ mod peer_canonical;
 mod peer_family;
 mod veth;
 mod vxcan;
-mod wwan;
 
+// Begin: written by tables/generate from tables/families (types).
 pub use batadv::InfoBatAdv;
+pub use wwan::InfoWwan;
+// End: written by tables/generate.
+
 pub use bit::BitPeer;
 pub use netkit::{InfoNetkit, InfoNetkitOf};
 pub use opaque::{InfoPfcp, InfoTeamPort, InfoTun, InfoWireguard};
 pub use veth::{InfoVeth, InfoVethOf};
 pub use vxcan::{InfoVxcan, InfoVxcanOf};
-pub use wwan::InfoWwan;

@@ -21,6 +21,7 @@ use crate::layers::table::{
 /// An attribute in the data of a `netkit` link, with a peer of type `P`.
 #[derive(Debug, PartialEq, Eq, Hash, PartialOrd, Ord, Clone)]
 pub enum InfoNetkitOf<P> {
+    // Begin: written by tables/generate from tables/netkit (variants).
     /// The peer of the pair (`IFLA_NETKIT_PEER_INFO`).
     Peer(P),
     /// Whether this is the primary device of the pair (`IFLA_NETKIT_PRIMARY`), one byte.
@@ -39,6 +40,7 @@ pub enum InfoNetkitOf<P> {
     Headroom(u16),
     /// Tailroom after each packet in bytes (`IFLA_NETKIT_TAILROOM`), little-endian.
     Tailroom(u16),
+    // End: written by tables/generate.
     /// An opaque attribute, of a type that has no variant here, kept verbatim.
     Other(DefaultNla),
 }
@@ -49,6 +51,7 @@ pub type InfoNetkit = InfoNetkitOf<Bytes>;
 macro_rules! rows {
     ($body:ident $given:tt) => {
         $body! { InfoNetkitOf $given;
+            // Begin: written by tables/generate from tables/netkit (rows).
             (1, custom, Peer),
             (2, truth, Primary),
             (3, le32, Policy as NetkitPolicy),
@@ -58,6 +61,7 @@ macro_rules! rows {
             (7, scrub, PeerScrub by scrub_of, is_by_default),
             (8, le16, Headroom),
             (9, le16, Tailroom),
+            // End: written by tables/generate.
         }
     };
 }

@@ -19,8 +19,10 @@ use crate::layers::table::{
 /// An attribute in the data of a `vxcan` link, with a peer of type `P`.
 #[derive(Debug, PartialEq, Eq, Hash, PartialOrd, Ord, Clone)]
 pub enum InfoVxcanOf<P> {
+    // Begin: written by tables/generate from tables/veth (variants).
     /// The peer of the pair (`VXCAN_INFO_PEER`).
     Peer(P),
+    // End: written by tables/generate.
     /// An opaque attribute, of a type that has no variant here, kept verbatim.
     Other(DefaultNla),
 }

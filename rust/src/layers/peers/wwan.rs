@@ -1,6 +1,7 @@
 // @generated from crates/linkinfo_peers/src/wwan.rt by rust/translate/run.
 
-//! Wireless WAN links: `IFLA_WWAN_*` (include/uapi/linux/wwan.h).
+// Written by tables/generate from tables/wwan.
+//! Wireless WAN links.
 
 use crate::compat::AllocError;
 use crate::layers::nla_frame::{
@@ -11,7 +12,8 @@ use crate::layers::table::{
     row_emit_value, row_fit_len, row_kind, row_read, row_value_len, store_by_rows, table_lookup,
 };
 
-/// An attribute in the data of a `wwan` link, a link of a wireless modem.
+/// An attribute in the data of a `wwan` link, a link of a wireless modem
+/// (include/uapi/linux/wwan.h).
 #[derive(Debug, PartialEq, Eq, Hash, PartialOrd, Ord, Clone)]
 pub enum InfoWwan {
     /// Link ID (`IFLA_WWAN_LINK_ID`), little-endian.
@@ -82,7 +84,7 @@ impl Nla for InfoWwan {
 
 impl FlatFamily for InfoWwan {}
 
-/// Reads the attribute. A payload of invalid length is rejected as `(Wwan, 1, Length)`.
+/// Reads the attribute. A payload of invalid length is rejected as `(Wwan, type, Length)`.
 impl<'a> Parseable<NlaBuffer<'a>> for InfoWwan {
     #[inline]
     fn parse(buffer: &NlaBuffer<'a>) -> Result<InfoWwan, DecodeError> {

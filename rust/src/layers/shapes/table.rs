@@ -1,5 +1,6 @@
 // @generated from crates/linkinfo_shapes/src/table.rt by rust/translate/run.
 
+// Written by tables/generate from tables/families.
 //! The shape of each attribute: one table for all families.
 
 use crate::layers::nla_frame::Family;
@@ -56,7 +57,7 @@ pub fn table_shape(family: Family, kind: u16) -> Option<Shape> {
     }
 }
 
-/// `IFLA_AMT_*`.
+/// `IFLA_AMT_*` (include/uapi/linux/amt.h).
 #[inline(always)]
 fn amt(kind: u16) -> Option<Shape> {
     match kind {
@@ -305,8 +306,7 @@ fn rm_net(kind: u16) -> Option<Shape> {
     }
 }
 
-/// `VETH_INFO_PEER` (include/uapi/linux/veth.h) and `VXCAN_INFO_PEER`
-/// (include/uapi/linux/can/vxcan.h).
+/// `VETH_INFO_*` (include/uapi/linux/veth.h), and `VXCAN_INFO_*` (include/uapi/linux/can/vxcan.h).
 #[inline(always)]
 fn veth(kind: u16) -> Option<Shape> {
     match kind {
@@ -315,7 +315,7 @@ fn veth(kind: u16) -> Option<Shape> {
     }
 }
 
-/// `IFLA_VRF_*`.
+/// `IFLA_VRF_*`, and `IFLA_VRF_PORT_*`.
 #[inline(always)]
 fn vrf(kind: u16) -> Option<Shape> {
     match kind {

@@ -1,5 +1,6 @@
 // @generated from crates/linkinfo_tunnels/src/amt.rt by rust/translate/run.
 
+// Written by tables/generate from tables/amt.
 //! AMT tunnels.
 
 use crate::compat::AllocError;

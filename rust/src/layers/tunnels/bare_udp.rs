@@ -1,5 +1,6 @@
 // @generated from crates/linkinfo_tunnels/src/bare_udp.rt by rust/translate/run.
 
+// Written by tables/generate from tables/bareudp.
 //! Bare UDP tunnels.
 
 use crate::compat::AllocError;

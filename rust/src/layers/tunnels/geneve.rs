@@ -1,5 +1,6 @@
 // @generated from crates/linkinfo_tunnels/src/geneve.rt by rust/translate/run.
 
+// Written by tables/generate from tables/geneve.
 //! Geneve tunnels.
 
 use crate::compat::AllocError;
@@ -133,8 +134,8 @@ impl Nla for InfoGeneve {
 
 impl FlatFamily for InfoGeneve {}
 
-/// Reads the attribute. An address of the other IP version is rejected as `(Geneve, type,
-/// AddressKind)`, any other payload of invalid length as `(Geneve, type, Length)`.
+/// Reads the attribute. A payload of invalid length is rejected as `(Geneve, type, Length)`, and an
+/// address of the other IP version as `(Geneve, type, AddressKind)`.
 impl<'a> Parseable<NlaBuffer<'a>> for InfoGeneve {
     #[inline]
     fn parse(buffer: &NlaBuffer<'a>) -> Result<InfoGeneve, DecodeError> {

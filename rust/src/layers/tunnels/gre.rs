@@ -1,5 +1,6 @@
 // @generated from crates/linkinfo_tunnels/src/gre.rt by rust/translate/run.
 
+// Written by tables/generate from tables/gre.
 //! GRE tunnels over IPv4.
 
 use crate::compat::AllocError;

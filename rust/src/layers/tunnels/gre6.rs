@@ -1,5 +1,6 @@
 // @generated from crates/linkinfo_tunnels/src/gre6.rt by rust/translate/run.
 
+// Written by tables/generate from tables/gre6.
 //! GRE tunnels over IPv6.
 
 use crate::compat::AllocError;

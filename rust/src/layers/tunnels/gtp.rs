@@ -1,5 +1,6 @@
 // @generated from crates/linkinfo_tunnels/src/gtp.rt by rust/translate/run.
 
+// Written by tables/generate from tables/gtp.
 //! GTP tunnels.
 
 use crate::compat::AllocError;

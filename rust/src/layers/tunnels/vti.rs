@@ -1,5 +1,6 @@
 // @generated from crates/linkinfo_tunnels/src/vti.rt by rust/translate/run.
 
+// Written by tables/generate from tables/vti.
 //! VTI tunnels.
 
 use crate::compat::AllocError;

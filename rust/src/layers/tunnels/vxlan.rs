@@ -1,5 +1,6 @@
 // @generated from crates/linkinfo_tunnels/src/vxlan.rt by rust/translate/run.
 
+// Written by tables/generate from tables/vxlan.
 //! VXLAN tunnels.
 
 use crate::compat::AllocError;

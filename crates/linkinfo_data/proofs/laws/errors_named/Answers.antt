@@ -6,12 +6,25 @@ use Rattle.linkinfo_table.specs.UnnestedFamily.{first_named, list_named}
 use Rattle.linkinfo_peers.specs.Veth.{veth_lawful}
 use Rattle.linkinfo_peers.specs.Vxcan.{vxcan_lawful}
 use Rattle.linkinfo_peers.specs.PeerMembers.{netkit_members, veth_members, vxcan_members}
-use Rattle.linkinfo_data.proofs.Lawful.{amt_names, bare_udp_names, batadv_names, geneve_names}
-use Rattle.linkinfo_data.proofs.Lawful.{gre6_names, gre_names, gtp_names, ip_tunnel_names}
-use Rattle.linkinfo_data.proofs.Lawful.{ip_vlan_names, ipoib_names, mac_sec_names}
-use Rattle.linkinfo_data.proofs.Lawful.{mac_vlan_names, mac_vtap_names, opaque_names}
-use Rattle.linkinfo_data.proofs.Lawful.{rm_net_names, vrf_names}
-use Rattle.linkinfo_data.proofs.Lawful.{vti_names, vxlan_names, wwan_names, xfrm_names}
+use Rattle.linkinfo_data.proofs.Lawful.{ip_tunnel_names, ip_vlan_names, mac_vlan_names}
+use Rattle.linkinfo_data.proofs.Lawful.{mac_vtap_names, opaque_names}
+-- Begin: written by tables/generate from tables/kinds (imports).
+use Rattle.linkinfo_data.proofs.Lawful.{vrf_names}
+use Rattle.linkinfo_data.proofs.Lawful.{ipoib_names}
+use Rattle.linkinfo_data.proofs.Lawful.{xfrm_names}
+use Rattle.linkinfo_data.proofs.Lawful.{mac_sec_names}
+use Rattle.linkinfo_data.proofs.Lawful.{rm_net_names}
+use Rattle.linkinfo_data.proofs.Lawful.{vxlan_names}
+use Rattle.linkinfo_data.proofs.Lawful.{gre_names}
+use Rattle.linkinfo_data.proofs.Lawful.{gre6_names}
+use Rattle.linkinfo_data.proofs.Lawful.{vti_names}
+use Rattle.linkinfo_data.proofs.Lawful.{gtp_names}
+use Rattle.linkinfo_data.proofs.Lawful.{geneve_names}
+use Rattle.linkinfo_data.proofs.Lawful.{amt_names}
+use Rattle.linkinfo_data.proofs.Lawful.{bare_udp_names}
+use Rattle.linkinfo_data.proofs.Lawful.{bat_adv_names}
+use Rattle.linkinfo_data.proofs.Lawful.{wwan_names}
+-- End: written by tables/generate.
 use Rattle.linkinfo_data.proofs.laws.errors_named.Goals as goal
 use Rattle.linkinfo_data.specs.Data.{data_of}
 use Rattle.linkinfo_data.specs.DeviceData.{devices_data_of}
@@ -47,6 +60,7 @@ returns g c =
     let means : DataFamily → Payload (InfoDataOf g.row.P.Denot) = data_of peer in
     let lower_ones : (f : LowerFamily) →
     ErrorsName (lower_name f) (lower_data_of {P = g.row.P.Denot} f) = elim [
+      -- Begin: written by tables/generate from tables/kinds (lower).
       | lower.Bridge ↦ list_errors_name family.Bridge plain.bridge (λ xs. info.Bridge xs)
           (opaque_names family.Bridge)
       | lower.Vlan ↦ list_errors_name family.Vlan plain.vlan (λ xs. info.Vlan xs)
@@ -59,9 +73,11 @@ returns g c =
           (opaque_names family.Can)
       | lower.Dsa ↦ list_errors_name family.Dsa plain.dsa (λ xs. info.Dsa xs)
           (opaque_names family.Dsa)
+      -- End: written by tables/generate.
     ] in
     let device_ones : (f : DeviceFamily) →
     ErrorsName (device_name f) (devices_data_of {P = g.row.P.Denot} f) = elim [
+      -- Begin: written by tables/generate from tables/kinds (device).
       | device.IpVlan ↦ list_errors_name family.IpVlan plain.ip_vlan
           (λ xs. info.IpVlan xs) (ip_vlan_names family.IpVlan)
       | device.IpVtap ↦ list_errors_name family.IpVtap plain.ip_vtap
@@ -76,9 +92,11 @@ returns g c =
       | device.MacSec ↦ list_errors_name family.MacSec plain.mac_sec
           (λ xs. info.MacSec xs) mac_sec_names
       | device.RmNet ↦ list_errors_name family.RmNet plain.rm_net (λ xs. info.RmNet xs) rm_net_names
+      -- End: written by tables/generate.
     ] in
     let tunnel_ones : (f : TunnelFamily) →
     ErrorsName (tunnel_name f) (tunnels_data_of {P = g.row.P.Denot} f) = elim [
+      -- Begin: written by tables/generate from tables/kinds (tunnel).
       | tunnel.Vxlan ↦ list_errors_name family.Vxlan plain.vxlan (λ xs. info.Vxlan xs) vxlan_names
       | tunnel.GreTap ↦ list_errors_name family.Gre plain.gre (λ xs. info.GreTap xs) gre_names
       | tunnel.GreTap6 ↦ list_errors_name family.Gre6 plain.gre6 (λ xs. info.GreTap6 xs) gre6_names
@@ -96,24 +114,27 @@ returns g c =
       | tunnel.ErSpan ↦ list_errors_name family.Gre plain.gre (λ xs. info.ErSpan xs) gre_names
       | tunnel.Ip6ErSpan ↦ list_errors_name family.Gre6 plain.gre6
           (λ xs. info.Ip6ErSpan xs) gre6_names
+      -- End: written by tables/generate.
     ] in
     let peered_ones : (f : PeeredFamily) → ErrorsName (peered_name f) (peers_data_of peer f) =
     elim [
+      -- Begin: written by tables/generate from tables/kinds (peered).
       | peered.Tun ↦ list_errors_name family.Tun plain.tun (λ xs. info.Tun xs)
           (opaque_names family.Tun)
-      | peered.Wireguard ↦ list_errors_name family.Wireguard plain.wireguard
-          (λ xs. info.Wireguard xs) (opaque_names family.Wireguard)
-      | peered.Pfcp ↦ list_errors_name family.Pfcp plain.pfcp (λ xs. info.Pfcp xs)
-          (opaque_names family.Pfcp)
-      | peered.BatAdv ↦ list_errors_name family.BatAdv plain.bat_adv
-          (λ xs. info.BatAdv xs) batadv_names
-      | peered.Wwan ↦ list_errors_name family.Wwan plain.wwan (λ xs. info.Wwan xs) wwan_names
       | peered.Veth ↦ first_errors_name family.Veth (veth_members peer) (λ x. info.Veth x)
           (first_named (veth_lawful peer is) family.Veth)
-      | peered.Vxcan ↦ first_errors_name family.Vxcan (vxcan_members peer) (λ x. info.Vxcan x)
-          (first_named (vxcan_lawful peer is) family.Vxcan)
+      | peered.Wireguard ↦ list_errors_name family.Wireguard plain.wireguard
+          (λ xs. info.Wireguard xs) (opaque_names family.Wireguard)
       | peered.Netkit ↦ list_errors_name family.Netkit (netkit_members peer) (λ xs. info.Netkit xs)
           (list_named (netkit_lawful peer is) family.Netkit)
+      | peered.Vxcan ↦ first_errors_name family.Vxcan (vxcan_members peer) (λ x. info.Vxcan x)
+          (first_named (vxcan_lawful peer is) family.Vxcan)
+      | peered.BatAdv ↦ list_errors_name family.BatAdv plain.bat_adv
+          (λ xs. info.BatAdv xs) bat_adv_names
+      | peered.Wwan ↦ list_errors_name family.Wwan plain.wwan (λ xs. info.Wwan xs) wwan_names
+      | peered.Pfcp ↦ list_errors_name family.Pfcp plain.pfcp (λ xs. info.Pfcp xs)
+          (opaque_names family.Pfcp)
+      -- End: written by tables/generate.
     ] in
     let ports : (f : PortFamily) (name : Family) → port_data_name f ≡ Some name →
     ErrorsName name (port_data_of f) = elim [

@@ -6,11 +6,24 @@ use Rattle.linkinfo_peers.specs.Netkit.{netkit_lawful}
 use Rattle.linkinfo_peers.specs.Veth.{veth_lawful}
 use Rattle.linkinfo_peers.specs.Vxcan.{vxcan_lawful}
 use Rattle.linkinfo_peers.specs.PeerMembers.{netkit_members, veth_members, vxcan_members}
-use Rattle.linkinfo_data.proofs.Lawful.{amt_is, bare_udp_is, batadv_is, geneve_is, gre6_is, gre_is}
-use Rattle.linkinfo_data.proofs.Lawful.{gtp_is, ip_tunnel_is, ip_vlan_is, ipoib_is}
-use Rattle.linkinfo_data.proofs.Lawful.{mac_sec_is, opaque_is}
-use Rattle.linkinfo_data.proofs.Lawful.{rm_net_is, vrf_is, vti_is, vxlan_is}
-use Rattle.linkinfo_data.proofs.Lawful.{wwan_is, xfrm_is}
+use Rattle.linkinfo_data.proofs.Lawful.{ip_tunnel_is, ip_vlan_is, opaque_is}
+-- Begin: written by tables/generate from tables/kinds (imports).
+use Rattle.linkinfo_data.proofs.Lawful.{vrf_is}
+use Rattle.linkinfo_data.proofs.Lawful.{ipoib_is}
+use Rattle.linkinfo_data.proofs.Lawful.{xfrm_is}
+use Rattle.linkinfo_data.proofs.Lawful.{mac_sec_is}
+use Rattle.linkinfo_data.proofs.Lawful.{rm_net_is}
+use Rattle.linkinfo_data.proofs.Lawful.{vxlan_is}
+use Rattle.linkinfo_data.proofs.Lawful.{gre_is}
+use Rattle.linkinfo_data.proofs.Lawful.{gre6_is}
+use Rattle.linkinfo_data.proofs.Lawful.{vti_is}
+use Rattle.linkinfo_data.proofs.Lawful.{gtp_is}
+use Rattle.linkinfo_data.proofs.Lawful.{geneve_is}
+use Rattle.linkinfo_data.proofs.Lawful.{amt_is}
+use Rattle.linkinfo_data.proofs.Lawful.{bare_udp_is}
+use Rattle.linkinfo_data.proofs.Lawful.{bat_adv_is}
+use Rattle.linkinfo_data.proofs.Lawful.{wwan_is}
+-- End: written by tables/generate.
 use Rattle.linkinfo_data.proofs.laws.families_lawful.Goals as goal
 use Rattle.linkinfo_data.specs.DeviceData.{devices_data_of, mac_vlan_lists, mac_vtap_lists}
 use Rattle.linkinfo_data.specs.InfoData.{data_payload}
@@ -42,6 +55,7 @@ returns g c =
     let is = g.met.P.LinkPeer.lawful in
     let lower_ones : (f : LowerFamily) →
     IsLawful (lower_data_of {P = g.row.P.Denot} f) (data_payload peer) = elim [
+      -- Begin: written by tables/generate from tables/kinds (lower).
       | lower.Bridge ↦ as_list_is_lawful plain.bridge (opaque_is family.Bridge)
           (λ xs. info.Bridge xs) (data_payload peer) (λ _. refl) (λ x y e. cc)
       | lower.Vlan ↦ as_list_is_lawful plain.vlan (opaque_is family.Vlan) (λ xs. info.Vlan xs)
@@ -54,9 +68,11 @@ returns g c =
           (data_payload peer) (λ _. refl) (λ x y e. cc)
       | lower.Dsa ↦ as_list_is_lawful plain.dsa (opaque_is family.Dsa) (λ xs. info.Dsa xs)
           (data_payload peer) (λ _. refl) (λ x y e. cc)
+      -- End: written by tables/generate.
     ] in
     let device_ones : (f : DeviceFamily) →
     IsLawful (devices_data_of {P = g.row.P.Denot} f) (data_payload peer) = elim [
+      -- Begin: written by tables/generate from tables/kinds (device).
       | device.IpVlan ↦ as_list_is_lawful plain.ip_vlan (ip_vlan_is family.IpVlan)
           (λ xs. info.IpVlan xs) (data_payload peer) (λ _. refl) (λ x y e. cc)
       | device.IpVtap ↦ as_list_is_lawful plain.ip_vtap (ip_vlan_is family.IpVtap)
@@ -71,15 +87,17 @@ returns g c =
           (λ _. refl) (λ x y e. cc)
       | device.Ipoib ↦ as_list_is_lawful plain.ipoib ipoib_is (λ xs. info.Ipoib xs)
           (data_payload peer) (λ _. refl) (λ x y e. cc)
-      | device.Xfrm ↦ as_list_is_lawful plain.xfrm xfrm_is (λ xs. info.Xfrm xs)
-          (data_payload peer) (λ _. refl) (λ x y e. cc)
+      | device.Xfrm ↦ as_list_is_lawful plain.xfrm xfrm_is (λ xs. info.Xfrm xs) (data_payload peer)
+          (λ _. refl) (λ x y e. cc)
       | device.MacSec ↦ as_list_is_lawful plain.mac_sec mac_sec_is (λ xs. info.MacSec xs)
           (data_payload peer) (λ _. refl) (λ x y e. cc)
       | device.RmNet ↦ as_list_is_lawful plain.rm_net rm_net_is (λ xs. info.RmNet xs)
           (data_payload peer) (λ _. refl) (λ x y e. cc)
+      -- End: written by tables/generate.
     ] in
     let tunnel_ones : (f : TunnelFamily) →
     IsLawful (tunnels_data_of {P = g.row.P.Denot} f) (data_payload peer) = elim [
+      -- Begin: written by tables/generate from tables/kinds (tunnel).
       | tunnel.Vxlan ↦ as_list_is_lawful plain.vxlan vxlan_is (λ xs. info.Vxlan xs)
           (data_payload peer) (λ _. refl) (λ x y e. cc)
       | tunnel.GreTap ↦ as_list_is_lawful plain.gre gre_is (λ xs. info.GreTap xs)
@@ -106,28 +124,31 @@ returns g c =
           (data_payload peer) (λ _. refl) (λ x y e. cc)
       | tunnel.Ip6ErSpan ↦ as_list_is_lawful plain.gre6 gre6_is (λ xs. info.Ip6ErSpan xs)
           (data_payload peer) (λ _. refl) (λ x y e. cc)
+      -- End: written by tables/generate.
     ] in
     let peered_ones : (f : PeeredFamily) →
     IsLawful (peers_data_of peer f) (data_payload peer) = elim [
+      -- Begin: written by tables/generate from tables/kinds (peered).
       | peered.Tun ↦ as_list_is_lawful plain.tun (opaque_is family.Tun) (λ xs. info.Tun xs)
-          (data_payload peer) (λ _. refl) (λ x y e. cc)
-      | peered.Wireguard ↦ as_list_is_lawful plain.wireguard (opaque_is family.Wireguard)
-          (λ xs. info.Wireguard xs) (data_payload peer) (λ _. refl) (λ x y e. cc)
-      | peered.Pfcp ↦ as_list_is_lawful plain.pfcp (opaque_is family.Pfcp) (λ xs. info.Pfcp xs)
-          (data_payload peer) (λ _. refl) (λ x y e. cc)
-      | peered.BatAdv ↦ as_list_is_lawful plain.bat_adv batadv_is (λ xs. info.BatAdv xs)
-          (data_payload peer) (λ _. refl) (λ x y e. cc)
-      | peered.Wwan ↦ as_list_is_lawful plain.wwan wwan_is (λ xs. info.Wwan xs)
           (data_payload peer) (λ _. refl) (λ x y e. cc)
       | peered.Veth ↦ as_first_is_lawful (veth_members peer)
           ((veth_lawful peer is).laws family.Veth)
           (λ x. info.Veth x) (data_payload peer) (λ _. refl) (λ x y e. cc)
-      | peered.Vxcan ↦ as_first_is_lawful (vxcan_members peer)
-          ((vxcan_lawful peer is).laws family.Vxcan)
-          (λ x. info.Vxcan x) (data_payload peer) (λ _. refl) (λ x y e. cc)
+      | peered.Wireguard ↦ as_list_is_lawful plain.wireguard (opaque_is family.Wireguard)
+          (λ xs. info.Wireguard xs) (data_payload peer) (λ _. refl) (λ x y e. cc)
       | peered.Netkit ↦ as_list_is_lawful (netkit_members peer)
           ((netkit_lawful peer is).laws family.Netkit)
           (λ xs. info.Netkit xs) (data_payload peer) (λ _. refl) (λ x y e. cc)
+      | peered.Vxcan ↦ as_first_is_lawful (vxcan_members peer)
+          ((vxcan_lawful peer is).laws family.Vxcan)
+          (λ x. info.Vxcan x) (data_payload peer) (λ _. refl) (λ x y e. cc)
+      | peered.BatAdv ↦ as_list_is_lawful plain.bat_adv bat_adv_is (λ xs. info.BatAdv xs)
+          (data_payload peer) (λ _. refl) (λ x y e. cc)
+      | peered.Wwan ↦ as_list_is_lawful plain.wwan wwan_is (λ xs. info.Wwan xs) (data_payload peer)
+          (λ _. refl) (λ x y e. cc)
+      | peered.Pfcp ↦ as_list_is_lawful plain.pfcp (opaque_is family.Pfcp) (λ xs. info.Pfcp xs)
+          (data_payload peer) (λ _. refl) (λ x y e. cc)
+      -- End: written by tables/generate.
     ] in
     let ports : (f : PortFamily) → IsLawful (port_data_of f) port_data_payload = elim [
       | port_of.Bond ↦ as_list_is_lawful plain.bond_port (opaque_is family.BondPort)

@@ -1,22 +1,28 @@
 use Rattle.linkinfo_devices.specs.Conditions.{ip_vlan_conditions, ip_vlan_stated}
-use Rattle.linkinfo_devices.specs.Conditions.{ipoib_conditions, ipoib_stated, mac_sec_conditions}
-use Rattle.linkinfo_devices.specs.Conditions.{mac_sec_stated}
 use Rattle.linkinfo_devices.specs.Conditions.{mac_vlan_conditions, mac_vlan_stated}
 use Rattle.linkinfo_devices.specs.Conditions.{mac_vtap_conditions, mac_vtap_stated}
-use Rattle.linkinfo_devices.specs.Conditions.{rm_net_conditions, rm_net_stated, vrf_conditions}
-use Rattle.linkinfo_devices.specs.Conditions.{vrf_stated, xfrm_conditions, xfrm_stated}
-use Rattle.linkinfo_peers.specs.Conditions.{batadv_conditions, batadv_stated, netkit_conditions}
-use Rattle.linkinfo_peers.specs.Conditions.{netkit_stated, veth_conditions, veth_stated}
-use Rattle.linkinfo_peers.specs.Conditions.{vxcan_conditions, vxcan_stated, wwan_conditions}
-use Rattle.linkinfo_peers.specs.Conditions.{wwan_stated}
+use Rattle.linkinfo_peers.specs.Conditions.{netkit_conditions, netkit_stated}
+use Rattle.linkinfo_peers.specs.Conditions.{veth_conditions, veth_stated}
+use Rattle.linkinfo_peers.specs.Conditions.{vxcan_conditions, vxcan_stated}
 use Rattle.linkinfo_table.specs.Conditions.{opaque_conditions, opaque_stated}
-use Rattle.linkinfo_tunnels.specs.Conditions.{amt_conditions, amt_stated, bare_udp_conditions}
-use Rattle.linkinfo_tunnels.specs.Conditions.{bare_udp_stated, geneve_conditions, geneve_stated}
-use Rattle.linkinfo_tunnels.specs.Conditions.{gre6_conditions, gre6_stated, gre_conditions}
-use Rattle.linkinfo_tunnels.specs.Conditions.{gre_stated, gtp_conditions, gtp_stated}
 use Rattle.linkinfo_tunnels.specs.Conditions.{ip_tunnel_conditions, ip_tunnel_stated}
-use Rattle.linkinfo_tunnels.specs.Conditions.{vti_conditions, vti_stated, vxlan_conditions}
-use Rattle.linkinfo_tunnels.specs.Conditions.{vxlan_stated}
+-- Begin: written by tables/generate from tables/kinds (imports).
+use Rattle.linkinfo_devices.specs.Conditions.{vrf_conditions, vrf_stated}
+use Rattle.linkinfo_devices.specs.Conditions.{ipoib_conditions, ipoib_stated}
+use Rattle.linkinfo_devices.specs.Conditions.{xfrm_conditions, xfrm_stated}
+use Rattle.linkinfo_devices.specs.Conditions.{mac_sec_conditions, mac_sec_stated}
+use Rattle.linkinfo_devices.specs.Conditions.{rm_net_conditions, rm_net_stated}
+use Rattle.linkinfo_tunnels.specs.Conditions.{vxlan_conditions, vxlan_stated}
+use Rattle.linkinfo_tunnels.specs.Conditions.{gre_conditions, gre_stated}
+use Rattle.linkinfo_tunnels.specs.Conditions.{gre6_conditions, gre6_stated}
+use Rattle.linkinfo_tunnels.specs.Conditions.{vti_conditions, vti_stated}
+use Rattle.linkinfo_tunnels.specs.Conditions.{gtp_conditions, gtp_stated}
+use Rattle.linkinfo_tunnels.specs.Conditions.{geneve_conditions, geneve_stated}
+use Rattle.linkinfo_tunnels.specs.Conditions.{amt_conditions, amt_stated}
+use Rattle.linkinfo_tunnels.specs.Conditions.{bare_udp_conditions, bare_udp_stated}
+use Rattle.linkinfo_peers.specs.Conditions.{bat_adv_conditions, bat_adv_stated}
+use Rattle.linkinfo_peers.specs.Conditions.{wwan_conditions, wwan_stated}
+-- End: written by tables/generate.
 use Rattle.linkinfo_peers.specs.PeerMembers.{netkit_members, veth_members, vxcan_members}
 use Rattle.linkinfo_data.proofs.laws.well_formed.Goals as goal
 use Rattle.linkinfo_data.specs.Conditions.{IsStated, device_conditions, list_stated}
@@ -47,6 +53,7 @@ returns g c =
     let peer = g.P.LinkPeer in
     let lower_ones : (f : LowerFamily) →
     IsStated (lower_data_of {P = g.row.P.Denot} f) (λ d. lower_conditions f d) = elim [
+      -- Begin: written by tables/generate from tables/kinds (lower).
       | lower.Bridge ↦ list_stated plain.bridge
           (λ xs. info.Bridge xs) opaque_conditions opaque_stated
       | lower.Vlan ↦ list_stated plain.vlan (λ xs. info.Vlan xs) opaque_conditions opaque_stated
@@ -54,9 +61,11 @@ returns g c =
       | lower.Hsr ↦ list_stated plain.hsr (λ xs. info.Hsr xs) opaque_conditions opaque_stated
       | lower.Can ↦ list_stated plain.can (λ xs. info.Can xs) opaque_conditions opaque_stated
       | lower.Dsa ↦ list_stated plain.dsa (λ xs. info.Dsa xs) opaque_conditions opaque_stated
+      -- End: written by tables/generate.
     ] in
     let device_ones : (f : DeviceFamily) →
     IsStated (devices_data_of {P = g.row.P.Denot} f) (λ d. device_conditions f d) = elim [
+      -- Begin: written by tables/generate from tables/kinds (device).
       | device.IpVlan ↦ list_stated plain.ip_vlan
           (λ xs. info.IpVlan xs) ip_vlan_conditions ip_vlan_stated
       | device.IpVtap ↦ list_stated plain.ip_vtap
@@ -72,9 +81,11 @@ returns g c =
           (λ xs. info.MacSec xs) mac_sec_conditions mac_sec_stated
       | device.RmNet ↦ list_stated plain.rm_net
           (λ xs. info.RmNet xs) rm_net_conditions rm_net_stated
+      -- End: written by tables/generate.
     ] in
     let tunnel_ones : (f : TunnelFamily) →
     IsStated (tunnels_data_of {P = g.row.P.Denot} f) (λ d. tunnel_conditions f d) = elim [
+      -- Begin: written by tables/generate from tables/kinds (tunnel).
       | tunnel.Vxlan ↦ list_stated plain.vxlan (λ xs. info.Vxlan xs) vxlan_conditions vxlan_stated
       | tunnel.GreTap ↦ list_stated plain.gre (λ xs. info.GreTap xs) gre_conditions gre_stated
       | tunnel.GreTap6 ↦ list_stated plain.gre6 (λ xs. info.GreTap6 xs) gre6_conditions gre6_stated
@@ -92,24 +103,27 @@ returns g c =
       | tunnel.ErSpan ↦ list_stated plain.gre (λ xs. info.ErSpan xs) gre_conditions gre_stated
       | tunnel.Ip6ErSpan ↦ list_stated plain.gre6
           (λ xs. info.Ip6ErSpan xs) gre6_conditions gre6_stated
+      -- End: written by tables/generate.
     ] in
     let peered_ones : (f : PeeredFamily) →
     IsStated (peers_data_of peer f) (λ d. peered_conditions peer.well f d) = elim [
+      -- Begin: written by tables/generate from tables/kinds (peered).
       | peered.Tun ↦ list_stated plain.tun (λ xs. info.Tun xs) opaque_conditions opaque_stated
-      | peered.Wireguard ↦ list_stated plain.wireguard
-          (λ xs. info.Wireguard xs) opaque_conditions opaque_stated
-      | peered.Pfcp ↦ list_stated plain.pfcp (λ xs. info.Pfcp xs) opaque_conditions opaque_stated
-      | peered.BatAdv ↦ list_stated plain.bat_adv
-          (λ xs. info.BatAdv xs) batadv_conditions batadv_stated
-      | peered.Wwan ↦ list_stated plain.wwan (λ xs. info.Wwan xs) wwan_conditions wwan_stated
       | peered.Veth ↦ one_stated (veth_members peer) (λ x. info.Veth x) (veth_conditions peer.well)
           (veth_stated peer.meaning peer.alike peer.canonical peer.well)
-      | peered.Vxcan ↦ one_stated (vxcan_members peer) (λ x. info.Vxcan x)
-          (vxcan_conditions peer.well)
-          (vxcan_stated peer.meaning peer.alike peer.canonical peer.well)
+      | peered.Wireguard ↦ list_stated plain.wireguard
+          (λ xs. info.Wireguard xs) opaque_conditions opaque_stated
       | peered.Netkit ↦ list_stated (netkit_members peer) (λ xs. info.Netkit xs)
           (netkit_conditions peer.well)
           (netkit_stated peer.meaning peer.alike peer.canonical peer.well)
+      | peered.Vxcan ↦ one_stated (vxcan_members peer) (λ x. info.Vxcan x)
+          (vxcan_conditions peer.well)
+          (vxcan_stated peer.meaning peer.alike peer.canonical peer.well)
+      | peered.BatAdv ↦ list_stated plain.bat_adv
+          (λ xs. info.BatAdv xs) bat_adv_conditions bat_adv_stated
+      | peered.Wwan ↦ list_stated plain.wwan (λ xs. info.Wwan xs) wwan_conditions wwan_stated
+      | peered.Pfcp ↦ list_stated plain.pfcp (λ xs. info.Pfcp xs) opaque_conditions opaque_stated
+      -- End: written by tables/generate.
     ] in
     let ports : (f : PortFamily) → IsStated (port_data_of f) (λ d. port_data_conditions f d) =
     elim [

@@ -1,3 +1,4 @@
+-- Written by tables/generate from tables/macsec.
 -- A type without a row in the list has no row in the table. For any other type the table says which
 -- value is stored. A search would read the whole table once per row.
 use Rattle.std.proofs.Common.{ap, rules, refl}
@@ -24,98 +25,87 @@ unreachable-store_by_rows g c =
 
 pub returns-in-1 : goal.returns-in-1
 returns-in-1 g c =
-    row_stored (g.P.Slot.with c.args.slot.now) (λ d. Other d) _ _ _
-    (λ n. table_row mac_sec_rows n) refl
-    c.in-Typed-store_by_rows.is c.in-1.is c.requires c.store_by_rows-u64_or_zero.ensures.le64.0 refl
-    c.store_by_rows-store-in-1.ensures
+    row_stored (g.P.Slot.with c.args.slot.now) (λ d. Other d) _ _ _ (λ n. table_row mac_sec_rows n)
+    refl c.in-Typed-store_by_rows.is c.in-1.is c.requires c.store_by_rows-u64_or_zero.ensures.le64.0
+    refl c.store_by_rows-store-in-1.ensures
 
 pub returns-in-2 : goal.returns-in-2
 returns-in-2 g c =
-    row_stored (g.P.Slot.with c.args.slot.now) (λ d. Other d) _ _ _
-    (λ n. table_row mac_sec_rows n) refl
-    c.in-Typed-store_by_rows.is c.in-2.is c.requires c.store_by_rows-u16_or_zero.ensures.be16.0 refl
-    c.store_by_rows-store-in-2.ensures
+    row_stored (g.P.Slot.with c.args.slot.now) (λ d. Other d) _ _ _ (λ n. table_row mac_sec_rows n)
+    refl c.in-Typed-store_by_rows.is c.in-2.is c.requires c.store_by_rows-u16_or_zero.ensures.be16.0
+    refl c.store_by_rows-store-in-2.ensures
 
 pub returns-in-3 : goal.returns-in-3
 returns-in-3 g c =
-    row_stored (g.P.Slot.with c.args.slot.now) (λ d. Other d) _ _ _
-    (λ n. table_row mac_sec_rows n) refl
-    c.in-Typed-store_by_rows.is c.in-3.is c.requires c.store_by_rows-u8_or_zero.ensures.0 refl
+    row_stored (g.P.Slot.with c.args.slot.now) (λ d. Other d) _ _ _ (λ n. table_row mac_sec_rows n)
+    refl c.in-Typed-store_by_rows.is c.in-3.is c.requires c.store_by_rows-u8_or_zero.ensures.0 refl
     c.store_by_rows-store-in-3.ensures
 
 pub returns-in-4 : goal.returns-in-4
 returns-in-4 g c =
-    row_stored (g.P.Slot.with c.args.slot.now) (λ d. Other d) _ _ _
-    (λ n. table_row mac_sec_rows n) refl
-    c.in-Typed-store_by_rows.is c.in-4.is c.requires c.store_by_rows-u64_or_zero-in-4.ensures.le64.0
+    row_stored (g.P.Slot.with c.args.slot.now) (λ d. Other d) _ _ _ (λ n. table_row mac_sec_rows n)
+    refl c.in-Typed-store_by_rows.is c.in-4.is c.requires
+    c.store_by_rows-u64_or_zero-in-4.ensures.le64.0
     (ap (λ x. CipherSuite x) c.store_by_rows-from.ensures) c.store_by_rows-store-in-4.ensures
 
 pub returns-in-5 : goal.returns-in-5
 returns-in-5 g c =
-    row_stored (g.P.Slot.with c.args.slot.now) (λ d. Other d) _ _ _
-    (λ n. table_row mac_sec_rows n) refl
-    c.in-Typed-store_by_rows.is c.in-5.is c.requires c.store_by_rows-u32_or_zero.ensures.le32.0 refl
-    c.store_by_rows-store-in-5.ensures
+    row_stored (g.P.Slot.with c.args.slot.now) (λ d. Other d) _ _ _ (λ n. table_row mac_sec_rows n)
+    refl c.in-Typed-store_by_rows.is c.in-5.is c.requires c.store_by_rows-u32_or_zero.ensures.le32.0
+    refl c.store_by_rows-store-in-5.ensures
 
 pub returns-in-6 : goal.returns-in-6
 returns-in-6 g c =
-    row_stored (g.P.Slot.with c.args.slot.now) (λ d. Other d) _ _ _
-    (λ n. table_row mac_sec_rows n) refl
-    c.in-Typed-store_by_rows.is c.in-6.is c.requires c.store_by_rows-u8_or_zero-in-6.ensures.0 refl
-    c.store_by_rows-store-in-6.ensures
+    row_stored (g.P.Slot.with c.args.slot.now) (λ d. Other d) _ _ _ (λ n. table_row mac_sec_rows n)
+    refl c.in-Typed-store_by_rows.is c.in-6.is c.requires c.store_by_rows-u8_or_zero-in-6.ensures.0
+    refl c.store_by_rows-store-in-6.ensures
 
 pub returns-in-7 : goal.returns-in-7
 returns-in-7 g c =
-    row_stored (g.P.Slot.with c.args.slot.now) (λ d. Other d) _ _ _
-    (λ n. table_row mac_sec_rows n) refl
-    c.in-Typed-store_by_rows.is c.in-7.is c.requires c.store_by_rows-u8_or_zero-in-7.ensures.0 refl
-    c.store_by_rows-store-in-7.ensures
+    row_stored (g.P.Slot.with c.args.slot.now) (λ d. Other d) _ _ _ (λ n. table_row mac_sec_rows n)
+    refl c.in-Typed-store_by_rows.is c.in-7.is c.requires c.store_by_rows-u8_or_zero-in-7.ensures.0
+    refl c.store_by_rows-store-in-7.ensures
 
 pub returns-in-8 : goal.returns-in-8
 returns-in-8 g c =
-    row_stored (g.P.Slot.with c.args.slot.now) (λ d. Other d) _ _ _
-    (λ n. table_row mac_sec_rows n) refl
-    c.in-Typed-store_by_rows.is c.in-8.is c.requires c.store_by_rows-u8_or_zero-in-8.ensures.0 refl
-    c.store_by_rows-store-in-8.ensures
+    row_stored (g.P.Slot.with c.args.slot.now) (λ d. Other d) _ _ _ (λ n. table_row mac_sec_rows n)
+    refl c.in-Typed-store_by_rows.is c.in-8.is c.requires c.store_by_rows-u8_or_zero-in-8.ensures.0
+    refl c.store_by_rows-store-in-8.ensures
 
 pub returns-in-9 : goal.returns-in-9
 returns-in-9 g c =
-    row_stored (g.P.Slot.with c.args.slot.now) (λ d. Other d) _ _ _
-    (λ n. table_row mac_sec_rows n) refl
-    c.in-Typed-store_by_rows.is c.in-9.is c.requires c.store_by_rows-u8_or_zero-in-9.ensures.0 refl
-    c.store_by_rows-store-in-9.ensures
+    row_stored (g.P.Slot.with c.args.slot.now) (λ d. Other d) _ _ _ (λ n. table_row mac_sec_rows n)
+    refl c.in-Typed-store_by_rows.is c.in-9.is c.requires c.store_by_rows-u8_or_zero-in-9.ensures.0
+    refl c.store_by_rows-store-in-9.ensures
 
 pub returns-in-10 : goal.returns-in-10
 returns-in-10 g c =
-    row_stored (g.P.Slot.with c.args.slot.now) (λ d. Other d) _ _ _
-    (λ n. table_row mac_sec_rows n) refl
-    c.in-Typed-store_by_rows.is c.in-10.is c.requires c.store_by_rows-u8_or_zero-in-10.ensures.0
-    refl c.store_by_rows-store-in-10.ensures
+    row_stored (g.P.Slot.with c.args.slot.now) (λ d. Other d) _ _ _ (λ n. table_row mac_sec_rows n)
+    refl c.in-Typed-store_by_rows.is c.in-10.is c.requires
+    c.store_by_rows-u8_or_zero-in-10.ensures.0 refl c.store_by_rows-store-in-10.ensures
 
 pub returns-in-11 : goal.returns-in-11
 returns-in-11 g c =
-    row_stored (g.P.Slot.with c.args.slot.now) (λ d. Other d) _ _ _
-    (λ n. table_row mac_sec_rows n) refl
-    c.in-Typed-store_by_rows.is c.in-11.is c.requires c.store_by_rows-u8_or_zero-in-11.ensures.0
-    refl c.store_by_rows-store-in-11.ensures
+    row_stored (g.P.Slot.with c.args.slot.now) (λ d. Other d) _ _ _ (λ n. table_row mac_sec_rows n)
+    refl c.in-Typed-store_by_rows.is c.in-11.is c.requires
+    c.store_by_rows-u8_or_zero-in-11.ensures.0 refl c.store_by_rows-store-in-11.ensures
 
 pub returns-in-12 : goal.returns-in-12
 returns-in-12 g c =
-    row_stored (g.P.Slot.with c.args.slot.now) (λ d. Other d) _ _ _
-    (λ n. table_row mac_sec_rows n) refl
-    c.in-Typed-store_by_rows.is c.in-12.is c.requires c.store_by_rows-u8_or_zero-in-12.ensures.0
-    refl c.store_by_rows-store-in-12.ensures
+    row_stored (g.P.Slot.with c.args.slot.now) (λ d. Other d) _ _ _ (λ n. table_row mac_sec_rows n)
+    refl c.in-Typed-store_by_rows.is c.in-12.is c.requires
+    c.store_by_rows-u8_or_zero-in-12.ensures.0 refl c.store_by_rows-store-in-12.ensures
 
 pub returns-in-13 : goal.returns-in-13
 returns-in-13 g c =
-    row_stored (g.P.Slot.with c.args.slot.now) (λ d. Other d) _ _ _
-    (λ n. table_row mac_sec_rows n) refl
-    c.in-Typed-store_by_rows.is c.in-13.is c.requires c.store_by_rows-u8_or_zero-in-13.ensures.0
+    row_stored (g.P.Slot.with c.args.slot.now) (λ d. Other d) _ _ _ (λ n. table_row mac_sec_rows n)
+    refl c.in-Typed-store_by_rows.is c.in-13.is c.requires
+    c.store_by_rows-u8_or_zero-in-13.ensures.0
     (ap (λ x. Validation x) c.store_by_rows-from-in-13.ensures) c.store_by_rows-store-in-13.ensures
 
 pub returns-in-15 : goal.returns-in-15
 returns-in-15 g c =
-    row_stored (g.P.Slot.with c.args.slot.now) (λ d. Other d) _ _ _
-    (λ n. table_row mac_sec_rows n) refl
-    c.in-Typed-store_by_rows.is c.in-15.is c.requires c.store_by_rows-u8_or_zero-in-15.ensures.0
+    row_stored (g.P.Slot.with c.args.slot.now) (λ d. Other d) _ _ _ (λ n. table_row mac_sec_rows n)
+    refl c.in-Typed-store_by_rows.is c.in-15.is c.requires
+    c.store_by_rows-u8_or_zero-in-15.ensures.0
     (ap (λ x. Offload x) c.store_by_rows-from-in-15.ensures) c.store_by_rows-store-in-15.ensures

@@ -1,3 +1,4 @@
+-- Written by tables/generate from tables/amt.
 -- A type without a row in the list has no row in the table. For any other type the table says which
 -- value is stored. A search would read the whole table once per row.
 use Rattle.std.proofs.Common.{ap, rules, refl}
@@ -10,14 +11,12 @@ use Rattle.linkinfo_tunnels.proofs.amt.InfoAmtRowFamily.store_decoded.Goals as g
 pub store_by_rows-unreachable-requires : goal.store_by_rows-unreachable-requires
 store_by_rows-unreachable-requires g c =
     no_row_read amt_rows c.args.decoded c.in-Typed-store_by_rows.field-0
-    c.in-Typed-store_by_rows.field-1
-    c.in-Typed-store_by_rows.is (search rules) c.requires
+    c.in-Typed-store_by_rows.field-1 c.in-Typed-store_by_rows.is (search rules) c.requires
 
 pub unreachable-store_by_rows : goal.unreachable-store_by_rows
 unreachable-store_by_rows g c =
     no_row_read amt_rows c.args.decoded c.in-Typed-store_by_rows.field-0
-    c.in-Typed-store_by_rows.field-1
-    c.in-Typed-store_by_rows.is (search rules) c.requires
+    c.in-Typed-store_by_rows.field-1 c.in-Typed-store_by_rows.is (search rules) c.requires
 
 pub returns-in-1 : goal.returns-in-1
 returns-in-1 g c =

@@ -1,3 +1,4 @@
+-- Written by tables/generate from tables/geneve.
 -- A type without a row in the list has no row in the table. For any other type the table says which
 -- value is stored. A search would read the whole table once per row.
 use Rattle.std.proofs.Common.{ap, rules, refl}

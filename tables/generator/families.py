@@ -1,0 +1,149 @@
+"""Reads the tables of families, their order (tables/families), and the layouts of payloads."""
+import collections
+import dataclasses
+import re
+
+from . import form
+from .text import camel, listed, snake
+
+ORDER = ["code", "family", "table", "what"]
+LAYOUTS = ["layout", "field", "variable", "read", "exact", "rejects"]
+COLUMNS = ["type", "name", "variant", "layout", "member", "shown as"]
+KEYS = ["family", "links", "names", "twin", "tables", "header", "about", "note", "alias", "rows"]
+FAMILY = re.compile(
+    r"(\w+)(?: and (\w+))?(?:, (by hand )?in (\w+)(?:::(\w+)(?: and (\w+))?)?)?")
+
+
+# What follows from the layout of a payload, a `Shape`: the type of the variant's field, if it has
+# one; the datum's variable in specs; the call that gives the datum, and its clause; the entry of
+# `ExactEq`; a payload that is rejected, or how many zeros are, and the cause; how the doc comment
+# of a row ends; and which data are well formed, of the variable, or empty if all are.
+Layout = collections.namedtuple("Layout", [
+    "name", "field", "variable", "read", "exact", "rejects", "tail", "condition"])
+
+
+@dataclasses.dataclass
+class Row:
+    """An attribute."""
+    line: form.Line
+    number: int
+    under: str          # the kind of link that alone has it, else empty
+    kernel: str         # the kernel's name
+    variants: list      # none if it is shown, and otherwise opaque; two if an empty payload has one
+    layout: Layout
+    value: form.Value   # the type that the number is made into, or none
+    member: str
+    shown: str
+    docs: list
+
+    def __post_init__(self):
+        self.shape, self.variant = self.layout.name, (self.variants or [""])[-1]
+        self.two, self.made = len(self.variants) == 2, self.value.made if self.value else ""
+        self.field = self.value.name if self.value else self.layout.field
+        self.numbered = self.made in ("number", "reference")
+
+    def doc(self, at):
+        """The doc comment of a variant. A text without a full stop gets the kernel's name and the
+        layout; a name in parentheses at its end joins the kernel's name."""
+        text = self.docs[at]
+        if text.endswith("."):
+            return text
+        tail = "a presence flag" if at < len(self.variants) - 1 else self.layout.tail
+        text, more = re.fullmatch(r"(.*?)(?: \((`[^`]*`)\))?", text).groups()
+        return f"{text} (`{self.kernel}`{', ' + more if more else ''}), {tail}."
+
+
+class Family:
+    """A family, or two that have the same rows: the head of the table, and its rows."""
+
+    def __init__(self, table, layouts, values):
+        head = {key: table.head[key].text if key in table.head else "" for key in KEYS}
+        where = FAMILY.fullmatch(head["family"])
+        names = re.fullmatch(r"(\w+)\*(.*)", head["names"])
+        for key, found in (("family", where), ("links", head["links"]), ("names", names)):
+            if key not in table.head:
+                raise form.Bad(table.path, 1, f"the head has no line `{key}`")
+            if not found:
+                raise table.head[key].bad(f"{head[key]} is no {key}: see tables/README.md")
+        self.name, self.twin, by_hand, self.crate, module, other = where.groups()
+        self.table, self.title = table.path.removeprefix("tables/"), table.title
+        self.flat = bool(self.crate and not by_hand)
+        self.families = [self.name, *[self.twin] * bool(self.twin)]
+        self.type, self.snake = f"Info{self.name}", snake(self.name)
+        self.module, self.constant = module or self.snake, self.snake.upper()
+        self.modules, self.spec = [self.module, *[other] * bool(other)], camel(self.module)
+        self.links, self.about, self.note = head["links"], head["about"], head["note"]
+        self.prefix, more = names.groups()
+        self.twin_prefix = head["twin"].removesuffix("*") or self.prefix
+        self.header, self.listed_in = head["header"] or form.LINK_HEADER, head["rows"]
+        self.alias, _, self.alias_said = head["alias"].partition(", ")
+        self.parts = dict(it.split() for it in head["tables"].split(", ") if it)
+        self.rows = [read_row(row, self.prefix, layouts, values) for row in table.rows]
+        check(self.rows)
+        self.typed = [row for row in self.rows if row.variants]
+        self.plain = [row for row in self.typed if not row.under]
+        for row in self.typed:
+            known = row.layout.variable and (row.field or row.shape == "Mark") and not row.under
+            if self.flat and not known:
+                raise row.line.bad("such a row is only in a module by hand")
+        self.values = list(dict.fromkeys(row.value for row in self.typed if row.value))
+        self.kinds = re.findall(r"\w+", self.links.split(", and its")[0].replace(" and ", ", "))
+        self.quoted = listed([f"`{kind}`" for kind in self.kinds])
+        where = f" ({self.header})" * (self.header != form.LINK_HEADER)
+        self.names = f"`{self.prefix}*`{where}{more}."
+
+
+def read_row(row, prefix, layouts, values):
+    """An attribute of a row."""
+    number, _, under = row["type"].partition("/")
+    name, *value = (row["layout"] or "-").split()
+    if not number.isdecimal() or int(number) >= 1 << 14:
+        raise row.line.bad(f"{number or '-'} is no type")
+    if name not in layouts:
+        raise row.line.bad(f"{name} is no layout")
+    layout = layouts[name]
+    made = values.get(value[-1]) if value[:1] == ["as"] and len(value) == 2 else None
+    if value and not made:
+        raise row.line.bad(f"{' '.join(value)} is not `as` and a type of tables/numbers")
+    bits = re.fullmatch(r"[ui](\d+)", layout.field)
+    if made and bits and made.bits != int(bits[1]):
+        raise row.line.bad(f"{made.name} has {made.bits} bits, and {name} has {bits[1]}")
+    variants = row["variant"].split("/") if row["variant"] else []
+    if len(row.docs) != len(variants):
+        raise row.line.bad("not a doc comment for each variant")
+    if not row["name"]:
+        raise row.line.bad("a row without a name")
+    return Row(row.line, int(number), under, prefix + row["name"], variants, layout, made,
+               row["member"], row["shown as"], row.docs)
+
+
+def check(rows):
+    """Rejects rows out of order, and names that two rows have."""
+    for row, after in zip(rows, rows[1:]):
+        if after.number < row.number:
+            raise after.line.bad(f"type {after.number} is after type {row.number}")
+    form.apart((row.line, f"type {row.number}/{row.under}".rstrip("/")) for row in rows)
+    form.apart((row.line, name) for row in rows for name in row.variants)
+    for name in ("member", "kernel"):
+        form.apart((row.line, getattr(row, name)) for row in rows if not row.under)
+
+
+def layouts(root):
+    """The layouts by name, in the order of `Shape`."""
+    rows = form.read(root, "layouts", LAYOUTS).rows
+    form.apart((row.line, row["layout"]) for row in rows)
+    return {row["layout"]: Layout(*row.cells.values(), *[*row.docs, "", ""][:2]) for row in rows}
+
+
+def order(root):
+    """The rows of tables/families."""
+    rows = form.read(root, "families", ORDER).rows
+    for column in ("code", "family"):
+        form.apart((row.line, row[column]) for row in rows)
+    return rows
+
+
+def read(root, values, known, ordered):
+    """The families that have a table, in their order."""
+    names = dict.fromkeys(row["table"] for row in ordered if row["table"])
+    return [Family(form.read(root, name, COLUMNS, KEYS), known, values) for name in names]

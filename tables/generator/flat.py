@@ -1,0 +1,53 @@
+"""Writes what follows from the table of a flat family: its module, its specs, its conditions, an
+explicit proof if it has many rows, and its lines and clauses in its crate. Of a family by hand it
+writes the variants and the rows."""
+from .lists import parts_of
+from .marks import of_family, of_row
+from .parts import Part, Whole
+from .places import put_in, sections
+from .text import tidy
+
+MANY = 6        # from so many rows on, `store_decoded` has an explicit proof
+PATHS = {"module": "crates/‹crate›/src/‹module›.rt",
+         "spec": "crates/‹crate›/specs/‹spec›.antt",
+         "conditions": "crates/‹crate›/specs/‹spec›Conditions.antt",
+         "answers": "crates/‹crate›/proofs/‹module›/‹info›RowFamily/store_decoded/Answers.antt"}
+
+
+def by_hand(family):
+    """The parts of modules by hand. Of two families, the second one has names of its own."""
+    for at, name in enumerate(family.modules):
+        rows = [of_row(row, 0, f"Info{family.families[at]}") for row in family.typed]
+        text = put_in(sections("family")["variants"], {"values": rows})
+        if at:
+            text = text.replace(f"`{family.kinds[0]}`", f"`{family.kinds[1]}`")
+            text = text.replace(family.prefix, family.twin_prefix)
+        yield Part(f"crates/{family.crate}/src/{name}.rt", f"{family.table} (variants)", text)
+    if family.listed_in:
+        yield Part(f"crates/{family.crate}/src/{family.listed_in}.rt", f"{family.table} (rows)",
+                   put_in(sections("family")["rows"], {"values": map(of_row, family.plain)}))
+
+
+def crate_parts(crate, families):
+    """The lines and clauses of the flat families of a crate."""
+    given = {"crate": crate, "values": [
+        {**vars(it), "types": f"{{{it.type}, {it.alias}}}" if it.alias else it.type}
+        for it in families]}
+    for mark in ("conditions", "stated"):
+        given[mark] = ", ".join(sorted(f"{it.snake}_{mark}" for it in families))
+    return parts_of("crate", given)
+
+
+def outputs(tables):
+    """The files of flat families, and all parts."""
+    flat = sorted((it for it in tables.families if it.flat), key=lambda it: it.module)
+    for family in flat:
+        marks = of_family(family)
+        for name, path in PATHS.items():
+            if name != "answers" or len(family.typed) >= MANY:
+                yield Whole(put_in(path, marks), family.table,
+                            tidy(put_in(sections("family")[name], marks)))
+    for crate in sorted({family.crate for family in flat}):
+        yield from crate_parts(crate, [family for family in flat if family.crate == crate])
+    for family in tables.families:
+        yield from by_hand(family) if family.crate and not family.flat else ()

@@ -1,0 +1,90 @@
+"""Writes the lines of templates, in the form that templates/README says, and those of
+templates/places into parts of files."""
+import functools
+import itertools
+import re
+
+from .parts import Part
+from .text import MOST, comment, fill, imports, template
+
+FORM = re.compile(r"(?m)^\? (.*)\n")
+ONLY_IF = re.compile(r"\[(\w+)\] ?")
+IMPORT = re.compile(r"( *)((?:ghost |pub )?use .*)(\.|::)\{(.*)\}(;?)")
+
+
+@functools.cache
+def sections(name):
+    """The sections of a template, by what their first line, `== ..`, has."""
+    parts = re.split(r"(?m)^== (.*)\n", template(name))
+    return dict(zip(parts[1::2], parts[2::2]))
+
+
+def chosen(lines, row):
+    """The lines whose condition a row meets, with what it has in place of marks."""
+    for line in lines:
+        only_if = ONLY_IF.match(line)
+        if not only_if or row[only_if[1]]:
+            yield re.sub("‹(\\w+)›", lambda mark: row[mark[1]],
+                         line[only_if.end():] if only_if else line)
+
+
+def expanded(text, row):
+    """The lines of a row, with those that begin with `*` for each of its values."""
+    for repeated, group in itertools.groupby(text.split("\n"), lambda line: line.startswith("*")):
+        if not repeated:
+            yield from chosen(group, row)
+            continue
+        block = [line[2:] for line in group]
+        for value in row["values"]:
+            yield from chosen(block, {**row, **value})
+
+
+def joined(lines):
+    """Lines, of which one that ends with ` ¦` takes the next one if both fit."""
+    found = []
+    for line in lines:
+        if found and found[-1].endswith(" ¦"):
+            before = found.pop().removesuffix(" ¦")
+            both = f"{before} {line.strip()}"
+            found += [both] if len(both.removesuffix(" ¦")) <= MOST else [before, line]
+        else:
+            found.append(line)
+    return found
+
+
+def line_of(line):
+    """A line without marks, and broken if it is long: a doc comment, an import, or a block."""
+    plain, indent = re.sub("[⟪⟫]", "", line), re.match(" *", line)[0]
+    if len(plain) <= MOST:
+        return plain
+    if line.lstrip().startswith("/// "):
+        return comment(line.strip().removeprefix("/// "), indent=indent)
+    used = IMPORT.fullmatch(line)
+    if used and used[3] == ".":
+        return imports(used[2], used[4].split(", "), used[5], indent=used[1])
+    if used:
+        words = [f"{name}," for name in used[4].split(", ")]
+        return f"{used[2]}::{{\n{fill(words, '    ', '    ', MOST - 1)}\n}};"
+    return re.sub("⟪(.*)⟫,", f"{{\n{indent}    \\1\n{indent}}}", line)
+
+
+def put_in(text, row):
+    """The text of a template for a row."""
+    lines = "\n".join(expanded(text, row)).split("\n")
+    return "\n".join(map(line_of, joined(lines)))
+
+
+def parts(selections):
+    """The parts of templates/places: each selection is a list of what the head of a section has in
+    its marks, with rows."""
+    for head, body in sections("places").items():
+        path, name, selection = head.split(" | ")
+        first, *others = FORM.split(body)
+        forms = {form: text for names, text in zip(others[::2], others[1::2])
+                 for form in names.split()}
+        for given, rows in selections[selection]:
+            text = "".join(put_in(forms.get(row.get("form"), first), {
+                **row, "and": "& " if at else "(", "comma": "," * (at + 1 < len(rows))})
+                for at, row in enumerate(rows))
+            text = re.sub(r"::\{(\w+)\};\n", r"::\1;\n", text.rstrip("\n") + "\n")
+            yield Part(put_in(path, given), put_in(name, given), text)

@@ -1,0 +1,103 @@
+"""Writes what people see of rows: how linkinfo_view shows them, docs/SHOW.md, docs/FORMAT.md, and
+the stored lines that the program rejects or accepts by a row (gate/lines/rows.in and rows.out)."""
+import re
+
+from .lists import constant_parts, either
+from .parts import Part, Whole
+from .places import put_in, sections
+from .text import fill, listed
+
+PARTS = {"Word": "Words", "List": "Elements", "Nested": "Table", **dict.fromkeys(
+    ["Bits", "Mask", "Names", "Options", "SecondNames"], "Flags")}
+
+
+def views(family):
+    """The tables to show: constant, comment, title, and rows. If kinds of a family differ, each has
+    the rows in which it does, and one table the others."""
+    rows = [row for row in family.rows if row.member]
+    apart, found = {row.number for row in family.rows if row.under}, []
+    for kind, name in family.parts.items():
+        own = {row.number: row for row in rows if row.number in apart and row.under in ("", kind)}
+        constant = re.sub(r"(?<=[a-z0-9])(?=[A-Z])", "_", name).upper()
+        header = f" ({family.header})" * (not found)
+        found.append((constant, f"`{family.prefix}*`{header} of `{kind}` links.", kind,
+                      list(own.values())))
+    if not found:
+        return [(family.constant, family.names, family.links, rows)]
+    found.insert(1, ("TUNNEL", f"`{family.prefix}*` that all tunnels over IP have.", family.links,
+                     [row for row in rows if row.number not in apart]))
+    return found
+
+
+def shown(row):
+    """How code has the format of a row."""
+    name, _, part = row.shown.partition(" ")
+    if part and name not in PARTS:
+        raise row.line.bad(f"{name} is none of {', '.join(PARTS)}")
+    return f"{name}({PARTS[name]}::{part})" if part else name or "Plain"
+
+
+def view_marks(family):
+    """What templates/lists has in its marks of each table to show."""
+    for constant, said, title, rows in views(family):
+        yield {"constant": constant, "said": said,
+               "head": fill(f"**{title}**: {said}".split(), "", ""),
+               "others": family.links if family.parts and constant != "TUNNEL" else "",
+               "values": [{**vars(row), "number": str(row.number), "format": shown(row)}
+                          for row in rows]}
+
+
+def page_marks(family):
+    """What templates/lists has in its marks of a family in docs/FORMAT.md."""
+    rows = []
+    for row in family.typed:
+        names = dict.fromkeys([row.kernel, row.kernel.replace(family.prefix, family.twin_prefix)])
+        rows.append({
+            "number": f"{row.number} under `{row.under}`" if row.under else str(row.number),
+            "names": ", ".join(f"`{name}`" for name in names), "shape": row.shape,
+            "variants": f"{row.variants[0]} (empty), {row.variant} (one byte)" if row.two
+            else row.variant, "made_into": f" {row.value.name} " if row.value else " "})
+    return {"heading": listed([f"`{name}`" for name in family.families]), "values": rows,
+            "note": fill(family.note.split(), "", "")}
+
+
+def attribute(kind, payload):
+    """The bytes of an attribute, with padding."""
+    data = (len(payload) + 4).to_bytes(2, "little") + kind.to_bytes(2, "little") + payload
+    return data + bytes(-len(data) % 4)
+
+
+def lines(family, kind):
+    """The lines of one kind for the program, and its output: each row with a payload that its
+    layout rejects, or accepts if it takes any."""
+    name = family.families[family.kinds.index(kind) if family.twin else 0].lower()
+    for row in family.typed:
+        if row.under in ("", kind) and row.layout.rejects:
+            given, cause = row.layout.rejects.split()
+            payload = bytes.fromhex(given[2:]) if given[:2] == "0x" else bytes(int(given))
+            inner = attribute(2, attribute(row.number, payload))
+            data = attribute(1, kind.encode() + b"\0") + inner
+            said = {"ok": "ok", "header": "err frame 0 header"}.get(
+                cause, f"err {name} {row.number} {cause}")
+            yield f"check {data.hex()}", said
+
+
+def outputs(tables):
+    """The rows to show, the pages, and the lines."""
+    parts = sections("lists")
+    found = [it for family in tables.families for it in view_marks(family)]
+    rows = [{"rows": put_in(parts["view of a family"], it)[:-1]} for it in found]
+    yield Whole("crates/linkinfo_view/src/entries.rt", "families",
+                put_in(parts["view"], {"values": rows}))
+    named = [{**vars(it), "arm": either(it.families)} for it in tables.families
+             if it.name in tables.codes]
+    yield from constant_parts("linkinfo_view", "table", named, [it["constant"] for it in found],
+                              of="family_rows", call="lines")
+    yield Part("docs/SHOW.md", "families", "".join(
+        put_in(parts["page of a view"], it) for it in found))
+    yield Part("docs/FORMAT.md", "families", "".join(
+        put_in(parts["page of a family"], page_marks(it)) for it in tables.families if it.typed))
+    stored = [line for family in tables.families for kind in family.kinds
+              for line in lines(family, kind)]
+    for at, name in enumerate(("in", "out")):
+        yield Whole(f"gate/lines/rows.{name}", "", "".join(f"{line[at]}\n" for line in stored))

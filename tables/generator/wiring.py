@@ -1,0 +1,128 @@
+"""Says of each kind, family and variant of data what the lines of templates/places have."""
+import re
+
+from . import kinds, number_types, places
+from .text import fill, listed, snake
+
+DATA = {"data": "data (`IFLA_INFO_DATA`)", "port data": "port data (`IFLA_INFO_SLAVE_DATA`)"}
+
+
+def group_row(group):
+    """What templates have of a group of data: files, functions, and what their clauses name."""
+    crate, peered = kinds.GROUPS[group], group == "Peered"
+    files = re.split("::|_", crate)[-1]
+    return {"Group": group, "group": group.lower(), "of": crate, "groups": files,
+            "specs": f"{files.removesuffix('s').capitalize()}Data", "peer": "peer " * peered,
+            "known": "peer" if peered else "P", "well": "well " * peered,
+            "paired": "peer netkit" if peered else "P", "flagged": "h " * (group == "Tunnel")}
+
+
+def coded(order):
+    """The families by C's code."""
+    found = sorted((row for row in order if row["code"]), key=lambda row: row.number("code"))
+    return [{"family": row["family"], "name": row["family"].lower(), "NAME": row["family"].upper(),
+             "code": row["code"], "doc": f"{row['what'][:1].upper()}" + re.sub(
+                 "port data|data", lambda mark: DATA[mark[0]], row["what"][1:]) + "."}
+            for row in found]
+
+
+def form_of(family):
+    """The form of the data of a family: empty if it is a list by one table of rows."""
+    shapes = {row.shape for row in family.typed} if family else set()
+    if "Peer" in shapes:
+        return "first" if shapes == {"Peer"} else "peers"
+    if not shapes or "SelfList" in shapes:
+        return "lists" if shapes else "opaque"
+    return "tagged" if family.parts else "twin" if family.twin else ""
+
+
+def data_row(ours, families, names):
+    """A variant of data, of these kinds."""
+    kind = ours[0]
+    family = next((it for it in families if kind.name in it.kinds), None)
+    name = kind.data if kind.data in names else family.name if family else None
+    if not name or family and family.crate not in (None, kinds.GROUPS[kind.group]):
+        raise kind.line.bad(f"no family of {kinds.GROUPS[kind.group]} is {kind.data}, and no table "
+                            f"of one has the kind {kind.name}")
+    form, first = form_of(family), bool(family) and name == family.name
+    holder = f"Info{name}" + "Of" * (form in ("first", "peers"))
+    prefix = family and (family.prefix if first else family.twin_prefix)
+    return {
+        "form": form, "data": kind.data, "variant": kind.variant, "family": name,
+        "plain": snake(name), "it": family.snake if family else "", "holder": holder,
+        "declared": family.snake if form == "twin" else name,
+        "module": family.module if first else name.lower(),
+        "type": f"{holder}<P>" if holder.endswith("Of") else holder,
+        "members": family and f"{family.type}Of {int(not first)}", "crate": family and family.crate,
+        "spec": family and family.spec, "names": f" (`{prefix}*`)" if family else "",
+        "these": listed(family.kinds) if family else "",
+        "verbatim": ", kept verbatim" * (form == "opaque"),
+        "links": listed([f"`{it.name}`" for it in ours]),
+        "tags": " | ".join(f"KindTag::{it.variant}" for it in ours), **group_row(kind.group)}
+
+
+def data_rows(tables):
+    """The variants of data, in the order of their first kinds."""
+    names, held = {row["family"] for row in tables.order}, {}
+    for kind in (it for it in tables.kinds if it.group):
+        held.setdefault((kind.group, kind.data), []).append(kind)
+    return [data_row(ours, tables.families, names) for ours in held.values()]
+
+
+def unique(rows, key):
+    """The first of rows that have the same in `key`."""
+    return list({row[key]: row for row in rows[::-1]}[name] for name in
+                dict.fromkeys(row[key] for row in rows))
+
+
+def named(rows):
+    """A row for each family, with the patterns of its variants."""
+    return [{**row, "patterns": " | ".join(
+        f"{it['Group']}Family::{it['data']}" + "(_)" * (it["form"] in ("lists", "tagged"))
+        for it in rows if it["family"] == row["family"])} for row in unique(rows, "family")]
+
+
+def typed(rows):
+    """The types of rows, in one row."""
+    return [{**rows[0], "types": ", ".join(sorted({row["holder"] for row in rows}))}]
+
+
+def of_kinds(tables, ports, variants):
+    """The selections that are of kinds, port kinds, or families by C's code."""
+    rows = [kinds.row_of(kind) for kind in tables.kinds]
+    held = [{**row, **variants[kind.data], "variant": kind.variant}
+            for kind, row in zip(tables.kinds, rows) if kind.group]
+    of = {row["name"]: f" {row['family']} " for row in held}
+    codes = coded(tables.order)
+    return {"kinds": rows, "kinds with data": held, "families": codes,
+            "ports": [kinds.row_of(kind) for kind in ports],
+            "names": [{"values": [{**row, "of": of.get(row["name"], " ")} for row in rows]}],
+            "known kinds": [{"known": kinds.known(tables.kinds)}],
+            "known ports": [{"known": kinds.known(ports)}],
+            "family names": [{"names": fill(", ".join(it["family"] for it in codes[2:]).split(),
+                                            "", "")}],
+            "last codes": [{"family": codes[-1]["code"], "kind": rows[-1]["code"],
+                            "port": str(ports[-1].code)}]}
+
+
+def outputs(tables):
+    """The parts of templates/places."""
+    rows = data_rows(tables)
+    groups = [[row for row in rows if row["Group"] == group] for group in kinds.GROUPS]
+    ordered = unique([row for group in groups[1:] for row in group], "plain")
+    listed_in = [row for row in ordered if row["form"] not in ("opaque", "peers", "first")]
+    found = of_kinds(tables, kinds.read(tables.root, "ports"), {row["data"]: row for row in rows})
+    found |= {"data": rows, "tables": unique(listed_in, "declared"), "plain": listed_in,
+              "flat": [row for row in ordered if not row["form"]], "Tunnel": groups[2],
+              "laws": [row for row in unique(rows, "plain")
+                       if row in listed_in and row["form"] != "twin"]}
+    return list(places.parts({
+        **{name: [({}, given)] for name, given in found.items()},
+        **number_types.selections(tables.numbers),
+        "group": [(group[0], group) for group in groups],
+        "named": [(group[0], named(group)) for group in groups],
+        "types by group": [(group[0], typed(group)) for group in groups],
+        "rows by group": [(group[0], typed([row for row in group if row in listed_in]))
+                          for group in groups[1:]],
+        "length": [({"word": word}, [row for row in found["kinds"] if len(row["name"]) == length])
+                   for length, word in kinds.LENGTHS.items()]}))
