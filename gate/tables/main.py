@@ -1,0 +1,87 @@
+"""The command gate/tables/run."""
+import pathlib
+import sys
+import unittest
+
+from . import evidence, planted, rows, written
+
+ROOT = pathlib.Path(__file__).resolve().parents[2]
+TABLES = ROOT / "tables"
+OPTIONS = {"--stored", "--write"}
+
+
+def read(path):
+    """The text of a file of the repository."""
+    return (ROOT / path).read_text(encoding="utf-8")
+
+
+def kernel_cases(tables, given):
+    """What the kernel says otherwise than the tables, by check."""
+    found, said = evidence.judged(tables, given)
+    for name, counts in said.items():
+        print(f"tables: {name}: " + ", ".join(f"{count} {it}" for it, count in counts.items()))
+    yield from found.items()
+    yield "the list inside IFLA_LINKINFO", written.check_list(read, given.numbers)
+
+
+def written_cases(tables):
+    """What files do not have as the tables have it, by file."""
+    for path in written.FILES:
+        yield path, written.check(path, tables, read)
+
+
+def unit_tests():
+    """What the unit tests say, if one fails."""
+    suite = unittest.defaultTestLoader.discover(str(evidence.HERE / "tests"),
+                                                top_level_dir=str(evidence.HERE.parent))
+    result = unittest.TestResult()
+    suite.run(result)
+    if not result.testsRun:
+        return ["there are no unit tests"]
+    return [f"{test}: {text}" for test, text in result.failures + result.errors]
+
+
+def cases(options):
+    """The name of each case, and what is wrong in it, a line each."""
+    tables, kept = evidence.read_tables(TABLES), evidence.stored()
+    given, taken = kept, f"the stored list of {kept.version} is taken"
+    if "--stored" not in options:
+        given, taken = evidence.with_fetched_headers(kept, tables)
+    print(f"tables: headers: {taken}")
+    yield from kernel_cases(tables, given)
+    yield from written_cases(tables)
+    yield from planted.cases(TABLES, tables, kept, read)
+    yield "unit tests", unit_tests()
+
+
+def write():
+    """Stores what the newest kernel says."""
+    version = evidence.store(evidence.read_tables(TABLES))
+    if version is None:
+        print("tables: headers and source of a kernel could not be fetched", file=sys.stderr)
+        return 1
+    print(f"tables: {evidence.HERE}/stored is of Linux {version}")
+    return 0
+
+
+def main(options):
+    """Runs the command, and returns its status."""
+    if not set(options) <= OPTIONS or len(options) > 1:
+        print("gate/tables/run [--stored | --write]", file=sys.stderr)
+        return 2
+    counts = {True: 0, False: 0}
+    try:
+        if "--write" in options:
+            return write()
+        for name, wrong in cases(options):
+            counts[not wrong] += 1
+            for line in wrong:
+                print(line, file=sys.stderr)
+            if wrong:
+                print(f"tables: FAILED: {name}")
+    except (rows.Bad, OSError, LookupError, ValueError, AttributeError) as error:
+        counts[False] += 1
+        print(error if isinstance(error, rows.Bad) else repr(error), file=sys.stderr)
+        print("tables: FAILED: a file cannot be read")
+    print(f"{counts[True]} passed, {counts[False]} failed")
+    return int(counts[False] != 0)
