@@ -1,21 +1,25 @@
-"""What the kernel says of attributes, fetched or stored, and the checks of tables by it."""
+"""What the kernel and iproute2 say of attributes, and the checks of tables by it."""
 import dataclasses
 import pathlib
 import tempfile
 
-from . import calls, fetch, header, headers, lists, rows, ynl
+from . import calls, fetch, header, headers, lists, printed, rows, ynl
 
 HERE = pathlib.Path(__file__).resolve().parent
+# What `ip` prints of real links.
+LINKS = HERE.parent / "show/ip.json"
 STORED = {name: HERE / f"stored/{name}.txt" for name in ("headers", "ynl", "calls")}
 
 
 @dataclasses.dataclass
 class Evidence:
-    """The kernel's headers with their version, its description of attributes, and its calls."""
+    """The kernel's headers with their version, its description of attributes, and its calls; and
+    what `ip` prints, by line."""
     version: str
     groups: list
     sets: list
     calls: dict
+    links: list
 
     @property
     def numbers(self):
@@ -38,7 +42,8 @@ def stored():
     """What is stored."""
     texts = {name: path.read_text(encoding="utf-8") for name, path in STORED.items()}
     version, groups = headers.stored(texts["headers"])
-    return Evidence(version, groups, ynl.stored(texts["ynl"])[1], calls.stored(texts["calls"])[1])
+    return Evidence(version, groups, ynl.stored(texts["ynl"])[1], calls.stored(texts["calls"])[1],
+                    LINKS.read_text(encoding="utf-8").splitlines())
 
 
 def with_fetched_headers(kept, tables):
@@ -52,7 +57,8 @@ def with_fetched_headers(kept, tables):
         if fetch.is_newer(kept.version, version):
             return kept, f"the stored list of {kept.version} is newer than {version}, and is taken"
         groups = headers.watched(headers.read(path), names_of(tables))
-    return dataclasses.replace(kept, version=version, groups=groups), f"those of {version} are taken"
+    given = dataclasses.replace(kept, version=version, groups=groups)
+    return given, f"those of {version} are taken"
 
 
 def store(tables):
@@ -74,15 +80,16 @@ def store(tables):
 
 
 def judged(tables, given):
-    """What the kernel says otherwise than tables, a list of lines by the name of the check; and a
-    line of counts of each."""
+    """What is said otherwise than in tables, a list of lines by the name of the check; and the
+    counts of each."""
+    families, _ = tables
     wrong, unnamed = header.check(tables, given.version, given.groups, lists.read("elsewhere"),
                                   lists.read("apart"))
-    by_ynl, ynl_counts = ynl.check(tables[0], given.sets, lists.read("not_as_ynl"))
-    by_calls, calls_counts = calls.check(tables[0], given.calls, lists.read("not_as_drivers"))
-    found = {"headers": wrong, "names without a table": unnamed, "rt-link.yaml": by_ynl,
-             "drivers": by_calls}
-    said = {"headers": {"names": len(list(header.named(*tables)))},
-            "rt-link.yaml": ynl_counts,
-            "drivers": calls_counts}
-    return found, said
+    found = {"headers": wrong, "names without a table": unnamed}
+    counts = {"headers": {"names": len(list(header.named(*tables)))}}
+    for name, check, source, known in (
+            ("rt-link.yaml", ynl.check, given.sets, "not_as_ynl"),
+            ("drivers", calls.check, given.calls, "not_as_drivers"),
+            ("ip", printed.check, given.links, "not_printed")):
+        found[name], counts[name] = check(families, source, lists.read(known))
+    return found, counts

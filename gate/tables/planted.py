@@ -7,7 +7,8 @@ import tempfile
 
 from . import evidence, headers, rows, written
 
-HEADERS, WITHOUT, YNL, DRIVERS = "headers", "names without a table", "rt-link.yaml", "drivers"
+HEADERS, WITHOUT = "headers", "names without a table"
+YNL, DRIVERS, IP = "rt-link.yaml", "drivers", "ip"
 COLUMNS = {name: at for at, name in enumerate(rows.COLUMNS)}
 # The table, the cells that are changed (name, column, text), and all checks that notice it. Where a
 # name is changed, the right one is in no table.
@@ -19,16 +20,16 @@ TABLES = [
     ("vxlan", [("GROUP6", "type", "17"), ("LOCAL6", "type", "16")], {HEADERS}),
     ("gre", [("LOCAL", "type", "7"), ("REMOTE", "type", "6")], {HEADERS, YNL}),
     # another layout of the same length
-    ("vxlan", [("LABEL", "layout", "Le32")], {DRIVERS}),
+    ("vxlan", [("LABEL", "layout", "Le32")], {DRIVERS, IP}),
     ("vxlan", [("GROUP", "layout", "Be32")], {DRIVERS}),
-    ("amt", [("RELAY_PORT", "layout", "Le16")], {DRIVERS}),
-    ("bareudp", [("SRCPORT_MIN", "layout", "Be16")], {DRIVERS}),
+    ("amt", [("RELAY_PORT", "layout", "Le16")], {DRIVERS, IP}),
+    ("bareudp", [("SRCPORT_MIN", "layout", "Be16")], {DRIVERS, IP}),
     ("macsec", [("PORT", "layout", "Le16")], {DRIVERS}),
     ("macvlan", [("BC_CUTOFF", "layout", "Le32")], {DRIVERS}),
     ("gre", [("IKEY", "layout", "Le32")], {YNL, DRIVERS}),
-    ("geneve", [("LABEL", "layout", "Le32")], {YNL, DRIVERS}),
-    ("vti", [("FWMARK", "layout", "Be32")], {YNL, DRIVERS}),
-    ("vlan", [("ID", "layout", "Be16")], {YNL, DRIVERS}),
+    ("geneve", [("LABEL", "layout", "Le32")], {YNL, DRIVERS, IP}),
+    ("vti", [("FWMARK", "layout", "Be32")], {YNL, DRIVERS, IP}),
+    ("vlan", [("ID", "layout", "Be16")], {YNL, DRIVERS, IP}),
     ("bondport", [("LINK_FAILURE_COUNT", "layout", "I32")], {YNL, DRIVERS}),
     # another length
     ("gtp", [("ROLE", "layout", "U8")], {DRIVERS}),
@@ -39,6 +40,9 @@ TABLES = [
     ("vxlan", [("GBP", "name", "GPB")], {HEADERS, WITHOUT}),
     ("bond", [("MIIMON", "name", "MII_MON")], {HEADERS, WITHOUT}),
     ("macsec", [("ENCRYPT", "name", "PROTECT")], {HEADERS, WITHOUT}),
+    # another member, and two exchanged
+    ("vxlan", [("ID", "member", "vni")], {IP}),
+    ("bridge", [("HELLO_TIME", "member", "max_age"), ("MAX_AGE", "member", "hello_time")], {IP}),
 ]
 # The same of named numbers, by their names.
 VALUES = [
@@ -46,7 +50,7 @@ VALUES = [
     ("gre", [("GRE_KEY", "number", "0x0020")], {HEADERS}),
     ("macvlan", [("MACVLAN_MODE_VEPA", "name", "MACVLAN_MODE_VEPPA")], {HEADERS, WITHOUT}),
 ]
-TOKEN = re.compile(r"`?[A-Za-z_][\w.]*`?(?![\w.`]|::|.?\()|\d+")
+TOKEN = re.compile(r"\b(?:[A-Za-z_]\w*\b(?!::)|\d+\b)")
 # Of each file every so many rows, of which each part is changed in turn.
 STEP = 9
 
@@ -98,22 +102,23 @@ def edits(text, lines):
     for start, line in lines[::STEP]:
         for part in TOKEN.finditer(line):
             word = part[0]
-            other = str(int(word) + 1) if word.isdecimal() else re.sub(r"(\w)(`?)$", r"\1X\2", word)
+            other = str(int(word) + 1) if word.isdecimal() else f"{word}X"
             at = start + part.start()
-            yield f"{other} in place of {word} in {line.strip()}", \
-                text[:at] + other + text[at + len(word):]
+            yield (f"{other} in place of {word} in {line.strip()}",
+                   text[:at] + other + text[at + len(word):])
 
 
 # How the lines of rows begin in each file.
 ROWS = {
-    written.SHAPES: r"^    \(\d.*$", written.NAMES: r'\(\d+, "\w+"\)', written.VIEW: r"^    \(\d.*$",
+    written.SHAPES: r"^    \(\d.*$", written.VIEW: r"^    \(\d.*$",
+    written.NAMES: r'\(\d+, "\w+"\)',
     written.FORMAT: r"^\| \d+ (?:under `\w+` )?\| `\w+`.*\| \w+ \| .*$",
     written.SHOW: r"^\| \d+ \| `.*$",
 }
 
 
 def noticed(path, tables, numbers, read):
-    """Whether a file is not as in the tables, or its list of IFLA_LINKINFO not as in the headers."""
+    """Whether a file is not as in the tables, or the list of IFLA_LINKINFO not as in headers."""
     try:
         return bool(written.check(path, tables, read) or written.check_list(read, numbers))
     except (ValueError, LookupError, AttributeError):

@@ -95,7 +95,7 @@ def family(path, root):
     prefixes = re.findall(r"(\w+)\*", given["names"] + given.get("twin", ""))
     columns, *body = lines[top + 1:]
     if cells(columns[1]) != COLUMNS:
-        raise Bad(f"{columns[0]}: the columns are {', '.join(COLUMNS)}")
+        raise Bad(f"{columns[0]}: the columns are not {', '.join(COLUMNS)}")
     return Family(tuple(filter(None, names.groups())), given["links"],
                   dict(it.split() for it in given.get("tables", "").split(", ") if it),
                   tuple(row(place, line, prefixes) for place, line in body
@@ -120,7 +120,14 @@ def is_family(path):
 
 def families(tables):
     """The families of a folder of tables."""
-    return [family(path, tables.parent) for path in sorted(tables.iterdir()) if is_family(path)]
+    found = []
+    for path in sorted(path for path in tables.iterdir() if is_family(path)):
+        try:
+            found.append(family(path, tables.parent))
+        except (LookupError, AttributeError, ValueError):
+            raise Bad(f"{path.relative_to(tables.parent)}:1: this is no table of a family, with "
+                      "links, names, and rows after an empty line") from None
+    return found
 
 
 def numbers(tables):

@@ -44,9 +44,14 @@ def view(families, _values):
             for kind, name in (family.views.items() or [("", name) for name in family.names])}
 
 
+def variants(row):
+    """The variants of a row as docs/FORMAT.md has them."""
+    return " (empty), ".join(row.variants) + " (one byte)" * (len(row.variants) > 1)
+
+
 def format_rows(families, _values):
     """The rows of docs/FORMAT.md, by families."""
-    return {family.names: [(row.number, row.under, row.names[:len(family.names)], row.variants,
+    return {family.names: [(row.number, row.under, row.names[:len(family.names)], variants(row),
                             row.layout, row.value) for row in typed(family)]
             for family in families if typed(family)}
 

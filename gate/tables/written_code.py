@@ -4,11 +4,13 @@ import re
 SPEC_ROWS = re.compile(r"^(\w+) =\n((?:    .*\n)*?)    \[\]\n", re.M)
 SPEC_ROW = re.compile(r"    \((\d+), (\w+)\) ∷  -- (.+)")
 SPEC_ARM = re.compile(r"^rows_of family\.(\w+) = (\w+)$", re.M)
-LIST = re.compile(r"^pub\(crate\) const (\w+): &\[Entry\] =(?: rows!)? ?&?[\[{](.*?)[\]}];", re.M | re.S)
+LIST = re.compile(r"^pub\(crate\) const (\w+): &\[Entry\] = (?:&\[|rows! \{)(.*?)[\]}];",
+                  re.M | re.S)
 NAME_ROW = re.compile(r'\((\d+), "(\w+)"\)')
 VIEW_ROW = re.compile(r'\((\d+), "(\w+)", (\w+), (\w+)(?:\(\w+::(\w+)\))?\),')
 ARM = re.compile(r"^ +((?:\| )?(?:Family|Table)::[^=]+?) => (\w+),$", re.M)
 SHARED = re.compile(r"^fn shared_rows\(.*?^ +(Table::.*?) => (\w+),$", re.M | re.S)
+NUMBERS = re.compile(r"^abbrev pub (\w+)_number : \w+ → ℕ\n((?:.+\n)+)", re.M)
 NUMBER = re.compile(r"^\w+_number \w+\.(\w+) = (0x[\dA-F]+|\d+)$", re.M)
 FLAGS = re.compile(r"^abbrev pub (\w+)_table : List \(List ℕ × ℕ\)\n\w+ =(.*?)\n\n", re.M | re.S)
 FLAG = re.compile(r'codes "(\w+)", (0x[\dA-Fa-f]+|\d+)')
@@ -65,7 +67,7 @@ def numbers(specs):
     in lower case without underscores."""
     found = {}
     for spec in specs:
-        for head, body in re.findall(r"^abbrev pub (\w+)_number : \w+ → ℕ\n((?:.+\n)+)", spec, re.M):
+        for head, body in NUMBERS.findall(spec):
             found[head.replace("_", "")] = [(int(number, 0), variant)
                                             for variant, number in NUMBER.findall(body)]
         for head, body in FLAGS.findall(spec):
