@@ -32,10 +32,10 @@ TABLES = [
     ("vlan", [("ID", "layout", "Be16")], {YNL, DRIVERS, IP}),
     ("bondport", [("LINK_FAILURE_COUNT", "layout", "I32")], {YNL, DRIVERS}),
     # another length
-    ("gtp", [("ROLE", "layout", "U8")], {DRIVERS}),
-    ("gre6", [("REMOTE", "layout", "V4")], {YNL}),
-    ("hsr", [("VERSION", "layout", "Le32")], {YNL, DRIVERS}),
-    ("bareudp", [("MULTIPROTO_MODE", "layout", "Truth")], {DRIVERS}),
+    ("gtp", [("ROLE", "layout", "U8")], {DRIVERS, IP}),
+    ("gre6", [("REMOTE", "layout", "V4")], {YNL, IP}),
+    ("hsr", [("VERSION", "layout", "Le32")], {YNL, DRIVERS, IP}),
+    ("bareudp", [("MULTIPROTO_MODE", "layout", "Truth")], {DRIVERS, IP}),
     # a name that no header has, and that of another row
     ("vxlan", [("GBP", "name", "GPB")], {HEADERS, WITHOUT}),
     ("bond", [("MIIMON", "name", "MII_MON")], {HEADERS, WITHOUT}),

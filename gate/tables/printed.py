@@ -1,4 +1,4 @@
-"""The members and numbers of the tables beside what `ip -d -j link` prints of real links: each line
+"""The members and layouts of the tables beside what `ip -d -j link` prints of real links: each line
 of gate/show/ip.json has the contents of an IFLA_LINKINFO, and what iproute2 makes of them."""
 import json
 import re
@@ -11,6 +11,10 @@ PARTS = {"Bits", "FlowInfo", "Names", "SecondNames", "Options", "Nested"}
 NUMBERS = {"U8": (1, "little"), "Truth": (1, "little"), "TruthOne": (1, "little"),
            **{f"Le{bits}": (bits // 8, "little") for bits in (16, 32, 64)},
            **{f"Be{bits}": (bits // 8, "big") for bits in (16, 32, 64)}, "I32": (4, "little")}
+
+
+SIZES = {**{name: size for name, (size, _) in NUMBERS.items()}, "V4": 4, "GeneveV4": 4, "V6": 16,
+         "GeneveV6": 16, "Mac": 6, "BePair": 4, "FlagPair": 8, "Scrub": 4}
 
 
 def attributes(data):
@@ -71,12 +75,14 @@ def is_other(row, payload, printed):
 
 
 def check(families, lines, known):
-    """What `ip` prints otherwise, a line each, and how many rows it prints, is known not to print,
-    and are in no list. `known` lists the rows of which it prints no such member."""
-    seen, other = {}, {}
+    """What `ip` prints otherwise, a line each, and payloads of another length; and how many rows
+    it prints, is known not to print, and are in no list. `known` lists the rows of which it prints
+    no such member."""
+    seen, other, lengths = {}, {}, {}
     for row, payload, members in pairs(families, lines):
         is_there = row.member in members
         seen[row] = seen.get(row, False) or is_there
+        lengths.setdefault(row, set()).add(len(payload))
         if is_there and is_other(row, payload, members[row.member]):
             other[row] = (f"{row.place}: ip prints {row.member} {members[row.member]} of "
                           f"{payload.hex()}, which is another number as {row.layout}")
@@ -84,8 +90,12 @@ def check(families, lines, known):
                if not is_there and row.format.split(" ")[0] not in PARTS]
     differ = [f"{row.place}: ip prints no member {row.member} of {row.names[0]}"
               for row in missing if not known.has(f"{row.names[0]}/{row.member}")]
+    # (some lists have a payload that is rejected)
+    longer = [f"{row.place}: no list has a payload of {row.names[0]} with the length of "
+              f"{row.layout}, but of {sorted(found)}" for row, found in lengths.items()
+              if SIZES.get(row.layout) not in (None, *found)]
     every = sum(1 for family in families for row in family.rows if row.member)
     counts = {"printed": sum(seen.values()), "not printed": len(seen) - sum(seen.values()),
               "in no list": every - len(seen)}
     unused = [f"gate/tables/not_printed: {it} is printed, or in no list" for it in known.unused()]
-    return [*other.values(), *differ, *unused], counts
+    return [*other.values(), *longer, *differ, *unused], counts
