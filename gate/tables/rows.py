@@ -118,15 +118,30 @@ def is_family(path):
     return path.is_file() and bool(re.match(r"# .*\nfamily  ", path.read_text(encoding="utf-8")))
 
 
+def listed(tables):
+    """The families that each table has, by its name, as the list `families` says."""
+    found = {}
+    for place, line in numbered(tables / "families", tables.parent):
+        code, name, table = (cells(line) + [""] * 3)[:3]
+        if re.fullmatch(r"\d*", code) and table:
+            if not is_family(tables / table):
+                raise Bad(f"{place}: {table} is no table of a family")
+            found.setdefault(table, []).append(name)
+    return found
+
+
 def families(tables):
-    """The families of a folder of tables."""
-    found = []
+    """The families of a folder of tables. Each is in the list, and no other."""
+    found, names = [], listed(tables)
     for path in sorted(path for path in tables.iterdir() if is_family(path)):
+        at = f"{path.relative_to(tables.parent)}:1"
         try:
             found.append(family(path, tables.parent))
         except (LookupError, AttributeError, ValueError):
-            raise Bad(f"{path.relative_to(tables.parent)}:1: this is no table of a family, with "
-                      "links, names, and rows after an empty line") from None
+            raise Bad(f"{at}: this is no table of a family, with links, names, and rows after an "
+                      "empty line") from None
+        if names.get(path.name) != list(found[-1].names):
+            raise Bad(f"{at}: tables/families does not list {' and '.join(found[-1].names)} here")
     return found
 
 

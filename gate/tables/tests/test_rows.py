@@ -23,6 +23,14 @@ type    name    variant       layout                  member  shown as
 28      TTL     Flag/Ttl      EmptyOrByte
 9/sit   PROTO   -             Nested Other            other
 """
+LISTED = """\
+# Families
+
+code  family    table     what
+1     Frame     -         headers
+17    IpTunnel  iptunnel  data
+-     Other     iptunnel  data
+"""
 VALUES = """\
 # GRE tunnels
 
@@ -42,12 +50,12 @@ class Rows(unittest.TestCase):
     """A table is read as it is written."""
 
     def folder(self, **texts):
-        """A folder tables/ with these files."""
+        """A folder tables/ with these files; the list of families has the two of FAMILY."""
         made = tempfile.TemporaryDirectory()
         self.addCleanup(made.cleanup)
         tables = pathlib.Path(made.name) / "tables"
         (tables / "numbers").mkdir(parents=True)
-        for name, text in texts.items():
+        for name, text in {"families": LISTED, **texts}.items():
             (tables / name).write_text(text, encoding="utf-8")
         return tables
 
@@ -88,13 +96,15 @@ class Rows(unittest.TestCase):
     def test_bad_tables(self):
         """What cannot be read is named with file and line."""
         for old, new, said in (
-                ("member  shown as\n", "member\n", "tables/it:8: the columns are not"),
-                ("1       LINK", "one     LINK", "tables/it:9: this is no row"),
-                ("names   IFLA_IPTUN_*\n", "", "tables/it:1: this is no table of a family"),
-                ("Le32                    link", "", "tables/it:9: this is no row")):
+                ("member  shown as\n", "member\n", "tables/iptunnel:8: the columns are not"),
+                ("1       LINK", "one     LINK", "tables/iptunnel:9: this is no row"),
+                ("names   IFLA_IPTUN_*\n", "", "tables/iptunnel:1: this is no table of a family"),
+                ("Le32                    link", "", "tables/iptunnel:9: this is no row"),
+                ("IpTunnel and Other", "IpTunnel", "tables/iptunnel:1: tables/families does not"),
+                ("family  ", "", "tables/families:5: iptunnel is no table of a family")):
             with self.subTest(new=new), self.assertRaises(rows.Bad) as raised:
                 self.assertIn(old, FAMILY)
-                rows.families(self.folder(it=FAMILY.replace(old, new)))
+                rows.families(self.folder(iptunnel=FAMILY.replace(old, new)))
             self.assertTrue(str(raised.exception).startswith(said), raised.exception)
 
 
