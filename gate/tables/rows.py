@@ -55,6 +55,7 @@ class Value:
     number: int
     kernel: str
     variant: str
+    by_hand: bool       # whether code and page of the type are written by hand
 
 
 def cells(line):
@@ -104,13 +105,13 @@ def family(path, root):
 
 def values(path, root):
     """The named numbers of the types of a group."""
-    kind = None
+    kind = by_hand = None
     for place, line in numbered(path, root):
         if re.match(r"[A-Z]\w*  ", line):
-            kind = line.split()[0]
+            kind, by_hand = line.split()[0], "by hand" in line
         elif kind and re.match(rf" +({NUMBER.pattern})  ", line):
             number, kernel, variant, *_ = cells(line)
-            yield Value(place, kind, int(number, 0), kernel, variant)
+            yield Value(place, kind, int(number, 0), kernel, variant, by_hand)
 
 
 def is_family(path):

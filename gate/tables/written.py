@@ -76,15 +76,22 @@ def names_read(read):
     return {name: rows for name, rows in found.items() if name != LIST}
 
 
+def values_on_page(_families, every):
+    """The same of the types that are in the tables of docs/FORMAT.md."""
+    return values([], [value for value in every if not value.by_hand])
+
+
 def numbers_read(read, every):
     """The numbers in specs: a group of types has a file of its name."""
     groups = dict.fromkeys(value.place.split("/")[-1].split(":")[0] for value in every)
     return written_code.numbers(read(f"{NUMBERS}/{it.capitalize()}.antt") for it in groups)
 
 
-def page_values(read):
-    """The numbers on the page, by type in lower case."""
-    return {name.lower(): it for name, it in written_pages.values(read(FORMAT)).items()}
+def page_values(read, every):
+    """The numbers on the page, by type in lower case, but for those that are there by hand."""
+    by_hand = {value.type for value in every if value.by_hand}
+    return {name.lower(): it for name, it in written_pages.values(read(FORMAT)).items()
+            if name not in by_hand}
 
 
 # What the tables say of each file, and what it has, by a function that reads files.
@@ -94,7 +101,7 @@ FILES = {
     VIEW: (view, lambda read, _: written_code.view(read(VIEW), read(TABLES_OF_VIEW))),
     NUMBERS: (values, numbers_read),
     FORMAT: (format_rows, lambda read, _: written_pages.format_rows(read(FORMAT))),
-    f"numbers of {FORMAT}": (values, lambda read, _: page_values(read)),
+    f"numbers of {FORMAT}": (values_on_page, page_values),
     SHOW: (show_rows, lambda read, _: written_pages.show_rows(read(SHOW))),
 }
 

@@ -6,7 +6,7 @@ LIST = re.compile(r"^## The list inside IFLA_LINKINFO\n\n\|.*\n\|---.*\n((?:\|.*
 SECTION = re.compile(r"^\*\*([^*]+)\*\*: (?:.+\n)+\n\| type \| member \| shape \| format \|\n"
                      r"\|---\|---\|---\|---\|\n((?:\|.*\n)+)(?:\nAnd those of (.+)\.\n)?", re.M)
 TYPES = re.compile(r"^\| (\w+) u\d+ \| ([^|]*) \|", re.M)
-VALUE = re.compile(r"(0x[\dA-Fa-f]+|\d+) ([A-Z]\w*)|([A-Z]\w*) (0x[\dA-Fa-f]+|gives \d+|\d+)")
+VALUE = re.compile(r"(0x[\dA-Fa-f]+|\d+) ([A-Z]\w*)|([A-Z]\w*) (0x[\dA-Fa-f]+|\d+)")
 
 
 def cells(body):
@@ -38,8 +38,8 @@ def values(page):
     """docs/FORMAT.md: number and variant of each value, by type."""
     found = {}
     for name, text in TYPES.findall(page.split("\n## Numbers\n")[1]):
-        found[name] = [(int((one or two.removeprefix("gives ")), 0), variant or flag)
-                       for one, variant, flag, two in VALUE.findall(text)]
+        found[name] = [(int(number or bits, 0), variant or flag)
+                       for number, variant, flag, bits in VALUE.findall(text)]
     return found
 
 

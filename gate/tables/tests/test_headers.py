@@ -108,7 +108,7 @@ class Header(unittest.TestCase):
         said = checked(self.GROUPS, [row(2, "IFLA_FOO_NEW", "IFLA_FOO_ID")], apart="*_UNSPEC  0")
         self.assertEqual(said, (
             ["tables/foo:9: IFLA_FOO_ID is 1 in the kernel's headers, not 2"], []))
-        value = rows.Value("tables/numbers/foo:3", "Foo", 4, "IFLA_FOO_ID", "Id")
+        value = rows.Value("tables/numbers/foo:3", "Foo", 4, "IFLA_FOO_ID", "Id", False)
         self.assertEqual(checked(self.GROUPS, [], [value])[0], [
             "tables/numbers/foo:3: IFLA_FOO_ID is 1 in the kernel's headers, not 4"])
 
@@ -127,7 +127,7 @@ class Header(unittest.TestCase):
         self.assertEqual(said, (
             ["gate/tables/elsewhere: IFLA_FOO_ID names nothing that the headers lack"],
             ["gate/tables/apart: IFLA_BAR names nothing that no table has"]))
-        self.assertEqual(checked(self.GROUPS, [], [rows.Value("p", "Foo", 1, "", "Id")],
+        self.assertEqual(checked(self.GROUPS, [], [rows.Value("p", "Foo", 1, "", "Id", False)],
                                  apart="IFLA_*  all"), ([], []))
 
 

@@ -41,7 +41,7 @@ GreType  u16  type  types  others other(n)
     2      -        Two  -
         text
 
-GreSet  u16  flags  -
+GreSet  u16  flags  -  by hand, default
     0x4000  GRE_KEY  Key  -  a key
 """
 
@@ -89,9 +89,9 @@ class Rows(unittest.TestCase):
         """Numbers and names of values; a doc comment that begins with a number is none."""
         found = rows.numbers(self.folder(**{"numbers/gre": VALUES}))
         self.assertEqual(found, [
-            rows.Value("tables/numbers/gre:6", "GreType", 1, "GRE_ONE", "One"),
-            rows.Value("tables/numbers/gre:7", "GreType", 2, "", "Two"),
-            rows.Value("tables/numbers/gre:11", "GreSet", 0x4000, "GRE_KEY", "Key")])
+            rows.Value("tables/numbers/gre:6", "GreType", 1, "GRE_ONE", "One", False),
+            rows.Value("tables/numbers/gre:7", "GreType", 2, "", "Two", False),
+            rows.Value("tables/numbers/gre:11", "GreSet", 0x4000, "GRE_KEY", "Key", True)])
 
     def test_bad_tables(self):
         """What cannot be read is named with file and line."""

@@ -108,7 +108,6 @@ FORMAT = """\
 | type | numbers | display |
 |---|---|---|
 | FooMode u8 | 1 One, 0x00C2 Odd | one, odd |
-| FooScrub u32 | 0 None, all others Default; Default gives 1 | none |
 
 ## Flag sets
 
@@ -189,8 +188,7 @@ class Pages(unittest.TestCase):
         self.assertEqual(written_pages.link_info(FORMAT),
                          [(1, "IFLA_INFO_KIND"), (2, "IFLA_INFO_DATA")])
         self.assertEqual(written_pages.values(FORMAT), {
-            "FooMode": [(1, "One"), (0xc2, "Odd")], "FooScrub": [(0, "None"), (1, "Default")],
-            "FooFlags": [(0x2000, "Key"), (4, "Seq")]})
+            "FooMode": [(1, "One"), (0xc2, "Odd")], "FooFlags": [(0x2000, "Key"), (4, "Seq")]})
 
     def test_show(self):
         """Rows by links, with those that a section shares."""
@@ -216,6 +214,19 @@ class Tables(unittest.TestCase):
         sit = [shared[0], (8, "flags", "Be16", "Hex"), shared[1]]
         self.assertEqual(written.view(both, []), {"Foo": shared, "Sit": sit, "A": [], "B": []})
         self.assertEqual(written.show_rows([TUNNELS], []), {"foo": shared, "sit": sit})
+
+    def test_numbers(self):
+        """Those of types by hand are not compared with the page."""
+        every = [rows.Value("t/foo:1", "FooMode", 1, "", "One", False),
+                 rows.Value("t/foo:2", "FooMode", 0xc2, "", "Odd", False),
+                 rows.Value("t/foo:3", "FooFlags", 4, "", "Key", True)]
+        mode = {"foomode": [(1, "One"), (0xc2, "Odd")]}
+        self.assertEqual(written.values([], every), {**mode, "fooflags": [(4, "Key")]})
+        self.assertEqual(written.values_on_page([], every), mode)
+        self.assertEqual(written.page_values({written.FORMAT: FORMAT}.get, every), mode)
+        specs = {f"{written.NUMBERS}/Foo.antt": NUMBERS}
+        self.assertEqual(written.numbers_read(specs.get, every), {
+            **mode, "fooflags": [(0x2000, "Key"), (4, "Seq")]})
 
     def test_differences(self):
         """Rows that are missing, are too many, or in another order."""
