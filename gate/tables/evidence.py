@@ -57,8 +57,19 @@ def with_fetched_headers(kept, tables):
         if fetch.is_newer(kept.version, version):
             return kept, f"the stored list of {kept.version} is newer than {version}, and is taken"
         groups = headers.watched(headers.read(path), names_of(tables))
-    given = dataclasses.replace(kept, version=version, groups=groups)
-    return given, f"those of {version} are taken"
+    said = f"those of {version} are taken"
+    if version != kept.version:
+        said += f"; gate/tables/run --write stores them in place of those of {kept.version}"
+    return dataclasses.replace(kept, version=version, groups=groups), said
+
+
+def altered(kept, given):
+    """The names that are stored with another number than headers give them, a line each: the
+    kernel never changes one."""
+    numbers = given.numbers
+    return [f"gate/tables/stored/headers.txt: {name} is {numbers[name]} in the headers of "
+            f"{given.version}, not {number}" for name, number in kept.numbers.items()
+            if numbers.get(name, number) != number]
 
 
 def store(tables):

@@ -30,15 +30,23 @@ def written_cases(tables):
         yield path, written.check(path, tables, read)
 
 
+def each_test(suite):
+    """The tests of a suite, which has others."""
+    for one in suite:
+        yield from each_test(one) if isinstance(one, unittest.TestSuite) else [one]
+
+
 def unit_tests():
-    """What the unit tests say, if one fails."""
+    """What each unit test says, if it fails."""
     suite = unittest.defaultTestLoader.discover(str(evidence.HERE / "tests"),
                                                 top_level_dir=str(evidence.HERE.parent))
-    result = unittest.TestResult()
-    suite.run(result)
-    if not result.testsRun:
-        return ["there are no unit tests"]
-    return [f"{test}: {text}" for test, text in result.failures + result.errors]
+    count = 0
+    for count, test in enumerate(each_test(suite), 1):
+        result = unittest.TestResult()
+        test.run(result)
+        yield test.id(), [text for _, text in result.failures + result.errors]
+    if not count:
+        yield "unit tests", ["there is none"]
 
 
 def cases(options):
@@ -49,13 +57,14 @@ def cases(options):
     if "--stored" not in options:
         given, taken = evidence.with_fetched_headers(kept, tables)
     print(f"tables: headers: {taken}")
+    yield "the stored list of names", evidence.altered(kept, given)
     found = [*kernel_cases(tables, given), *written_cases(tables)]
     yield from found
     if any(wrong for _, wrong in found):
         print("tables: no errors were planted, since there are some")
     else:
         yield from planted.cases(TABLES, tables, kept, read)
-    yield "unit tests", unit_tests()
+    yield from unit_tests()
 
 
 def write():
