@@ -10,10 +10,11 @@ ATTRIBUTE = re.compile(r"(IFLA|BRIDGE_QUERIER)_\w+|\w+_INFO_PEER")
 
 BYTE = {"U8", "Truth", "TruthOne", "EmptyOrByte"}
 LISTS = {"Nested", "SelfList", "V4List", "V6List"}
-# The layouts that each call allows, and each type of a policy, which has no byte order.
+# The layouts that each call allows, and each type of a policy, which has no byte order. A new
+# layout is added here, and to LAYOUTS of ynl.py.
 CALLS = {
     "u8": BYTE, "u16": {"Le16"}, "u32": {"Le32", "Scrub"}, "u64": {"Le64"}, "s32": {"I32"},
-    "be16": {"Be16"}, "be32": {"Be32"}, "be64": {"Be64"}, "sci": {"Le64"},
+    "be16": {"Be16"}, "be32": {"Be32"}, "be64": {"Be64"}, "sci": {"Le64", "Be64"},
     "flag": {"Mark", "EmptyOrByte"}, "string": {"Name"}, "nest": LISTS,
     "in_addr": {"V4", "GeneveV4", "Ip"}, "in6_addr": {"V6", "GeneveV6", "Ip"},
 }

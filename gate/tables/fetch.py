@@ -11,13 +11,14 @@ PACKAGES = ROOT / "gate/suite_packages"
 # Of these the newest kernel is taken.
 SUITES = ("experimental", "unstable")
 SECONDS = 120
+SECONDS_OF_SOURCE = 1800
 
 
-def package(folder, suites, name):
-    """Unpacks a package of some suites in a folder: whether it came."""
+def package(folder, suites, name, seconds=SECONDS):
+    """Unpacks a package of some suites in a folder: whether it came in time."""
     words = [PACKAGES, folder, suites, f"^{name}$", name]
     try:
-        subprocess.run(words, check=True, capture_output=True, timeout=SECONDS)
+        subprocess.run(words, check=True, capture_output=True, timeout=seconds)
     except (OSError, subprocess.SubprocessError):
         return False
     return True
@@ -57,7 +58,7 @@ def source(folder, given):
     package is that of the version `given`; None where it does not come."""
     series = re.match(r"\d+\.\d+", given)[0]
     name = f"linux-source-{series}"
-    if not package(folder, " ".join(SUITES), name):
+    if not package(folder, " ".join(SUITES), name, SECONDS_OF_SOURCE):
         return None
     found = {}
     archive = next((folder / "usr/src").glob("*.tar.xz"))

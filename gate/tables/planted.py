@@ -51,8 +51,6 @@ VALUES = [
     ("macvlan", [("MACVLAN_MODE_VEPA", "name", "MACVLAN_MODE_VEPPA")], {HEADERS, WITHOUT}),
 ]
 TOKEN = re.compile(r"\b(?:[A-Za-z_]\w*\b(?!::)|\d+\b)")
-# Of each file every so many rows, of which each part is changed in turn.
-STEP = 9
 
 
 def changed_cell(line, column, text):
@@ -98,8 +96,8 @@ def in_headers(tables, given):
 
 
 def edits(text, lines):
-    """The text with a change of each part of some of its lines."""
-    for start, line in lines[::STEP]:
+    """The text with a change of each part of each of these lines, in turn."""
+    for start, line in lines:
         for part in TOKEN.finditer(line):
             word = part[0]
             other = str(int(word) + 1) if word.isdecimal() else f"{word}X"
