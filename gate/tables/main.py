@@ -1,4 +1,5 @@
 """The command gate/tables/run."""
+import functools
 import pathlib
 import sys
 import unittest
@@ -10,6 +11,7 @@ TABLES = ROOT / "tables"
 OPTIONS = {"--stored", "--write"}
 
 
+@functools.cache
 def read(path):
     """The text of a file of the repository."""
     return (ROOT / path).read_text(encoding="utf-8")

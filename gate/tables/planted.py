@@ -115,10 +115,11 @@ ROWS = {
 }
 
 
-def noticed(path, tables, numbers, read):
+def noticed(path, ours, numbers, read):
     """Whether a file is not as in the tables, or the list of IFLA_LINKINFO not as in headers."""
     try:
-        return bool(written.check(path, tables, read) or written.check_list(read, numbers))
+        return (written.FILES[path][1](read, []) != ours or
+                path in (written.NAMES, written.FORMAT) and written.check_list(read, numbers))
     except (ValueError, LookupError, AttributeError):
         return True
 
@@ -126,13 +127,13 @@ def noticed(path, tables, numbers, read):
 def in_written(tables, numbers, read):
     """Whether each change of a row of a file is noticed."""
     for path, row in ROWS.items():
-        text = read(path)
+        text, ours = read(path), written.FILES[path][0](*tables)
         lines = [(it.start(), it[0]) for it in re.finditer(row, text, re.M)]
         missed, tried = [], 0
         for said, edited in edits(text, lines):
             tried += 1
             copies = {path: edited}
-            if not noticed(path, tables, numbers, lambda it, copies=copies:
+            if not noticed(path, ours, numbers, lambda it, copies=copies:
                            copies.get(it) or read(it)):
                 missed.append(f"{path}: {said} is not noticed")
         yield f"planted in {path}: {tried} changes of rows", missed or ["none"] * (not tried)
