@@ -30,6 +30,7 @@ def written_cases(tables):
     """What files do not have as the tables have it, by file."""
     for path in written.FILES:
         yield path, written.check(path, tables, read)
+    yield f"counts and formats of {written.SHOW}", written.check_show(read, tables[0])
 
 
 def each_test(suite):

@@ -133,3 +133,13 @@ def check_list(read, numbers):
     return [f"{path}: {row} is not as in the kernel's headers"
             for path, rows in ((NAMES, in_code), (FORMAT, on_page))
             for row in set(rows) ^ set(wanted)]
+
+
+def check_show(read, families):
+    """What docs/SHOW.md says otherwise of its tables: how many rows, and which formats."""
+    said, counts = written_pages.counts(read(SHOW))
+    described = written_pages.formats(read(SHOW))
+    used = {row.format.split(" ")[0] for family in families for row in family.rows} - {""}
+    return [f"{SHOW}: it says {said} rows and tables, and has {counts}"] * (said != [counts]) + [
+        f"{SHOW}: {'no row has' if it in described else 'it does not describe'} the format {it}"
+        for it in sorted(described ^ used)]

@@ -5,6 +5,8 @@ FAMILY = re.compile(r"^### (.*)\n\n\| type .*\n\|---.*\n((?:\|.*\n)+)", re.M)
 LIST = re.compile(r"^## The list inside IFLA_LINKINFO\n\n\|.*\n\|---.*\n((?:\|.*\n)+)", re.M)
 SECTION = re.compile(r"^\*\*([^*]+)\*\*: (?:.+\n)+\n\| type \| member \| shape \| format \|\n"
                      r"\|---\|---\|---\|---\|\n((?:\|.*\n)+)(?:\nAnd those of (.+)\.\n)?", re.M)
+COUNTS = re.compile(r"^(\d+) rows in (\d+) tables\.", re.M)
+FORMATS = re.compile(r"^\| format \| what is shown \|\n\|---\|---\|\n((?:\|.*\n)+)", re.M)
 TYPES = re.compile(r"^\| (\w+) u\d+ \| ([^|]*) \|", re.M)
 VALUE = re.compile(r"(0x[\dA-Fa-f]+|\d+) ([A-Z]\w*)|([A-Z]\w*) (0x[\dA-Fa-f]+|\d+)")
 
@@ -55,3 +57,15 @@ def show_rows(page):
             shared[title] = others
     return {title: sorted(rows + sections[shared[title]]) if title in shared else rows
             for title, rows in sections.items() if title not in shared.values()}
+
+
+def counts(page):
+    """docs/SHOW.md: how many rows and tables it says that it has, and how many it has."""
+    rows = [len(body.splitlines()) for _, body, _ in SECTION.findall(page)]
+    return [tuple(map(int, it)) for it in COUNTS.findall(page)], (sum(rows), len(rows))
+
+
+def formats(page):
+    """docs/SHOW.md: the formats that it describes."""
+    return {name.strip() for names, _ in cells(FORMATS.search(page)[1])
+            for name in names.split(",")}
