@@ -1,8 +1,10 @@
 """Fetches the kernel's headers, and files of its source, from Debian (gate/suite_packages)."""
 import concurrent.futures
 import gzip
+import os
 import pathlib
 import re
+import signal
 import subprocess
 import tarfile
 
@@ -17,11 +19,14 @@ SECONDS_OF_SOURCE = 1800
 def package(folder, suites, name, seconds=SECONDS):
     """Unpacks a package of some suites in a folder: whether it came in time."""
     words = [PACKAGES, folder, suites, f"^{name}$", name]
-    try:
-        subprocess.run(words, check=True, capture_output=True, timeout=seconds)
-    except (OSError, subprocess.SubprocessError):
-        return False
-    return True
+    nothing = subprocess.DEVNULL
+    with subprocess.Popen(words, stdout=nothing, stderr=nothing, start_new_session=True) as ran:
+        try:
+            return ran.wait(seconds) == 0
+        except subprocess.TimeoutExpired:
+            # (with what it started)
+            os.killpg(ran.pid, signal.SIGKILL)
+            return False
 
 
 def version(folder, name):

@@ -33,11 +33,6 @@ class Family:
     views: dict         # the tables of the view by kind, where there are several
     rows: tuple
 
-    @property
-    def kinds(self):
-        """The kinds of links of which each has rows of its own; else one that is empty."""
-        return sorted({row.under for row in self.rows if row.under}) or [""]
-
     def of_kind(self, kind):
         """The rows of a kind, in order: one of its own stands for that of all kinds."""
         found = {}
@@ -93,7 +88,7 @@ def family(path, root):
     top = [line for _, line in lines].index("")
     given = head(lines[1:top])
     names = re.fullmatch(r"(\w+)(?: and (\w+))?(?:,.*)?", given["family"])
-    prefixes = re.findall(r"(\w+)\*", given["names"] + given.get("twin", ""))
+    prefixes = re.findall(r"(\w+)\*", " ".join([given["names"], given.get("twin", "")]))
     columns, *body = lines[top + 1:]
     if cells(columns[1]) != COLUMNS:
         raise Bad(f"{columns[0]}: the columns are not {', '.join(COLUMNS)}")

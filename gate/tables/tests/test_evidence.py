@@ -1,6 +1,7 @@
 """Tests of what is stored and fetched, and of what is planted."""
 import pathlib
 import tempfile
+import time
 import unittest
 from unittest import mock
 
@@ -54,6 +55,27 @@ class Evidence(unittest.TestCase):
         self.assertTrue(all(f" of Linux {kept.version}" in it.splitlines()[0] for it in texts))
         self.assertEqual(kept.numbers["IFLA_INFO_SLAVE_DATA"], 5)
         self.assertEqual(kept.calls["IFLA_VXLAN_LABEL"], ["get be32", "policy U32", "put be32"])
+
+
+class Fetch(unittest.TestCase):
+    """How a package is fetched."""
+
+    def came(self, script, seconds):
+        """What is said where the fetching script is this one."""
+        with tempfile.TemporaryDirectory() as folder:
+            path = pathlib.Path(folder) / "packages"
+            path.write_text(f"#!/bin/sh\n{script}\n", encoding="utf-8")
+            path.chmod(0o755)
+            with mock.patch.object(fetch, "PACKAGES", path):
+                return fetch.package(path.parent / "to", "suite", "name", seconds)
+
+    def test_package(self):
+        """It comes, does not come, or does not come in time, and then nothing goes on."""
+        self.assertTrue(self.came('[ "$2 $3 $4" = "suite ^name$ name" ]', 60))
+        self.assertFalse(self.came("exit 1", 60))
+        began = time.monotonic()
+        self.assertFalse(self.came("sleep 60 & wait", 0.2))
+        self.assertLess(time.monotonic() - began, 30)
 
 
 class Planted(unittest.TestCase):
