@@ -8,6 +8,8 @@ from . import calls, fetch, header, headers, lists, printed, rows, ynl
 HERE = pathlib.Path(__file__).resolve().parent
 # What `ip` prints of real links.
 LINKS = HERE.parent / "show/ip.json"
+# The check of names that the headers have and no table has.
+WITHOUT = "names without a table"
 STORED = {name: HERE / f"stored/{name}.txt" for name in ("headers", "ynl", "calls")}
 
 
@@ -90,13 +92,19 @@ def store(tables):
     return version
 
 
+def beside_headers(tables, given):
+    """What the headers say otherwise than the tables, and the names that no table has, a line
+    each."""
+    return header.check(tables, given.version, given.groups, lists.read("elsewhere"),
+                        lists.read("apart"))
+
+
 def judged(tables, given):
     """What is said otherwise than in tables, a list of lines by the name of the check; and the
     counts of each."""
     families, _ = tables
-    wrong, unnamed = header.check(tables, given.version, given.groups, lists.read("elsewhere"),
-                                  lists.read("apart"))
-    found = {"headers": wrong, "names without a table": unnamed}
+    wrong, unnamed = beside_headers(tables, given)
+    found = {"headers": wrong, WITHOUT: unnamed}
     counts = {"headers": {"names": len(list(header.named(*tables)))}}
     for name, check, source, known in (
             ("rt-link.yaml", ynl.check, given.sets, "not_as_ynl"),

@@ -17,9 +17,15 @@ def read(path):
     return (ROOT / path).read_text(encoding="utf-8")
 
 
-def kernel_cases(tables, given):
-    """What the kernel says otherwise than the tables, by check."""
+def kernel_cases(tables, given, kept):
+    """What the kernel says otherwise than the tables, by check. A new name of headers that are
+    newer than the stored ones is only reported: no upload of Debian fails a merge."""
     found, said = evidence.judged(tables, given)
+    if given is not kept:
+        newer, (_, found[evidence.WITHOUT]) = (found[evidence.WITHOUT],
+                                               evidence.beside_headers(tables, kept))
+        for line in sorted({*newer}.difference(found[evidence.WITHOUT])):
+            print(f"tables: headers: new in {given.version}: {line}")
     for name, counts in said.items():
         print(f"tables: {name}: " + ", ".join(f"{count} {it}" for it, count in counts.items()))
     yield from found.items()
@@ -61,7 +67,7 @@ def cases(options):
         given, taken = evidence.with_fetched_headers(kept, tables)
     print(f"tables: headers: {taken}")
     yield "the stored list of names", evidence.altered(kept, given)
-    found = [*kernel_cases(tables, given), *written_cases(tables)]
+    found = [*kernel_cases(tables, given, kept), *written_cases(tables)]
     yield from found
     if any(wrong for _, wrong in found):
         print("tables: no errors were planted, since there are some")
