@@ -7,7 +7,7 @@ import tempfile
 
 from . import evidence, headers, rows, written
 
-HEADERS, WITHOUT = "headers", "names without a table"
+HEADERS, WITHOUT = "headers", evidence.WITHOUT
 YNL, DRIVERS, IP = "rt-link.yaml", "drivers", "ip"
 COLUMNS = {name: at for at, name in enumerate(rows.COLUMNS)}
 # The table, the cells that are changed (name, column, text), and all checks that notice it. Where a
