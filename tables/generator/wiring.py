@@ -114,6 +114,7 @@ def outputs(tables):
     found = of_kinds(tables, kinds.read(tables.root, "ports"), {row["data"]: row for row in rows})
     found |= {"data": rows, "tables": unique(listed_in, "declared"), "plain": listed_in,
               "flat": [row for row in ordered if not row["form"]], "Tunnel": groups[2],
+              "typed": [{"family": it} for of in tables.families if of.typed for it in of.families],
               "laws": [row for row in unique(rows, "plain")
                        if row in listed_in and row["form"] != "twin"]}
     return list(places.parts({

@@ -77,6 +77,7 @@ all_agree t f all number sh h = agrees t (layer_rows f) number sh all h
 
 -- the rows of a family have the shapes of the library
 pub same_shapes : (f : Family) → Agrees (table.Family f) f
+-- Begin: written by tables/generate from tables/families.
 same_shapes family.Amt = all_agree (table.Family family.Amt) family.Amt refl
 same_shapes family.BareUdp = all_agree (table.Family family.BareUdp) family.BareUdp refl
 same_shapes family.BatAdv = all_agree (table.Family family.BatAdv) family.BatAdv refl
@@ -100,6 +101,7 @@ same_shapes family.Wwan = all_agree (table.Family family.Wwan) family.Wwan refl
 same_shapes family.Xfrm = all_agree (table.Family family.Xfrm) family.Xfrm refl
 same_shapes family.Vti = all_agree (table.Family family.Vti) family.Vti refl
 same_shapes family.Vxlan = all_agree (table.Family family.Vxlan) family.Vxlan refl
+-- End: written by tables/generate.
 same_shapes _ = λ n sh h. absurd (cc)
 
 pub sit_shapes : Agrees table.Sit family.IpTunnel
