@@ -420,7 +420,7 @@ struct linkinfo_unmet {
  * or the port kind has the same name. Data that is a list is compared attribute
  * by attribute, so empty data of such a kind is met by any data of that kind,
  * and not without data. Other data, as that of veth and vxcan, and nested lists
- * are compared as a whole, with their order; the flag bits of known types inside
+ * are compared as a whole, with their order; the flag bits of known types in
  * nested lists do not matter, those of unknown types do.
  *
  * Return: the first attribute of the request that is not met, or the error of a
