@@ -1,6 +1,5 @@
 """Reads the tables of families, their order (tables/families), and the layouts of payloads."""
 import collections
-import dataclasses
 import re
 
 from . import form
@@ -22,23 +21,35 @@ Layout = collections.namedtuple("Layout", [
     "name", "field", "variable", "read", "exact", "rejects", "tail", "condition"])
 
 
-@dataclasses.dataclass
 class Row:
-    """An attribute."""
-    line: form.Line
-    number: int
-    under: str          # the kind of link that alone has it, else empty
-    kernel: str         # the kernel's name
-    variants: list      # none if it is shown, and otherwise opaque; two if an empty payload has one
-    layout: Layout
-    value: form.Value   # the type that the number is made into, or none
-    member: str
-    shown: str
-    docs: list
+    """An attribute. `under` is the kind of link that alone has it, else empty; `kernel` the
+    kernel's name; `value` the type that the number is made into, or none. `variants` are none if it
+    is shown, and otherwise opaque; two if an empty payload has one."""
 
-    def __post_init__(self):
-        self.shape, self.variant = self.layout.name, (self.variants or [""])[-1]
-        self.two, self.made = len(self.variants) == 2, self.value.made if self.value else ""
+    def __init__(self, row, prefix, layouts, values):
+        self.line, self.docs = row.line, row.docs
+        number, _, self.under = row["type"].partition("/")
+        self.shape, *value = (row["layout"] or "-").split()
+        if not number.isdecimal() or int(number) >= 1 << 14:
+            raise self.line.bad(f"{number or '-'} is no type")
+        if self.shape not in layouts:
+            raise self.line.bad(f"{self.shape} is no layout")
+        self.number, self.layout = int(number), layouts[self.shape]
+        self.value = values.get(value[-1]) if value[:1] == ["as"] and len(value) == 2 else None
+        if value and not self.value:
+            raise self.line.bad(f"{' '.join(value)} is not `as` and a type of tables/numbers")
+        bits = re.fullmatch(r"[ui](\d+)", self.layout.field)
+        if self.value and bits and self.value.bits != int(bits[1]):
+            raise self.line.bad(f"{self.value.name} has {self.value.bits} bits, and {self.shape} "
+                                f"has {bits[1]}")
+        self.variants = row["variant"].split("/") if row["variant"] else []
+        if len(row.docs) != len(self.variants):
+            raise self.line.bad("not a doc comment for each variant")
+        if not row["name"]:
+            raise self.line.bad("a row without a name")
+        self.kernel, self.member, self.shown = prefix + row["name"], row["member"], row["shown as"]
+        self.variant, self.two = (self.variants or [""])[-1], len(self.variants) == 2
+        self.made = self.value.made if self.value else ""
         self.field = self.value.name if self.value else self.layout.field
         self.numbered = self.made in ("number", "reference")
 
@@ -56,7 +67,8 @@ class Row:
 class Family:
     """A family, or two that have the same rows: the head of the table, and its rows."""
 
-    def __init__(self, table, layouts, values):
+    def __init__(self, root, name, layouts, values):
+        table = form.read(root, name, COLUMNS, KEYS)
         head = {key: table.head[key].text if key in table.head else "" for key in KEYS}
         where = FAMILY.fullmatch(head["family"])
         names = re.fullmatch(r"(\w+)\*(.*)", head["names"])
@@ -66,7 +78,7 @@ class Family:
             if not found:
                 raise table.head[key].bad(f"{head[key]} is no {key}: see tables/README.md")
         self.name, self.twin, by_hand, self.crate, module, other = where.groups()
-        self.table, self.title = table.path.removeprefix("tables/"), table.title
+        self.table, self.title = name, table.title
         self.flat = bool(self.crate and not by_hand)
         self.families = [self.name, *[self.twin] * bool(self.twin)]
         self.type, self.snake = f"Info{self.name}", snake(self.name)
@@ -78,72 +90,32 @@ class Family:
         self.header, self.listed_in = head["header"] or form.LINK_HEADER, head["rows"]
         self.alias, _, self.alias_said = head["alias"].partition(", ")
         self.parts = dict(it.split() for it in head["tables"].split(", ") if it)
-        self.rows = [read_row(row, self.prefix, layouts, values) for row in table.rows]
-        check(self.rows)
+        self.rows = [Row(row, self.prefix, layouts, values) for row in table.rows]
         self.typed = [row for row in self.rows if row.variants]
         self.plain = [row for row in self.typed if not row.under]
-        for row in self.typed:
-            known = row.layout.variable and (row.field or row.shape == "Mark") and not row.under
-            if self.flat and not known:
-                raise row.line.bad("such a row is only in a module by hand")
+        self.check()
         self.values = list(dict.fromkeys(row.value for row in self.typed if row.value))
         self.kinds = re.findall(r"\w+", self.links.split(", and its")[0].replace(" and ", ", "))
         self.quoted = listed([f"`{kind}`" for kind in self.kinds])
         where = f" ({self.header})" * (self.header != form.LINK_HEADER)
         self.names = f"`{self.prefix}*`{where}{more}."
 
-
-def read_row(row, prefix, layouts, values):
-    """An attribute of a row."""
-    number, _, under = row["type"].partition("/")
-    name, *value = (row["layout"] or "-").split()
-    if not number.isdecimal() or int(number) >= 1 << 14:
-        raise row.line.bad(f"{number or '-'} is no type")
-    if name not in layouts:
-        raise row.line.bad(f"{name} is no layout")
-    layout = layouts[name]
-    made = values.get(value[-1]) if value[:1] == ["as"] and len(value) == 2 else None
-    if value and not made:
-        raise row.line.bad(f"{' '.join(value)} is not `as` and a type of tables/numbers")
-    bits = re.fullmatch(r"[ui](\d+)", layout.field)
-    if made and bits and made.bits != int(bits[1]):
-        raise row.line.bad(f"{made.name} has {made.bits} bits, and {name} has {bits[1]}")
-    variants = row["variant"].split("/") if row["variant"] else []
-    if len(row.docs) != len(variants):
-        raise row.line.bad("not a doc comment for each variant")
-    if not row["name"]:
-        raise row.line.bad("a row without a name")
-    return Row(row.line, int(number), under, prefix + row["name"], variants, layout, made,
-               row["member"], row["shown as"], row.docs)
-
-
-def check(rows):
-    """Rejects rows out of order, and names that two rows have."""
-    for row, after in zip(rows, rows[1:]):
-        if after.number < row.number:
-            raise after.line.bad(f"type {after.number} is after type {row.number}")
-    form.apart((row.line, f"type {row.number}/{row.under}".rstrip("/")) for row in rows)
-    form.apart((row.line, name) for row in rows for name in row.variants)
-    for name in ("member", "kernel"):
-        form.apart((row.line, getattr(row, name)) for row in rows if not row.under)
+    def check(self):
+        """Rejects rows out of order, names that two rows have, and rows that no module has."""
+        for row, after in zip(self.rows, self.rows[1:]):
+            if after.number < row.number:
+                raise after.line.bad(f"type {after.number} is after type {row.number}")
+        form.apart((row.line, f"type {row.number}/{row.under}".rstrip("/")) for row in self.rows)
+        form.apart((row.line, name) for row in self.rows for name in row.variants)
+        for name in ("member", "kernel"):
+            form.apart((row.line, getattr(row, name)) for row in self.rows if not row.under)
+        for row in self.typed:
+            known = row.layout.variable and (row.field or row.shape == "Mark") and not row.under
+            if self.flat and not known:
+                raise row.line.bad("such a row is only in a module by hand")
 
 
 def layouts(root):
     """The layouts by name, in the order of `Shape`."""
-    rows = form.read(root, "layouts", LAYOUTS).rows
-    form.apart((row.line, row["layout"]) for row in rows)
-    return {row["layout"]: Layout(*row.cells.values(), *[*row.docs, "", ""][:2]) for row in rows}
-
-
-def order(root):
-    """The rows of tables/families."""
-    rows = form.read(root, "families", ORDER).rows
-    for column in ("code", "family"):
-        form.apart((row.line, row[column]) for row in rows)
-    return rows
-
-
-def read(root, values, known, ordered):
-    """The families that have a table, in their order."""
-    names = dict.fromkeys(row["table"] for row in ordered if row["table"])
-    return [Family(form.read(root, name, COLUMNS, KEYS), known, values) for name in names]
+    return {row["layout"]: Layout(*row.cells.values(), *[*row.docs, "", ""][:2])
+            for row in form.read(root, "layouts", LAYOUTS, apart_in=["layout"]).rows}

@@ -1,10 +1,9 @@
 """Writes what follows from the table of a flat family: its module, its specs, its conditions, an
 explicit proof if it has many rows, and its lines and clauses in its crate. Of a family by hand it
 writes the variants and the rows."""
-from .lists import parts_of
 from .marks import of_family, of_row
 from .parts import Part, Whole
-from .places import put_in, sections
+from .places import parts, put_in, sections
 from .text import tidy
 
 MANY = 6        # from so many rows on, `store_decoded` has an explicit proof
@@ -17,8 +16,8 @@ PATHS = {"module": "crates/‹crate›/src/‹module›.rt",
 def by_hand(family):
     """The parts of modules by hand. Of two families, the second one has names of its own."""
     for at, name in enumerate(family.modules):
-        rows = [of_row(row, 0, f"Info{family.families[at]}") for row in family.typed]
-        text = put_in(sections("family")["variants"], {"values": rows})
+        text = put_in(sections("family")["variants"], {"values": map(of_row, family.typed)})
+        text = text.replace("‹info›", f"Info{family.families[at]}")
         if at:
             text = text.replace(f"`{family.kinds[0]}`", f"`{family.kinds[1]}`")
             text = text.replace(family.prefix, family.twin_prefix)
@@ -31,11 +30,10 @@ def by_hand(family):
 def crate_parts(crate, families):
     """The lines and clauses of the flat families of a crate."""
     given = {"crate": crate, "values": [
-        {**vars(it), "types": f"{{{it.type}, {it.alias}}}" if it.alias else it.type}
-        for it in families]}
+        {**vars(it), "types": ", ".join(filter(None, [it.type, it.alias]))} for it in families]}
     for mark in ("conditions", "stated"):
         given[mark] = ", ".join(sorted(f"{it.snake}_{mark}" for it in families))
-    return parts_of("crate", given)
+    return parts("crate", {"crate": [(given, [given])]})
 
 
 def outputs(tables):

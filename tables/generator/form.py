@@ -17,12 +17,8 @@ class Bad(Exception):
         super().__init__(f"{path}:{number}: {said}")
 
 
-@dataclasses.dataclass(frozen=True)
-class Line:
+class Line(collections.namedtuple("Line", "path number text")):
     """A line of a table, or a part of it."""
-    path: str
-    number: int
-    text: str
 
     def bad(self, said):
         """The error of this line."""
@@ -49,11 +45,6 @@ class Row:
 
 # A table: its path, its title, the lines of its head by their first word, and its rows.
 Table = collections.namedtuple("Table", ["path", "title", "head", "rows"])
-
-# A type that is made from a number: its name; its width; how it is made, which is number, reference
-# (a number made from a reference), flags, pair, or scrub; the module of linkinfo_numbers; its
-# variable in specs; and the name of its entry in a proof of `ExactEq`.
-Value = collections.namedtuple("Value", ["name", "bits", "made", "module", "word", "exact"])
 
 
 def lines(root, name):
@@ -117,8 +108,9 @@ def rows(found, columns):
     return given
 
 
-def read(root, name, columns, keys=()):
-    """The table tables/NAME with these columns, and these keys of its head."""
+def read(root, name, columns, keys=(), apart_in=()):
+    """The table tables/NAME with these columns, and these keys of its head. In the columns
+    `apart_in` no two cells are the same."""
     found = lines(root, name)
     title, given = head(found, keys)
     at = len(given) + 2
@@ -126,7 +118,10 @@ def read(root, name, columns, keys=()):
         raise found[min(at, len(found) - 1)].bad(f"the columns are not {', '.join(columns)}")
     if at + 1 == len(found):
         raise found[at].bad("the table has no rows")
-    return Table(found[0].path, title, given, rows(found[at + 1:], columns))
+    table = Table(found[0].path, title, given, rows(found[at + 1:], columns))
+    for column in apart_in:
+        apart((row.line, row[column]) for row in table.rows)
+    return table
 
 
 def apart(named):

@@ -1,5 +1,5 @@
 """Reads tables/kinds and tables/ports."""
-import dataclasses
+import collections
 import re
 
 from . import form
@@ -11,18 +11,9 @@ GROUPS = {"Lower": "linkinfo_table::lower", "Device": "linkinfo_devices",
 # The lengths of names for which `tag_of_name` has an arm; those above four are compared as u64.
 LENGTHS = {3: "three", 4: "four", 5: "five", 6: "six", 7: "seven", 9: "nine"}
 
-
-@dataclasses.dataclass(frozen=True)
-class Kind:
-    """A kind of links, or a port kind. `group` and `data` are the group and the variant of its
-    data, or empty."""
-    line: form.Line
-    code: int
-    name: str
-    variant: str
-    group: str
-    data: str
-    what: str
+# A kind of links, or a port kind. `group` and `data` are the group and the variant of its data, or
+# empty.
+Kind = collections.namedtuple("Kind", "line code name variant group data what")
 
 
 def kind_of(row):
@@ -39,12 +30,11 @@ def kind_of(row):
 
 def read(root, name="kinds"):
     """The kinds, whose codes are in order: C's numbers never change."""
-    found = [kind_of(row) for row in form.read(root, name, COLUMNS).rows]
+    table = form.read(root, name, COLUMNS, apart_in=["kind", "variant"])
+    found = [kind_of(row) for row in table.rows]
     for before, kind in zip(found, found[1:]):
         if kind.code <= before.code:
             raise kind.line.bad(f"code {kind.code} is after code {before.code}")
-    for key in ("name", "variant"):
-        form.apart((kind.line, getattr(kind, key)) for kind in found)
     return found
 
 

@@ -64,9 +64,9 @@ def exact(row, at, lets, is_listed):
     return found
 
 
-def of_row(row, at=0, info=""):
+def of_row(row):
     """The marks of a row that need nothing else."""
-    field, either = row.field.replace("‹info›", info), spelled(row.variant)
+    field, either = row.field, spelled(row.variant)
     bits, bare = row.value.bits if row.value else 0, row.shape == "Mark"
     simple = not (row.value or row.two or bare)
     return {
@@ -74,8 +74,8 @@ def of_row(row, at=0, info=""):
         "spelled": "custom" if row.shape in ("Peer", "SelfList") else spelled(row.shape),
         "how": f" or {row.variants[0]}" if row.two else HOW.get(row.made, "").replace("‹›", field),
         "doc": row.doc(len(row.variants) - 1), "first_doc": row.doc(0), "empty": row.variants[0],
-        "either": either, "short": either.split("_")[0], "at": str(at), "after": str(at + 1),
-        "value": row.value and snake(row.value.name), "word": row.value and row.value.word,
+        "either": either, "short": either.split("_")[0],
+        "value": row.value and snake(row.value.name), "word": row.value and row.value.in_specs,
         "bits": str(bits), "most": "256" if bits == 8 else f"(2 ^ {bits})", "bare": bare,
         "set": row.made == "flags", "pair": row.made == "pair", "simple": simple,
         "made_from": row.made == "flags" or row.numbered, "variable": row.layout.variable,
@@ -87,9 +87,9 @@ def of_rows(family, is_listed):
     """The marks of the rows."""
     seen, lets, found = set(), set(), []
     for at, row in enumerate(family.typed):
-        marks = of_row(row, at)
+        marks = of_row(row)
         found.append({**marks, **stored(row, marks, seen), **exact(row, at, lets, is_listed),
-                      "kept": kept(row, marks)})
+                      "at": str(at), "after": str(at + 1), "kept": kept(row, marks)})
     return found
 
 

@@ -5,9 +5,7 @@ import re
 from .form import LINK_HEADER
 from .parts import Part, Whole
 from .places import put_in, sections
-from .text import MOST, camel, fill, pairs, tidy
-
-HUMP = re.compile("(?<=[a-z0-9])(?=[A-Z])")
+from .text import camel, fill, fitting, pairs, tidy
 
 
 def value_row(value):
@@ -16,7 +14,7 @@ def value_row(value):
     return {"variant": value["variant"], "number": value["number"], "word_of": word,
             "digits": value["number"].replace("_", ""),
             "said": doc if doc.endswith(".") else f"`{value['name']}`: {doc}.",
-            "clause": HUMP.sub("_", value["variant"]).lower(),
+            "clause": re.sub("(?<=[a-z0-9])(?=[A-Z])", "_", value["variant"]).lower(),
             "word_given": f', "{word}"' if word else ""}
 
 
@@ -24,21 +22,19 @@ def listing(kind):
     """The list of the values of a number type, in specs."""
     it, (first, *others) = kind.snake, [f"{kind.in_specs}.{it['variant']}" for it in kind.values]
     words = [f"({first}", *[f"∷ {name}" for name in others], "∷ [])"]
-    call = f"by_number {it}_number {kind.in_specs}.Other"
-    for head in (f"{it}_table = {call} ", f"{it}_table =\n    {call} "):
-        if len(head.splitlines()[-1] + " ".join(words)) <= MOST:
-            return head + " ".join(words)
-    return f"{it}_table = {call}\n" + fill(words, "    ", "    ")
+    head, call = f"{it}_table =", f"by_number {it}_number {kind.in_specs}.Other"
+    line = f"{call} {' '.join(words)}"
+    return fitting(f"{head} {line}", f"{head}\n    {line}",
+                   f"{head} {call}\n{fill(words, '    ')}")
 
 
 def words_hold(kind):
     """The proof that the words of a number type are read back."""
     it, proofs = kind.snake, pairs(["refl"] * len(kind.values), "    ")
-    given = f"reads_words family.{kind.family} {it}_text {it}_table.named"
-    for text in (f" {given} {proofs}", f"\n    {given} {proofs}", f" {given}\n    {proofs}"):
-        if max(map(len, f"{it}_words_hold ={text}".splitlines())) <= MOST:
-            break
-    return f"{it}_words_hold ={text}"
+    head = f"{it}_words_hold ="
+    call = f"reads_words family.{kind.family} {it}_text {it}_table.named"
+    return fitting(f"{head} {call} {proofs}", f"{head}\n    {call} {proofs}",
+                   f"{head} {call}\n    {proofs}")
 
 
 def listed(kind):
@@ -64,12 +60,10 @@ def type_row(kind):
     others, default = kind.more.get("others"), kind.more.get("default")
     ref, (doc, header) = "&" * (kind.made == "reference"), doc_of(kind)
     return {
-        "name": kind.name, "snake": kind.snake, "module": kind.module, "file": camel(kind.module),
-        "bits": str(kind.bits), "doc": doc, "header": header, "listed": kind.listed,
-        "word": kind.word, "in_specs": kind.in_specs, "family": kind.family, "ref": ref,
-        "number": not kind.is_set, "now": ".now" * bool(ref), "alias": kind.more.get("alias"),
-        "hash": ", Hash" * ("hashed" in kind.more), "default": default,
-        "others": f', "{others.replace("(n)", "({})")}"' if others else "",
+        **vars(kind), "file": camel(kind.module), "bits": str(kind.bits), "doc": doc,
+        "header": header, "number": not kind.is_set, "ref": ref, "now": ".now" * bool(ref),
+        "alias": kind.more.get("alias"), "hash": ", Hash" * ("hashed" in kind.more),
+        "default": default, "others": f', "{others.replace("(n)", "({})")}"' if others else "",
         "values": [value_row(value) for value in kind.values], "listing": listing(kind),
         "apart": pairs(["λ p. cc"] * len(kind.values), "  "), "words_hold": words_hold(kind),
         "every": "0x" + "f" * (kind.bits // 4),

@@ -1,7 +1,6 @@
 """Reads tables/numbers: number types and flag sets, a table for each module of linkinfo_numbers. A
 type is a block: a line of itself, its doc comment, and a line for each value."""
 import collections
-import dataclasses
 import itertools
 import re
 
@@ -13,54 +12,6 @@ MORE = re.compile("(alias|by hand|by reference|default|hashed|in ExactEq|in spec
                   "words of)(?: (.+))?")
 COLUMNS = ("number", "name", "variant", "word")
 VALUE = re.compile(r"    (0x[\dA-Fa-f_]+|\d+)  ")
-
-
-@dataclasses.dataclass(frozen=True)
-class Type:
-    """A number type, or a flag set. `word` is its variable, `listed` the macro of its values, which
-    are rows with a number, the kernel's name, a variant, and a word or none."""
-    line: form.Line
-    module: str
-    name: str
-    bits: int
-    word: str
-    listed: str
-    more: dict
-    doc: str
-    values: list
-
-    @property
-    def snake(self):
-        return snake(self.name)
-
-    @property
-    def is_set(self):
-        return self.word == "flags"
-
-    @property
-    def family(self):
-        """The family in the error of a text that is no word, or empty if texts are not parsed."""
-        return self.more.get("words of", "")
-
-    @property
-    def by_hand(self):
-        return "by hand" in self.more
-
-    @property
-    def worded(self):
-        return any(value["word"] for value in self.values)
-
-    @property
-    def in_specs(self):
-        return self.more.get("in specs", self.word)
-
-    @property
-    def made(self):
-        """How rows make it: see `form.Value`."""
-        if self.by_hand:
-            return "pair" if "pair" in self.more else self.word
-        return "flags" if self.is_set else "reference" if "by reference" in self.more else "number"
-
 
 # A module: its name, title, types, and those of them that the generator writes.
 Group = collections.namedtuple("Group", "module title types written")
@@ -89,25 +40,44 @@ def value_of(bits, line, further):
     return value
 
 
-def type_of(module, block):
-    """The type of a block."""
-    head, *body = block
-    found = HEAD.fullmatch(head.text)
-    if not found:
-        raise head.bad("no line NAME WIDTH VARIABLE MACRO with a width of u8, u16, u32 or u64")
-    name, bits, word, listed, other = found.groups()
-    starts = [at for at, line in enumerate(body) if VALUE.match(line.text)] + [len(body)]
-    values = [value_of(int(bits), body[at], body[at + 1:to]) for at, to in zip(starts, starts[1:])]
-    doc = " ".join(line.text.strip() for line in body[:starts[0]])
-    kind = Type(head, module, name, int(bits), word, listed, more(head, other), doc, values)
-    if not doc or not values and not kind.by_hand:
-        raise head.bad(f"{name} has no doc comment, or no values")
-    form.apart((it.line, str(it.number("number"))) for it in values)
-    for column in COLUMNS[1:]:
-        form.apart((it.line, it[column]) for it in values)
-    if kind.worded and not all(value["word"] for value in values):
-        raise head.bad(f"some values of {name} have a word, and some have none")
-    return kind
+class Type:
+    """A number type, or a flag set, of a module. `word` is its variable; `listed` the macro of its
+    values, which are rows with a number, the kernel's name, a variant, and a word or none; `family`
+    that in the error of a text that is no word, or empty if texts are not parsed; `made` how rows
+    make it: number, reference (a number made from a reference), flags, pair, or scrub. `in_specs`
+    is its variable in specs, and `exact` the name of its entry in a proof of `ExactEq`."""
+
+    def __init__(self, module, block):
+        self.module, (self.line, *body) = module, block
+        found = HEAD.fullmatch(self.line.text)
+        if not found:
+            raise self.line.bad(
+                "no line NAME WIDTH VARIABLE MACRO with a width of u8, u16, u32 or u64")
+        self.name, bits, self.word, self.listed, other = found.groups()
+        starts = [at for at, line in enumerate(body) if VALUE.match(line.text)] + [len(body)]
+        self.snake, self.bits, self.more = snake(self.name), int(bits), more(self.line, other)
+        self.doc = " ".join(line.text.strip() for line in body[:starts[0]])
+        self.values = [value_of(self.bits, body[at], body[at + 1:to])
+                       for at, to in zip(starts, starts[1:])]
+        self.is_set, self.by_hand = self.word == "flags", "by hand" in self.more
+        self.worded = any(value["word"] for value in self.values)
+        self.family = self.more.get("words of", "")
+        self.in_specs = self.more.get("in specs", self.word)
+        self.exact = self.more.get("in ExactEq", self.in_specs)
+        made = "flags" if self.is_set else "reference" if "by reference" in self.more else "number"
+        by_hand = "pair" if "pair" in self.more else self.word
+        self.made = by_hand if self.by_hand else made
+        self.check()
+
+    def check(self):
+        """Rejects a type without a doc comment or values, and values that are not apart."""
+        if not self.doc or not self.values and not self.by_hand:
+            raise self.line.bad(f"{self.name} has no doc comment, or no values")
+        form.apart((it.line, str(it.number("number"))) for it in self.values)
+        for column in COLUMNS[1:]:
+            form.apart((it.line, it[column]) for it in self.values)
+        if self.worded and not all(value["word"] for value in self.values):
+            raise self.line.bad(f"some values of {self.name} have a word, and some have none")
 
 
 def read(root):
@@ -116,17 +86,10 @@ def read(root):
     for path in sorted((root / "tables/numbers").iterdir()):
         found = form.lines(root, f"numbers/{path.name}")
         blocks = itertools.groupby(found[2:], lambda line: bool(line.text))
-        types = [type_of(path.name, block) for there, block in blocks if there]
+        types = [Type(path.name, block) for there, block in blocks if there]
         if not types or not found[-1].text:
             raise found[-1].bad("no types, or an empty line at the end")
         groups.append(Group(path.name, form.head(found, ())[0], types,
                             [kind for kind in types if not kind.by_hand]))
     form.apart((kind.line, kind.name) for group in groups for kind in group.types)
     return groups
-
-
-def values(groups):
-    """The types by name, as rows need them."""
-    return {kind.name: form.Value(kind.name, kind.bits, kind.made, kind.module, kind.in_specs,
-                                  kind.more.get("in ExactEq", kind.in_specs))
-            for group in groups for kind in group.types}

@@ -2,21 +2,23 @@
 templates/places into parts of files."""
 import functools
 import itertools
+import pathlib
 import re
 
 from .parts import Part
-from .text import MOST, comment, fill, imports, template
+from .text import MOST, fill, imports
 
+TEMPLATES = pathlib.Path(__file__).resolve().parent.parent / "templates"
 FORM = re.compile(r"(?m)^\? (.*)\n")
 ONLY_IF = re.compile(r"\[(\w+)\] ?")
-IMPORT = re.compile(r"( *)((?:ghost |pub )?use .*)(\.|::)\{(.*)\}(;?)")
+IMPORT = re.compile(r"( *(?:ghost |pub )?use .*)(\.|::)\{(.*)\}(;?)")
 
 
 @functools.cache
 def sections(name):
     """The sections of a template, by what their first line, `== ..`, has."""
-    parts = re.split(r"(?m)^== (.*)\n", template(name))
-    return dict(zip(parts[1::2], parts[2::2]))
+    found = re.split(r"(?m)^== (.*)\n", (TEMPLATES / name).read_text(encoding="utf-8"))
+    return dict(zip(found[1::2], found[2::2]))
 
 
 def chosen(lines, row):
@@ -57,14 +59,11 @@ def line_of(line):
     plain, indent = re.sub("[⟪⟫]", "", line), re.match(" *", line)[0]
     if len(plain) <= MOST:
         return plain
-    if line.lstrip().startswith("/// "):
-        return comment(line.strip().removeprefix("/// "), indent=indent)
+    if line.startswith(f"{indent}/// "):
+        return fill(line.split()[1:], f"{indent}/// ")
     used = IMPORT.fullmatch(line)
-    if used and used[3] == ".":
-        return imports(used[2], used[4].split(", "), used[5], indent=used[1])
     if used:
-        words = [f"{name}," for name in used[4].split(", ")]
-        return f"{used[2]}::{{\n{fill(words, '    ', '    ', MOST - 1)}\n}};"
+        return imports(used[1], used[2], used[3].split(", "), used[4])
     return re.sub("⟪(.*)⟫,", f"{{\n{indent}    \\1\n{indent}}}", line)
 
 
@@ -74,10 +73,10 @@ def put_in(text, row):
     return "\n".join(map(line_of, joined(lines)))
 
 
-def parts(selections):
-    """The parts of templates/places: each selection is a list of what the head of a section has in
-    its marks, with rows."""
-    for head, body in sections("places").items():
+def parts(template, selections):
+    """The parts of a template: each selection is a list of what the head of a section has in its
+    marks, with rows."""
+    for head, body in sections(template).items():
         path, name, selection = head.split(" | ")
         first, *others = FORM.split(body)
         forms = {form: text for names, text in zip(others[::2], others[1::2])

@@ -1,11 +1,9 @@
 """Writes what people see of rows: how linkinfo_view shows them, docs/SHOW.md, docs/FORMAT.md, and
 the stored lines that the program rejects or accepts by a row (gate/lines/rows.in and rows.out)."""
-import re
-
-from .lists import constant_parts, either
+from .lists import constant_parts, either, whole
 from .parts import Part, Whole
 from .places import put_in, sections
-from .text import fill, listed
+from .text import fill, listed, snake
 
 PARTS = {"Word": "Words", "List": "Elements", "Nested": "Table", **dict.fromkeys(
     ["Bits", "Mask", "Names", "Options", "SecondNames"], "Flags")}
@@ -18,9 +16,8 @@ def views(family):
     apart, found = {row.number for row in family.rows if row.under}, []
     for kind, name in family.parts.items():
         own = {row.number: row for row in rows if row.number in apart and row.under in ("", kind)}
-        constant = re.sub(r"(?<=[a-z0-9])(?=[A-Z])", "_", name).upper()
         header = f" ({family.header})" * (not found)
-        found.append((constant, f"`{family.prefix}*`{header} of `{kind}` links.", kind,
+        found.append((snake(name).upper(), f"`{family.prefix}*`{header} of `{kind}` links.", kind,
                       list(own.values())))
     if not found:
         return [(family.constant, family.names, family.links, rows)]
@@ -41,7 +38,7 @@ def view_marks(family):
     """What templates/lists has in its marks of each table to show."""
     for constant, said, title, rows in views(family):
         yield {"constant": constant, "said": said,
-               "head": fill(f"**{title}**: {said}".split(), "", ""),
+               "head": fill(f"**{title}**: {said}".split()),
                "others": family.links if family.parts and constant != "TUNNEL" else "",
                "values": [{**vars(row), "number": str(row.number), "format": shown(row)}
                           for row in rows]}
@@ -58,7 +55,7 @@ def page_marks(family):
             "variants": f"{row.variants[0]} (empty), {row.variant} (one byte)" if row.two
             else row.variant, "made_into": f" {row.value.name} " if row.value else " "})
     return {"heading": listed([f"`{name}`" for name in family.families]), "values": rows,
-            "note": fill(family.note.split(), "", "")}
+            "note": fill(family.note.split())}
 
 
 def attribute(kind, payload):
@@ -84,15 +81,12 @@ def lines(family, kind):
 
 def outputs(tables):
     """The rows to show, the pages, and the lines."""
-    parts = sections("lists")
+    parts, coded = sections("lists"), {row["family"] for row in tables.coded}
     found = [it for family in tables.families for it in view_marks(family)]
-    rows = [{"rows": put_in(parts["view of a family"], it)[:-1]} for it in found]
-    yield Whole("crates/linkinfo_view/src/entries.rt", "families",
-                put_in(parts["view"], {"values": rows}))
-    named = [{**vars(it), "arm": either(it.families)} for it in tables.families
-             if it.name in tables.codes]
+    yield whole("crates/linkinfo_view/src/entries.rt", "view", found)
+    named = [{**vars(it), "arm": either(it.families)} for it in tables.families if it.name in coded]
     yield from constant_parts("linkinfo_view", "table", named, [it["constant"] for it in found],
-                              of="family_rows", call="lines")
+                              of="family_rows", call="lines", without="")
     yield Part("docs/SHOW.md", "families", "".join(
         put_in(parts["page of a view"], it) for it in found))
     yield Part("docs/FORMAT.md", "families", "".join(

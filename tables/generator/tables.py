@@ -1,22 +1,20 @@
 """All tables, read."""
-from . import families, kinds, numbers
+from . import families, form, kinds, numbers
 
 
 class Tables:
     """The tables of a repository: `numbers` are the groups of number types and flag sets, `values`
     their types by name, `kinds` the kinds of links, `layouts` the layouts of payloads, `order` the
-    rows of tables/families, `codes` the families by C's code, and `families` those with a table."""
+    rows of tables/families, `coded` those with a code of C, by it, and `families` the families with
+    a table, in their order."""
 
     def __init__(self, root):
         self.root, self.numbers = root, numbers.read(root)
-        self.values = numbers.values(self.numbers)
+        self.values = {kind.name: kind for group in self.numbers for kind in group.types}
         self.kinds = kinds.read(root)
-        self.order, self.layouts = families.order(root), families.layouts(root)
-        coded = sorted((row.number("code"), row["family"]) for row in self.order if row["code"])
-        self.codes = [name for _, name in coded]
-        self.families = families.read(root, self.values, self.layouts, self.order)
-
-    def without(self, has):
-        """The families by C's code of which `has` is false, or that have no table."""
-        found = {name for family in self.families if has(family) for name in family.families}
-        return [name for name in self.codes if name not in found]
+        self.order = form.read(root, "families", families.ORDER, apart_in=["code", "family"]).rows
+        self.coded = sorted((row for row in self.order if row["code"]),
+                            key=lambda row: row.number("code"))
+        self.layouts = families.layouts(root)
+        names = dict.fromkeys(row["table"] for row in self.order if row["table"])
+        self.families = [families.Family(root, name, self.layouts, self.values) for name in names]

@@ -1,10 +1,7 @@
 """Lays out text: lines of at most 100 columns, broken as `rt fmt` and rustfmt break them."""
-import functools
-import pathlib
 import re
 
 MOST = 100
-TEMPLATES = pathlib.Path(__file__).resolve().parent.parent / "templates"
 
 
 def snake(name):
@@ -22,37 +19,43 @@ def spelled(name):
     return re.sub(r"(?=[A-Z])", "_", name).lstrip("_").lower()
 
 
-def fill(words, first, rest, most=MOST):
-    """Lines of words, as many as fit on each; the first line begins with `first`."""
-    lines, line = [], first
+def fill(words, start="", most=MOST):
+    """Lines of words, as many as fit on each; each line begins with `start`."""
+    lines, line = [], start
     for word in words:
-        if line in (first, rest):
+        if line == start:
             line += word
         elif len(line) + 1 + len(word) <= most:
             line += " " + word
         else:
             lines.append(line)
-            line = rest + word
+            line = start + word
     return "\n".join([*lines, line])
 
 
-def comment(text, mark="/// ", indent=""):
-    """A comment, filled."""
-    return fill(text.split(), indent + mark, indent + mark)
-
-
-def listed(names, word="and"):
+def listed(names):
     """Names as a sentence has them: a, b and c."""
-    return f" {word} ".join(filter(None, [", ".join(names[:-1]), names[-1]]))
+    return " and ".join(filter(None, [", ".join(names[:-1]), names[-1]]))
 
 
-def imports(head, names, end="", indent=""):
-    """An import of names: on one line if they fit, else each on its own."""
-    line = f"{indent}{head}.{{{', '.join(names)}}}{end}"
+def enclosed(opening, items, closing, step="    ", most=0):
+    """Items on one line if they fit. Else they fill lines of at most `most` columns: each is on its
+    own by default."""
+    line, indent = f"{opening}{', '.join(items)}{closing}", re.match(" *", opening)[0]
     if len(line) <= MOST:
         return line
-    return f"{indent}{head}.{{\n" + "".join(f"{indent}  {name},\n" for name in names) + \
-        f"{indent}}}{end}"
+    inner = fill([f"{item}," for item in items], indent + step, most)
+    return f"{opening}\n{inner}\n{indent}{closing}"
+
+
+def imports(head, between, names, end):
+    """An import of names. In specs (`.`) they fit on one line, or each is on its own. In code they
+    fill lines, and a single one is without braces."""
+    if between == ".":
+        return enclosed(f"{head}.{{", names, f"}}{end}", "  ")
+    if len(names) == 1:
+        return f"{head}::{names[0]}{end}"
+    return enclosed(f"{head}::{{", names, f"}}{end}", most=MOST - 1)
 
 
 IMPORT = re.compile(r"^((?:ghost )?use [^\s{]+)(\.|::)\{([^}]*)\}(;?)\n", re.MULTILINE)
@@ -65,20 +68,9 @@ def tidy(text):
 
     def kept(mark):
         names = [name for name in re.findall(r"[^\s,]+", mark[3]) if name.strip("◌") in words]
-        if mark[2] == "." and names:
-            return f"{imports(mark[1], names, mark[4])}\n"
-        line = f"{mark[1]}::{{{', '.join(names)}}};\n"
-        if len(names) > 1 and len(line) > MOST + 1:
-            names = fill([f"{name}," for name in names], "    ", "    ", MOST - 1)
-            return f"{mark[1]}::{{\n{names}\n}};\n"
-        return line if len(names) > 1 else "".join(f"{mark[1]}::{name};\n" for name in names)
+        return f"{imports(mark[1], mark[2], names, mark[4])}\n" if names else ""
 
     return IMPORT.sub(kept, text)
-
-
-def by_word(name):
-    """The order of rustfmt, in which an underscore is before digits and letters."""
-    return name.upper().replace("_", "\x01")
 
 
 def pairs(items, indent=""):
@@ -92,7 +84,6 @@ def pairs(items, indent=""):
     return f"(\n{indent}  {items[0]},\n{indent}  {inner},\n{indent})"
 
 
-@functools.cache
-def template(name):
-    """The text of tables/templates/NAME."""
-    return (TEMPLATES / name).read_text(encoding="utf-8")
+def fitting(*texts):
+    """The first text of which all lines fit, or the last one."""
+    return next((it for it in texts if max(map(len, it.splitlines())) <= MOST), texts[-1])

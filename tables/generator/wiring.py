@@ -17,13 +17,12 @@ def group_row(group):
             "paired": "peer netkit" if peered else "P", "flagged": "h " * (group == "Tunnel")}
 
 
-def coded(order):
-    """The families by C's code."""
-    found = sorted((row for row in order if row["code"]), key=lambda row: row.number("code"))
+def coded(rows):
+    """The families of rows of tables/families."""
     return [{"family": row["family"], "name": row["family"].lower(), "NAME": row["family"].upper(),
              "code": row["code"], "doc": f"{row['what'][:1].upper()}" + re.sub(
                  "port data|data", lambda mark: DATA[mark[0]], row["what"][1:]) + "."}
-            for row in found]
+            for row in rows]
 
 
 def form_of(family):
@@ -71,8 +70,10 @@ def data_rows(tables):
 
 def unique(rows, key):
     """The first of rows that have the same in `key`."""
-    return list({row[key]: row for row in rows[::-1]}[name] for name in
-                dict.fromkeys(row[key] for row in rows))
+    found = {}
+    for row in rows:
+        found.setdefault(row[key], row)
+    return list(found.values())
 
 
 def named(rows):
@@ -93,14 +94,13 @@ def of_kinds(tables, ports, variants):
     held = [{**row, **variants[kind.data], "variant": kind.variant}
             for kind, row in zip(tables.kinds, rows) if kind.group]
     of = {row["name"]: f" {row['family']} " for row in held}
-    codes = coded(tables.order)
+    codes = coded(tables.coded)
     return {"kinds": rows, "kinds with data": held, "families": codes,
             "ports": [kinds.row_of(kind) for kind in ports],
             "names": [{"values": [{**row, "of": of.get(row["name"], " ")} for row in rows]}],
             "known kinds": [{"known": kinds.known(tables.kinds)}],
             "known ports": [{"known": kinds.known(ports)}],
-            "family names": [{"names": fill(", ".join(it["family"] for it in codes[2:]).split(),
-                                            "", "")}],
+            "family names": [{"names": fill(", ".join(it["family"] for it in codes[2:]).split())}],
             "last codes": [{"family": codes[-1]["code"], "kind": rows[-1]["code"],
                             "port": str(ports[-1].code)}]}
 
@@ -117,7 +117,7 @@ def outputs(tables):
               "typed": [{"family": it} for of in tables.families if of.typed for it in of.families],
               "laws": [row for row in unique(rows, "plain")
                        if row in listed_in and row["form"] != "twin"]}
-    return list(places.parts({
+    return list(places.parts("places", {
         **{name: [({}, given)] for name, given in found.items()},
         **number_types.selections(tables.numbers),
         "group": [(group[0], group) for group in groups],
