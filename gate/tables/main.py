@@ -4,11 +4,11 @@ import pathlib
 import sys
 import unittest
 
-from . import evidence, planted, rows, written
+from . import evidence, lists, planted, rows, spelled, written
 
 ROOT = pathlib.Path(__file__).resolve().parents[2]
 TABLES = ROOT / "tables"
-OPTIONS = {"--stored", "--write"}
+OPTIONS = {"--stored", "--write", "--spelled"}
 
 
 @functools.cache
@@ -86,11 +86,25 @@ def write():
     return 0
 
 
+def misspelled():
+    """The first thing that tables name and that is not there, if any."""
+    try:
+        return next(spelled.check(evidence.read_tables(TABLES), evidence.stored(),
+                                  lists.read("elsewhere"), rows.kinds(TABLES),
+                                  read(written.SHOW)), None)
+    except rows.Bad as error:
+        return error
+
+
 def main(options):
     """Runs the command, and returns its status."""
     if not set(options) <= OPTIONS or len(options) > 1:
-        print("gate/tables/run [--stored | --write]", file=sys.stderr)
+        print("gate/tables/run [--stored | --write | --spelled]", file=sys.stderr)
         return 2
+    if "--spelled" in options:
+        wrong = misspelled()
+        print(wrong or "", end="\n" * bool(wrong), file=sys.stderr)
+        return int(bool(wrong))
     counts = {True: 0, False: 0}
     try:
         if "--write" in options:

@@ -32,6 +32,8 @@ class Family:
     links: str          # which links have them
     views: dict         # the tables of the view by kind, where there are several
     rows: tuple
+    about: str = ""     # what completes the sentence of its type, else empty
+    by_hand: bool = False   # whether its module is written by hand
 
     def of_kind(self, kind):
         """The rows of a kind, in order: one of its own stands for that of all kinds."""
@@ -95,7 +97,8 @@ def family(path, root):
     return Family(tuple(filter(None, names.groups())), given["links"],
                   dict(it.split() for it in given.get("tables", "").split(", ") if it),
                   tuple(row(place, line, prefixes) for place, line in body
-                        if line and not line.startswith(" ")))
+                        if line and not line.startswith(" ")),
+                  given.get("about", ""), "by hand" in given["family"])
 
 
 def values(path, root):
@@ -138,6 +141,17 @@ def families(tables):
                       "empty line") from None
         if names.get(path.name) != list(found[-1].names):
             raise Bad(f"{at}: tables/families does not list {' and '.join(found[-1].names)} here")
+    return found
+
+
+def kinds(tables):
+    """The names of kinds and port kinds, with the place and the code of each."""
+    found = []
+    for name in ("kinds", "ports"):
+        for place, line in numbered(tables / name, tables.parent):
+            code, kind, *_ = cells(line) + [""]
+            if line and not line.startswith("#") and code != "code":
+                found.append((kind, place, code))
     return found
 
 

@@ -87,7 +87,8 @@ def outputs(tables):
     named = [{**vars(it), "arm": either(it.families)} for it in tables.families if it.name in coded]
     yield from constant_parts("linkinfo_view", "table", named, [it["constant"] for it in found],
                               of="family_rows", call="lines", without="")
-    yield Part("docs/SHOW.md", "families", "".join(
+    count = f"{sum(len(it['values']) for it in found)} rows in {len(found)} tables.\n\n"
+    yield Part("docs/SHOW.md", "families", count + "".join(
         put_in(parts["page of a view"], it) for it in found))
     yield Part("docs/FORMAT.md", "families", "".join(
         put_in(parts["page of a family"], page_marks(it)) for it in tables.families if it.typed))
