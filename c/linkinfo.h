@@ -289,8 +289,8 @@ struct linkinfo_inner_error {
   size_t inner; /* the offset in the list of the innermost attribute that has
                    the error: in data, or in a nested list in data; there, of an
                    error of a header, the offset at which no header is accepted.
-                   In data of veth and vxcan that is no list, the offset of the
-                   data's payload. place where the attribute of the list has the
+                   In data of veth and vxcan, which is no list, the offset of
+                   its payload. place where the attribute of the list has the
                    error itself, and 0 without an error */
 };
 
@@ -368,8 +368,8 @@ struct linkinfo_difference {
  *
  * Attributes are compared in byte order, those of data and of nested lists one
  * by one. Data that is no list, as that of veth and vxcan with its peer, is
- * compared as a whole: the pair is that of the data. As linkinfo_same, it is for
- * two requests, or for two canonical encodings.
+ * compared as a whole: the pair is that of the data. As linkinfo_same, it is
+ * for two requests, or for two canonical encodings.
  *
  * Return: the first pair of attributes in which they differ, or the error of a
  * list.
@@ -418,9 +418,9 @@ struct linkinfo_unmet {
  * attribute of the request is met where that of the link has an equal payload
  * or is equivalent. Data, port data and statistics also require that the kind
  * or the port kind has the same name. Data that is a list is compared attribute
- * by attribute, so empty data of such a kind is met by any data of that kind, and
- * not without data. Other data, as that of veth and vxcan, and nested lists are
- * compared as a whole, with their order; the flag bits of known types inside
+ * by attribute, so empty data of such a kind is met by any data of that kind,
+ * and not without data. Other data, as that of veth and vxcan, and nested lists
+ * are compared as a whole, with their order; the flag bits of known types in
  * nested lists do not matter, those of unknown types do.
  *
  * Return: the first attribute of the request that is not met, or the error of a

@@ -557,7 +557,7 @@ static void sentences(void) {
        "IFLA_IPTUN_6RD_RELAY_PREFIXLEN has an address of the other IP version, "
        "at offset 18446744073709551615"},
       {{{LINKINFO_FAMILY_XFRM, 2, LINKINFO_CAUSE_NONE}, 0}, ""},
-      {{{38, 2, LINKINFO_CAUSE_LENGTH}, 0}, ""},
+      {{{LAST_FAMILY + 1, 2, LINKINFO_CAUSE_LENGTH}, 0}, ""},
       {{{1, 0, 12}, 0}, ""},
   };
   for (size_t at = 0; at < sizeof all / sizeof *all; at++)
