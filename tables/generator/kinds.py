@@ -30,11 +30,12 @@ def kind_of(row):
 
 def read(root, name="kinds"):
     """The kinds, whose codes are in order: C's numbers never change."""
-    table = form.read(root, name, COLUMNS, apart_in=["kind", "variant"])
-    found = [kind_of(row) for row in table.rows]
+    found = [kind_of(row) for row in form.read(root, name, COLUMNS).rows]
     for before, kind in zip(found, found[1:]):
         if kind.code <= before.code:
             raise kind.line.bad(f"code {kind.code} is after code {before.code}")
+    for key in ("name", "variant"):
+        form.apart((kind.line, getattr(kind, key)) for kind in found)
     return found
 
 

@@ -55,10 +55,11 @@ class Type:
                 "no line NAME WIDTH VARIABLE MACRO with a width of u8, u16, u32 or u64")
         self.name, bits, self.word, self.listed, other = found.groups()
         starts = [at for at, line in enumerate(body) if VALUE.match(line.text)] + [len(body)]
-        self.snake, self.bits, self.more = snake(self.name), int(bits), more(self.line, other)
-        self.doc = " ".join(line.text.strip() for line in body[:starts[0]])
+        self.snake, self.bits = snake(self.name), int(bits)
         self.values = [value_of(self.bits, body[at], body[at + 1:to])
                        for at, to in zip(starts, starts[1:])]
+        self.doc = " ".join(line.text.strip() for line in body[:starts[0]])
+        self.more = more(self.line, other)
         self.is_set, self.by_hand = self.word == "flags", "by hand" in self.more
         self.worded = any(value["word"] for value in self.values)
         self.family = self.more.get("words of", "")

@@ -13,8 +13,8 @@ class Tables:
         self.values = {kind.name: kind for group in self.numbers for kind in group.types}
         self.kinds = kinds.read(root)
         self.order = form.read(root, "families", families.ORDER, apart_in=["code", "family"]).rows
+        self.layouts = families.layouts(root)
         self.coded = sorted((row for row in self.order if row["code"]),
                             key=lambda row: row.number("code"))
-        self.layouts = families.layouts(root)
         names = dict.fromkeys(row["table"] for row in self.order if row["table"])
         self.families = [families.Family(root, name, self.layouts, self.values) for name in names]
