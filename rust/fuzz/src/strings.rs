@@ -62,6 +62,8 @@ const KINDS: &[&str] = &[
     "",
     "\u{e9}",
 ];
+// (a line for each, as it is written)
+#[rustfmt::skip]
 const PORT_KINDS: &[&str] = &[
     // Begin: written by tables/generate from tables/ports.
     "bond",
