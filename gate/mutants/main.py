@@ -17,9 +17,9 @@ from .proving import prove
 from .rooms import leave_stamps, stamps_of
 from .tally import Tally
 
-USAGE = f"""./wrong: tries mutants whose verdict can have changed, and a draw of the others, for
+USAGE = f"""./wrong: tries mutants whose verdict can have changed, and a sample of the others, for
     {MINUTES} minutes of CPU; with --minutes=N for N minutes.
-./wrong --minutes=N CRATE..: the same of the named crates.
+./wrong --minutes=N CRATE..: tries such mutants of the named crates alone.
 ./wrong --plan [--minutes=N] [CRATE..]: prints in which order that would try them; tries nothing.
 ./wrong --all: tries every mutant, and writes wrong.seen, a line as each crate is done.
 ./wrong --all CRATE..: tries every mutant of the named crates, and writes their lines.

@@ -44,7 +44,7 @@ TABLES = [
     ("vxlan", [("ID", "member", "vni")], {IP}),
     ("bridge", [("HELLO_TIME", "member", "max_age"), ("MAX_AGE", "member", "hello_time")], {IP}),
 ]
-# The same of named numbers, by their names.
+# Likewise of named numbers, each found by its kernel name.
 VALUES = [
     ("vxlan", [("VXLAN_DF_INHERIT", "number", "3")], {HEADERS}),
     ("gre", [("GRE_KEY", "number", "0x0020")], {HEADERS}),

@@ -77,7 +77,7 @@ def names_read(read):
 
 
 def values_on_page(_families, every):
-    """The same of the types that are in the tables of docs/FORMAT.md."""
+    """The values of the types that are in the tables of docs/FORMAT.md."""
     return values([], [value for value in every if not value.by_hand])
 
 
