@@ -169,7 +169,8 @@ enum linkinfo_family {
   LINKINFO_FAMILY_VXLAN = 34,
   LINKINFO_FAMILY_WIREGUARD = 35,
   LINKINFO_FAMILY_WWAN = 36,
-  LINKINFO_FAMILY_XFRM = 37
+  LINKINFO_FAMILY_XFRM = 37,
+  LINKINFO_FAMILY_VLANQOSMAPPING = 38
   /* End: written by tables/generate. */
 };
 
@@ -579,7 +580,9 @@ enum linkinfo_shape {
                                     no scrubbing */
   LINKINFO_SHAPE_RAW = 23,       /* any bytes; not returned */
   LINKINFO_SHAPE_SELF_LIST = 24, /* a list of attributes of the same family */
-  LINKINFO_SHAPE_PEER = 25       /* the peer of a veth, vxcan or netkit */
+  LINKINFO_SHAPE_PEER = 25,      /* the peer of a veth, vxcan or netkit */
+  LINKINFO_SHAPE_NESTED = 26     /* a list of attributes of another family; not
+                                    returned yet */
 };
 
 /* An attribute in data or port data. */

@@ -312,7 +312,7 @@ static void values_of(const uint8_t *bytes, size_t length, uint16_t kind) {
 
 /* The last numbers of families, kinds and port kinds. */
 /* Begin: written by tables/generate from tables/kinds. */
-enum { LAST_FAMILY = 37, LAST_KIND = 47, LAST_PORT_KIND = 260 };
+enum { LAST_FAMILY = 38, LAST_KIND = 47, LAST_PORT_KIND = 260 };
 /* End: written by tables/generate. */
 
 /* The attributes of data, of its kind and of every other kind. */

@@ -21,6 +21,7 @@ static const char *const names[] = {
     [LINKINFO_SHAPE_FLAG_PAIR] = "FlagPair",  [LINKINFO_SHAPE_EMPTY_OR_BYTE] = "EmptyOrByte",
     [LINKINFO_SHAPE_SCRUB] = "Scrub",         [LINKINFO_SHAPE_RAW] = "Raw",
     [LINKINFO_SHAPE_SELF_LIST] = "SelfList",  [LINKINFO_SHAPE_PEER] = "Peer",
+    [LINKINFO_SHAPE_NESTED] = "Nested",
 };
 enum { SHAPES = sizeof names / sizeof *names };
 

@@ -96,10 +96,11 @@ static void *values(void *wrong) {
   return all.count == 1 && found[0].value.value_type == LINKINFO_VALUE_LIST ? NULL : wrong;
 }
 static void *texts(void *wrong) {
-  char text[32];
-  struct linkinfo_error error = {LINKINFO_FAMILY_BRIDGEPORT, 65535, LINKINFO_CAUSE_ADDRESS_KIND};
-  return linkinfo_error_text(error, text, sizeof text) == 28 &&
-                 linkinfo_family_name(error.family, text, sizeof text) == 10 &&
+  char text[33];
+  struct linkinfo_error error = {LINKINFO_FAMILY_VLANQOSMAPPING, 65535,
+                                 LINKINFO_CAUSE_ADDRESS_KIND};
+  return linkinfo_error_text(error, text, sizeof text) == 32 &&
+                 linkinfo_family_name(error.family, text, sizeof text) == 14 &&
                  linkinfo_cause_name(error.cause, text, sizeof text) == 11 &&
                  linkinfo_attribute_name(LINKINFO_FAMILY_XFRM, 1, text, sizeof text) == 14 &&
                  linkinfo_error_message(error, 0, text, sizeof text) > sizeof text

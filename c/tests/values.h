@@ -126,6 +126,7 @@ static inline struct linkinfo_value value_by_rules(uint16_t shape, const uint8_t
   case LINKINFO_SHAPE_FLAG_PAIR:
     return pair_value(number(payload, 4, 0), number(payload + 4, 4, 0));
   case LINKINFO_SHAPE_SELF_LIST:
+  case LINKINFO_SHAPE_NESTED:
     return bytes_value(LINKINFO_VALUE_LIST, length);
   case LINKINFO_SHAPE_PEER:
     return bytes_value(LINKINFO_VALUE_BYTES, length);

@@ -23,6 +23,7 @@ class Row:
     value: str          # the type that the number is made into, else empty
     member: str
     format: str
+    inner: str = ""     # the family of the attributes in a list, and `+8000`
 
 
 @dataclasses.dataclass(frozen=True)
@@ -34,6 +35,7 @@ class Family:
     rows: tuple
     about: str = ""     # what completes the sentence of its type, else empty
     by_hand: bool = False   # whether its module is written by hand
+    layered: bool = False   # whether its rows are those of the typed layer
 
     def of_kind(self, kind):
         """The rows of a kind, in order: one of its own stands for that of all kinds."""
@@ -78,10 +80,11 @@ def row(place, line, prefixes):
     number, _, under = kind.partition("/")
     if not number.isdecimal() or not name or not layout:
         raise Bad(f"{place}: this is no row")
-    shape, _, value = layout.partition(" as ")
+    words, _, value = layout.partition(" as ")
+    shape, _, inner = words.strip().partition(" ")
     return Row(place, int(number), under, tuple(prefix + name for prefix in prefixes),
-               tuple(variant.split("/")) if variant else (), shape.split()[0], value.strip(),
-               member, form)
+               tuple(variant.split("/")) if variant else (), shape, value.strip(), member, form,
+               inner)
 
 
 def family(path, root):
@@ -98,7 +101,8 @@ def family(path, root):
                   dict(it.split() for it in given.get("tables", "").split(", ") if it),
                   tuple(row(place, line, prefixes) for place, line in body
                         if line and not line.startswith(" ")),
-                  given.get("about", ""), "by hand" in given["family"])
+                  given.get("about", ""), "by hand" in given["family"],
+                  bool(re.search(", (typed|inner) in ", given["family"])))
 
 
 def values(path, root):

@@ -2,6 +2,7 @@
 from . import written_code, written_pages
 
 SHAPES = "crates/linkinfo_shapes/specs/Table.antt"
+TYPED = "crates/linkinfo_shapes/specs/Typed.antt"
 NAMES = "crates/linkinfo_names/src/entries.rt"
 FAMILIES_OF_NAMES = "crates/linkinfo_names/src/names.rt"
 VIEW = "crates/linkinfo_view/src/entries.rt"
@@ -22,20 +23,32 @@ def shapes(families, _values):
     """The rows of specs, by family: those that all kinds have."""
     return {name: [(row.number, row.layout, row.variants) for row in typed(family)
                    if not row.under]
-            for family in families if typed(family) for name in family.names}
+            for family in families if typed(family) and not family.layered
+            for name in family.names}
+
+
+def layered(families, _values):
+    """The rows of specs of the typed layer, by family: those of lists are before the others."""
+    found = {}
+    for family in (it for it in families if it.layered):
+        rows = sorted(typed(family), key=lambda row: not row.inner)
+        found[family.names[0]] = [(row.number, f"{row.layout} {row.inner}".split(" +")[0].rstrip(),
+                                   row.variants) for row in rows]
+    return found
 
 
 def names(families, _values):
     """The kernel's names, by family; of two families each has its own, if there are two."""
     return {name: list(dict.fromkeys((row.number, row.names[min(at, len(row.names) - 1)])
                                      for row in typed(family)))
-            for family in families if typed(family) for at, name in enumerate(family.names)}
+            for family in families if typed(family) and not family.layered
+            for at, name in enumerate(family.names)}
 
 
 def shown(family, kind):
     """The rows that are shown of a kind."""
-    return [(row.number, row.member, row.layout, row.format) for row in family.of_kind(kind)
-            if row.member]
+    return [(row.number, row.member, "Raw" if row.inner else row.layout, row.format)
+            for row in family.of_kind(kind) if row.member]
 
 
 def view(families, _values):
@@ -52,7 +65,8 @@ def variants(row):
 def format_rows(families, _values):
     """The rows of docs/FORMAT.md, by families."""
     return {family.names: [(row.number, row.under, row.names[:len(family.names)], variants(row),
-                            row.layout, row.value) for row in typed(family)]
+                            f"{row.layout} {row.inner}".rstrip(), row.value)
+                           for row in typed(family)]
             for family in families if typed(family)}
 
 
@@ -97,6 +111,7 @@ def page_values(read, every):
 # What the tables say of each file, and what it has, by a function that reads files.
 FILES = {
     SHAPES: (shapes, lambda read, _: written_code.shapes(read(SHAPES))),
+    TYPED: (layered, lambda read, _: written_code.shapes(read(TYPED))),
     NAMES: (names, lambda read, _: names_read(read)),
     VIEW: (view, lambda read, _: written_code.view(read(VIEW), read(TABLES_OF_VIEW))),
     NUMBERS: (values, numbers_read),

@@ -2,8 +2,8 @@
 import re
 
 SPEC_ROWS = re.compile(r"^(\w+) =\n((?:    .*\n)*?)    \[\]\n", re.M)
-SPEC_ROW = re.compile(r"    \((\d+), (\w+)\) ∷  -- (.+)")
-SPEC_ARM = re.compile(r"^rows_of family\.(\w+) = (\w+)$", re.M)
+SPEC_ROW = re.compile(r"    \((\d+), (\w+(?: family\.\w+)?)\) ∷  -- (.+)")
+SPEC_ARM = re.compile(r"^(?:typed_)?rows_of family\.(\w+) = (\w+)$", re.M)
 LIST = re.compile(r"^pub\(crate\) const (\w+): &\[Entry\] = (?:&\[|rows! \{)(.*?)[\]}];",
                   re.M | re.S)
 NAME_ROW = re.compile(r'\((\d+), "(\w+)"\)')
@@ -11,7 +11,7 @@ VIEW_ROW = re.compile(r'\((\d+), "(\w+)", (\w+), (\w+)(?:\(\w+::(\w+)\))?\),')
 ARM = re.compile(r"^ +((?:\| )?(?:Family|Table)::[^=]+?) => (\w+),$", re.M)
 SHARED = re.compile(r"^fn shared_rows\(.*?^ +(Table::.*?) => (\w+),$", re.M | re.S)
 NUMBERS = re.compile(r"^abbrev pub (\w+)_number : \w+ → ℕ\n((?:.+\n)+)", re.M)
-NUMBER = re.compile(r"^\w+_number \w+\.(\w+) = (0x[\dA-F]+|\d+)$", re.M)
+NUMBER = re.compile(r"^\w+_number \w+\.(\w+) = (0x[\dA-Fa-f]+|\d+)$", re.M)
 FLAGS = re.compile(r"^abbrev pub (\w+)_table : List \(List ℕ × ℕ\)\n\w+ =(.*?)\n\n", re.M | re.S)
 FLAG = re.compile(r'codes "(\w+)", (0x[\dA-Fa-f]+|\d+)')
 
@@ -24,8 +24,8 @@ def rows_in(body, row, where):
 
 
 def shapes(spec):
-    """Table.antt of linkinfo_shapes: type, shape and variants of each row, by family."""
-    lists = {name: [(int(number), shape, tuple(variants.split(", ")))
+    """A table of linkinfo_shapes: type, shape and variants of each row, by family."""
+    lists = {name: [(int(number), shape.replace("family.", ""), tuple(variants.split(", ")))
                     for number, shape, variants in rows_in(body, SPEC_ROW, name)]
              for name, body in SPEC_ROWS.findall(spec)}
     return {family: lists[name] for family, name in SPEC_ARM.findall(spec)}

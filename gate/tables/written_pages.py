@@ -25,7 +25,7 @@ def format_rows(page):
         for kind, kernel, variant, shape, value in cells(body):
             number, under = re.fullmatch(r"(\d+)(?: under `(\w+)`)?", kind).groups("")
             rows.append((int(number), under, tuple(re.findall(r"`(\w+)`", kernel)),
-                         variant, shape, value))
+                         variant, shape, value.removesuffix(", for each")))
         found[tuple(re.findall(r"`(\w+)`", families))] = rows
     return found
 

@@ -33,3 +33,4 @@ pub mod peers;
 pub mod shapes;
 pub mod table;
 pub mod tunnels;
+pub mod typed;

@@ -207,7 +207,8 @@ pub use layers::numbers::{
     GtpRole, InfoRmNetFlags, Ip6TunnelFlags, IpProtocol, IpVlanFlags, IpVlanMode, IpVtapFlags,
     IpVtapMode, IpoibMode, MacSecCipherId, MacSecOffload, MacSecValidate, MacVlanFlags,
     MacVlanMacAddressMode, MacVlanMode, MacVtapFlags, MacVtapMacAddressMode, MacVtapMode,
-    NetkitMode, NetkitPolicy, NetkitScrub, RmNetFlags, TunnelEncapFlags, TunnelEncapType, VxlanDf,
+    NetkitMode, NetkitPolicy, NetkitScrub, RmNetFlags, TunnelEncapFlags, TunnelEncapType,
+    VlanFlags, VlanProtocol, VxlanDf,
 };
 // End: written by tables/generate.
 

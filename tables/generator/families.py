@@ -7,10 +7,12 @@ from .text import camel, listed, snake
 
 ORDER = ["code", "family", "table", "what"]
 LAYOUTS = ["layout", "field", "variable", "read", "exact", "rejects"]
+NEST = "Nested"       # the layout of a list of another family
 COLUMNS = ["type", "name", "variant", "layout", "member", "shown as"]
 KEYS = ["family", "links", "names", "twin", "tables", "header", "about", "note", "alias", "rows"]
+LAYERED = ("typed ", "inner ")      # the families of the typed layer, and those inside them
 FAMILY = re.compile(
-    r"(\w+)(?: and (\w+))?(?:, (by hand )?in (\w+)(?:::(\w+)(?: and (\w+))?)?)?")
+    r"(\w+)(?: and (\w+))?(?:, (by hand |typed |inner )?in (\w+)(?:::(\w+)(?: and (\w+))?)?)?")
 
 
 # What follows from the layout of a payload, a `Shape`: the type of the variant's field, if it has
@@ -30,6 +32,12 @@ class Row:
         self.line, self.docs = row.line, row.docs
         number, _, self.under = row["type"].partition("/")
         self.shape, *value = (row["layout"] or "-").split()
+        self.inner = value.pop(0) if self.shape == NEST and value else ""
+        self.flagged = value[-1:] == ["+8000"] and bool(value.pop())
+        if self.shape == NEST and not self.inner:
+            raise self.line.bad(f"{NEST} without a family")
+        if self.flagged and not self.inner:
+            raise self.line.bad("+8000 is only of a list of another family")
         if not number.isdecimal() or int(number) >= 1 << 14:
             raise self.line.bad(f"{number or '-'} is no type")
         if self.shape not in layouts:
@@ -51,6 +59,9 @@ class Row:
         self.variant, self.two = (self.variants or [""])[-1], len(self.variants) == 2
         self.made = self.value.made if self.value else ""
         self.field = self.value.name if self.value else self.layout.field
+        if self.shape == "FlagPair" and self.made == "flags":
+            self.made, self.field = "sets", f"({self.field}, {self.field})"
+        self.field = self.field.replace("‹inner›", self.inner)
         self.numbered = self.made in ("number", "reference")
 
     def doc(self, at):
@@ -77,11 +88,12 @@ class Family:
                 raise form.Bad(table.path, 1, f"the head has no line `{key}`")
             if not found:
                 raise table.head[key].bad(f"{head[key]} is no {key}: see tables/README.md")
-        self.name, self.twin, by_hand, self.crate, module, other = where.groups()
+        self.name, self.twin, how, self.crate, module, other = where.groups()
         self.table, self.title = name, table.title
-        self.flat = bool(self.crate and not by_hand)
+        self.flat, self.layered = bool(self.crate) and how != "by hand ", how in LAYERED
+        self.inner = how == "inner "
         self.families = [self.name, *[self.twin] * bool(self.twin)]
-        self.type, self.snake = f"Info{self.name}", snake(self.name)
+        self.type, self.snake = "Info" * (not self.inner) + self.name, snake(self.name)
         self.module, self.constant = module or self.snake, self.snake.upper()
         self.modules, self.spec = [self.module, *[other] * bool(other)], camel(self.module)
         self.links, self.about, self.note = head["links"], head["about"], head["note"]
@@ -96,7 +108,11 @@ class Family:
         self.check()
         self.values = list(dict.fromkeys(row.value for row in self.typed if row.value))
         self.kinds = re.findall(r"\w+", self.links.split(", and its")[0].replace(" and ", ", "))
-        self.quoted = listed([f"`{kind}`" for kind in self.kinds])
+        kinds = [f"`{kind}`" for kind in self.kinds]
+        self.of_links = self.about if self.inner else f"{listed(kinds)} links"
+        self.where = "inside" if self.inner else "in the data of"
+        self.lookup, self.shape_of = [("table_lookup", "shape_of"),
+                                      ("typed_lookup", "typed_shape_of")][self.layered]
         where = f" ({self.header})" * (self.header != form.LINK_HEADER)
         self.names = f"`{self.prefix}*`{where}{more}."
 

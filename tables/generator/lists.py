@@ -52,11 +52,24 @@ def constant_parts(crate, file, values, constants, **given):
     return places.parts("constants", {"constants": [(given, [given])]})
 
 
+def layered(tables):
+    """The shapes of the typed layer. Rows with payloads of types of their own come first, as in
+    the rows of their family."""
+    values = [{**marks(it), "values": sorted(map(of_row, it.typed), key=lambda row: row["table"])}
+              for it in tables.layered]
+    shapes = {row.shape for family in tables.layered for row in family.typed}
+    yield whole(f"{SHAPES}/src/typed.rt", "typed_shapes", values,
+                used=", ".join(f"{family.snake}_rows" for family in tables.layered))
+    yield whole(f"{SHAPES}/specs/Typed.antt", "typed_shapes_spec", values,
+                names_of_shapes=", ".join(it for it in tables.layouts if it in shapes))
+
+
 def outputs(tables):
     """The shapes and the names."""
-    typed = [family for family in tables.families if family.plain]
+    typed = [family for family in tables.present if family.plain]
     values, named = [marks(it) for it in typed], [it for family in typed for it in names(family)]
     shapes = {row.shape for family in typed for row in family.plain}
+    yield from layered(tables)
     has = {name for family in typed for name in family.families}
     without = [row["family"] for row in tables.coded if row["family"] not in has]
     yield whole(f"{SHAPES}/src/table.rt", "shapes", values,

@@ -1,12 +1,15 @@
 """What templates/family has in its marks: of a flat family, and of each of its rows."""
+from .families import NEST
 from .text import pairs, snake, spelled
 
 SEARCHED = 10   # up to so many variants, `ExactEq` is found by a search
 LONG = 8        # from so many rows on, what a label keeps is a line for each row
 KNOWN = {"number": "Decides-eqb", "truth": "booleans_Decides",
+         "sets": "(λ a b. Prim.search rules)",
          "pair": "(two_fields Decides-eqb Decides-eqb)"}
 HOW = {"number": " as ‹›", "reference": " as &‹›", "flags": " as flags ‹›",
-       "pair": " by flags_of, pair_of", "scrub": " by scrub_of, is_by_default"}
+       "pair": " by flags_of, pair_of", "sets": " by flags_of, pair_of",
+       "scrub": " by scrub_of, is_by_default"}
 
 
 def kept(row, marks):
@@ -52,11 +55,15 @@ def stored(row, marks, seen):
 def exact(row, at, lets, is_listed):
     """The entry of a row in `ExactEq`."""
     entry = row.value.exact if row.value else row.layout.exact
-    is_new = is_listed and bool(row.field) and entry not in lets
+    entry, field, decides = "sets" if row.made == "sets" else entry, row.field, "{}_exact"
     where = f"linkinfo_numbers.specs.contracts.{row.value.module}" if row.value else \
         "nla_frame.specs.contracts.exact_eq"
-    found = {"entry": entry, "decides": KNOWN.get(entry, f"{entry}_exact"),
-             "law": is_new and entry not in KNOWN and f"{where}.{row.field}ExactEq.TheImpl.Laws",
+    if row.inner:
+        field, decides, entry = row.inner, "(pointwise_decides {}_exact)", snake(row.inner)
+        where = f"{row.inner_crate}.specs.contracts.{row.inner_module}"
+    is_new = is_listed and bool(field) and entry not in lets
+    found = {"entry": entry, "decides": KNOWN.get(entry, decides.format(entry)),
+             "law": is_new and entry not in KNOWN and f"{where}.{field}ExactEq.TheImpl.Laws",
              "let_first": is_new and not lets, "let_later": is_new and bool(lets),
              "entry_first": is_listed and not at, "entry_later": is_listed and at > 0,
              "two_later": is_listed and row.two}
@@ -68,16 +75,23 @@ def of_row(row):
     """The marks of a row that need nothing else."""
     field, either = row.field, spelled(row.variant)
     bits, bare = row.value.bits if row.value else 0, row.shape == "Mark"
-    simple = not (row.value or row.two or bare)
+    simple = not (row.value or row.two or bare or row.inner)
+    kind = f"written_kind true {row.number}" if row.flagged else str(row.number)
     return {
         **vars(row), "number": str(row.number), "held": f"({field})" if field else "",
-        "spelled": "custom" if row.shape in ("Peer", "SelfList") else spelled(row.shape),
+        "table": not row.inner, "in_code": row.shape + f"(Family::{row.inner})" * bool(row.inner),
+        "in_specs": f"{row.shape} family.{row.inner}" if row.inner else row.shape,
+        "spelled": "custom" if row.shape in ("Peer", "SelfList", NEST) else spelled(row.shape),
         "how": f" or {row.variants[0]}" if row.two else HOW.get(row.made, "").replace("‹›", field),
         "doc": row.doc(len(row.variants) - 1), "first_doc": row.doc(0), "empty": row.variants[0],
         "either": either, "short": either.split("_")[0],
         "value": row.value and snake(row.value.name), "word": row.value and row.value.in_specs,
         "bits": str(bits), "most": "256" if bits == 8 else f"(2 ^ {bits})", "bare": bare,
-        "set": row.made == "flags", "pair": row.made == "pair", "simple": simple,
+        "set": row.made == "flags", "pair": row.made == "pair", "sets": row.made == "sets",
+        "masked": row.made in ("pair", "sets"), "simple": simple, "written": kind,
+        "flag": str(row.flagged).lower(), "inner_it": snake(row.inner),
+        **{f"inner_{it}": row.inner and getattr(row, f"inner_{it}") for it in
+           ("spec", "module", "crate")},
         "made_from": row.made == "flags" or row.numbered, "variable": row.layout.variable,
         "condition": row.layout.condition, "said": simple and row.layout.condition,
         "arm": not row.two, "plain": not row.under, "names": ", ".join(row.variants)}
@@ -102,8 +116,9 @@ def numbers(family):
             [it, f"{it}_number", f"{it}_table", f"{it}_table_holds"])
     return "".join([*(f"{head}.{module.capitalize()}.{{{', '.join(first + flags)}}}\n"
                       for module, (first, flags) in names.items()),
-                    *(f"{head}.declared.{value.module}.{value.name}.{{{value.name}}}\n"
-                      for value in family.values if value.made == "pair")])
+                    *dict.fromkeys(
+                        f"{head}.declared.{it.value.module}.{it.value.name}.{{{it.value.name}}}\n"
+                        for it in family.typed if it.made in ("pair", "sets"))])
 
 
 def reads(family, shapes):
@@ -118,21 +133,93 @@ def reads(family, shapes):
         for row in family.typed if row.shape == "Name")
 
 
+def chained(items, last):
+    """Pairs of a list, the first item outside: (A, (B, last))."""
+    text = last
+    for item in reversed(items):
+        text = item.replace("..", text)
+    return text
+
+
+def owned(rows):
+    """Whether a type `n` is that of one of the rows."""
+    return chained([f"((n == {row['number']}) || ..)" for row in rows], "false")
+
+
+def beside(rows, table):
+    """That the type of an attribute `d` is that of none of the rows, nor of a row of a table."""
+    text = chained([f"(masked d.kind ≢ {row['number']}) × (..)" for row in rows], "IsUnknown ‹› d")
+    return text.replace("(IsUnknown ‹› d)", "IsUnknown ‹› d").replace("‹›", table)
+
+
+def chain(family, inner):
+    """The rows from each of those on, the last one first."""
+    its, text, rest = family.snake, "", f"(table_row {family.snake}_plain)"
+    for row in reversed(inner):
+        name = f"{its}_from_{row['either']}"
+        text += (f"abbrev pub {name} : ℕ → FamilyRow {family.type}\n{name} n =\n    with_row "
+                 f"{row['number']} ({row['in_specs']}) {row['flag']} (list_of {row['inner_it']}_"
+                 f"members)\n    (λ xs. {row['variant']} xs) {rest} n\n\n")
+        rest = name
+    return text.rstrip("\n") + "\n" * bool(text)
+
+
+def custom(family, inner):
+    """The marks of a family that are of its rows with payloads of types of their own."""
+    its, spec = family.snake, f"Rattle.{family.crate}.specs"
+    suffixes = [f"{its}_from_{row['either']}" for row in inner]
+    for at, row in enumerate(inner):
+        later = inner[at + 1:]
+        row |= {"of_types": "e" if at else "h", "others": "e" if later else "_",
+                "rest": suffixes[at + 1] if later else f"(table_row {its}_plain)",
+                "rest_owned": owned(later), "rest_beside": beside(later, f"{its}_plain"),
+                "rest_shapes": "".join(
+                    f"({it['number']}, {it['in_specs']}) ∷ " for it in later)
+                + f"without_labels {its}_plain"}
+    inside = dict.fromkeys((row["inner_it"], row["inner_spec"]) for row in inner)
+    return {
+        "nested": bool(inner), "flat": not inner, "is_inner": family.inner,
+        "of_family": bool(inner) or family.inner, "inner_types": "\n".join(
+            f"use crate::{module}::{name};" for module, name in dict.fromkeys(
+                (row["inner_module"], row["inner"]) for row in inner)),
+        "cloned": ", Clone" * bool(inner), "closing": ")" * len(inner),
+        "plain_rows": f"{its}_plain" if inner else f"{its}_rows",
+        "all_rows": f"{its}_rows" if inner else f"table_row {its}_rows",
+        "own_variants": "".join(f"{row['variant']}, " for row in inner),
+        "held": ", ".join(f"is_{row['either']}" for row in inner),
+        "custom": chained([f"({row['variant']}Row<()>, ..)" for row in inner], "()"),
+        "owned": owned(inner), "suffixes": ", ".join(suffixes), "chain": chain(family, inner),
+        "first_rows": suffixes[0] if inner else "",
+        "is_held": chained([f"(is_{row['either']} x || ..)" for row in inner], "false"),
+        "beside": beside(inner, f"{its}_plain" if inner else f"{its}_rows"),
+        "inner_rows": "".join(f"use {spec}.{name}.{{{it}_attribute, {it}_lawful, {it}_members}}\n"
+                              for it, name in inside),
+        "inner_conditions": "".join(
+            f"use {spec}.{name}Conditions.{{{it}_conditions, {it}_stated}}\n"
+            for it, name in inside)}
+
+
 def of_family(family):
     """The marks of a family, with those of its rows as `values`."""
     variants = [variant for row in family.typed for variant in row.variants]
-    is_listed = len(variants) + 1 > SEARCHED
+    is_listed = len(variants) + 1 > SEARCHED or any(row.inner for row in family.typed)
     rows, shapes = of_rows(family, is_listed), dict.fromkeys(row.shape for row in family.typed)
     pair = next((value.name for value in family.values if value.made == "pair"), "")
+    sets = next((row.value.name for row in family.typed if row.made == "sets"), "")
+    inner = [row for row in rows if row["inner"]]
     either, entries = [row["either"] for row in rows if row["two"]], {row["entry"] for row in rows}
+    plain = "plain" if inner else "rows"
     used = {value.name for value in family.values} | {pair.removeprefix("Info")}
     return {
         **vars(family), "it": family.snake, "info": family.type, "pair": pair,
         "alias_doc": family.alias_said[:1].upper() + family.alias_said[1:] + ".",
-        "pair_set": pair.removeprefix("Info"), "pair_flags": snake(pair.removeprefix("Info")),
+        "pair_set": pair.removeprefix("Info"), "sets": sets, "masked": pair or sets and
+        f"({sets}, {sets})", "pair_flags": snake(sets or pair.removeprefix("Info")),
         "flags": pair or any(value.made == "flags" for value in family.values),
+        **custom(family, inner),
         "shapes": ", ".join(shapes), "value_names": ", ".join(sorted(used - {""})),
-        "reads": reads(family, set(shapes)), "numbers": numbers(family), "keeps": keeps(rows),
+        "reads": reads(family, set(shapes)), "numbers": numbers(family), 
+        "keeps": keeps([row for row in rows if row["table"]]),
         "all_variants": ", ".join(variants), "searched": not is_listed, "listed": is_listed,
         "derived": ", ".join(["derived_decides", *["no_field"] * bool(
             either or "no_field" in entries), "one_field", *["two_fields"] * ("pair" in entries)]),
@@ -140,4 +227,4 @@ def of_family(family):
         "not_each": any(row["two"] or row["bare"] or row["simple"] and not row["said"]
                         for row in rows),
         "eithers": "".join(f"{it}, " for it in either), "are_typed": f"{family.snake}_typed" if
-        either else f"(are_typed {family.snake}_is_other {family.snake}_rows refl)"}
+        either else f"(are_typed {family.snake}_is_other {family.snake}_{plain} refl)"}

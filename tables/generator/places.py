@@ -11,6 +11,8 @@ from .text import MOST, fill, imports
 TEMPLATES = pathlib.Path(__file__).resolve().parent.parent / "templates"
 FORM = re.compile(r"(?m)^\? (.*)\n")
 ONLY_IF = re.compile(r"\[(\w+)\] ?")
+GHOST = re.compile(r"( *ghost \w+ = \{ λ[\w ]+\.) ")
+EQUATION = re.compile(r"( *⟦[^≡]*) (≡ )")
 IMPORT = re.compile(r"( *(?:ghost |pub )?use .*)(\.|::)\{(.*)\}(;?)")
 
 
@@ -55,7 +57,8 @@ def joined(lines):
 
 
 def line_of(line):
-    """A line without marks, and broken if it is long: a doc comment, an import, or a block."""
+    """A line without marks, and broken if it is long: a doc comment, an import, a definition of a
+    ghost, an equation, or a block."""
     plain, indent = re.sub("[⟪⟫]", "", line), re.match(" *", line)[0]
     if len(plain) <= MOST:
         return plain
@@ -64,6 +67,10 @@ def line_of(line):
     used = IMPORT.fullmatch(line)
     if used:
         return imports(used[1], used[2], used[3].split(", "), used[4])
+    if GHOST.match(line):
+        return GHOST.sub(rf"\1\n{indent}    ", line)
+    if EQUATION.match(line):
+        return EQUATION.sub(rf"\1\n{indent}\2", line)
     return re.sub("⟪(.*)⟫,", f"{{\n{indent}    \\1\n{indent}}}", line)
 
 

@@ -40,8 +40,8 @@ def view_marks(family):
         yield {"constant": constant, "said": said,
                "head": fill(f"**{title}**: {said}".split()),
                "others": family.links if family.parts and constant != "TUNNEL" else "",
-               "values": [{**vars(row), "number": str(row.number), "format": shown(row)}
-                          for row in rows]}
+               "values": [{**vars(row), "number": str(row.number), "format": shown(row),
+                           "shape": "Raw" if row.inner else row.shape} for row in rows]}
 
 
 def page_marks(family):
@@ -49,11 +49,13 @@ def page_marks(family):
     rows = []
     for row in family.typed:
         names = dict.fromkeys([row.kernel, row.kernel.replace(family.prefix, family.twin_prefix)])
+        value = row.value and row.value.name + ", for each" * (row.made == "sets")
         rows.append({
             "number": f"{row.number} under `{row.under}`" if row.under else str(row.number),
-            "names": ", ".join(f"`{name}`" for name in names), "shape": row.shape,
+            "names": ", ".join(f"`{name}`" for name in names),
+            "shape": f"{row.shape} {row.inner}{' +8000' * row.flagged}".rstrip(),
             "variants": f"{row.variants[0]} (empty), {row.variant} (one byte)" if row.two
-            else row.variant, "made_into": f" {row.value.name} " if row.value else " "})
+            else row.variant, "made_into": f" {value} " if value else " "})
     return {"heading": listed([f"`{name}`" for name in family.families]), "values": rows,
             "note": fill(family.note.split())}
 
@@ -82,17 +84,19 @@ def lines(family, kind):
 def outputs(tables):
     """The rows to show, the pages, and the lines."""
     parts, coded = sections("lists"), {row["family"] for row in tables.coded}
-    found = [it for family in tables.families for it in view_marks(family)]
+    shown_in = [it for it in tables.families if any(row.member for row in it.rows)]
+    found = [it for family in shown_in for it in view_marks(family)]
     yield whole("crates/linkinfo_view/src/entries.rt", "view", found)
-    named = [{**vars(it), "arm": either(it.families)} for it in tables.families if it.name in coded]
+    named = [{**vars(it), "arm": either(it.families)} for it in shown_in if it.name in coded]
     yield from constant_parts("linkinfo_view", "table", named, [it["constant"] for it in found],
                               of="family_rows", call="lines", without="")
     count = f"{sum(len(it['values']) for it in found)} rows in {len(found)} tables.\n\n"
     yield Part("docs/SHOW.md", "families", count + "".join(
         put_in(parts["page of a view"], it) for it in found))
-    yield Part("docs/FORMAT.md", "families", "".join(
-        put_in(parts["page of a family"], page_marks(it)) for it in tables.families if it.typed))
-    stored = [line for family in tables.families for kind in family.kinds
+    for name, of in (("families", tables.present), ("families (typed)", tables.layered)):
+        yield Part("docs/FORMAT.md", name, "".join(
+            put_in(parts["page of a family"], page_marks(it)) for it in of if it.typed))
+    stored = [line for family in tables.present for kind in family.kinds
               for line in lines(family, kind)]
     for at, name in enumerate(("in", "out")):
         yield Whole(f"gate/lines/rows.{name}", "", "".join(f"{line[at]}\n" for line in stored))

@@ -67,7 +67,8 @@ def tidy(text):
     words = {*re.findall(r"[^\s(),;]+", code), *re.findall(r"\w+", code)}
 
     def kept(mark):
-        names = [name for name in re.findall(r"[^\s,]+", mark[3]) if name.strip("◌") in words]
+        names = [name for name in re.findall(r"[^\s,]+", mark[3])
+                 if name.strip("◌") in words or f"::{name.removesuffix('Rows')}::" in code]
         return f"{imports(mark[1], mark[2], names, mark[4])}\n" if names else ""
 
     return IMPORT.sub(kept, text)

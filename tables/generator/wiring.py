@@ -27,7 +27,7 @@ def coded(rows):
 
 def form_of(family):
     """The form of the data of a family: empty if it is a list by one table of rows."""
-    shapes = {row.shape for row in family.typed} if family else set()
+    shapes = {row.shape for row in family.typed} if family and not family.layered else set()
     if "Peer" in shapes:
         return "first" if shapes == {"Peer"} else "peers"
     if not shapes or "SelfList" in shapes:
@@ -39,8 +39,9 @@ def data_row(ours, families, names):
     """A variant of data, of these kinds."""
     kind = ours[0]
     family = next((it for it in families if kind.name in it.kinds), None)
+    crate = None if family and family.layered else family and family.crate
     name = kind.data if kind.data in names else family.name if family else None
-    if not name or family and family.crate not in (None, kinds.GROUPS[kind.group]):
+    if not name or crate not in (None, kinds.GROUPS[kind.group]):
         raise kind.line.bad(f"no family of {kinds.GROUPS[kind.group]} is {kind.data}, and no table "
                             f"of one has the kind {kind.name}")
     form, first = form_of(family), bool(family) and name == family.name
@@ -52,7 +53,7 @@ def data_row(ours, families, names):
         "declared": family.snake if form == "twin" else name,
         "module": family.module if first else name.lower(),
         "type": f"{holder}<P>" if holder.endswith("Of") else holder,
-        "members": family and f"{family.type}Of {int(not first)}", "crate": family and family.crate,
+        "members": family and f"{family.type}Of {int(not first)}", "crate": crate,
         "spec": family and family.spec, "names": f" (`{prefix}*`)" if family else "",
         "these": listed(family.kinds) if family else "",
         "verbatim": ", kept verbatim" * (form == "opaque"),
@@ -114,7 +115,7 @@ def outputs(tables):
     found = of_kinds(tables, kinds.read(tables.root, "ports"), {row["data"]: row for row in rows})
     found |= {"data": rows, "tables": unique(listed_in, "declared"), "plain": listed_in,
               "flat": [row for row in ordered if not row["form"]], "Tunnel": groups[2],
-              "typed": [{"family": it} for of in tables.families if of.typed for it in of.families],
+              "typed": [{"family": it} for of in tables.present if of.typed for it in of.families],
               "laws": [row for row in unique(rows, "plain")
                        if row in listed_in and row["form"] != "twin"]}
     return list(places.parts("places", {

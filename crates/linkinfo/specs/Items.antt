@@ -1,6 +1,6 @@
 -- Attributes of the list: what each means by its role, as a row of a table that the current kinds
 -- choose.
-use Rattle.std.specs.Prelude.{ℕ, Bool, [], Result}
+use Rattle.std.specs.Prelude.{ℕ, Bool, false, [], Result}
 use Rattle.nla_frame.specs.Attribute.{Attribute}
 use Rattle.nla_frame.specs.Kept.{attribute_of}
 use Rattle.nla_frame.specs.declared.default_nla.DefaultNla.{DefaultNla}
@@ -64,6 +64,7 @@ link_other nla = info.Other nla
 abbrev pub data_row : {P : Type 0} → Ghosts P → DataFamily → Row (LinkInfoOf P)
 data_row peer f =
     Is (record {
+      nested = false;
       codec = payload_codec (data_of peer f) (data_payload peer);
       label = λ d. info.Data d;
     })
@@ -72,14 +73,27 @@ data_row peer f =
 -- attribute is rejected, and one of an unknown type is kept.
 abbrev pub link_row : {P : Type 0} → Ghosts P → Role → Row (LinkInfoOf P)
 link_row peer role.Kind =
-    Is (record { codec = shape_codec Name; label = λ name. info.Kind (kind_of_name name) })
+    Is (record {
+      nested = false;
+      codec = shape_codec Name;
+      label = λ name. info.Kind (kind_of_name name);
+    })
 link_row peer (role.Data tag) = data_row peer (family_of tag)
 link_row peer role.Xstats =
-    Is (record { codec = shape_codec Raw; label = λ bytes. info.Xstats (xstats.Other bytes) })
+    Is (record {
+      nested = false;
+      codec = shape_codec Raw;
+      label = λ bytes. info.Xstats (xstats.Other bytes);
+    })
 link_row peer role.PortKind =
-    Is (record { codec = shape_codec Name; label = λ name. info.PortKind (port_kind_of_name name) })
+    Is (record {
+      nested = false;
+      codec = shape_codec Name;
+      label = λ name. info.PortKind (port_kind_of_name name);
+    })
 link_row peer (role.PortData tag) =
     Is (record {
+      nested = false;
       codec = payload_codec (port_data_of (port_family_of tag)) port_data_payload;
       label = λ d. info.PortData d;
     })

@@ -63,7 +63,8 @@ pub use linkinfo_numbers::{
     GtpRole, InfoRmNetFlags, Ip6TunnelFlags, IpProtocol, IpVlanFlags, IpVlanMode, IpVtapFlags,
     IpVtapMode, IpoibMode, MacSecCipherId, MacSecOffload, MacSecValidate, MacVlanFlags,
     MacVlanMacAddressMode, MacVlanMode, MacVtapFlags, MacVtapMacAddressMode, MacVtapMode,
-    NetkitMode, NetkitPolicy, NetkitScrub, RmNetFlags, TunnelEncapFlags, TunnelEncapType, VxlanDf,
+    NetkitMode, NetkitPolicy, NetkitScrub, RmNetFlags, TunnelEncapFlags, TunnelEncapType,
+    VlanFlags, VlanProtocol, VxlanDf,
 };
 // End: written by tables/generate.
 // Begin: written by tables/generate from tables/kinds (peered).

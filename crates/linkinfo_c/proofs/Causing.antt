@@ -128,6 +128,7 @@ shape_causes shape.Scrub p = length_causes 4 p _
 shape_causes shape.Raw p = accepted _
 shape_causes shape.SelfList p = failed cause.Length tt
 shape_causes shape.Peer p = failed cause.Length tt
+shape_causes (shape.Nested family) p = failed cause.Length tt
 
 -- ---- attributes by rows
 
@@ -171,7 +172,7 @@ labelled_errors {F = F} f n label (Err (Inside d)) h e k =
 -- such a cause
 abbrev pub EachRow : {F : Type 0} → FamilyRow F → Type 0
 EachRow (Plain shape label) = Unit {0}
-EachRow (Custom shape codec label) = (p : List ℕ) → EachPayloadError (codec.means p)
+EachRow (Custom shape nested codec label) = (p : List ℕ) → EachPayloadError (codec.means p)
 EachRow (Refuses c) = IsReturned c
 EachRow Absent = Unit {0}
 
@@ -180,7 +181,7 @@ row_errors : {F : Type 0} (f : Family) (other : DefaultNla → F) (r : FamilyRow
 row_errors f other (Plain shape label) h a =
     labelled_errors f (masked a.kind) label (own (means shape a.value))
     (own_errors (means shape a.value) (shape_causes shape a.value))
-row_errors f other (Custom shape codec label) h a =
+row_errors f other (Custom shape nested codec label) h a =
     labelled_errors f (masked a.kind) label (codec.means a.value) (h a.value)
 row_errors {F = F} f other (Refuses c) h a = λ e k.
     subst IsReturned (ap (λ (d : DecodeError). d.cause) (bad_same {X = F} _ e k)) h
@@ -255,7 +256,7 @@ module _ {X : Type 0} (f : Family) (other : DefaultNla → X) (attribute : X →
   level_each zero n =
       row_if_each (n == 5) (Refuses cause.Depth) (table_row plain n) tt (table_rows plain n)
   level_each (suc levels) n =
-      row_if_each (n == 5) (Custom shape.SelfList
+      row_if_each (n == 5) (Custom shape.SelfList false
       (inner_codec f other attribute 5 label (λ k. table_row plain k)
       (λ k. row_of (rows_at levels k))) label) (table_row plain n)
       (λ p. inside_errors

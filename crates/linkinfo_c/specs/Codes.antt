@@ -71,6 +71,7 @@ family_code family.Vxlan = 34
 family_code family.Wireguard = 35
 family_code family.Wwan = 36
 family_code family.Xfrm = 37
+family_code family.VlanQosMapping = 38
 
 -- End: written by tables/generate.
 
@@ -114,6 +115,7 @@ peer =
     family.Wireguard ∷
     family.Wwan ∷
     family.Xfrm ∷
+    family.VlanQosMapping ∷
     -- End: written by tables/generate.
     []
 
@@ -300,6 +302,7 @@ shape_code shape.Scrub = 22
 shape_code shape.Raw = 23
 shape_code shape.SelfList = 24
 shape_code shape.Peer = 25
+shape_code (shape.Nested family) = 26
 
 -- the outcomes of a canonical encoding, `enum linkinfo_canon_status`
 

@@ -20,7 +20,7 @@ use Rattle.linkinfo_numbers.specs.declared.tags.KindTag.{KindTag}
 use Rattle.linkinfo_shapes.specs.Data.{Value, truth, empty, text, v4, v6, mac, bytes}
 use Rattle.linkinfo_shapes.specs.Data.{number_in, pair_in, signed_in}
 use Rattle.linkinfo_shapes.specs.declared.shape.Shape.{Shape}
-use Rattle.linkinfo_shapes.specs.declared.shape.Shape.TheVariants.{SelfList, Peer}
+use Rattle.linkinfo_shapes.specs.declared.shape.Shape.TheVariants.{Nested, SelfList, Peer}
 use Rattle.linkinfo_c.specs.declared.values.LinkinfoValue.{LinkinfoValue}
 use Rattle.linkinfo_c.specs.declared.values.LinkinfoValuedAttribute.{LinkinfoValuedAttribute}
 use Rattle.linkinfo_c.specs.Attributes.{datum_in, records_inside}
@@ -98,6 +98,7 @@ value_or_none None = no_value
 -- the value of a payload: a peer is its bytes, and a list is a list whatever its attributes are
 abbrev pub value_in : Option Shape → List ℕ → LinkinfoValue
 value_in (Some SelfList) payload = list_record payload
+value_in (Some (Nested family)) payload = list_record payload
 value_in (Some Peer) payload = value_record (bytes payload)
 value_in shape payload = value_or_none (datum_in shape payload)
 

@@ -73,6 +73,7 @@ macro_rules! families {
             Wireguard = 35,
             Wwan = 36,
             Xfrm = 37,
+            VlanQosMapping = 38,
             // End: written by tables/generate.
         }
     };
@@ -242,5 +243,6 @@ pub(crate) fn shape_code(shape: Shape) -> u16
         Shape::Raw => 23,
         Shape::SelfList => 24,
         Shape::Peer => 25,
+        Shape::Nested(_) => 26,
     }
 }

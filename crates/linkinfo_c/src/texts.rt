@@ -122,12 +122,12 @@ pub extern "C" fn linkinfo_port_kind_of_name(name: &[u8]) -> u16
 }
 
 /// Writes family, type in decimal and cause of an error, as `linkinfo 2 order`, and returns the
-/// length of this text: at most 28 bytes. The text is empty without an error, and if a number is no
+/// length of this text: at most 32 bytes. The text is empty without an error, and if a number is no
 /// family or no cause.
 #[unsafe(no_mangle)]
 pub extern "C" fn linkinfo_error_text(error: LinkinfoError, buffer: &mut [u8]) -> usize
     ensures length { result ≡ length (record_text error) }
-    ensures most { result ≤ 28 }
+    ensures most { result ≤ 32 }
     ensures text { buffer.new ≡ with_text (record_text error) buffer.old }
 {
     match (family_of_code(error.family), cause_of_code(error.cause)) {
@@ -143,8 +143,8 @@ pub extern "C" fn linkinfo_error_text(error: LinkinfoError, buffer: &mut [u8]) -
     }
 }
 
-/// The text of an error: at most 10, 5 and 11 bytes, with a space between them.
-fn error_line(error: DecodeError) -> ArrayString<28>
+/// The text of an error: at most 14, 5 and 11 bytes, with a space between them.
+fn error_line(error: DecodeError) -> ArrayString<32>
     ensures { result.bytes ≡ error_text error }
 {
     let mut text = ArrayString::new();

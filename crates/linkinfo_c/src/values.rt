@@ -171,7 +171,7 @@ fn value_in(shape: Option<Shape>, payload: &[u8]) -> LinkinfoValue
     ensures { result ≡ value_in shape payload.now }
 {
     match shape {
-        Some(Shape::SelfList) => LinkinfoValue {
+        Some(Shape::SelfList | Shape::Nested(_)) => LinkinfoValue {
             value_type: LIST,
             len: payload.len(),
             ..NO_VALUE

@@ -9,10 +9,10 @@ use Rattle.linkinfo_table.specs.ByRows.{members_by_rows, rows_are_family, rows_n
 use Rattle.linkinfo_table.specs.ByRows.{table_is_family, table_names}
 use Rattle.linkinfo_table.specs.Conditions.{opaque_attribute}
 use Rattle.linkinfo_table.specs.FamilyRows.{lookup_of, row_of, table_row}
-use Rattle.linkinfo_table.specs.ErrorNames.{EachNames, names_list}
+use Rattle.linkinfo_table.specs.ErrorNames.{names_list}
+use Rattle.linkinfo_table.specs.Named.{EachNames}
 use Rattle.linkinfo_table.specs.FlatLaws.{none_inside}
 use Rattle.linkinfo_table.specs.Lists.{values}
-use Rattle.linkinfo_table.specs.LookupLaws.{flat_unnested}
 use Rattle.linkinfo_table.specs.Members.{IsFamily, Members}
 use Rattle.linkinfo_table.specs.Rows.{meaning_in}
 use Rattle.linkinfo_table.specs.declared.opaque.Opaque.TheVariants as opaque
@@ -231,13 +231,13 @@ pub ip_tunnel_names : (tag : KindTag) (s : List ℕ) →
     EachNames family.IpTunnel (values (plain.ip_tunnel tag).meaning (nla_items s))
 ip_tunnel_names tag s = rows_name family.IpTunnel (λ d. ip_tunnel.Other d) ip_tunnel_attribute
     (ip_tunnel_row tag) (ip_tunnel_owes tag)
-    (λ n. flat_unnested (ip_tunnel_row tag n) (ip_tunnel_flat tag n)) s
+    (λ n. ip_tunnel_flat tag n) s
 
 -- ---- macvlan links, whose attributes may hold lists
 
 pub mac_vlan_names : (lists : ℕ) (s : List ℕ) →
     EachNames family.MacVlan (values (plain.mac_vlan lists).meaning (nla_items s))
-mac_vlan_names lists s = names_list family.MacVlan (λ d. macvlan.Other d) mac_vlan_attribute
+mac_vlan_names lists s = names_list family.MacVlan [] (λ d. macvlan.Other d) mac_vlan_attribute
     (λ c n. lookup_of (mac_vlan_rows c n))
     (λ c a. meaning_in family.MacVlan (λ d. macvlan.Other d)
     (λ n. row_of (mac_vlan_rows c n)) a) mac_vlan_says lists s
@@ -246,7 +246,7 @@ mac_vlan_names lists s = names_list family.MacVlan (λ d. macvlan.Other d) mac_v
 
 pub mac_vtap_names : (lists : ℕ) (s : List ℕ) →
     EachNames family.MacVtap (values (plain.mac_vtap lists).meaning (nla_items s))
-mac_vtap_names lists s = names_list family.MacVtap (λ d. macvtap.Other d) mac_vtap_attribute
+mac_vtap_names lists s = names_list family.MacVtap [] (λ d. macvtap.Other d) mac_vtap_attribute
     (λ c n. lookup_of (mac_vtap_rows c n))
     (λ c a. meaning_in family.MacVtap (λ d. macvtap.Other d)
     (λ n. row_of (mac_vtap_rows c n)) a) mac_vtap_says lists s

@@ -5,7 +5,7 @@ use Rattle.nla_frame.specs.NlaItems.{nla_items}
 use Rattle.nla_frame.specs.declared.error.DecodeError.{DecodeError}
 use Rattle.nla_frame.specs.declared.error.Family.{Family}
 use Rattle.nla_frame.specs.declared.error.Family.TheVariants as family
-use Rattle.linkinfo_table.specs.ErrorNames.{EachNames}
+use Rattle.linkinfo_table.specs.Named.{EachNames}
 use Rattle.linkinfo_table.specs.Lists.{◌>>=◌, first_meaning, values}
 use Rattle.linkinfo_table.specs.Members.{Members}
 use Rattle.linkinfo_data.specs.Data.{data_of}

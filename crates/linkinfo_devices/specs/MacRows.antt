@@ -127,7 +127,7 @@ mac_owes f attribute l k c n =
 -- these rows agree with what the attributes of each type mean
 pub mac_says : {X : Type 0} (f : Family) (attribute : X → Attribute) (l : MacLabels X) →
     MacLabelsKeep attribute l → (c : ℕ) (a : Attribute) →
-    LookupSays f (λ d. l.other d) attribute
+    LookupSays f [] (λ d. l.other d) attribute
     (λ d b. meaning_in f (λ nla. l.other nla) (λ n. row_of (mac_rows f attribute l d n)) b) a
     (lookup_of (mac_rows f attribute l c (masked a.kind)))
     (meaning_in f (λ d. l.other d) (λ n. row_of (mac_rows f attribute l c n)) a)

@@ -50,8 +50,8 @@ mac_sec_stated = elim [
       (λ y. mac_sec.Validation y) mac_sec_conditions (λ _ is. is) (λ _ is. is) x
   | mac_sec.Offload x ↦ number_label mac_sec_offload_table_holds 256
       (λ y. mac_sec.Offload y) mac_sec_conditions (λ _ is. is) (λ _ is. is) x
-  | mac_sec.Other d ↦ unknown_label
-      (λ z. mac_sec.Other z) mac_sec_attribute mac_sec_rows mac_sec_is_other (λ _. refl) (λ _. refl)
+  | mac_sec.Other d ↦ unknown_label (λ z. mac_sec.Other z) mac_sec_attribute
+      mac_sec_rows mac_sec_is_other (λ _. refl) (λ _. refl)
       (are_typed mac_sec_is_other mac_sec_rows refl) d
   | _ ↦ (λ w. subst mac_sec_conditions w.2 w.1, λ h. (_, h, refl))
 ]

@@ -1,5 +1,5 @@
 -- The rows of `macvlan` links, and their canonical attributes, with lists of any depth.
-use Rattle.std.specs.Prelude.{◌≡◌, Bool, ℕ, List, refl}
+use Rattle.std.specs.Prelude.{◌≡◌, Bool, ℕ, List, [], refl}
 use Rattle.std.proofs.Common.{sym, ap, ◌∙◌}
 use Rattle.nla_frame.specs.Attribute.{Attribute, masked}
 use Rattle.nla_frame.specs.declared.error.Family.TheVariants as family
@@ -171,7 +171,7 @@ mac_vlan_rows c n = mac_rows family.MacVlan mac_vlan_attribute mac_vlan_labels c
 
 -- the rows agree with what the attributes of each type mean
 pub mac_vlan_says : (c : ℕ) (a : Attribute) →
-    LookupSays family.MacVlan (λ d. macvlan.Other d) mac_vlan_attribute
+    LookupSays family.MacVlan [] (λ d. macvlan.Other d) mac_vlan_attribute
     (λ d b.
     meaning_in family.MacVlan (λ nla. macvlan.Other nla) (λ n. row_of (mac_vlan_rows d n)) b) a
     (lookup_of (mac_vlan_rows c (masked a.kind)))

@@ -1,5 +1,5 @@
 -- The rows of `macvtap` links, and their canonical attributes, with lists of any depth.
-use Rattle.std.specs.Prelude.{◌≡◌, Bool, ℕ, List, refl}
+use Rattle.std.specs.Prelude.{◌≡◌, Bool, ℕ, List, [], refl}
 use Rattle.std.proofs.Common.{sym, ap, ◌∙◌}
 use Rattle.nla_frame.specs.Attribute.{Attribute, masked}
 use Rattle.nla_frame.specs.declared.error.Family.TheVariants as family
@@ -171,7 +171,7 @@ mac_vtap_rows c n = mac_rows family.MacVtap mac_vtap_attribute mac_vtap_labels c
 
 -- the rows agree with what the attributes of each type mean
 pub mac_vtap_says : (c : ℕ) (a : Attribute) →
-    LookupSays family.MacVtap (λ d. macvtap.Other d) mac_vtap_attribute
+    LookupSays family.MacVtap [] (λ d. macvtap.Other d) mac_vtap_attribute
     (λ d b.
     meaning_in family.MacVtap (λ nla. macvtap.Other nla) (λ n. row_of (mac_vtap_rows d n)) b) a
     (lookup_of (mac_vtap_rows c (masked a.kind)))

@@ -20,6 +20,7 @@ use Rattle.std.specs.Prelude.{
   if◌then◌else◌,
   ltb,
   List,
+  [],
   length,
   map,
   Result,
@@ -40,6 +41,7 @@ use Rattle.nla_frame.specs.declared.error.Family.{Family}
 use Rattle.nla_frame.specs.declared.error.DecodeError.{DecodeError}
 use Rattle.nla_frame.specs.declared.default_nla.DefaultNla.{DefaultNla}
 use Rattle.linkinfo_shapes.specs.declared.shape.Shape.TheVariants as shape
+use Rattle.linkinfo_table.specs.TypedRows.{flat_typed}
 use Rattle.linkinfo_table.specs.declared.lookup.Lookup.{Lookup}
 use Rattle.linkinfo_table.specs.declared.lookup.Lookup.TheVariants as lookup
 use Rattle.linkinfo_table.specs.Rows.{
@@ -82,7 +84,7 @@ use Rattle.linkinfo_table.specs.declared.decoded.Decoded.{Decoded}
 use Rattle.linkinfo_table.specs.declared.decoded.Decoded.TheVariants as found
 use Rattle.linkinfo_shapes.specs.Data.{value_of}
 use Rattle.linkinfo_table.specs.Levels.{level_rows, level_owes, inner_codec}
-use Rattle.linkinfo_table.specs.LookupLaws.{flat_unnested, list_no_peer, row_says}
+use Rattle.linkinfo_table.specs.LookupLaws.{list_no_nest, list_no_peer, row_says}
 use Rattle.linkinfo_table.specs.Lookups.{HoldsList, LookupSays}
 use Rattle.linkinfo_table.specs.Lists.{values, headers_of, alike_pairs, memory_of}
 use Rattle.linkinfo_table.specs.SelfList.{inside}
@@ -109,7 +111,7 @@ flat_headers {X = X} rows a flat = go (rows (masked a.kind)) flat
   where
     go : (r : FamilyRow X) → IsFlat r → row_headers (row_of r) a ≡ 0
     go (Plain shape label) h = refl
-    go (Custom shape codec label) h = absurd h
+    go (Custom shape nested codec label) h = absurd h
     go (Refuses cause) h = refl
     go Absent h = refl
 
@@ -136,7 +138,7 @@ module _ {X : Type 0} (f : Family) (other : DefaultNla → X) (attribute : X →
   -- the row of type 5 if one more list may be nested
   abbrev list_row : ℕ → Row X
   list_row levels =
-      row_of (Custom shape.SelfList
+      row_of (Custom shape.SelfList false
       (inner_codec f other attribute 5 label (λ k. table_row plain k) (λ k. level levels k)) label)
 
   five : (c n : ℕ) → c < 128 → n ≡ 5 → at c n ≡ list_row (128 - (c + 1))
@@ -192,7 +194,7 @@ module _ {X : Type 0} (f : Family) (other : DefaultNla → X) (attribute : X →
     elsewhere (suc levels) n h = go (n == 5) refl
       where
         go : (b : Bool) → (n == 5) ≡ b →
-            IsFlat (row_if b (Custom shape.SelfList
+            IsFlat (row_if b (Custom shape.SelfList false
             (inner_codec f other attribute 5 label (λ k. table_row plain k) (λ k. level levels k))
             label) (table_row plain n))
         go true e = absurd (let never : suc levels ≡ 0 = h (eqb-true n 5 e) in cc)
@@ -221,9 +223,9 @@ module _ {X : Type 0} (f : Family) (other : DefaultNla → X) (attribute : X →
       meaning c a = meaning_in f other (λ n. at c n) a
 
       list_says : (a : Attribute) (levels : ℕ) → levels < 128 → masked a.kind ≡ 5 →
-          LookupSays f other attribute meaning a (lookup.Is shape.SelfList)
+          LookupSays f [] other attribute meaning a (lookup.Is shape.SelfList)
           (row_meaning f other (row_of
-          (Custom shape.SelfList
+          (Custom shape.SelfList false
           (inner_codec f other attribute 5 label (λ k. table_row plain k) (λ k. level levels k))
           label)) a)
       list_says a levels below e = record {
@@ -240,6 +242,8 @@ module _ {X : Type 0} (f : Family) (other : DefaultNla → X) (attribute : X →
         );
         peer = λ h. absurd (list_no_peer h);
         peer_typed = λ h. absurd (list_no_peer h);
+        nest = λ inner h. absurd (list_no_nest inner h);
+        nest_typed = λ inner h. absurd (list_no_nest inner h);
       }
         where
           go : (r : Result (List X) DecodeError) →
@@ -255,35 +259,35 @@ module _ {X : Type 0} (f : Family) (other : DefaultNla → X) (attribute : X →
 
       says_at : (levels : ℕ) (a : Attribute) → levels ≤ 128 →
           RowOwes attribute (masked a.kind) (level levels (masked a.kind)) →
-          LookupSays f other attribute meaning a
+          LookupSays f [] other attribute meaning a
           (lookup_of
           (level_rows f other attribute 5 label (λ k. table_row plain k) levels (masked a.kind)))
           (row_meaning f other (level levels (masked a.kind)) a)
       says_at zero a le owed =
-          row_says f other attribute attribute (λ _. refl) meaning _ a
-          (flat_unnested _ (elsewhere 0 (masked a.kind) (λ _. refl))) owed
+          row_says f [] other attribute attribute (λ _. refl) meaning _ a
+          (flat_typed [] _ (elsewhere 0 (masked a.kind) (λ _. refl))) owed
       says_at (suc levels) a le owed = go (masked a.kind == 5) refl owed
         where
           go : (b : Bool) → (masked a.kind == 5) ≡ b →
               RowOwes attribute (masked a.kind)
-              (row_of (row_if b (Custom shape.SelfList
+              (row_of (row_if b (Custom shape.SelfList false
               (inner_codec f other attribute 5 label (λ k. table_row plain k) (λ k. level levels k))
               label) (table_row plain (masked a.kind)))) →
-              LookupSays f other attribute meaning a
-              (lookup_of (row_if b (Custom shape.SelfList
+              LookupSays f [] other attribute meaning a
+              (lookup_of (row_if b (Custom shape.SelfList false
               (inner_codec f other attribute 5 label (λ k. table_row plain k) (λ k. level levels k))
               label) (table_row plain (masked a.kind))))
               (row_meaning f other (row_of
-              (row_if b (Custom shape.SelfList
+              (row_if b (Custom shape.SelfList false
               (inner_codec f other attribute 5 label (λ k. table_row plain k) (λ k. level levels k))
               label) (table_row plain (masked a.kind)))) a)
           go true e h = list_says a levels (omega (arith, le)) (eqb-true (masked a.kind) 5 e)
           go false e h =
-              row_says f other attribute attribute (λ _. refl) meaning _ a
-              (flat_unnested _ (table_flat attribute plain keeps (masked a.kind))) h
+              row_says f [] other attribute attribute (λ _. refl) meaning _ a
+              (flat_typed [] _ (table_flat attribute plain keeps (masked a.kind))) h
 
       pub nested_says : (c : ℕ) (a : Attribute) →
-          LookupSays f other attribute meaning a
+          LookupSays f [] other attribute meaning a
           (lookup_of (nested_rows f other attribute label plain c (masked a.kind)))
           (meaning_in f other (λ n. at c n) a)
       unfolding meaning_in
@@ -321,7 +325,7 @@ module _ {X : Type 0} (f : Family) (other : DefaultNla → X) (attribute : X →
         go (suc levels) h = by (n == 5) refl
           where
             by : (b : Bool) → (n == 5) ≡ b →
-                lookup_of (row_if b (Custom shape.SelfList
+                lookup_of (row_if b (Custom shape.SelfList false
                 (inner_codec f other attribute 5 label (λ k. table_row plain k)
                 (λ k. level levels k)) label) (table_row plain n)) ≡ nested_lookup c n (table n)
             by true e =
@@ -351,7 +355,7 @@ module _ {X : Type 0} (f : Family) (other : DefaultNla → X) (attribute : X →
       go (suc levels) = by (n == 5)
         where
           by : (b : Bool) →
-              OwnIsOther (row_if b (Custom shape.SelfList
+              OwnIsOther (row_if b (Custom shape.SelfList false
               (inner_codec f other attribute 5 label (λ k. table_row plain k) (λ k. level levels k))
               label) (table_row plain n))
           by true = λ plain_list. plain_list
@@ -377,7 +381,7 @@ module _ {X : Type 0} (f : Family) (other : DefaultNla → X) (attribute : X →
       go (suc levels) h = by (n == 5) h
         where
           by : (b : Bool) →
-              SuitsRow (row_if b (Custom shape.SelfList
+              SuitsRow (row_if b (Custom shape.SelfList false
               (inner_codec f other attribute 5 label (λ k. table_row plain k) (λ k. level levels k))
               label) (table_row plain n)) (value_of datum) →
               SuitsRow (table_row plain n) (value_of datum)
@@ -408,10 +412,10 @@ module _ {X : Type 0} (f : Family) (other : DefaultNla → X) (attribute : X →
       go (suc levels) h = by (n == 5) h
         where
           by : (b : Bool) →
-              SuitsRow (row_if b (Custom shape.SelfList
+              SuitsRow (row_if b (Custom shape.SelfList false
               (inner_codec f other attribute 5 label (λ k. table_row plain k) (λ k. level levels k))
               label) (table_row plain n)) (value_of datum) →
-              StoresLabelled with (row_if b (Custom shape.SelfList
+              StoresLabelled with (row_if b (Custom shape.SelfList false
               (inner_codec f other attribute 5 label (λ k. table_row plain k) (λ k. level levels k))
               label) (table_row plain n)) (value_of datum) held
           by true h = absurd h

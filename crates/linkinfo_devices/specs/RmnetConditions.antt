@@ -25,8 +25,8 @@ unfolding WellFormed
 rm_net_stated = elim [
   | rm_net.Flags under ↦
       (λ w. subst rm_net_conditions w.2 w.1, λ h. ((under.flags.0, under.mask.0), h, refl))
-  | rm_net.Other d ↦ unknown_label
-      (λ z. rm_net.Other z) rm_net_attribute rm_net_rows rm_net_is_other (λ _. refl) (λ _. refl)
+  | rm_net.Other d ↦ unknown_label (λ z. rm_net.Other z) rm_net_attribute
+      rm_net_rows rm_net_is_other (λ _. refl) (λ _. refl)
       (are_typed rm_net_is_other rm_net_rows refl) d
   | _ ↦ (λ w. subst rm_net_conditions w.2 w.1, λ h. (_, h, refl))
 ]

@@ -15,7 +15,7 @@ ghost use Rattle.std.specs.Prelude.{◌≡◌, false, refl};
 use bitflags::Flags;
 use linkinfo_numbers::{IpVlanFlags, IpVlanMode};
 use linkinfo_table::{
-    Decoded, Encodable, FlatFamily, Lookup, RowFamily, Slot, clone_by_rows, encodable_by_rows,
+    Decoded, Encodable, Lookup, RowFamily, Slot, TableFamily, clone_by_rows, encodable_by_rows,
     row_emit_payload, row_emit_value, row_fit_len, row_kind, row_read, row_value_len,
     store_by_rows, table_lookup,
 };
@@ -138,10 +138,13 @@ impl<const TAP: bool> Nla for InfoIpVlanOf<TAP> {
     }
 }
 
-impl<const TAP: bool> FlatFamily for InfoIpVlanOf<TAP> {
-    ghost flat = { λ _ n. table_flat ip_vlan_attribute ip_vlan_rows (ip_vlan_keeps _) n };
+impl<const TAP: bool> TableFamily for InfoIpVlanOf<TAP> {
+    type Custom = ();
 
-    ghost never_custom = { λ _. refl };
+    ghost flat_elsewhere = { λ _ n _.
+        table_flat ip_vlan_attribute ip_vlan_rows (ip_vlan_keeps _) n };
+
+    ghost plain_elsewhere = { λ _ _. refl };
 
     ghost written = { λ _. refl };
 }

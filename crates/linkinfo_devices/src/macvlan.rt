@@ -39,7 +39,7 @@ ghost use Rattle.linkinfo_table.specs.Rows.{
 };
 ghost use Rattle.nla_frame.specs.Attribute.{masked};
 ghost use Rattle.nla_frame.specs.declared.error.Family.TheVariants as family;
-ghost use Rattle.std.specs.Prelude.{◌≡◌, true, IsOk, OnErr, OnOk};
+ghost use Rattle.std.specs.Prelude.{◌≡◌, [], true, IsOk, OnErr, OnOk};
 
 use crate::mac_rows::mac_rows;
 use crate::nested_calls::{nested_check, nested_parse, nested_push, nested_read, nested_same};
@@ -221,6 +221,8 @@ impl LinkFamily for InfoMacVlan {
     const FAMILY: Family = Family::MacVlan;
 
     ghost FAMILY = { family.MacVlan };
+
+    ghost inside = { [] };
 
     ghost lookup = { λ c n. lookup_of (mac_vlan_rows c n) };
 

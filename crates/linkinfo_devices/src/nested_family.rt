@@ -23,7 +23,7 @@ pub const MOST_LISTS: u8 = 128;
 ///
 /// The context is the number of lists around an attribute. A list nested in 128 others is rejected
 /// with the cause `Depth`, before its payload is examined.
-pub trait NestedFamily: RowFamily<Context = u8> {
+pub trait NestedFamily: RowFamily<Context = u8> + Drop {
     /// The value that contains a list.
     ghost list_value: { List Self → Self };
 

@@ -1,13 +1,13 @@
 // Written by tables/generate from tables/rmnet.
 //! Links of kind `rmnet`.
 
-ghost use Rattle.linkinfo_devices.specs.declared.rmnet.InfoRmNet.TheVariants.{Other};
 ghost use Rattle.linkinfo_devices.specs.Rmnet.{
   flags_under_mask,
   rm_net_attribute,
   rm_net_keeps,
   rm_net_rows,
 };
+ghost use Rattle.linkinfo_devices.specs.declared.rmnet.InfoRmNet.TheVariants.{Other};
 ghost use Rattle.linkinfo_table.specs.FamilyMeaning.{table_meaning, table_memory};
 ghost use Rattle.linkinfo_table.specs.FamilyRowLaws.{table_flat, table_owes};
 ghost use Rattle.linkinfo_table.specs.FamilyRows.{table_row};
@@ -17,7 +17,7 @@ ghost use Rattle.std.specs.Prelude.{◌≡◌, false, refl};
 use bitflags::Flags;
 use linkinfo_numbers::{InfoRmNetFlags, RmNetFlags};
 use linkinfo_table::{
-    Decoded, Encodable, FlatFamily, Lookup, RowFamily, Slot, clone_by_rows, encodable_by_rows,
+    Decoded, Encodable, Lookup, RowFamily, Slot, TableFamily, clone_by_rows, encodable_by_rows,
     row_emit_payload, row_emit_value, row_fit_len, row_kind, row_read, row_value_len,
     store_by_rows, table_lookup,
 };
@@ -114,6 +114,16 @@ fn pair_of(under: InfoRmNetFlags) -> (u32, u32)
     (under.flags.bits(), under.mask.bits())
 }
 
+impl TableFamily for InfoRmNet {
+    type Custom = ();
+
+    ghost flat_elsewhere = { λ _ n _. table_flat rm_net_attribute rm_net_rows rm_net_keeps n };
+
+    ghost plain_elsewhere = { λ _ _. refl };
+
+    ghost written = { λ _. refl };
+}
+
 impl Nla for InfoRmNet {
     ghost attribute = { rm_net_attribute };
 
@@ -136,14 +146,6 @@ impl Nla for InfoRmNet {
     fn fit_len(&self) -> Option<usize> {
         row_fit_len(self)
     }
-}
-
-impl FlatFamily for InfoRmNet {
-    ghost flat = { λ _ n. table_flat rm_net_attribute rm_net_rows rm_net_keeps n };
-
-    ghost never_custom = { λ _. refl };
-
-    ghost written = { λ _. refl };
 }
 
 /// Reads the attribute. A payload of invalid length is rejected as `(RmNet, type, Length)`.

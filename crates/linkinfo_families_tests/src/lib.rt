@@ -2,8 +2,10 @@
 //! one crate with common helpers, since a crate with tests is proved twice.
 #![tactic(auto)]
 
+mod marked;
 mod vlan;
 
+pub use marked::InfoMarked;
 pub use vlan::InfoVlanRow;
 
 #[cfg(test)]

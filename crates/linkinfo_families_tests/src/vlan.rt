@@ -9,7 +9,7 @@ ghost use Rattle.nla_frame.specs.declared.error.Family.TheVariants as family;
 ghost use Rattle.std.specs.Prelude.{false, refl};
 
 use linkinfo_table::{
-    Decoded, Encodable, FlatFamily, Lookup, RowFamily, Shape, Slot, encodable_by_rows,
+    Decoded, Encodable, Lookup, RowFamily, Shape, Slot, TableFamily, encodable_by_rows,
     row_emit_payload, row_emit_value, row_fit_len, row_kind, row_value_len, store_by_rows,
 };
 use nla_frame::{DefaultNla, ExactEq, Family, Nla};
@@ -80,10 +80,12 @@ impl RowFamily for InfoVlanRow {
     }
 }
 
-impl FlatFamily for InfoVlanRow {
-    ghost flat = { λ _ n. table_flat vlan_attribute vlan_rows vlan_keeps n };
+impl TableFamily for InfoVlanRow {
+    type Custom = ();
 
-    ghost never_custom = { λ _. refl };
+    ghost flat_elsewhere = { λ _ n _. table_flat vlan_attribute vlan_rows vlan_keeps n };
+
+    ghost plain_elsewhere = { λ _ _. refl };
 
     ghost written = { λ _. refl };
 }

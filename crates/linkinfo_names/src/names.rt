@@ -79,7 +79,8 @@ fn family_names(family: Family) -> &'static [Entry]
         | Family::TeamPort
         | Family::Tun
         | Family::Vlan
-        | Family::Wireguard => &[],
+        | Family::Wireguard
+        | Family::VlanQosMapping => &[],
         // End: written by tables/generate.
     }
 }

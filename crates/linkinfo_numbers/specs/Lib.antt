@@ -12,6 +12,7 @@ pub mod Macvlan
 pub mod Netkit
 pub mod Rmnet
 pub mod Tunnel
+pub mod Vlan
 pub mod Vxlan
 -- End: written by tables/generate.
 pub mod Flags

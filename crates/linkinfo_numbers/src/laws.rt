@@ -85,6 +85,13 @@ ghost use Rattle.linkinfo_numbers.specs.Tunnel.{
   tunnel_encap_flags,
   ip6_tunnel_flags,
 };
+ghost use Rattle.linkinfo_numbers.specs.Vlan.{
+  vlan_protocol,
+  vlan_protocol_number,
+  vlan_protocol_table,
+  vlan_protocol_text,
+  vlan_flags,
+};
 ghost use Rattle.linkinfo_numbers.specs.Vxlan.{vxlan_df, vxlan_df_number, vxlan_df_table};
 // End: written by tables/generate.
 ghost use Rattle.std.specs.Str.{is_utf8};
@@ -125,6 +132,7 @@ use crate::macvlan::{MacVlanFlags, MacVlanMacAddressMode, MacVlanMode};
 use crate::netkit::{NetkitMode, NetkitPolicy};
 use crate::rmnet::RmNetFlags;
 use crate::tunnel::{Ip6TunnelFlags, TunnelEncapFlags, TunnelEncapType};
+use crate::vlan::{VlanFlags, VlanProtocol};
 use crate::vxlan::VxlanDf;
 // End: written by tables/generate.
 use crate::kind::InfoKind;
@@ -155,6 +163,7 @@ pub fn number_round_trip(number: u64)
     ensures netkit_mode { netkit_mode_number (netkit_mode number) ≡ number }
     ensures netkit_policy { netkit_policy_number (netkit_policy number) ≡ number }
     ensures tunnel_encap_type { tunnel_encap_type_number (tunnel_encap_type number) ≡ number }
+    ensures vlan_protocol { vlan_protocol_number (vlan_protocol number) ≡ number }
     ensures vxlan_df { vxlan_df_number (vxlan_df number) ≡ number }
     // End: written by tables/generate.
     ensures netkit_scrub { netkit_scrub_number (netkit_scrub number)
@@ -182,6 +191,7 @@ pub fn value_round_trip()
     ensures netkit_mode { ReadsBackWhereProper netkit_mode_table }
     ensures netkit_policy { ReadsBackWhereProper netkit_policy_table }
     ensures tunnel_encap_type { ReadsBackWhereProper tunnel_encap_type_table }
+    ensures vlan_protocol { ReadsBackWhereProper vlan_protocol_table }
     ensures vxlan_df { ReadsBackWhereProper vxlan_df_table }
     // End: written by tables/generate.
     ensures netkit_scrub { (scrub : NetkitScrub) →
@@ -199,6 +209,7 @@ pub fn word_round_trip()
     ensures mac_vlan_mode { ReadsWords Family.MacVlan mac_vlan_mode_text mac_vlan_mode_table.named }
     ensures netkit_mode { ReadsWords Family.Netkit netkit_mode_text netkit_mode_table.named }
     ensures netkit_policy { ReadsWords Family.Netkit netkit_policy_text netkit_policy_table.named }
+    ensures vlan_protocol { ReadsWords Family.Vlan vlan_protocol_text vlan_protocol_table.named }
     // End: written by tables/generate.
     ensures netkit_scrub { ReadsWords Family.Netkit netkit_scrub_text netkit_scrubs }
 {}
@@ -312,5 +323,14 @@ pub fn ip6_tunnel_flag_bits()
     ensures cap_xmit { Ip6TunnelFlags.CapXmit ≡ ip6_tunnel_flags 0x10000 }
     ensures cap_rcv { Ip6TunnelFlags.CapRcv ≡ ip6_tunnel_flags 0x20000 }
     ensures cap_per_packet { Ip6TunnelFlags.CapPerPacket ≡ ip6_tunnel_flags 0x40000 }
+{}
+
+/// The bits of `VlanFlags`: `VLAN_FLAG_REORDER_HDR` and the others (include/uapi/linux/if_vlan.h).
+pub fn vlan_flag_bits()
+    ensures reorder_hdr { VlanFlags.ReorderHdr ≡ vlan_flags 0x1 }
+    ensures gvrp { VlanFlags.Gvrp ≡ vlan_flags 0x2 }
+    ensures loose_binding { VlanFlags.LooseBinding ≡ vlan_flags 0x4 }
+    ensures mvrp { VlanFlags.Mvrp ≡ vlan_flags 0x8 }
+    ensures bridge_binding { VlanFlags.BridgeBinding ≡ vlan_flags 0x10 }
 {}
 // End: written by tables/generate.

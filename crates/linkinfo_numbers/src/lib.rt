@@ -15,6 +15,7 @@ mod macvlan;
 mod netkit;
 mod rmnet;
 mod tunnel;
+mod vlan;
 mod vxlan;
 // End: written by tables/generate.
 mod by_values;
@@ -44,6 +45,7 @@ pub use macvlan::{
 pub use netkit::{NetkitMode, NetkitPolicy, NetkitScrub};
 pub use rmnet::{InfoRmNetFlags, RmNetFlags};
 pub use tunnel::{Ip6TunnelFlags, TunnelEncapFlags, TunnelEncapType};
+pub use vlan::{VlanFlags, VlanProtocol};
 pub use vxlan::VxlanDf;
 // End: written by tables/generate.
 pub use flags::{KeepsEveryBit, bits_again};

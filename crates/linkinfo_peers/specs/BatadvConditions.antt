@@ -24,8 +24,8 @@ pub bat_adv_stated : (x : InfoBatAdv) → WellFormed (λ d. bat_adv.Other d) bat
     (λ n. row_of (table_row bat_adv_rows n)) x ↔ bat_adv_conditions x
 unfolding WellFormed
 bat_adv_stated = elim [
-  | bat_adv.Other d ↦ unknown_label
-      (λ z. bat_adv.Other z) bat_adv_attribute bat_adv_rows bat_adv_is_other (λ _. refl) (λ _. refl)
+  | bat_adv.Other d ↦ unknown_label (λ z. bat_adv.Other z) bat_adv_attribute
+      bat_adv_rows bat_adv_is_other (λ _. refl) (λ _. refl)
       (are_typed bat_adv_is_other bat_adv_rows refl) d
   | _ ↦ (λ w. subst bat_adv_conditions w.2 w.1, λ h. (_, h, refl))
 ]

@@ -1,6 +1,20 @@
 -- The rows of `netkit` links, given a peer's meaning, the equivalence of its payloads, its
 -- canonical payload, and the condition on it.
-use Rattle.std.specs.Prelude.{◌≡◌, ◌==◌, ℕ, Bool, true, false, not, List, [], ◌∷◌, Option, refl}
+use Rattle.std.specs.Prelude.{
+  ◌≡◌,
+  ◌==◌,
+  ◌||◌,
+  ℕ,
+  Bool,
+  true,
+  false,
+  not,
+  List,
+  [],
+  ◌∷◌,
+  Option,
+  refl,
+}
 use Rattle.std.proofs.Common.{ap}
 use Rattle.nla_frame.specs.Attribute.{Attribute}
 use Rattle.nla_frame.specs.Kept.{attribute_of}
@@ -19,11 +33,26 @@ use Rattle.linkinfo_numbers.specs.Netkit.{
   netkit_scrub_number,
 }
 use Rattle.linkinfo_numbers.specs.declared.netkit.NetkitScrub.{NetkitScrub}
-use Rattle.linkinfo_table.specs.FamilyRows.{FamilyRow, PlainRow, row, typed, EachKeeps}
+use Rattle.linkinfo_table.specs.FamilyRows.{
+  EachKeeps,
+  FamilyRow,
+  IsFlat,
+  PlainRow,
+  RowOwes,
+  row,
+  row_of,
+  typed,
+}
 use Rattle.linkinfo_table.specs.Labels.{each_keeps}
-use Rattle.linkinfo_peers.specs.PeerRows.{peer_lawful, peer_rows}
+use Rattle.linkinfo_peers.specs.PeerRows.{
+  peer_flat,
+  peer_headers,
+  peer_lawful,
+  peer_owes,
+  peer_rows,
+}
 use Rattle.linkinfo_table.specs.Peers.{IsPeer}
-use Rattle.linkinfo_table.specs.UnnestedFamily.{IsUnnestedFamily}
+use Rattle.linkinfo_table.specs.TableFamily.{IsTableFamily}
 use Rattle.linkinfo_table.specs.declared.peer.LinkPeer.{Ghosts}
 use Rattle.linkinfo_peers.specs.declared.netkit.InfoNetkitOf.{InfoNetkitOf}
 use Rattle.linkinfo_peers.specs.declared.netkit.InfoNetkitOf.TheVariants.{
@@ -99,10 +128,23 @@ abbrev pub netkit_rows : {P : Type 0} → (List ℕ → Option P) → (List ℕ 
 netkit_rows meaning alike payload well n =
     peer_rows meaning alike payload well (λ peer. Peer peer) netkit_plain n
 
-pub netkit_lawful : {P : Type 0} (peer : Ghosts P) →
-    IsPeer peer.meaning peer.alike peer.canonical peer.well →
-    IsUnnestedFamily (λ d. Other d) (netkit_attribute peer.canonical)
-    (λ n. netkit_rows peer.meaning peer.alike peer.canonical peer.well n)
-netkit_lawful peer lawful =
-    peer_lawful peer lawful (λ x. Peer x) (λ d. Other d) (netkit_attribute peer.canonical)
-    netkit_plain (netkit_keeps peer.canonical) (λ _. refl) (λ _. refl)
+module _ {P : Type 0} (peer : Ghosts P) where
+  abbrev rows : ℕ → FamilyRow (InfoNetkitOf P)
+  rows n = netkit_rows peer.meaning peer.alike peer.canonical peer.well n
+
+  pub netkit_flat : (n : ℕ) → ((n == 1) || false) ≡ false → IsFlat (rows n)
+  netkit_flat n other =
+      peer_flat peer (λ x. Peer x) (netkit_attribute peer.canonical) netkit_plain
+      (netkit_keeps peer.canonical) n other
+
+  module _ (lawful : IsPeer peer.meaning peer.alike peer.canonical peer.well) where
+    pub netkit_owes : (n : ℕ) → RowOwes (netkit_attribute peer.canonical) n (row_of (rows n))
+    netkit_owes n =
+        peer_owes peer (λ x. Peer x) (netkit_attribute peer.canonical) netkit_plain
+        (netkit_keeps peer.canonical) lawful (λ _. refl) (λ x y e. cc) n
+
+    pub netkit_lawful :
+        IsTableFamily (λ d. Other d) (netkit_attribute peer.canonical) rows peer_headers []
+    netkit_lawful =
+        peer_lawful peer (λ x. Peer x) (netkit_attribute peer.canonical) netkit_plain
+        (netkit_keeps peer.canonical) lawful (λ _. refl) (λ x y e. cc) (λ d. Other d) (λ _. refl)

@@ -1,12 +1,18 @@
 -- The rows of `vxcan` links, given a peer's meaning, the equivalence of its payloads, its canonical
 -- payload, and the condition on it.
-use Rattle.std.specs.Prelude.{ℕ, Bool, true, false, List, [], Option, refl}
+use Rattle.std.specs.Prelude.{◌≡◌, ◌==◌, ◌||◌, ℕ, Bool, true, false, List, [], Option, refl}
 use Rattle.nla_frame.specs.Attribute.{Attribute}
 use Rattle.nla_frame.specs.Kept.{attribute_of}
-use Rattle.linkinfo_table.specs.FamilyRows.{FamilyRow}
-use Rattle.linkinfo_peers.specs.PeerRows.{peer_lawful, peer_rows}
+use Rattle.linkinfo_table.specs.FamilyRows.{FamilyRow, IsFlat, RowOwes, row_of}
+use Rattle.linkinfo_peers.specs.PeerRows.{
+  peer_flat,
+  peer_headers,
+  peer_lawful,
+  peer_owes,
+  peer_rows,
+}
 use Rattle.linkinfo_table.specs.Peers.{IsPeer}
-use Rattle.linkinfo_table.specs.UnnestedFamily.{IsUnnestedFamily}
+use Rattle.linkinfo_table.specs.TableFamily.{IsTableFamily}
 use Rattle.linkinfo_table.specs.declared.peer.LinkPeer.{Ghosts}
 use Rattle.linkinfo_peers.specs.declared.vxcan.InfoVxcanOf.{InfoVxcanOf}
 use Rattle.linkinfo_peers.specs.declared.vxcan.InfoVxcanOf.TheVariants.{Peer, Other}
@@ -26,10 +32,22 @@ abbrev pub vxcan_rows : {P : Type 0} → (List ℕ → Option P) → (List ℕ �
 vxcan_rows meaning alike payload well n =
     peer_rows meaning alike payload well (λ peer. Peer peer) [] n
 
-pub vxcan_lawful : {P : Type 0} (peer : Ghosts P) →
-    IsPeer peer.meaning peer.alike peer.canonical peer.well →
-    IsUnnestedFamily (λ d. Other d) (vxcan_attribute peer.canonical)
-    (λ n. vxcan_rows peer.meaning peer.alike peer.canonical peer.well n)
-vxcan_lawful peer lawful =
-    peer_lawful peer lawful (λ x. Peer x) (λ d. Other d) (vxcan_attribute peer.canonical) []
-    tt (λ _. refl) (λ _. refl)
+module _ {P : Type 0} (peer : Ghosts P) where
+  abbrev rows : ℕ → FamilyRow (InfoVxcanOf P)
+  rows n = vxcan_rows peer.meaning peer.alike peer.canonical peer.well n
+
+  pub vxcan_flat : (n : ℕ) → ((n == 1) || false) ≡ false → IsFlat (rows n)
+  vxcan_flat n other =
+      peer_flat peer (λ x. Peer x) (vxcan_attribute peer.canonical) [] tt n other
+
+  module _ (lawful : IsPeer peer.meaning peer.alike peer.canonical peer.well) where
+    pub vxcan_owes : (n : ℕ) → RowOwes (vxcan_attribute peer.canonical) n (row_of (rows n))
+    vxcan_owes n =
+        peer_owes peer (λ x. Peer x) (vxcan_attribute peer.canonical) []
+        tt lawful (λ _. refl) (λ x y e. cc) n
+
+    pub vxcan_lawful :
+        IsTableFamily (λ d. Other d) (vxcan_attribute peer.canonical) rows peer_headers []
+    vxcan_lawful =
+        peer_lawful peer (λ x. Peer x) (vxcan_attribute peer.canonical) []
+        tt lawful (λ _. refl) (λ x y e. cc) (λ d. Other d) (λ _. refl)

@@ -1,8 +1,8 @@
 // Written by tables/generate from tables/batadv.
 //! B.A.T.M.A.N. Advanced links.
 
-ghost use Rattle.linkinfo_peers.specs.declared.batadv.InfoBatAdv.TheVariants.{Other};
 ghost use Rattle.linkinfo_peers.specs.Batadv.{bat_adv_attribute, bat_adv_keeps, bat_adv_rows};
+ghost use Rattle.linkinfo_peers.specs.declared.batadv.InfoBatAdv.TheVariants.{Other};
 ghost use Rattle.linkinfo_table.specs.FamilyMeaning.{table_meaning, table_memory};
 ghost use Rattle.linkinfo_table.specs.FamilyRowLaws.{table_flat, table_owes};
 ghost use Rattle.linkinfo_table.specs.FamilyRows.{table_row};
@@ -10,7 +10,7 @@ ghost use Rattle.nla_frame.specs.declared.error.Family.TheVariants as family;
 ghost use Rattle.std.specs.Prelude.{◌≡◌, false, refl};
 
 use linkinfo_table::{
-    Decoded, Encodable, FlatFamily, Lookup, RowFamily, Slot, clone_by_rows, encodable_by_rows,
+    Decoded, Encodable, Lookup, RowFamily, Slot, TableFamily, clone_by_rows, encodable_by_rows,
     row_emit_payload, row_emit_value, row_fit_len, row_kind, row_read, row_value_len,
     store_by_rows, table_lookup,
 };
@@ -85,6 +85,16 @@ impl RowFamily for InfoBatAdv {
     }
 }
 
+impl TableFamily for InfoBatAdv {
+    type Custom = ();
+
+    ghost flat_elsewhere = { λ _ n _. table_flat bat_adv_attribute bat_adv_rows bat_adv_keeps n };
+
+    ghost plain_elsewhere = { λ _ _. refl };
+
+    ghost written = { λ _. refl };
+}
+
 impl Nla for InfoBatAdv {
     ghost attribute = { bat_adv_attribute };
 
@@ -107,14 +117,6 @@ impl Nla for InfoBatAdv {
     fn fit_len(&self) -> Option<usize> {
         row_fit_len(self)
     }
-}
-
-impl FlatFamily for InfoBatAdv {
-    ghost flat = { λ _ n. table_flat bat_adv_attribute bat_adv_rows bat_adv_keeps n };
-
-    ghost never_custom = { λ _. refl };
-
-    ghost written = { λ _. refl };
 }
 
 /// Reads the attribute. A name that is not UTF-8 is rejected as `(BatAdv, 1, Utf8)`.

@@ -1,36 +1,30 @@
 //! Netkit links, which come in pairs: `IFLA_NETKIT_*` (include/uapi/linux/if_link.h).
 
-ghost use Rattle.linkinfo_peers.specs.PeerRows.{flat_elsewhere, peer_owes};
+ghost use Rattle.linkinfo_peers.specs.PeerRows.{without_peer};
 ghost use Rattle.linkinfo_peers.specs.Netkit.{
   is_by_default,
   netkit_attribute,
+  netkit_flat,
   netkit_is_custom,
-  netkit_keeps,
-  netkit_lawful,
-  netkit_plain,
+  netkit_owes,
   netkit_rows,
   scrub_of,
 };
 ghost use Rattle.linkinfo_peers.specs.declared.netkit.InfoNetkitOf.TheVariants as netkit;
-ghost use Rattle.linkinfo_table.specs.FamilyRows.{lookup_of, row_of};
-ghost use Rattle.linkinfo_table.specs.FamilyMeaning.{alike_by, meaning_by, memory_by};
-ghost use Rattle.linkinfo_table.specs.Rows.{WellFormed, meaning_in, memory_in};
+ghost use Rattle.linkinfo_table.specs.FamilyRows.{row_of};
+ghost use Rattle.linkinfo_table.specs.Rows.{meaning_in, memory_in};
+ghost use Rattle.linkinfo_table.specs.TypedRows.{has_payload};
 ghost use Rattle.nla_frame.specs.declared.error.Family.TheVariants as family;
-ghost use Rattle.std.specs.Prelude.{◌≡◌, refl};
+ghost use Rattle.std.specs.Prelude.{◌≡◌, false, refl};
 
-use crate::peer_calls::{
-    peer_check, peer_emit_payload, peer_emit_value, peer_fit_len, peer_kind, peer_read, peer_same,
-    peer_value_len,
-};
-use crate::peer_canonical::{peer_canonical_len, peer_write_canonical};
-use crate::peer_family::PeerFamily;
+use crate::peer_row::PeerRow;
 use linkinfo_numbers::{NetkitMode, NetkitPolicy, NetkitScrub};
 use linkinfo_table::{
-    Decoded, Encodable, LinkFamily, LinkPeer, Lookup, RowFamily, Slot, encodable_by_rows,
-    store_by_rows, table_lookup,
+    CustomRows, Decoded, Encodable, LinkFamily, LinkPeer, Lookup, PayloadRow, RowFamily, Slot,
+    TableFamily, encodable_by_rows, store_by_rows, table_lookup,
 };
 use nla_frame::{
-    Bytes, DecodeError, DefaultNla, ExactEq, Family, HeaderCount, Nla, NlaBuffer, Parseable,
+    Bytes, DecodeError, DefaultNla, ExactEq, Family, HeaderCount, Nla, NlaBuffer, Parseable, laws,
 };
 use std::alloc::{AllocError, Global};
 
@@ -97,10 +91,7 @@ impl<P: LinkPeer> RowFamily for InfoNetkitOf<P> {
 
     ghost is_custom = { netkit_is_custom };
 
-    ghost owes = { λ _ n.
-        peer_owes P.meaning P.alike P.canonical P.well (λ peer. netkit.Peer peer)
-        (netkit_attribute P.canonical) netkit_plain (netkit_keeps P.canonical) P.lawful
-        (λ _. refl) n };
+    ghost owes = { λ _ n. netkit_owes P.LinkPeer.own P.lawful n };
 
     ghost keeps_other = { λ _. refl };
 
@@ -139,56 +130,71 @@ fn is_by_default(scrub: NetkitScrub) -> bool
     u32::from(scrub) != 0
 }
 
-impl<P: LinkPeer> PeerFamily for InfoNetkitOf<P> {
-    type Peer = P;
+impl<P: LinkPeer> PayloadRow<InfoNetkitOf<P>> for PeerRow<P> {
+    type Payload = P;
 
-    ghost peer_value = { λ peer. netkit.Peer peer };
+    const NUMBER: u16 = 1;
 
-    ghost peer_written = { λ _. refl };
+    ghost NUMBER = { 1 };
 
-    ghost peer_means = { λ _ _. refl };
+    const NESTED: bool = false;
 
-    ghost peer_needs_memory = { λ _ _. refl };
+    ghost NESTED = { false };
 
-    ghost peer_alike = { λ _ _ _. refl };
+    ghost label = { λ peer. netkit.Peer peer };
 
-    ghost flat_elsewhere = { λ _ n.
-        flat_elsewhere P.meaning P.alike P.canonical P.well (λ peer. netkit.Peer peer)
-        (netkit_attribute P.canonical) netkit_plain (netkit_keeps P.canonical) n };
+    ghost is_held = { netkit_is_custom };
 
-    fn from_peer(peer: P) -> InfoNetkitOf<P> {
-        InfoNetkitOf::Peer(peer)
+    ghost row_is = { λ _. has_payload };
+
+    ghost suits = { refl };
+
+    ghost written = { λ _. refl };
+
+    fn wrap(payload: P) -> InfoNetkitOf<P> {
+        InfoNetkitOf::Peer(payload)
     }
 
-    fn peer(&self) -> Option<&P> {
-        match self {
+    fn payload(value: &InfoNetkitOf<P>) -> Option<&P> {
+        match value {
             InfoNetkitOf::Peer(peer) => Some(peer),
             _ => None,
         }
     }
 }
 
+impl<P: LinkPeer> TableFamily for InfoNetkitOf<P> {
+    type Custom = (PeerRow<P>, ());
+
+    ghost flat_elsewhere = { λ _ n. netkit_flat P.LinkPeer.own n };
+
+    ghost plain_elsewhere = { λ x. without_peer (netkit_is_custom x) };
+
+    ghost written = { λ _. refl };
+}
+
 impl<P: LinkPeer> Nla for InfoNetkitOf<P> {
     ghost attribute = { netkit_attribute P.canonical };
 
     fn value_len(&self) -> usize {
-        peer_value_len(self)
+        <InfoNetkitOf<P> as TableFamily>::Custom::value_len(self)
     }
 
     fn kind(&self) -> u16 {
-        peer_kind(self)
+        <InfoNetkitOf<P> as TableFamily>::Custom::kind(self)
     }
 
+    #[tactic(auto, using(nla_frame::proofs::Emitting::whole))]
     fn emit_value(&self, buffer: &mut [u8]) {
-        peer_emit_value(self, buffer);
+        self.emit_payload(buffer);
     }
 
     fn emit_payload(&self, buffer: &mut [u8]) -> usize {
-        peer_emit_payload(self, buffer)
+        <InfoNetkitOf<P> as TableFamily>::Custom::emit(self, buffer)
     }
 
     fn fit_len(&self) -> Option<usize> {
-        peer_fit_len(self)
+        <InfoNetkitOf<P> as TableFamily>::Custom::fit_len(self)
     }
 }
 
@@ -203,76 +209,8 @@ impl<'a, P: LinkPeer> Parseable<NlaBuffer<'a>> for InfoNetkitOf<P> {
         memory_in (λ n. row_of (netkit_rows P.meaning P.alike P.canonical P.well n)) nla };
 
     fn parse(alloc: Global, buffer: &NlaBuffer<'a>) -> Result<InfoNetkitOf<P>, DecodeError> {
-        peer_read(alloc, buffer, ())
-    }
-}
-
-impl<P: LinkPeer> LinkFamily for InfoNetkitOf<P> {
-    type Context = ();
-
-    const FAMILY: Family = <InfoNetkitOf<P> as RowFamily>::FAMILY;
-
-    ghost FAMILY = { ⟦<InfoNetkitOf<P> as RowFamily>⟧.FAMILY };
-
-    ghost lookup = { λ c n. lookup_of (⟦<InfoNetkitOf<P> as RowFamily>⟧.rows c n) };
-
-    ghost keeping = { λ nla. netkit.Other nla };
-
-    ghost meaning = { meaning_by ⟦<InfoNetkitOf<P> as RowFamily>⟧ };
-
-    ghost needs_memory = { memory_by ⟦<InfoNetkitOf<P> as RowFamily>⟧ };
-
-    ghost headers = { λ _ _. 0 };
-
-    ghost alike = { alike_by ⟦<InfoNetkitOf<P> as RowFamily>⟧ };
-
-    ghost well = { λ _ x.
-        WellFormed (λ d. netkit.Other d) (netkit_attribute P.canonical)
-        (λ n. row_of (netkit_rows P.meaning P.alike P.canonical P.well n)) x };
-
-    ghost keeps = { λ _. refl };
-
-    ghost looked_up = { λ _ a.
-        (netkit_lawful P.LinkPeer.own P.lawful).says _ _ a };
-
-    ghost lawful = { λ _.
-        (netkit_lawful P.LinkPeer.own P.lawful).laws _ };
-
-    ghost error_certain = { λ _ a e.
-        (netkit_lawful P.LinkPeer.own P.lawful).certain _ a e };
-
-    #[inline(always)]
-    fn shape(ctx: (), kind: u16) -> Lookup {
-        <InfoNetkitOf<P> as RowFamily>::shape(ctx, kind)
-    }
-
-    fn read(
-        alloc: Global,
-        nla: &NlaBuffer<'_>,
-        ctx: (),
-        _count: &mut HeaderCount,
-    ) -> Result<InfoNetkitOf<P>, DecodeError> {
-        peer_read(alloc, nla, ctx)
-    }
-
-    fn check_value(
-        nla: &NlaBuffer<'_>,
-        ctx: (),
-        _count: &mut HeaderCount,
-    ) -> Result<(), DecodeError> {
-        peer_check::<InfoNetkitOf<P>>(nla, ctx)
-    }
-
-    fn same_value(a: &NlaBuffer<'_>, b: &NlaBuffer<'_>, ctx: (), _count: &mut HeaderCount) -> bool {
-        peer_same::<InfoNetkitOf<P>>(a, b, ctx)
-    }
-
-    fn canonical_len(nla: &NlaBuffer<'_>, ctx: ()) -> Option<usize> {
-        peer_canonical_len::<InfoNetkitOf<P>>(nla, ctx)
-    }
-
-    fn write_canonical(nla: &NlaBuffer<'_>, ctx: (), buffer: &mut [u8]) -> usize {
-        peer_write_canonical::<InfoNetkitOf<P>>(nla, ctx, buffer)
+        laws::borrowed(buffer);
+        <InfoNetkitOf<P> as LinkFamily>::read(alloc, buffer, (), &mut HeaderCount::new())
     }
 }
 

@@ -1,30 +1,27 @@
 //! Virtual CAN links that come in pairs: `VXCAN_INFO_*` (include/uapi/linux/can/vxcan.h).
 
-ghost use Rattle.linkinfo_peers.specs.PeerRows.{flat_elsewhere, peer_owes};
+ghost use Rattle.linkinfo_peers.specs.PeerRows.{without_peer};
 ghost use Rattle.linkinfo_peers.specs.Vxcan.{
   vxcan_attribute,
+  vxcan_flat,
   vxcan_is_custom,
-  vxcan_lawful,
+  vxcan_owes,
   vxcan_rows,
 };
 ghost use Rattle.linkinfo_peers.specs.declared.vxcan.InfoVxcanOf.TheVariants as vxcan;
-ghost use Rattle.linkinfo_table.specs.FamilyRows.{lookup_of, row_of};
-ghost use Rattle.linkinfo_table.specs.FamilyMeaning.{alike_by, meaning_by, memory_by};
-ghost use Rattle.linkinfo_table.specs.Rows.{WellFormed, meaning_in, memory_in};
+ghost use Rattle.linkinfo_table.specs.FamilyRows.{row_of};
+ghost use Rattle.linkinfo_table.specs.Rows.{meaning_in, memory_in};
+ghost use Rattle.linkinfo_table.specs.TypedRows.{has_payload};
 ghost use Rattle.nla_frame.specs.declared.error.Family.TheVariants as family;
-ghost use Rattle.std.specs.Prelude.{[], refl};
+ghost use Rattle.std.specs.Prelude.{false, refl};
 
-use crate::peer_calls::{
-    peer_check, peer_emit_payload, peer_emit_value, peer_fit_len, peer_kind, peer_read, peer_same,
-    peer_value_len,
-};
-use crate::peer_canonical::{peer_canonical_len, peer_write_canonical};
-use crate::peer_family::PeerFamily;
+use crate::peer_row::PeerRow;
 use linkinfo_table::{
-    Decoded, Encodable, LinkFamily, LinkPeer, Lookup, RowFamily, Slot, table_lookup,
+    CustomRows, Decoded, Encodable, LinkFamily, LinkPeer, Lookup, PayloadRow, RowFamily, Slot,
+    TableFamily, table_lookup,
 };
 use nla_frame::{
-    Bytes, DecodeError, DefaultNla, ExactEq, Family, HeaderCount, Nla, NlaBuffer, Parseable,
+    Bytes, DecodeError, DefaultNla, ExactEq, Family, HeaderCount, Nla, NlaBuffer, Parseable, laws,
 };
 use std::alloc::{AllocError, Global};
 
@@ -57,9 +54,7 @@ impl<P: LinkPeer> RowFamily for InfoVxcanOf<P> {
 
     ghost is_custom = { vxcan_is_custom };
 
-    ghost owes = { λ _ n.
-        peer_owes P.meaning P.alike P.canonical P.well (λ peer. vxcan.Peer peer)
-        (vxcan_attribute P.canonical) [] tt P.lawful (λ _. refl) n };
+    ghost owes = { λ _ n. vxcan_owes P.LinkPeer.own P.lawful n };
 
     ghost keeps_other = { λ _. refl };
 
@@ -90,56 +85,71 @@ impl<P: LinkPeer> RowFamily for InfoVxcanOf<P> {
     }
 }
 
-impl<P: LinkPeer> PeerFamily for InfoVxcanOf<P> {
-    type Peer = P;
+impl<P: LinkPeer> PayloadRow<InfoVxcanOf<P>> for PeerRow<P> {
+    type Payload = P;
 
-    ghost peer_value = { λ peer. vxcan.Peer peer };
+    const NUMBER: u16 = 1;
 
-    ghost peer_written = { λ _. refl };
+    ghost NUMBER = { 1 };
 
-    ghost peer_means = { λ _ _. refl };
+    const NESTED: bool = false;
 
-    ghost peer_needs_memory = { λ _ _. refl };
+    ghost NESTED = { false };
 
-    ghost peer_alike = { λ _ _ _. refl };
+    ghost label = { λ peer. vxcan.Peer peer };
 
-    ghost flat_elsewhere = { λ _ n.
-        flat_elsewhere P.meaning P.alike P.canonical P.well (λ peer. vxcan.Peer peer)
-        (vxcan_attribute P.canonical) [] tt n };
+    ghost is_held = { vxcan_is_custom };
 
-    fn from_peer(peer: P) -> InfoVxcanOf<P> {
-        InfoVxcanOf::Peer(peer)
+    ghost row_is = { λ _. has_payload };
+
+    ghost suits = { refl };
+
+    ghost written = { λ _. refl };
+
+    fn wrap(payload: P) -> InfoVxcanOf<P> {
+        InfoVxcanOf::Peer(payload)
     }
 
-    fn peer(&self) -> Option<&P> {
-        match self {
+    fn payload(value: &InfoVxcanOf<P>) -> Option<&P> {
+        match value {
             InfoVxcanOf::Peer(peer) => Some(peer),
             InfoVxcanOf::Other(_) => None,
         }
     }
 }
 
+impl<P: LinkPeer> TableFamily for InfoVxcanOf<P> {
+    type Custom = (PeerRow<P>, ());
+
+    ghost flat_elsewhere = { λ _ n. vxcan_flat P.LinkPeer.own n };
+
+    ghost plain_elsewhere = { λ x. without_peer (vxcan_is_custom x) };
+
+    ghost written = { λ _. refl };
+}
+
 impl<P: LinkPeer> Nla for InfoVxcanOf<P> {
     ghost attribute = { vxcan_attribute P.canonical };
 
     fn value_len(&self) -> usize {
-        peer_value_len(self)
+        <InfoVxcanOf<P> as TableFamily>::Custom::value_len(self)
     }
 
     fn kind(&self) -> u16 {
-        peer_kind(self)
+        <InfoVxcanOf<P> as TableFamily>::Custom::kind(self)
     }
 
+    #[tactic(auto, using(nla_frame::proofs::Emitting::whole))]
     fn emit_value(&self, buffer: &mut [u8]) {
-        peer_emit_value(self, buffer);
+        self.emit_payload(buffer);
     }
 
     fn emit_payload(&self, buffer: &mut [u8]) -> usize {
-        peer_emit_payload(self, buffer)
+        <InfoVxcanOf<P> as TableFamily>::Custom::emit(self, buffer)
     }
 
     fn fit_len(&self) -> Option<usize> {
-        peer_fit_len(self)
+        <InfoVxcanOf<P> as TableFamily>::Custom::fit_len(self)
     }
 }
 
@@ -153,76 +163,8 @@ impl<'a, P: LinkPeer> Parseable<NlaBuffer<'a>> for InfoVxcanOf<P> {
         memory_in (λ n. row_of (vxcan_rows P.meaning P.alike P.canonical P.well n)) nla };
 
     fn parse(alloc: Global, buffer: &NlaBuffer<'a>) -> Result<InfoVxcanOf<P>, DecodeError> {
-        peer_read(alloc, buffer, ())
-    }
-}
-
-impl<P: LinkPeer> LinkFamily for InfoVxcanOf<P> {
-    type Context = ();
-
-    const FAMILY: Family = <InfoVxcanOf<P> as RowFamily>::FAMILY;
-
-    ghost FAMILY = { ⟦<InfoVxcanOf<P> as RowFamily>⟧.FAMILY };
-
-    ghost lookup = { λ c n. lookup_of (⟦<InfoVxcanOf<P> as RowFamily>⟧.rows c n) };
-
-    ghost keeping = { λ nla. vxcan.Other nla };
-
-    ghost meaning = { meaning_by ⟦<InfoVxcanOf<P> as RowFamily>⟧ };
-
-    ghost needs_memory = { memory_by ⟦<InfoVxcanOf<P> as RowFamily>⟧ };
-
-    ghost headers = { λ _ _. 0 };
-
-    ghost alike = { alike_by ⟦<InfoVxcanOf<P> as RowFamily>⟧ };
-
-    ghost well = { λ _ x.
-        WellFormed (λ d. vxcan.Other d) (vxcan_attribute P.canonical)
-        (λ n. row_of (vxcan_rows P.meaning P.alike P.canonical P.well n)) x };
-
-    ghost keeps = { λ _. refl };
-
-    ghost looked_up = { λ _ a.
-        (vxcan_lawful P.LinkPeer.own P.lawful).says _ _ a };
-
-    ghost lawful = { λ _.
-        (vxcan_lawful P.LinkPeer.own P.lawful).laws _ };
-
-    ghost error_certain = { λ _ a e.
-        (vxcan_lawful P.LinkPeer.own P.lawful).certain _ a e };
-
-    #[inline(always)]
-    fn shape(ctx: (), kind: u16) -> Lookup {
-        <InfoVxcanOf<P> as RowFamily>::shape(ctx, kind)
-    }
-
-    fn read(
-        alloc: Global,
-        nla: &NlaBuffer<'_>,
-        ctx: (),
-        _count: &mut HeaderCount,
-    ) -> Result<InfoVxcanOf<P>, DecodeError> {
-        peer_read(alloc, nla, ctx)
-    }
-
-    fn check_value(
-        nla: &NlaBuffer<'_>,
-        ctx: (),
-        _count: &mut HeaderCount,
-    ) -> Result<(), DecodeError> {
-        peer_check::<InfoVxcanOf<P>>(nla, ctx)
-    }
-
-    fn same_value(a: &NlaBuffer<'_>, b: &NlaBuffer<'_>, ctx: (), _count: &mut HeaderCount) -> bool {
-        peer_same::<InfoVxcanOf<P>>(a, b, ctx)
-    }
-
-    fn canonical_len(nla: &NlaBuffer<'_>, ctx: ()) -> Option<usize> {
-        peer_canonical_len::<InfoVxcanOf<P>>(nla, ctx)
-    }
-
-    fn write_canonical(nla: &NlaBuffer<'_>, ctx: (), buffer: &mut [u8]) -> usize {
-        peer_write_canonical::<InfoVxcanOf<P>>(nla, ctx, buffer)
+        laws::borrowed(buffer);
+        <InfoVxcanOf<P> as LinkFamily>::read(alloc, buffer, (), &mut HeaderCount::new())
     }
 }
 

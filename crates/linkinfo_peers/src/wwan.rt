@@ -1,8 +1,8 @@
 // Written by tables/generate from tables/wwan.
 //! Wireless WAN links.
 
-ghost use Rattle.linkinfo_peers.specs.declared.wwan.InfoWwan.TheVariants.{Other};
 ghost use Rattle.linkinfo_peers.specs.Wwan.{wwan_attribute, wwan_keeps, wwan_rows};
+ghost use Rattle.linkinfo_peers.specs.declared.wwan.InfoWwan.TheVariants.{Other};
 ghost use Rattle.linkinfo_table.specs.FamilyMeaning.{table_meaning, table_memory};
 ghost use Rattle.linkinfo_table.specs.FamilyRowLaws.{table_flat, table_owes};
 ghost use Rattle.linkinfo_table.specs.FamilyRows.{table_row};
@@ -10,7 +10,7 @@ ghost use Rattle.nla_frame.specs.declared.error.Family.TheVariants as family;
 ghost use Rattle.std.specs.Prelude.{◌≡◌, false, refl};
 
 use linkinfo_table::{
-    Decoded, Encodable, FlatFamily, Lookup, RowFamily, Slot, clone_by_rows, encodable_by_rows,
+    Decoded, Encodable, Lookup, RowFamily, Slot, TableFamily, clone_by_rows, encodable_by_rows,
     row_emit_payload, row_emit_value, row_fit_len, row_kind, row_read, row_value_len,
     store_by_rows, table_lookup,
 };
@@ -85,6 +85,16 @@ impl RowFamily for InfoWwan {
     }
 }
 
+impl TableFamily for InfoWwan {
+    type Custom = ();
+
+    ghost flat_elsewhere = { λ _ n _. table_flat wwan_attribute wwan_rows wwan_keeps n };
+
+    ghost plain_elsewhere = { λ _ _. refl };
+
+    ghost written = { λ _. refl };
+}
+
 impl Nla for InfoWwan {
     ghost attribute = { wwan_attribute };
 
@@ -107,14 +117,6 @@ impl Nla for InfoWwan {
     fn fit_len(&self) -> Option<usize> {
         row_fit_len(self)
     }
-}
-
-impl FlatFamily for InfoWwan {
-    ghost flat = { λ _ n. table_flat wwan_attribute wwan_rows wwan_keeps n };
-
-    ghost never_custom = { λ _. refl };
-
-    ghost written = { λ _. refl };
 }
 
 /// Reads the attribute. A payload of invalid length is rejected as `(Wwan, type, Length)`.

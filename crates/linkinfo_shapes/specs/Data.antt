@@ -54,6 +54,7 @@ use Rattle.linkinfo_shapes.specs.declared.shape.Shape.TheVariants.{
   Raw,
   SelfList,
   Peer,
+  Nested,
 }
 use Rattle.linkinfo_shapes.specs.declared.datum.Datum.{Datum}
 use Rattle.linkinfo_shapes.specs.declared.datum.Datum.TheVariants as datum
@@ -120,6 +121,7 @@ wrap Scrub b = truth b
 wrap Raw s = bytes s
 wrap SelfList x = empty
 wrap Peer x = empty
+wrap (Nested family) x = empty
 
 -- the content of a value of each variant; any other value gives zero, false, or nothing
 abbrev pub number_in : Value → ℕ
@@ -193,6 +195,7 @@ unwrap Scrub value = truth_in value
 unwrap Raw value = bytes_in value
 unwrap SelfList value = tt
 unwrap Peer value = tt
+unwrap (Nested family) value = tt
 
 -- the variants of values, and the bounds of their numbers
 abbrev pub IsNumberBelow : ℕ → Value → Type 0
@@ -272,6 +275,7 @@ Suits Scrub value = IsTruthValue value
 Suits Raw value = IsBytesValue value
 Suits SelfList value = ⊥
 Suits Peer value = ⊥
+Suits (Nested family) value = ⊥
 
 -- `x` is the shape's datum in `d` if `d` suits the shape, and the value `other` otherwise
 abbrev pub IsDatumOr : (shape : Shape) → Carrier shape → Datum → Carrier shape → Type 0
@@ -323,6 +327,7 @@ fixed_length Scrub = Some 4
 fixed_length Raw = None
 fixed_length SelfList = None
 fixed_length Peer = None
+fixed_length (Nested family) = None
 
 -- the length of the payload that is written for a value under any other shape
 abbrev pub value_length : Value → ℕ

@@ -83,6 +83,7 @@ use Rattle.linkinfo_shapes.specs.declared.shape.Shape.TheVariants.{
   Raw,
   SelfList,
   Peer,
+  Nested,
 }
 
 abbrev done : {X : Type 0} → X → Result X Cause
@@ -121,6 +122,7 @@ unwrap-wrap Scrub x = refl
 unwrap-wrap Raw x = refl
 unwrap-wrap SelfList x = refl
 unwrap-wrap Peer x = refl
+unwrap-wrap (Nested family) x = refl
 
 pub wrap-unwrap : (shape : Shape) (value : Value) → Suits shape value →
     wrap shape (unwrap shape value) ≡ value
@@ -175,6 +177,7 @@ wrap-unwrap Raw (bytes s) h = refl
 wrap-unwrap Raw _ h = absurd h
 wrap-unwrap SelfList _ h = absurd h
 wrap-unwrap Peer _ h = absurd h
+wrap-unwrap (Nested family) _ h = absurd h
 
 pub Suits-wrap : (shape : Shape) (x : Carrier shape) → Holds shape x → Suits shape (wrap shape x)
 unfolding Suits
@@ -205,12 +208,14 @@ Suits-wrap Scrub x h = h
 Suits-wrap Raw x h = tt
 Suits-wrap SelfList x h = h
 Suits-wrap Peer x h = h
+Suits-wrap (Nested family) x h = h
 
 -- a value suits none of the shapes that a family reads itself
 pub suits_plain : (shape : Shape) (value : Value) → Suits shape value → IsPlain shape
 unfolding Suits
 suits_plain SelfList value h = h
 suits_plain Peer value h = h
+suits_plain (Nested family) value h = h
 suits_plain _ value h = tt
 
 -- ---- results of readers
@@ -318,6 +323,7 @@ length_fixed Scrub value n e = some_same 4 n e
 length_fixed Raw value n e = absurd cc
 length_fixed SelfList value n e = absurd cc
 length_fixed Peer value n e = absurd cc
+length_fixed (Nested family) value n e = absurd cc
 
 pub length_variable : (shape : Shape) (value : Value) → fixed_length shape ≡ None →
     Suits shape value → length (written shape value) ≡ value_length value
@@ -358,3 +364,4 @@ length_variable Raw (bytes s) e h = refl
 length_variable Raw _ e h = absurd h
 length_variable SelfList _ e h = absurd h
 length_variable Peer _ e h = absurd h
+length_variable (Nested family) _ e h = absurd h

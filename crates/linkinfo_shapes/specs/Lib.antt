@@ -3,3 +3,4 @@ pub mod DataLaws
 pub mod ShapeLaws
 pub mod Shapes
 pub mod Table
+pub mod Typed

@@ -145,6 +145,7 @@ use Rattle.linkinfo_shapes.specs.declared.shape.Shape.TheVariants.{
   Raw,
   SelfList,
   Peer,
+  Nested,
 }
 
 -- ---- results
@@ -475,6 +476,7 @@ means_holds Scrub p x h e = tt
 means_holds Raw p x h e = subst IsBytes (ok_same p x e) h
 means_holds SelfList p x h e = absurd (err_ok _ _ e)
 means_holds Peer p x h e = absurd (err_ok _ _ e)
+means_holds (Nested family) p x h e = absurd (err_ok _ _ e)
 
 -- ---- what is written means its datum
 
@@ -516,6 +518,7 @@ means-canon Scrub false h = refl
 means-canon Raw x h = refl
 means-canon SelfList x h = absurd h
 means-canon Peer x h = absurd h
+means-canon (Nested family) x h = absurd h
 
 -- ---- what is written consists of bytes
 
@@ -550,6 +553,7 @@ IsBytes-canon Scrub b h = le32_bytes (truth_number b)
 IsBytes-canon Raw x h = h
 IsBytes-canon SelfList x h = absurd h
 IsBytes-canon Peer x h = absurd h
+IsBytes-canon (Nested family) x h = absurd h
 
 -- ---- no payload means the memory error, and no error needs memory
 
@@ -579,6 +583,7 @@ means_memory Scrub p e = of_length_memory 4 p _ e
 means_memory Raw p e = err_ok _ _ (sym e)
 means_memory SelfList p e = length_memory (err_same {X = Unit {0}} _ _ e)
 means_memory Peer p e = length_memory (err_same {X = Unit {0}} _ _ e)
+means_memory (Nested family) p e = length_memory (err_same {X = Unit {0}} _ _ e)
 
 pub error_needs_no_memory : (shape : Shape) (p : List ℕ) (c : Cause) → means shape p ≡ Err c →
     needs_memory shape p ≡ false
@@ -650,6 +655,7 @@ canon-means EmptyOrByte p x h e s =
 canon-means Raw p x h e s = ok_same p x e
 canon-means SelfList p x h e s = absurd (err_ok _ _ e)
 canon-means Peer p x h e s = absurd (err_ok _ _ e)
+canon-means (Nested family) p x h e s = absurd (err_ok _ _ e)
 canon-means Truth p x h e s = absurd (false≢true s)
 canon-means TruthOne p x h e s = absurd (false≢true s)
 canon-means Mark p x h e s = absurd (false≢true s)
@@ -725,6 +731,7 @@ means_alike EmptyOrByte p q x y h k e f = exact_alike EmptyOrByte p q x y h k e 
 means_alike Raw p q x y h k e f = exact_alike Raw p q x y h k e f refl
 means_alike SelfList p q x y h k e f = exact_alike SelfList p q x y h k e f refl
 means_alike Peer p q x y h k e f = exact_alike Peer p q x y h k e f refl
+means_alike (Nested family) p q x y h k e f = exact_alike (Nested family) p q x y h k e f refl
 
 -- ---- verdicts by lengths
 

@@ -79,12 +79,14 @@ use Rattle.linkinfo_shapes.specs.declared.shape.Shape.TheVariants.{
   Raw,
   SelfList,
   Peer,
+  Nested,
 }
 
 -- a shape whose payloads are read here, and not by the family itself
 abbrev pub IsPlain : Shape → Type 0
 IsPlain SelfList = ⊥
 IsPlain Peer = ⊥
+IsPlain (Nested family) = ⊥
 IsPlain _ = Unit {0}
 
 -- the data of a shape; for the shapes that a family reads itself, no payload is accepted here, and
@@ -115,6 +117,7 @@ Carrier Scrub = Bool
 Carrier Raw = List ℕ
 Carrier SelfList = Unit {0}
 Carrier Peer = Unit {0}
+Carrier (Nested family) = Unit {0}
 
 -- the text of a name, or the cause Utf8
 abbrev pub text_of : List ℕ → Result (List ℕ) Cause
@@ -159,6 +162,7 @@ means Scrub payload = of_length 4 payload (not (from_le_bytes w32 payload == 0))
 means Raw payload = Ok payload
 means SelfList payload = Err cause.Length
 means Peer payload = Err cause.Length
+means (Nested family) payload = Err cause.Length
 
 -- the result without its datum
 abbrev pub verdict : {X : Type 0} → Result X Cause → Result (Unit {0}) Cause
@@ -226,6 +230,7 @@ canon Scrub b = to_le_bytes w32 (truth_number b)
 canon Raw bytes = bytes
 canon SelfList x = []
 canon Peer x = []
+canon (Nested family) x = []
 
 -- the canonical payload of what an accepted payload means
 unfoldable pub canonical : Shape → List ℕ → List ℕ
@@ -272,6 +277,7 @@ Holds Scrub b = Unit {0}
 Holds Raw bytes = IsBytes bytes
 Holds SelfList x = ⊥
 Holds Peer x = ⊥
+Holds (Nested family) x = ⊥
 
 -- whether four bytes are the number 0
 abbrev pub is_zero : List ℕ → Bool

@@ -25,8 +25,8 @@ use crate::shape::Shape;
 use crate::writers::write_with_nul;
 use nla_frame::{fitting, without_nul, write_bytes, write_frame};
 
-/// Whether every payload that the shape accepts is canonical. Requires a shape other than
-/// `Shape::SelfList` and `Shape::Peer`.
+/// Whether every payload that the shape accepts is canonical. Requires a plain shape
+/// (`Shape::is_plain`).
 #[inline(always)]
 fn accepts_only_canonical(shape: Shape) -> bool
     requires { IsPlain shape }
@@ -66,8 +66,7 @@ fn name_in(payload: &[u8]) -> &[u8]
 /// Returns the length of an accepted payload's canonical encoding, or `None` above 65531. Does not
 /// allocate.
 ///
-/// Requires a shape other than `Shape::SelfList` and `Shape::Peer`, and a payload that the shape
-/// accepts.
+/// Requires a plain shape (`Shape::is_plain`), and a payload that it accepts.
 #[inline(always)]
 pub fn shape_canonical_len(shape: Shape, payload: &[u8]) -> Option<usize>
     requires plain { IsPlain shape }
@@ -86,9 +85,8 @@ pub fn shape_canonical_len(shape: Shape, payload: &[u8]) -> Option<usize>
 /// Writes the canonical encoding of an accepted payload at the front of the buffer, and returns its
 /// length. The bytes after it stay unchanged. Does not allocate.
 ///
-/// Requires a shape other than `Shape::SelfList` and `Shape::Peer`, and a payload that the shape
-/// accepts. Requires that the canonical payload has at most 65531 bytes, and that the buffer has at
-/// least as many.
+/// Requires a plain shape (`Shape::is_plain`), and a payload that it accepts. Requires that the
+/// canonical payload has at most 65531 bytes, and that the buffer has at least as many.
 #[inline(always)]
 pub fn shape_write_canonical(shape: Shape, payload: &[u8], buffer: &mut [u8]) -> usize
     requires plain { IsPlain shape }
@@ -117,9 +115,9 @@ pub fn shape_write_canonical(shape: Shape, payload: &[u8], buffer: &mut [u8]) ->
 /// buffer, and returns its length: header, payload and zero padding. The bytes after it stay
 /// unchanged. Does not allocate.
 ///
-/// Requires a shape other than `Shape::SelfList` and `Shape::Peer`, and a payload that the shape
-/// accepts. Requires that the canonical payload has at most 65531 bytes, and that the buffer has at
-/// least as many bytes as the attribute.
+/// Requires a plain shape (`Shape::is_plain`), and a payload that it accepts. Requires that the
+/// canonical payload has at most 65531 bytes, and that the buffer has at least as many bytes as the
+/// attribute.
 #[inline(always)]
 pub fn shape_write_attribute(shape: Shape, kind: u16, payload: &[u8], buffer: &mut [u8]) -> usize
     requires plain { IsPlain shape }

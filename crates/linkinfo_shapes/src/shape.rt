@@ -3,7 +3,7 @@
 ghost use Rattle.std.specs.Prelude.{◌↔◌, IsTrue};
 ghost use Rattle.linkinfo_shapes.specs.Shapes.{IsPlain};
 
-use nla_frame::ExactEq;
+use nla_frame::{ExactEq, Family};
 
 /// The shape of an attribute, the layout of its payload: which payloads are accepted, and what
 /// datum each holds.
@@ -70,20 +70,55 @@ pub enum Shape {
     /// The peer of a pair of links, which the family reads by its peer type (`VETH_INFO_PEER`,
     /// `VXCAN_INFO_PEER`, `IFLA_NETKIT_PEER_INFO`).
     Peer,
+    /// A nested list of attributes of this other family, which the family reads itself
+    /// (`IFLA_VLAN_EGRESS_QOS`).
+    Nested(Family),
 }
 
 impl Shape {
-    /// Whether this crate reads payloads of the shape: true for every shape but `SelfList` and
-    /// `Peer`, whose payloads the family reads itself.
+    /// Whether this crate reads payloads of the shape: true for every shape but `SelfList`,
+    /// `Peer` and `Nested`, whose payloads the family reads itself.
     pub fn is_plain(self) -> bool
         ensures { IsTrue result ↔ IsPlain self }
     {
-        !matches!(self, Shape::SelfList | Shape::Peer)
+        !matches!(self, Shape::SelfList | Shape::Peer | Shape::Nested(_))
     }
 }
 
 impl ExactEq for Shape {
-    ghost use Rattle.std.proofs.Common.{rules};
+    ghost use Rattle.nla_frame.specs.Derived.{derived_decides, no_field, one_field};
+    ghost use Rattle.nla_frame.specs.Pairs.{◌&◌};
+    ghost use Rattle.nla_frame.specs.contracts.exact_eq.FamilyExactEq.TheImpl.Laws.{
+      exact-law as family_exact,
+    };
+    ghost use Rattle.linkinfo_shapes.specs.contracts.shape.Shape.{enum};
 
-    ghost exact = { Prim.search rules };
+    ghost exact = { derived_decides enum _
+        (no_field
+        & no_field
+        & no_field
+        & no_field
+        & no_field
+        & no_field
+        & no_field
+        & no_field
+        & no_field
+        & no_field
+        & no_field
+        & no_field
+        & no_field
+        & no_field
+        & no_field
+        & no_field
+        & no_field
+        & no_field
+        & no_field
+        & no_field
+        & no_field
+        & no_field
+        & no_field
+        & no_field
+        & no_field
+        & one_field family_exact
+        & tt) };
 }

@@ -73,7 +73,8 @@ pub fn table_shape(family: Family, kind: u16) -> Option<Shape>
         | Family::TeamPort
         | Family::Tun
         | Family::Vlan
-        | Family::Wireguard => None,
+        | Family::Wireguard
+        | Family::VlanQosMapping => None,
     }
 }
 

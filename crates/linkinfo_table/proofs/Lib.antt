@@ -1,4 +1,5 @@
 pub mod RowAnswers
+mod RowPayloads
 pub mod Writing
 mod Firsts
 pub mod Lasts

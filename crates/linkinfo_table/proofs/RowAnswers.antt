@@ -94,7 +94,7 @@ along s t p q r e h k = subst (λ z. ReadsAs z q r) (sym e) (subst (λ z. ReadsA
 pub flat_plain : {F : Type 0} (r : FamilyRow F) (shape : Shape) → IsFlat r →
     lookup_of r ≡ lookup.Is shape → IsPlain shape
 flat_plain (Plain s label) shape flat e = subst IsPlain (shape_same s shape e) flat
-flat_plain (Custom s codec label) shape flat e = absurd flat
+flat_plain (Custom s nested codec label) shape flat e = absurd flat
 flat_plain (Refuses cause) shape flat e = absurd cc
 flat_plain Absent shape flat e = absurd cc
 
@@ -102,7 +102,7 @@ pub suits_row : {F : Type 0} (r : FamilyRow F) (shape : Shape) (p : List ℕ) (d
     lookup_of r ≡ lookup.Is shape → ReadsAs shape p (Ok d) → SuitsRow r (value_of d)
 suits_row (Plain s label) shape p d flat e k =
     read_suits s p d (along s shape p p (Ok d) (shape_same s shape e) refl k)
-suits_row (Custom s codec label) shape p d flat e k = absurd flat
+suits_row (Custom s nested codec label) shape p d flat e k = absurd flat
 suits_row (Refuses cause) shape p d flat e k = absurd cc
 suits_row Absent shape p d flat e k = absurd cc
 
@@ -158,7 +158,7 @@ module _ {F : Type 0} (f : Family) (other : DefaultNla → F) where
       ap (λ (m : Result (Carrier s) Cause). labelled f (masked a.kind) label (own m))
       (read_means s a.value d (along s shape p a.value (Ok d) (shape_same s shape e) q k))
       ∙ ap done (sym l)
-  read_row (Custom s codec label) a shape p d x flat e q k l = absurd flat
+  read_row (Custom s nested codec label) a shape p d x flat e q k l = absurd flat
   read_row (Refuses cause) a shape p d x flat e q k l = absurd l
   read_row Absent a shape p d x flat e q k l = absurd l
 
@@ -181,7 +181,7 @@ module _ {F : Type 0} (f : Family) (other : DefaultNla → F) where
       subst (λ (z : Shape). means z a.value ≡ Err c) (sym (shape_same s shape e)) there in
       ap (λ (t : Result (Carrier s) Cause). labelled f (masked a.kind) label (own t)) failed
       ∙ ap bad (error_is a c g k error d h i)
-  refuse_row (Custom s codec label) a shape p c g k error flat e q m d h i = absurd flat
+  refuse_row (Custom s nested codec label) a shape p c g k error flat e q m d h i = absurd flat
   refuse_row (Refuses cause) a shape p c g k error flat e q m d h i = absurd cc
   refuse_row Absent a shape p c g k error flat e q m d h i = absurd cc
 
@@ -190,7 +190,7 @@ module _ {F : Type 0} (f : Family) (other : DefaultNla → F) where
       error ≡ record { family = g; kind = k; cause = c } → g ≡ f → k ≡ masked a.kind →
       row_meaning f other (row_of r) a ≡ Err error
   refused_row (Plain s label) a c g k error e d h i = absurd cc
-  refused_row (Custom s codec label) a c g k error e d h i = absurd cc
+  refused_row (Custom s nested codec label) a c g k error e d h i = absurd cc
   refused_row (Refuses cause) a c g k error e d h i =
       ap (λ (z : Cause). bad (error_at f (masked a.kind) (Own z))) (cause_same cause c e)
       ∙ ap bad (error_is a c g k error d h i)
@@ -200,7 +200,7 @@ module _ {F : Type 0} (f : Family) (other : DefaultNla → F) where
       lookup_of r ≡ lookup.Unknown → d ≡ kept a → x ≡ other d →
       row_meaning f other (row_of r) a ≡ Ok x
   kept_row (Plain s label) a d x e h i = absurd cc
-  kept_row (Custom s codec label) a d x e h i = absurd cc
+  kept_row (Custom s nested codec label) a d x e h i = absurd cc
   kept_row (Refuses cause) a d x e h i = absurd cc
   kept_row Absent a d x e h i = ap done (ap other (sym h) ∙ sym i)
 
@@ -217,7 +217,7 @@ module _ {F : Type 0} (f : Family) (other : DefaultNla → F) where
       ap (λ (m : Result F DecodeError). m >>= λ x. sound (with x))
       (read_row (Plain s label) a shape p d (label (unwrap s (value_of d))) flat e q k refl)
       ∙ ap sound (sym l)
-  store_row with (Custom s codec label) a shape p d held flat e q k l = absurd flat
+  store_row with (Custom s nested codec label) a shape p d held flat e q k l = absurd flat
   store_row with (Refuses cause) a shape p d held flat e q k l = absurd l
   store_row with Absent a shape p d held flat e q k l = absurd l
 
@@ -244,7 +244,7 @@ module _ {F : Type 0} (f : Family) (other : DefaultNla → F) where
   row_ok (Plain s label) a shape p d flat e q k =
       ap (λ (m : Result F DecodeError). is_ok m)
       (read_row (Plain s label) a shape p d (label (unwrap s (value_of d))) flat e q k refl)
-  row_ok (Custom s codec label) a shape p d flat e q k = absurd flat
+  row_ok (Custom s nested codec label) a shape p d flat e q k = absurd flat
   row_ok (Refuses cause) a shape p d flat e q k = absurd cc
   row_ok Absent a shape p d flat e q k = absurd cc
 
@@ -277,7 +277,7 @@ module _ {F : Type 0} (f : Family) (other : DefaultNla → F) where
           Ok tt ≡ verdict (labelled f (masked a.kind) label (own m))
       go (Ok u) h = refl
       go (Err c) h = absurd cc
-  check_row (Custom s codec label) a shape p flat e q h = absurd flat
+  check_row (Custom s nested codec label) a shape p flat e q h = absurd flat
   check_row (Refuses cause) a shape p flat e q h = absurd cc
   check_row Absent a shape p flat e q h = absurd cc
 
@@ -316,7 +316,7 @@ module _ {F : Type 0} (f : Family) (other : DefaultNla → F) where
           IsOk (labelled f (masked a.kind) label (own m)) → IsAccepted s a.value
       go (Ok u) k h = accepted s a.value u k
       go (Err c) k h = absurd cc
-  accepted_row (Custom s codec label) a shape flat e h = absurd flat
+  accepted_row (Custom s nested codec label) a shape flat e h = absurd flat
   accepted_row (Refuses cause) a shape flat e h = absurd cc
   accepted_row Absent a shape flat e h = absurd cc
 
@@ -339,7 +339,7 @@ module _ {F : Type 0} where
   pub needs_kept : (r : FamilyRow F) (a : Attribute) → lookup_of r ≡ lookup.Unknown →
       row_needs_memory (row_of r) a ≡ true
   needs_kept (Plain s label) a e = absurd cc
-  needs_kept (Custom s codec label) a e = absurd cc
+  needs_kept (Custom s nested codec label) a e = absurd cc
   needs_kept (Refuses cause) a e = absurd cc
   needs_kept Absent a e = refl
 
@@ -354,7 +354,7 @@ module _ {F : Type 0} where
             owned_shape_needs s a.value (unwrap s (value_of d)) owns (read_means s a.value d read)
         | inr none ↦ absurd (never (copied_of s (value_of d) (read_suits s a.value d read) ∙ none))
       ]
-  needs_row (Custom s codec label) a shape p d flat e q k never = absurd flat
+  needs_row (Custom s nested codec label) a shape p d flat e q k never = absurd flat
   needs_row (Refuses cause) a shape p d flat e q k never = absurd cc
   needs_row Absent a shape p d flat e q k never = absurd cc
 
@@ -372,20 +372,20 @@ module _ {F : Type 0} where
   alike_typed (Plain s label) a b shape flat e =
       ap (λ z. eqb (masked b.kind) (masked a.kind) && payload_alike z a.value b.value)
       (sym (shape_same s shape e))
-  alike_typed (Custom s codec label) a b shape flat e = absurd flat
+  alike_typed (Custom s nested codec label) a b shape flat e = absurd flat
   alike_typed (Refuses cause) a b shape flat e = absurd cc
   alike_typed Absent a b shape flat e = absurd cc
 
   pub alike_refused : (r : FamilyRow F) (a b : Attribute) (c : Cause) →
       lookup_of r ≡ lookup.Refused c → false ≡ row_alike (row_of r) a b
   alike_refused (Plain s label) a b c e = absurd cc
-  alike_refused (Custom s codec label) a b c e = absurd cc
+  alike_refused (Custom s nested codec label) a b c e = absurd cc
   alike_refused (Refuses cause) a b c e = refl
   alike_refused Absent a b c e = absurd cc
 
   pub alike_kept : (r : FamilyRow F) (a b : Attribute) → lookup_of r ≡ lookup.Unknown →
       (eqb b.kind a.kind && bytes_eq a.value b.value) ≡ row_alike (row_of r) a b
   alike_kept (Plain s label) a b e = absurd cc
-  alike_kept (Custom s codec label) a b e = absurd cc
+  alike_kept (Custom s nested codec label) a b e = absurd cc
   alike_kept (Refuses cause) a b e = absurd cc
   alike_kept Absent a b e = refl

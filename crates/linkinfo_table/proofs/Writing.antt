@@ -41,7 +41,15 @@ use Rattle.linkinfo_shapes.specs.declared.shape.Shape.{Shape}
 use Rattle.linkinfo_table.specs.declared.lookup.Lookup.TheVariants as lookup
 use Rattle.linkinfo_table.specs.Codecs.{PayloadError}
 use Rattle.linkinfo_table.specs.Lists.{◌>>=◌, values_under}
-use Rattle.linkinfo_table.specs.Rows.{Entry, Is, IsRow, labelled, row_meaning, meaning_in}
+use Rattle.linkinfo_table.specs.Rows.{
+  Entry,
+  Is,
+  IsRow,
+  labelled,
+  meaning_in,
+  row_meaning,
+  written_kind,
+}
 use Rattle.linkinfo_table.specs.FamilyRows.{
   own,
   FamilyRow,
@@ -69,16 +77,22 @@ canonical_own s p = go (means s p)
     go (Err c) = refl
 
 module _ {F : Type 0} (f : Family) (other : DefaultNla → F) (attribute : F → Attribute) where
-  -- by any row: the masked type, and the canonical payload of the row's codec
+  -- by any row: the type that is written for it, and the canonical payload of the row's codec
   pub canonical_entry : (e : Entry F) (a : Attribute) → IsRow attribute (masked a.kind) e →
       IsOk (row_meaning f other (Is e) a) →
       attribute_for attribute (row_meaning f other (Is e) a)
-      ≡ record { kind = masked a.kind; value = bytes_for e.codec.canon (e.codec.means a.value) }
+      ≡ record {
+        kind = written_kind e.nested (masked a.kind);
+        value = bytes_for e.codec.canon (e.codec.means a.value);
+      }
   canonical_entry e a row ok = go (e.codec.means a.value) ok
     where
       go : (m : Result e.codec.Carrier PayloadError) → IsOk (labelled f (masked a.kind) e.label m) →
           attribute_for attribute (labelled f (masked a.kind) e.label m)
-          ≡ record { kind = masked a.kind; value = bytes_for e.codec.canon m }
+          ≡ record {
+            kind = written_kind e.nested (masked a.kind);
+            value = bytes_for e.codec.canon m;
+          }
       go (Ok u) h = row.keeps u
       go (Err error) h = absurd cc
 
@@ -91,7 +105,7 @@ module _ {F : Type 0} (f : Family) (other : DefaultNla → F) (attribute : F →
       canonical_entry _ a owes ok
       ∙ ap (λ (v : List ℕ). record { kind = masked a.kind; value = v })
       (canonical_own s a.value ∙ ap (λ (z : Shape). canonical z a.value) (shape_same s shape e))
-  typed_row (Custom s codec label) a shape owes flat e ok = absurd flat
+  typed_row (Custom s nested codec label) a shape owes flat e ok = absurd flat
   typed_row (Refuses cause) a shape owes flat e ok = absurd cc
   typed_row Absent a shape owes flat e ok = absurd cc
 
@@ -100,14 +114,14 @@ module _ {F : Type 0} (f : Family) (other : DefaultNla → F) (attribute : F →
       attribute_for attribute (row_meaning f other (row_of r) a)
       ≡ record { kind = a.kind; value = a.value }
   kept_row keeps (Plain s label) a e = absurd cc
-  kept_row keeps (Custom s codec label) a e = absurd cc
+  kept_row keeps (Custom s nested codec label) a e = absurd cc
   kept_row keeps (Refuses cause) a e = absurd cc
   kept_row keeps Absent a e = keeps (kept a)
 
   refused_row : (r : FamilyRow F) (a : Attribute) (c : Cause) → lookup_of r ≡ lookup.Refused c →
       IsOk (row_meaning f other (row_of r) a) → ⊥
   refused_row (Plain s label) a c e ok = absurd cc
-  refused_row (Custom s codec label) a c e ok = absurd cc
+  refused_row (Custom s nested codec label) a c e ok = absurd cc
   refused_row (Refuses cause) a c e ok = absurd cc
   refused_row Absent a c e ok = absurd cc
 

@@ -1,21 +1,23 @@
 -- A family by its rows: what `LinkFamily` defines for its attributes under one context is lawful,
 -- and each error has the family's name. Both follow from what the rows owe.
-use Rattle.std.specs.Prelude.{◌≡◌, ℕ, ◌*◌, ◌≤◌, List, length, Result, refl}
+use Rattle.std.specs.Prelude.{◌≡◌, ℕ, ◌*◌, ◌≤◌, List, [], length, Result, refl}
 use Rattle.nla_frame.specs.Attribute.{Attribute, masked}
 use Rattle.nla_frame.specs.NlaItems.{nla_items}
 use Rattle.nla_frame.specs.declared.default_nla.DefaultNla.{DefaultNla}
 use Rattle.nla_frame.specs.declared.error.DecodeError.{DecodeError}
 use Rattle.nla_frame.specs.declared.error.Family.{Family}
-use Rattle.linkinfo_table.specs.FamilyRows.{EachKeeps, FamilyRow, IsUnnested, PlainRow, RowOwes}
+use Rattle.linkinfo_table.specs.FamilyRows.{EachKeeps, FamilyRow, IsFlat, PlainRow, RowOwes}
 use Rattle.linkinfo_table.specs.FamilyRows.{lookup_of, row_of, table_row}
 use Rattle.linkinfo_table.specs.FamilyRowLaws.{table_flat, table_owes}
-use Rattle.linkinfo_table.specs.ErrorNames.{EachNames, names_list}
+use Rattle.linkinfo_table.specs.ErrorNames.{names_list}
 use Rattle.linkinfo_table.specs.FlatLaws.{flat_alike_is, flat_no_memory, flat_read_well}
 use Rattle.linkinfo_table.specs.FlatLaws.{flat_well_attribute, flat_well_reads, none_inside}
-use Rattle.linkinfo_table.specs.LookupLaws.{flat_unnested, rows_say}
+use Rattle.linkinfo_table.specs.LookupLaws.{rows_say}
 use Rattle.linkinfo_table.specs.Lists.{values}
 use Rattle.linkinfo_table.specs.Members.{IsFamily, Members}
+use Rattle.linkinfo_table.specs.Named.{EachNames}
 use Rattle.linkinfo_table.specs.Rows.{WellFormed, alike_in, meaning_in, memory_in}
+use Rattle.linkinfo_table.specs.TypedRows.{flat_typed}
 
 module _ {X : Type 0} (f : Family) (other : DefaultNla → X) (attribute : X → Attribute)
     (rows : ℕ → FamilyRow X) where
@@ -59,12 +61,13 @@ module _ {X : Type 0} (f : Family) (other : DefaultNla → X) (attribute : X →
     rows_are_family keeps headers quarter =
         written_are_family attribute (λ _. refl) owes keeps headers quarter
 
-    module _ (unnested : (n : ℕ) → IsUnnested (rows n)) where
+    module _ (flat : (n : ℕ) → IsFlat (rows n)) where
       pub rows_name : (s : List ℕ) → EachNames f (values means (nla_items s))
       rows_name s =
-          names_list f other attribute (λ _ n. lookup_of (rows n)) (λ _ a. means a)
-          (λ _ a. rows_say f other attribute attribute (λ _. refl) (λ _ b. means b) rows a
-          (unnested (masked a.kind)) (owes (masked a.kind))) (tt {0}) s
+          names_list f [] other attribute (λ _ n. lookup_of (rows n)) (λ _ a. means a)
+          (λ _ a. rows_say f [] other attribute attribute (λ _. refl) (λ _ b. means b) rows a
+          (flat_typed [] (rows (masked a.kind)) (flat (masked a.kind))) (owes (masked a.kind)))
+          (tt {0}) s
 
 -- ---- a family of one table of plain rows
 
@@ -81,4 +84,4 @@ module _ {X : Type 0} (f : Family) (other : DefaultNla → X) (attribute : X →
       EachNames f (values (meaning_in f other (λ n. row_of (table_row table n))) (nla_items s))
   table_names s =
       rows_name f other attribute (λ n. table_row table n) (table_owes attribute table keeps)
-      (λ n. flat_unnested (table_row table n) (table_flat attribute table keeps n)) s
+      (λ n. table_flat attribute table keeps n) s

@@ -135,29 +135,35 @@ unknown_label {F = F} other attribute rows is_other keeps is typed d =
       λ h. (d, h.0, h.1, refl),
     )
 
--- the value of an opaque attribute, where one more type has a row of its own, which no opaque
--- attribute has
+-- the value of an opaque attribute of type `n`, where one more type has a row of its own, which no
+-- opaque attribute has
+pub unknown_after : {F : Type 0} (other : DefaultNla → F) (number n : ℕ) (own rest : FamilyRow F)
+    (d : DefaultNla) (Rest : Type 0) → ¬ WellAt other (row_of own) (other d) →
+    (WellAt other (row_of rest) (other d) ↔ Rest) →
+    WellAt other (row_of (row_if (n == number) own rest)) (other d) ↔ (n ≢ number) × Rest
+unknown_after other number n own rest d Rest never_own elsewhere = go (n == number) refl
+  where
+    go : (b : Bool) → (n == number) ≡ b →
+        WellAt other (row_of (row_if b own rest)) (other d) ↔ (n ≢ number) × Rest
+    go true e = (λ w. absurd (never_own w), λ h. absurd (h.0 (eqb-true n number e)))
+    go false e = (
+      λ w. (
+        λ same. let yes : (n == number) ≡ true = eq-eqb n number same in cc,
+        elsewhere.0 w,
+      ),
+      λ h. elsewhere.1 h.1,
+    )
+
+-- beside the rows of a table
 pub unknown_beside : {F : Type 0} (other : DefaultNla → F) (number : ℕ) (own : FamilyRow F)
     (rows : List (PlainRow F)) (d : DefaultNla) →
     ¬ WellAt other (row_of own) (other d) →
     (WellAt other (row_of (table_row rows (masked d.kind))) (other d) ↔ IsUnknown rows d) →
     WellAt other (row_of (row_if (masked d.kind == number) own (table_row rows (masked d.kind))))
     (other d) ↔ IsUnknownBeside number rows d
-unknown_beside {F = F} other number own rows d never_own elsewhere =
-    go (masked d.kind == number) refl
-  where
-    go : (b : Bool) → (masked d.kind == number) ≡ b →
-        WellAt other (row_of (row_if b own (table_row rows (masked d.kind)))) (other d) ↔
-        IsUnknownBeside number rows d
-    go true e = (λ w. absurd (never_own w), λ h. absurd (h.0 (eqb-true (masked d.kind) number e)))
-    go false e = (
-      λ w. (
-        λ same. let yes : (masked d.kind == number) ≡ true =
-            eq-eqb (masked d.kind) number same in cc,
-        elsewhere.0 w,
-      ),
-      λ h. elsewhere.1 h.1,
-    )
+unknown_beside other number own rows d never_own elsewhere =
+    unknown_after other number (masked d.kind) own (table_row rows (masked d.kind)) d
+    (IsUnknown rows d) never_own elsewhere
 
 -- ---- lists
 

@@ -16,7 +16,7 @@ use Rattle.std.specs.Prelude.{
   refl,
 }
 use Rattle.std.specs.Str.{is_utf8}
-use Rattle.std.proofs.Common.{sym, ap, subst, ◌∙◌, inl, inr}
+use Rattle.std.proofs.Common.{sym, ap, ◌∙◌, inl, inr}
 use Rattle.std.proofs.lemmas.Bool.{cases_Bool, cond-true}
 use Rattle.nla_frame.specs.Attribute.{Attribute, masked}
 use Rattle.nla_frame.specs.Payload.{stripped}
@@ -34,7 +34,6 @@ use Rattle.linkinfo_table.specs.FamilyRows.{
   Custom,
   Refuses,
   Absent,
-  IsUnnested,
   lookup_of,
   own,
   row_of,
@@ -48,6 +47,7 @@ use Rattle.linkinfo_table.specs.Rows.{
   row_meaning,
   row_needs_memory,
 }
+use Rattle.linkinfo_table.specs.TypedRows.{IsTyped, payload_not_plain}
 
 abbrev text : List ℕ → Result (List ℕ) Cause
 text p = Ok p
@@ -69,14 +69,16 @@ shape_certain _ p c h = refl
 
 -- a payload that the family reads itself is of no shape of the table
 abbrev pub OwnIsOther : {F : Type 0} → FamilyRow F → Type 0
-OwnIsOther (Custom shape codec label) = IsPlain shape → ⊥
+OwnIsOther (Custom shape nested codec label) = IsPlain shape → ⊥
 OwnIsOther _ = Unit {0}
 
-pub unnested_other : {F : Type 0} (r : FamilyRow F) → IsUnnested r → OwnIsOther r
-unnested_other (Plain shape label) h = tt
-unnested_other (Custom shape codec label) h = λ plain. subst IsPlain h.0 plain
-unnested_other (Refuses cause) h = tt
-unnested_other Absent h = tt
+pub typed_other : {F : Type 0} (inside : List Family) (r : FamilyRow F) → IsTyped inside r →
+    OwnIsOther r
+typed_other inside (Plain shape label) h = tt
+typed_other inside (Custom shape nested codec label) h =
+    λ plain. payload_not_plain shape h.0.shaped plain
+typed_other inside (Refuses cause) h = tt
+typed_other inside Absent h = tt
 
 module _ {F : Type 0} (f : Family) (other : DefaultNla → F) where
   row_certain : (r : FamilyRow F) (a : Attribute) (e : DecodeError) → OwnIsOther r →
@@ -88,7 +90,7 @@ module _ {F : Type 0} (f : Family) (other : DefaultNla → F) where
           labelled f (masked a.kind) label (own m) ≡ Err e → needs_memory shape a.value ≡ false
       go (Ok u) k i = absurd cc
       go (Err c) k i = shape_certain shape a.value c k
-  row_certain (Custom shape codec label) a e own_other none h = absurd (own_other none)
+  row_certain (Custom shape nested codec label) a e own_other none h = absurd (own_other none)
   row_certain (Refuses cause) a e own_other none h = refl
   row_certain Absent a e own_other none h = absurd cc
 

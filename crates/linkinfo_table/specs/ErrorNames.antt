@@ -1,5 +1,5 @@
--- The family of an attribute's error: the attribute's own, or the frame if a header of a list
--- inside it is rejected.
+-- The family of an attribute's error: the attribute's own or one of a list inside it, or the frame
+-- if a header of a list inside it is rejected.
 use Rattle.std.specs.Prelude.{
   ◌≡◌,
   ℕ,
@@ -7,7 +7,6 @@ use Rattle.std.specs.Prelude.{
   suc,
   ◌<◌,
   ◌≤◌,
-  ◌⊎◌,
   List,
   [],
   ◌∷◌,
@@ -25,21 +24,14 @@ use Rattle.nla_frame.specs.declared.error.DecodeError.{DecodeError}
 use Rattle.nla_frame.specs.declared.error.Family.{Family}
 use Rattle.nla_frame.proofs.Stepping.{nla_items_nil, by_nla_items}
 use Rattle.linkinfo_shapes.specs.declared.shape.Shape.{Shape}
-use Rattle.linkinfo_shapes.specs.declared.shape.Shape.TheVariants.{SelfList, Peer}
+use Rattle.linkinfo_shapes.specs.declared.shape.Shape.TheVariants.{Nested, Peer, SelfList}
 use Rattle.linkinfo_shapes.specs.Shapes.{IsPlain}
 use Rattle.linkinfo_table.specs.declared.lookup.Lookup.{Lookup}
 use Rattle.linkinfo_table.specs.declared.lookup.Lookup.TheVariants as lookup
 use Rattle.linkinfo_table.specs.Lists.{◌>>=◌, first_meaning, values}
 use Rattle.linkinfo_table.specs.LookupLaws.{own_family, which}
 use Rattle.linkinfo_table.specs.Lookups.{HoldsList, LookupSays}
-
--- an error is that of a header, or has the name of the family
-abbrev pub Names : Family → DecodeError → Type 0
-Names f e = (e ≡ header_error) ⊎ (e.family ≡ f)
-
--- each error of a meaning is that of a header, or has the name of the family
-abbrev pub EachNames : {X : Type 0} → Family → Result X DecodeError → Type 0
-EachNames f m = (e : DecodeError) → m ≡ Err e → Names f e
+use Rattle.linkinfo_table.specs.Named.{EachNamed, IsNamed, named_after, named_first}
 
 abbrev bad : {X : Type 0} → DecodeError → Result X DecodeError
 bad e = Err e
@@ -48,11 +40,11 @@ bad_same : {X : Type 0} (d e : DecodeError) → bad {X = X} d ≡ bad e → e �
 bad_same d e h = cc
 
 -- a list has an error of the header, or that of one of its attributes, whose payloads are shorter
-pub list_names : {X : Type 0} (f : Family) (m : Attribute → Result X DecodeError) (n : ℕ) →
-    ((a : Attribute) → length a.value < n → EachNames f (m a)) → (s : List ℕ) → length s ≤ n →
-    EachNames f (values m (nla_items s))
-list_names {X = X} f m n each s =
-    by_nla_items (λ z. length z ≤ n → EachNames f (values m (nla_items z)))
+pub list_names : {X : Type 0} (families : List Family) (m : Attribute → Result X DecodeError)
+    (n : ℕ) → ((a : Attribute) → length a.value < n → EachNamed families (m a)) → (s : List ℕ) →
+    length s ≤ n → EachNamed families (values m (nla_items s))
+list_names {X = X} families m n each s =
+    by_nla_items (λ z. length z ≤ n → EachNamed families (values m (nla_items z)))
     (λ le e h.
     absurd (none e (sym (ap (λ (ps : List (Result Attribute ℕ)). values m ps) nla_items_nil) ∙ h)))
     (λ z some broken le e h.
@@ -68,72 +60,97 @@ list_names {X = X} f m n each s =
     none e h = absurd cc
 
     step : (a : Attribute) (rest : List ℕ) (r : Result X DecodeError)
-        (q : Result (List X) DecodeError) → EachNames f r → EachNames f q →
-        EachNames f (r >>= λ x. q >>= λ xs. Ok (x ∷ xs))
+        (q : Result (List X) DecodeError) → EachNamed families r → EachNamed families q →
+        EachNamed families (r >>= λ x. q >>= λ xs. Ok (x ∷ xs))
     step a rest (Ok x) (Ok xs) first others e h = absurd cc
     step a rest (Ok x) (Err d) first others e h =
         others e (ap (λ (z : DecodeError). bad {X = List X} z) (sym (bad_same {X = List X} d e h)))
     step a rest (Err d) q first others e h =
         first e (ap (λ (z : DecodeError). bad {X = X} z) (sym (bad_same {X = List X} d e h)))
 
-module _ {C X : Type 0} (f : Family) (keeping : DefaultNla → X) (attribute : X → Attribute)
-    (lookup_in : C → ℕ → Lookup)
+-- the error of a first attribute is that of the header, or its own
+pub first_names : {X : Type 0} (families : List Family) (m : Attribute → Result X DecodeError) →
+    ((a : Attribute) → EachNamed families (m a)) → (ps : List (Result Attribute ℕ)) →
+    EachNamed families (first_meaning m ps)
+first_names {X = X} families m each [] e h = inl (bad_same {X = X} header_error e h)
+first_names {X = X} families m each ((Err n) ∷ more) e h =
+    inl (bad_same {X = X} header_error e h)
+first_names families m each ((Ok a) ∷ more) e h = each a e h
+
+module _ {C X : Type 0} (f : Family) (inside : List Family) (keeping : DefaultNla → X)
+    (attribute : X → Attribute) (lookup_in : C → ℕ → Lookup)
     (meaning : C → Attribute → Result X DecodeError)
     (says : (c : C) (a : Attribute) →
-    LookupSays f keeping attribute meaning a (lookup_in c (masked a.kind)) (meaning c a)) where
+    LookupSays f inside keeping attribute meaning a (lookup_in c (masked a.kind))
+    (meaning c a)) where
   no_list : (s : Shape) → (s ≡ SelfList → ⊥) → lookup.Is s ≡ lookup.Is SelfList → ⊥
   no_list s never h = never cc
 
+  no_nest : (s : Shape) (inner : Family) → (s ≡ Nested inner → ⊥) →
+      lookup.Is s ≡ lookup.Is (Nested inner) → ⊥
+  no_nest s inner never h = never cc
+
   held_names : (a : Attribute) (r : Result (List X) DecodeError) (m : Result X DecodeError) →
-      HoldsList attribute a r m → EachNames f r → EachNames f m
-  held_names a (Ok xs) m holds inside e h =
+      HoldsList attribute a r m → EachNamed (f ∷ inside) r → EachNamed (f ∷ inside) m
+  held_names a (Ok xs) m holds each e h =
       let same : Ok holds.0 ≡ bad e = sym holds.1 ∙ h in absurd cc
-  held_names a (Err d) m holds inside e h =
-      inside e
+  held_names a (Err d) m holds each e h =
+      each e
       (ap (λ (z : DecodeError). bad {X = List X} z) (sym (bad_same {X = X} d e (sym holds ∙ h))))
 
-  up_to : (n : ℕ) (c : C) (a : Attribute) → length a.value < n → EachNames f (meaning c a)
+  up_to : (n : ℕ) (c : C) (a : Attribute) → length a.value < n →
+      EachNamed (f ∷ inside) (meaning c a)
   up_to zero c a less e h = absurd (omega (arith, less))
   up_to (suc n) c a less e h =
       go (λ k b small. up_to n k b small) (lookup_in c (masked a.kind)) (says c a)
     where
-      own : (l : Lookup) → LookupSays f keeping attribute meaning a l (meaning c a) →
-          (l ≡ lookup.Is SelfList → ⊥) → Names f e
-      own l k never = inr (own_family f keeping attribute meaning a l (meaning c a) k never e h).0
+      own : (l : Lookup) → LookupSays f inside keeping attribute meaning a l (meaning c a) →
+          (l ≡ lookup.Is SelfList → ⊥) → ((inner : Family) → l ≡ lookup.Is (Nested inner) → ⊥) →
+          IsNamed (f ∷ inside) e
+      own l k never_list never_nest =
+          named_first f inside e
+          (own_family f inside keeping attribute meaning a l (meaning c a) k never_list never_nest
+          e h).0
 
-      go : ((k : C) (b : Attribute) → length b.value < n → EachNames f (meaning k b)) →
-          (l : Lookup) →
-          LookupSays f keeping attribute meaning a l (meaning c a) → Names f e
+      go : ((k : C) (b : Attribute) → length b.value < n → EachNamed (f ∷ inside) (meaning k b)) →
+          (l : Lookup) → LookupSays f inside keeping attribute meaning a l (meaning c a) →
+          IsNamed (f ∷ inside) e
       go smaller (lookup.Is s) k =
           elim (which s) [
-            | inl plain ↦ own (lookup.Is s) k (no_list s (λ i. subst IsPlain i plain))
+            | inl plain ↦
+                own (lookup.Is s) k (no_list s (λ i. subst IsPlain i plain))
+                (λ inner. no_nest s inner (λ i. subst IsPlain i plain))
             | inr other ↦ elim other [
               | inl list ↦
-                  let inner = k.list list in
-                  held_names a (values (meaning inner.0) (nla_items a.value)) (meaning c a) inner.1
-                  (list_names f (meaning inner.0) n (λ b small. smaller inner.0 b small) a.value
-                  (omega (arith, less))) e h
-              | inr peer ↦
-                  own (lookup.Is s) k
-                  (no_list s (λ i. absurd (let both : SelfList ≡ Peer = sym i ∙ peer in cc)))
+                  let held = k.list list in
+                  held_names a (values (meaning held.0) (nla_items a.value)) (meaning c a) held.1
+                  (list_names (f ∷ inside) (meaning held.0) n (λ b small. smaller held.0 b small)
+                  a.value (omega (arith, less))) e h
+              | inr more ↦ elim more [
+                | inl peer ↦
+                    own (lookup.Is s) k
+                    (no_list s (λ i. absurd (let both : SelfList ≡ Peer = sym i ∙ peer in cc)))
+                    (λ inner. no_nest s inner
+                    (λ i. absurd (let both : Nested inner ≡ Peer = sym i ∙ peer in cc)))
+                | inr nest ↦ named_after (f ∷ []) inside e (k.nest nest.0 nest.1 e h)
+              ]
             ]
           ]
-      go smaller (lookup.Refused cause) k = own (lookup.Refused cause) k (λ i. absurd cc)
-      go smaller lookup.Unknown k = own lookup.Unknown k (λ i. absurd cc)
+      go smaller (lookup.Refused cause) k =
+          own (lookup.Refused cause) k (λ i. absurd cc) (λ inner i. absurd cc)
+      go smaller lookup.Unknown k =
+          own lookup.Unknown k (λ i. absurd cc) (λ inner i. absurd cc)
 
   -- each error of an attribute
-  pub names : (c : C) (a : Attribute) → EachNames f (meaning c a)
+  pub names : (c : C) (a : Attribute) → EachNamed (f ∷ inside) (meaning c a)
   names c a = up_to (suc (length a.value)) c a (omega arith)
 
   -- each error of a list of attributes
-  pub names_list : (c : C) (s : List ℕ) → EachNames f (values (meaning c) (nla_items s))
-  names_list c s = list_names f (meaning c) (length s) (λ a _. names c a) s (omega arith)
+  pub names_list : (c : C) (s : List ℕ) →
+      EachNamed (f ∷ inside) (values (meaning c) (nla_items s))
+  names_list c s = list_names (f ∷ inside) (meaning c) (length s) (λ a _. names c a) s (omega arith)
 
   -- each error of a first attribute
-  pub names_first : (c : C) (s : List ℕ) → EachNames f (first_meaning (meaning c) (nla_items s))
-  names_first c s = go (nla_items s)
-    where
-      go : (ps : List (Result Attribute ℕ)) → EachNames f (first_meaning (meaning c) ps)
-      go [] e h = inl (bad_same {X = X} header_error e h)
-      go ((Err n) ∷ more) e h = inl (bad_same {X = X} header_error e h)
-      go ((Ok a) ∷ more) e h = names c a e h
+  pub names_first : (c : C) (s : List ℕ) →
+      EachNamed (f ∷ inside) (first_meaning (meaning c) (nla_items s))
+  names_first c s = first_names (f ∷ inside) (meaning c) (λ a. names c a) (nla_items s)

@@ -106,7 +106,8 @@ shape_is_codec shape = record {
 
 -- a row of a shape is lawful if its label keeps type and datum
 pub plain_is_row : {F : Type 0} (attribute : F → Attribute) (r : PlainRow F) → Keeps attribute r →
-    IsRow attribute r.number (record { codec = shape_codec r.shape; label = r.label })
+    IsRow attribute r.number
+    (record { nested = false; codec = shape_codec r.shape; label = r.label })
 plain_is_row {F = F} attribute r k = record {
   low = k.low;
   codec = shape_is_codec r.shape;
@@ -132,7 +133,8 @@ table_owes {F = F} attribute (r ∷ rows) k n =
           subst (λ (x : Option (PlainRow F)). RowOwes attribute n (row_of (plain_or_absent x)))
           (sym (cond-true (n == r.number) _ _ same))
           (subst (λ (m : ℕ).
-          IsRow attribute m (record { codec = shape_codec r.shape; label = r.label }))
+          IsRow attribute m
+          (record { nested = false; codec = shape_codec r.shape; label = r.label }))
           (sym (eqb-true n r.number same)) (plain_is_row attribute r k.0))
       | inr other ↦
           subst (λ (x : Option (PlainRow F)). RowOwes attribute n (row_of (plain_or_absent x)))

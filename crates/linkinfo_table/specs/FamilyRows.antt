@@ -25,7 +25,7 @@ use Rattle.nla_frame.specs.declared.default_nla.DefaultNla.{DefaultNla}
 use Rattle.nla_frame.specs.declared.error.Cause.{Cause}
 use Rattle.nla_frame.specs.declared.error.Cause.TheVariants as cause
 use Rattle.linkinfo_shapes.specs.declared.shape.Shape.{Shape}
-use Rattle.linkinfo_shapes.specs.declared.shape.Shape.TheVariants.{Name, Peer, Raw}
+use Rattle.linkinfo_shapes.specs.declared.shape.Shape.TheVariants.{Name, Raw}
 use Rattle.linkinfo_shapes.specs.Shapes.{
   IsPlain,
   Carrier,
@@ -64,38 +64,32 @@ shape_codec shape = record {
 pub data FamilyRow (F : Type 0) : Type 1 where
   -- a payload of this shape, and the label of its datum
   Plain : (shape : Shape) → (Carrier shape → F) → FamilyRow F
-  -- a payload that the family reads itself: a peer, or a list of its own attributes
-  Custom : Shape → (codec : Codec) → (codec.Carrier → F) → FamilyRow F
+  -- a payload that the family reads itself: a list of its own attributes, or a payload of a type of
+  -- its own; whether it is written with NLA_F_NESTED
+  Custom : Shape → Bool → (codec : Codec) → (codec.Carrier → F) → FamilyRow F
   Refuses : Cause → FamilyRow F
   Absent : FamilyRow F
 
 abbrev pub row_of : {F : Type 0} → FamilyRow F → Row F
-row_of (Plain shape label) = Is (record { codec = shape_codec shape; label = label })
-row_of (Custom shape codec label) = Is (record { codec = codec; label = label })
+row_of (Plain shape label) =
+    Is (record { nested = false; codec = shape_codec shape; label = label })
+row_of (Custom shape nested codec label) =
+    Is (record { nested = nested; codec = codec; label = label })
 row_of (Refuses cause) = Refused cause
 row_of Absent = Unknown
 
 -- the result of `LinkFamily::shape`
 abbrev pub lookup_of : {F : Type 0} → FamilyRow F → Lookup
 lookup_of (Plain shape label) = lookup.Is shape
-lookup_of (Custom shape codec label) = lookup.Is shape
+lookup_of (Custom shape nested codec label) = lookup.Is shape
 lookup_of (Refuses cause) = lookup.Refused cause
 lookup_of Absent = lookup.Unknown
 
 -- a row that the table of shapes reads
 abbrev pub IsFlat : {F : Type 0} → FamilyRow F → Type 0
 IsFlat (Plain shape label) = IsPlain shape
-IsFlat (Custom shape codec label) = ⊥
+IsFlat (Custom shape nested codec label) = ⊥
 IsFlat _ = Unit {0}
-
--- a row without attributes inside: one that the table of shapes reads, or a peer, whose only error
--- is the cause Peer
-abbrev pub IsUnnested : {F : Type 0} → FamilyRow F → Type 0
-IsUnnested (Plain shape label) = IsPlain shape
-IsUnnested (Custom shape codec label) =
-    (shape ≡ Peer)
-    × ((p : List ℕ) (error : PayloadError) → codec.means p ≡ Err error → error ≡ Own cause.Peer)
-IsUnnested _ = Unit {0}
 
 -- what a row owes
 abbrev pub RowOwes : {F : Type 0} → (F → Attribute) → ℕ → Row F → Type 0

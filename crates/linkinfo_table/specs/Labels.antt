@@ -7,13 +7,14 @@ use Rattle.std.proofs.lemmas.Bool.{ltb-true}
 use Rattle.nla_frame.specs.Attribute.{Attribute}
 use Rattle.linkinfo_shapes.specs.Shapes.{Carrier, IsPlain}
 use Rattle.linkinfo_shapes.specs.declared.shape.Shape.{Shape}
-use Rattle.linkinfo_shapes.specs.declared.shape.Shape.TheVariants.{SelfList, Peer}
+use Rattle.linkinfo_shapes.specs.declared.shape.Shape.TheVariants.{Nested, Peer, SelfList}
 use Rattle.linkinfo_table.specs.FamilyRows.{PlainRow, EachKeeps, typed}
 
 -- whether payloads of the shape are read by the table
 abbrev pub is_plain : Shape → Bool
 is_plain SelfList = false
 is_plain Peer = false
+is_plain (Nested family) = false
 is_plain _ = true
 
 -- whether the row has a masked type and a plain shape
@@ -30,6 +31,7 @@ LabelsKeep attribute (r ∷ rows) =
 plain_shape : (shape : Shape) → is_plain shape ≡ true → IsPlain shape
 plain_shape SelfList h = absurd cc
 plain_shape Peer h = absurd cc
+plain_shape (Nested family) h = absurd cc
 plain_shape _ h = tt
 
 -- a table of plain rows with labels that keep type and datum keeps them in each row

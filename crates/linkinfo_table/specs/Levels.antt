@@ -1,6 +1,6 @@
 -- Rows of a family with nested lists, by how many more lists may be nested inside: a list is a row
 -- like any other, and it is rejected if no level is left.
-use Rattle.std.specs.Prelude.{◌≡◌, ◌≢◌, ℕ, zero, suc, ◌<◌, ◌==◌, List}
+use Rattle.std.specs.Prelude.{◌≡◌, ◌≢◌, ℕ, zero, suc, ◌<◌, ◌==◌, false, List}
 use Rattle.nla_frame.specs.Attribute.{Attribute, list_string}
 use Rattle.nla_frame.specs.declared.error.Cause.TheVariants as cause
 use Rattle.nla_frame.specs.declared.error.Family.{Family}
@@ -43,7 +43,8 @@ module _ {X : Type 0} (f : Family) (other : DefaultNla → X) (attribute : X →
   level_rows zero n = row_if (n == number) (Refuses cause.Depth) (flat n)
   level_rows (suc levels) n =
       row_if (n == number)
-      (Custom shape.SelfList (inner_codec (λ k. row_of (level_rows levels k))) label) (flat n)
+      (Custom shape.SelfList false (inner_codec (λ k. row_of (level_rows levels k))) label)
+      (flat n)
 
   module _ (low : number < 16384)
       (keeps : (xs : List X) →
@@ -75,7 +76,8 @@ module _ {X : Type 0} (f : Family) (other : DefaultNla → X) (attribute : X →
         row_if_owes attribute number n (Refuses cause.Depth) (flat n) no_memory (flat_owes n)
     level_owes (suc levels) n =
         row_if_owes attribute number n
-        (Custom shape.SelfList (inner_codec (λ k. row_of (level_rows levels k))) label) (flat n)
+        (Custom shape.SelfList false (inner_codec (λ k. row_of (level_rows levels k))) label)
+        (flat n)
         (record {
           low = low;
           codec = inner_is_codec (level_rows levels) (level_owes levels);

@@ -1,5 +1,5 @@
 -- The rows of a family agree with its lookups.
-use Rattle.std.specs.Prelude.{◌≡◌, ◌≢◌, ℕ, ◌⊎◌, Result, Ok, Err, refl}
+use Rattle.std.specs.Prelude.{◌≡◌, ◌≢◌, ℕ, ◌⊎◌, Bool, List, Result, Ok, Err, refl}
 use Rattle.std.proofs.Common.{ap, inl, inr, subst, sym, ◌∙◌}
 use Rattle.nla_frame.specs.Attribute.{Attribute, masked}
 use Rattle.nla_frame.specs.Kept.{kept}
@@ -10,34 +10,41 @@ use Rattle.nla_frame.specs.declared.error.DecodeError.{DecodeError}
 use Rattle.nla_frame.specs.declared.error.Family.{Family}
 use Rattle.linkinfo_shapes.specs.Shapes.{Carrier, IsPlain, means}
 use Rattle.linkinfo_shapes.specs.declared.shape.Shape.{Shape}
-use Rattle.linkinfo_shapes.specs.declared.shape.Shape.TheVariants.{Peer, SelfList}
-use Rattle.linkinfo_table.specs.Codecs.{Own, PayloadError}
+use Rattle.linkinfo_shapes.specs.declared.shape.Shape.TheVariants.{Nested, Peer, SelfList}
+use Rattle.linkinfo_table.specs.Codecs.{Codec, Inside, Own, PayloadError}
 use Rattle.linkinfo_table.specs.FamilyRows.{
   FamilyRow,
   Plain,
   Custom,
   Refuses,
   Absent,
-  IsFlat,
-  IsUnnested,
   RowOwes,
   lookup_of,
   own,
   row_of,
 }
 use Rattle.linkinfo_table.specs.Lookups.{LookupSays, MeansDatum, own_error}
-use Rattle.linkinfo_table.specs.Rows.{error_at, labelled, meaning_in, row_meaning}
+use Rattle.linkinfo_table.specs.Named.{IsNamed}
+use Rattle.linkinfo_table.specs.Payloads.{IsPayload}
+use Rattle.linkinfo_table.specs.RowLaws.{masked_written}
+use Rattle.linkinfo_table.specs.Rows.{
+  Entry,
+  Is,
+  error_at,
+  labelled,
+  meaning_in,
+  row_meaning,
+  written_kind,
+}
+use Rattle.linkinfo_table.specs.TypedRows.{IsTyped, payload_not_list, payload_not_plain}
 use Rattle.linkinfo_table.specs.declared.lookup.Lookup.{Lookup}
 use Rattle.linkinfo_table.specs.declared.lookup.Lookup.TheVariants as lookup
 
-pub flat_unnested : {F : Type 0} (r : FamilyRow F) → IsFlat r → IsUnnested r
-flat_unnested (Plain shape label) h = h
-flat_unnested (Custom shape codec label) h = absurd h
-flat_unnested (Refuses cause) h = tt
-flat_unnested Absent h = tt
-
 pub list_no_peer : SelfList ≡ Peer → ⊥
 list_no_peer e = absurd cc
+
+pub list_no_nest : (family : Family) → SelfList ≡ Nested family → ⊥
+list_no_nest family e = absurd cc
 
 abbrev bad : {X : Type 0} → DecodeError → Result X DecodeError
 bad e = Err e
@@ -45,8 +52,8 @@ bad e = Err e
 abbrev good : {X : Type 0} → X → Result X DecodeError
 good x = Ok x
 
-module _ {C F : Type 0} (f : Family) (other : DefaultNla → F) (canonical attribute : F → Attribute)
-    (written : (x : F) → attribute x ≡ canonical x)
+module _ {C F : Type 0} (f : Family) (inside : List Family) (other : DefaultNla → F)
+    (canonical attribute : F → Attribute) (written : (x : F) → attribute x ≡ canonical x)
     (meaning : C → Attribute → Result F DecodeError) where
   bad_same : (d e : DecodeError) → bad {X = F} d ≡ bad e → d ≡ e
   bad_same d e h = cc
@@ -54,65 +61,107 @@ module _ {C F : Type 0} (f : Family) (other : DefaultNla → F) (canonical attri
   good_same : (x y : F) → good x ≡ good y → x ≡ y
   good_same x y h = cc
 
-  pub row_says : (r : FamilyRow F) (a : Attribute) → IsUnnested r →
+  -- the type of a value is the one that its row is written with
+  kind_of : (a : Attribute) (e : Entry F) → RowOwes canonical (masked a.kind) (Is e) → (x : F) →
+      labelled f (masked a.kind) e.label (e.codec.means a.value) ≡ Ok x →
+      (attribute x).kind ≡ written_kind e.nested (masked a.kind)
+  kind_of a e owes x h = go (e.codec.means a.value) h
+    where
+      go : (m : Result e.codec.Carrier PayloadError) →
+          labelled f (masked a.kind) e.label m ≡ Ok x →
+          (attribute x).kind ≡ written_kind e.nested (masked a.kind)
+      go (Ok u) h =
+          ap (λ (z : F). (attribute z).kind) (good_same x (e.label u) (sym h))
+          ∙ ap (λ (b : Attribute). b.kind) (written (e.label u) ∙ owes.keeps u)
+      go (Err error) h = absurd cc
+
+  -- an error of a row is the one of its payload
+  error_of : (a : Attribute) (e : Entry F) (d : DecodeError) →
+      labelled f (masked a.kind) e.label (e.codec.means a.value) ≡ Err d →
+      (error : PayloadError) × (e.codec.means a.value ≡ Err error)
+      × (d ≡ error_at f (masked a.kind) error)
+  error_of a e d h = go (e.codec.means a.value) refl h
+    where
+      go : (m : Result e.codec.Carrier PayloadError) → e.codec.means a.value ≡ m →
+          labelled f (masked a.kind) e.label m ≡ Err d →
+          (error : PayloadError) × (e.codec.means a.value ≡ Err error)
+          × (d ≡ error_at f (masked a.kind) error)
+      go (Ok u) k h = absurd cc
+      go (Err error) k h = (error, k, sym (bad_same _ d h))
+
+  inner_named : (shape : Shape) (codec : Codec) (n : ℕ) (p : List ℕ) →
+      IsPayload shape inside codec → (inner : Family) → shape ≡ Nested inner →
+      (error : PayloadError) → codec.means p ≡ Err error → IsNamed inside (error_at f n error)
+  inner_named shape codec n p payload inner is (Own cause) h =
+      absurd (payload.nest inner is p cause h)
+  inner_named shape codec n p payload inner is (Inside e) h = payload.named p e h
+
+  pub row_says : (r : FamilyRow F) (a : Attribute) → IsTyped inside r →
       RowOwes canonical (masked a.kind) (row_of r) →
-      LookupSays f other attribute meaning a (lookup_of r) (row_meaning f other (row_of r) a)
+      LookupSays f inside other attribute meaning a (lookup_of r)
+      (row_meaning f other (row_of r) a)
   row_says (Plain shape label) a plain owes = record {
     plain = λ _. go (means shape a.value);
     list = λ e. absurd (subst IsPlain e plain);
     peer = λ e. absurd (subst IsPlain e plain);
     peer_typed = λ e. absurd (subst IsPlain e plain);
+    nest = λ inner e. absurd (subst IsPlain e plain);
+    nest_typed = λ inner e. absurd (subst IsPlain e plain);
   }
     where
       go : (m : Result (Carrier shape) Cause) →
           MeansDatum f attribute a shape m (labelled f (masked a.kind) label (own m))
       go (Ok u) = (label u, refl, written (label u) ∙ owes.keeps u)
       go (Err c) = refl
-  row_says (Custom shape codec label) a peer owes = record {
-    plain = λ p. absurd (subst IsPlain peer.0 p);
-    list = λ e. absurd (list_no_peer (sym e ∙ peer.0));
-    peer = λ e d h. go (codec.means a.value) (peer.1 a.value) d h;
-    peer_typed = λ e x h. kind_of (codec.means a.value) x h;
-  }
-    where
-      kind_of : (m : Result codec.Carrier PayloadError) → (x : F) →
-          labelled f (masked a.kind) label m ≡ Ok x → (attribute x).kind ≡ masked a.kind
-      kind_of (Ok u) x h =
-          ap (λ (z : F). (attribute z).kind) (good_same x (label u) (sym h))
-          ∙ ap (λ (b : Attribute). b.kind) (written (label u) ∙ owes.keeps u)
-      kind_of (Err error) x h = absurd cc
-
-      go : (m : Result codec.Carrier PayloadError) →
-          ((error : PayloadError) → m ≡ Err error → error ≡ Own cause.Peer) → (d : DecodeError) →
-          labelled f (masked a.kind) label m ≡ Err d → d ≡ own_error f a cause.Peer
-      go (Ok u) only d h = absurd cc
-      go (Err error) only d h =
-          sym (bad_same _ d h)
-          ∙ ap (λ (z : PayloadError). error_at f (masked a.kind) z) (only error refl)
+  row_says (Custom shape nested codec label) a typed owes =
+      let payload = typed.0 in
+      let entry : Entry F = record { nested = nested; codec = codec; label = label } in record {
+        plain = λ p. absurd (payload_not_plain shape payload.shaped p);
+        list = λ e. absurd (payload_not_list shape payload.shaped e);
+        peer = λ e d h.
+            let error = error_of a entry d h in
+            error.2
+            ∙ ap (λ (z : PayloadError). error_at f (masked a.kind) z)
+            (payload.peer e a.value error.0 error.1);
+        peer_typed = λ e x h.
+            kind_of a entry owes x h
+            ∙ ap (λ (b : Bool). written_kind b (masked a.kind)) (typed.1 e);
+        nest = λ inner e d h.
+            let error = error_of a entry d h in
+            subst (λ (z : DecodeError). IsNamed inside z) (sym error.2)
+            (inner_named shape codec (masked a.kind) a.value payload inner e error.0 error.1);
+        nest_typed = λ inner e x h.
+            ap masked (kind_of a entry owes x h) ∙ masked_written nested (masked a.kind) owes.low;
+      }
   row_says (Refuses c) a h owes = refl
   row_says Absent a h owes = refl
 
-  pub rows_say : (rows : ℕ → FamilyRow F) (a : Attribute) → IsUnnested (rows (masked a.kind)) →
+  pub rows_say : (rows : ℕ → FamilyRow F) (a : Attribute) → IsTyped inside (rows (masked a.kind)) →
       RowOwes canonical (masked a.kind) (row_of (rows (masked a.kind))) →
-      LookupSays f other attribute meaning a (lookup_of (rows (masked a.kind)))
+      LookupSays f inside other attribute meaning a (lookup_of (rows (masked a.kind)))
       (meaning_in f other (λ n. row_of (rows n)) a)
   unfolding meaning_in
-  rows_say rows a unnested owes = row_says (rows (masked a.kind)) a unnested owes
+  rows_say rows a typed owes = row_says (rows (masked a.kind)) a typed owes
 
--- a shape is read by the table, or is one of the two that a family reads itself
-pub which : (shape : Shape) → IsPlain shape ⊎ ((shape ≡ SelfList) ⊎ (shape ≡ Peer))
+-- a shape is read by the table, or is one of the three that a family reads itself
+pub which : (shape : Shape) →
+    IsPlain shape
+    ⊎ ((shape ≡ SelfList) ⊎ ((shape ≡ Peer) ⊎ ((inner : Family) × (shape ≡ Nested inner))))
 which SelfList = inr (inl refl)
-which Peer = inr (inr refl)
+which Peer = inr (inr (inl refl))
+which (Nested inner) = inr (inr (inr (inner, refl)))
 which _ = inl tt
 
 -- an attribute's own error has its family and its masked type; the error of an attribute inside a
 -- list need not
-pub own_family : {C X : Type 0} (f : Family) (keeping : DefaultNla → X) (attribute : X → Attribute)
-    (meaning : C → Attribute → Result X DecodeError) (a : Attribute)
-    (l : Lookup) (m : Result X DecodeError) → LookupSays f keeping attribute meaning a l m →
-    l ≢ lookup.Is SelfList → (e : DecodeError) → m ≡ Err e →
+pub own_family : {C X : Type 0} (f : Family) (inside : List Family) (keeping : DefaultNla → X)
+    (attribute : X → Attribute) (meaning : C → Attribute → Result X DecodeError) (a : Attribute)
+    (l : Lookup) (m : Result X DecodeError) →
+    LookupSays f inside keeping attribute meaning a l m → l ≢ lookup.Is SelfList →
+    ((inner : Family) → l ≢ lookup.Is (Nested inner)) → (e : DecodeError) → m ≡ Err e →
     (e.family ≡ f) × (e.kind ≡ masked a.kind)
-own_family {X = X} f keeping attribute meaning a l m says no_list e h = go l says no_list
+own_family {X = X} f inside keeping attribute meaning a l m says no_list no_nest e h =
+    go l says no_list no_nest
   where
     named : (c : Cause) → e ≡ own_error f a c → (e.family ≡ f) × (e.kind ≡ masked a.kind)
     named c k = (ap (λ (d : DecodeError). d.family) k, ap (λ (d : DecodeError). d.kind) k)
@@ -128,15 +177,19 @@ own_family {X = X} f keeping attribute meaning a l m says no_list e h = go l say
     by_datum shape (Ok u) k = absurd (apart k.0 k.1)
     by_datum shape (Err c) k = named c (same (own_error f a c) k)
 
-    go : (l : Lookup) → LookupSays f keeping attribute meaning a l m → l ≢ lookup.Is SelfList →
+    go : (l : Lookup) → LookupSays f inside keeping attribute meaning a l m →
+        l ≢ lookup.Is SelfList → ((inner : Family) → l ≢ lookup.Is (Nested inner)) →
         (e.family ≡ f) × (e.kind ≡ masked a.kind)
-    go (lookup.Is s) k never =
+    go (lookup.Is s) k no_list no_nest =
         elim (which s) [
           | inl plain ↦ by_datum s (means s a.value) (k.plain plain)
           | inr other ↦ elim other [
-            | inl list ↦ absurd (never (ap lookup.Is list))
-            | inr peer ↦ named cause.Peer (k.peer peer e h)
+            | inl list ↦ absurd (no_list (ap lookup.Is list))
+            | inr more ↦ elim more [
+              | inl peer ↦ named cause.Peer (k.peer peer e h)
+              | inr nest ↦ absurd (no_nest nest.0 (ap lookup.Is nest.1))
+            ]
           ]
         ]
-    go (lookup.Refused c) k never = named c (same (own_error f a c) k)
-    go lookup.Unknown k never = absurd (apart (keeping (kept a)) k)
+    go (lookup.Refused c) k no_list no_nest = named c (same (own_error f a c) k)
+    go lookup.Unknown k no_list no_nest = absurd (apart (keeping (kept a)) k)

@@ -10,9 +10,10 @@ use Rattle.nla_frame.specs.declared.error.DecodeError.{DecodeError}
 use Rattle.nla_frame.specs.declared.error.Family.{Family}
 use Rattle.linkinfo_shapes.specs.Shapes.{Carrier, IsPlain, means}
 use Rattle.linkinfo_shapes.specs.declared.shape.Shape.{Shape}
-use Rattle.linkinfo_shapes.specs.declared.shape.Shape.TheVariants.{Peer, SelfList}
+use Rattle.linkinfo_shapes.specs.declared.shape.Shape.TheVariants.{Nested, Peer, SelfList}
 use Rattle.linkinfo_table.specs.FamilyRows.{typed}
 use Rattle.linkinfo_table.specs.Lists.{values}
+use Rattle.linkinfo_table.specs.Named.{IsNamed}
 use Rattle.linkinfo_table.specs.declared.lookup.Lookup.{Lookup}
 use Rattle.linkinfo_table.specs.declared.lookup.Lookup.TheVariants as lookup
 
@@ -41,24 +42,30 @@ HoldsList attribute a (Err e) m = m ≡ Err e
 -- What the shape of its type says of the meaning `m` of an attribute, where `meaning c` is what
 -- attributes of the family mean under `c`. A shape of the table is the one by which the payload is
 -- read. An address list is a list of the family's attributes, under some context. A peer is of the
--- masked type, and its only error is the cause Peer.
-pub record ShapeSays {C X : Type 0} (family : Family) (attribute : X → Attribute)
-    (meaning : C → Attribute → Result X DecodeError) (a : Attribute) (shape : Shape)
-    (m : Result X DecodeError) : Type 0 where
+-- masked type, and its only error is the cause Peer. A list of another family is of the masked
+-- type, but for flag bits, and its errors are those of the families inside.
+pub record ShapeSays {C X : Type 0} (family : Family) (inside : List Family)
+    (attribute : X → Attribute) (meaning : C → Attribute → Result X DecodeError) (a : Attribute)
+    (shape : Shape) (m : Result X DecodeError) : Type 0 where
   pub plain : IsPlain shape → MeansDatum family attribute a shape (means shape a.value) m
   pub list : shape ≡ SelfList →
       (c : C) × HoldsList attribute a (values (meaning c) (nla_items a.value)) m
   pub peer : shape ≡ Peer → (e : DecodeError) → m ≡ Err e → e ≡ own_error family a cause.Peer
   pub peer_typed : shape ≡ Peer → (x : X) → m ≡ Ok x → (attribute x).kind ≡ masked a.kind
+  pub nest : (inner : Family) → shape ≡ Nested inner → (e : DecodeError) → m ≡ Err e →
+      IsNamed inside e
+  pub nest_typed : (inner : Family) → shape ≡ Nested inner → (x : X) → m ≡ Ok x →
+      masked (attribute x).kind ≡ masked a.kind
 
 -- a rejection is the attribute's own error, and an attribute of an unknown type is opaque
-abbrev pub LookupSays : {C X : Type 0} → Family → (DefaultNla → X) → (X → Attribute) →
-    (C → Attribute → Result X DecodeError) → Attribute → Lookup → Result X DecodeError → Type 0
-LookupSays family keeping attribute meaning a (lookup.Is shape) m =
-    ShapeSays family attribute meaning a shape m
-LookupSays family keeping attribute meaning a (lookup.Refused cause) m =
+abbrev pub LookupSays : {C X : Type 0} → Family → List Family → (DefaultNla → X) →
+    (X → Attribute) → (C → Attribute → Result X DecodeError) → Attribute → Lookup →
+    Result X DecodeError → Type 0
+LookupSays family inside keeping attribute meaning a (lookup.Is shape) m =
+    ShapeSays family inside attribute meaning a shape m
+LookupSays family inside keeping attribute meaning a (lookup.Refused cause) m =
     m ≡ Err (own_error family a cause)
-LookupSays family keeping attribute meaning a lookup.Unknown m = m ≡ Ok (keeping (kept a))
+LookupSays family inside keeping attribute meaning a lookup.Unknown m = m ≡ Ok (keeping (kept a))
 
 -- An attribute of such a type contains no others: its type has a shape of the table, is rejected,
 -- or has none.

@@ -20,9 +20,13 @@ use Rattle.std.proofs.Common.{arith, ap}
 use Rattle.nla_frame.specs.Attribute.{IsBytes}
 use Rattle.nla_frame.specs.Error.{memory_error}
 use Rattle.nla_frame.specs.declared.error.Cause.TheVariants as cause
+use Rattle.nla_frame.specs.declared.error.DecodeError.{DecodeError}
+use Rattle.nla_frame.specs.declared.error.Family.{Family}
+use Rattle.linkinfo_shapes.specs.declared.shape.Shape.TheVariants.{Nested, Peer}
 use Rattle.linkinfo_table.specs.declared.peer.PeerFault.{PeerFault}
 use Rattle.linkinfo_table.specs.declared.peer.PeerFault.TheVariants as error
 use Rattle.linkinfo_table.specs.Codecs.{Codec, PayloadError, Own, Inside, IsCodec}
+use Rattle.linkinfo_table.specs.Payloads.{IsPayload}
 
 -- the result of reading a peer: its meaning; `Refused` only if there is none; or `Memory`
 abbrev pub PeerGives : {P : Type 0} → Result P PeerFault → Option P → Type 0
@@ -86,4 +90,27 @@ peer_is_codec meaning alike payload well lawful = record {
   quarter = λ p. omega arith;
   no_own_memory = λ p. not_memory (meaning p);
   no_inner_memory = λ p. not_inside (meaning p);
+}
+
+only_peer : {P : Type 0} (o : Option P) (error : PayloadError) → peer_or_error o ≡ Err error →
+    error ≡ Own cause.Peer
+only_peer (Some y) error h = absurd cc
+only_peer None error h = cc
+
+never_inside : {P : Type 0} (o : Option P) (e : DecodeError) → peer_or_error o ≡ Err (Inside e) → ⊥
+never_inside (Some y) e h = absurd cc
+never_inside None e h = absurd cc
+
+peer_no_nest : (family : Family) → Peer ≡ Nested family → ⊥
+peer_no_nest family h = absurd cc
+
+pub peer_is_payload : {P : Type 0} (meaning : List ℕ → Option P) (alike : List ℕ → List ℕ → Bool)
+    (payload : P → List ℕ) (well : P → Type 0) → IsPeer meaning alike payload well →
+    IsPayload Peer [] (peer_codec meaning alike payload well)
+peer_is_payload meaning alike payload well lawful = record {
+  shaped = tt;
+  codec = peer_is_codec meaning alike payload well lawful;
+  named = λ p e h. absurd (never_inside (meaning p) e h);
+  nest = λ family e. absurd (peer_no_nest family e);
+  peer = λ _ p error h. only_peer (meaning p) error h;
 }

@@ -7,7 +7,9 @@ use Rattle.std.specs.Prelude.{
   ◌<◌,
   ◌≤◌,
   ◌==◌,
+  Bool,
   true,
+  false,
   List,
   length,
   Result,
@@ -41,6 +43,7 @@ use Rattle.linkinfo_table.specs.Rows.{
   WellAt,
   WellFormed,
   IsRow,
+  written_kind,
 }
 
 abbrev good : {A : Type 0} → A → Result A DecodeError
@@ -49,8 +52,14 @@ good x = Ok x
 good_same : {A : Type 0} (x y : A) → good x ≡ good y → x ≡ y
 good_same x y e = cc
 
-masked_masked : (n : ℕ) → masked (masked n) ≡ masked n
-masked_masked n = omega arith
+-- the type that is written for a row has the row's number, and 16 bits
+pub masked_written : (nested : Bool) (n : ℕ) → n < 16384 → masked (written_kind nested n) ≡ n
+masked_written true n low = omega (arith, low)
+masked_written false n low = omega (arith, low)
+
+pub written_below : (nested : Bool) (n : ℕ) → n < 16384 → written_kind nested n < 65536
+written_below true n low = omega (arith, low)
+written_below false n low = omega (arith, low)
 
 -- equivalent attributes have equal masked types
 pub alike_masked : {F : Type 0} (r : Row F) (a b : Attribute) → row_alike r a b ≡ true →
@@ -84,9 +93,9 @@ module _ {F : Type 0} (f : Family) (other : DefaultNla → F) (attribute : F →
   read_as (Refused cause) a x h = absurd cc
   read_as Unknown a x h = good_same _ _ h
 
-  -- a value has the attribute's own masked type, and keeps the whole type if there is no row
+  -- a value has the type that its row is written with, and keeps the whole type if there is no row
   abbrev KindOf : Row F → Attribute → F → Type 0
-  KindOf (Is e) a x = (attribute x).kind ≡ masked a.kind
+  KindOf (Is e) a x = (attribute x).kind ≡ written_kind e.nested (masked a.kind)
   KindOf (Refused cause) a x = ⊥
   KindOf Unknown a x = (attribute x).kind ≡ a.kind
 
@@ -103,7 +112,9 @@ module _ {F : Type 0} (f : Family) (other : DefaultNla → F) (attribute : F →
 
   masked_of : (r : Row F) (a : Attribute) (x : F) → rows (masked a.kind) ≡ r → ReadAs r a x →
       masked (attribute x).kind ≡ masked a.kind
-  masked_of (Is e) a x h p = ap masked (kind_of (Is e) a x h p) ∙ masked_masked a.kind
+  masked_of (Is e) a x h p =
+      ap masked (kind_of (Is e) a x h p)
+      ∙ masked_written e.nested (masked a.kind) (is_row (masked a.kind) e h).low
   masked_of (Refused cause) a x h p = absurd (kind_of (Refused cause) a x h p)
   masked_of Unknown a x h p = ap masked (kind_of Unknown a x h p)
 
@@ -218,11 +229,12 @@ module _ {F : Type 0} (f : Family) (other : DefaultNla → F) (attribute : F →
       ap (λ (z : Attribute). z.value) spelled in
       let small : length (e.codec.canon w.0) ≤ 65531 =
       subst (λ (p : List ℕ). length p ≤ 65531) value fits in
-      let kind : (attribute x).kind ≡ masked (attribute x).kind =
+      let kind : (attribute x).kind ≡ written_kind e.nested (masked (attribute x).kind) =
       ap (λ (z : Attribute). z.kind) spelled in
-      let low = row.low in
       record {
-        kind = omega (arith, kind, low);
+        kind =
+            subst (λ (n : ℕ). n < 65536) (sym kind)
+            (written_below e.nested (masked (attribute x).kind) row.low);
         short = fits;
         bytes = subst IsBytes (sym value) (row.codec.bytes w.0 w.1 small);
       }

@@ -1,6 +1,6 @@
 -- A family by its rows: what an attribute means, which attributes are equivalent, and which values
 -- are well formed.
-use Rattle.std.specs.Prelude.{◌≡◌, ℕ, ◌<◌, ◌==◌, ◌&&◌, Bool, true, false, Result, Ok, Err}
+use Rattle.std.specs.Prelude.{◌≡◌, ℕ, ◌+◌, ◌<◌, ◌==◌, ◌&&◌, Bool, true, false, Result, Ok, Err}
 use Rattle.std.specs.Str.{bytes_eq}
 use Rattle.nla_frame.specs.Attribute.{Attribute, IsBytes, masked}
 use Rattle.nla_frame.specs.Kept.{kept}
@@ -10,10 +10,17 @@ use Rattle.nla_frame.specs.declared.error.DecodeError.{DecodeError}
 use Rattle.nla_frame.specs.declared.default_nla.DefaultNla.{DefaultNla}
 use Rattle.linkinfo_table.specs.Codecs.{Codec, PayloadError, Own, Inside, IsCodec}
 
--- a label, and the codec of what it holds
+-- a label, and the codec of what it holds; whether attributes are written with NLA_F_NESTED
 pub record Entry (F : Type 0) : Type 1 where
+  pub nested : Bool
   pub codec : Codec
   pub label : codec.Carrier → F
+
+-- the type that attributes of a row are written with: its number, and NLA_F_NESTED (0x8000) if the
+-- row says so
+abbrev pub written_kind : Bool → ℕ → ℕ
+written_kind true number = number + 32768
+written_kind false number = number
 
 -- how a family reads a masked type
 pub data Row (F : Type 0) : Type 1 where
@@ -83,11 +90,12 @@ unfoldable pub WellFormed : {F : Type 0} → (DefaultNla → F) → (F → Attri
 WellFormed other attribute rows x = WellAt other (rows (masked (attribute x).kind)) x
 
 -- What each row of a family owes: its number is a masked type, its codec is lawful, its label keeps
--- type and datum.
+-- the type that is written and the datum.
 pub record IsRow {F : Type 0} (attribute : F → Attribute) (number : ℕ) (e : Entry F) : Type 0 where
   pub low : number < 16384
   pub codec : IsCodec e.codec
   pub keeps : (x : e.codec.Carrier) →
-      attribute (e.label x) ≡ record { kind = number; value = e.codec.canon x }
+      attribute (e.label x)
+      ≡ record { kind = written_kind e.nested number; value = e.codec.canon x }
   pub same : (x y : e.codec.Carrier) → e.codec.Holds x → e.codec.Holds y → e.label x ≡ e.label y →
       x ≡ y

@@ -16,6 +16,7 @@ ghost use Rattle.std.specs.Prelude.{
   Err,
   Ok,
   IsOk,
+  List,
   OnErr,
   Result,
   SomeIff,
@@ -58,6 +59,10 @@ pub trait LinkFamily: Nla + Sized + Drop {
     const FAMILY: Family;
 
     ghost FAMILY: { Family };
+
+    /// The families of the attributes in lists inside an attribute, at every depth. A list of the
+    /// family itself adds none.
+    ghost inside: { List Family };
 
     /// How the family reads each type without flag bits.
     ghost lookup: { Self.Context → ℕ → Lookup };
@@ -161,7 +166,7 @@ pub trait LinkFamily: Nla + Sized + Drop {
     ghost keeps: { (nla : DefaultNla) → Self.attribute (keeping nla) ≡ attribute_of nla };
 
     ghost looked_up: { (c : Self.Context) (a : Attribute) →
-        LookupSays FAMILY keeping Self.attribute meaning a (lookup c (masked a.kind))
+        LookupSays FAMILY inside keeping Self.attribute meaning a (lookup c (masked a.kind))
         (meaning c a) };
 
     ghost lawful: { (c : Self.Context) →

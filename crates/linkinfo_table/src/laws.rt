@@ -6,6 +6,7 @@ ghost use Rattle.std.specs.Prelude.{
   ◌↔◌,
   ◌==◌,
   ◌&&◌,
+  ◌∷◌,
   ℕ,
   false,
   Err,
@@ -25,7 +26,8 @@ ghost use Rattle.linkinfo_shapes.specs.declared.shape.Shape.TheVariants as shape
 ghost use Rattle.linkinfo_table.specs.declared.lookup.Lookup.TheVariants as lookup;
 ghost use Rattle.linkinfo_table.specs.Conditions.{opaque_conditions};
 ghost use Rattle.linkinfo_table.specs.FamilyRows.{SameDecoded, SameEncodable};
-ghost use Rattle.linkinfo_table.specs.ErrorNames.{EachNames};
+ghost use Rattle.linkinfo_table.specs.Named.{EachNamed};
+ghost use Rattle.nla_frame.specs.declared.error.Family.{Family};
 ghost use Rattle.linkinfo_table.specs.declared.decoded.Decoded.{Decoded};
 ghost use Rattle.linkinfo_table.specs.declared.encodable.Encodable.{Encodable};
 ghost use Rattle.linkinfo_table.specs.declared.opaque.Opaque.{Opaque};
@@ -107,23 +109,25 @@ pub fn lawful<F: LinkFamily>()
 /// the family and that type.
 pub fn looked_up<F: LinkFamily>(ctx: F::Context)
     ensures says { (a : Attribute) →
-        LookupSays F.FAMILY F.keeping F.attribute F.meaning a (F.lookup ctx (masked a.kind))
-        (F.meaning ctx a) }
+        LookupSays F.FAMILY F.inside F.keeping F.attribute F.meaning a
+        (F.lookup ctx (masked a.kind)) (F.meaning ctx a) }
     ensures kept { (nla : DefaultNla) → F.attribute (F.keeping nla) ≡ attribute_of nla }
     ensures own_error { (a : Attribute) (e : DecodeError) →
-        F.lookup ctx (masked a.kind) ≢ lookup.Is shape.SelfList → F.meaning ctx a ≡ Err e →
-        (e.family ≡ F.FAMILY) × (e.kind ≡ masked a.kind) }
+        F.lookup ctx (masked a.kind) ≢ lookup.Is shape.SelfList →
+        ((inner : Family) → F.lookup ctx (masked a.kind) ≢ lookup.Is (shape.Nested inner)) →
+        F.meaning ctx a ≡ Err e → (e.family ≡ F.FAMILY) × (e.kind ≡ masked a.kind) }
 {}
 
 /// Each error of an attribute, of a list of attributes and of a first attribute either is that of a
-/// rejected header, `(Frame, 0, Header)`, or has the name of the family. This holds at any depth of
-/// nested lists.
+/// rejected header, `(Frame, 0, Header)`, or has the name of the family or of a family inside. This
+/// holds at any depth of nested lists.
 pub fn errors_named<F: LinkFamily>()
-    ensures attribute { (c : F.Context) (a : Attribute) → EachNames F.FAMILY (F.meaning c a) }
+    ensures attribute { (c : F.Context) (a : Attribute) →
+        EachNamed (F.FAMILY ∷ F.inside) (F.meaning c a) }
     ensures list { (c : F.Context) (bytes : List ℕ) →
-        EachNames F.FAMILY (values (F.meaning c) (nla_items bytes)) }
+        EachNamed (F.FAMILY ∷ F.inside) (values (F.meaning c) (nla_items bytes)) }
     ensures first { (c : F.Context) (bytes : List ℕ) →
-        EachNames F.FAMILY (first_meaning (F.meaning c) (nla_items bytes)) }
+        EachNamed (F.FAMILY ∷ F.inside) (first_meaning (F.meaning c) (nla_items bytes)) }
 {}
 
 /// An attribute that contains neither a list of its family nor a peer, and is rejected, needs no

@@ -3,26 +3,33 @@
 
 mod by_rows;
 mod canonical;
+mod custom_rows;
 mod decoded;
 mod encodable;
 pub mod encodables;
 mod family;
 mod first;
-mod flat;
 mod last;
 pub mod laws;
 mod list;
+mod list_payload;
 mod listed;
 mod lookup;
 pub mod lower;
 pub mod lower_laws;
 pub mod opaque;
+mod payload;
+mod payload_calls;
+mod payload_row;
 mod peer;
+mod peer_payload;
 mod row_family;
 mod rows;
 mod slot;
+mod table_family;
 
 pub use canonical::{row_canonical_len, row_write_canonical};
+pub use custom_rows::CustomRows;
 pub use decoded::Decoded;
 pub use encodable::Encodable;
 pub use family::LinkFamily;
@@ -30,16 +37,19 @@ pub use first::{first_check, first_measure, first_read, first_same, first_write_
 pub use last::{INDEXED, LastOfType, PlacedNla, own_bytes, types_end};
 pub use linkinfo_shapes::{
     Datum, Shape, datum_len, read_datum, shape_canonical_len, shape_check, shape_same,
-    shape_write_attribute, shape_write_canonical, table_shape, write_datum,
+    shape_write_attribute, shape_write_canonical, table_shape, typed_shape, write_datum,
 };
 pub use list::{list_check, list_measure, list_read, list_same, list_write_canonical, total_with};
 pub use listed::ListedFamily;
 pub use lookup::Lookup;
 pub use opaque::Opaque;
+pub use payload::LinkPayload;
+pub use payload_row::PayloadRow;
 pub use peer::{LinkPeer, PeerFault};
-pub use row_family::{FlatFamily, RowFamily};
+pub use row_family::RowFamily;
 pub use rows::{
     row_check, row_emit_payload, row_emit_value, row_fit_len, row_kind, row_read, row_same,
-    row_store, row_value_len, table_lookup,
+    row_store, row_value_len, table_lookup, typed_lookup,
 };
 pub use slot::Slot;
+pub use table_family::TableFamily;

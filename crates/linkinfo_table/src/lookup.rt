@@ -15,7 +15,16 @@ pub enum Lookup {
 }
 
 impl ExactEq for Lookup {
-    ghost use Rattle.std.proofs.Common.{rules};
+    ghost use Rattle.nla_frame.specs.Derived.{derived_decides, no_field, one_field};
+    ghost use Rattle.nla_frame.specs.Pairs.{◌&◌};
+    ghost use Rattle.nla_frame.specs.contracts.exact_eq.CauseExactEq.TheImpl.Laws.{
+      exact-law as cause_exact,
+    };
+    ghost use Rattle.linkinfo_shapes.specs.contracts.shape.ShapeExactEq.TheImpl.Laws.{
+      exact-law as shape_exact,
+    };
+    ghost use Rattle.linkinfo_table.specs.contracts.lookup.Lookup.{enum};
 
-    ghost exact = { Prim.search rules };
+    ghost exact = { derived_decides enum _
+        (one_field shape_exact & one_field cause_exact & no_field & tt) };
 }

@@ -9,8 +9,9 @@ ghost use Rattle.linkinfo_table.specs.declared.opaque.Opaque.TheVariants as opaq
 use crate::decoded::Decoded;
 use crate::encodable::Encodable;
 use crate::lookup::Lookup;
-use crate::row_family::{FlatFamily, RowFamily};
+use crate::row_family::RowFamily;
 use crate::slot::Slot;
+use crate::table_family::TableFamily;
 use nla_frame::{DecodeError, DefaultNla, ExactEq, Family, Nla, NlaBuffer, Parseable};
 use std::alloc::{AllocError, Global};
 
@@ -156,10 +157,12 @@ impl<const NUMBER: u8> Nla for Opaque<NUMBER> {
     }
 }
 
-impl<const NUMBER: u8> FlatFamily for Opaque<NUMBER> {
-    ghost flat = { λ _ _. tt };
+impl<const NUMBER: u8> TableFamily for Opaque<NUMBER> {
+    type Custom = ();
 
-    ghost never_custom = { λ _. refl };
+    ghost flat_elsewhere = { λ _ _ _. tt };
+
+    ghost plain_elsewhere = { λ _ _. refl };
 
     ghost written = { λ _. refl };
 }

@@ -6,7 +6,6 @@ ghost use Rattle.nla_frame.specs.declared.error.Family.{Family};
 ghost use Rattle.nla_frame.specs.declared.default_nla.DefaultNla.{DefaultNla};
 ghost use Rattle.linkinfo_table.specs.FamilyRows.{
   FamilyRow,
-  IsFlat,
   RowOwes,
   Shows,
   Stores,
@@ -20,14 +19,14 @@ use crate::decoded::Decoded;
 use crate::encodable::Encodable;
 use crate::lookup::Lookup;
 use crate::slot::Slot;
-use nla_frame::{DefaultNla, Family, Nla};
+use nla_frame::{DefaultNla, Family};
 use std::alloc::{AllocError, Global};
 
 /// A family defined by rows: for each type a shape, and the variant for its datum.
 ///
 /// A family defines its rows, and these small functions between data and variants. Reading,
 /// checking, comparing, measuring and writing follow from them.
-pub trait RowFamily: Sized + Drop {
+pub trait RowFamily: Sized {
     /// What the meaning of an attribute depends on apart from its bytes.
     type Context: Copy;
 
@@ -77,14 +76,4 @@ pub trait RowFamily: Sized + Drop {
 
     ghost keeps_other: { (d : DefaultNla) →
         canonical (other d) ≡ record { kind = d.kind; value = d.value } };
-}
-
-/// A family in which each row has a shape of the table, and that writes its attributes as its rows
-/// define them. It is a `LinkFamily` by its rows.
-pub trait FlatFamily: RowFamily + Nla {
-    ghost flat: { (c : Self.Context) (n : ℕ) → IsFlat (Self.rows c n) };
-
-    ghost never_custom: { (x : Self) → Self.is_custom x ≡ false };
-
-    ghost written: { (x : Self) → Self.attribute x ≡ Self.canonical x };
 }

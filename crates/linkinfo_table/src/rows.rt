@@ -19,6 +19,7 @@ ghost use Rattle.nla_frame.specs.Attribute.{Fits, masked};
 ghost use Rattle.nla_frame.specs.Writing.{Writes};
 ghost use Rattle.linkinfo_shapes.specs.Shapes.{IsAccepted, IsPlain, payload_alike};
 ghost use Rattle.linkinfo_shapes.specs.Table.{shape_of};
+ghost use Rattle.linkinfo_shapes.specs.Typed.{typed_shape_of};
 ghost use Rattle.linkinfo_table.specs.FamilyMeaning.{alike_by, meaning_by, memory_by};
 ghost use Rattle.linkinfo_table.specs.FamilyRows.{IsFlat, lookup_in};
 ghost use Rattle.linkinfo_table.specs.Lists.{StoreGives, store_memory};
@@ -29,7 +30,7 @@ use crate::lookup::Lookup;
 use crate::row_family::RowFamily;
 use crate::slot::Slot;
 use linkinfo_shapes::{
-    Shape, datum_len, read_datum, shape_check, shape_same, table_shape, write_datum,
+    Shape, datum_len, read_datum, shape_check, shape_same, table_shape, typed_shape, write_datum,
 };
 use nla_frame::{Cause, DecodeError, DefaultNla, Family, Nla, NlaBuffer, Parseable};
 use std::alloc::Global;
@@ -51,6 +52,17 @@ pub fn table_lookup(family: Family, kind: u16) -> Lookup
     ensures { result ≡ lookup_in (shape_of family kind) }
 {
     match table_shape(family, kind) {
+        Some(shape) => Lookup::Is(shape),
+        None => Lookup::Unknown,
+    }
+}
+
+/// How the table of the typed layer reads a type without flag bits: by its shape, or as opaque.
+#[inline(always)]
+pub fn typed_lookup(family: Family, kind: u16) -> Lookup
+    ensures { result ≡ lookup_in (typed_shape_of family kind) }
+{
+    match typed_shape(family, kind) {
         Some(shape) => Lookup::Is(shape),
         None => Lookup::Unknown,
     }
@@ -88,7 +100,7 @@ pub fn row_store<F: RowFamily, P: Slot<F>>(
 }
 
 /// Reads an attribute by its row. Requires that the family does not read the payload itself.
-pub fn row_read<F: RowFamily>(
+pub fn row_read<F: RowFamily + Drop>(
     alloc: Global,
     nla: &NlaBuffer<'_>,
     ctx: F::Context,

@@ -29,8 +29,8 @@ unfolding WellFormed
 bare_udp_stated = elim [
   | bare_udp.Ethertype x ↦ number_label ethernet_protocol_table_holds (2 ^ 16)
       (λ y. bare_udp.Ethertype y) bare_udp_conditions (λ _ is. is) (λ _ is. is) x
-  | bare_udp.Other d ↦ unknown_label
-      (λ z. bare_udp.Other z) bare_udp_attribute bare_udp_rows bare_udp_is_other
-      (λ _. refl) (λ _. refl) (are_typed bare_udp_is_other bare_udp_rows refl) d
+  | bare_udp.Other d ↦ unknown_label (λ z. bare_udp.Other z) bare_udp_attribute
+      bare_udp_rows bare_udp_is_other (λ _. refl) (λ _. refl)
+      (are_typed bare_udp_is_other bare_udp_rows refl) d
   | _ ↦ (λ w. subst bare_udp_conditions w.2 w.1, λ h. (_, h, refl))
 ]

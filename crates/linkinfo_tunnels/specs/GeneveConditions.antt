@@ -37,8 +37,8 @@ unfolding WellFormed
 geneve_stated = elim [
   | geneve.Df x ↦ number_label geneve_df_table_holds 256
       (λ y. geneve.Df y) geneve_conditions (λ _ is. is) (λ _ is. is) x
-  | geneve.Other d ↦ unknown_label
-      (λ z. geneve.Other z) geneve_attribute geneve_rows geneve_is_other (λ _. refl) (λ _. refl)
+  | geneve.Other d ↦ unknown_label (λ z. geneve.Other z) geneve_attribute
+      geneve_rows geneve_is_other (λ _. refl) (λ _. refl)
       (are_typed geneve_is_other geneve_rows refl) d
   | _ ↦ (λ w. subst geneve_conditions w.2 w.1, λ h. (_, h, refl))
 ]

@@ -1,8 +1,8 @@
 // Written by tables/generate from tables/bareudp.
 //! Bare UDP tunnels.
 
-ghost use Rattle.linkinfo_tunnels.specs.declared.bare_udp.InfoBareUdp.TheVariants.{Other};
 ghost use Rattle.linkinfo_tunnels.specs.BareUdp.{bare_udp_attribute, bare_udp_keeps, bare_udp_rows};
+ghost use Rattle.linkinfo_tunnels.specs.declared.bare_udp.InfoBareUdp.TheVariants.{Other};
 ghost use Rattle.linkinfo_table.specs.FamilyMeaning.{table_meaning, table_memory};
 ghost use Rattle.linkinfo_table.specs.FamilyRowLaws.{table_flat, table_owes};
 ghost use Rattle.linkinfo_table.specs.FamilyRows.{table_row};
@@ -11,7 +11,7 @@ ghost use Rattle.std.specs.Prelude.{◌≡◌, false, refl};
 
 use linkinfo_numbers::EthernetProtocol;
 use linkinfo_table::{
-    Decoded, Encodable, FlatFamily, Lookup, RowFamily, Slot, clone_by_rows, encodable_by_rows,
+    Decoded, Encodable, Lookup, RowFamily, Slot, TableFamily, clone_by_rows, encodable_by_rows,
     row_emit_payload, row_emit_value, row_fit_len, row_kind, row_read, row_value_len,
     store_by_rows, table_lookup,
 };
@@ -95,6 +95,17 @@ impl RowFamily for InfoBareUdp {
     }
 }
 
+impl TableFamily for InfoBareUdp {
+    type Custom = ();
+
+    ghost flat_elsewhere = { λ _ n _.
+        table_flat bare_udp_attribute bare_udp_rows bare_udp_keeps n };
+
+    ghost plain_elsewhere = { λ _ _. refl };
+
+    ghost written = { λ _. refl };
+}
+
 impl Nla for InfoBareUdp {
     ghost attribute = { bare_udp_attribute };
 
@@ -117,14 +128,6 @@ impl Nla for InfoBareUdp {
     fn fit_len(&self) -> Option<usize> {
         row_fit_len(self)
     }
-}
-
-impl FlatFamily for InfoBareUdp {
-    ghost flat = { λ _ n. table_flat bare_udp_attribute bare_udp_rows bare_udp_keeps n };
-
-    ghost never_custom = { λ _. refl };
-
-    ghost written = { λ _. refl };
 }
 
 /// Reads the attribute. A payload of invalid length is rejected as `(BareUdp, type, Length)`.

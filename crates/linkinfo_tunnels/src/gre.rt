@@ -1,8 +1,8 @@
 // Written by tables/generate from tables/gre.
 //! GRE tunnels over IPv4.
 
-ghost use Rattle.linkinfo_tunnels.specs.declared.gre.InfoGre.TheVariants.{Other};
 ghost use Rattle.linkinfo_tunnels.specs.Gre.{gre_attribute, gre_keeps, gre_rows};
+ghost use Rattle.linkinfo_tunnels.specs.declared.gre.InfoGre.TheVariants.{Other};
 ghost use Rattle.linkinfo_table.specs.FamilyMeaning.{table_meaning, table_memory};
 ghost use Rattle.linkinfo_table.specs.FamilyRowLaws.{table_flat, table_owes};
 ghost use Rattle.linkinfo_table.specs.FamilyRows.{table_row};
@@ -12,7 +12,7 @@ ghost use Rattle.std.specs.Prelude.{◌≡◌, false, refl};
 use bitflags::Flags;
 use linkinfo_numbers::{ErSpanDir, GreEncapFlags, GreEncapType, GreIOFlags};
 use linkinfo_table::{
-    Decoded, Encodable, FlatFamily, Lookup, RowFamily, Slot, clone_by_rows, encodable_by_rows,
+    Decoded, Encodable, Lookup, RowFamily, Slot, TableFamily, clone_by_rows, encodable_by_rows,
     row_emit_payload, row_emit_value, row_fit_len, row_kind, row_read, row_value_len,
     store_by_rows, table_lookup,
 };
@@ -146,6 +146,16 @@ impl RowFamily for InfoGre {
     }
 }
 
+impl TableFamily for InfoGre {
+    type Custom = ();
+
+    ghost flat_elsewhere = { λ _ n _. table_flat gre_attribute gre_rows gre_keeps n };
+
+    ghost plain_elsewhere = { λ _ _. refl };
+
+    ghost written = { λ _. refl };
+}
+
 impl Nla for InfoGre {
     ghost attribute = { gre_attribute };
 
@@ -168,14 +178,6 @@ impl Nla for InfoGre {
     fn fit_len(&self) -> Option<usize> {
         row_fit_len(self)
     }
-}
-
-impl FlatFamily for InfoGre {
-    ghost flat = { λ _ n. table_flat gre_attribute gre_rows gre_keeps n };
-
-    ghost never_custom = { λ _. refl };
-
-    ghost written = { λ _. refl };
 }
 
 /// Reads the attribute. A payload of invalid length is rejected as `(Gre, type, Length)`.

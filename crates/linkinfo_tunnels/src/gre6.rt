@@ -1,8 +1,8 @@
 // Written by tables/generate from tables/gre6.
 //! GRE tunnels over IPv6.
 
-ghost use Rattle.linkinfo_tunnels.specs.declared.gre6.InfoGre6.TheVariants.{Other};
 ghost use Rattle.linkinfo_tunnels.specs.Gre6.{gre6_attribute, gre6_keeps, gre6_rows};
+ghost use Rattle.linkinfo_tunnels.specs.declared.gre6.InfoGre6.TheVariants.{Other};
 ghost use Rattle.linkinfo_table.specs.FamilyMeaning.{table_meaning, table_memory};
 ghost use Rattle.linkinfo_table.specs.FamilyRowLaws.{table_flat, table_owes};
 ghost use Rattle.linkinfo_table.specs.FamilyRows.{table_row};
@@ -12,7 +12,7 @@ ghost use Rattle.std.specs.Prelude.{◌≡◌, false, refl};
 use bitflags::Flags;
 use linkinfo_numbers::{ErSpanDir, GreEncapFlags, GreEncapType, GreIOFlags};
 use linkinfo_table::{
-    Decoded, Encodable, FlatFamily, Lookup, RowFamily, Slot, clone_by_rows, encodable_by_rows,
+    Decoded, Encodable, Lookup, RowFamily, Slot, TableFamily, clone_by_rows, encodable_by_rows,
     row_emit_payload, row_emit_value, row_fit_len, row_kind, row_read, row_value_len,
     store_by_rows, table_lookup,
 };
@@ -149,6 +149,16 @@ impl RowFamily for InfoGre6 {
     }
 }
 
+impl TableFamily for InfoGre6 {
+    type Custom = ();
+
+    ghost flat_elsewhere = { λ _ n _. table_flat gre6_attribute gre6_rows gre6_keeps n };
+
+    ghost plain_elsewhere = { λ _ _. refl };
+
+    ghost written = { λ _. refl };
+}
+
 impl Nla for InfoGre6 {
     ghost attribute = { gre6_attribute };
 
@@ -171,14 +181,6 @@ impl Nla for InfoGre6 {
     fn fit_len(&self) -> Option<usize> {
         row_fit_len(self)
     }
-}
-
-impl FlatFamily for InfoGre6 {
-    ghost flat = { λ _ n. table_flat gre6_attribute gre6_rows gre6_keeps n };
-
-    ghost never_custom = { λ _. refl };
-
-    ghost written = { λ _. refl };
 }
 
 /// Reads the attribute. A payload of invalid length is rejected as `(Gre6, type, Length)`.

@@ -1,8 +1,8 @@
 // Written by tables/generate from tables/gtp.
 //! GTP tunnels.
 
-ghost use Rattle.linkinfo_tunnels.specs.declared.gtp.InfoGtp.TheVariants.{Other};
 ghost use Rattle.linkinfo_tunnels.specs.Gtp.{gtp_attribute, gtp_keeps, gtp_rows};
+ghost use Rattle.linkinfo_tunnels.specs.declared.gtp.InfoGtp.TheVariants.{Other};
 ghost use Rattle.linkinfo_table.specs.FamilyMeaning.{table_meaning, table_memory};
 ghost use Rattle.linkinfo_table.specs.FamilyRowLaws.{table_flat, table_owes};
 ghost use Rattle.linkinfo_table.specs.FamilyRows.{table_row};
@@ -11,7 +11,7 @@ ghost use Rattle.std.specs.Prelude.{◌≡◌, false, refl};
 
 use linkinfo_numbers::GtpRole;
 use linkinfo_table::{
-    Decoded, Encodable, FlatFamily, Lookup, RowFamily, Slot, clone_by_rows, encodable_by_rows,
+    Decoded, Encodable, Lookup, RowFamily, Slot, TableFamily, clone_by_rows, encodable_by_rows,
     row_emit_payload, row_emit_value, row_fit_len, row_kind, row_read, row_value_len,
     store_by_rows, table_lookup,
 };
@@ -107,6 +107,16 @@ impl RowFamily for InfoGtp {
     }
 }
 
+impl TableFamily for InfoGtp {
+    type Custom = ();
+
+    ghost flat_elsewhere = { λ _ n _. table_flat gtp_attribute gtp_rows gtp_keeps n };
+
+    ghost plain_elsewhere = { λ _ _. refl };
+
+    ghost written = { λ _. refl };
+}
+
 impl Nla for InfoGtp {
     ghost attribute = { gtp_attribute };
 
@@ -129,14 +139,6 @@ impl Nla for InfoGtp {
     fn fit_len(&self) -> Option<usize> {
         row_fit_len(self)
     }
-}
-
-impl FlatFamily for InfoGtp {
-    ghost flat = { λ _ n. table_flat gtp_attribute gtp_rows gtp_keeps n };
-
-    ghost never_custom = { λ _. refl };
-
-    ghost written = { λ _. refl };
 }
 
 /// Reads the attribute. A payload of invalid length is rejected as `(Gtp, type, Length)`.

@@ -20,7 +20,7 @@ use linkinfo_numbers::{
     InfoKind, Ip6TunnelFlags, IpProtocol, KindTag, TunnelEncapFlags, TunnelEncapType,
 };
 use linkinfo_table::{
-    Datum, Decoded, Encodable, FlatFamily, Lookup, RowFamily, Shape, Slot, clone_by_rows,
+    Datum, Decoded, Encodable, Lookup, RowFamily, Shape, Slot, TableFamily, clone_by_rows,
     encodable_by_rows, encodables, row_emit_payload, row_emit_value, row_fit_len, row_kind,
     row_read, row_value_len, store_by_rows, table_lookup,
 };
@@ -226,10 +226,12 @@ impl Nla for InfoIpTunnel {
     }
 }
 
-impl FlatFamily for InfoIpTunnel {
-    ghost flat = { ip_tunnel_flat };
+impl TableFamily for InfoIpTunnel {
+    type Custom = ();
 
-    ghost never_custom = { λ _. refl };
+    ghost flat_elsewhere = { λ tag n _. ip_tunnel_flat tag n };
+
+    ghost plain_elsewhere = { λ _ _. refl };
 
     ghost written = { λ _. refl };
 }

@@ -1,8 +1,8 @@
 // Written by tables/generate from tables/vxlan.
 //! VXLAN tunnels.
 
-ghost use Rattle.linkinfo_tunnels.specs.declared.vxlan.InfoVxlan.TheVariants.{Other};
 ghost use Rattle.linkinfo_tunnels.specs.Vxlan.{vxlan_attribute, vxlan_keeps, vxlan_rows};
+ghost use Rattle.linkinfo_tunnels.specs.declared.vxlan.InfoVxlan.TheVariants.{Other};
 ghost use Rattle.linkinfo_table.specs.FamilyMeaning.{table_meaning, table_memory};
 ghost use Rattle.linkinfo_table.specs.FamilyRowLaws.{table_flat, table_owes};
 ghost use Rattle.linkinfo_table.specs.FamilyRows.{table_row};
@@ -11,7 +11,7 @@ ghost use Rattle.std.specs.Prelude.{◌≡◌, false, refl};
 
 use linkinfo_numbers::VxlanDf;
 use linkinfo_table::{
-    Decoded, Encodable, FlatFamily, Lookup, RowFamily, Slot, clone_by_rows, encodable_by_rows,
+    Decoded, Encodable, Lookup, RowFamily, Slot, TableFamily, clone_by_rows, encodable_by_rows,
     row_emit_payload, row_emit_value, row_fit_len, row_kind, row_read, row_value_len,
     store_by_rows, table_lookup,
 };
@@ -195,6 +195,16 @@ impl RowFamily for InfoVxlan {
     }
 }
 
+impl TableFamily for InfoVxlan {
+    type Custom = ();
+
+    ghost flat_elsewhere = { λ _ n _. table_flat vxlan_attribute vxlan_rows vxlan_keeps n };
+
+    ghost plain_elsewhere = { λ _ _. refl };
+
+    ghost written = { λ _. refl };
+}
+
 impl Nla for InfoVxlan {
     ghost attribute = { vxlan_attribute };
 
@@ -217,14 +227,6 @@ impl Nla for InfoVxlan {
     fn fit_len(&self) -> Option<usize> {
         row_fit_len(self)
     }
-}
-
-impl FlatFamily for InfoVxlan {
-    ghost flat = { λ _ n. table_flat vxlan_attribute vxlan_rows vxlan_keeps n };
-
-    ghost never_custom = { λ _. refl };
-
-    ghost written = { λ _. refl };
 }
 
 /// Reads the attribute. A payload of invalid length is rejected as `(Vxlan, type, Length)`.

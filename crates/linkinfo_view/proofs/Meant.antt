@@ -12,6 +12,7 @@ use Rattle.linkinfo_view.specs.Values.{IsMeant, meant}
 pub meant_plain : (sh : Shape) (payload : List ℕ) → IsPlain sh → meant sh payload ≡ reads sh payload
 meant_plain shape.SelfList payload h = absurd h
 meant_plain shape.Peer payload h = absurd h
+meant_plain (shape.Nested family) payload h = absurd h
 meant_plain _ payload h = refl
 
 pub reads_meant : (sh : Shape) (payload : List ℕ) (r : Result Datum Cause) → IsPlain sh →

@@ -341,6 +341,7 @@ reads_held sh payload h = any_held sh (λ x. tt) (means sh payload)
 meant_held : (sh : Shape) (payload : List ℕ) → IsBytes payload → IfOk (meant sh payload) Held
 meant_held shape.SelfList payload h = h
 meant_held shape.Peer payload h = h
+meant_held (shape.Nested family) payload h = h
 meant_held sh payload h = reads_held sh payload h
 
 plain_printable : (v : value.Value) → Held v → IsPrintable (plain_data v)

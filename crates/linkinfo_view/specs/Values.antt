@@ -76,6 +76,7 @@ use Rattle.linkinfo_view.specs.declared.text.OctetDigits.TheVariants as octet
 abbrev pub meant : Shape → List ℕ → Result Value Cause
 meant shape.SelfList payload = Ok (bytes payload)
 meant shape.Peer payload = Ok (bytes payload)
+meant (shape.Nested family) payload = Ok (bytes payload)
 meant sh payload = reads sh payload
 
 -- a number, and an object of two members

@@ -40,7 +40,7 @@ pub fn datum_of(shape: Shape, payload: &[u8]) -> Result<Datum<'_>, Cause>
     ensures { IsMeant shape payload.now result }
 {
     match shape {
-        Shape::SelfList | Shape::Peer => Ok(Datum::Bytes(payload)),
+        Shape::SelfList | Shape::Peer | Shape::Nested(_) => Ok(Datum::Bytes(payload)),
         _ => read_datum(shape, payload),
     }
 }

@@ -49,6 +49,7 @@ family_name family.Vxlan = codes "vxlan"
 family_name family.Wireguard = codes "wireguard"
 family_name family.Wwan = codes "wwan"
 family_name family.Xfrm = codes "xfrm"
+family_name family.VlanQosMapping = codes "vlanqosmapping"
 
 -- End: written by tables/generate.
 

@@ -93,6 +93,8 @@ pub enum Family {
     Wwan,
     /// The data (`IFLA_INFO_DATA`) of `xfrm` links.
     Xfrm,
+    /// The maps of priorities of `vlan` links.
+    VlanQosMapping,
     // End: written by tables/generate.
 }
 
@@ -140,6 +142,7 @@ impl Family {
             Family::Wireguard => "wireguard",
             Family::Wwan => "wwan",
             Family::Xfrm => "xfrm",
+            Family::VlanQosMapping => "vlanqosmapping",
             // End: written by tables/generate.
         }
     }

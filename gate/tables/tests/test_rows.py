@@ -75,7 +75,7 @@ class Rows(unittest.TestCase):
             rows.Row("tables/iptunnel:15", 28, "", ("IFLA_IPTUN_TTL", "IFLA_OTHER_TTL"),
                      ("Flag", "Ttl"), "EmptyOrByte", "", "", ""),
             rows.Row("tables/iptunnel:16", 9, "sit", ("IFLA_IPTUN_PROTO", "IFLA_OTHER_PROTO"),
-                     (), "Nested", "", "other", "")))
+                     (), "Nested", "", "other", "", "Other")))
 
     def test_rows_of_a_kind(self):
         """A row of a kind stands for that of all kinds; other kinds do not have it."""

@@ -16,8 +16,10 @@
 #[path = "../support/mod.rs"]
 mod support;
 
+mod marked;
 mod vlan;
 
+pub use marked::InfoMarked;
 pub use vlan::InfoVlanRow;
 
 #[cfg(test)]

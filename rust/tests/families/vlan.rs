@@ -6,7 +6,7 @@
 use linkinfo::compat::AllocError;
 use linkinfo::layers::nla_frame::{DefaultNla, ExactEq, Family, Nla};
 use linkinfo::layers::table::{
-    Decoded, Encodable, FlatFamily, Lookup, RowFamily, Shape, Slot, encodable_by_rows,
+    Decoded, Encodable, Lookup, RowFamily, Shape, Slot, TableFamily, encodable_by_rows,
     row_emit_payload, row_emit_value, row_fit_len, row_kind, row_value_len, store_by_rows,
 };
 
@@ -60,7 +60,9 @@ impl RowFamily for InfoVlanRow {
     }
 }
 
-impl FlatFamily for InfoVlanRow {}
+impl TableFamily for InfoVlanRow {
+    type Custom = ();
+}
 
 impl Nla for InfoVlanRow {
     fn value_len(&self) -> usize {

@@ -59,6 +59,13 @@ class Proofs(RuleTest):
         )
         self.assert_kept(proofs.delete_drop_bounds, "enum A { Drop, B } fn f() -> A { A::Drop }")
 
+    def test_drop_bound_of_a_where(self):
+        self.assert_written(
+            proofs.delete_drop_bounds,
+            "fn f() -> A where B: Drop, { g() } fn h() -> A where B: Drop, ;",
+            "fn f() -> A { g() } fn h() -> A ;",
+        )
+
     def test_final(self):
         self.assert_written(proofs.delete_final, "final fn f(final_: u8) {}", "fn f(final_: u8) {}")
 

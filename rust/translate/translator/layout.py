@@ -18,6 +18,7 @@ LIBRARY = (
     "linkinfo_devices",
     "linkinfo_tunnels",
     "linkinfo_peers",
+    "linkinfo_typed",
     "linkinfo_data",
     "linkinfo",
 )

@@ -7,6 +7,7 @@ HOMES = {
     "fmt": "core",
     "hash": "core",
     "iter": "core",
+    "marker": "core",
     "net": "core",
     "ops": "core",
     "slice": "core",

@@ -73,6 +73,8 @@ def delete_drop_bounds(source):
             continue
         if source.at(index - 1) == "+":
             source.delete(index - 1, index + 1, "Drop bound")
+        elif source.is_word(index - 3, "where") and source.at(index + 1) == ",":
+            source.delete(index - 3, index + 2, "Drop bound")
         elif source.at(index - 1) == ":":
             more = source.at(index + 1) == "+"
             source.delete(index - (not more), index + 1 + more, "Drop bound")

@@ -7,9 +7,9 @@ ghost use Rattle.linkinfo_table.specs.FamilyMeaning.{meaning_by};
 use super::rows::{assert_is, attribute, error, kept};
 use linkinfo_devices::InfoXfrm;
 use linkinfo_table::{
-    Datum, Decoded, Encodable, FlatFamily, LinkFamily, Lookup, RowFamily, Shape, Slot, row_check,
+    Datum, Decoded, Encodable, LinkFamily, Lookup, RowFamily, Shape, Slot, TableFamily, row_check,
     row_emit_payload, row_emit_value, row_fit_len, row_kind, row_read, row_same, row_store,
-    row_value_len, table_lookup,
+    row_value_len, table_lookup, typed_lookup,
 };
 use nla_frame::{Cause, DecodeError, ExactEq, Family, HeaderCount, NlaBuffer, is_equal};
 use std::alloc::Global;
@@ -37,7 +37,7 @@ fn are_equal<F: ExactEq>(list: &[F], value: &F) -> bool {
 
 /// Asserts that the attribute is read as the value by its row and by its family, alone and into a
 /// list.
-fn is_read_by_row<F: FlatFamily + ExactEq>(
+fn is_read_by_row<F: TableFamily<Custom = ()> + ExactEq>(
     rt: &impl Abort,
     alloc: Global,
     bytes: &[u8],
@@ -64,7 +64,7 @@ fn is_read_by_row<F: FlatFamily + ExactEq>(
 }
 
 /// Asserts that the attribute is rejected with this error by its row.
-fn is_rejected_by_row<F: FlatFamily>(
+fn is_rejected_by_row<F: TableFamily<Custom = ()>>(
     rt: &impl Abort,
     alloc: Global,
     bytes: &[u8],
@@ -93,7 +93,7 @@ fn reads_by_rows(rt: HostRuntime) {
 }
 
 /// The attribute of the bytes, which its row accepts.
-fn accepted<'a, F: FlatFamily>(
+fn accepted<'a, F: TableFamily<Custom = ()>>(
     rt: &impl Abort,
     ctx: <F as RowFamily>::Context,
     bytes: &'a [u8],
@@ -107,7 +107,7 @@ fn accepted<'a, F: FlatFamily>(
 }
 
 /// Whether two accepted attributes are equivalent, by their row and by their family.
-fn same_by_row<F: FlatFamily>(
+fn same_by_row<F: TableFamily<Custom = ()>>(
     rt: &impl Abort,
     ctx: <F as RowFamily>::Context,
     a: &[u8],
@@ -138,7 +138,7 @@ fn compares_by_rows(rt: HostRuntime) {
 
 /// Asserts that the value is written with this type and this payload of four bytes by its row, also
 /// to a buffer of six 255s.
-fn is_written_by_row<F: FlatFamily>(
+fn is_written_by_row<F: TableFamily<Custom = ()>>(
     rt: &impl Abort,
     value: &F,
     kind: u16,
@@ -180,12 +180,30 @@ const LOOKUPS: &[(Family, u16, Lookup)] = &[
     (Family::Geneve, 2, Lookup::Is(Shape::GeneveV4)),
     (Family::BatAdv, 1, Lookup::Is(Shape::Name)),
     (Family::Tun, 1, Lookup::Unknown),
+    (Family::Vlan, 1, Lookup::Unknown),
+];
+
+/// Families and types, and what the table of the typed layer gives for them.
+const TYPED_LOOKUPS: &[(Family, u16, Lookup)] = &[
+    (Family::Xfrm, 1, Lookup::Is(Shape::Le32)),
+    (Family::Vlan, 1, Lookup::Is(Shape::Le16)),
+    (
+        Family::Vlan,
+        4,
+        Lookup::Is(Shape::Nested(Family::VlanQosMapping)),
+    ),
+    (Family::Vlan, 6, Lookup::Unknown),
+    (Family::VlanQosMapping, 1, Lookup::Is(Shape::FlagPair)),
 ];
 
 #[test]
 fn tables_give_shapes(rt: HostRuntime) {
     for (family, kind, answer) in LOOKUPS {
         let found = table_lookup(*family, *kind);
+        assert_is(&rt, (*family, *kind), found, *answer);
+    }
+    for (family, kind, answer) in TYPED_LOOKUPS {
+        let found = typed_lookup(*family, *kind);
         assert_is(&rt, (*family, *kind), found, *answer);
     }
 }

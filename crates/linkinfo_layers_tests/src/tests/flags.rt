@@ -4,7 +4,7 @@ use super::assertions::assert_is;
 use bitflags::Flags;
 use linkinfo_numbers::{
     GreEncapFlags, GreIOFlags, InfoRmNetFlags, Ip6TunnelFlags, IpVlanFlags, KeepsEveryBit,
-    MacVlanFlags, RmNetFlags, TunnelEncapFlags, bits_again, laws,
+    MacVlanFlags, RmNetFlags, TunnelEncapFlags, VlanFlags, bits_again, laws,
 };
 use nla_frame::is_equal;
 use std::collections::hash_map::DefaultHasher;
@@ -84,6 +84,7 @@ fn named_bits_of_devices(rt: HostRuntime) {
     laws::ip_vlan_flag_bits();
     laws::mac_vlan_flag_bits();
     laws::rm_net_flag_bits();
+    laws::vlan_flag_bits();
     assert_is(
         &rt,
         "IpVlanFlags, MacVlanFlags",
@@ -108,6 +109,18 @@ fn named_bits_of_devices(rt: HostRuntime) {
         ],
         [1, 2, 4, 8, 16, 32],
     );
+    assert_is(
+        &rt,
+        "VlanFlags",
+        [
+            VlanFlags::ReorderHdr.bits(),
+            VlanFlags::Gvrp.bits(),
+            VlanFlags::LooseBinding.bits(),
+            VlanFlags::Mvrp.bits(),
+            VlanFlags::BridgeBinding.bits(),
+        ],
+        [1, 2, 4, 8, 16],
+    );
 }
 
 /// The number of named flags of a set, and the first name.
@@ -130,6 +143,7 @@ fn flags_have_names(rt: HostRuntime) {
             names::<IpVlanFlags>(),
             names::<MacVlanFlags>(),
             names::<RmNetFlags>(),
+            names::<VlanFlags>(),
         ],
         [
             (9, Some("Checksum")),
@@ -139,6 +153,7 @@ fn flags_have_names(rt: HostRuntime) {
             (2, Some("Private")),
             (2, Some("NoPromisc")),
             (6, Some("IngressDeaggregation")),
+            (5, Some("ReorderHdr")),
         ],
     );
 }
@@ -176,8 +191,9 @@ fn every_number_is_a_set(rt: HostRuntime) {
             [
                 bits_again::<Ip6TunnelFlags>(bits),
                 bits_again::<RmNetFlags>(bits),
+                bits_again::<VlanFlags>(bits),
             ],
-            [kept; 2],
+            [kept; 3],
         );
     }
 }
@@ -191,6 +207,7 @@ fn sets_of_bits(rt: HostRuntime) {
     assert!(rt; is_equal(&GreIOFlags::default(), &GreIOFlags::empty()));
     assert!(rt; is_equal(&GreEncapFlags::default(), &GreEncapFlags::empty()));
     assert!(rt; is_equal(&IpVlanFlags::default(), &IpVlanFlags::empty()));
+    assert!(rt; is_equal(&VlanFlags::default(), &VlanFlags::empty()));
 }
 
 #[test]

@@ -4,7 +4,7 @@ use super::assertions::assert_is;
 use linkinfo_numbers::{
     AmtMode, ErSpanDir, EthernetProtocol, GeneveDf, GreEncapType, GtpRole, IpProtocol, IpVlanMode,
     IpoibMode, MacSecCipherId, MacSecOffload, MacSecValidate, MacVlanMacAddressMode, MacVlanMode,
-    NetkitMode, NetkitPolicy, NetkitScrub, TunnelEncapType, VxlanDf, laws,
+    NetkitMode, NetkitPolicy, NetkitScrub, TunnelEncapType, VlanProtocol, VxlanDf, laws,
 };
 use std::fmt::Debug;
 use std::process::Abort;
@@ -60,6 +60,14 @@ const TUNNEL_ENCAP_TYPES: &[(u16, TunnelEncapType)] = &[
     (3, TunnelEncapType::Mpls),
     (4, TunnelEncapType::Other(4)),
     (u16::MAX, TunnelEncapType::Other(u16::MAX)),
+];
+
+const VLAN_PROTOCOLS: &[(u16, VlanProtocol)] = &[
+    (0x8100, VlanProtocol::Ieee8021Q),
+    (0x88a8, VlanProtocol::Ieee8021Ad),
+    (0x0081, VlanProtocol::Other(0x0081)),
+    (0, VlanProtocol::Other(0)),
+    (u16::MAX, VlanProtocol::Other(u16::MAX)),
 ];
 
 const ETHERNET_PROTOCOLS: &[(u16, EthernetProtocol)] = &[
@@ -195,6 +203,7 @@ fn tunnel_numbers(rt: HostRuntime) {
     check_both_ways(&rt, GTP_ROLES);
     check_both_ways(&rt, TUNNEL_ENCAP_TYPES);
     check_both_ways(&rt, ETHERNET_PROTOCOLS);
+    check_both_ways(&rt, VLAN_PROTOCOLS);
     check_both_ways(&rt, IP_PROTOCOLS);
 }
 
@@ -272,12 +281,18 @@ fn numbers_of_scrubs(rt: HostRuntime) {
 fn default_values(rt: HostRuntime) {
     assert_is(
         &rt,
-        "GtpRole, GreEncapType, ErSpanDir",
+        "GtpRole, GreEncapType, ErSpanDir, VlanProtocol",
         (
             GtpRole::default(),
             GreEncapType::default(),
             ErSpanDir::default(),
+            VlanProtocol::default(),
         ),
-        (GtpRole::Ggsn, GreEncapType::None, ErSpanDir::Ingress),
+        (
+            GtpRole::Ggsn,
+            GreEncapType::None,
+            ErSpanDir::Ingress,
+            VlanProtocol::Ieee8021Q,
+        ),
     );
 }

@@ -5,7 +5,7 @@ use linkinfo_shapes::{
     Datum, Shape, datum_len, read_datum, shape_canonical_len, shape_check, shape_same,
     shape_write_attribute, shape_write_canonical, write_datum,
 };
-use nla_frame::Cause;
+use nla_frame::{Cause, Family};
 use std::net::{Ipv4Addr, Ipv6Addr};
 use std::process::Abort;
 
@@ -52,7 +52,8 @@ fn cause_of_zeros(shape: Shape, len: usize) -> Option<Cause> {
         Shape::GeneveV4 => len == 4,
         Shape::GeneveV6 if len == 4 => return Some(Cause::AddressKind),
         Shape::GeneveV6 => len == 16,
-        Shape::Mark | Shape::Name | Shape::Raw | Shape::SelfList | Shape::Peer => true,
+        Shape::Mark | Shape::Name | Shape::Raw | Shape::SelfList | Shape::Peer | Shape::Nested(_) =>
+            true,
     };
     if accepted { None } else { Some(Cause::Length) }
 }
@@ -78,8 +79,12 @@ fn accepts_the_lengths_of_a_shape(rt: HostRuntime) {
             assert_is(&rt, (shape, len), found, Some([cause; 2]));
         }
     }
-    let plain = [Shape::SelfList.is_plain(), Shape::Peer.is_plain()];
-    assert_is(&rt, "SelfList, Peer", plain, [false; 2]);
+    let plain = [
+        Shape::SelfList.is_plain(),
+        Shape::Peer.is_plain(),
+        Shape::Nested(Family::VlanQosMapping).is_plain(),
+    ];
+    assert_is(&rt, "SelfList, Peer, Nested", plain, [false; 3]);
 }
 
 /// The datum that a payload of a plain shape means, and the length of the payload written for it.

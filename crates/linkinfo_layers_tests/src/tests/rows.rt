@@ -1,7 +1,7 @@
 //! Some rows of the table of all families, by hand. The rows themselves follow from `tables/`.
 
 use super::assertions::assert_is;
-use linkinfo_shapes::{Shape, table_shape};
+use linkinfo_shapes::{Shape, table_shape, typed_shape};
 use nla_frame::Family;
 
 /// The shapes of some types: the first and the last type of a family, a type between that has no
@@ -26,10 +26,28 @@ const ROWS: &[(Family, u16, Option<Shape>)] = &[
     (Family::Xfrm, 2, Some(Shape::Le32)),
 ];
 
+/// The shapes of some types in the typed layer: those of `ROWS` stay, but for families that are
+/// typed there.
+const TYPED_ROWS: &[(Family, u16, Option<Shape>)] = &[
+    (Family::Vlan, 0, None),
+    (Family::Vlan, 1, Some(Shape::Le16)),
+    (Family::Vlan, 2, Some(Shape::FlagPair)),
+    (Family::Vlan, 3, Some(Shape::Nested(Family::VlanQosMapping))),
+    (Family::Vlan, 4, Some(Shape::Nested(Family::VlanQosMapping))),
+    (Family::Vlan, 5, Some(Shape::Be16)),
+    (Family::Vlan, 6, None),
+    (Family::VlanQosMapping, 1, Some(Shape::FlagPair)),
+    (Family::VlanQosMapping, 2, None),
+];
+
 #[test]
 fn has_rows(rt: HostRuntime) {
     for (family, kind, shape) in ROWS {
-        let found = table_shape(*family, *kind);
-        assert_is(&rt, (*family, *kind), found, *shape);
+        let found = [table_shape(*family, *kind), typed_shape(*family, *kind)];
+        assert_is(&rt, (*family, *kind), found, [*shape; 2]);
+    }
+    for (family, kind, shape) in TYPED_ROWS {
+        let found = (table_shape(*family, *kind), typed_shape(*family, *kind));
+        assert_is(&rt, (*family, *kind), found, (None, *shape));
     }
 }

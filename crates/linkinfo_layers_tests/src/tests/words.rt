@@ -3,7 +3,7 @@
 use super::assertions::{assert_displayed, assert_is, decode_error};
 use linkinfo_numbers::{
     AmtMode, ErSpanDir, GeneveDf, GreEncapType, GtpRole, IpVlanMode, MacVlanMode, NetkitMode,
-    NetkitPolicy, NetkitScrub, TunnelEncapType, VxlanDf, laws,
+    NetkitPolicy, NetkitScrub, TunnelEncapType, VlanProtocol, VxlanDf, laws,
 };
 use nla_frame::{Cause, DecodeError, Family};
 use std::alloc::Global;
@@ -73,6 +73,11 @@ const NETKIT_SCRUB_WORDS: &[(NetkitScrub, &str)] = &[
     (NetkitScrub::Default, "default"),
 ];
 
+const VLAN_PROTOCOL_WORDS: &[(VlanProtocol, &str)] = &[
+    (VlanProtocol::Ieee8021Q, "802.1Q"),
+    (VlanProtocol::Ieee8021Ad, "802.1ad"),
+];
+
 #[test]
 fn words(rt: HostRuntime) {
     let alloc = rt.alloc();
@@ -84,6 +89,7 @@ fn words(rt: HostRuntime) {
     check_words(&rt, alloc, Family::Netkit, NETKIT_MODE_WORDS);
     check_words(&rt, alloc, Family::Netkit, NETKIT_POLICY_WORDS);
     check_words(&rt, alloc, Family::Netkit, NETKIT_SCRUB_WORDS);
+    check_words(&rt, alloc, Family::Vlan, VLAN_PROTOCOL_WORDS);
     let rejected = Err(decode_error(Family::Netkit, 0, Cause::Word));
     assert_is(&rt, "l3s", NetkitMode::from_str("l3s"), rejected);
 }
@@ -148,4 +154,5 @@ fn texts(rt: HostRuntime) {
     check_texts(&rt, alloc, &[(IpVlanMode::Other(3), "3")]);
     check_texts(&rt, alloc, &[(MacVlanMode::Other(3), "3")]);
     check_texts(&rt, alloc, &[(NetkitMode::Other(2), "2")]);
+    check_texts(&rt, alloc, &[(VlanProtocol::Other(0x8847), "34887")]);
 }

@@ -149,7 +149,7 @@ fn value_record(datum: Datum<'_>) -> LinkinfoValue {
 /// The record of the value of a payload whose type has this shape or none.
 fn value_in(shape: Option<Shape>, payload: &[u8]) -> LinkinfoValue {
     match shape {
-        Some(Shape::SelfList) => LinkinfoValue {
+        Some(Shape::SelfList | Shape::Nested(_)) => LinkinfoValue {
             value_type: LIST,
             len: payload.len(),
             ..NO_VALUE

@@ -91,8 +91,11 @@ fn family_rows(family: Family) -> &'static [Entry] {
         Family::Hsr => HSR,
         Family::Tun => TUN,
         // End: written by tables/generate.
-        Family::Frame | Family::LinkInfo | Family::Pfcp | Family::TeamPort | Family::Wireguard => {
-            &[]
-        }
+        Family::Frame
+        | Family::LinkInfo
+        | Family::Pfcp
+        | Family::TeamPort
+        | Family::Wireguard
+        | Family::VlanQosMapping => &[],
     }
 }

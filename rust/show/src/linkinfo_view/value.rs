@@ -18,7 +18,7 @@ use linkinfo::layers::shapes::{Datum, Shape, read_datum};
 /// itself, the bytes.
 pub fn datum_of(shape: Shape, payload: &[u8]) -> Result<Datum<'_>, Cause> {
     match shape {
-        Shape::SelfList | Shape::Peer => Ok(Datum::Bytes(payload)),
+        Shape::SelfList | Shape::Peer | Shape::Nested(_) => Ok(Datum::Bytes(payload)),
         _ => read_datum(shape, payload),
     }
 }

@@ -9,7 +9,7 @@ use crate::layers::nla_frame::{
 };
 use crate::layers::numbers::IpoibMode;
 use crate::layers::table::{
-    Decoded, Encodable, FlatFamily, Lookup, RowFamily, Slot, encodable_by_rows, row_emit_payload,
+    Decoded, Encodable, Lookup, RowFamily, Slot, TableFamily, encodable_by_rows, row_emit_payload,
     row_emit_value, row_fit_len, row_kind, row_read, row_value_len, store_by_rows, table_lookup,
 };
 
@@ -63,6 +63,10 @@ impl RowFamily for InfoIpoib {
     }
 }
 
+impl TableFamily for InfoIpoib {
+    type Custom = ();
+}
+
 impl Nla for InfoIpoib {
     #[inline]
     fn value_len(&self) -> usize {
@@ -89,8 +93,6 @@ impl Nla for InfoIpoib {
         row_fit_len(self)
     }
 }
-
-impl FlatFamily for InfoIpoib {}
 
 /// Reads the attribute. A payload of invalid length is rejected as `(Ipoib, type, Length)`.
 impl<'a> Parseable<NlaBuffer<'a>> for InfoIpoib {

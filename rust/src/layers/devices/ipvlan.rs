@@ -8,7 +8,7 @@ use crate::layers::nla_frame::{
 };
 use crate::layers::numbers::{IpVlanFlags, IpVlanMode};
 use crate::layers::table::{
-    Decoded, Encodable, FlatFamily, Lookup, RowFamily, Slot, encodable_by_rows, row_emit_payload,
+    Decoded, Encodable, Lookup, RowFamily, Slot, TableFamily, encodable_by_rows, row_emit_payload,
     row_emit_value, row_fit_len, row_kind, row_read, row_value_len, store_by_rows, table_lookup,
 };
 use bitflags::Flags;
@@ -108,7 +108,9 @@ impl<const TAP: bool> Nla for InfoIpVlanOf<TAP> {
     }
 }
 
-impl<const TAP: bool> FlatFamily for InfoIpVlanOf<TAP> {}
+impl<const TAP: bool> TableFamily for InfoIpVlanOf<TAP> {
+    type Custom = ();
+}
 
 /// Reads the attribute. A payload of invalid length is rejected as `(IpVlan, type, Length)` or
 /// `(IpVtap, type, Length)`, by the family.

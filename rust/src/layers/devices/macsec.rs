@@ -9,7 +9,7 @@ use crate::layers::nla_frame::{
 };
 use crate::layers::numbers::{MacSecCipherId, MacSecOffload, MacSecValidate};
 use crate::layers::table::{
-    Decoded, Encodable, FlatFamily, Lookup, RowFamily, Slot, encodable_by_rows, row_emit_payload,
+    Decoded, Encodable, Lookup, RowFamily, Slot, TableFamily, encodable_by_rows, row_emit_payload,
     row_emit_value, row_fit_len, row_kind, row_read, row_value_len, store_by_rows, table_lookup,
 };
 
@@ -96,6 +96,10 @@ impl RowFamily for InfoMacSec {
     }
 }
 
+impl TableFamily for InfoMacSec {
+    type Custom = ();
+}
+
 impl Nla for InfoMacSec {
     #[inline]
     fn value_len(&self) -> usize {
@@ -122,8 +126,6 @@ impl Nla for InfoMacSec {
         row_fit_len(self)
     }
 }
-
-impl FlatFamily for InfoMacSec {}
 
 /// Reads the attribute. A payload of invalid length is rejected as `(MacSec, type, Length)`.
 impl<'a> Parseable<NlaBuffer<'a>> for InfoMacSec {

@@ -9,7 +9,7 @@ use crate::layers::nla_frame::{
 };
 use crate::layers::numbers::{InfoRmNetFlags, RmNetFlags};
 use crate::layers::table::{
-    Decoded, Encodable, FlatFamily, Lookup, RowFamily, Slot, encodable_by_rows, row_emit_payload,
+    Decoded, Encodable, Lookup, RowFamily, Slot, TableFamily, encodable_by_rows, row_emit_payload,
     row_emit_value, row_fit_len, row_kind, row_read, row_value_len, store_by_rows, table_lookup,
 };
 use bitflags::Flags;
@@ -75,6 +75,10 @@ fn pair_of(under: InfoRmNetFlags) -> (u32, u32) {
     (under.flags.bits(), under.mask.bits())
 }
 
+impl TableFamily for InfoRmNet {
+    type Custom = ();
+}
+
 impl Nla for InfoRmNet {
     #[inline]
     fn value_len(&self) -> usize {
@@ -101,8 +105,6 @@ impl Nla for InfoRmNet {
         row_fit_len(self)
     }
 }
-
-impl FlatFamily for InfoRmNet {}
 
 /// Reads the attribute. A payload of invalid length is rejected as `(RmNet, type, Length)`.
 impl<'a> Parseable<NlaBuffer<'a>> for InfoRmNet {

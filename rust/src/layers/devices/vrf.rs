@@ -8,7 +8,7 @@ use crate::layers::nla_frame::{
     DecodeError, DefaultNla, ExactEq, Family, Nla, NlaBuffer, Parseable,
 };
 use crate::layers::table::{
-    Decoded, Encodable, FlatFamily, Lookup, RowFamily, Slot, encodable_by_rows, row_emit_payload,
+    Decoded, Encodable, Lookup, RowFamily, Slot, TableFamily, encodable_by_rows, row_emit_payload,
     row_emit_value, row_fit_len, row_kind, row_read, row_value_len, store_by_rows, table_lookup,
 };
 
@@ -58,6 +58,10 @@ impl RowFamily for InfoVrf {
     }
 }
 
+impl TableFamily for InfoVrf {
+    type Custom = ();
+}
+
 impl Nla for InfoVrf {
     #[inline]
     fn value_len(&self) -> usize {
@@ -84,8 +88,6 @@ impl Nla for InfoVrf {
         row_fit_len(self)
     }
 }
-
-impl FlatFamily for InfoVrf {}
 
 /// Reads the attribute. A payload of invalid length is rejected as `(Vrf, type, Length)`.
 impl<'a> Parseable<NlaBuffer<'a>> for InfoVrf {

@@ -86,6 +86,8 @@ pub enum Family {
     Wwan,
     /// The data (`IFLA_INFO_DATA`) of `xfrm` links.
     Xfrm,
+    /// The maps of priorities of `vlan` links.
+    VlanQosMapping,
     // End: written by tables/generate.
 }
 
@@ -132,6 +134,7 @@ impl Family {
             Family::Wireguard => "wireguard",
             Family::Wwan => "wwan",
             Family::Xfrm => "xfrm",
+            Family::VlanQosMapping => "vlanqosmapping",
             // End: written by tables/generate.
         }
     }

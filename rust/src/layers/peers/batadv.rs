@@ -8,7 +8,7 @@ use crate::layers::nla_frame::{
     DecodeError, DefaultNla, ExactEq, Family, Nla, NlaBuffer, Parseable, Text,
 };
 use crate::layers::table::{
-    Decoded, Encodable, FlatFamily, Lookup, RowFamily, Slot, encodable_by_rows, row_emit_payload,
+    Decoded, Encodable, Lookup, RowFamily, Slot, TableFamily, encodable_by_rows, row_emit_payload,
     row_emit_value, row_fit_len, row_kind, row_read, row_value_len, store_by_rows, table_lookup,
 };
 
@@ -55,6 +55,10 @@ impl RowFamily for InfoBatAdv {
     }
 }
 
+impl TableFamily for InfoBatAdv {
+    type Custom = ();
+}
+
 impl Nla for InfoBatAdv {
     #[inline]
     fn value_len(&self) -> usize {
@@ -81,8 +85,6 @@ impl Nla for InfoBatAdv {
         row_fit_len(self)
     }
 }
-
-impl FlatFamily for InfoBatAdv {}
 
 /// Reads the attribute. A name that is not UTF-8 is rejected as `(BatAdv, 1, Utf8)`.
 impl<'a> Parseable<NlaBuffer<'a>> for InfoBatAdv {

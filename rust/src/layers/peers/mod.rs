@@ -11,9 +11,7 @@ mod wwan;
 mod bit;
 mod netkit;
 mod opaque;
-mod peer_calls;
-mod peer_canonical;
-mod peer_family;
+mod peer_row;
 mod veth;
 mod vxcan;
 

@@ -7,15 +7,10 @@ use crate::layers::nla_frame::{
     Bytes, DecodeError, DefaultNla, ExactEq, Family, HeaderCount, Nla, NlaBuffer, Parseable,
 };
 use crate::layers::numbers::{NetkitMode, NetkitPolicy, NetkitScrub};
-use crate::layers::peers::peer_calls::{
-    peer_check, peer_emit_payload, peer_emit_value, peer_fit_len, peer_kind, peer_read, peer_same,
-    peer_value_len,
-};
-use crate::layers::peers::peer_canonical::{peer_canonical_len, peer_write_canonical};
-use crate::layers::peers::peer_family::PeerFamily;
+use crate::layers::peers::peer_row::PeerRow;
 use crate::layers::table::{
-    Decoded, Encodable, LinkFamily, LinkPeer, Lookup, RowFamily, Slot, encodable_by_rows,
-    store_by_rows, table_lookup,
+    CustomRows, Decoded, Encodable, LinkFamily, LinkPeer, Lookup, PayloadRow, RowFamily, Slot,
+    TableFamily, encodable_by_rows, store_by_rows, table_lookup,
 };
 
 /// An attribute in the data of a `netkit` link, with a peer of type `P`.
@@ -100,45 +95,53 @@ fn is_by_default(scrub: NetkitScrub) -> bool {
     u32::from(scrub) != 0
 }
 
-impl<P: LinkPeer> PeerFamily for InfoNetkitOf<P> {
-    type Peer = P;
+impl<P: LinkPeer> PayloadRow<InfoNetkitOf<P>> for PeerRow<P> {
+    type Payload = P;
 
-    fn from_peer(peer: P) -> InfoNetkitOf<P> {
-        InfoNetkitOf::Peer(peer)
+    const NUMBER: u16 = 1;
+
+    const NESTED: bool = false;
+
+    fn wrap(payload: P) -> InfoNetkitOf<P> {
+        InfoNetkitOf::Peer(payload)
     }
 
-    fn peer(&self) -> Option<&P> {
-        match self {
+    fn payload(value: &InfoNetkitOf<P>) -> Option<&P> {
+        match value {
             InfoNetkitOf::Peer(peer) => Some(peer),
             _ => None,
         }
     }
 }
 
+impl<P: LinkPeer> TableFamily for InfoNetkitOf<P> {
+    type Custom = (PeerRow<P>, ());
+}
+
 impl<P: LinkPeer> Nla for InfoNetkitOf<P> {
     #[inline]
     fn value_len(&self) -> usize {
-        peer_value_len(self)
+        <InfoNetkitOf<P> as TableFamily>::Custom::value_len(self)
     }
 
     #[inline]
     fn kind(&self) -> u16 {
-        peer_kind(self)
+        <InfoNetkitOf<P> as TableFamily>::Custom::kind(self)
     }
 
     #[inline]
     fn emit_value(&self, buffer: &mut [u8]) {
-        peer_emit_value(self, buffer);
+        self.emit_payload(buffer);
     }
 
     #[inline]
     fn emit_payload(&self, buffer: &mut [u8]) -> usize {
-        peer_emit_payload(self, buffer)
+        <InfoNetkitOf<P> as TableFamily>::Custom::emit(self, buffer)
     }
 
     #[inline]
     fn fit_len(&self) -> Option<usize> {
-        peer_fit_len(self)
+        <InfoNetkitOf<P> as TableFamily>::Custom::fit_len(self)
     }
 }
 
@@ -147,46 +150,7 @@ impl<P: LinkPeer> Nla for InfoNetkitOf<P> {
 impl<'a, P: LinkPeer> Parseable<NlaBuffer<'a>> for InfoNetkitOf<P> {
     #[inline]
     fn parse(buffer: &NlaBuffer<'a>) -> Result<InfoNetkitOf<P>, DecodeError> {
-        peer_read(buffer, ())
-    }
-}
-
-impl<P: LinkPeer> LinkFamily for InfoNetkitOf<P> {
-    type Context = ();
-
-    const FAMILY: Family = <InfoNetkitOf<P> as RowFamily>::FAMILY;
-
-    #[inline(always)]
-    fn shape(ctx: (), kind: u16) -> Lookup {
-        <InfoNetkitOf<P> as RowFamily>::shape(ctx, kind)
-    }
-
-    fn read(
-        nla: &NlaBuffer<'_>,
-        ctx: (),
-        _count: &mut HeaderCount,
-    ) -> Result<InfoNetkitOf<P>, DecodeError> {
-        peer_read(nla, ctx)
-    }
-
-    fn check_value(
-        nla: &NlaBuffer<'_>,
-        ctx: (),
-        _count: &mut HeaderCount,
-    ) -> Result<(), DecodeError> {
-        peer_check::<InfoNetkitOf<P>>(nla, ctx)
-    }
-
-    fn same_value(a: &NlaBuffer<'_>, b: &NlaBuffer<'_>, ctx: (), _count: &mut HeaderCount) -> bool {
-        peer_same::<InfoNetkitOf<P>>(a, b, ctx)
-    }
-
-    fn canonical_len(nla: &NlaBuffer<'_>, ctx: ()) -> Option<usize> {
-        peer_canonical_len::<InfoNetkitOf<P>>(nla, ctx)
-    }
-
-    fn write_canonical(nla: &NlaBuffer<'_>, ctx: (), buffer: &mut [u8]) -> usize {
-        peer_write_canonical::<InfoNetkitOf<P>>(nla, ctx, buffer)
+        <InfoNetkitOf<P> as LinkFamily>::read(buffer, (), &mut HeaderCount::new())
     }
 }
 

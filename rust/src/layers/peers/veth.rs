@@ -6,14 +6,10 @@ use crate::compat::AllocError;
 use crate::layers::nla_frame::{
     Bytes, DecodeError, DefaultNla, ExactEq, Family, HeaderCount, Nla, NlaBuffer, Parseable,
 };
-use crate::layers::peers::peer_calls::{
-    peer_check, peer_emit_payload, peer_emit_value, peer_fit_len, peer_kind, peer_read, peer_same,
-    peer_value_len,
-};
-use crate::layers::peers::peer_canonical::{peer_canonical_len, peer_write_canonical};
-use crate::layers::peers::peer_family::PeerFamily;
+use crate::layers::peers::peer_row::PeerRow;
 use crate::layers::table::{
-    Decoded, Encodable, LinkFamily, LinkPeer, Lookup, RowFamily, Slot, table_lookup,
+    CustomRows, Decoded, Encodable, LinkFamily, LinkPeer, Lookup, PayloadRow, RowFamily, Slot,
+    TableFamily, table_lookup,
 };
 
 /// An attribute in the data of a `veth` link, with a peer of type `P`.
@@ -60,45 +56,53 @@ impl<P: LinkPeer> RowFamily for InfoVethOf<P> {
     }
 }
 
-impl<P: LinkPeer> PeerFamily for InfoVethOf<P> {
-    type Peer = P;
+impl<P: LinkPeer> PayloadRow<InfoVethOf<P>> for PeerRow<P> {
+    type Payload = P;
 
-    fn from_peer(peer: P) -> InfoVethOf<P> {
-        InfoVethOf::Peer(peer)
+    const NUMBER: u16 = 1;
+
+    const NESTED: bool = false;
+
+    fn wrap(payload: P) -> InfoVethOf<P> {
+        InfoVethOf::Peer(payload)
     }
 
-    fn peer(&self) -> Option<&P> {
-        match self {
+    fn payload(value: &InfoVethOf<P>) -> Option<&P> {
+        match value {
             InfoVethOf::Peer(peer) => Some(peer),
             InfoVethOf::Other(_) => None,
         }
     }
 }
 
+impl<P: LinkPeer> TableFamily for InfoVethOf<P> {
+    type Custom = (PeerRow<P>, ());
+}
+
 impl<P: LinkPeer> Nla for InfoVethOf<P> {
     #[inline]
     fn value_len(&self) -> usize {
-        peer_value_len(self)
+        <InfoVethOf<P> as TableFamily>::Custom::value_len(self)
     }
 
     #[inline]
     fn kind(&self) -> u16 {
-        peer_kind(self)
+        <InfoVethOf<P> as TableFamily>::Custom::kind(self)
     }
 
     #[inline]
     fn emit_value(&self, buffer: &mut [u8]) {
-        peer_emit_value(self, buffer);
+        self.emit_payload(buffer);
     }
 
     #[inline]
     fn emit_payload(&self, buffer: &mut [u8]) -> usize {
-        peer_emit_payload(self, buffer)
+        <InfoVethOf<P> as TableFamily>::Custom::emit(self, buffer)
     }
 
     #[inline]
     fn fit_len(&self) -> Option<usize> {
-        peer_fit_len(self)
+        <InfoVethOf<P> as TableFamily>::Custom::fit_len(self)
     }
 }
 
@@ -106,46 +110,7 @@ impl<P: LinkPeer> Nla for InfoVethOf<P> {
 impl<'a, P: LinkPeer> Parseable<NlaBuffer<'a>> for InfoVethOf<P> {
     #[inline]
     fn parse(buffer: &NlaBuffer<'a>) -> Result<InfoVethOf<P>, DecodeError> {
-        peer_read(buffer, ())
-    }
-}
-
-impl<P: LinkPeer> LinkFamily for InfoVethOf<P> {
-    type Context = ();
-
-    const FAMILY: Family = <InfoVethOf<P> as RowFamily>::FAMILY;
-
-    #[inline(always)]
-    fn shape(ctx: (), kind: u16) -> Lookup {
-        <InfoVethOf<P> as RowFamily>::shape(ctx, kind)
-    }
-
-    fn read(
-        nla: &NlaBuffer<'_>,
-        ctx: (),
-        _count: &mut HeaderCount,
-    ) -> Result<InfoVethOf<P>, DecodeError> {
-        peer_read(nla, ctx)
-    }
-
-    fn check_value(
-        nla: &NlaBuffer<'_>,
-        ctx: (),
-        _count: &mut HeaderCount,
-    ) -> Result<(), DecodeError> {
-        peer_check::<InfoVethOf<P>>(nla, ctx)
-    }
-
-    fn same_value(a: &NlaBuffer<'_>, b: &NlaBuffer<'_>, ctx: (), _count: &mut HeaderCount) -> bool {
-        peer_same::<InfoVethOf<P>>(a, b, ctx)
-    }
-
-    fn canonical_len(nla: &NlaBuffer<'_>, ctx: ()) -> Option<usize> {
-        peer_canonical_len::<InfoVethOf<P>>(nla, ctx)
-    }
-
-    fn write_canonical(nla: &NlaBuffer<'_>, ctx: (), buffer: &mut [u8]) -> usize {
-        peer_write_canonical::<InfoVethOf<P>>(nla, ctx, buffer)
+        <InfoVethOf<P> as LinkFamily>::read(buffer, (), &mut HeaderCount::new())
     }
 }
 

@@ -8,7 +8,7 @@ use crate::layers::nla_frame::{
     DecodeError, DefaultNla, ExactEq, Family, Nla, NlaBuffer, Parseable,
 };
 use crate::layers::table::{
-    Decoded, Encodable, FlatFamily, Lookup, RowFamily, Slot, encodable_by_rows, row_emit_payload,
+    Decoded, Encodable, Lookup, RowFamily, Slot, TableFamily, encodable_by_rows, row_emit_payload,
     row_emit_value, row_fit_len, row_kind, row_read, row_value_len, store_by_rows, table_lookup,
 };
 
@@ -55,6 +55,10 @@ impl RowFamily for InfoWwan {
     }
 }
 
+impl TableFamily for InfoWwan {
+    type Custom = ();
+}
+
 impl Nla for InfoWwan {
     #[inline]
     fn value_len(&self) -> usize {
@@ -81,8 +85,6 @@ impl Nla for InfoWwan {
         row_fit_len(self)
     }
 }
-
-impl FlatFamily for InfoWwan {}
 
 /// Reads the attribute. A payload of invalid length is rejected as `(Wwan, type, Length)`.
 impl<'a> Parseable<NlaBuffer<'a>> for InfoWwan {

@@ -9,11 +9,10 @@ use crate::layers::shapes::payload::{datum_len, read_datum, write_datum};
 use crate::layers::shapes::shape::Shape;
 use crate::layers::shapes::writers::write_with_nul;
 
-/// Whether every payload that the shape accepts is canonical. Requires a shape other than
-/// [`Shape::SelfList`] and [`Shape::Peer`].
+/// Whether every payload that the shape accepts is canonical. Requires a plain shape
+/// ([`Shape::is_plain`]).
 ///
-/// [`Shape::SelfList`]: crate::layers::shapes::Shape::SelfList
-/// [`Shape::Peer`]: crate::layers::shapes::Shape::Peer
+/// [`Shape::is_plain`]: crate::layers::shapes::Shape::is_plain
 #[inline(always)]
 fn accepts_only_canonical(shape: Shape) -> bool {
     !matches!(
@@ -40,16 +39,14 @@ fn name_in(payload: &[u8]) -> &[u8] {
 /// Returns the length of an accepted payload's canonical encoding, or `None` above 65531. Does not
 /// allocate.
 ///
-/// Requires a shape other than [`Shape::SelfList`] and [`Shape::Peer`], and a payload that the
-/// shape accepts.
+/// Requires a plain shape ([`Shape::is_plain`]), and a payload that it accepts.
 ///
 /// # Panics
 ///
 /// May panic where a condition of the caller that is named here does not hold. Where it does
 /// not panic then, the result has no meaning.
 ///
-/// [`Shape::SelfList`]: crate::layers::shapes::Shape::SelfList
-/// [`Shape::Peer`]: crate::layers::shapes::Shape::Peer
+/// [`Shape::is_plain`]: crate::layers::shapes::Shape::is_plain
 #[must_use]
 #[inline(always)]
 pub fn shape_canonical_len(shape: Shape, payload: &[u8]) -> Option<usize> {
@@ -65,17 +62,15 @@ pub fn shape_canonical_len(shape: Shape, payload: &[u8]) -> Option<usize> {
 /// Writes the canonical encoding of an accepted payload at the front of the buffer, and returns its
 /// length. The bytes after it stay unchanged. Does not allocate.
 ///
-/// Requires a shape other than [`Shape::SelfList`] and [`Shape::Peer`], and a payload that the
-/// shape accepts. Requires that the canonical payload has at most 65531 bytes, and that the buffer
-/// has at least as many.
+/// Requires a plain shape ([`Shape::is_plain`]), and a payload that it accepts. Requires that the
+/// canonical payload has at most 65531 bytes, and that the buffer has at least as many.
 ///
 /// # Panics
 ///
 /// May panic where a condition of the caller that is named here does not hold. Where it does
 /// not panic then, the result has no meaning.
 ///
-/// [`Shape::SelfList`]: crate::layers::shapes::Shape::SelfList
-/// [`Shape::Peer`]: crate::layers::shapes::Shape::Peer
+/// [`Shape::is_plain`]: crate::layers::shapes::Shape::is_plain
 #[inline(always)]
 pub fn shape_write_canonical(shape: Shape, payload: &[u8], buffer: &mut [u8]) -> usize {
     if accepts_only_canonical(shape) {
@@ -98,17 +93,16 @@ pub fn shape_write_canonical(shape: Shape, payload: &[u8], buffer: &mut [u8]) ->
 /// buffer, and returns its length: header, payload and zero padding. The bytes after it stay
 /// unchanged. Does not allocate.
 ///
-/// Requires a shape other than [`Shape::SelfList`] and [`Shape::Peer`], and a payload that the
-/// shape accepts. Requires that the canonical payload has at most 65531 bytes, and that the buffer
-/// has at least as many bytes as the attribute.
+/// Requires a plain shape ([`Shape::is_plain`]), and a payload that it accepts. Requires that the
+/// canonical payload has at most 65531 bytes, and that the buffer has at least as many bytes as the
+/// attribute.
 ///
 /// # Panics
 ///
 /// May panic where a condition of the caller that is named here does not hold. Where it does
 /// not panic then, the result has no meaning.
 ///
-/// [`Shape::SelfList`]: crate::layers::shapes::Shape::SelfList
-/// [`Shape::Peer`]: crate::layers::shapes::Shape::Peer
+/// [`Shape::is_plain`]: crate::layers::shapes::Shape::is_plain
 #[inline(always)]
 pub fn shape_write_attribute(shape: Shape, kind: u16, payload: &[u8], buffer: &mut [u8]) -> usize {
     let len = shape_write_canonical(shape, payload, &mut buffer[4..]);

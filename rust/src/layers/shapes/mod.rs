@@ -10,6 +10,7 @@ mod payload;
 mod readers;
 mod shape;
 mod table;
+mod typed;
 mod writers;
 
 pub use canonical::{shape_canonical_len, shape_write_attribute, shape_write_canonical};
@@ -17,3 +18,4 @@ pub use datum::Datum;
 pub use payload::{datum_len, read_datum, shape_check, shape_same, write_datum};
 pub use shape::Shape;
 pub use table::table_shape;
+pub use typed::typed_shape;

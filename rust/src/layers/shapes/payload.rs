@@ -11,16 +11,14 @@ use crate::layers::shapes::writers::*;
 /// Returns whether the shape accepts the payload, and the cause if not. Does not allocate, and
 /// looks at the contents of names only, otherwise at lengths.
 ///
-/// Requires a shape other than [`Shape::SelfList`] and [`Shape::Peer`], whose payloads the family
-/// reads itself.
+/// Requires a plain shape ([`Shape::is_plain`]): the family reads payloads of the others itself.
 ///
 /// # Panics
 ///
 /// May panic where a condition of the caller that is named here does not hold. Where it does
 /// not panic then, the result has no meaning.
 ///
-/// [`Shape::SelfList`]: crate::layers::shapes::Shape::SelfList
-/// [`Shape::Peer`]: crate::layers::shapes::Shape::Peer
+/// [`Shape::is_plain`]: crate::layers::shapes::Shape::is_plain
 #[inline(always)]
 pub fn shape_check(shape: Shape, payload: &[u8]) -> Result<(), Cause> {
     match accepted_len(shape) {
@@ -108,15 +106,14 @@ fn check_name(payload: &[u8]) -> Result<(), Cause> {
 /// Reads the payload under the shape; returns the datum, or why the payload is rejected. Does not
 /// allocate: text and bytes are borrowed from the payload.
 ///
-/// Requires a shape other than [`Shape::SelfList`] and [`Shape::Peer`].
+/// Requires a plain shape ([`Shape::is_plain`]).
 ///
 /// # Panics
 ///
 /// May panic where a condition of the caller that is named here does not hold. Where it does
 /// not panic then, the result has no meaning.
 ///
-/// [`Shape::SelfList`]: crate::layers::shapes::Shape::SelfList
-/// [`Shape::Peer`]: crate::layers::shapes::Shape::Peer
+/// [`Shape::is_plain`]: crate::layers::shapes::Shape::is_plain
 #[inline(always)]
 pub fn read_datum(shape: Shape, payload: &[u8]) -> Result<Datum<'_>, Cause> {
     match shape {
@@ -143,22 +140,20 @@ pub fn read_datum(shape: Shape, payload: &[u8]) -> Result<Datum<'_>, Cause> {
         Shape::EmptyOrByte => read_empty_or_byte(payload),
         Shape::Scrub => read_scrub(payload),
         Shape::Raw => read_raw(payload),
-        Shape::SelfList | Shape::Peer => unreachable!(),
+        Shape::SelfList | Shape::Peer | Shape::Nested(_) => unreachable!(),
     }
 }
 
 /// Whether two payloads are equivalent: they have equal data under the shape. Does not allocate.
 ///
-/// Requires a shape other than [`Shape::SelfList`] and [`Shape::Peer`], and two payloads that the
-/// shape accepts.
+/// Requires a plain shape ([`Shape::is_plain`]), and two payloads that it accepts.
 ///
 /// # Panics
 ///
 /// May panic where a condition of the caller that is named here does not hold. Where it does
 /// not panic then, the result has no meaning.
 ///
-/// [`Shape::SelfList`]: crate::layers::shapes::Shape::SelfList
-/// [`Shape::Peer`]: crate::layers::shapes::Shape::Peer
+/// [`Shape::is_plain`]: crate::layers::shapes::Shape::is_plain
 #[must_use]
 #[inline(always)]
 pub fn shape_same(shape: Shape, a: &[u8], b: &[u8]) -> bool {
@@ -272,6 +267,6 @@ pub fn write_datum(shape: Shape, datum: &Datum<'_>, buffer: &mut [u8]) {
         Shape::EmptyOrByte => write_empty_or_byte(datum, buffer),
         Shape::Scrub => write_scrub(datum, buffer),
         Shape::Raw => write_raw(datum, buffer),
-        Shape::SelfList | Shape::Peer => unreachable!(),
+        Shape::SelfList | Shape::Peer | Shape::Nested(_) => unreachable!(),
     }
 }

@@ -2,7 +2,7 @@
 
 //! Shapes: the layouts of payloads.
 
-use crate::layers::nla_frame::ExactEq;
+use crate::layers::nla_frame::{ExactEq, Family};
 
 /// The shape of an attribute, the layout of its payload: which payloads are accepted, and what
 /// datum each holds.
@@ -69,17 +69,21 @@ pub enum Shape {
     /// The peer of a pair of links, which the family reads by its peer type (`VETH_INFO_PEER`,
     /// `VXCAN_INFO_PEER`, `IFLA_NETKIT_PEER_INFO`).
     Peer,
+    /// A nested list of attributes of this other family, which the family reads itself
+    /// (`IFLA_VLAN_EGRESS_QOS`).
+    Nested(Family),
 }
 
 impl Shape {
-    /// Whether this crate reads payloads of the shape: true for every shape but [`SelfList`] and
-    /// [`Peer`], whose payloads the family reads itself.
+    /// Whether this crate reads payloads of the shape: true for every shape but [`SelfList`],
+    /// [`Peer`] and [`Nested`], whose payloads the family reads itself.
     ///
     /// [`SelfList`]: crate::layers::shapes::Shape::SelfList
     /// [`Peer`]: crate::layers::shapes::Shape::Peer
+    /// [`Nested`]: crate::layers::shapes::Shape::Nested
     #[must_use]
     pub fn is_plain(self) -> bool {
-        !matches!(self, Shape::SelfList | Shape::Peer)
+        !matches!(self, Shape::SelfList | Shape::Peer | Shape::Nested(_))
     }
 }
 

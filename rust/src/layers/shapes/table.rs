@@ -53,7 +53,8 @@ pub fn table_shape(family: Family, kind: u16) -> Option<Shape> {
         | Family::TeamPort
         | Family::Tun
         | Family::Vlan
-        | Family::Wireguard => None,
+        | Family::Wireguard
+        | Family::VlanQosMapping => None,
     }
 }
 

@@ -4,28 +4,35 @@
 
 mod by_rows;
 mod canonical;
+mod custom_rows;
 mod decoded;
 mod encodable;
 pub mod encodables;
 mod family;
 mod first;
-mod flat;
 mod last;
 mod list;
+mod list_payload;
 mod listed;
 mod lookup;
 pub mod lower;
 pub mod opaque;
+mod payload;
+mod payload_calls;
+mod payload_row;
 mod peer;
+mod peer_payload;
 mod row_family;
 mod rows;
 mod slot;
+mod table_family;
 
 pub use crate::layers::shapes::{
     Datum, Shape, datum_len, read_datum, shape_canonical_len, shape_check, shape_same,
-    shape_write_attribute, shape_write_canonical, table_shape, write_datum,
+    shape_write_attribute, shape_write_canonical, table_shape, typed_shape, write_datum,
 };
 pub use canonical::{row_canonical_len, row_write_canonical};
+pub use custom_rows::CustomRows;
 pub use decoded::Decoded;
 pub use encodable::Encodable;
 pub use family::LinkFamily;
@@ -35,13 +42,16 @@ pub use list::{list_check, list_measure, list_read, list_same, list_write_canoni
 pub use listed::ListedFamily;
 pub use lookup::Lookup;
 pub use opaque::Opaque;
+pub use payload::LinkPayload;
+pub use payload_row::PayloadRow;
 pub use peer::{LinkPeer, PeerFault};
-pub use row_family::{FlatFamily, RowFamily};
+pub use row_family::RowFamily;
 pub use rows::{
     row_check, row_emit_payload, row_emit_value, row_fit_len, row_kind, row_read, row_same,
-    row_store, row_value_len, table_lookup,
+    row_store, row_value_len, table_lookup, typed_lookup,
 };
 pub use slot::Slot;
+pub use table_family::TableFamily;
 
 #[doc(inline)]
 pub use crate::{

@@ -9,8 +9,9 @@ use crate::layers::nla_frame::{
 use crate::layers::table::decoded::Decoded;
 use crate::layers::table::encodable::Encodable;
 use crate::layers::table::lookup::Lookup;
-use crate::layers::table::row_family::{FlatFamily, RowFamily};
+use crate::layers::table::row_family::RowFamily;
 use crate::layers::table::slot::Slot;
+use crate::layers::table::table_family::TableFamily;
 
 /// The number of the family `bond`.
 pub const BOND: u8 = 1;
@@ -139,7 +140,9 @@ impl<const NUMBER: u8> Nla for Opaque<NUMBER> {
     }
 }
 
-impl<const NUMBER: u8> FlatFamily for Opaque<NUMBER> {}
+impl<const NUMBER: u8> TableFamily for Opaque<NUMBER> {
+    type Custom = ();
+}
 
 /// Keeps the attribute verbatim. Reading fails only if memory runs out.
 impl<'a, const NUMBER: u8> Parseable<NlaBuffer<'a>> for Opaque<NUMBER> {

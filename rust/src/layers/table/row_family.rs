@@ -3,7 +3,7 @@
 //! Families defined by rows.
 
 use crate::compat::AllocError;
-use crate::layers::nla_frame::{Family, Nla};
+use crate::layers::nla_frame::Family;
 use crate::layers::table::decoded::Decoded;
 use crate::layers::table::encodable::Encodable;
 use crate::layers::table::lookup::Lookup;
@@ -41,9 +41,3 @@ pub trait RowFamily: Sized {
     /// The type, shape and datum of a value, or its opaque attribute.
     fn to_encodable(&self) -> Encodable<'_>;
 }
-
-/// A family in which each row has a shape of the table, and that writes its attributes as its rows
-/// define them. It is a [`LinkFamily`] by its rows.
-///
-/// [`LinkFamily`]: crate::layers::table::LinkFamily
-pub trait FlatFamily: RowFamily + Nla {}

@@ -4,7 +4,7 @@
 
 use crate::layers::nla_frame::{Cause, DecodeError, DefaultNla, Family, Nla, NlaBuffer, Parseable};
 use crate::layers::shapes::{
-    Shape, datum_len, read_datum, shape_check, shape_same, table_shape, write_datum,
+    Shape, datum_len, read_datum, shape_check, shape_same, table_shape, typed_shape, write_datum,
 };
 use crate::layers::table::decoded::Decoded;
 use crate::layers::table::encodable::Encodable;
@@ -26,6 +26,16 @@ fn error(family: Family, kind: u16, cause: Cause) -> DecodeError {
 #[inline(always)]
 pub fn table_lookup(family: Family, kind: u16) -> Lookup {
     match table_shape(family, kind) {
+        Some(shape) => Lookup::Is(shape),
+        None => Lookup::Unknown,
+    }
+}
+
+/// How the table of the typed layer reads a type without flag bits: by its shape, or as opaque.
+#[must_use]
+#[inline(always)]
+pub fn typed_lookup(family: Family, kind: u16) -> Lookup {
+    match typed_shape(family, kind) {
         Some(shape) => Lookup::Is(shape),
         None => Lookup::Unknown,
     }

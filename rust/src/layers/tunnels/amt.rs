@@ -9,7 +9,7 @@ use crate::layers::nla_frame::{
 };
 use crate::layers::numbers::AmtMode;
 use crate::layers::table::{
-    Decoded, Encodable, FlatFamily, Lookup, RowFamily, Slot, encodable_by_rows, row_emit_payload,
+    Decoded, Encodable, Lookup, RowFamily, Slot, TableFamily, encodable_by_rows, row_emit_payload,
     row_emit_value, row_fit_len, row_kind, row_read, row_value_len, store_by_rows, table_lookup,
 };
 use core::net::IpAddr;
@@ -78,6 +78,10 @@ impl RowFamily for InfoAmt {
     }
 }
 
+impl TableFamily for InfoAmt {
+    type Custom = ();
+}
+
 impl Nla for InfoAmt {
     #[inline]
     fn value_len(&self) -> usize {
@@ -104,8 +108,6 @@ impl Nla for InfoAmt {
         row_fit_len(self)
     }
 }
-
-impl FlatFamily for InfoAmt {}
 
 /// Reads the attribute. A payload of invalid length is rejected as `(Amt, type, Length)`.
 impl<'a> Parseable<NlaBuffer<'a>> for InfoAmt {

@@ -9,7 +9,7 @@ use crate::layers::nla_frame::{
 };
 use crate::layers::numbers::EthernetProtocol;
 use crate::layers::table::{
-    Decoded, Encodable, FlatFamily, Lookup, RowFamily, Slot, encodable_by_rows, row_emit_payload,
+    Decoded, Encodable, Lookup, RowFamily, Slot, TableFamily, encodable_by_rows, row_emit_payload,
     row_emit_value, row_fit_len, row_kind, row_read, row_value_len, store_by_rows, table_lookup,
 };
 
@@ -67,6 +67,10 @@ impl RowFamily for InfoBareUdp {
     }
 }
 
+impl TableFamily for InfoBareUdp {
+    type Custom = ();
+}
+
 impl Nla for InfoBareUdp {
     #[inline]
     fn value_len(&self) -> usize {
@@ -93,8 +97,6 @@ impl Nla for InfoBareUdp {
         row_fit_len(self)
     }
 }
-
-impl FlatFamily for InfoBareUdp {}
 
 /// Reads the attribute. A payload of invalid length is rejected as `(BareUdp, type, Length)`.
 impl<'a> Parseable<NlaBuffer<'a>> for InfoBareUdp {

@@ -9,7 +9,7 @@ use crate::layers::nla_frame::{
 };
 use crate::layers::numbers::GeneveDf;
 use crate::layers::table::{
-    Decoded, Encodable, FlatFamily, Lookup, RowFamily, Slot, encodable_by_rows, row_emit_payload,
+    Decoded, Encodable, Lookup, RowFamily, Slot, TableFamily, encodable_by_rows, row_emit_payload,
     row_emit_value, row_fit_len, row_kind, row_read, row_value_len, store_by_rows, table_lookup,
 };
 use core::net::{Ipv4Addr, Ipv6Addr};
@@ -105,6 +105,10 @@ impl RowFamily for InfoGeneve {
     }
 }
 
+impl TableFamily for InfoGeneve {
+    type Custom = ();
+}
+
 impl Nla for InfoGeneve {
     #[inline]
     fn value_len(&self) -> usize {
@@ -131,8 +135,6 @@ impl Nla for InfoGeneve {
         row_fit_len(self)
     }
 }
-
-impl FlatFamily for InfoGeneve {}
 
 /// Reads the attribute. A payload of invalid length is rejected as `(Geneve, type, Length)`, and an
 /// address of the other IP version as `(Geneve, type, AddressKind)`.

@@ -9,7 +9,7 @@ use crate::layers::nla_frame::{
 };
 use crate::layers::numbers::{ErSpanDir, GreEncapFlags, GreEncapType, GreIOFlags};
 use crate::layers::table::{
-    Decoded, Encodable, FlatFamily, Lookup, RowFamily, Slot, encodable_by_rows, row_emit_payload,
+    Decoded, Encodable, Lookup, RowFamily, Slot, TableFamily, encodable_by_rows, row_emit_payload,
     row_emit_value, row_fit_len, row_kind, row_read, row_value_len, store_by_rows, table_lookup,
 };
 use bitflags::Flags;
@@ -116,6 +116,10 @@ impl RowFamily for InfoGre {
     }
 }
 
+impl TableFamily for InfoGre {
+    type Custom = ();
+}
+
 impl Nla for InfoGre {
     #[inline]
     fn value_len(&self) -> usize {
@@ -142,8 +146,6 @@ impl Nla for InfoGre {
         row_fit_len(self)
     }
 }
-
-impl FlatFamily for InfoGre {}
 
 /// Reads the attribute. A payload of invalid length is rejected as `(Gre, type, Length)`.
 impl<'a> Parseable<NlaBuffer<'a>> for InfoGre {

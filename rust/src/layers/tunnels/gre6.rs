@@ -9,7 +9,7 @@ use crate::layers::nla_frame::{
 };
 use crate::layers::numbers::{ErSpanDir, GreEncapFlags, GreEncapType, GreIOFlags};
 use crate::layers::table::{
-    Decoded, Encodable, FlatFamily, Lookup, RowFamily, Slot, encodable_by_rows, row_emit_payload,
+    Decoded, Encodable, Lookup, RowFamily, Slot, TableFamily, encodable_by_rows, row_emit_payload,
     row_emit_value, row_fit_len, row_kind, row_read, row_value_len, store_by_rows, table_lookup,
 };
 use bitflags::Flags;
@@ -119,6 +119,10 @@ impl RowFamily for InfoGre6 {
     }
 }
 
+impl TableFamily for InfoGre6 {
+    type Custom = ();
+}
+
 impl Nla for InfoGre6 {
     #[inline]
     fn value_len(&self) -> usize {
@@ -145,8 +149,6 @@ impl Nla for InfoGre6 {
         row_fit_len(self)
     }
 }
-
-impl FlatFamily for InfoGre6 {}
 
 /// Reads the attribute. A payload of invalid length is rejected as `(Gre6, type, Length)`.
 impl<'a> Parseable<NlaBuffer<'a>> for InfoGre6 {

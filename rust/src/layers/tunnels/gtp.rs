@@ -9,7 +9,7 @@ use crate::layers::nla_frame::{
 };
 use crate::layers::numbers::GtpRole;
 use crate::layers::table::{
-    Decoded, Encodable, FlatFamily, Lookup, RowFamily, Slot, encodable_by_rows, row_emit_payload,
+    Decoded, Encodable, Lookup, RowFamily, Slot, TableFamily, encodable_by_rows, row_emit_payload,
     row_emit_value, row_fit_len, row_kind, row_read, row_value_len, store_by_rows, table_lookup,
 };
 use core::net::{Ipv4Addr, Ipv6Addr};
@@ -77,6 +77,10 @@ impl RowFamily for InfoGtp {
     }
 }
 
+impl TableFamily for InfoGtp {
+    type Custom = ();
+}
+
 impl Nla for InfoGtp {
     #[inline]
     fn value_len(&self) -> usize {
@@ -103,8 +107,6 @@ impl Nla for InfoGtp {
         row_fit_len(self)
     }
 }
-
-impl FlatFamily for InfoGtp {}
 
 /// Reads the attribute. A payload of invalid length is rejected as `(Gtp, type, Length)`.
 impl<'a> Parseable<NlaBuffer<'a>> for InfoGtp {

@@ -10,7 +10,7 @@ use crate::layers::numbers::{
     InfoKind, Ip6TunnelFlags, IpProtocol, KindTag, TunnelEncapFlags, TunnelEncapType,
 };
 use crate::layers::table::{
-    Datum, Decoded, Encodable, FlatFamily, Lookup, RowFamily, Shape, Slot, encodable_by_rows,
+    Datum, Decoded, Encodable, Lookup, RowFamily, Shape, Slot, TableFamily, encodable_by_rows,
     encodables, row_emit_payload, row_emit_value, row_fit_len, row_kind, row_read, row_value_len,
     store_by_rows, table_lookup,
 };
@@ -186,7 +186,9 @@ impl Nla for InfoIpTunnel {
     }
 }
 
-impl FlatFamily for InfoIpTunnel {}
+impl TableFamily for InfoIpTunnel {
+    type Custom = ();
+}
 
 /// Reads the attribute of a link of this kind. A payload of invalid length is rejected as
 /// `(IpTunnel, type, Length)`.

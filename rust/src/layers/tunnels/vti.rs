@@ -8,7 +8,7 @@ use crate::layers::nla_frame::{
     DecodeError, DefaultNla, ExactEq, Family, Nla, NlaBuffer, Parseable,
 };
 use crate::layers::table::{
-    Decoded, Encodable, FlatFamily, Lookup, RowFamily, Slot, encodable_by_rows, row_emit_payload,
+    Decoded, Encodable, Lookup, RowFamily, Slot, TableFamily, encodable_by_rows, row_emit_payload,
     row_emit_value, row_fit_len, row_kind, row_read, row_value_len, store_by_rows, table_lookup,
 };
 use core::net::IpAddr;
@@ -71,6 +71,10 @@ impl RowFamily for InfoVti {
     }
 }
 
+impl TableFamily for InfoVti {
+    type Custom = ();
+}
+
 impl Nla for InfoVti {
     #[inline]
     fn value_len(&self) -> usize {
@@ -97,8 +101,6 @@ impl Nla for InfoVti {
         row_fit_len(self)
     }
 }
-
-impl FlatFamily for InfoVti {}
 
 /// Reads the attribute. A payload of invalid length is rejected as `(Vti, type, Length)`.
 impl<'a> Parseable<NlaBuffer<'a>> for InfoVti {

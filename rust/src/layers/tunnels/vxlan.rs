@@ -9,7 +9,7 @@ use crate::layers::nla_frame::{
 };
 use crate::layers::numbers::VxlanDf;
 use crate::layers::table::{
-    Decoded, Encodable, FlatFamily, Lookup, RowFamily, Slot, encodable_by_rows, row_emit_payload,
+    Decoded, Encodable, Lookup, RowFamily, Slot, TableFamily, encodable_by_rows, row_emit_payload,
     row_emit_value, row_fit_len, row_kind, row_read, row_value_len, store_by_rows, table_lookup,
 };
 use core::net::{Ipv4Addr, Ipv6Addr};
@@ -165,6 +165,10 @@ impl RowFamily for InfoVxlan {
     }
 }
 
+impl TableFamily for InfoVxlan {
+    type Custom = ();
+}
+
 impl Nla for InfoVxlan {
     #[inline]
     fn value_len(&self) -> usize {
@@ -191,8 +195,6 @@ impl Nla for InfoVxlan {
         row_fit_len(self)
     }
 }
-
-impl FlatFamily for InfoVxlan {}
 
 /// Reads the attribute. A payload of invalid length is rejected as `(Vxlan, type, Length)`.
 impl<'a> Parseable<NlaBuffer<'a>> for InfoVxlan {

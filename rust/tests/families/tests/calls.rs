@@ -9,9 +9,9 @@ use linkinfo::layers::nla_frame::{
     Cause, DecodeError, ExactEq, Family, HeaderCount, NlaBuffer, is_equal,
 };
 use linkinfo::layers::table::{
-    Datum, Decoded, Encodable, FlatFamily, LinkFamily, Lookup, RowFamily, Shape, Slot, row_check,
+    Datum, Decoded, Encodable, LinkFamily, Lookup, RowFamily, Shape, Slot, TableFamily, row_check,
     row_emit_payload, row_emit_value, row_fit_len, row_kind, row_read, row_same, row_store,
-    row_value_len, table_lookup,
+    row_value_len, table_lookup, typed_lookup,
 };
 
 /// The interface index 0x01020304.
@@ -36,7 +36,7 @@ fn are_equal<F: ExactEq>(list: &[F], value: &F) -> bool {
 
 /// Asserts that the attribute is read as the value by its row and by its family, alone and into a
 /// list.
-fn is_read_by_row<F: FlatFamily + ExactEq>(
+fn is_read_by_row<F: TableFamily<Custom = ()> + ExactEq>(
     bytes: &[u8],
     ctx: <F as RowFamily>::Context,
     value: &F,
@@ -60,7 +60,7 @@ fn is_read_by_row<F: FlatFamily + ExactEq>(
 }
 
 /// Asserts that the attribute is rejected with this error by its row.
-fn is_rejected_by_row<F: FlatFamily>(
+fn is_rejected_by_row<F: TableFamily<Custom = ()>>(
     bytes: &[u8],
     ctx: <F as RowFamily>::Context,
     expected: DecodeError,
@@ -86,7 +86,10 @@ fn reads_by_rows() {
 }
 
 /// The attribute of the bytes, which its row accepts.
-fn accepted<'a, F: FlatFamily>(ctx: <F as RowFamily>::Context, bytes: &'a [u8]) -> NlaBuffer<'a> {
+fn accepted<'a, F: TableFamily<Custom = ()>>(
+    ctx: <F as RowFamily>::Context,
+    bytes: &'a [u8],
+) -> NlaBuffer<'a> {
     let nla = attribute(bytes);
     F::check_value(&nla, ctx, &mut HeaderCount::new()).expect("an accepted attribute");
     row_check::<F>(&nla, ctx).expect("an accepted attribute");
@@ -94,7 +97,11 @@ fn accepted<'a, F: FlatFamily>(ctx: <F as RowFamily>::Context, bytes: &'a [u8]) 
 }
 
 /// Whether two accepted attributes are equivalent, by their row and by their family.
-fn same_by_row<F: FlatFamily>(ctx: <F as RowFamily>::Context, a: &[u8], b: &[u8]) -> [bool; 2] {
+fn same_by_row<F: TableFamily<Custom = ()>>(
+    ctx: <F as RowFamily>::Context,
+    a: &[u8],
+    b: &[u8],
+) -> [bool; 2] {
     let a = accepted::<F>(ctx, a);
     let b = accepted::<F>(ctx, b);
     let mut count = HeaderCount::new();
@@ -119,7 +126,12 @@ fn compares_by_rows() {
 
 /// Asserts that the value is written with this type and this payload of four bytes by its row, also
 /// to a buffer of six 255s.
-fn is_written_by_row<F: FlatFamily>(value: &F, kind: u16, payload: &[u8], buffer: &[u8]) {
+fn is_written_by_row<F: TableFamily<Custom = ()>>(
+    value: &F,
+    kind: u16,
+    payload: &[u8],
+    buffer: &[u8],
+) {
     let len = row_fit_len(value).expect("a value that fits");
     assert_is(
         ("kind, fit_len, value_len of type", kind),
@@ -153,12 +165,30 @@ const LOOKUPS: &[(Family, u16, Lookup)] = &[
     (Family::Geneve, 2, Lookup::Is(Shape::GeneveV4)),
     (Family::BatAdv, 1, Lookup::Is(Shape::Name)),
     (Family::Tun, 1, Lookup::Unknown),
+    (Family::Vlan, 1, Lookup::Unknown),
+];
+
+/// Families and types, and what the table of the typed layer gives for them.
+const TYPED_LOOKUPS: &[(Family, u16, Lookup)] = &[
+    (Family::Xfrm, 1, Lookup::Is(Shape::Le32)),
+    (Family::Vlan, 1, Lookup::Is(Shape::Le16)),
+    (
+        Family::Vlan,
+        4,
+        Lookup::Is(Shape::Nested(Family::VlanQosMapping)),
+    ),
+    (Family::Vlan, 6, Lookup::Unknown),
+    (Family::VlanQosMapping, 1, Lookup::Is(Shape::FlagPair)),
 ];
 
 #[test]
 fn tables_give_shapes() {
     for (family, kind, answer) in LOOKUPS {
         let found = table_lookup(*family, *kind);
+        assert_is((*family, *kind), found, *answer);
+    }
+    for (family, kind, answer) in TYPED_LOOKUPS {
+        let found = typed_lookup(*family, *kind);
         assert_is((*family, *kind), found, *answer);
     }
 }

@@ -7,7 +7,7 @@ use bitflags::Flags;
 use linkinfo::layers::nla_frame::is_equal;
 use linkinfo::layers::numbers::{
     GreEncapFlags, GreIOFlags, InfoRmNetFlags, Ip6TunnelFlags, IpVlanFlags, KeepsEveryBit,
-    MacVlanFlags, RmNetFlags, TunnelEncapFlags, bits_again,
+    MacVlanFlags, RmNetFlags, TunnelEncapFlags, VlanFlags, bits_again,
 };
 use std::collections::hash_map::DefaultHasher;
 use std::hash::{Hash, Hasher};
@@ -97,6 +97,17 @@ fn named_bits_of_devices() {
         ],
         [1, 2, 4, 8, 16, 32],
     );
+    assert_is(
+        "VlanFlags",
+        [
+            VlanFlags::ReorderHdr.bits(),
+            VlanFlags::Gvrp.bits(),
+            VlanFlags::LooseBinding.bits(),
+            VlanFlags::Mvrp.bits(),
+            VlanFlags::BridgeBinding.bits(),
+        ],
+        [1, 2, 4, 8, 16],
+    );
 }
 
 /// The number of named flags of a set, and the first name.
@@ -118,6 +129,7 @@ fn flags_have_names() {
             names::<IpVlanFlags>(),
             names::<MacVlanFlags>(),
             names::<RmNetFlags>(),
+            names::<VlanFlags>(),
         ],
         [
             (9, Some("Checksum")),
@@ -127,6 +139,7 @@ fn flags_have_names() {
             (2, Some("Private")),
             (2, Some("NoPromisc")),
             (6, Some("IngressDeaggregation")),
+            (5, Some("ReorderHdr")),
         ],
     );
 }
@@ -162,8 +175,9 @@ fn every_number_is_a_set() {
             [
                 bits_again::<Ip6TunnelFlags>(bits),
                 bits_again::<RmNetFlags>(bits),
+                bits_again::<VlanFlags>(bits),
             ],
-            [kept; 2],
+            [kept; 3],
         );
     }
 }
@@ -177,6 +191,7 @@ fn sets_of_bits() {
     assert!(is_equal(&GreIOFlags::default(), &GreIOFlags::empty()));
     assert!(is_equal(&GreEncapFlags::default(), &GreEncapFlags::empty()));
     assert!(is_equal(&IpVlanFlags::default(), &IpVlanFlags::empty()));
+    assert!(is_equal(&VlanFlags::default(), &VlanFlags::empty()));
 }
 
 #[test]

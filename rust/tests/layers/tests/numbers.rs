@@ -6,7 +6,7 @@ use super::assertions::assert_is;
 use linkinfo::layers::numbers::{
     AmtMode, ErSpanDir, EthernetProtocol, GeneveDf, GreEncapType, GtpRole, IpProtocol, IpVlanMode,
     IpoibMode, MacSecCipherId, MacSecOffload, MacSecValidate, MacVlanMacAddressMode, MacVlanMode,
-    NetkitMode, NetkitPolicy, NetkitScrub, TunnelEncapType, VxlanDf,
+    NetkitMode, NetkitPolicy, NetkitScrub, TunnelEncapType, VlanProtocol, VxlanDf,
 };
 use std::fmt::Debug;
 
@@ -61,6 +61,14 @@ const TUNNEL_ENCAP_TYPES: &[(u16, TunnelEncapType)] = &[
     (3, TunnelEncapType::Mpls),
     (4, TunnelEncapType::Other(4)),
     (u16::MAX, TunnelEncapType::Other(u16::MAX)),
+];
+
+const VLAN_PROTOCOLS: &[(u16, VlanProtocol)] = &[
+    (0x8100, VlanProtocol::Ieee8021Q),
+    (0x88a8, VlanProtocol::Ieee8021Ad),
+    (0x0081, VlanProtocol::Other(0x0081)),
+    (0, VlanProtocol::Other(0)),
+    (u16::MAX, VlanProtocol::Other(u16::MAX)),
 ];
 
 const ETHERNET_PROTOCOLS: &[(u16, EthernetProtocol)] = &[
@@ -194,6 +202,7 @@ fn tunnel_numbers() {
     check_both_ways(GTP_ROLES);
     check_both_ways(TUNNEL_ENCAP_TYPES);
     check_both_ways(ETHERNET_PROTOCOLS);
+    check_both_ways(VLAN_PROTOCOLS);
     check_both_ways(IP_PROTOCOLS);
 }
 
@@ -267,12 +276,18 @@ fn numbers_of_scrubs() {
 #[test]
 fn default_values() {
     assert_is(
-        "GtpRole, GreEncapType, ErSpanDir",
+        "GtpRole, GreEncapType, ErSpanDir, VlanProtocol",
         (
             GtpRole::default(),
             GreEncapType::default(),
             ErSpanDir::default(),
+            VlanProtocol::default(),
         ),
-        (GtpRole::Ggsn, GreEncapType::None, ErSpanDir::Ingress),
+        (
+            GtpRole::Ggsn,
+            GreEncapType::None,
+            ErSpanDir::Ingress,
+            VlanProtocol::Ieee8021Q,
+        ),
     );
 }

@@ -3,7 +3,7 @@
 //! Payloads under each shape.
 
 use super::assertions::{assert_is, repeated};
-use linkinfo::layers::nla_frame::Cause;
+use linkinfo::layers::nla_frame::{Cause, Family};
 use linkinfo::layers::shapes::{
     Datum, Shape, datum_len, read_datum, shape_canonical_len, shape_check, shape_same,
     shape_write_attribute, shape_write_canonical, write_datum,
@@ -54,7 +54,12 @@ fn cause_of_zeros(shape: Shape, len: usize) -> Option<Cause> {
         Shape::GeneveV4 => len == 4,
         Shape::GeneveV6 if len == 4 => return Some(Cause::AddressKind),
         Shape::GeneveV6 => len == 16,
-        Shape::Mark | Shape::Name | Shape::Raw | Shape::SelfList | Shape::Peer => true,
+        Shape::Mark
+        | Shape::Name
+        | Shape::Raw
+        | Shape::SelfList
+        | Shape::Peer
+        | Shape::Nested(_) => true,
     };
     if accepted { None } else { Some(Cause::Length) }
 }
@@ -80,8 +85,12 @@ fn accepts_the_lengths_of_a_shape() {
             assert_is((shape, len), found, Some([cause; 2]));
         }
     }
-    let plain = [Shape::SelfList.is_plain(), Shape::Peer.is_plain()];
-    assert_is("SelfList, Peer", plain, [false; 2]);
+    let plain = [
+        Shape::SelfList.is_plain(),
+        Shape::Peer.is_plain(),
+        Shape::Nested(Family::VlanQosMapping).is_plain(),
+    ];
+    assert_is("SelfList, Peer, Nested", plain, [false; 3]);
 }
 
 /// The datum that a payload of a plain shape means, and the length of the payload written for it.

@@ -4,7 +4,7 @@
 
 use super::assertions::assert_is;
 use linkinfo::layers::nla_frame::Family;
-use linkinfo::layers::shapes::{Shape, table_shape};
+use linkinfo::layers::shapes::{Shape, table_shape, typed_shape};
 
 /// The shapes of some types: the first and the last type of a family, a type between that has no
 /// row, types that no family has, and families without rows.
@@ -28,10 +28,28 @@ const ROWS: &[(Family, u16, Option<Shape>)] = &[
     (Family::Xfrm, 2, Some(Shape::Le32)),
 ];
 
+/// The shapes of some types in the typed layer: those of `ROWS` stay, but for families that are
+/// typed there.
+const TYPED_ROWS: &[(Family, u16, Option<Shape>)] = &[
+    (Family::Vlan, 0, None),
+    (Family::Vlan, 1, Some(Shape::Le16)),
+    (Family::Vlan, 2, Some(Shape::FlagPair)),
+    (Family::Vlan, 3, Some(Shape::Nested(Family::VlanQosMapping))),
+    (Family::Vlan, 4, Some(Shape::Nested(Family::VlanQosMapping))),
+    (Family::Vlan, 5, Some(Shape::Be16)),
+    (Family::Vlan, 6, None),
+    (Family::VlanQosMapping, 1, Some(Shape::FlagPair)),
+    (Family::VlanQosMapping, 2, None),
+];
+
 #[test]
 fn has_rows() {
     for (family, kind, shape) in ROWS {
-        let found = table_shape(*family, *kind);
-        assert_is((*family, *kind), found, *shape);
+        let found = [table_shape(*family, *kind), typed_shape(*family, *kind)];
+        assert_is((*family, *kind), found, [*shape; 2]);
+    }
+    for (family, kind, shape) in TYPED_ROWS {
+        let found = (table_shape(*family, *kind), typed_shape(*family, *kind));
+        assert_is((*family, *kind), found, (None, *shape));
     }
 }

@@ -6,7 +6,7 @@ use super::assertions::{assert_displayed, assert_is, decode_error};
 use linkinfo::layers::nla_frame::{Cause, DecodeError, Family};
 use linkinfo::layers::numbers::{
     AmtMode, ErSpanDir, GeneveDf, GreEncapType, GtpRole, IpVlanMode, MacVlanMode, NetkitMode,
-    NetkitPolicy, NetkitScrub, TunnelEncapType, VxlanDf,
+    NetkitPolicy, NetkitScrub, TunnelEncapType, VlanProtocol, VxlanDf,
 };
 use std::fmt::{Debug, Display};
 use std::str::FromStr;
@@ -73,6 +73,11 @@ const NETKIT_SCRUB_WORDS: &[(NetkitScrub, &str)] = &[
     (NetkitScrub::Default, "default"),
 ];
 
+const VLAN_PROTOCOL_WORDS: &[(VlanProtocol, &str)] = &[
+    (VlanProtocol::Ieee8021Q, "802.1Q"),
+    (VlanProtocol::Ieee8021Ad, "802.1ad"),
+];
+
 #[test]
 fn words() {
     check_words(Family::Amt, AMT_WORDS);
@@ -82,6 +87,7 @@ fn words() {
     check_words(Family::Netkit, NETKIT_MODE_WORDS);
     check_words(Family::Netkit, NETKIT_POLICY_WORDS);
     check_words(Family::Netkit, NETKIT_SCRUB_WORDS);
+    check_words(Family::Vlan, VLAN_PROTOCOL_WORDS);
     let rejected = Err(decode_error(Family::Netkit, 0, Cause::Word));
     assert_is("l3s", NetkitMode::from_str("l3s"), rejected);
 }
@@ -145,4 +151,5 @@ fn texts() {
     check_texts(&[(IpVlanMode::Other(3), "3")]);
     check_texts(&[(MacVlanMode::Other(3), "3")]);
     check_texts(&[(NetkitMode::Other(2), "2")]);
+    check_texts(&[(VlanProtocol::Other(0x8847), "34887")]);
 }

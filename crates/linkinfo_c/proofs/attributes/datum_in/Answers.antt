@@ -23,7 +23,7 @@ use Rattle.linkinfo_shapes.specs.Data.{ReadsAs, reads, value_of}
 use Rattle.linkinfo_shapes.specs.Shapes.{IsPlain}
 use Rattle.linkinfo_shapes.specs.declared.datum.Datum.{Datum}
 use Rattle.linkinfo_shapes.specs.declared.shape.Shape.{Shape}
-use Rattle.linkinfo_shapes.specs.declared.shape.Shape.TheVariants.{SelfList, Peer}
+use Rattle.linkinfo_shapes.specs.declared.shape.Shape.TheVariants.{Nested, Peer, SelfList}
 use Rattle.linkinfo_c.specs.Attributes.{datum_in, value_read}
 use Rattle.linkinfo_c.proofs.attributes.datum_in.Goals as goal
 
@@ -33,6 +33,7 @@ not_plain : (shape : Shape) (payload : List ℕ) → (IsPlain shape → ⊥) →
 unfolding reads
 not_plain SelfList payload h = refl
 not_plain Peer payload h = refl
+not_plain (Nested family) payload h = refl
 not_plain _ payload h = absurd (h tt)
 
 -- any other shape reads as it says

@@ -2,7 +2,7 @@ use Rattle.std.specs.Prelude.{◌≡◌, Some}
 use Rattle.nla_frame.specs.declared.error.Family.TheVariants as family
 use Rattle.nla_frame.specs.declared.error.Family.{Family}
 use Rattle.linkinfo_peers.specs.Netkit.{netkit_lawful}
-use Rattle.linkinfo_table.specs.UnnestedFamily.{first_named, list_named}
+use Rattle.linkinfo_table.specs.TableFamily.{first_named, list_named}
 use Rattle.linkinfo_peers.specs.Veth.{veth_lawful}
 use Rattle.linkinfo_peers.specs.Vxcan.{vxcan_lawful}
 use Rattle.linkinfo_peers.specs.PeerMembers.{netkit_members, veth_members, vxcan_members}

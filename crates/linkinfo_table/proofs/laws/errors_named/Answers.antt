@@ -6,7 +6,7 @@ returns g c =
     let f = g.F.LinkFamily in
     let says = g.met.F.LinkFamily.looked_up in
     record {
-      attribute = names f.FAMILY f.keeping g.F.Nla.attribute f.lookup f.meaning says;
-      list = names_list f.FAMILY f.keeping g.F.Nla.attribute f.lookup f.meaning says;
-      first = names_first f.FAMILY f.keeping g.F.Nla.attribute f.lookup f.meaning says;
+      attribute = names f.FAMILY f.inside f.keeping g.F.Nla.attribute f.lookup f.meaning says;
+      list = names_list f.FAMILY f.inside f.keeping g.F.Nla.attribute f.lookup f.meaning says;
+      first = names_first f.FAMILY f.inside f.keeping g.F.Nla.attribute f.lookup f.meaning says;
     }

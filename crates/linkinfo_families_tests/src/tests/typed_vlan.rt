@@ -1,0 +1,268 @@
+//! Typed attributes of `vlan` links, and the mappings of priorities in two of them.
+
+use super::rows::{
+    Checked, HEADER, HasExample, HoldsOthers, UNLISTED, assert_is, checks_list, compare_lists,
+    error, has_rows_and_others, has_shapes, is_list_read, is_parsed, is_text, list_is_emitted,
+    list_is_written_as, refuses_list,
+};
+use bitflags::Flags;
+use linkinfo_numbers::{VlanFlags, VlanProtocol};
+use linkinfo_table::{LinkFamily, Shape, list_read};
+use linkinfo_typed::{InfoVlan, VlanQosMapping};
+use nla_frame::{Cause, DecodeError, DefaultNla, Family, HeaderCount, Nla, Nlas};
+use std::alloc::Global;
+use std::process::Abort;
+
+/// Types, and the shapes of their rows.
+const SHAPES: &[(u16, Shape)] = &[
+    (1, Shape::Le16),
+    (2, Shape::FlagPair),
+    (3, Shape::Nested(Family::VlanQosMapping)),
+    (4, Shape::Nested(Family::VlanQosMapping)),
+    (5, Shape::Be16),
+];
+
+/// Canonical attributes of all rows without a list, and their values as `Debug` writes them.
+const ROWS: &[(&[u8], &str)] = &[
+    (&[6, 0, 1, 0, 7, 1, 0, 0], "Id(263)"),
+    (
+        &[12, 0, 2, 0, 17, 0, 0, 0, 255, 255, 255, 255],
+        "Flags((VlanFlags(17), VlanFlags(4294967295)))",
+    ),
+    (&[6, 0, 5, 0, 0x81, 0, 0, 0], "Protocol(Ieee8021Q)"),
+    (&[6, 0, 5, 0, 0x88, 0xa8, 0, 0], "Protocol(Ieee8021Ad)"),
+    (&[6, 0, 5, 0, 0, 0x81, 0, 0], "Protocol(Other(129))"),
+];
+
+/// A canonical attribute, and its value as `Debug` writes it.
+const MAPPINGS: &[(&[u8], &str)] = &[(
+    &[12, 0, 1, 0, 4, 3, 2, 1, 5, 0, 0, 0],
+    "Mapping((16909060, 5))",
+)];
+
+impl HoldsOthers for InfoVlan {
+    fn from_other(nla: DefaultNla) -> InfoVlan {
+        InfoVlan::Other(nla)
+    }
+}
+
+impl HasExample for InfoVlan {
+    fn example() -> InfoVlan {
+        InfoVlan::Flags((VlanFlags::Gvrp, VlanFlags::from_bits_retain(3)))
+    }
+}
+
+impl HoldsOthers for VlanQosMapping {
+    fn from_other(nla: DefaultNla) -> VlanQosMapping {
+        VlanQosMapping::Other(nla)
+    }
+}
+
+impl HasExample for VlanQosMapping {
+    fn example() -> VlanQosMapping {
+        VlanQosMapping::Mapping((1, 5))
+    }
+}
+
+/// The flag `Gvrp`, and a mask of two flags.
+const EXAMPLE: &[u8] = &[12, 0, 2, 0, 2, 0, 0, 0, 3, 0, 0, 0];
+
+/// The mapping of priority 1 to 5.
+const MAPPING: &[u8] = &[12, 0, 1, 0, 1, 0, 0, 0, 5, 0, 0, 0];
+
+#[test]
+fn rows_of_vlan(rt: HostRuntime) {
+    has_shapes::<InfoVlan>(&rt, (), SHAPES);
+    has_rows_and_others::<InfoVlan>(&rt, rt.alloc(), ROWS, UNLISTED, EXAMPLE);
+}
+
+#[test]
+fn rows_of_mappings(rt: HostRuntime) {
+    has_shapes::<VlanQosMapping>(&rt, (), &[(1, Shape::FlagPair)]);
+    has_rows_and_others::<VlanQosMapping>(&rt, rt.alloc(), MAPPINGS, UNLISTED, MAPPING);
+}
+
+/// A VLAN ID, two mappings of sent frames, no mapping of received ones, and a protocol.
+const LIST: &[u8] = &[
+    6, 0, 1, 0, 100, 0, 0, 0, 28, 0, 3, 0, 12, 0, 1, 0, 1, 0, 0, 0, 5, 0, 0, 0, 12, 0, 1, 0, 2, 0,
+    0, 0, 6, 0, 0, 0, 4, 0, 4, 0, 6, 0, 5, 0, 0x88, 0xa8, 0, 0,
+];
+
+/// `LIST` as `Debug` writes it.
+const TEXT: &str = "[Id(100), EgressQos(Nlas { items: [Mapping((1, 5)), Mapping((2, 6))] }), \
+                    IngressQos(Nlas { items: [] }), Protocol(Ieee8021Ad)]";
+
+/// Asserts that the list is read as the values that `Debug` writes as this text, with this number
+/// of headers examined, and that they are emitted as the canonical list.
+fn is_nested_list(
+    rt: &impl Abort,
+    alloc: Global,
+    bytes: &[u8],
+    text: &str,
+    headers: usize,
+    canonical: &[u8],
+) {
+    let mut count = HeaderCount::new();
+    let values = list_read::<InfoVlan>(alloc, bytes, (), &mut count).expect(rt, "a list");
+    is_text(rt, alloc, bytes, &values.as_slice(), text);
+    is_list_read(rt, alloc, (), bytes, values.as_slice(), headers);
+    checks_list::<InfoVlan>(rt, (), bytes, (Ok(()), headers));
+    list_is_emitted(rt, alloc, values.as_slice(), canonical);
+}
+
+#[test]
+fn lists_of_mappings(rt: HostRuntime) {
+    let alloc = rt.alloc();
+    is_nested_list(&rt, alloc, LIST, TEXT, 6, LIST);
+    // An attribute inside of a type without a row is kept with its flag bits.
+    is_nested_list(
+        &rt,
+        alloc,
+        &[9, 0, 3, 0, 5, 0, 2, 0x80, 7],
+        "[EgressQos(Nlas { items: [Other(DefaultNla { kind: 32770, value: Bytes { bytes: [7] } })] })]",
+        2,
+        &[12, 0, 3, 0, 5, 0, 2, 0x80, 7, 0, 0, 0],
+    );
+    // Flag bits of types with a row are not written.
+    let flagged = [16, 0, 4, 0xc0, 12, 0, 1, 0x40, 1, 0, 0, 0, 5, 0, 0, 0];
+    let canonical = [16, 0, 4, 0, 12, 0, 1, 0, 1, 0, 0, 0, 5, 0, 0, 0];
+    let text = "[IngressQos(Nlas { items: [Mapping((1, 5))] })]";
+    is_nested_list(&rt, alloc, &flagged, text, 2, &canonical);
+    list_is_written_as::<InfoVlan>(&rt, (), &flagged, &canonical);
+}
+
+#[test]
+fn values_of_lists(rt: HostRuntime) {
+    let alloc = rt.alloc();
+    let mut mappings = Vec::new(alloc);
+    mappings
+        .push(VlanQosMapping::Mapping((1, 5)))
+        .expect(&rt, "memory");
+    let value = InfoVlan::EgressQos(Nlas::new(mappings));
+    assert_is(&rt, "kind", value.kind(), 3);
+    let bytes = [16, 0, 3, 0, 12, 0, 1, 0, 1, 0, 0, 0, 5, 0, 0, 0];
+    is_parsed(&rt, alloc, &bytes, &value);
+    assert_is(&rt, "its length", value.fit_len(), Some(12));
+    let protocol = InfoVlan::Protocol(VlanProtocol::Ieee8021Ad);
+    is_parsed(&rt, alloc, &[6, 0, 5, 0, 0x88, 0xa8], &protocol);
+}
+
+/// The error of a mapping of another length.
+const OF_MAPPING: DecodeError = DecodeError {
+    family: Family::VlanQosMapping,
+    kind: 1,
+    cause: Cause::Length,
+};
+
+/// The error of a VLAN ID of another length.
+const OF_ID: DecodeError = DecodeError {
+    family: Family::Vlan,
+    kind: 1,
+    cause: Cause::Length,
+};
+
+/// Lists that are rejected, with the error and the headers examined: a mapping of four bytes; a
+/// payload that is no list; and both errors, in either order.
+const REJECTED: &[(&[u8], Checked)] = &[
+    (&[12, 0, 3, 0, 8, 0, 1, 0, 0, 0, 0, 0], (Err(OF_MAPPING), 2)),
+    (&[5, 0, 3, 0, 1, 0, 0, 0], (Err(HEADER), 1)),
+    (&[8, 0, 4, 0, 3, 0, 1, 0], (Err(HEADER), 2)),
+    (
+        &[5, 0, 1, 0, 7, 0, 0, 0, 12, 0, 3, 0, 8, 0, 1, 0, 0, 0, 0, 0],
+        (Err(OF_ID), 1),
+    ),
+    (
+        &[12, 0, 3, 0, 8, 0, 1, 0, 0, 0, 0, 0, 5, 0, 1, 0, 7, 0, 0, 0],
+        (Err(OF_MAPPING), 2),
+    ),
+];
+
+#[test]
+fn rejected_lists(rt: HostRuntime) {
+    for (bytes, (checked, headers)) in REJECTED {
+        checks_list::<InfoVlan>(&rt, (), bytes, (*checked, *headers));
+        let expected = checked.err().expect(&rt, "an error");
+        refuses_list::<InfoVlan>(&rt, rt.alloc(), (), bytes, (expected, *headers));
+    }
+}
+
+/// An attribute of a type with a payload of zeros, at most 70.
+fn with_zeros(rt: &impl Abort, kind: u8, len: u8, buffer: &mut [u8; 78]) -> usize {
+    assert!(rt; len <= 70);
+    *buffer = [0; 78];
+    buffer[0] = len + 4;
+    buffer[2] = kind;
+    usize::from(len) + 4
+}
+
+/// Asserts that zeros of each length up to 70 are the payload of a type only if they have this
+/// length; any other length is rejected with the cause Length.
+fn has_only_length<F: LinkFamily<Context = ()>>(rt: &impl Abort, kind: u8, length: u8) {
+    let mut buffer = [0; 78];
+    for len in 0..=70 {
+        let end = with_zeros(rt, kind, len, &mut buffer);
+        let wanted = if len == length {
+            Ok(())
+        } else {
+            Err(error(F::FAMILY, u16::from(kind), Cause::Length))
+        };
+        let bytes = buffer.get(..end).expect(rt, "an attribute");
+        checks_list::<F>(rt, (), bytes, (wanted, 1));
+    }
+}
+
+#[test]
+fn every_length(rt: HostRuntime) {
+    has_only_length::<InfoVlan>(&rt, 1, 2);
+    has_only_length::<InfoVlan>(&rt, 2, 8);
+    has_only_length::<InfoVlan>(&rt, 5, 2);
+    has_only_length::<VlanQosMapping>(&rt, 1, 8);
+    // Zeros are the list of nothing, or no list.
+    let mut buffer = [0; 78];
+    for len in 0..=70 {
+        let end = with_zeros(&rt, 3, len, &mut buffer);
+        let bytes = buffer.get(..end).expect(&rt, "an attribute");
+        let wanted = match len {
+            0 => (Ok(()), 1),
+            1..=3 => (Err(HEADER), 1),
+            _ => (Err(HEADER), 2),
+        };
+        checks_list::<InfoVlan>(&rt, (), bytes, wanted);
+    }
+}
+
+/// Pairs of lists, and the headers examined if they are equivalent.
+const PAIRS: &[(&[u8], &[u8], Option<usize>)] = &[
+    (LIST, LIST, Some(12)),
+    // Flag bits of both types, and padding inside.
+    (
+        &[16, 0, 3, 0x80, 12, 0, 1, 0x40, 1, 0, 0, 0, 5, 0, 0, 0],
+        &[16, 0, 3, 0, 12, 0, 1, 0, 1, 0, 0, 0, 5, 0, 0, 0],
+        Some(4),
+    ),
+    (
+        &[12, 0, 3, 0, 5, 0, 2, 0, 7, 1, 2, 3],
+        &[9, 0, 3, 0, 5, 0, 2, 0, 7],
+        Some(4),
+    ),
+    // Flag bits of a type without a row.
+    (
+        &[9, 0, 3, 0, 5, 0, 2, 0x80, 7],
+        &[9, 0, 3, 0, 5, 0, 2, 0, 7],
+        None,
+    ),
+    // The list of nothing, and no list; the other list.
+    (&[4, 0, 3, 0], &[], None),
+    (&[4, 0, 3, 0], &[4, 0, 4, 0], None),
+    // Another mapping.
+    (
+        &[16, 0, 3, 0, 12, 0, 1, 0, 1, 0, 0, 0, 5, 0, 0, 0],
+        &[16, 0, 3, 0, 12, 0, 1, 0, 1, 0, 0, 0, 6, 0, 0, 0],
+        None,
+    ),
+];
+
+#[test]
+fn lists_are_compared(rt: HostRuntime) {
+    compare_lists::<InfoVlan>(&rt, (), PAIRS);
+}

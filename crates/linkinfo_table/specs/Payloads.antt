@@ -1,0 +1,57 @@
+-- Payloads of types of their own: what such a payload owes, and its errors as those of the
+-- attribute around it.
+use Rattle.std.specs.Prelude.{◌≡◌, ◌≢◌, ℕ, ltb, Bool, true, false, List, Result, Ok, Err}
+use Rattle.nla_frame.specs.declared.error.Cause.{Cause}
+use Rattle.nla_frame.specs.declared.error.Cause.TheVariants as cause
+use Rattle.nla_frame.specs.declared.error.DecodeError.{DecodeError}
+use Rattle.nla_frame.specs.declared.error.Family.{Family}
+use Rattle.linkinfo_shapes.specs.declared.shape.Shape.{Shape}
+use Rattle.linkinfo_shapes.specs.declared.shape.Shape.TheVariants.{Nested, Peer}
+use Rattle.linkinfo_table.specs.Codecs.{Codec, IsCodec, PayloadError, Inside, Own}
+use Rattle.linkinfo_table.specs.Named.{IsNamed}
+use Rattle.linkinfo_table.specs.Rows.{labelled}
+
+-- the shapes of such payloads: a list of attributes of another family, or a peer
+abbrev pub IsPayloadShape : Shape → Type 0
+IsPayloadShape (Nested family) = Unit {0}
+IsPayloadShape Peer = Unit {0}
+IsPayloadShape _ = ⊥
+
+-- a payload by its parts
+abbrev pub codec_with : {X : Type 0} → (List ℕ → Result X PayloadError) → (X → List ℕ) →
+    (X → Type 0) → (List ℕ → List ℕ → Bool) → (List ℕ → ℕ) → (List ℕ → Bool) → Codec
+codec_with {X = X} means canon holds alike headers needs_memory = record {
+  Carrier = X;
+  means = means;
+  canon = canon;
+  Holds = holds;
+  alike = alike;
+  headers = headers;
+  needs_memory = needs_memory;
+}
+
+-- What such a payload owes: the laws of a codec, and which errors it has. Errors inside a list are
+-- those of the families inside, and a list has no others. The only error of a peer is the cause
+-- Peer.
+pub record IsPayload (shape : Shape) (inside : List Family) (c : Codec) : Type 0 where
+  pub shaped : IsPayloadShape shape
+  pub codec : IsCodec c
+  pub named : (p : List ℕ) (e : DecodeError) → c.means p ≡ Err (Inside e) → IsNamed inside e
+  pub nest : (family : Family) → shape ≡ Nested family → (p : List ℕ) (own : Cause) →
+      c.means p ≢ Err (Own own)
+  pub peer : shape ≡ Peer → (p : List ℕ) (error : PayloadError) → c.means p ≡ Err error →
+      error ≡ Own cause.Peer
+
+-- The number of a row is a masked type, and a peer is written without flag bits.
+abbrev pub is_payload_row : Shape → Bool → ℕ → Bool
+is_payload_row Peer true number = false
+is_payload_row _ nested number = ltb number 16384
+
+-- what a payload means in an attribute of the family and the masked type
+abbrev pub placed : {X : Type 0} → Family → ℕ → Result X PayloadError → Result X DecodeError
+placed family number r = labelled family number (λ x. x) r
+
+-- a result with its value labelled
+abbrev pub wrapped : {X F : Type 0} → (X → F) → Result X DecodeError → Result F DecodeError
+wrapped label (Ok x) = Ok (label x)
+wrapped label (Err e) = Err e

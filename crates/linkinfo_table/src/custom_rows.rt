@@ -1,0 +1,404 @@
+//! The rows of a family whose payloads are values of types of their own, as a list of types: `()`
+//! has none, and `(R, Rest)` has `R` and those of `Rest`. Other types have rows of the table of
+//! shapes, or none.
+
+ghost use Rattle.std.specs.Prelude.{
+  ◌≡◌,
+  ◌+◌,
+  ◌*◌,
+  ◌/◌,
+  ◌<◌,
+  ◌≤◌,
+  ◌^◌,
+  ◌==◌,
+  ◌||◌,
+  ◌++◌,
+  ℕ,
+  Bool,
+  false,
+  true,
+  [],
+  IsOk,
+  List,
+  SomeIff,
+  length,
+};
+ghost use Rattle.nla_frame.specs.Answers.{verdict};
+ghost use Rattle.nla_frame.specs.Attribute.{Attribute, Fits, buffer_len_of, masked};
+ghost use Rattle.nla_frame.specs.Writing.{Writes, WritesAttribute};
+ghost use Rattle.linkinfo_table.specs.Calls.{Checks, Compares, Pushes, Reads};
+ghost use Rattle.linkinfo_table.specs.CustomRows.{
+  either_quarter,
+  headers_either,
+  none_owned,
+  row_typed,
+};
+ghost use Rattle.linkinfo_table.specs.FamilyMeaning.{
+  alike_by,
+  canonical_by,
+  meaning_by,
+  memory_by,
+};
+ghost use Rattle.linkinfo_table.specs.FamilyRows.{IsFlat};
+ghost use Rattle.linkinfo_table.specs.FlatLaws.{none_inside};
+ghost use Rattle.linkinfo_table.specs.TypedRows.{IsTyped};
+ghost use Rattle.nla_frame.specs.declared.error.Family.{Family};
+
+use crate::canonical::{row_canonical_len, row_write_canonical};
+use crate::payload::LinkPayload;
+use crate::payload_calls::{
+    payload_check, payload_kind, payload_len, payload_push, payload_read, payload_same,
+    payload_write,
+};
+use crate::payload_row::PayloadRow;
+use crate::row_family::RowFamily;
+use crate::rows::{
+    row_check, row_emit_payload, row_fit_len, row_kind, row_read, row_same, row_store,
+};
+use nla_frame::{DecodeError, HeaderCount, NlaBuffer};
+use std::alloc::Global;
+
+/// A list of rows of the family `F` with payloads of types of their own.
+///
+/// The calls on an attribute read it by the row of its type: one of the list, or one of the table
+/// of shapes. They require that a type without a row of the list has no payload that the family
+/// reads itself. The calls on a value require the same of what it contains.
+pub trait CustomRows<F: RowFamily> {
+    /// Whether the list has a row of this type.
+    ghost owned: { ℕ → Bool };
+
+    /// Whether a value contains a payload of one of the rows.
+    ghost held: { F → Bool };
+
+    /// The families of the attributes inside payloads of the rows, at every depth.
+    ghost inside: { List Family };
+
+    /// The number of headers examined inside an attribute, up to the first error.
+    ghost headers: { Attribute → ℕ };
+
+    /// Reads an attribute. Any result but the error `(Frame, 0, Memory)` is what the attribute
+    /// means.
+    fn read(
+        alloc: Global,
+        nla: &NlaBuffer<'_>,
+        ctx: F::Context,
+        count: &mut HeaderCount,
+    ) -> Result<F, DecodeError>
+    where
+        F: Drop,
+        requires room { count.old + length nla.now.value / 4 < 2 ^ 64 }
+        requires flat { owned (masked nla.now.kind) ≡ false →
+            IsFlat (F.rows ctx (masked nla.now.kind)) }
+        ensures { Reads (λ value. value) result (meaning_by F.RowFamily.own ctx nla.now)
+            (memory_by F.RowFamily.own ctx nla.now) (headers nla.now)
+            (length nla.now.value) count.old count.new };
+
+    /// Reads an attribute, and pushes its value to the end of a list.
+    fn push(
+        items: &mut Vec<F>,
+        alloc: Global,
+        nla: &NlaBuffer<'_>,
+        ctx: F::Context,
+        count: &mut HeaderCount,
+    ) -> Result<(), DecodeError>
+    where
+        F: Drop,
+        requires room { count.old + length nla.now.value / 4 < 2 ^ 64 }
+        requires flat { owned (masked nla.now.kind) ≡ false →
+            IsFlat (F.rows ctx (masked nla.now.kind)) }
+        ensures { Pushes items.old.items items.new.items result
+            (meaning_by F.RowFamily.own ctx nla.now) (memory_by F.RowFamily.own ctx nla.now)
+            (headers nla.now) (length nla.now.value) count.old count.new };
+
+    /// Checks whether `read` would succeed, and returns the error if not. Does not allocate.
+    fn check(
+        nla: &NlaBuffer<'_>,
+        ctx: F::Context,
+        count: &mut HeaderCount,
+    ) -> Result<(), DecodeError>
+        requires room { count.old + length nla.now.value / 4 < 2 ^ 64 }
+        requires flat { owned (masked nla.now.kind) ≡ false →
+            IsFlat (F.rows ctx (masked nla.now.kind)) }
+        ensures { Checks result (verdict (meaning_by F.RowFamily.own ctx nla.now))
+            (headers nla.now) (length nla.now.value) count.old count.new };
+
+    /// Whether two attributes are equivalent: they mean equal values. Requires that each is
+    /// accepted. Does not allocate.
+    fn same(a: &NlaBuffer<'_>, b: &NlaBuffer<'_>, ctx: F::Context, count: &mut HeaderCount) -> bool
+        requires first { IsOk (meaning_by F.RowFamily.own ctx a.now) }
+        requires second { IsOk (meaning_by F.RowFamily.own ctx b.now) }
+        requires room { count.old + (length a.now.value + length b.now.value) / 4 < 2 ^ 64 }
+        requires flat { owned (masked a.now.kind) ≡ false →
+            IsFlat (F.rows ctx (masked a.now.kind)) }
+        ensures { Compares result (alike_by F.RowFamily.own ctx a.now b.now)
+            (headers a.now + headers b.now)
+            (length a.now.value + length b.now.value) count.old count.new };
+
+    /// Returns the length of the canonical payload of the value that an attribute means, or `None`
+    /// if it does not fit. Requires that the attribute is accepted. Does not allocate.
+    fn canonical_len(nla: &NlaBuffer<'_>, ctx: F::Context) -> Option<usize>
+        requires accepted { IsOk (meaning_by F.RowFamily.own ctx nla.now) }
+        requires flat { owned (masked nla.now.kind) ≡ false →
+            IsFlat (F.rows ctx (masked nla.now.kind)) }
+        ensures { let canonical = canonical_by F.RowFamily.own ctx nla.now in
+            SomeIff result (Fits canonical) (length canonical.value) };
+
+    /// Writes the canonical encoding of the value that an attribute means at the front of the
+    /// buffer, and returns its length: header, payload and zero padding.
+    ///
+    /// The bytes after it stay unchanged. Requires that the attribute is accepted, that the value
+    /// fits, and that the buffer has at least that length. Does not allocate.
+    fn write_canonical(nla: &NlaBuffer<'_>, ctx: F::Context, buffer: &mut [u8]) -> usize
+        requires accepted { IsOk (meaning_by F.RowFamily.own ctx nla.now) }
+        requires flat { owned (masked nla.now.kind) ≡ false →
+            IsFlat (F.rows ctx (masked nla.now.kind)) }
+        requires fits { Fits (canonical_by F.RowFamily.own ctx nla.now) }
+        requires room { buffer_len_of (canonical_by F.RowFamily.own ctx nla.now)
+            ≤ length buffer.old }
+        ensures { WritesAttribute (canonical_by F.RowFamily.own ctx nla.now)
+            buffer.old buffer.new result };
+
+    /// The type that a value is written with.
+    fn kind(value: &F) -> u16
+        requires { held value.now ≡ false → F.is_custom value.now ≡ false }
+        ensures { result ≡ (F.canonical value.now).kind };
+
+    /// Returns the length of a value's payload if the value fits, and `None` otherwise.
+    fn fit_len(value: &F) -> Option<usize>
+        requires { held value.now ≡ false → F.is_custom value.now ≡ false }
+        ensures { SomeIff result (Fits (F.canonical value.now))
+            (length (F.canonical value.now).value) };
+
+    /// The length of a value's payload. Requires that the value fits.
+    fn value_len(value: &F) -> usize
+        requires custom { held value.now ≡ false → F.is_custom value.now ≡ false }
+        requires fits { Fits (F.canonical value.now) }
+        ensures { result ≡ length (F.canonical value.now).value }
+    {
+        match Self::fit_len(value) {
+            Some(len) => len,
+            None => unreachable!(),
+        }
+    }
+
+    /// Writes a value's payload at the front of the buffer, and returns its length. The bytes after
+    /// it stay unchanged. Requires that the value fits, and that the buffer has at least its
+    /// length.
+    fn emit(value: &F, buffer: &mut [u8]) -> usize
+        requires custom { held value.now ≡ false → F.is_custom value.now ≡ false }
+        requires fits { Fits (F.canonical value.now) }
+        requires room { length (F.canonical value.now).value ≤ length buffer.old }
+        ensures { Writes (F.canonical value.now).value buffer.old buffer.new result };
+
+    ghost typed: { (c : F.Context) (n : ℕ) → owned n ≡ true → IsTyped inside (F.rows c n) };
+
+    ghost quarter: { (a : Attribute) → 4 * headers a ≤ length a.value };
+}
+
+impl<F: RowFamily> CustomRows<F> for () {
+    ghost owned = { λ _. false };
+
+    ghost held = { λ _. false };
+
+    ghost inside = { [] };
+
+    ghost headers = { λ _. 0 };
+
+    ghost typed = { λ _ _. none_owned };
+
+    ghost quarter = { none_inside };
+
+    #[inline(always)]
+    fn read(
+        alloc: Global,
+        nla: &NlaBuffer<'_>,
+        ctx: F::Context,
+        _count: &mut HeaderCount,
+    ) -> Result<F, DecodeError>
+    where
+        F: Drop,
+    {
+        row_read(alloc, nla, ctx)
+    }
+
+    #[inline(always)]
+    fn push(
+        items: &mut Vec<F>,
+        alloc: Global,
+        nla: &NlaBuffer<'_>,
+        ctx: F::Context,
+        _count: &mut HeaderCount,
+    ) -> Result<(), DecodeError>
+    where
+        F: Drop,
+    {
+        row_store::<F, Vec<F>>(items, alloc, nla, ctx)
+    }
+
+    #[inline(always)]
+    fn check(
+        nla: &NlaBuffer<'_>,
+        ctx: F::Context,
+        _count: &mut HeaderCount,
+    ) -> Result<(), DecodeError> {
+        row_check::<F>(nla, ctx)
+    }
+
+    #[inline(always)]
+    fn same(
+        a: &NlaBuffer<'_>,
+        b: &NlaBuffer<'_>,
+        ctx: F::Context,
+        _count: &mut HeaderCount,
+    ) -> bool {
+        row_same::<F>(a, b, ctx)
+    }
+
+    #[inline(always)]
+    fn canonical_len(nla: &NlaBuffer<'_>, ctx: F::Context) -> Option<usize> {
+        row_canonical_len::<F>(nla, ctx)
+    }
+
+    #[inline(always)]
+    fn write_canonical(nla: &NlaBuffer<'_>, ctx: F::Context, buffer: &mut [u8]) -> usize {
+        row_write_canonical::<F>(nla, ctx, buffer)
+    }
+
+    #[inline(always)]
+    fn kind(value: &F) -> u16 {
+        row_kind(value)
+    }
+
+    #[inline(always)]
+    fn fit_len(value: &F) -> Option<usize> {
+        row_fit_len(value)
+    }
+
+    #[inline(always)]
+    fn emit(value: &F, buffer: &mut [u8]) -> usize {
+        row_emit_payload(value, buffer)
+    }
+}
+
+impl<F: RowFamily, R: PayloadRow<F>, Rest: CustomRows<F>> CustomRows<F> for (R, Rest) {
+    ghost owned = { λ n. (n == R.NUMBER) || Rest.owned n };
+
+    ghost held = { λ x. R.is_held x || Rest.held x };
+
+    ghost inside = { R.Payload.inside ++ Rest.inside };
+
+    ghost headers = { headers_either R.NUMBER R.Payload.headers Rest.headers };
+
+    ghost typed = { λ c n.
+        row_typed R.NUMBER R.Payload.inside Rest.inside Rest.owned (F.rows c)
+        ((R.row_is c).typed R.Payload.inside R.NUMBER R.suits R.Payload.LinkPayload.lawful) n
+        (Rest.typed c n) };
+
+    ghost quarter = { λ a.
+        either_quarter R.NUMBER R.Payload.headers Rest.headers
+        (λ p. R.Payload.LinkPayload.lawful.codec.quarter p) Rest.quarter a };
+
+    #[inline(always)]
+    fn read(
+        alloc: Global,
+        nla: &NlaBuffer<'_>,
+        ctx: F::Context,
+        count: &mut HeaderCount,
+    ) -> Result<F, DecodeError>
+    where
+        F: Drop,
+    {
+        if nla.kind() == R::NUMBER {
+            payload_read::<F, R>(alloc, nla, ctx, count)
+        } else {
+            Rest::read(alloc, nla, ctx, count)
+        }
+    }
+
+    #[inline(always)]
+    fn push(
+        items: &mut Vec<F>,
+        alloc: Global,
+        nla: &NlaBuffer<'_>,
+        ctx: F::Context,
+        count: &mut HeaderCount,
+    ) -> Result<(), DecodeError>
+    where
+        F: Drop,
+    {
+        if nla.kind() == R::NUMBER {
+            payload_push::<F, R>(items, alloc, nla, ctx, count)
+        } else {
+            Rest::push(items, alloc, nla, ctx, count)
+        }
+    }
+
+    #[inline(always)]
+    fn check(
+        nla: &NlaBuffer<'_>,
+        ctx: F::Context,
+        count: &mut HeaderCount,
+    ) -> Result<(), DecodeError> {
+        if nla.kind() == R::NUMBER {
+            payload_check::<F, R>(nla, ctx, count)
+        } else {
+            Rest::check(nla, ctx, count)
+        }
+    }
+
+    #[inline(always)]
+    fn same(
+        a: &NlaBuffer<'_>,
+        b: &NlaBuffer<'_>,
+        ctx: F::Context,
+        count: &mut HeaderCount,
+    ) -> bool {
+        if a.kind() == R::NUMBER {
+            payload_same::<F, R>(a, b, ctx, count)
+        } else {
+            Rest::same(a, b, ctx, count)
+        }
+    }
+
+    #[inline(always)]
+    fn canonical_len(nla: &NlaBuffer<'_>, ctx: F::Context) -> Option<usize> {
+        if nla.kind() == R::NUMBER {
+            payload_len::<F, R>(nla, ctx)
+        } else {
+            Rest::canonical_len(nla, ctx)
+        }
+    }
+
+    #[inline(always)]
+    fn write_canonical(nla: &NlaBuffer<'_>, ctx: F::Context, buffer: &mut [u8]) -> usize {
+        if nla.kind() == R::NUMBER {
+            payload_write::<F, R>(nla, ctx, buffer)
+        } else {
+            Rest::write_canonical(nla, ctx, buffer)
+        }
+    }
+
+    #[inline(always)]
+    fn kind(value: &F) -> u16 {
+        match R::payload(value) {
+            Some(_) => payload_kind::<F, R>(),
+            None => Rest::kind(value),
+        }
+    }
+
+    #[inline(always)]
+    fn fit_len(value: &F) -> Option<usize> {
+        match R::payload(value) {
+            Some(payload) => payload.fit_len(),
+            None => Rest::fit_len(value),
+        }
+    }
+
+    #[inline(always)]
+    fn emit(value: &F, buffer: &mut [u8]) -> usize {
+        match R::payload(value) {
+            Some(payload) => payload.emit(buffer),
+            None => Rest::emit(value, buffer),
+        }
+    }
+}

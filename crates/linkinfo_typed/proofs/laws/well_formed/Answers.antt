@@ -1,0 +1,14 @@
+use Rattle.linkinfo_typed.proofs.laws.well_formed.Goals as goal
+-- Begin: written by tables/generate from tables/families (imports).
+use Rattle.linkinfo_typed.specs.Conditions.{vlan_qos_mapping_stated, vlan_stated}
+
+-- End: written by tables/generate.
+
+-- Begin: written by tables/generate from tables/families (clauses).
+pub returns-clause-vlan_qos_mapping : goal.returns-clause-vlan_qos_mapping
+returns-clause-vlan_qos_mapping c = vlan_qos_mapping_stated
+
+pub returns-clause-vlan : goal.returns-clause-vlan
+returns-clause-vlan c = vlan_stated
+
+-- End: written by tables/generate.

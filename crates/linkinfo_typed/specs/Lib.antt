@@ -1,0 +1,7 @@
+-- Begin: written by tables/generate from tables/families.
+pub mod Qos
+pub mod QosConditions
+pub mod Vlan
+pub mod VlanConditions
+-- End: written by tables/generate.
+pub mod Conditions

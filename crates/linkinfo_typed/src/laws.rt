@@ -1,0 +1,48 @@
+//! Laws of the typed families, each the contract of a function without code.
+
+ghost use Rattle.std.specs.Prelude.{◌≡◌, ◌↔◌, ℕ};
+// Begin: written by tables/generate from tables/families (conditions).
+ghost use Rattle.linkinfo_typed.specs.Conditions.{vlan_conditions, vlan_qos_mapping_conditions};
+// End: written by tables/generate.
+ghost use Rattle.linkinfo_shapes.specs.Typed.{typed_shape_of};
+ghost use Rattle.linkinfo_table.specs.FamilyRows.{lookup_in};
+ghost use Rattle.nla_frame.specs.declared.error.Family.TheVariants as family;
+
+// Begin: written by tables/generate from tables/families (types).
+use crate::qos::VlanQosMapping;
+use crate::vlan::InfoVlan;
+// End: written by tables/generate.
+
+use linkinfo_table::LinkFamily;
+
+/// Each name is that of the family it is named after, and so is the family of its errors.
+pub fn named()
+    // Begin: written by tables/generate from tables/families (named).
+    ensures vlan_qos_mapping { ⟦<VlanQosMapping as LinkFamily>⟧.FAMILY ≡ family.VlanQosMapping }
+    ensures vlan { ⟦<InfoVlan as LinkFamily>⟧.FAMILY ≡ family.Vlan }
+// End: written by tables/generate.
+{}
+
+/// Each family reads a type without flag bits by its row of the table of the typed layer
+/// (`linkinfo_shapes::typed_shape`), and keeps a type without a row.
+#[tactic(auto, using(linkinfo_table::specs::FamilyRowLaws::table_lookup))]
+pub fn tabled()
+    // Begin: written by tables/generate from tables/families (tabled).
+    ensures vlan_qos_mapping { (n : ℕ) →
+        ⟦<VlanQosMapping as LinkFamily>⟧.lookup tt n
+        ≡ lookup_in (typed_shape_of family.VlanQosMapping n) }
+    ensures vlan { (n : ℕ) →
+        ⟦<InfoVlan as LinkFamily>⟧.lookup tt n ≡ lookup_in (typed_shape_of family.Vlan n) }
+// End: written by tables/generate.
+{}
+
+/// Which attributes of each family are well formed, by the variant of the attribute. No number is
+/// `Other` of a named number. No attribute is `Other` of a type that has a row. Each number is in
+/// the range of its type, and each attribute of a list is well formed.
+pub fn well_formed()
+    // Begin: written by tables/generate from tables/families (well_formed).
+    ensures vlan_qos_mapping { (x : VlanQosMapping) →
+        ⟦<VlanQosMapping as LinkFamily>⟧.well tt x ↔ vlan_qos_mapping_conditions x }
+    ensures vlan { (x : InfoVlan) → ⟦<InfoVlan as LinkFamily>⟧.well tt x ↔ vlan_conditions x }
+// End: written by tables/generate.
+{}

@@ -1,0 +1,15 @@
+//! Attributes of links that are opaque in `linkinfo_table::lower`, with types: `vlan` links, and
+//! the mappings of priorities inside their attributes.
+#![tactic(auto)]
+
+// Begin: written by tables/generate from tables/families (modules).
+mod qos;
+mod vlan;
+// End: written by tables/generate.
+
+pub mod laws;
+
+// Begin: written by tables/generate from tables/families (types).
+pub use qos::VlanQosMapping;
+pub use vlan::InfoVlan;
+// End: written by tables/generate.

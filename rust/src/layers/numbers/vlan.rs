@@ -1,0 +1,127 @@
+// @generated from crates/linkinfo_numbers/src/vlan.rt by rust/translate/run.
+
+// Written by tables/generate from tables/numbers/vlan.
+//! VLAN interfaces.
+
+use crate::layers::nla_frame::{DecodeError, ExactEq, Family};
+use crate::layers::numbers::by_values::{
+    number_of_value, value_of_number, value_of_word, write_word,
+};
+use crate::layers::numbers::flags::KeepsEveryBit;
+use bitflags::{Flag, Flags};
+use core::fmt;
+use core::str::FromStr;
+
+/// The protocol of a VLAN tag: `IFLA_VLAN_PROTOCOL`, a big-endian 16-bit number
+/// (include/uapi/linux/if_ether.h).
+#[derive(Clone, Copy, Debug, PartialEq, Eq, Hash, PartialOrd, Ord)]
+pub enum VlanProtocol {
+    /// `ETH_P_8021Q`: a customer tag, IEEE 802.1Q.
+    Ieee8021Q,
+    /// `ETH_P_8021AD`: a service tag, IEEE 802.1ad.
+    Ieee8021Ad,
+    /// Any number without a name.
+    Other(u16),
+}
+
+macro_rules! protocols {
+    ($body:ident $given:tt) => {
+        $body! { VlanProtocol $given;
+            (Ieee8021Q, 0x8100, "802.1Q"),
+            (Ieee8021Ad, 0x88a8, "802.1ad"),
+        }
+    };
+}
+
+impl From<u16> for VlanProtocol {
+    fn from(number: u16) -> VlanProtocol {
+        protocols!(value_of_number number)
+    }
+}
+
+impl From<VlanProtocol> for u16 {
+    fn from(protocol: VlanProtocol) -> u16 {
+        protocols!(number_of_value protocol)
+    }
+}
+
+impl fmt::Display for VlanProtocol {
+    fn fmt(&self, f: &mut fmt::Formatter<'_>) -> fmt::Result {
+        protocols!(write_word(self, f))
+    }
+}
+
+/// Every text that `Display` does not write is rejected as `(Vlan, 0, Word)`.
+impl FromStr for VlanProtocol {
+    type Err = DecodeError;
+
+    fn from_str(word: &str) -> Result<VlanProtocol, DecodeError> {
+        protocols!(value_of_word(word, Family::Vlan))
+    }
+}
+
+impl Default for VlanProtocol {
+    fn default() -> VlanProtocol {
+        VlanProtocol::Ieee8021Q
+    }
+}
+
+impl ExactEq for VlanProtocol {}
+
+/// The flags of a `vlan` link: `flags` and `mask` of `struct ifla_vlan_flags`, little-endian 32-bit
+/// numbers (include/uapi/linux/if_vlan.h). Every 32-bit number is a valid set.
+#[derive(Clone, Copy, Debug, PartialEq, Eq, Hash, PartialOrd, Ord)]
+pub struct VlanFlags(u32);
+
+impl VlanFlags {
+    /// `VLAN_FLAG_REORDER_HDR`: headers are reordered, so that a frame looks as one without a tag.
+    pub const ReorderHdr: VlanFlags = VlanFlags(0x1);
+
+    /// `VLAN_FLAG_GVRP`: the VLAN is registered by GVRP.
+    pub const Gvrp: VlanFlags = VlanFlags(0x2);
+
+    /// `VLAN_FLAG_LOOSE_BINDING`: the link does not follow the operational state of its lower
+    /// device.
+    pub const LooseBinding: VlanFlags = VlanFlags(0x4);
+
+    /// `VLAN_FLAG_MVRP`: the VLAN is registered by MVRP.
+    pub const Mvrp: VlanFlags = VlanFlags(0x8);
+
+    /// `VLAN_FLAG_BRIDGE_BINDING`: the link follows the state of those ports of a bridge that are
+    /// members of the VLAN.
+    pub const BridgeBinding: VlanFlags = VlanFlags(0x10);
+
+    const TABLE: &'static [Flag<VlanFlags>] = &[
+        Flag::new("ReorderHdr", VlanFlags::ReorderHdr),
+        Flag::new("Gvrp", VlanFlags::Gvrp),
+        Flag::new("LooseBinding", VlanFlags::LooseBinding),
+        Flag::new("Mvrp", VlanFlags::Mvrp),
+        Flag::new("BridgeBinding", VlanFlags::BridgeBinding),
+        Flag::new("", VlanFlags(u32::MAX)),
+    ];
+}
+
+impl Flags for VlanFlags {
+    type Bits = u32;
+
+    const FLAGS: &'static [Flag<VlanFlags>] = VlanFlags::TABLE;
+
+    fn bits(&self) -> u32 {
+        self.0
+    }
+
+    fn from_bits_retain(bits: u32) -> VlanFlags {
+        VlanFlags(bits)
+    }
+}
+
+impl KeepsEveryBit for VlanFlags {}
+
+/// The default is the empty set.
+impl Default for VlanFlags {
+    fn default() -> VlanFlags {
+        VlanFlags(0)
+    }
+}
+
+impl ExactEq for VlanFlags {}

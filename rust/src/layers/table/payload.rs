@@ -1,0 +1,88 @@
+// @generated from crates/linkinfo_table/src/payload.rt by rust/translate/run.
+
+//! Payloads that are values of types of their own: lists of attributes of another family, records,
+//! peers.
+
+use crate::layers::nla_frame::{DecodeError, ExactEq, Family, HeaderCount};
+
+/// A payload that is a value of a type of its own: it is not one of the shapes that
+/// [`layers::shapes`] reads.
+///
+/// [`layers::shapes`]: crate::layers::shapes
+pub trait LinkPayload: Sized + Eq + ExactEq {
+    /// Reads the payload of an attribute of this family and type without flag bits, which an error
+    /// of the payload itself has. Any result but the error `(Frame, 0, Memory)` is what the payload
+    /// means.
+    ///
+    /// # Panics
+    ///
+    /// May panic where a condition of the caller that is named here does not hold. Where it does
+    /// not panic then, the result has no meaning.
+    fn read(
+        payload: &[u8],
+        family: Family,
+        kind: u16,
+        count: &mut HeaderCount,
+    ) -> Result<Self, DecodeError>;
+
+    /// Checks whether [`read`] would succeed, and returns the error if not. Does not allocate.
+    ///
+    /// # Panics
+    ///
+    /// May panic where a condition of the caller that is named here does not hold. Where it does
+    /// not panic then, the result has no meaning.
+    ///
+    /// [`read`]: crate::layers::table::LinkPayload::read
+    fn check(
+        payload: &[u8],
+        family: Family,
+        kind: u16,
+        count: &mut HeaderCount,
+    ) -> Result<(), DecodeError>;
+
+    /// Whether two payloads are equivalent: they mean equal values. Requires that each is accepted.
+    /// Does not allocate.
+    ///
+    /// # Panics
+    ///
+    /// May panic where a condition of the caller that is named here does not hold. Where it does
+    /// not panic then, the result has no meaning.
+    fn same(a: &[u8], b: &[u8], count: &mut HeaderCount) -> bool;
+
+    /// Returns the length of the canonical payload if it is at most 65531, and `None` otherwise.
+    /// Does not allocate.
+    fn fit_len(&self) -> Option<usize>;
+
+    /// Writes the canonical payload at the front of the buffer, and returns its length. The bytes
+    /// after it stay unchanged. Does not allocate.
+    ///
+    /// Requires that the canonical payload has at most 65531 bytes, and that the buffer has at
+    /// least as many.
+    ///
+    /// # Panics
+    ///
+    /// May panic where a condition of the caller that is named here does not hold. Where it does
+    /// not panic then, the result has no meaning.
+    fn emit(&self, buffer: &mut [u8]) -> usize;
+
+    /// Returns the length of the canonical payload of the value that a payload means if it is at
+    /// most 65531, and `None` otherwise. Requires that the payload is accepted. Does not allocate.
+    ///
+    /// # Panics
+    ///
+    /// May panic where a condition of the caller that is named here does not hold. Where it does
+    /// not panic then, the result has no meaning.
+    fn canonical_len(payload: &[u8]) -> Option<usize>;
+
+    /// Writes the canonical payload of the value that a payload means at the front of the buffer,
+    /// and returns its length. The bytes after it stay unchanged.
+    ///
+    /// Requires that the payload is accepted, that the canonical payload has at most 65531 bytes,
+    /// and that the buffer has at least as many. Does not allocate.
+    ///
+    /// # Panics
+    ///
+    /// May panic where a condition of the caller that is named here does not hold. Where it does
+    /// not panic then, the result has no meaning.
+    fn write_canonical(payload: &[u8], buffer: &mut [u8]) -> usize;
+}
